@@ -1,0 +1,20 @@
+-- What a core asks of memory.
+use Rattle.std.specs.Prelude.{ℕ}
+use Rattle.zs_num.specs.declared.request.Request.{Request}
+use Rattle.zs_num.specs.declared.request.Request.TheVariants.{Load, Store, Lr, Sc, Amo}
+
+-- the address of its lowest byte
+abbrev pub addr_of : Request → ℕ
+addr_of (Load addr width) = addr
+addr_of (Store addr width value) = addr
+addr_of (Lr addr width) = addr
+addr_of (Sc addr width value paired) = addr
+addr_of (Amo op addr width value) = addr
+
+-- how many bytes it reads or writes
+abbrev pub width_of : Request → ℕ
+width_of (Load addr width) = width
+width_of (Store addr width value) = width
+width_of (Lr addr width) = width
+width_of (Sc addr width value paired) = width
+width_of (Amo op addr width value) = width

@@ -1,0 +1,56 @@
+//! The numbers of a run that every layer speaks of: cycles, stamps, requests, outcomes and entries.
+#![tactic(auto)]
+
+mod bytes;
+mod entry;
+mod memory;
+mod request;
+mod time;
+
+pub use bytes::Bytes;
+pub use entry::{Entries, Entry, Outcome};
+pub use memory::NoMemory;
+pub use request::{AmoOp, Request};
+pub use time::{Cycle, Key, Stamp, Word};
+
+#[cfg(test)]
+mod tests {
+    use super::*;
+    use std::test::Fail;
+
+    #[test]
+    fn bytes_keep_what_they_copy(rt: HostRuntime) -> Result<(), Fail> {
+        let bytes = Bytes::from_slice(rt.alloc(), b"zsim")?;
+        assert_eq!(rt; bytes.as_slice(), b"zsim".as_slice());
+        assert_eq!(rt; bytes.into_list().as_slice(), b"zsim".as_slice());
+        Ok(())
+    }
+
+    #[test]
+    fn keys_are_ordered_by_start_and_then_by_number(rt: HostRuntime) {
+        let early = Key {
+            start: 4,
+            number: 9,
+        };
+        let first = Key {
+            start: 5,
+            number: 1,
+        };
+        let second = Key {
+            start: 5,
+            number: 2,
+        };
+        assert!(rt; early < first && first < second);
+    }
+
+    #[test]
+    fn a_request_tells_its_address_and_width(rt: HostRuntime) {
+        let add = Request::Amo {
+            op: AmoOp::Add,
+            addr: 0x11000,
+            width: 8,
+            value: 1,
+        };
+        assert_eq!(rt; (add.addr(), add.width()), (0x11000, 8));
+    }
+}

@@ -1,0 +1,84 @@
+ghost use Rattle.std.specs.Prelude.{◌≡◌};
+
+/// The operation of an atomic read-modify-write (RISC-V Unprivileged ISA manual, "A" extension).
+#[derive(Clone, Copy, Debug, PartialEq, Eq)]
+pub enum AmoOp {
+    Swap,
+    Add,
+    Xor,
+    And,
+    Or,
+    /// The lesser, compared as signed numbers.
+    Min,
+    /// The greater, compared as signed numbers.
+    Max,
+    /// The lesser, compared as unsigned numbers.
+    Minu,
+    /// The greater, compared as unsigned numbers.
+    Maxu,
+}
+
+/// What a core asks of memory. It lies in one line of 64 bytes. Widths are in bytes: 1 to 8 for a
+/// load or a store, 4 or 8 for the others. Of a `value` the low `width` bytes count.
+#[derive(Clone, Copy, Debug, PartialEq, Eq)]
+pub enum Request {
+    Load {
+        addr: u64,
+        width: u8,
+    },
+    Store {
+        addr: u64,
+        width: u8,
+        value: u64,
+    },
+    /// Load-reserved.
+    Lr {
+        addr: u64,
+        width: u8,
+    },
+    /// Store-conditional. `paired` tells that the core's latest load-reserved was at this address
+    /// and width, and that no store-conditional came since.
+    Sc {
+        addr: u64,
+        width: u8,
+        value: u64,
+        paired: bool,
+    },
+    /// An atomic read-modify-write.
+    Amo {
+        op: AmoOp,
+        addr: u64,
+        width: u8,
+        value: u64,
+    },
+}
+
+impl Request {
+    ghost use Rattle.zs_num.specs.Request.{addr_of, width_of};
+
+    /// The address of its lowest byte.
+    pub fn addr(&self) -> u64
+        ensures { result ≡ addr_of self.now }
+    {
+        match *self {
+            Request::Load { addr, .. }
+            | Request::Store { addr, .. }
+            | Request::Lr { addr, .. }
+            | Request::Sc { addr, .. }
+            | Request::Amo { addr, .. } => addr,
+        }
+    }
+
+    /// How many bytes it reads or writes.
+    pub fn width(&self) -> u8
+        ensures { result ≡ width_of self.now }
+    {
+        match *self {
+            Request::Load { width, .. }
+            | Request::Store { width, .. }
+            | Request::Lr { width, .. }
+            | Request::Sc { width, .. }
+            | Request::Amo { width, .. } => width,
+        }
+    }
+}
