@@ -1,0 +1,25 @@
+// Where workers can be held up from outside, between two atomic steps.
+
+/// What a worker is about to do.
+#[derive(Clone, Copy, Debug, PartialEq, Eq)]
+pub enum Point {
+    /// One access of this core. The worker holds no shard.
+    Access { core: u16 },
+    /// One event of this domain.
+    Fire { domain: u16 },
+}
+
+/// A gate has no meaning: no answer of a run depends on it. Each worker passes it before each access
+/// and before each fire, and may be held up there.
+pub trait Gate: Sync {
+    /// Returns when `worker` may go on to `point`.
+    fn pass(&self, worker: u16, point: Point);
+}
+
+/// A gate that holds nobody up.
+#[derive(Clone, Copy, Debug, PartialEq, Eq)]
+pub struct OpenGate;
+
+impl Gate for OpenGate {
+    fn pass(&self, _worker: u16, _point: Point) {}
+}

@@ -1,0 +1,25 @@
+//! What a run has of the world outside: files by name, sinks for bytes, and a gate that its workers
+//! pass; with the objects in memory that tests use, and the adapters to the real ones.
+#![tactic(auto)]
+
+mod fault;
+mod fault_log;
+mod files;
+mod gate;
+mod mem_files;
+mod mem_sink;
+mod no_memory;
+mod real_files;
+mod real_sink;
+mod sink;
+#[cfg(test)]
+mod tests;
+
+pub use fault::{Fault, Operation};
+pub use files::{FileFail, Files};
+pub use gate::{Gate, OpenGate, Point};
+pub use mem_files::MemFiles;
+pub use mem_sink::MemSink;
+pub use real_files::RealFiles;
+pub use real_sink::{RealErr, RealOut, RealSink};
+pub use sink::{Sink, SinkFail};
