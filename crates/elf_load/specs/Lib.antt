@@ -1,0 +1,3 @@
+pub mod Header
+pub mod MemoryImage
+pub mod Image

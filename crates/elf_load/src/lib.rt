@@ -1,0 +1,13 @@
+//! Reads executables: ELF-64 files for RISC-V (ELF-64 object file format, System V ABI).
+#![tactic(auto)]
+
+mod bad_elf;
+mod header;
+mod image;
+mod loader;
+mod segment;
+
+pub use bad_elf::{BadElf, LoadFail};
+pub use image::Image;
+pub use loader::load;
+pub use segment::Segment;

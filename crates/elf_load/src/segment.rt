@@ -1,0 +1,15 @@
+// A part of memory that an executable fills.
+use zs_num::Bytes;
+
+/// A range of memory that the executable fills: its first bytes are those of the file, the rest are 0.
+#[derive(Debug, Drop)]
+pub struct Segment {
+    /// The address of its first byte.
+    pub vaddr: u64,
+    /// The bytes of the file, at most `memsz`.
+    pub bytes: Bytes,
+    /// How many bytes of memory it takes.
+    pub memsz: u64,
+    /// Whether instructions may be fetched from it.
+    pub exec: bool,
+}
