@@ -1,0 +1,8 @@
+-- what was written and what is left to print are all of it
+use Rattle.std.proofs.Common.{◌≡◌, ◌++◌, string_bytes, drop}
+use Rattle.zsim.specs.ReportText.{printed}
+use Rattle.zsim.proofs.report.write_printed.Given as goal
+
+abbrev pub invariant-loop-byte : goal.invariant-loop-byte
+invariant-loop-byte l =
+    string_bytes l.text ++ printed (drop l.byte-index l.bytes) ≡ string_bytes l.initial.text ++ printed l.bytes

@@ -1,0 +1,44 @@
+-- The line on standard error for each status. It ends with one newline.
+use Rattle.std.specs.Prelude.{ℕ, List, [], ◌++◌, codes}
+use Rattle.std.specs.Fmt.{decimal}
+use Rattle.elf_load.specs.declared.bad_elf.BadElf.{BadElf}
+use Rattle.elf_load.specs.declared.bad_elf.BadElf.TheVariants as bad
+use Rattle.zsim.specs.declared.ended.Status.{Status}
+use Rattle.zsim.specs.declared.ended.Status.TheVariants as status
+use Rattle.zsim.specs.declared.ended.Which.TheVariants.{Exe}
+
+-- the number of the check that an executable failed, and the indexes of the segments where there are any
+abbrev pub elf_details : BadElf → List ℕ
+elf_details bad.Short = codes "1"
+elf_details bad.Magic = codes "2"
+elf_details bad.ClassOrData = codes "3"
+elf_details bad.Type_ = codes "4"
+elf_details bad.Machine = codes "5"
+elf_details bad.Flags = codes "6"
+elf_details bad.Headers = codes "7"
+elf_details bad.Dynamic = codes "8"
+elf_details (bad.SegmentPastFile index) = codes "9 " ++ decimal index
+elf_details (bad.SegmentPastMemory index) = codes "10 " ++ decimal index
+elf_details (bad.Overlap first second) = codes "11 " ++ (decimal first ++ (codes " " ++ decimal second))
+elf_details bad.Entry = codes "12"
+
+abbrev pub line_of : Status → List ℕ
+line_of status.Ran = []
+line_of status.Limit = codes "zsim: stopped at the limit\n"
+line_of status.Usage = codes "zsim: usage: zsim run MACHINE EXE [--workers N] [--record NAME] [--brief] or zsim replay MACHINE EXE --schedule NAME [--brief]\n"
+line_of status.ReadFault = codes "zsim: cannot read\n"
+line_of status.WriteFault = codes "zsim: cannot write\n"
+line_of (status.BadElf bad) = codes "zsim: elf " ++ elf_details bad ++ codes "\n"
+line_of (status.TooLong Exe) = codes "zsim: too long: executable\n"
+line_of status.NoMemory = codes "zsim: out of memory\n"
+
+-- the number with which the program ends
+abbrev pub status_number : Status → ℕ
+status_number status.Ran = 0
+status_number status.Usage = 2
+status_number status.Limit = 3
+status_number status.ReadFault = 4
+status_number status.WriteFault = 5
+status_number (status.BadElf bad) = 7
+status_number status.NoMemory = 8
+status_number (status.TooLong Exe) = 10

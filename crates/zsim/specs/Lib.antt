@@ -1,0 +1,11 @@
+pub mod CommandLine
+pub mod InstructionTable
+pub mod CoreState
+pub mod Effect
+pub mod Results
+pub mod Schedule
+pub mod Machine
+pub mod ReferenceRun
+pub mod ReportText
+pub mod ErrorLine
+pub mod Ended

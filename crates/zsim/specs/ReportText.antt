@@ -1,0 +1,101 @@
+-- The text of the report. Numbers are decimal, and each line ends with one newline.
+use Rattle.std.specs.Prelude.{ℕ, zero, suc, ◌+◌, ◌/◌, ◌%◌, max, ◌==◌, nat_lt, nat_le, Bool, not, ◌&&◌, if◌then◌else◌, List, [], ◌∷◌, ◌++◌, length, codes, Option, Some, None}
+use Rattle.std.specs.Fmt.{decimal}
+use Rattle.zsim.specs.declared.why.Why.{Why}
+use Rattle.zsim.specs.declared.why.Why.TheVariants.{Exit, Illegal, Misaligned, AtomicAlign, Fetch, Access, Break}
+use Rattle.zsim.specs.declared.results.CoreCount.{CoreCount}
+use Rattle.zsim.specs.declared.results.CoreResult.{CoreResult}
+use Rattle.zsim.specs.declared.results.ComponentCount.{ComponentCount}
+use Rattle.zsim.specs.Results.{Results}
+
+-- a hexadecimal digit, in lower case
+abbrev pub hex_digit : ℕ → ℕ
+hex_digit n = if nat_lt n 10 then 48 + n else 87 + n
+
+-- a number in so many hexadecimal digits
+abbrev pub hexadecimal : (digits number : ℕ) → List ℕ
+hexadecimal zero n = []
+hexadecimal (suc digits) n = hexadecimal digits (n / 16) ++ hex_digit (n % 16) ∷ []
+
+-- a byte that is printed as itself: from space to tilde, without the double quote and the backslash
+abbrev pub is_plain : ℕ → Bool
+is_plain b = nat_le 0x20 b && nat_le b 0x7E && not (b == 0x22) && not (b == 0x5C)
+
+-- a byte as it is printed
+unfoldable pub printed_byte : ℕ → List ℕ
+printed_byte b = if is_plain b then b ∷ [] else codes "\\x" ++ hexadecimal 2 b
+
+-- bytes as they are printed, one after the other
+abbrev pub printed : List ℕ → List ℕ
+printed [] = []
+printed (b ∷ bs) = printed_byte b ++ printed bs
+
+-- why a core halted
+unfoldable pub halt_text : Option Why → List ℕ
+halt_text None = codes "running"
+halt_text (Some (Exit number)) = codes "exit " ++ decimal number
+halt_text (Some (Illegal word)) = codes "illegal " ++ hexadecimal 8 word
+halt_text (Some (Misaligned target)) = codes "misaligned " ++ hexadecimal 16 target
+halt_text (Some (AtomicAlign addr)) = codes "atomic " ++ hexadecimal 16 addr
+halt_text (Some (Fetch addr)) = codes "fetch " ++ hexadecimal 16 addr
+halt_text (Some (Access addr)) = codes "access " ++ hexadecimal 16 addr
+halt_text (Some Break) = codes "break"
+
+-- numbers, each behind its label
+abbrev pub labelled : List (List ℕ × ℕ) → List ℕ
+labelled [] = []
+labelled (field ∷ fields) = field.0 ++ (decimal field.1 ++ labelled fields)
+
+-- the counts of a core
+unfoldable pub count_text : CoreCount → List ℕ
+count_text c = labelled (
+    (codes " delay ", c.delay) ∷ (codes " loads ", c.loads) ∷ (codes " stores ", c.stores) ∷ (codes " atomics ", c.atomics)
+    ∷ (codes " hits ", c.hits) ∷ (codes " upgrades ", c.upgrades) ∷ (codes " l2hits ", c.l2hits) ∷ (codes " misses ", c.misses) ∷ [])
+
+-- the first line of a core
+unfoldable pub core_line : ℕ → CoreResult → List ℕ
+core_line n c =
+    labelled ((codes "core ", n) ∷ (codes " instructions ", c.instructions) ∷ (codes " cycles ", c.cycles) ∷ [])
+    ++ (count_text c.count ++ (codes " halt " ++ (halt_text c.halted ++ codes "\n")))
+
+-- the second line of a core: how many bytes it wrote on its console, and the bytes
+unfoldable pub console_line : ℕ → List ℕ → List ℕ
+console_line n console =
+    labelled ((codes "core ", n) ∷ (codes " console ", length console) ∷ []) ++ (codes " \"" ++ (printed console ++ codes "\"\n"))
+
+-- the two lines of a core
+abbrev pub core_lines : ℕ → CoreResult → List ℕ
+core_lines n c = core_line n c ++ console_line n c.console
+
+-- the line of a bank or a controller
+unfoldable pub component_line : List ℕ → ℕ → ComponentCount → List ℕ
+component_line kind n c =
+    kind ++ (labelled ((codes " ", n) ∷ (codes " events ", c.events) ∷ (codes " waited ", c.waited) ∷ (codes " free ", c.free) ∷ []) ++ codes "\n")
+
+-- the lines of all items, which are numbered from n on
+abbrev pub numbered : {A : Type 0} → (ℕ → A → List ℕ) → ℕ → List A → List ℕ
+numbered lines n [] = []
+numbered lines n (x ∷ xs) = lines n x ++ numbered lines (n + 1) xs
+
+-- the instructions of all cores
+abbrev pub all_instructions : List CoreResult → ℕ
+all_instructions [] = 0
+all_instructions (c ∷ cs) = c.instructions + all_instructions cs
+
+-- the greatest clock
+abbrev pub greatest_clock : List CoreResult → ℕ
+greatest_clock [] = 0
+greatest_clock (c ∷ cs) = max c.cycles (greatest_clock cs)
+
+-- the seven lines of the summary, but for the last newline; they alone are the brief report
+unfoldable pub summary : (cores intervals instructions cycles accesses events : ℕ) → List ℕ
+summary cores intervals instructions cycles accesses events = labelled (
+    (codes "zsim report 1\ncores ", cores) ∷ (codes "\nintervals ", intervals) ∷ (codes "\ninstructions ", instructions)
+    ∷ (codes "\ncycles ", cycles) ∷ (codes "\naccesses ", accesses) ∷ (codes "\nevents ", events) ∷ [])
+
+-- the summary, the cores, the banks and the controllers
+abbrev pub report_text : Results → List ℕ
+report_text r =
+    summary (length r.cores) r.intervals (all_instructions r.cores) (greatest_clock r.cores) r.accesses r.events
+    ++ codes "\n" ++ numbered core_lines 0 r.cores ++ numbered (component_line (codes "bank")) 0 r.banks
+    ++ numbered (component_line (codes "controller")) 0 r.controllers

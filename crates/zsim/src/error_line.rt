@@ -1,0 +1,56 @@
+// The line on standard error for each status.
+ghost use Rattle.std.specs.Prelude.{◌≡◌, ◌++◌, codes, IfOk, OnOk, string_bytes};
+ghost use Rattle.zsim.specs.ErrorLine.{elf_details, line_of};
+
+use crate::{Status, Which};
+use elf_load::BadElf;
+use std::alloc::{AllocError, Global};
+
+/// The line for a status, with its newline.
+pub fn line_for(alloc: Global, status: Status) -> Result<String, AllocError>
+    ensures { IfOk result (λ line. string_bytes line ≡ line_of status) }
+{
+    match status {
+        Status::Ran => Ok(String::new(alloc)),
+        Status::Limit => String::from_str(alloc, "zsim: stopped at the limit\n"),
+        Status::Usage => String::from_str(alloc, USAGE),
+        Status::ReadFault => String::from_str(alloc, "zsim: cannot read\n"),
+        Status::WriteFault => String::from_str(alloc, "zsim: cannot write\n"),
+        Status::BadElf(bad) => elf_line(alloc, bad),
+        Status::TooLong(Which::Exe) => String::from_str(alloc, "zsim: too long: executable\n"),
+        Status::NoMemory => String::from_str(alloc, "zsim: out of memory\n"),
+    }
+}
+
+const USAGE: &str =
+    "zsim: usage: zsim run MACHINE EXE [--workers N] [--record NAME] [--brief] or zsim replay MACHINE EXE --schedule NAME [--brief]\n";
+
+// The line for an executable that is refused.
+fn elf_line(alloc: Global, bad: BadElf) -> Result<String, AllocError>
+    ensures { IfOk result (λ line. string_bytes line ≡ codes "zsim: elf " ++ elf_details bad ++ codes "\n") }
+{
+    let mut line = String::from_str(alloc, "zsim: elf ")?;
+    write_details(&mut line, bad)?;
+    line.push_str("\n")?;
+    Ok(line)
+}
+
+// Writes the number of the check that an executable failed, and what it names.
+fn write_details(line: &mut String, bad: BadElf) -> Result<(), AllocError>
+    ensures { OnOk result (string_bytes line.new ≡ string_bytes line.old ++ elf_details bad) }
+{
+    match bad {
+        BadElf::Short => line.push_str("1"),
+        BadElf::Magic => line.push_str("2"),
+        BadElf::ClassOrData => line.push_str("3"),
+        BadElf::Type_ => line.push_str("4"),
+        BadElf::Machine => line.push_str("5"),
+        BadElf::Flags => line.push_str("6"),
+        BadElf::Headers => line.push_str("7"),
+        BadElf::Dynamic => line.push_str("8"),
+        BadElf::SegmentPastFile { index } => write!(line, "9 {index}"),
+        BadElf::SegmentPastMemory { index } => write!(line, "10 {index}"),
+        BadElf::Overlap { first, second } => write!(line, "11 {first} {second}"),
+        BadElf::Entry => line.push_str("12"),
+    }
+}

@@ -1,0 +1,75 @@
+// What a run gives: how it ended, and what is reported of each core and component.
+ghost use Rattle.std.specs.Prelude.{◌≡◌};
+
+use crate::why::Why;
+use std::marker::Model;
+use zs_num::{Bytes, Cycle};
+
+/// How a run ended.
+#[derive(Clone, Copy, Debug, PartialEq, Eq)]
+pub enum Ending {
+    /// Every core halted.
+    Halted,
+    /// A limit was reached, with a core that is not halted.
+    Limit,
+}
+
+/// What is counted of a core's accesses.
+#[derive(Clone, Copy, Debug, PartialEq, Eq)]
+pub struct CoreCount {
+    /// The sum of the delays that the weave fed back, in cycles.
+    pub delay: u128,
+    pub loads: u64,
+    pub stores: u64,
+    pub atomics: u64,
+    pub hits: u64,
+    pub upgrades: u64,
+    pub l2hits: u64,
+    pub misses: u64,
+}
+
+/// What a run gives of a core.
+#[derive(Debug, Drop)]
+pub struct CoreResult {
+    pub instructions: u64,
+    /// Its clock at the end.
+    pub cycles: Cycle,
+    pub count: CoreCount,
+    /// Why it halted, or None where it did not.
+    pub halted: Option<Why>,
+    /// What it wrote on its console.
+    pub console: Bytes,
+}
+
+/// What a run gives of a bank or a controller.
+#[derive(Clone, Copy, Debug, PartialEq, Eq)]
+pub struct ComponentCount {
+    /// How many events it served.
+    pub events: u64,
+    /// How long events waited for it, in cycles.
+    pub waited: u128,
+    /// The cycle from which on it is free.
+    pub free: Cycle,
+}
+
+/// What a run gives.
+#[derive(Debug, Drop)]
+pub struct RunResults {
+    pub ending: Ending,
+    /// How many intervals were run.
+    pub intervals: u32,
+    pub accesses: u64,
+    pub events: u64,
+    /// In order of their numbers.
+    pub cores: Vec<CoreResult>,
+    pub banks: Vec<ComponentCount>,
+    pub controllers: Vec<ComponentCount>,
+}
+
+impl Model for RunResults {
+    ghost use Rattle.zsim.specs.Results.{Results};
+
+    ghost Value = { Results };
+
+    ghost view = { λ r. record { ending = r.ending; intervals = r.intervals; accesses = r.accesses; events = r.events; cores = r.cores.items; banks = r.banks.items; controllers = r.controllers.items } };
+}

@@ -1,0 +1,99 @@
+// The run of an executable: intervals until every core halted, or until a limit.
+ghost use Rattle.std.specs.Prelude.{◌≡◌, ◌<◌, ◌≤◌, ◌+◌, ◌*◌, ◌^◌, [], Some, IfOk, OnErr};
+ghost use Rattle.zsim.specs.ReferenceRun.{ending_before, reference_run, results_of, IsLegalSoFar};
+ghost use Rattle.zsim.specs.Machine.{IsMachine};
+
+use crate::Schedule;
+use crate::bound_core::BoundCore;
+use crate::machine::Machine;
+use crate::results::{ComponentCount, CoreCount, CoreResult, Ending, RunResults};
+use elf_load::Image;
+use std::alloc::Global;
+use zs_num::{Bytes, Cycle, NoMemory};
+
+/// Runs an image. The schedule gains one list for each interval that was completed.
+pub fn run(
+    alloc: Global,
+    machine: &Machine,
+    image: &Image,
+    schedule: &mut Schedule,
+) -> Result<RunResults, NoMemory>
+    requires machine { IsMachine machine.now }
+    requires empty { schedule.old.lists ≡ [] }
+    ensures ok { IfOk result (λ results. reference_run machine.now image.now schedule.new.lists ≡ Some results) }
+    ensures err { OnErr result (IsLegalSoFar machine.now image.now schedule.new.lists) }
+    ensures cores { schedule.new.cores ≡ schedule.old.cores }
+{
+    let mut core = BoundCore::new(machine, image, 0);
+    let mut k = 0;
+    let mut end = 0;
+    loop {
+        if let Some(ending) = ending_before(machine, k, &core) {
+            return results_of(alloc, machine, k, &core, ending);
+        }
+        schedule.add_idle(alloc)?;
+        k += 1;
+        end += machine.interval;
+        core.run_to(image, end);
+    }
+}
+
+// How the run ends before interval k, or None where it goes on.
+#[tactic(auto, unfolding(crate::specs::ReferenceRun::ending_before))]
+fn ending_before(machine: &Machine, k: u32, core: &BoundCore) -> Option<Ending>
+    ensures { result ≡ ending_before machine.now k core.now }
+{
+    if core.halted().is_some() {
+        Some(Ending::Halted)
+    } else if k == machine.intervals {
+        Some(Ending::Limit)
+    } else {
+        None
+    }
+}
+
+const NO_ACCESSES: CoreCount = CoreCount {
+    delay: 0,
+    loads: 0,
+    stores: 0,
+    atomics: 0,
+    hits: 0,
+    upgrades: 0,
+    l2hits: 0,
+    misses: 0,
+};
+
+const NO_EVENTS: ComponentCount = ComponentCount {
+    events: 0,
+    waited: 0,
+    free: 0,
+};
+
+// What the run gives where it ends after k intervals.
+fn results_of(
+    alloc: Global,
+    machine: &Machine,
+    k: u32,
+    core: &BoundCore,
+    ending: Ending,
+) -> Result<RunResults, NoMemory>
+    ensures { IfOk result (λ results. results ≡ results_of machine.now k core.now ending) }
+{
+    let mut cores = Vec::new(alloc);
+    cores.push(CoreResult {
+        instructions: core.instructions(),
+        cycles: core.clock(),
+        count: NO_ACCESSES,
+        halted: core.halted(),
+        console: Bytes::of(Vec::new(alloc)),
+    })?;
+    Ok(RunResults {
+        ending,
+        intervals: k,
+        accesses: 0,
+        events: 0,
+        cores,
+        banks: vec![in alloc; NO_EVENTS; machine.banks as usize]?,
+        controllers: vec![in alloc; NO_EVENTS; machine.controllers as usize]?,
+    })
+}

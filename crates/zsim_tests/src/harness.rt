@@ -1,0 +1,52 @@
+// Calls the top call on words and one file, and looks at what it answered and wrote.
+use std::alloc::{AllocError, Global};
+use std::process::Abort;
+use zs_host::{MemFiles, MemSink, OpenGate};
+use zs_num::NoMemory;
+use zsim::{Ended, Status, zsim};
+
+/// The answer of a call, and what the two streams hold after it.
+#[derive(Drop)]
+pub struct Called {
+    pub ended: Ended,
+    pub out: MemSink,
+    pub err: MemSink,
+}
+
+/// Calls on these words, over files in which `A` holds `exe`.
+pub fn call(
+    alloc: Global,
+    words: &[&str],
+    exe: &[u8],
+    mut out: MemSink,
+    mut err: MemSink,
+) -> Result<Called, NoMemory> {
+    let mut files = MemFiles::new(alloc, &[])?;
+    files.set(alloc, "A", exe)?;
+    let words = owned(alloc, words)?;
+    let ended = zsim(alloc, &words, &mut files, &mut out, &mut err, &OpenGate);
+    Ok(Called { ended, out, err })
+}
+
+/// Calls on `run plain A`, over sinks that take all.
+pub fn run(alloc: Global, exe: &[u8]) -> Result<Called, NoMemory> {
+    let out = MemSink::new(alloc, usize::MAX, &[])?;
+    let err = MemSink::new(alloc, usize::MAX, &[])?;
+    call(alloc, &["run", "plain", "A"], exe, out, err)
+}
+
+/// The words, each on its own.
+pub fn owned(alloc: Global, words: &[&str]) -> Result<Vec<String>, AllocError> {
+    let mut all = Vec::new(alloc);
+    for word in words {
+        all.push(String::from_str(alloc, word)?)?;
+    }
+    Ok(all)
+}
+
+/// The call ended so, with this on standard output and this on standard error.
+pub fn assert_ended(rt: &impl Abort, called: &Called, status: Status, out: &str, err: &str) {
+    assert_eq!(rt; called.ended.status, status);
+    assert_eq!(rt; called.out.bytes(), out.as_bytes());
+    assert_eq!(rt; called.err.bytes(), err.as_bytes());
+}

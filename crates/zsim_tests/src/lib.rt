@@ -1,0 +1,13 @@
+//! Tests of the top call, over files and sinks in memory.
+#![tactic(auto)]
+
+#[cfg(test)]
+mod executables;
+#[cfg(test)]
+mod harness;
+#[cfg(test)]
+mod refusals;
+#[cfg(test)]
+mod reports;
+#[cfg(test)]
+mod sinks;

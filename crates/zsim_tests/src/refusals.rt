@@ -1,0 +1,90 @@
+// Words that are no command, and executables that cannot be read or run.
+use crate::executables::{SEVEN, executable};
+use crate::harness::{assert_ended, call, owned, run};
+use elf_load::BadElf;
+use std::test::Fail;
+use zs_host::{MemFiles, MemSink, OpenGate};
+use zsim::{Said, Status, Which, zsim};
+
+const USAGE: &str =
+    "zsim: usage: zsim run MACHINE EXE [--workers N] [--record NAME] [--brief] or zsim replay MACHINE EXE --schedule NAME [--brief]\n";
+
+#[test]
+fn words_that_are_no_command_are_usage(rt: HostRuntime) -> Result<(), Fail> {
+    let alloc = rt.alloc();
+    let exe = executable(alloc, &SEVEN)?;
+    let cases: [&[&str]; 10] = [
+        &[],
+        &["walk"],
+        &["run", "plain"],
+        &["run", "plain", "A", "--workers", "0"],
+        &["run", "plain", "A", "--workers", "65"],
+        &["run", "plain", "gen:05"],
+        &["replay", "plain", "A"],
+        &["run", "m.toml", "A"],
+        &["run", "plain", "-A"],
+        &["run", "plain", "A", "A"],
+    ];
+    for words in cases {
+        let out = MemSink::new(alloc, usize::MAX, &[])?;
+        let err = MemSink::new(alloc, usize::MAX, &[])?;
+        let called = call(alloc, words, &exe, out, err)?;
+        assert_ended(&rt, &called, Status::Usage, "", USAGE);
+        assert_eq!(rt; called.ended.status.number(), 2);
+    }
+    Ok(())
+}
+
+#[test]
+fn executables_that_cannot_run_are_refused(rt: HostRuntime) -> Result<(), Fail> {
+    let alloc = rt.alloc();
+    let cases: [(&[u8], BadElf, &str); 3] = [
+        (&[], BadElf::Short, "zsim: elf 1\n"),
+        (&[0; 63], BadElf::Short, "zsim: elf 1\n"),
+        (&[0; 64], BadElf::Headers, "zsim: elf 7\n"),
+    ];
+    for (exe, bad, line) in cases {
+        let called = run(alloc, exe)?;
+        assert_ended(&rt, &called, Status::BadElf(bad), "", line);
+        assert_eq!(rt; called.ended.kept.exe.as_slice(), exe);
+    }
+    Ok(())
+}
+
+#[test]
+fn an_executable_over_its_limit_is_too_long(rt: HostRuntime) -> Result<(), Fail> {
+    let alloc = rt.alloc();
+    let exe = vec![in alloc; 0u8; (1 << 26) + 1]?;
+    let called = run(alloc, &exe)?;
+    let status = Status::TooLong(Which::Exe);
+    assert_ended(&rt, &called, status, "", "zsim: too long: executable\n");
+    assert_eq!(rt; status.number(), 10);
+    let longest = run(alloc, &exe[1..])?;
+    assert_eq!(rt; longest.ended.status, Status::BadElf(BadElf::Headers));
+    Ok(())
+}
+
+// A name that is not there, and a read that fails.
+#[test]
+fn what_cannot_be_read_is_a_read_fault(rt: HostRuntime) -> Result<(), Fail> {
+    let alloc = rt.alloc();
+    let words = owned(alloc, &["run", "plain", "A"])?;
+    let exe = executable(alloc, &SEVEN)?;
+    for fails in [true, false] {
+        let mut out = MemSink::new(alloc, usize::MAX, &[])?;
+        let mut err = MemSink::new(alloc, usize::MAX, &[])?;
+        let numbers: &[u64] = if fails { &[0] } else { &[] };
+        let mut files = MemFiles::new(alloc, numbers)?;
+        let name = if fails { "A" } else { "B" };
+        files.set(alloc, name, &exe)?;
+        let ended = zsim(alloc, &words, &mut files, &mut out, &mut err, &OpenGate);
+        assert_eq!(rt; ended.status, Status::ReadFault);
+        assert_eq!(rt; ended.status.number(), 4);
+        assert_eq!(rt; ended.said, Said::All);
+        assert!(rt; ended.kept.exe.as_slice().is_empty());
+        assert!(rt; out.bytes().is_empty());
+        assert_eq!(rt; err.bytes(), b"zsim: cannot read\n".as_slice());
+        assert_eq!(rt; files.fault_count(), 1);
+    }
+    Ok(())
+}
