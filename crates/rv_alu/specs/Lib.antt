@@ -1,0 +1,5 @@
+pub mod Arithmetic
+pub mod Atomic
+pub mod Branch
+pub mod Laws
+pub mod Operations

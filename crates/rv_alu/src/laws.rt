@@ -1,0 +1,102 @@
+//! Laws that hold between results, in the words of the RISC-V Unprivileged ISA manual. Each is the
+//! contract of a function that does nothing.
+#![tactic(auto, unfolding(crate::specs::Arithmetic::result_of, crate::specs::Branch::is_taken))]
+
+ghost use Rattle.std.specs.Prelude.{◌≡◌, ◌≢◌, ℕ, ◌+◌, ◌-◌, ◌*◌, ◌%◌, ◌^◌, ◌<◌, ◌≤◌, not, pos, negsuc, ◌*ℤ◌};
+ghost use Rattle.std.specs.Int.{w64};
+ghost use Rattle.rv_alu.specs.Arithmetic.{result_of, signed};
+ghost use Rattle.rv_alu.specs.Branch.{is_taken};
+ghost use Rattle.rv_alu.specs.Laws.{AreHalves, IsDivision, IsOverflow};
+ghost use Rattle.rv_alu.specs.Operations.{low_word, word_of};
+
+use rv_decode::Name;
+
+/// DIV and REM divide, except by zero and where the quotient overflows.
+pub fn signed_division()
+    ensures { (a b : ℕ) → a < 2 ^ 64 → b < 2 ^ 64 → b ≢ 0 → ¬ IsOverflow w64 a b
+        → (let quotient = signed (result_of Name.Div a b) in
+        let remainder = signed (result_of Name.Rem a b) in
+        IsDivision (signed a) (signed b) quotient remainder) }
+{}
+
+/// Where the quotient overflows, it is the dividend, and the remainder is 0.
+pub fn signed_overflow()
+    ensures quotient { (a b : ℕ) → IsOverflow w64 a b → result_of Name.Div a b ≡ a }
+    ensures remainder { (a b : ℕ) → IsOverflow w64 a b → result_of Name.Rem a b ≡ 0 }
+{}
+
+/// DIVU and REMU divide, except by zero.
+pub fn unsigned_division()
+    ensures whole { (a b : ℕ) → b ≢ 0
+        → result_of Name.Divu a b * b + result_of Name.Remu a b ≡ a }
+    ensures size { (a b : ℕ) → b ≢ 0 → result_of Name.Remu a b < b }
+{}
+
+/// By zero the quotient has all bits set, and the remainder is the dividend.
+pub fn division_by_zero()
+    ensures signed_quotient { (a : ℕ) → signed (result_of Name.Div a 0) ≡ negsuc 0 }
+    ensures signed_remainder { (a : ℕ) → result_of Name.Rem a 0 ≡ a }
+    ensures quotient { (a : ℕ) → result_of Name.Divu a 0 ≡ 2 ^ 64 - 1 }
+    ensures remainder { (a : ℕ) → result_of Name.Remu a 0 ≡ a }
+{}
+
+/// The two halves of a product are the whole product.
+pub fn product_halves()
+    ensures signed { (a b : ℕ) → a < 2 ^ 64 → b < 2 ^ 64
+        → AreHalves (signed (result_of Name.Mulh a b)) (result_of Name.Mul a b)
+        (signed a *ℤ signed b) }
+    ensures mixed { (a b : ℕ) → a < 2 ^ 64 → b < 2 ^ 64
+        → AreHalves (signed (result_of Name.Mulhsu a b)) (result_of Name.Mul a b)
+        (signed a *ℤ pos b) }
+    ensures unsigned { (a b : ℕ) → a < 2 ^ 64 → b < 2 ^ 64
+        → AreHalves (pos (result_of Name.Mulhu a b)) (result_of Name.Mul a b) (pos (a * b)) }
+{}
+
+/// The word forms of sums and products are the low words of the doubleword forms, sign-extended.
+pub fn words_of_sums()
+    ensures sum { (a b : ℕ) → result_of Name.Addw a b ≡ word_of (result_of Name.Add a b) }
+    ensures difference { (a b : ℕ) → a < 2 ^ 64 → b < 2 ^ 64
+        → result_of Name.Subw a b ≡ word_of (result_of Name.Sub a b) }
+    ensures product { (a b : ℕ) → result_of Name.Mulw a b ≡ word_of (result_of Name.Mul a b) }
+{}
+
+/// The word forms of shifts, by five bits of the amount, are SLL in its low word, SRL of the low
+/// word, and SRA of the sign-extended low word.
+pub fn words_of_shifts()
+    ensures left { (a b : ℕ)
+        → result_of Name.Sllw a b ≡ word_of (result_of Name.Sll a (b % 32)) }
+    ensures right { (a b : ℕ)
+        → result_of Name.Srlw a b ≡ word_of (result_of Name.Srl (low_word a) (b % 32)) }
+    ensures right_signed { (a b : ℕ)
+        → result_of Name.Sraw a b ≡ result_of Name.Sra (word_of a) (b % 32) }
+{}
+
+/// The bits that come in are copies of the sign: a number that is not negative is shifted as by SRL,
+/// and the complement of a negative one is.
+pub fn signed_shifts()
+    ensures zeros { (a b : ℕ) → a < 2 ^ 63
+        → result_of Name.Sra a b ≡ result_of Name.Srl a b }
+    ensures ones { (a b : ℕ) → 2 ^ 63 ≤ a → a < 2 ^ 64
+        → result_of Name.Sra a b + result_of Name.Srl (2 ^ 64 - 1 - a) b ≡ 2 ^ 64 - 1 }
+{}
+
+/// The word forms of divisions are the low words of the doubleword forms of the low words,
+/// sign-extended: these low words are sign-extended for DIVW and REMW, and zero-extended for DIVUW
+/// and REMUW.
+pub fn words_of_divisions()
+    ensures signed_quotient { (a b : ℕ)
+        → result_of Name.Divw a b ≡ word_of (result_of Name.Div (word_of a) (word_of b)) }
+    ensures signed_remainder { (a b : ℕ)
+        → result_of Name.Remw a b ≡ word_of (result_of Name.Rem (word_of a) (word_of b)) }
+    ensures quotient { (a b : ℕ)
+        → result_of Name.Divuw a b ≡ word_of (result_of Name.Divu (low_word a) (low_word b)) }
+    ensures remainder { (a b : ℕ)
+        → result_of Name.Remuw a b ≡ word_of (result_of Name.Remu (low_word a) (low_word b)) }
+{}
+
+/// Each branch has an opposite one.
+pub fn opposite_branches()
+    ensures equal { (a b : ℕ) → is_taken Name.Bne a b ≡ not (is_taken Name.Beq a b) }
+    ensures signed { (a b : ℕ) → is_taken Name.Bge a b ≡ not (is_taken Name.Blt a b) }
+    ensures unsigned { (a b : ℕ) → is_taken Name.Bgeu a b ≡ not (is_taken Name.Bltu a b) }
+{}

@@ -1,0 +1,5 @@
+pub mod InstructionWord
+pub mod InstructionTable
+pub mod Matching
+pub mod NamedRows
+pub mod Ranges
