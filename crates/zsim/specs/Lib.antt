@@ -1,5 +1,4 @@
 pub mod CommandLine
-pub mod InstructionTable
 pub mod CoreState
 pub mod Effect
 pub mod Results

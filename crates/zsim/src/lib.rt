@@ -5,7 +5,6 @@ mod bound_core;
 mod command_line;
 mod ended;
 mod error_line;
-mod instruction;
 mod interpreter;
 mod limits;
 mod machine;

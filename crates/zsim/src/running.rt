@@ -97,3 +97,62 @@ fn results_of(
         controllers: vec![in alloc; NO_EVENTS; machine.controllers as usize]?,
     })
 }
+
+#[cfg(test)]
+mod tests {
+    use super::*;
+    use crate::machine::PLAIN;
+    use elf_load::load;
+    use std::test::Fail;
+
+    // An executable of eight words, by the ELF-64 object file format, up to its code at byte 120.
+    static FRONT: [u8; 120] = [
+        0x7f, 0x45, 0x4c, 0x46, 0x02, 0x01, 0x01, 0x00, 0x00, 0x00, 0x00, 0x00, 0x00, 0x00, 0x00,
+        0x00, 0x02, 0x00, 0xf3, 0x00, 0x01, 0x00, 0x00, 0x00, 0x00, 0x00, 0x01, 0x00, 0x00, 0x00,
+        0x00, 0x00, 0x40, 0x00, 0x00, 0x00, 0x00, 0x00, 0x00, 0x00, 0x00, 0x00, 0x00, 0x00, 0x00,
+        0x00, 0x00, 0x00, 0x00, 0x00, 0x00, 0x00, 0x40, 0x00, 0x38, 0x00, 0x01, 0x00, 0x00, 0x00,
+        0x00, 0x00, 0x00, 0x00, 0x01, 0x00, 0x00, 0x00, 0x07, 0x00, 0x00, 0x00, 0x78, 0x00, 0x00,
+        0x00, 0x00, 0x00, 0x00, 0x00, 0x00, 0x00, 0x01, 0x00, 0x00, 0x00, 0x00, 0x00, 0x00, 0x00,
+        0x01, 0x00, 0x00, 0x00, 0x00, 0x00, 0x20, 0x00, 0x00, 0x00, 0x00, 0x00, 0x00, 0x00, 0x20,
+        0x00, 0x00, 0x00, 0x00, 0x00, 0x00, 0x00, 0x01, 0x00, 0x00, 0x00, 0x00, 0x00, 0x00, 0x00,
+    ];
+
+    // addi x10, x0, 7; addi x17, x0, 93; ecall
+    static SEVEN: [u32; 8] = [0x0070_0513, 0x05D0_0893, 0x0000_0073, 0, 0, 0, 0, 0];
+
+    // jal x0, 0
+    static FOREVER: [u32; 8] = [0x0000_006F, 0, 0, 0, 0, 0, 0, 0];
+
+    // The length of an interval, the limit of intervals, how the run ends, and after how many
+    // intervals and instructions.
+    #[test]
+    fn a_run_ends_at_the_limit_of_intervals(rt: HostRuntime) -> Result<(), Fail> {
+        let alloc = rt.alloc();
+        for (words, interval, intervals, ending, ran, instructions) in [
+            (&SEVEN, 1, 3, Ending::Halted, 3, 3),
+            (&SEVEN, 1, 2, Ending::Limit, 2, 2),
+            (&FOREVER, 1000, 3, Ending::Limit, 3, 3000),
+        ] {
+            let mut file = Vec::from_slice(alloc, &FRONT)?;
+            for word in words {
+                file.extend_from_slice(&word.to_le_bytes())?;
+            }
+            let image = load(alloc, &file, PLAIN.base, PLAIN.size)?;
+            let machine = Machine {
+                interval,
+                intervals,
+                ..PLAIN
+            };
+            let mut schedule = Schedule::new(alloc, 1);
+            let results = run(alloc, &machine, &image, &mut schedule)?;
+            assert_eq!(rt; results.ending, ending);
+            assert_eq!(rt; results.intervals, ran);
+            assert_eq!(rt; schedule.intervals(), ran);
+            for core in &results.cores {
+                assert_eq!(rt; core.instructions, instructions);
+                assert_eq!(rt; core.cycles, instructions);
+            }
+        }
+        Ok(())
+    }
+}
