@@ -1,6 +1,6 @@
 -- The fields of the headers (ELF-64 object file format, "ELF header" and "Program header table"). Numbers are
 -- little-endian.
-use Rattle.std.specs.Prelude.{ℕ, ◌+◌, List, drop, slice_index}
+use Rattle.std.specs.Prelude.{ℕ, zero, suc, ◌+◌, List, [], ◌∷◌, drop, slice_index}
 use Rattle.byteorder.specs.Endian.{little_number}
 use Rattle.elf_load.specs.declared.header.Header.{Header}
 use Rattle.elf_load.specs.declared.header.ProgramHeader.{ProgramHeader}
@@ -33,3 +33,12 @@ program_header_at file at = record {
   filesz = number_at file (at + 32) 8;
   memsz = number_at file (at + 40) 8;
 }
+
+-- so many program headers, one after the other from this place of a file on
+abbrev pub headers_from : List ℕ → (at count : ℕ) → List ProgramHeader
+headers_from file at zero = []
+headers_from file at (suc count) = program_header_at file at ∷ headers_from file (at + 56) count
+
+-- the table of program headers
+unfoldable pub program_headers : List ℕ → Header → List ProgramHeader
+program_headers file h = headers_from file h.table h.count

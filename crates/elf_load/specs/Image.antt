@@ -1,5 +1,6 @@
--- The image of an executable, or the first check that it fails. Sums are whole numbers.
-use Rattle.std.specs.Prelude.{◌≡◌, ◌==◌, ◌+◌, ◌%◌, ℕ, nat_lt, nat_le, Bool, true, ◌&&◌, if◌then◌else◌, List, [], ◌∷◌, length, take, drop, Result, Ok, Err}
+-- The image of an executable, or the first check that it fails.
+use Rattle.std.specs.Prelude.{◌≡◌, ℕ, nat_le, List, map, filter, length, take, drop, Option, Some, None, Result, Ok, Err}
+use Rattle.std.specs.Option.{option_or}
 use Rattle.elf_load.specs.declared.bad_elf.BadElf.{BadElf}
 use Rattle.elf_load.specs.declared.bad_elf.BadElf.TheVariants as bad
 use Rattle.elf_load.specs.declared.bad_elf.LoadFail.{LoadFail}
@@ -7,38 +8,45 @@ use Rattle.elf_load.specs.declared.bad_elf.LoadFail.TheVariants as fail
 use Rattle.elf_load.specs.declared.header.Header.{Header}
 use Rattle.elf_load.specs.declared.header.ProgramHeader.{ProgramHeader}
 use Rattle.elf_load.specs.declared.segment.Segment.{Segment}
-use Rattle.elf_load.specs.Header.{header_of, program_header_at}
-use Rattle.elf_load.specs.MemoryImage.{MemoryImage, is_within}
-
--- An executable (2) of 64 bits (2), little-endian (1), for RISC-V (243), that needs neither the extension C nor a
--- float ABI, with one program header inside the file.
-unfoldable pub is_supported : Header → ℕ → Bool
-is_supported h len =
-    (h.magic == 0x464C_457F) && (h.class == 2) && (h.encoding == 1) && (h.kind == 2) && (h.machine == 243)
-    && (h.flags % 8 == 0) && (h.count == 1) && (h.entry_size == 56) && nat_le (h.table + 56) len
-
--- A segment to load (1) with the right to execute (bit 0), inside the file and inside memory, and the entry inside it.
-unfoldable pub is_loadable : ProgramHeader → (entry len base size : ℕ) → Bool
-is_loadable p entry len base size =
-    (p.kind == 1) && (p.flags % 2 == 1) && is_within p.offset p.filesz 0 len && nat_le p.filesz p.memsz
-    && is_within p.vaddr p.memsz base (base + size) && (entry % 4 == 0) && is_within entry 4 p.vaddr (p.vaddr + p.memsz)
+use Rattle.elf_load.specs.Checks.{unless, header_fault, segment_fault, is_loaded, is_executable}
+use Rattle.elf_load.specs.Header.{header_of, program_headers}
+use Rattle.elf_load.specs.MemoryImage.{MemoryImage}
 
 -- the segment of a program header
-abbrev pub segment_of : List ℕ → ProgramHeader → Segment
-segment_of file p = record { vaddr = p.vaddr; bytes = take p.filesz (drop p.offset file); memsz = p.memsz; exec = true }
+unfoldable pub segment_of : List ℕ → ProgramHeader → Segment
+segment_of file p = record {
+  vaddr = p.vaddr;
+  bytes = take p.filesz (drop p.offset file);
+  memsz = p.memsz;
+  exec = is_executable p;
+}
 
--- the image with one segment
-abbrev pub image_with : List ℕ → Header → ProgramHeader → (base size : ℕ) → MemoryImage
-image_with file h p base size = record { base = base; size = size; entry = h.entry; segments = segment_of file p ∷ [] }
+-- the segments to load, in the order of their headers
+abbrev pub segments_of : List ℕ → List ProgramHeader → List Segment
+segments_of file ps = map (segment_of file) (filter is_loaded ps)
+
+-- the image of a file that passes all checks
+abbrev pub image_in : List ℕ → Header → List ProgramHeader → (base size : ℕ) → MemoryImage
+image_in file h ps base size = record { base = base; size = size; entry = h.entry; segments = segments_of file ps }
+
+-- the first check of a file that fails: of its length, of the ELF header, of the program headers
+unfoldable pub fault_of : List ℕ → (base size : ℕ) → Option BadElf
+fault_of file base size =
+    let h = header_of file in
+    option_or (unless (nat_le 64 (length file)) bad.Short)
+    (option_or (header_fault h (length file))
+    (segment_fault (program_headers file h) h.entry (length file) base size))
+
+-- an image, where there is no fault
+abbrev pub image_unless : Option BadElf → MemoryImage → Result MemoryImage BadElf
+image_unless None image = Ok image
+image_unless (Some fault) image = Err fault
 
 -- the image of a file, or the first check that fails
-abbrev pub image_of : List ℕ → (base size : ℕ) → Result MemoryImage BadElf
+unfoldable pub image_of : List ℕ → (base size : ℕ) → Result MemoryImage BadElf
 image_of file base size =
     let h = header_of file in
-    let p = program_header_at file h.table in
-    if nat_lt (length file) 64 then Err bad.Short
-    else if is_supported h (length file) && is_loadable p h.entry (length file) base size then Ok (image_with file h p base size)
-    else Err bad.Headers
+    image_unless (fault_of file base size) (image_in file h (program_headers file h) base size)
 
 -- what `load` answered is the image or the first check that fails, unless memory ran out
 abbrev pub Loads : Result MemoryImage LoadFail → Result MemoryImage BadElf → Type 0

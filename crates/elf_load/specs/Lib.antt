@@ -1,3 +1,4 @@
 pub mod Header
 pub mod MemoryImage
+pub mod Checks
 pub mod Image

@@ -1,5 +1,6 @@
 -- What memory holds when an executable was loaded.
-use Rattle.std.specs.Prelude.{ℕ, ◌+◌, ◌-◌, nat_le, Bool, ◌&&◌, if◌then◌else◌, List, [], ◌∷◌, Option, Some, None}
+use Rattle.std.specs.Prelude.{◌≡◌, ℕ, ◌+◌, ◌-◌, ◌%◌, ◌^◌, ◌≤◌, min, max, nat_lt, nat_le, Bool, true, not, ◌&&◌, if◌then◌else◌, List, [], ◌∷◌, length, slice_index, Option, Some, None, IsTrue, IsSome}
+use Rattle.std.specs.List.{list_all, list_any}
 use Rattle.byteorder.specs.Endian.{little_from}
 use Rattle.elf_load.specs.declared.segment.Segment.{Segment}
 
@@ -14,6 +15,11 @@ pub record MemoryImage : Type 0 where
 abbrev pub is_within : (start count low high : ℕ) → Bool
 is_within start count low high = nat_le low start && nat_le (start + count) high
 
+-- so many from the first start on and so many from the second start on have an address in common: the later start lies
+-- before the earlier end
+abbrev pub do_meet : (first count second others : ℕ) → Bool
+do_meet first count second others = nat_lt (max first second) (min (first + count) (second + others))
+
 -- so many bytes from this address on lie in the segment
 abbrev pub covers : Segment → ℕ → ℕ → Bool
 covers segment addr bytes = is_within addr bytes segment.vaddr (segment.vaddr + segment.memsz)
@@ -26,3 +32,32 @@ word_in segment pc = little_from (pc - segment.vaddr) 4 segment.bytes
 abbrev pub fetched : List Segment → ℕ → Option ℕ
 fetched [] pc = None
 fetched (segment ∷ segments) pc = if segment.exec && covers segment pc 4 then Some (word_in segment pc) else fetched segments pc
+
+-- the byte at an address: 0 outside the segments and past the bytes that the file has of a segment
+abbrev pub byte_at : List Segment → ℕ → ℕ
+byte_at [] addr = 0
+byte_at (segment ∷ segments) addr = if covers segment addr 1 then slice_index segment.bytes (addr - segment.vaddr) else byte_at segments addr
+
+-- a segment is not empty, has at most as many bytes as it takes of memory, and lies in memory
+unfoldable pub is_placed : (base size : ℕ) → Segment → Bool
+is_placed base size segment =
+    nat_lt 0 segment.memsz && nat_le (length segment.bytes) segment.memsz && is_within segment.vaddr segment.memsz base (base + size)
+
+-- two segments have an address in common
+unfoldable pub do_overlap : Segment → Segment → Bool
+do_overlap first second = do_meet first.vaddr first.memsz second.vaddr second.memsz
+
+-- no two segments have an address in common
+abbrev pub are_apart : List Segment → Bool
+are_apart [] = true
+are_apart (segment ∷ segments) = not (list_any (do_overlap segment) segments) && are_apart segments
+
+-- What every image keeps: memory ends at 2^48 at most, there are at most 128 segments, each is placed in memory apart
+-- from the others, and the first instruction lies in an executable one.
+pub record IsSound (image : MemoryImage) : Type 0 where
+  pub reach : image.base + image.size ≤ 2 ^ 48
+  pub few : length image.segments ≤ 128
+  pub placed : IsTrue (list_all (is_placed image.base image.size) image.segments)
+  pub apart : IsTrue (are_apart image.segments)
+  pub aligned : image.entry % 4 ≡ 0
+  pub entered : IsSome (fetched image.segments image.entry)

@@ -1,5 +1,9 @@
 // Why a file is not an executable that can be run here.
+ghost use Rattle.std.specs.Prelude.{◌≡◌};
+ghost use Rattle.elf_load.specs.declared.bad_elf.LoadFail.TheVariants as fail;
+
 use thiserror::Error;
+use zs_num::NoMemory;
 
 /// The first check that an executable fails.
 #[derive(Clone, Copy, Debug, PartialEq, Eq, Error)]
@@ -37,4 +41,12 @@ pub enum LoadFail {
     Bad(BadElf),
     #[error("out of memory")]
     NoMemory,
+}
+
+impl From<NoMemory> for LoadFail {
+    ghost from_gives = { λ _ e. e ≡ fail.NoMemory };
+
+    fn from(_: NoMemory) -> Self {
+        LoadFail::NoMemory
+    }
 }

@@ -1,15 +1,21 @@
 // The two kinds of header, read field by field (ELF-64 object file format, sections "ELF header" and
 // "Program header table").
-ghost use Rattle.std.specs.Prelude.{◌≡◌, ◌≤◌, ◌+◌, length};
-ghost use Rattle.elf_load.specs.Header.{header_of, number_at, program_header_at};
+ghost use Rattle.std.specs.Prelude.{◌≡◌, ◌≤◌, ◌+◌, length, IsTrue, IfOk};
+ghost use Rattle.elf_load.specs.Checks.{has_table};
+ghost use Rattle.elf_load.specs.Header.{header_of, number_at, program_header_at, program_headers};
 
 use byteorder::{ByteOrder, LittleEndian};
+use std::alloc::Global;
+use zs_num::NoMemory;
 
 /// The length of the ELF header, in bytes.
 pub const HEADER_LEN: usize = 64;
 
 /// The length of a program header, in bytes.
 pub const PROGRAM_HEADER_LEN: usize = 56;
+
+/// How many program headers there may be.
+pub const MOST_HEADERS: usize = 128;
 
 /// The fields of the ELF header that decide.
 #[derive(Clone, Copy)]
@@ -85,6 +91,23 @@ impl ProgramHeader {
             memsz: u64_at(file, at + 40),
         }
     }
+}
+
+/// Reads the table of program headers, which lies in the file.
+pub fn program_headers(
+    alloc: Global,
+    file: &[u8],
+    header: &Header,
+) -> Result<Vec<ProgramHeader>, NoMemory>
+    requires { IsTrue (has_table header.now (length file.now)) }
+    ensures { IfOk result (λ headers. headers.items ≡ program_headers file.now header.now) }
+{
+    let mut headers = Vec::new(alloc);
+    for i in 0..header.count as usize {
+        let at = header.table as usize + PROGRAM_HEADER_LEN * i;
+        headers.push(ProgramHeader::read(file, at))?;
+    }
+    Ok(headers)
 }
 
 fn u16_at(file: &[u8], at: usize) -> u16

@@ -1,8 +1,9 @@
 // What memory holds when an executable was loaded.
-ghost use Rattle.std.specs.Prelude.{◌≡◌, ◌≤◌, ◌+◌, slice_index};
-ghost use Rattle.elf_load.specs.MemoryImage.{covers, fetched, word_in};
+ghost use Rattle.std.specs.Prelude.{◌≡◌, ◌≤◌, ◌<◌, ◌+◌, ◌&&◌, slice_index, IsTrue};
+ghost use Rattle.elf_load.specs.MemoryImage.{byte_at, covers, fetched, word_in, IsSound};
 
 use crate::Segment;
+use crate::range::is_within;
 use byteorder::{ByteOrder, LittleEndian};
 use std::marker::Model;
 
@@ -16,16 +17,19 @@ pub struct Image {
 }
 
 impl Model for Image {
-    ghost use Rattle.elf_load.specs.MemoryImage.{MemoryImage};
+    ghost use Rattle.elf_load.specs.MemoryImage.{MemoryImage, IsSound};
 
     ghost Value = { MemoryImage };
 
     ghost view = { λ i. record { base = i.base; size = i.size; entry = i.entry; segments = i.segments.items } };
+
+    ghost invariant = { λ i. IsSound (record { base = i.base; size = i.size; entry = i.entry; segments = i.segments.items }) };
 }
 
 impl Image {
     /// An image of these parts.
-    pub(crate) fn of(base: u64, size: u64, entry: u64, segments: Vec<Segment>) -> Self
+    pub fn make(base: u64, size: u64, entry: u64, segments: Vec<Segment>) -> Self
+        requires { IsSound (record { base = base; size = size; entry = entry; segments = segments.items }) }
         ensures { result ≡ record { base = base; size = size; entry = entry; segments = segments.items } }
     {
         Image {
@@ -34,6 +38,21 @@ impl Image {
             entry,
             segments,
         }
+    }
+
+    /// The address of the first byte of memory.
+    pub fn base(&self) -> u64
+        ensures value { result ≡ self.now.base }
+        ensures sound { IsSound self.now }
+    {
+        self.base
+    }
+
+    /// How many bytes of memory there are.
+    pub fn size(&self) -> u64
+        ensures { result ≡ self.now.size }
+    {
+        self.size
     }
 
     /// The address of the first instruction.
@@ -50,12 +69,46 @@ impl Image {
         &self.segments
     }
 
+    /// The byte at an address of memory: 0 outside the segments and past the bytes that the file has
+    /// of a segment.
+    pub fn byte(&self, addr: u64) -> u8
+        requires begins { self.now.base ≤ addr }
+        requires ends { addr < self.now.base + self.now.size }
+        ensures { result ≡ byte_at self.now.segments addr }
+    {
+        for segment in &self.segments {
+            if is_within(addr, 1, segment.vaddr, segment.memsz) {
+                return byte_at(segment, addr - segment.vaddr);
+            }
+        }
+        0
+    }
+
     /// The word at an address, or None where its four bytes are not in one executable segment.
     pub fn word(&self, pc: u64) -> Option<u32>
         ensures { result ≡ fetched self.now.segments pc }
     {
         for segment in &self.segments {
-            if segment.exec && covers_word(segment, pc) {
+            if has_word(segment, pc) {
+                return Some(word_in(segment, pc));
+            }
+        }
+        None
+    }
+
+    /// The word at an address, as `word` gives it. `near` is the place of the segment that answered
+    /// last, or any other number, and is looked at first.
+    pub fn word_near(&self, near: &mut usize, pc: u64) -> Option<u32>
+        ensures { result ≡ fetched self.now.segments pc }
+    {
+        if let Some(segment) = self.segments.get(*near) {
+            if has_word(segment, pc) {
+                return Some(word_in(segment, pc));
+            }
+        }
+        for (place, segment) in self.segments.iter().enumerate() {
+            if has_word(segment, pc) {
+                *near = place;
                 return Some(word_in(segment, pc));
             }
         }
@@ -63,20 +116,16 @@ impl Image {
     }
 }
 
-fn covers_word(segment: &Segment, pc: u64) -> bool
-    ensures { result ≡ covers segment.now pc 4 }
+// Whether instructions may be fetched from the four bytes from `pc` on.
+fn has_word(segment: &Segment, pc: u64) -> bool
+    ensures { result ≡ (segment.now.exec && covers segment.now pc 4) }
 {
-    if pc < segment.vaddr {
-        return false;
-    }
-    let offset = pc - segment.vaddr;
-    offset <= segment.memsz && 4 <= segment.memsz - offset
+    segment.exec && is_within(pc, 4, segment.vaddr, segment.memsz)
 }
 
 // The four bytes from `pc` on, which lie in the segment.
 fn word_in(segment: &Segment, pc: u64) -> u32
-    requires begins { segment.now.vaddr ≤ pc }
-    requires ends { pc + 4 ≤ segment.now.vaddr + segment.now.memsz }
+    requires { IsTrue (covers segment.now pc 4) }
     ensures { result ≡ word_in segment.now pc }
 {
     let offset = pc - segment.vaddr;

@@ -2,12 +2,19 @@
 #![tactic(auto)]
 
 mod bad_elf;
+mod checks;
 mod header;
 mod image;
 mod loader;
+mod range;
 mod segment;
 
 pub use bad_elf::{BadElf, LoadFail};
 pub use image::Image;
 pub use loader::load;
 pub use segment::Segment;
+
+#[cfg(test)]
+mod executables;
+#[cfg(test)]
+mod tests;

@@ -4,7 +4,7 @@ use Rattle.std.proofs.lemmas.Bool.Decides.{nat_tests}
 use Rattle.zsim.specs.declared.results.Ending.TheVariants.{Halted, Limit}
 use Rattle.std.specs.Prelude.{is_none}
 use Rattle.elf_load.specs.MemoryImage.{MemoryImage}
-use Rattle.zsim.specs.declared.machine.Machine.{Machine}
+use Rattle.machine_desc.specs.declared.machine.Machine.{Machine}
 use Rattle.zsim.specs.CoreState.{TimedCore}
 use Rattle.zsim.specs.ReferenceRun.{ending_before, is_legal, ran_to, after_intervals}
 

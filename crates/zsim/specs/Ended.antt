@@ -13,7 +13,8 @@ use Rattle.zsim.specs.declared.ended.Said.TheVariants as said
 use Rattle.zsim.specs.declared.ended.Status.{Status}
 use Rattle.zsim.specs.declared.ended.Status.TheVariants as status
 use Rattle.zsim.specs.declared.ended.Which.TheVariants.{Exe}
-use Rattle.zsim.specs.declared.machine.TheConstants.{PLAIN, PLAIN_TEXT}
+use Rattle.machine_desc.specs.Plain.{plain_machine}
+use Rattle.machine_desc.specs.declared.plain.TheConstants.{PLAIN}
 use Rattle.zsim.specs.declared.limits.TheConstants.{EXE_LIMIT}
 use Rattle.zsim.specs.declared.results.Ending.{Ending}
 use Rattle.zsim.specs.declared.results.Ending.TheVariants as ending
@@ -36,11 +37,11 @@ refused_elf (Ok image) = Ok image
 refused_elf (Err bad) = Err (status.BadElf bad)
 
 unfoldable pub checked : List ℕ → Result MemoryImage Status
-checked exe = if nat_lt EXE_LIMIT (length exe) then Err (status.TooLong Exe) else refused_elf (image_of exe PLAIN.base PLAIN.size)
+checked exe = if nat_lt EXE_LIMIT (length exe) then Err (status.TooLong Exe) else refused_elf (image_of exe plain_machine.memory.base plain_machine.memory.size)
 
 -- the run of an executable under a schedule, where the checks let it pass and the schedule is legal for its run
 abbrev pub run_of_image : Result MemoryImage Status → List (List ℕ) → Option Results
-run_of_image (Ok image) lists = reference_run PLAIN image lists
+run_of_image (Ok image) lists = reference_run plain_machine image lists
 run_of_image (Err refusal) lists = None
 
 abbrev pub run_of : (exe : List ℕ) → List (List ℕ) → Option Results
@@ -69,13 +70,13 @@ KeepsExe (status.TooLong which) command was_read exe = IsSomeAnd command was_rea
 -- What is kept of the machine: its text, from the step on that makes it.
 abbrev pub KeepsMachine : Status → (machine : List ℕ) → Type 0
 KeepsMachine status.Usage machine = machine ≡ []
-KeepsMachine status.NoMemory machine = (machine ≡ []) ⊎ (machine ≡ PLAIN_TEXT.now)
-KeepsMachine status.Ran machine = machine ≡ PLAIN_TEXT.now
-KeepsMachine status.Limit machine = machine ≡ PLAIN_TEXT.now
-KeepsMachine status.ReadFault machine = machine ≡ PLAIN_TEXT.now
-KeepsMachine status.WriteFault machine = machine ≡ PLAIN_TEXT.now
-KeepsMachine (status.BadElf bad) machine = machine ≡ PLAIN_TEXT.now
-KeepsMachine (status.TooLong which) machine = machine ≡ PLAIN_TEXT.now
+KeepsMachine status.NoMemory machine = (machine ≡ []) ⊎ (machine ≡ PLAIN.now)
+KeepsMachine status.Ran machine = machine ≡ PLAIN.now
+KeepsMachine status.Limit machine = machine ≡ PLAIN.now
+KeepsMachine status.ReadFault machine = machine ≡ PLAIN.now
+KeepsMachine status.WriteFault machine = machine ≡ PLAIN.now
+KeepsMachine (status.BadElf bad) machine = machine ≡ PLAIN.now
+KeepsMachine (status.TooLong which) machine = machine ≡ PLAIN.now
 
 -- The cause of each refusal. The steps are the words, the read of the executable, its checks, and the output.
 abbrev pub HasCause : Status → (command : Option (List ℕ)) → (read_failed : List ℕ → Type 0) → (exe : List ℕ) → (write_failed : Type 0) → Type 0
@@ -104,7 +105,7 @@ IsCutReport exe lists gained_prefix = (r : Results) × (run_of exe lists ≡ Som
 
 -- the schedule has the intervals that were completed, each legal
 abbrev pub IsStopped : (exe : List ℕ) → (lists : List (List ℕ)) → Type 0
-IsStopped exe lists = (image : MemoryImage) × (checked exe ≡ Ok image) × IsLegalSoFar PLAIN image lists
+IsStopped exe lists = (image : MemoryImage) × (checked exe ≡ Ok image) × IsLegalSoFar plain_machine image lists
 
 -- What the stream gained, and what the schedule is, where the report is not whole. Where memory ran out, that was before
 -- the first interval, in an interval or before the first put, or in a put.
@@ -140,11 +141,11 @@ Answers (Err _) checks = ⊥
 -- The run of an image under a schedule: it ended in this way, and the stream gained its whole report.
 abbrev pub IsRun : Ending → MemoryImage → (lists : List (List ℕ)) → (gained : List ℕ → Type 0) → Type 0
 IsRun ending image lists gained =
-    (r : Results) × (reference_run PLAIN image lists ≡ Some r) × (r.ending ≡ ending) × gained (report_text r)
+    (r : Results) × (reference_run plain_machine image lists ≡ Some r) × (r.ending ≡ ending) × gained (report_text r)
 
 abbrev pub IsCutRun : MemoryImage → (lists : List (List ℕ)) → (gained_prefix : List ℕ → Type 0) → Type 0
 IsCutRun image lists gained_prefix =
-    (r : Results) × (reference_run PLAIN image lists ≡ Some r) × gained_prefix (report_text r)
+    (r : Results) × (reference_run plain_machine image lists ≡ Some r) × gained_prefix (report_text r)
 
 -- The same as the answers of a run tell it.
 abbrev pub RunsAs : Status → MemoryImage → (lists : List (List ℕ)) → (gained gained_prefix : List ℕ → Type 0) → (unchanged write_failed : Type 0) → Type 0
@@ -152,7 +153,7 @@ RunsAs status.Ran image lists gained gained_prefix unchanged write_failed = IsRu
 RunsAs status.Limit image lists gained gained_prefix unchanged write_failed = IsRun ending.Limit image lists gained
 RunsAs status.WriteFault image lists gained gained_prefix unchanged write_failed = IsCutRun image lists gained_prefix × write_failed
 RunsAs status.NoMemory image lists gained gained_prefix unchanged write_failed =
-    (IsLegalSoFar PLAIN image lists × unchanged) ⊎ IsCutRun image lists gained_prefix
+    (IsLegalSoFar plain_machine image lists × unchanged) ⊎ IsCutRun image lists gained_prefix
 RunsAs _ image lists gained gained_prefix unchanged write_failed = ⊥
 
 -- nothing was kept yet

@@ -3,7 +3,6 @@ pub mod CoreState
 pub mod Effect
 pub mod Results
 pub mod Schedule
-pub mod Machine
 pub mod ReferenceRun
 pub mod ReportText
 pub mod ErrorLine

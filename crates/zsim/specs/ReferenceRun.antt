@@ -2,7 +2,7 @@
 use Rattle.std.specs.Prelude.{◌≡◌, ℕ, zero, suc, ◌+◌, ◌-◌, ◌*◌, ◌==◌, nat_lt, Bool, true, false, ◌&&◌, if◌then◌else◌, List, [], ◌∷◌, length, replicate, slice_set, Option, Some, None, is_none}
 use Rattle.std.specs.Option.{option_and_then, option_map}
 use Rattle.elf_load.specs.MemoryImage.{MemoryImage}
-use Rattle.zsim.specs.declared.machine.Machine.{Machine}
+use Rattle.machine_desc.specs.declared.machine.Machine.{Machine}
 use Rattle.zsim.specs.CoreState.{TimedCore}
 use Rattle.zsim.specs.declared.results.CoreCount.{CoreCount}
 use Rattle.zsim.specs.declared.results.CoreResult.{CoreResult}
@@ -15,7 +15,7 @@ use Rattle.zsim.specs.Results.{Results}
 -- the registers at the start: sp is x2, the core's number is in x10 and the number of cores in x11
 abbrev pub start_registers : Machine → ℕ → List ℕ
 start_registers machine number =
-    slice_set (slice_set (slice_set (replicate 32 0) 2 (machine.base + machine.size - number * machine.stack)) 10 number) 11 machine.cores
+    slice_set (slice_set (slice_set (replicate 32 0) 2 (machine.memory.base + machine.memory.size - number * machine.memory.stack)) 10 number) 11 machine.cores
 
 -- the core of this number at the start
 abbrev pub start : Machine → MemoryImage → ℕ → TimedCore
@@ -85,8 +85,8 @@ results_of machine k c ending = record {
   accesses = 0;
   events = 0;
   cores = core_result c ∷ [];
-  banks = replicate machine.banks no_events;
-  controllers = replicate machine.controllers no_events;
+  banks = replicate machine.l2.banks no_events;
+  controllers = replicate machine.controllers.count no_events;
 }
 
 -- what the run gives where it ends before interval k

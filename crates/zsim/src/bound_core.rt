@@ -2,9 +2,9 @@
 ghost use Rattle.std.specs.Prelude.{◌≡◌, ◌<◌, ◌≤◌, ◌^◌, ◌+◌, ◌-◌, ◌*◌};
 
 use crate::interpreter::Core;
-use crate::machine::Machine;
 use crate::why::Why;
 use elf_load::Image;
+use machine_desc::Machine;
 use std::marker::Model;
 use zs_num::Cycle;
 
@@ -29,13 +29,14 @@ impl BoundCore {
 
     /// The core of this number at the start of a run.
     pub fn new(machine: &Machine, image: &Image, number: u16) -> Self
-        requires memory { machine.now.base + machine.now.size ≤ 2 ^ 48 }
-        requires stack { machine.now.cores * machine.now.stack ≤ machine.now.size }
+        requires memory { machine.now.memory.base + machine.now.memory.size ≤ 2 ^ 48 }
+        requires stack { machine.now.cores * machine.now.memory.stack ≤ machine.now.memory.size }
         requires number { number < machine.now.cores }
         ensures { result ≡ start machine.now image.now number }
     {
         let mut registers = [0; 32];
-        registers[2] = machine.base + machine.size - u64::from(number) * machine.stack;
+        registers[2] = machine.memory.base + machine.memory.size
+            - u64::from(number) * machine.memory.stack;
         registers[10] = u64::from(number);
         registers[11] = u64::from(machine.cores);
         BoundCore {

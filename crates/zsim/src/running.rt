@@ -1,13 +1,13 @@
 // The run of an executable: intervals until every core halted, or until a limit.
 ghost use Rattle.std.specs.Prelude.{◌≡◌, ◌<◌, ◌≤◌, ◌+◌, ◌*◌, ◌^◌, [], Some, IfOk, OnErr};
 ghost use Rattle.zsim.specs.ReferenceRun.{ending_before, reference_run, results_of, IsLegalSoFar};
-ghost use Rattle.zsim.specs.Machine.{IsMachine};
+ghost use Rattle.machine_desc.specs.Machine.{IsMachine};
 
 use crate::Schedule;
 use crate::bound_core::BoundCore;
-use crate::machine::Machine;
 use crate::results::{ComponentCount, CoreCount, CoreResult, Ending, RunResults};
 use elf_load::Image;
+use machine_desc::Machine;
 use std::alloc::Global;
 use zs_num::{Bytes, Cycle, NoMemory};
 
@@ -19,6 +19,7 @@ pub fn run(
     schedule: &mut Schedule,
 ) -> Result<RunResults, NoMemory>
     requires machine { IsMachine machine.now }
+    requires cores { machine.now.cores ≡ 1 }
     requires empty { schedule.old.lists ≡ [] }
     ensures ok { IfOk result (λ results. reference_run machine.now image.now schedule.new.lists ≡ Some results) }
     ensures err { OnErr result (IsLegalSoFar machine.now image.now schedule.new.lists) }
@@ -93,15 +94,15 @@ fn results_of(
         accesses: 0,
         events: 0,
         cores,
-        banks: vec![in alloc; NO_EVENTS; machine.banks as usize]?,
-        controllers: vec![in alloc; NO_EVENTS; machine.controllers as usize]?,
+        banks: vec![in alloc; NO_EVENTS; machine.l2.banks as usize]?,
+        controllers: vec![in alloc; NO_EVENTS; machine.controllers.count as usize]?,
     })
 }
 
 #[cfg(test)]
 mod tests {
     use super::*;
-    use crate::machine::PLAIN;
+    use crate::machine::plain;
     use elf_load::load;
     use std::test::Fail;
 
@@ -137,12 +138,10 @@ mod tests {
             for word in words {
                 file.extend_from_slice(&word.to_le_bytes())?;
             }
-            let image = load(alloc, &file, PLAIN.base, PLAIN.size)?;
-            let machine = Machine {
-                interval,
-                intervals,
-                ..PLAIN
-            };
+            let mut machine = plain(alloc)?;
+            machine.interval = interval;
+            machine.intervals = intervals;
+            let image = load(alloc, &file, machine.memory.base, machine.memory.size)?;
             let mut schedule = Schedule::new(alloc, 1);
             let results = run(alloc, &machine, &image, &mut schedule)?;
             assert_eq!(rt; results.ending, ending);

@@ -1,18 +1,22 @@
 // The call that does all that the program does.
-ghost use Rattle.std.specs.Prelude.{◌≡◌, ◌≢◌, ◌≤◌, ◌+◌, ◌↔◌, ℕ, length, [], List, None, Some, IsSome, IfOk, IfErr, IsTrue, map, string_bytes};
+ghost use Rattle.std.specs.Prelude.{◌≡◌, ◌≢◌, ◌≤◌, ◌+◌, ◌↔◌, ℕ, length, [], List, None, Some, IsSome, IfOk, IfErr, IsTrue, map, string_bytes, OnErr};
 ghost use Rattle.zs_host.specs.Faults.{Rose};
+ghost use Rattle.machine_desc.specs.Plain.{plain_machine};
+ghost use Rattle.machine_desc.specs.declared.plain.TheConstants.{PLAIN};
 ghost use Rattle.zsim.specs.CommandLine.{command_of};
 ghost use Rattle.zsim.specs.ErrorLine.{line_of};
+ghost use Rattle.zsim.specs.ReferenceRun.{reference_run, IsLegalSoFar};
 ghost use Rattle.zsim.specs.Ended.{checked, status_at, Answers, FailedToRead, Gained, GainedPrefix, HasCause, IsEmpty, IsFull, KeepsExe, KeepsMachine, Leaves, Reports, RunsAs, Says, WasRead};
 
 use crate::command_line::command;
 use crate::error_line::line_for;
 use crate::limits::EXE_LIMIT;
-use crate::machine::{PLAIN, PLAIN_TEXT};
+use crate::machine::plain;
 use crate::put::put_all;
-use crate::results::Ending;
+use crate::results::{Ending, RunResults};
 use crate::{Ended, Kept, Said, Schedule, Status, Which, report, running};
 use elf_load::{Image, LoadFail, load};
+use machine_desc::{Machine, PLAIN};
 use std::alloc::{AllocError, Global};
 use zs_host::{FileFail, Files, Gate, Sink, SinkFail};
 use zs_num::{Bytes, NoMemory};
@@ -34,8 +38,8 @@ pub fn zsim<F: Files, O: Sink, E: Sink, G: Gate>(
     ensures kept { KeepsExe result.status (command_of (map string_bytes words.now)) (WasRead F.tells (F.contents files.old) result.kept.exe) result.kept.exe }
     ensures kept_machine { KeepsMachine result.status result.kept.machine }
     ensures kept_sched_file { result.kept.sched_file ≡ [] }
-    ensures kept_cores { result.kept.schedule.cores ≡ PLAIN.cores }
-    ensures kept_order { result.kept.exe ≢ [] → result.kept.machine ≡ PLAIN_TEXT.now }
+    ensures kept_cores { result.kept.schedule.cores ≡ 1 }
+    ensures kept_order { result.kept.exe ≢ [] → result.kept.machine ≡ PLAIN.now }
     ensures kept_length { length result.kept.exe ≤ EXE_LIMIT + 1 }
 
     // Each status has its cause, in the order of the steps.
@@ -62,7 +66,7 @@ pub fn zsim<F: Files, O: Sink, E: Sink, G: Gate>(
         machine: Bytes::of(Vec::new(alloc)),
         exe: Bytes::of(Vec::new(alloc)),
         sched_file: Bytes::of(Vec::new(alloc)),
-        schedule: Schedule::new(alloc, PLAIN.cores),
+        schedule: Schedule::new(alloc, 1),
     };
     let status = conduct(alloc, words, files, out, &mut kept);
     let said = say(alloc, err, status);
@@ -83,7 +87,7 @@ fn conduct<F: Files, O: Sink>(
     ensures kept_machine { KeepsMachine result kept.new.machine }
     ensures kept_sched_file { kept.new.sched_file ≡ [] }
     ensures kept_cores { kept.new.schedule.cores ≡ kept.old.schedule.cores }
-    ensures kept_order { kept.new.exe ≢ [] → kept.new.machine ≡ PLAIN_TEXT.now }
+    ensures kept_order { kept.new.exe ≢ [] → kept.new.machine ≡ PLAIN.now }
     ensures kept_length { length kept.new.exe ≤ EXE_LIMIT + 1 }
     ensures untouched { result ≡ Status.Usage → files.new ≡ files.old }
     ensures refusals { HasCause result (command_of (map string_bytes words.now)) (FailedToRead F.faults F.latest files.old files.new) kept.new.exe (Rose (O.faults out.old) (O.faults out.new)) }
@@ -94,7 +98,10 @@ fn conduct<F: Files, O: Sink>(
     let Some(name) = command(words) else {
         return Status::Usage;
     };
-    match Bytes::from_slice(alloc, PLAIN_TEXT.as_bytes()) {
+    let Ok(machine) = plain(alloc) else {
+        return Status::NoMemory;
+    };
+    match Bytes::from_slice(alloc, PLAIN.as_bytes()) {
         Ok(text) => kept.machine = text,
         Err(NoMemory) => return Status::NoMemory,
     }
@@ -103,21 +110,22 @@ fn conduct<F: Files, O: Sink>(
         Err(FileFail::Failed) => return Status::ReadFault,
         Err(FileFail::NoMemory) => return Status::NoMemory,
     }
-    match check(alloc, kept.exe.as_slice()) {
-        Ok(image) => run_and_report(alloc, &image, out, &mut kept.schedule),
+    match check(alloc, &machine, kept.exe.as_slice()) {
+        Ok(image) => run_and_report(alloc, &machine, &image, out, &mut kept.schedule),
         Err(status) => status,
     }
 }
 
 // The checks of an executable: its length, and then those of its file format.
 #[tactic(auto, unfolding(crate::specs::Ended::checked))]
-fn check(alloc: Global, exe: &[u8]) -> Result<Image, Status>
+fn check(alloc: Global, machine: &Machine, exe: &[u8]) -> Result<Image, Status>
+    requires { machine.now ≡ plain_machine }
     ensures { Answers result (checked exe.now) }
 {
     if exe.len() > EXE_LIMIT {
         return Err(Status::TooLong(Which::Exe));
     }
-    match load(alloc, exe, PLAIN.base, PLAIN.size) {
+    match load(alloc, exe, machine.memory.base, machine.memory.size) {
         Ok(image) => Ok(image),
         Err(LoadFail::Bad(bad)) => Err(Status::BadElf(bad)),
         Err(LoadFail::NoMemory) => Err(Status::NoMemory),
@@ -127,15 +135,17 @@ fn check(alloc: Global, exe: &[u8]) -> Result<Image, Status>
 // Runs an image, and writes its report.
 fn run_and_report<O: Sink>(
     alloc: Global,
+    machine: &Machine,
     image: &Image,
     out: &mut O,
     schedule: &mut Schedule,
 ) -> Status
-    requires { schedule.old.lists ≡ [] }
+    requires machine { machine.now ≡ plain_machine }
+    requires empty { schedule.old.lists ≡ [] }
     ensures cores { schedule.new.cores ≡ schedule.old.cores }
     ensures run { RunsAs result image.now schedule.new.lists (Gained O.tells (O.bytes out.old) (O.bytes out.new)) (GainedPrefix O.tells (O.bytes out.old) (O.bytes out.new)) (out.new ≡ out.old) (Rose (O.faults out.old) (O.faults out.new)) }
 {
-    let results = match running::run(alloc, &PLAIN, image, schedule) {
+    let results = match run_plain(alloc, machine, image, schedule) {
         Ok(results) => results,
         Err(NoMemory) => return Status::NoMemory,
     };
@@ -148,6 +158,22 @@ fn run_and_report<O: Sink>(
         Err(SinkFail::Failed) => Status::WriteFault,
         Err(SinkFail::NoMemory) => Status::NoMemory,
     }
+}
+
+// Runs an image on the built-in machine.
+fn run_plain(
+    alloc: Global,
+    machine: &Machine,
+    image: &Image,
+    schedule: &mut Schedule,
+) -> Result<RunResults, NoMemory>
+    requires machine { machine.now ≡ plain_machine }
+    requires empty { schedule.old.lists ≡ [] }
+    ensures ok { IfOk result (λ results. reference_run plain_machine image.now schedule.new.lists ≡ Some results) }
+    ensures err { OnErr result (IsLegalSoFar plain_machine image.now schedule.new.lists) }
+    ensures cores { schedule.new.cores ≡ schedule.old.cores }
+{
+    running::run(alloc, machine, image, schedule)
 }
 
 // The status of a run that was reported whole.

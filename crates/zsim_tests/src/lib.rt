@@ -6,6 +6,8 @@ mod executables;
 #[cfg(test)]
 mod harness;
 #[cfg(test)]
+mod memory;
+#[cfg(test)]
 mod refusals;
 #[cfg(test)]
 mod reports;

@@ -36,18 +36,94 @@ fn words_that_are_no_command_are_usage(rt: HostRuntime) -> Result<(), Fail> {
 }
 
 #[test]
-fn executables_that_cannot_run_are_refused(rt: HostRuntime) -> Result<(), Fail> {
+fn what_is_no_executable_is_refused(rt: HostRuntime) -> Result<(), Fail> {
     let alloc = rt.alloc();
     let cases: [(&[u8], BadElf, &str); 3] = [
         (&[], BadElf::Short, "zsim: elf 1\n"),
         (&[0; 63], BadElf::Short, "zsim: elf 1\n"),
-        (&[0; 64], BadElf::Headers, "zsim: elf 7\n"),
+        (&[0; 64], BadElf::Magic, "zsim: elf 2\n"),
     ];
     for (exe, bad, line) in cases {
         let called = run(alloc, exe)?;
         assert_ended(&rt, &called, Status::BadElf(bad), "", line);
         assert_eq!(rt; called.ended.kept.exe.as_slice(), exe);
     }
+    Ok(())
+}
+
+// Bytes of the executable that exits with seven, what they become, and the check that then fails.
+static SPOILED: [(usize, usize, u8, BadElf, &str); 9] = [
+    (4, 4, 1, BadElf::ClassOrData, "zsim: elf 3\n"),
+    (16, 16, 3, BadElf::Type_, "zsim: elf 4\n"),
+    (18, 18, 0, BadElf::Machine, "zsim: elf 5\n"),
+    (48, 48, 1, BadElf::Flags, "zsim: elf 6\n"),
+    (54, 54, 55, BadElf::Headers, "zsim: elf 7\n"),
+    (64, 64, 3, BadElf::Dynamic, "zsim: elf 8\n"),
+    (
+        96,
+        104,
+        13,
+        BadElf::SegmentPastFile { index: 0 },
+        "zsim: elf 9 0\n",
+    ),
+    (
+        104,
+        104,
+        11,
+        BadElf::SegmentPastMemory { index: 0 },
+        "zsim: elf 10 0\n",
+    ),
+    (68, 68, 6, BadElf::Entry, "zsim: elf 12\n"),
+];
+
+#[test]
+fn each_check_of_an_executable_has_its_line(rt: HostRuntime) -> Result<(), Fail> {
+    let alloc = rt.alloc();
+    let exe = executable(alloc, &SEVEN)?;
+    for &(first, second, value, bad, line) in &SPOILED {
+        let mut spoiled = Vec::new(alloc);
+        for (at, byte) in exe.iter().enumerate() {
+            let changes = at == first || at == second;
+            spoiled.push(if changes { value } else { *byte })?;
+        }
+        let called = run(alloc, &spoiled)?;
+        assert_ended(&rt, &called, Status::BadElf(bad), "", line);
+    }
+    Ok(())
+}
+
+// The program header of the executable twice, each with the code at byte 176 of the file.
+#[test]
+fn segments_that_overlap_are_refused_with_both_indexes(rt: HostRuntime) -> Result<(), Fail> {
+    let alloc = rt.alloc();
+    let exe = executable(alloc, &SEVEN)?;
+    let mut twice = Vec::new(alloc);
+    for (at, byte) in exe.iter().enumerate() {
+        if at == 120 {
+            for (at, byte) in exe.iter().enumerate() {
+                if (64..120).contains(&at) {
+                    twice.push(if at == 72 { 176 } else { *byte })?;
+                }
+            }
+        }
+        twice.push(match at {
+            56 => 2,
+            72 => 176,
+            _ => *byte,
+        })?;
+    }
+    let called = run(alloc, &twice)?;
+    let overlap = BadElf::Overlap {
+        first: 0,
+        second: 1,
+    };
+    assert_ended(
+        &rt,
+        &called,
+        Status::BadElf(overlap),
+        "",
+        "zsim: elf 11 0 1\n",
+    );
     Ok(())
 }
 
@@ -60,7 +136,7 @@ fn an_executable_over_its_limit_is_too_long(rt: HostRuntime) -> Result<(), Fail>
     assert_ended(&rt, &called, status, "", "zsim: too long: executable\n");
     assert_eq!(rt; status.number(), 10);
     let longest = run(alloc, &exe[1..])?;
-    assert_eq!(rt; longest.ended.status, Status::BadElf(BadElf::Headers));
+    assert_eq!(rt; longest.ended.status, Status::BadElf(BadElf::Magic));
     Ok(())
 }
 

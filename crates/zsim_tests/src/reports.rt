@@ -37,89 +37,116 @@ const EXIT: u32 = 0x05D0_0893;
 
 const ECALL: u32 = 0x0000_0073;
 
-// Programs, with their instructions and cycles and why they halt.
-static PROGRAMS: [(&[u32], &str, &str); 20] = [
+// A program of so many words, its instructions and cycles, and why it halts.
+static PROGRAMS: [([u32; 7], usize, &str, &str); 20] = [
     // an access, which is no instruction yet: ld x0, 0(x0)
-    (&[0x0000_3003], "0 cycles 0", "illegal 00003003"),
+    (
+        [0x0000_3003, 0, 0, 0, 0, 0, 0],
+        1,
+        "0 cycles 0",
+        "illegal 00003003",
+    ),
     // addi x17, x0, 94; addi x10, x0, 5; ecall
     (
-        &[0x05E0_0893, 0x0050_0513, 0x0000_0073],
+        [0x05E0_0893, 0x0050_0513, 0x0000_0073, 0, 0, 0, 0],
+        3,
         "3 cycles 3",
         "exit 5",
     ),
     // addi x17, x0, 64; ecall: a call that is not known yet
     (
-        &[0x0400_0893, 0x0000_0073],
+        [0x0400_0893, 0x0000_0073, 0, 0, 0, 0, 0],
+        2,
         "1 cycles 1",
         "illegal 00000073",
     ),
     // addi x1, x0, 1, and then past the end of the segment
-    (&[0x0010_0093], "1 cycles 1", "fetch 0000000000010004"),
+    (
+        [0x0010_0093, 0, 0, 0, 0, 0, 0],
+        1,
+        "1 cycles 1",
+        "fetch 0000000000010004",
+    ),
     // addi x10, x0, -1; exit
     (
-        &[0xFFF0_0513, EXIT, ECALL],
+        [0xFFF0_0513, EXIT, ECALL, 0, 0, 0, 0],
+        3,
         "3 cycles 3",
         "exit 18446744073709551615",
     ),
     // addi x5, x0, 1; sub x10, x0, x5; exit
     (
-        &[0x0010_0293, 0x4050_0533, EXIT, ECALL],
+        [0x0010_0293, 0x4050_0533, EXIT, ECALL, 0, 0, 0],
+        4,
         "4 cycles 4",
         "exit 18446744073709551615",
     ),
     // addi x5, x0, 40; addi x6, x0, 2; add x10, x5, x6; exit
     (
-        &[0x0280_0293, 0x0020_0313, 0x0062_8533, EXIT, ECALL],
+        [0x0280_0293, 0x0020_0313, 0x0062_8533, EXIT, ECALL, 0, 0],
+        5,
         "5 cycles 5",
         "exit 42",
     ),
     // addi x0, x0, 5; add x10, x0, x0; exit
     (
-        &[0x0050_0013, 0x0000_0533, EXIT, ECALL],
+        [0x0050_0013, 0x0000_0533, EXIT, ECALL, 0, 0, 0],
+        4,
         "4 cycles 4",
         "exit 0",
     ),
     // lui x10, 0x12345; exit
-    (&[0x1234_5537, EXIT, ECALL], "3 cycles 3", "exit 305418240"),
+    (
+        [0x1234_5537, EXIT, ECALL, 0, 0, 0, 0],
+        3,
+        "3 cycles 3",
+        "exit 305418240",
+    ),
     // lui x10, 0x80000; exit
     (
-        &[0x8000_0537, EXIT, ECALL],
+        [0x8000_0537, EXIT, ECALL, 0, 0, 0, 0],
+        3,
         "3 cycles 3",
         "exit 18446744071562067968",
     ),
     // addi x1, x1, 1; auipc x10, 1; exit
     (
-        &[0x0010_8093, 0x0000_1517, EXIT, ECALL],
+        [0x0010_8093, 0x0000_1517, EXIT, ECALL, 0, 0, 0],
+        4,
         "4 cycles 4",
         "exit 69636",
     ),
     // addi x5, x0, 12; addi x6, x0, 10; and x10, x5, x6; exit
     (
-        &[0x00C0_0293, 0x00A0_0313, 0x0062_F533, EXIT, ECALL],
+        [0x00C0_0293, 0x00A0_0313, 0x0062_F533, EXIT, ECALL, 0, 0],
+        5,
         "5 cycles 5",
         "exit 8",
     ),
     // the same with or x10, x5, x6
     (
-        &[0x00C0_0293, 0x00A0_0313, 0x0062_E533, EXIT, ECALL],
+        [0x00C0_0293, 0x00A0_0313, 0x0062_E533, EXIT, ECALL, 0, 0],
+        5,
         "5 cycles 5",
         "exit 14",
     ),
     // addi x5, x0, 12; addi x6, x0, -1; xor x10, x5, x6; exit
     (
-        &[0x00C0_0293, 0xFFF0_0313, 0x0062_C533, EXIT, ECALL],
+        [0x00C0_0293, 0xFFF0_0313, 0x0062_C533, EXIT, ECALL, 0, 0],
+        5,
         "5 cycles 5",
         "exit 18446744073709551603",
     ),
     // addi x5, x0, 3; addi x5, x5, -1; bne x5, x0, -4; exit
     (
-        &[0x0030_0293, 0xFFF2_8293, 0xFE02_9EE3, EXIT, ECALL],
+        [0x0030_0293, 0xFFF2_8293, 0xFE02_9EE3, EXIT, ECALL, 0, 0],
+        5,
         "9 cycles 9",
         "exit 0",
     ),
     // beq x0, x0, 8 over a word that is none; addi x10, x0, 1; beq x10, x0, 8; addi x10, x10, 1; exit
     (
-        &[
+        [
             0x0000_0463,
             0,
             0x0010_0513,
@@ -128,22 +155,35 @@ static PROGRAMS: [(&[u32], &str, &str); 20] = [
             EXIT,
             ECALL,
         ],
+        7,
         "6 cycles 6",
         "exit 2",
     ),
     // jal x10, 8 over a word that is none; exit
-    (&[0x0080_056F, 0, EXIT, ECALL], "3 cycles 3", "exit 65540"),
+    (
+        [0x0080_056F, 0, EXIT, ECALL, 0, 0, 0],
+        4,
+        "3 cycles 3",
+        "exit 65540",
+    ),
     // jal x5, 2
-    (&[0x0020_02EF], "0 cycles 0", "misaligned 0000000000010002"),
+    (
+        [0x0020_02EF, 0, 0, 0, 0, 0, 0],
+        1,
+        "0 cycles 0",
+        "misaligned 0000000000010002",
+    ),
     // bne x0, x0, 2, which is not taken; addi x10, x0, 4; exit
     (
-        &[0x0000_1163, 0x0040_0513, EXIT, ECALL],
+        [0x0000_1163, 0x0040_0513, EXIT, ECALL, 0, 0, 0],
+        4,
         "4 cycles 4",
         "exit 4",
     ),
     // addi x10, x0, 4; beq x0, x0, 6
     (
-        &[0x0040_0513, 0x0000_0363],
+        [0x0040_0513, 0x0000_0363, 0, 0, 0, 0, 0],
+        2,
         "1 cycles 1",
         "misaligned 000000000001000a",
     ),
@@ -152,8 +192,8 @@ static PROGRAMS: [(&[u32], &str, &str); 20] = [
 #[test]
 fn programs_halt_with_their_counts(rt: HostRuntime) -> Result<(), Fail> {
     let alloc = rt.alloc();
-    for &(words, counts, halt) in &PROGRAMS {
-        let called = run(alloc, &executable(alloc, words)?)?;
+    for &(words, count, counts, halt) in &PROGRAMS {
+        let called = run(alloc, &executable(alloc, &words[..count.min(7)])?)?;
         let line = format!(in alloc;
             "core 0 instructions {counts} delay 0 loads 0 stores 0 atomics 0 hits 0 upgrades 0 l2hits 0 misses 0 halt {halt}\n"
         )?;

@@ -1,0 +1,7 @@
+pub mod Lists
+pub mod Table
+pub mod Fetch
+pub mod Faults
+pub mod Sound
+pub mod Laws
+pub mod Pairs

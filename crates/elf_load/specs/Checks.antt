@@ -1,0 +1,89 @@
+-- The checks of an executable, in their order. Each is made over all program headers before the next. Sums are whole
+-- numbers.
+use Rattle.std.specs.Prelude.{◌==◌, ◌+◌, ◌*◌, ◌%◌, ℕ, nat_lt, nat_le, Bool, not, ◌&&◌, ◌||◌, if◌then◌else◌, List, [], ◌∷◌, Option, Some, None}
+use Rattle.std.specs.List.{list_any, position}
+use Rattle.std.specs.Option.{option_map, option_or}
+use Rattle.elf_load.specs.declared.bad_elf.BadElf.{BadElf}
+use Rattle.elf_load.specs.declared.bad_elf.BadElf.TheVariants as bad
+use Rattle.elf_load.specs.declared.header.Header.{Header}
+use Rattle.elf_load.specs.declared.header.ProgramHeader.{ProgramHeader}
+use Rattle.elf_load.specs.MemoryImage.{is_within, do_meet}
+
+-- the fault, unless the test passes
+abbrev pub unless : Bool → BadElf → Option BadElf
+unless test fault = if test then None else Some fault
+
+-- the first fault of a list of checks
+abbrev pub first_fault : List (Option BadElf) → Option BadElf
+first_fault [] = None
+first_fault (check ∷ checks) = option_or check (first_fault checks)
+
+-- at most 128 program headers, of 56 bytes each, which lie in a file of this length
+unfoldable pub has_table : Header → ℕ → Bool
+has_table h len = nat_le h.count 128 && ((h.count == 0) || ((h.entry_size == 56) && nat_le (h.table + 56 * h.count) len))
+
+-- the first check of the ELF header that fails, in a file of this length: an executable (2) of 64 bits (2),
+-- little-endian (1), for RISC-V (243), that needs neither compressed instructions nor a float ABI (bits 0 to 2)
+unfoldable pub header_fault : Header → ℕ → Option BadElf
+header_fault h len = first_fault (
+    unless (h.magic == 0x464C_457F) bad.Magic
+    ∷ unless ((h.class == 2) && (h.encoding == 1)) bad.ClassOrData
+    ∷ unless (h.kind == 2) bad.Type_
+    ∷ unless (h.machine == 243) bad.Machine
+    ∷ unless (h.flags % 8 == 0) bad.Flags
+    ∷ unless (has_table h len) bad.Headers
+    ∷ [])
+
+-- for an executable that is linked as it is loaded: DYNAMIC (2) or INTERP (3)
+unfoldable pub is_dynamic : ProgramHeader → Bool
+is_dynamic p = (p.kind == 2) || (p.kind == 3)
+
+-- for a segment to load: LOAD (1), and not empty
+unfoldable pub is_loaded : ProgramHeader → Bool
+is_loaded p = (p.kind == 1) && not ((p.filesz == 0) && (p.memsz == 0))
+
+-- bit 0 of the flags: the right to execute
+unfoldable pub is_executable : ProgramHeader → Bool
+is_executable p = p.flags % 2 == 1
+
+unfoldable pub is_past_file : (len : ℕ) → ProgramHeader → Bool
+is_past_file len p = is_loaded p && nat_lt len (p.offset + p.filesz)
+
+-- more bytes of the file than of memory, or not in memory
+unfoldable pub is_past_memory : (base size : ℕ) → ProgramHeader → Bool
+is_past_memory base size p = is_loaded p && not (nat_le p.filesz p.memsz && is_within p.vaddr p.memsz base (base + size))
+
+-- two segments have an address in common
+unfoldable pub overlaps : ProgramHeader → ProgramHeader → Bool
+overlaps p q = is_loaded p && is_loaded q && do_meet p.vaddr p.memsz q.vaddr q.memsz
+
+-- the four bytes from the entry on lie in an executable segment
+unfoldable pub is_entered : (entry : ℕ) → ProgramHeader → Bool
+is_entered entry p = is_loaded p && is_executable p && is_within entry 4 p.vaddr (p.vaddr + p.memsz)
+
+-- the first place, and the first later place, whose elements pass the test together, in a list that begins at place i
+abbrev pub first_pair : {X : Type 0} → (X → X → Bool) → (i : ℕ) → List X → Option (ℕ × ℕ)
+first_pair test i [] = None
+first_pair test i (x ∷ xs) = option_or (option_map (λ k. (i, i + 1 + k)) (position (test x) xs)) (first_pair test (i + 1) xs)
+
+-- the first segment that passes the file's end
+unfoldable pub file_fault : List ProgramHeader → ℕ → Option BadElf
+file_fault ps len = option_map (λ i. bad.SegmentPastFile i) (position (is_past_file len) ps)
+
+-- the first segment that has no place in memory
+unfoldable pub memory_fault : List ProgramHeader → (base size : ℕ) → Option BadElf
+memory_fault ps base size = option_map (λ i. bad.SegmentPastMemory i) (position (is_past_memory base size) ps)
+
+-- the least pair of segments that have an address in common
+unfoldable pub overlap_fault : List ProgramHeader → Option BadElf
+overlap_fault ps = option_map (λ pair. bad.Overlap pair.0 pair.1) (first_pair overlaps 0 ps)
+
+-- the first check of the program headers that fails, in a file of this length
+unfoldable pub segment_fault : List ProgramHeader → (entry len base size : ℕ) → Option BadElf
+segment_fault ps entry len base size = first_fault (
+    unless (not (list_any is_dynamic ps)) bad.Dynamic
+    ∷ file_fault ps len
+    ∷ memory_fault ps base size
+    ∷ overlap_fault ps
+    ∷ unless ((entry % 4 == 0) && list_any (is_entered entry) ps) bad.Entry
+    ∷ [])

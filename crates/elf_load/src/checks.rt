@@ -1,0 +1,218 @@
+// The checks of an executable, each over all program headers. `load` makes them in their order.
+ghost use Rattle.std.specs.Prelude.{◌≡◌, ◌≤◌, ◌<◌, ◌+◌, length, position, IfNone, IfSome, IsTrue};
+ghost use Rattle.std.specs.List.{list_any};
+ghost use Rattle.elf_load.specs.Checks.{file_fault, has_table, header_fault, is_dynamic, is_entered, is_executable, is_loaded, is_past_file, is_past_memory, memory_fault, overlap_fault, overlaps, segment_fault};
+
+use crate::BadElf;
+use crate::header::{Header, MOST_HEADERS, PROGRAM_HEADER_LEN, ProgramHeader};
+use crate::range::{do_meet, is_within};
+
+const MAGIC: u32 = 0x464C_457F;
+
+const CLASS_64: u8 = 2;
+
+const LITTLE_ENDIAN: u8 = 1;
+
+const EXECUTABLE: u16 = 2;
+
+const RISC_V: u16 = 243;
+
+const LOAD: u32 = 1;
+
+const DYNAMIC: u32 = 2;
+
+const INTERP: u32 = 3;
+
+/// The first check of the ELF header that fails, in a file of `len` bytes.
+#[tactic(auto, unfolding(crate::specs::Checks::header_fault))]
+pub fn header_fault(header: &Header, len: usize) -> Option<BadElf>
+    ensures value { result ≡ header_fault header.now len }
+    ensures table { IfNone result (IsTrue (has_table header.now len)) }
+{
+    if header.magic != MAGIC {
+        return Some(BadElf::Magic);
+    }
+    if header.class != CLASS_64 || header.encoding != LITTLE_ENDIAN {
+        return Some(BadElf::ClassOrData);
+    }
+    if header.kind != EXECUTABLE {
+        return Some(BadElf::Type_);
+    }
+    if header.machine != RISC_V {
+        return Some(BadElf::Machine);
+    }
+    if header.flags % 8 != 0 {
+        return Some(BadElf::Flags);
+    }
+    if !has_table(header, len) {
+        return Some(BadElf::Headers);
+    }
+    None
+}
+
+#[tactic(auto, unfolding(crate::specs::Checks::has_table))]
+fn has_table(header: &Header, len: usize) -> bool
+    ensures { result ≡ has_table header.now len }
+{
+    let count = header.count as usize;
+    count <= MOST_HEADERS
+        && (count == 0
+            || (header.entry_size as usize == PROGRAM_HEADER_LEN
+                && header.table <= len as u64
+                && PROGRAM_HEADER_LEN * count <= len - header.table as usize))
+}
+
+/// The first check of the program headers that fails, in a file of `len` bytes and a memory of
+/// `size` bytes from `base` on.
+#[tactic(auto, unfolding(crate::specs::Checks::segment_fault))]
+pub fn segment_fault(
+    headers: &[ProgramHeader],
+    entry: u64,
+    len: usize,
+    base: u64,
+    size: u64,
+) -> Option<BadElf>
+    requires { length headers.now ≤ MOST_HEADERS }
+    ensures { result ≡ segment_fault headers.now entry len base size }
+{
+    if is_any_dynamic(headers) {
+        return Some(BadElf::Dynamic);
+    }
+    if let Some(fault) = file_fault(headers, len) {
+        return Some(fault);
+    }
+    if let Some(fault) = memory_fault(headers, base, size) {
+        return Some(fault);
+    }
+    if let Some(fault) = overlap_fault(headers) {
+        return Some(fault);
+    }
+    if entry % 4 != 0 || !is_entered_by(headers, entry) {
+        return Some(BadElf::Entry);
+    }
+    None
+}
+
+fn is_any_dynamic(headers: &[ProgramHeader]) -> bool
+    ensures { result ≡ list_any is_dynamic headers.now }
+{
+    headers.iter().any(is_dynamic)
+}
+
+#[tactic(auto, unfolding(crate::specs::Checks::file_fault))]
+fn file_fault(headers: &[ProgramHeader], len: usize) -> Option<BadElf>
+    requires { length headers.now ≤ MOST_HEADERS }
+    ensures { result ≡ file_fault headers.now len }
+{
+    let index = first_past_file(headers, len)?;
+    Some(BadElf::SegmentPastFile {
+        index: index as u16,
+    })
+}
+
+fn first_past_file(headers: &[ProgramHeader], len: usize) -> Option<usize>
+    ensures value { result ≡ position (is_past_file len) headers.now }
+    ensures bound { IfSome result (λ index. index < length headers.now) }
+{
+    headers.iter().position(|p| is_past_file(p, len))
+}
+
+#[tactic(auto, unfolding(crate::specs::Checks::memory_fault))]
+fn memory_fault(headers: &[ProgramHeader], base: u64, size: u64) -> Option<BadElf>
+    requires { length headers.now ≤ MOST_HEADERS }
+    ensures { result ≡ memory_fault headers.now base size }
+{
+    let index = first_past_memory(headers, base, size)?;
+    Some(BadElf::SegmentPastMemory {
+        index: index as u16,
+    })
+}
+
+fn first_past_memory(headers: &[ProgramHeader], base: u64, size: u64) -> Option<usize>
+    ensures value { result ≡ position (is_past_memory base size) headers.now }
+    ensures bound { IfSome result (λ index. index < length headers.now) }
+{
+    headers.iter().position(|p| is_past_memory(p, base, size))
+}
+
+// The least pair of segments that have an address in common.
+#[tactic(auto, unfolding(crate::specs::Checks::overlap_fault))]
+fn overlap_fault(headers: &[ProgramHeader]) -> Option<BadElf>
+    requires { length headers.now ≤ MOST_HEADERS }
+    ensures { result ≡ overlap_fault headers.now }
+{
+    for (first, header) in headers.iter().enumerate() {
+        if let Some(after) = first_overlap(header, &headers[first + 1..]) {
+            return Some(BadElf::Overlap {
+                first: first as u16,
+                second: (first + 1 + after) as u16,
+            });
+        }
+    }
+    None
+}
+
+// The first of these segments that has an address in common with another one.
+fn first_overlap(header: &ProgramHeader, others: &[ProgramHeader]) -> Option<usize>
+    ensures value { result ≡ position (overlaps header.now) others.now }
+    ensures bound { IfSome result (λ index. index < length others.now) }
+{
+    others.iter().position(|other| overlaps(header, other))
+}
+
+fn is_entered_by(headers: &[ProgramHeader], entry: u64) -> bool
+    ensures { result ≡ list_any (is_entered entry) headers.now }
+{
+    headers.iter().any(|p| is_entered(p, entry))
+}
+
+#[tactic(auto, unfolding(crate::specs::Checks::is_dynamic))]
+fn is_dynamic(p: &ProgramHeader) -> bool
+    ensures { result ≡ is_dynamic p.now }
+{
+    p.kind == DYNAMIC || p.kind == INTERP
+}
+
+/// Whether it is for a segment to load that is not empty.
+#[tactic(auto, unfolding(crate::specs::Checks::is_loaded))]
+pub fn is_loaded(p: &ProgramHeader) -> bool
+    ensures { result ≡ is_loaded p.now }
+{
+    p.kind == LOAD && !(p.filesz == 0 && p.memsz == 0)
+}
+
+/// Whether it gives the right to execute.
+#[tactic(auto, unfolding(crate::specs::Checks::is_executable))]
+pub fn is_executable(p: &ProgramHeader) -> bool
+    ensures { result ≡ is_executable p.now }
+{
+    p.flags % 2 == 1
+}
+
+#[tactic(auto, unfolding(crate::specs::Checks::is_past_file))]
+fn is_past_file(p: &ProgramHeader, len: usize) -> bool
+    ensures { result ≡ is_past_file len p.now }
+{
+    is_loaded(p) && !is_within(p.offset, p.filesz, 0, len as u64)
+}
+
+#[tactic(auto, unfolding(crate::specs::Checks::is_past_memory))]
+fn is_past_memory(p: &ProgramHeader, base: u64, size: u64) -> bool
+    ensures { result ≡ is_past_memory base size p.now }
+{
+    is_loaded(p) && !(p.filesz <= p.memsz && is_within(p.vaddr, p.memsz, base, size))
+}
+
+#[tactic(auto, unfolding(crate::specs::Checks::overlaps))]
+fn overlaps(p: &ProgramHeader, q: &ProgramHeader) -> bool
+    ensures { result ≡ overlaps p.now q.now }
+{
+    is_loaded(p) && is_loaded(q) && do_meet(p.vaddr, p.memsz, q.vaddr, q.memsz)
+}
+
+#[tactic(auto, unfolding(crate::specs::Checks::is_entered))]
+fn is_entered(p: &ProgramHeader, entry: u64) -> bool
+    ensures { result ≡ is_entered entry p.now }
+{
+    is_loaded(p) && is_executable(p) && is_within(entry, 4, p.vaddr, p.memsz)
+}

@@ -1,0 +1,21 @@
+// Ranges of numbers, given by their start and their length, whose ends may pass the type.
+ghost use Rattle.std.specs.Prelude.{◌≡◌, ◌+◌};
+ghost use Rattle.elf_load.specs.MemoryImage.{do_meet, is_within};
+
+/// Whether `count` numbers from `start` on lie among the `len` numbers from `low` on.
+pub fn is_within(start: u64, count: u64, low: u64, len: u64) -> bool
+    ensures { result ≡ is_within start count low (low + len) }
+{
+    low <= start && start - low <= len && count <= len - (start - low)
+}
+
+/// Whether `count` numbers from `first` on and `others` from `second` on have a number in common.
+pub fn do_meet(first: u64, count: u64, second: u64, others: u64) -> bool
+    ensures { result ≡ do_meet first count second others }
+{
+    if first <= second {
+        second - first < count && 0 < others
+    } else {
+        first - second < others && 0 < count
+    }
+}

@@ -1,0 +1,5 @@
+pub mod Fields
+pub mod Written
+pub mod Table
+pub mod Checks
+pub mod RoundTrip

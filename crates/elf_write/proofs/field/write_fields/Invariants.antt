@@ -1,0 +1,7 @@
+-- what is written, and what is left
+use Rattle.std.proofs.Common.{◌≡◌, ◌++◌, drop}
+use Rattle.elf_write.specs.File.{fields_bytes}
+use Rattle.elf_write.proofs.field.write_fields.Given as goal
+
+abbrev pub invariant-loop-field : goal.invariant-loop-field
+invariant-loop-field l = l.out.items ++ fields_bytes (drop l.field-index l.fields) ≡ l.initial.out.items ++ fields_bytes l.fields

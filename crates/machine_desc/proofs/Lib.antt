@@ -1,0 +1,6 @@
+pub mod Accepted
+pub mod Documents
+pub mod Least
+pub mod Naturals
+pub mod PlainText
+pub mod Valid

@@ -1,0 +1,5 @@
+use Rattle.machine_desc.proofs.Accepted.{domains_short}
+use Rattle.machine_desc.proofs.reader.check_document.Goals as goal
+
+pub check_domains-requires : goal.check_domains-requires
+check_domains-requires c = domains_short _ (rw c.checks.ensures at c.in_ok-check_keys.ensures)

@@ -1,0 +1,201 @@
+-- The machine that a description is, or the first check that fails.
+use Rattle.std.specs.Prelude.{if◌then◌else◌, ℕ, ◌*◌, ◌%◌, ℤ, pos, negsuc, nat_le, nat_lt, Bool, true, false, not, ◌==◌, ◌&&◌, List, [], ◌∷◌, ◌++◌, length, map, position, codes, Option, Some, None, option_map, is_some, Result, Ok, Err, bytes_eq}
+use Rattle.std.specs.List.{list_any}
+use Rattle.std.specs.Cmp.Lexicographic.{slice_cmp}
+use Rattle.std.specs.Ordering.{nat_cmp, is_lt}
+use Rattle.std.specs.Option.{option_or, option_map_or}
+use Rattle.toml.specs.Data.{Data, Members, no_members, member, as_integer, as_table}
+use Rattle.machine_desc.specs.Keys.{Key, Range as Bounds, Rule, is_table, is_integer, is_share, is_array, Check, Ratio, top, at, checks, ratios}
+use Rattle.machine_desc.specs.Text.{document_of, table_at, value_at, number_at, natural, array_integers, integers_at, full_name}
+use Rattle.machine_desc.specs.declared.errors.BadMachine.{BadMachine}
+use Rattle.machine_desc.specs.declared.errors.BadMachine.TheVariants.{Text, Missing, Kind, Range, Unknown, Ratio as BadRatio, Domain}
+use Rattle.machine_desc.specs.declared.checks.Fault.{Fault}
+use Rattle.machine_desc.specs.declared.checks.Fault.TheVariants.{OtherKind, OutOfRange}
+use Rattle.machine_desc.specs.declared.machine.Memory.{Memory}
+use Rattle.machine_desc.specs.declared.machine.L1.{L1}
+use Rattle.machine_desc.specs.declared.machine.L2.{L2}
+use Rattle.machine_desc.specs.declared.machine.Controllers.{Controllers}
+use Rattle.machine_desc.specs.declared.machine.Domains.{Domains}
+use Rattle.machine_desc.specs.declared.machine.Machine.{Machine}
+
+-- the integer is in the range
+abbrev pub is_in_range : Bounds → ℤ → Bool
+is_in_range range (pos n) = (nat_le range.low n && nat_le n range.high) && (n % range.step == 0)
+is_in_range range (negsuc n) = false
+
+-- nothing where the test holds, and else this fault
+abbrev pub unless : {F : Type 0} → Bool → F → Option F
+unless true fault = None
+unless false fault = Some fault
+
+-- the integer, taken so often, is at most the whole
+abbrev pub is_share_of : (times whole : ℕ) → ℤ → Bool
+is_share_of times whole z = nat_le (times * natural z) whole
+
+-- what is wrong with an integer, with the length of an array, and with a value: nothing, its kind or its range
+abbrev pub integer_fault : (ℤ → Bool) → Data → Option Fault
+integer_fault is_good d = option_map_or (λ z. unless (is_good z) (OutOfRange z)) (as_integer d) (Some OtherKind)
+
+abbrev pub array_fault : ℕ → Data → Option Fault
+array_fault count d =
+    option_map_or (λ zs. unless (length zs == count) (OutOfRange (pos (length zs)))) (array_integers d) (Some OtherKind)
+
+unfoldable pub value_fault : Members → Rule → Data → Option Fault
+value_fault document is_table d = unless (is_some (as_table d)) OtherKind
+value_fault document (is_integer range) d = integer_fault (is_in_range range) d
+value_fault document (is_share range times whole) d =
+    integer_fault (λ z. is_in_range range z && is_share_of (number_at document times) (number_at document whole) z) d
+value_fault document (is_array count) d = array_fault (number_at document count) d
+
+-- the refusal of a key's value
+abbrev pub refusal_of : Key → Fault → BadMachine
+refusal_of key OtherKind = Kind (full_name key)
+refusal_of key (OutOfRange z) = Range (full_name key) z
+
+-- what a check finds: its key is missing, or its value is refused
+unfoldable pub check_fault : Members → Check → Option BadMachine
+check_fault document check =
+    option_map_or (λ d. option_map (refusal_of check.key) (value_fault document check.rule d)) (value_at document check.key)
+    (Some (Missing (full_name check.key)))
+
+-- what the first of the checks finds that finds something
+abbrev pub checks_fault : Members → List Check → Option BadMachine
+checks_fault document [] = None
+checks_fault document (c ∷ cs) = option_or (check_fault document c) (checks_fault document cs)
+
+-- the check is of this name in this table
+abbrev pub is_named : (table name : List ℕ) → Check → Bool
+is_named table name c = bytes_eq c.key.table table && bytes_eq c.key.name name
+
+-- some check is
+abbrev pub is_known : List Check → (table name : List ℕ) → Bool
+is_known all table name = list_any (is_named table name) all
+
+-- the names of a table that no check names
+abbrev pub unknown_names : List Check → List ℕ → Members → List (List ℕ)
+unknown_names all table no_members = []
+unknown_names all table (member name d ms) =
+    if is_known all table name then unknown_names all table ms else name ∷ unknown_names all table ms
+
+-- the lesser of two names, by their bytes
+abbrev pub lesser : List ℕ → List ℕ → List ℕ
+lesser m n = if is_lt (slice_cmp nat_cmp n m) then n else m
+
+-- the least of some names
+abbrev pub least : List (List ℕ) → Option (List ℕ)
+least [] = None
+least (n ∷ ns) = Some (option_map_or (lesser n) (least ns) n)
+
+-- the least unknown name of a table
+abbrev pub members_fault : List Check → List ℕ → Members → Option BadMachine
+members_fault all table ms = option_map (λ name. Unknown (full_name (at table name))) (least (unknown_names all table ms))
+
+unfoldable pub table_fault : Members → List Check → List ℕ → Option BadMachine
+table_fault document all table = option_map_or (members_fault all table) (table_at document table) None
+
+-- the unknown member of the table that a check asks for, if it asks for one
+abbrev pub inside_fault : Members → List Check → Check → Option BadMachine
+inside_fault document all c = inside c.rule
+  where
+    inside : Rule → Option BadMachine
+    inside is_table = table_fault document all c.key.name
+    inside _ = None
+
+abbrev pub tables_fault : Members → List Check → List Check → Option BadMachine
+tables_fault document all [] = None
+tables_fault document all (c ∷ cs) = option_or (inside_fault document all c) (tables_fault document all cs)
+
+-- the least unknown key of the top level, and then of the tables in the order of their checks
+abbrev pub names_fault : Members → List Check → Option BadMachine
+names_fault document all = option_or (table_fault document all []) (tables_fault document all all)
+
+-- the first number that is no multiple of the one that it has to be a multiple of
+abbrev pub ratio_fault : Members → Ratio → Option BadMachine
+ratio_fault document r = unless (number_at document r.key % number_at document r.divisor == 0) (BadRatio (full_name r.key))
+
+abbrev pub ratios_fault : Members → List Ratio → Option BadMachine
+ratios_fault document [] = None
+ratios_fault document (r ∷ rs) = option_or (ratio_fault document r) (ratios_fault document rs)
+
+-- the domains of all components as they are written: of the banks, and then of the controllers
+unfoldable pub written_domains : Members → List ℤ
+written_domains document =
+    integers_at document (at (codes "domains") (codes "banks")) ++ integers_at document (at (codes "domains") (codes "controllers"))
+
+-- the integer is a number from 0 to below the count
+abbrev pub is_below : ℕ → ℤ → Bool
+is_below count (pos n) = nat_lt n count
+is_below count (negsuc n) = false
+
+-- the least component whose domain is not there
+unfoldable pub domain_fault : Members → Option BadMachine
+domain_fault document =
+    option_map Domain (position (λ z. not (is_below (number_at document (at (codes "domains") (codes "count"))) z)) (written_domains document))
+
+-- what the first check finds that finds something
+unfoldable pub fault_of : Members → Option BadMachine
+fault_of document =
+    option_or (checks_fault document checks)
+    (option_or (names_fault document checks) (option_or (ratios_fault document ratios) (domain_fault document)))
+
+unfoldable pub memory_of : Members → Memory
+memory_of document = record {
+  base = number_at document (at (codes "memory") (codes "base"));
+  size = number_at document (at (codes "memory") (codes "size"));
+  stack = number_at document (at (codes "memory") (codes "stack"));
+}
+
+unfoldable pub l1_of : Members → L1
+l1_of document = record {
+  sets = number_at document (at (codes "l1") (codes "sets"));
+  ways = number_at document (at (codes "l1") (codes "ways"));
+  latency = number_at document (at (codes "l1") (codes "latency"));
+}
+
+unfoldable pub l2_of : Members → L2
+l2_of document = record {
+  banks = number_at document (at (codes "l2") (codes "banks"));
+  sets = number_at document (at (codes "l2") (codes "sets"));
+  ways = number_at document (at (codes "l2") (codes "ways"));
+  latency = number_at document (at (codes "l2") (codes "latency"));
+  remote = number_at document (at (codes "l2") (codes "remote"));
+  fill = number_at document (at (codes "l2") (codes "fill"));
+  occupancy = number_at document (at (codes "l2") (codes "occupancy"));
+}
+
+unfoldable pub controllers_of : Members → Controllers
+controllers_of document = record {
+  count = number_at document (at (codes "controllers") (codes "count"));
+  read = number_at document (at (codes "controllers") (codes "read"));
+  write = number_at document (at (codes "controllers") (codes "write"));
+  occupancy = number_at document (at (codes "controllers") (codes "occupancy"));
+}
+
+unfoldable pub domains_of : Members → Domains
+domains_of document = record {
+  count = number_at document (at (codes "domains") (codes "count"));
+  banks = map natural (integers_at document (at (codes "domains") (codes "banks")));
+  controllers = map natural (integers_at document (at (codes "domains") (codes "controllers")));
+}
+
+-- the machine with the numbers of a document
+unfoldable pub numbers_of : Members → Machine
+numbers_of document = record {
+  version = number_at document (top (codes "version"));
+  cores = number_at document (top (codes "cores"));
+  interval = number_at document (top (codes "interval"));
+  intervals = number_at document (top (codes "intervals"));
+  memory = memory_of document;
+  l1 = l1_of document;
+  l2 = l2_of document;
+  controllers = controllers_of document;
+  domains = domains_of document;
+}
+
+-- the machine of a document, or the first check that fails
+unfoldable pub machine_of_document : Members → Result Machine BadMachine
+machine_of_document document = option_map_or Err (fault_of document) (Ok (numbers_of document))
+
+-- the machine of a text, or the first check that fails
+unfoldable pub machine_of : List ℕ → Result Machine BadMachine
+machine_of text = option_map_or machine_of_document (document_of text) (Err Text)

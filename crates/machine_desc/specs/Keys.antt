@@ -1,0 +1,116 @@
+-- The keys of a machine description, with what each has to be, in the order in which they are checked.
+use Rattle.std.specs.Prelude.{ℕ, ◌^◌, List, [], ◌∷◌, ◌++◌, codes}
+
+-- where a value stands: the name of its table, which is empty at the top level, and its own name
+pub record Key : Type 0 where
+  pub table : List ℕ
+  pub name : List ℕ
+
+-- the integers from low to high that are multiples of step
+pub record Range : Type 0 where
+  pub low : ℕ
+  pub high : ℕ
+  pub step : ℕ
+
+-- What a value has to be: a table; an integer in a range; such an integer that, as often as the number at `times`
+-- says, is at most the number at `whole`; an array of integers, as many as the number at a key says.
+pub data Rule : Type 0 where
+  is_table : Rule
+  is_integer : Range → Rule
+  is_share : Range → (times whole : Key) → Rule
+  is_array : (count : Key) → Rule
+
+-- a key that has to be there, and what its value has to be
+pub record Check : Type 0 where
+  pub key : Key
+  pub rule : Rule
+
+-- an integer whose multiple another has to be
+pub record Ratio : Type 0 where
+  pub key : Key
+  pub divisor : Key
+
+abbrev pub top : List ℕ → Key
+top name = record { table = []; name = name }
+
+abbrev pub at : (table name : List ℕ) → Key
+at table name = record { table = table; name = name }
+
+abbrev pub table_check : List ℕ → Check
+table_check name = record { key = top name; rule = is_table }
+
+abbrev pub range_check : Key → (low high : ℕ) → Check
+range_check key low high = record { key = key; rule = is_integer (record { low = low; high = high; step = 1 }) }
+
+abbrev pub pages_check : Key → (low high : ℕ) → Check
+pages_check key low high = record { key = key; rule = is_integer (record { low = low; high = high; step = 4096 }) }
+
+abbrev pub array_check : Key → Key → Check
+array_check key count = record { key = key; rule = is_array count }
+
+unfoldable pub version_checks : List Check
+version_checks =
+    range_check (top (codes "version")) 1 1
+    ∷ range_check (top (codes "cores")) 1 64
+    ∷ range_check (top (codes "interval")) 1 10000
+    ∷ range_check (top (codes "intervals")) 1 1048576
+    ∷ []
+
+unfoldable pub memory_checks : List Check
+memory_checks =
+    table_check (codes "memory")
+    ∷ pages_check (at (codes "memory") (codes "base")) 0 (2 ^ 40)
+    ∷ pages_check (at (codes "memory") (codes "size")) 4096 (2 ^ 28)
+    ∷ record {
+      key = at (codes "memory") (codes "stack");
+      rule = is_share (record { low = 16; high = 2 ^ 20; step = 16 }) (top (codes "cores")) (at (codes "memory") (codes "size"));
+    }
+    ∷ []
+
+unfoldable pub l1_checks : List Check
+l1_checks =
+    table_check (codes "l1")
+    ∷ range_check (at (codes "l1") (codes "sets")) 1 4096
+    ∷ range_check (at (codes "l1") (codes "ways")) 1 16
+    ∷ range_check (at (codes "l1") (codes "latency")) 1 65536
+    ∷ []
+
+unfoldable pub l2_checks : List Check
+l2_checks =
+    table_check (codes "l2")
+    ∷ range_check (at (codes "l2") (codes "banks")) 1 64
+    ∷ range_check (at (codes "l2") (codes "sets")) 1 65536
+    ∷ range_check (at (codes "l2") (codes "ways")) 1 32
+    ∷ range_check (at (codes "l2") (codes "latency")) 1 65536
+    ∷ range_check (at (codes "l2") (codes "remote")) 0 65536
+    ∷ range_check (at (codes "l2") (codes "fill")) 1 65536
+    ∷ range_check (at (codes "l2") (codes "occupancy")) 1 65536
+    ∷ []
+
+unfoldable pub controller_checks : List Check
+controller_checks =
+    table_check (codes "controllers")
+    ∷ range_check (at (codes "controllers") (codes "count")) 1 16
+    ∷ range_check (at (codes "controllers") (codes "read")) 1 65536
+    ∷ range_check (at (codes "controllers") (codes "write")) 1 65536
+    ∷ range_check (at (codes "controllers") (codes "occupancy")) 1 65536
+    ∷ []
+
+unfoldable pub domain_checks : List Check
+domain_checks =
+    table_check (codes "domains")
+    ∷ range_check (at (codes "domains") (codes "count")) 1 64
+    ∷ array_check (at (codes "domains") (codes "banks")) (at (codes "l2") (codes "banks"))
+    ∷ array_check (at (codes "domains") (codes "controllers")) (at (codes "controllers") (codes "count"))
+    ∷ []
+
+-- all keys, in the order in which they are checked
+unfoldable pub checks : List Check
+checks = version_checks ++ memory_checks ++ l1_checks ++ l2_checks ++ controller_checks ++ domain_checks
+
+-- the ratios, in the order in which they are checked
+unfoldable pub ratios : List Ratio
+ratios =
+    record { key = at (codes "l1") (codes "sets"); divisor = at (codes "l2") (codes "banks") }
+    ∷ record { key = at (codes "l2") (codes "sets"); divisor = at (codes "l2") (codes "banks") }
+    ∷ []

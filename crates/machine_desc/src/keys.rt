@@ -1,0 +1,205 @@
+// The checks of a description as data. A later version of the description adds rows.
+ghost use Rattle.std.specs.Prelude.{◌≡◌, map, IfOk, string_bytes};
+ghost use Rattle.machine_desc.specs.Description.{is_in_range};
+ghost use Rattle.machine_desc.specs.Keys.{at, checks, ratios};
+ghost use Rattle.machine_desc.specs.Rows.{range_of, check_of, ratio_of};
+ghost use Rattle.machine_desc.specs.Text.{full_name};
+
+use crate::KeyName;
+use crate::document::natural;
+use std::alloc::{AllocError, Global};
+
+/// Where a value stands: the name of its table, which is empty at the top level, and its own name.
+#[derive(Clone, Copy, Debug)]
+pub(crate) struct Key {
+    pub table: &'static str,
+    pub name: &'static str,
+}
+
+/// The integers from `low` to `high` that are multiples of `step`.
+#[derive(Clone, Copy, Debug)]
+pub(crate) struct Range {
+    pub low: u64,
+    pub high: u64,
+    pub step: u64,
+}
+
+impl Range {
+    pub fn contains(&self, integer: i64) -> bool
+        ensures { result ≡ is_in_range (range_of self.now) integer }
+    {
+        let number = natural(integer);
+        integer >= 0
+            && self.low <= number
+            && number <= self.high
+            && number.is_multiple_of(self.step)
+    }
+}
+
+/// What a value has to be.
+#[derive(Clone, Copy, Debug)]
+pub(crate) enum Rule {
+    /// A table.
+    Table,
+    /// An integer in the range.
+    Integer(Range),
+    /// An integer in the range that, as often as the number at `times` says, is at most the number
+    /// at `whole`.
+    Share {
+        range: Range,
+        times: Key,
+        whole: Key,
+    },
+    /// An array of integers, as many as the number at the key says.
+    Array(Key),
+}
+
+/// A key that has to be there, and what its value has to be.
+#[derive(Clone, Copy, Debug)]
+pub(crate) struct Check {
+    pub key: Key,
+    pub rule: Rule,
+}
+
+/// A key whose number has to be a multiple of the number at `divisor`.
+#[derive(Clone, Copy, Debug)]
+pub(crate) struct Ratio {
+    pub key: Key,
+    pub divisor: Key,
+}
+
+macro_rules! key {
+    ($table:literal, $name:literal) => {
+        Key {
+            table: $table,
+            name: $name,
+        }
+    };
+}
+
+macro_rules! table {
+    ($name:literal) => {
+        Check {
+            key: key!("", $name),
+            rule: Rule::Table,
+        }
+    };
+}
+
+macro_rules! range {
+    ($low:literal, $high:literal, $step:literal) => {
+        Range {
+            low: $low,
+            high: $high,
+            step: $step,
+        }
+    };
+}
+
+macro_rules! integer {
+    ($table:literal, $name:literal, $low:literal, $high:literal) => {
+        integer!($table, $name, $low, $high, 1)
+    };
+    ($table:literal, $name:literal, $low:literal, $high:literal, $step:literal) => {
+        Check {
+            key: key!($table, $name),
+            rule: Rule::Integer(range!($low, $high, $step)),
+        }
+    };
+}
+
+macro_rules! array {
+    ($table:literal, $name:literal, $count:expr) => {
+        Check {
+            key: key!($table, $name),
+            rule: Rule::Array($count),
+        }
+    };
+}
+
+/// All keys, in the order in which they are checked.
+static CHECKS: [Check; 29] = [
+    integer!("", "version", 1, 1),
+    integer!("", "cores", 1, 64),
+    integer!("", "interval", 1, 10000),
+    integer!("", "intervals", 1, 1048576),
+    table!("memory"),
+    integer!("memory", "base", 0, 0x100_0000_0000, 4096),
+    integer!("memory", "size", 4096, 0x1000_0000, 4096),
+    Check {
+        key: key!("memory", "stack"),
+        rule: Rule::Share {
+            range: range!(16, 0x10_0000, 16),
+            times: key!("", "cores"),
+            whole: key!("memory", "size"),
+        },
+    },
+    table!("l1"),
+    integer!("l1", "sets", 1, 4096),
+    integer!("l1", "ways", 1, 16),
+    integer!("l1", "latency", 1, 65536),
+    table!("l2"),
+    integer!("l2", "banks", 1, 64),
+    integer!("l2", "sets", 1, 65536),
+    integer!("l2", "ways", 1, 32),
+    integer!("l2", "latency", 1, 65536),
+    integer!("l2", "remote", 0, 65536),
+    integer!("l2", "fill", 1, 65536),
+    integer!("l2", "occupancy", 1, 65536),
+    table!("controllers"),
+    integer!("controllers", "count", 1, 16),
+    integer!("controllers", "read", 1, 65536),
+    integer!("controllers", "write", 1, 65536),
+    integer!("controllers", "occupancy", 1, 65536),
+    table!("domains"),
+    integer!("domains", "count", 1, 64),
+    array!("domains", "banks", key!("l2", "banks")),
+    array!("domains", "controllers", key!("controllers", "count")),
+];
+
+/// The ratios, in the order in which they are checked.
+static RATIOS: [Ratio; 2] = [
+    Ratio {
+        key: key!("l1", "sets"),
+        divisor: key!("l2", "banks"),
+    },
+    Ratio {
+        key: key!("l2", "sets"),
+        divisor: key!("l2", "banks"),
+    },
+];
+
+pub(crate) fn checks() -> &'static [Check]
+    ensures { map check_of result.now ≡ checks }
+{
+    &CHECKS
+}
+
+#[tactic(auto, unfolding(crate::specs::Keys::ratios))]
+pub(crate) fn ratios() -> &'static [Ratio]
+    ensures { map ratio_of result.now ≡ ratios }
+{
+    &RATIOS
+}
+
+/// The name of a key as it stands in a refusal: `table.key`, and at the top level `key`.
+pub(crate) fn full_name(alloc: Global, table: &str, name: &str) -> Result<KeyName, AllocError>
+    ensures { IfOk result (λ k. k ≡ full_name (at table.now name.now)) }
+{
+    let text = full_text(alloc, table, name)?;
+    let _utf8 = text.as_str();
+    Ok(KeyName::of(text.into_bytes()))
+}
+
+#[tactic(auto, unfolding(crate::specs::Text::full_name))]
+fn full_text(alloc: Global, table: &str, name: &str) -> Result<String, AllocError>
+    ensures { IfOk result (λ text. string_bytes text ≡ full_name (at table.now name.now)) }
+{
+    if table.is_empty() {
+        return String::from_str(alloc, name);
+    }
+    let mut text = String::from_str(alloc, table)?;
+    text.push_str(".")?;
+    text.push_str(name)?;
+    Ok(text)
+}

@@ -1,0 +1,26 @@
+//! Machine descriptions: the numbers of a machine.
+#![tactic(auto)]
+
+mod checks;
+mod components;
+mod document;
+mod domains;
+mod errors;
+mod keys;
+pub mod laws;
+mod lists;
+mod machine;
+mod numbers;
+mod plain;
+mod ratios;
+mod reader;
+#[cfg(test)]
+mod tests;
+mod unknown;
+
+pub use components::{component_count, domain_of};
+pub use errors::{BadMachine, MachineFail};
+pub use lists::{KeyName, Places};
+pub use machine::{Controllers, Domains, L1, L2, Machine, Memory};
+pub use plain::PLAIN;
+pub use reader::read;

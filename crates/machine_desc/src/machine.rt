@@ -1,0 +1,85 @@
+// The numbers of a machine.
+use crate::Places;
+
+/// The memory of a machine, in bytes.
+#[derive(Clone, Copy, Debug, PartialEq, Eq)]
+pub struct Memory {
+    /// The first address, a multiple of 4096 up to 2^40.
+    pub base: u64,
+    /// The size, a multiple of 4096 from 4096 to 2^28.
+    pub size: u64,
+    /// The stack of each core, at the end of memory: a multiple of 16 from 16 to 2^20.
+    pub stack: u64,
+}
+
+/// A core's own data cache.
+#[derive(Clone, Copy, Debug, PartialEq, Eq)]
+pub struct L1 {
+    /// How many sets it has: 1 to 4096, a multiple of the number of banks.
+    pub sets: u32,
+    /// How many lines a set holds: 1 to 16.
+    pub ways: u16,
+    /// The time of a hit, in cycles: 1 to 65536.
+    pub latency: u32,
+}
+
+/// The shared cache. Times are in cycles.
+#[derive(Clone, Copy, Debug, PartialEq, Eq)]
+pub struct L2 {
+    /// How many banks it has: 1 to 64.
+    pub banks: u16,
+    /// How many sets all banks have together: 1 to 65536, a multiple of the number of banks.
+    pub sets: u32,
+    /// How many lines a set holds: 1 to 32.
+    pub ways: u16,
+    /// The time of a look-up: 1 to 65536.
+    pub latency: u32,
+    /// What a look-up takes longer where another core has to change its copy: 0 to 65536.
+    pub remote: u32,
+    /// The time to take in a line from memory: 1 to 65536.
+    pub fill: u32,
+    /// For how long an event keeps a bank busy: 1 to 65536.
+    pub occupancy: u32,
+}
+
+/// The memory controllers. Times are in cycles.
+#[derive(Clone, Copy, Debug, PartialEq, Eq)]
+pub struct Controllers {
+    /// How many there are: 1 to 16.
+    pub count: u16,
+    /// The time of a read: 1 to 65536.
+    pub read: u32,
+    /// The time of a write: 1 to 65536.
+    pub write: u32,
+    /// For how long an event keeps a controller busy: 1 to 65536.
+    pub occupancy: u32,
+}
+
+/// Which domain of the weave each component belongs to.
+#[derive(Debug, Drop)]
+pub struct Domains {
+    /// How many domains there are: 1 to 64.
+    pub count: u16,
+    /// The domain of each bank, below the count.
+    pub banks: Places,
+    /// The domain of each controller, below the count.
+    pub controllers: Places,
+}
+
+/// A machine.
+#[derive(Debug, Drop)]
+pub struct Machine {
+    /// The version of the description: 1.
+    pub version: u32,
+    /// How many cores it has: 1 to 64.
+    pub cores: u16,
+    /// The length of an interval, in cycles: 1 to 10000.
+    pub interval: u64,
+    /// After how many intervals a run stops: 1 to 2^20.
+    pub intervals: u32,
+    pub memory: Memory,
+    pub l1: L1,
+    pub l2: L2,
+    pub controllers: Controllers,
+    pub domains: Domains,
+}

@@ -1,0 +1,135 @@
+// The machine with the numbers of a document that passed the checks.
+ghost use Rattle.std.specs.Prelude.{◌≡◌, ◌<◌, ◌^◌, All, IfOk, length, map, codes};
+ghost use Rattle.toml.specs.View.{table_view};
+ghost use Rattle.machine_desc.specs.Description.{memory_of, l1_of, l2_of, controllers_of, domains_of, numbers_of};
+ghost use Rattle.machine_desc.specs.Keys.{at};
+ghost use Rattle.machine_desc.specs.Machine.{IsL1, IsL2, IsControllers, IsDomains, IsMachine};
+ghost use Rattle.machine_desc.specs.Text.{natural, number_at, integers_at};
+
+use crate::document::{integers_at, natural, number_at};
+use crate::{Controllers, Domains, L1, L2, Machine, Memory, Places};
+use std::alloc::{AllocError, Global};
+use toml::Table;
+
+/// The machine with the numbers of a document.
+#[tactic(auto, unfolding(crate::specs::Description::numbers_of))]
+pub(crate) fn numbers(alloc: Global, document: &Table) -> Result<Machine, AllocError>
+    requires { IsMachine (numbers_of (table_view document.now)) }
+    ensures { IfOk result (λ m. m ≡ numbers_of (table_view document.now)) }
+{
+    Ok(Machine {
+        version: small(document, "", "version"),
+        cores: short(document, "", "cores"),
+        interval: number_at(document, "", "interval"),
+        intervals: small(document, "", "intervals"),
+        memory: memory(document),
+        l1: l1(document),
+        l2: l2(document),
+        controllers: controllers(document),
+        domains: domains(alloc, document)?,
+    })
+}
+
+/// A number of at most 32 bits.
+fn small(document: &Table, table: &str, name: &str) -> u32
+    requires { number_at (table_view document.now) (at table.now name.now) < 2 ^ 32 }
+    ensures { result ≡ number_at (table_view document.now) (at table.now name.now) }
+{
+    number_at(document, table, name) as u32
+}
+
+/// A number of at most 16 bits.
+fn short(document: &Table, table: &str, name: &str) -> u16
+    requires { number_at (table_view document.now) (at table.now name.now) < 2 ^ 16 }
+    ensures { result ≡ number_at (table_view document.now) (at table.now name.now) }
+{
+    number_at(document, table, name) as u16
+}
+
+#[tactic(auto, unfolding(crate::specs::Description::memory_of))]
+fn memory(document: &Table) -> Memory
+    ensures { result ≡ memory_of (table_view document.now) }
+{
+    Memory {
+        base: number_at(document, "memory", "base"),
+        size: number_at(document, "memory", "size"),
+        stack: number_at(document, "memory", "stack"),
+    }
+}
+
+#[tactic(auto, unfolding(crate::specs::Description::l1_of))]
+fn l1(document: &Table) -> L1
+    requires { IsL1 (l2_of (table_view document.now)).banks (l1_of (table_view document.now)) }
+    ensures { result ≡ l1_of (table_view document.now) }
+{
+    L1 {
+        sets: small(document, "l1", "sets"),
+        ways: short(document, "l1", "ways"),
+        latency: small(document, "l1", "latency"),
+    }
+}
+
+#[tactic(auto, unfolding(crate::specs::Description::l2_of))]
+fn l2(document: &Table) -> L2
+    requires { IsL2 (l2_of (table_view document.now)) }
+    ensures { result ≡ l2_of (table_view document.now) }
+{
+    L2 {
+        banks: short(document, "l2", "banks"),
+        sets: small(document, "l2", "sets"),
+        ways: short(document, "l2", "ways"),
+        latency: small(document, "l2", "latency"),
+        remote: small(document, "l2", "remote"),
+        fill: small(document, "l2", "fill"),
+        occupancy: small(document, "l2", "occupancy"),
+    }
+}
+
+#[tactic(auto, unfolding(crate::specs::Description::controllers_of))]
+fn controllers(document: &Table) -> Controllers
+    requires { IsControllers (controllers_of (table_view document.now)) }
+    ensures { result ≡ controllers_of (table_view document.now) }
+{
+    Controllers {
+        count: short(document, "controllers", "count"),
+        read: small(document, "controllers", "read"),
+        write: small(document, "controllers", "write"),
+        occupancy: small(document, "controllers", "occupancy"),
+    }
+}
+
+#[tactic(auto, unfolding(crate::specs::Description::domains_of))]
+fn domains(alloc: Global, document: &Table) -> Result<Domains, AllocError>
+    requires { let d = domains_of (table_view document.now) in
+        IsDomains (length d.banks) (length d.controllers) d }
+    ensures { IfOk result (λ d. d ≡ domains_of (table_view document.now)) }
+{
+    Ok(Domains {
+        count: short(document, "domains", "count"),
+        banks: places(alloc, document, "banks")?,
+        controllers: places(alloc, document, "controllers")?,
+    })
+}
+
+/// The domains of the banks, or of the controllers.
+fn places(alloc: Global, document: &Table, name: &str) -> Result<Places, AllocError>
+    requires { All (λ z. natural z < 2 ^ 16)
+        (integers_at (table_view document.now) (at (codes "domains") name.now)) }
+    ensures { IfOk result
+        (λ p. p ≡ map natural (integers_at (table_view document.now) (at (codes "domains") name.now))) }
+{
+    let integers = integers_at(alloc, document, "domains", name)?;
+    Ok(Places::of(shorts(alloc, &integers)?))
+}
+
+/// The integers as numbers of at most 16 bits.
+fn shorts(alloc: Global, integers: &[i64]) -> Result<Vec<u16>, AllocError>
+    requires { All (λ z. natural z < 2 ^ 16) integers.now }
+    ensures { IfOk result (λ v. v.items ≡ map natural integers.now) }
+{
+    let mut shorts = Vec::new(alloc);
+    for integer in integers {
+        shorts.push(natural(*integer) as u16)?;
+    }
+    Ok(shorts)
+}

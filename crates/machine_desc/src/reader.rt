@@ -1,0 +1,49 @@
+// The reader of machine descriptions.
+ghost use Rattle.std.specs.Prelude.{IfOk};
+ghost use Rattle.toml.specs.View.{table_view};
+ghost use Rattle.machine_desc.specs.Description.{fault_of, machine_of, machine_of_document};
+ghost use Rattle.machine_desc.specs.Machine.{IsMachine};
+ghost use Rattle.machine_desc.specs.Reading.{Finds, Gives};
+
+use crate::checks::check_keys;
+use crate::document::parse;
+use crate::domains::check_domains;
+use crate::keys::{checks, ratios};
+use crate::numbers::numbers;
+use crate::ratios::check_ratios;
+use crate::unknown::check_names;
+use crate::{Machine, MachineFail};
+use std::alloc::Global;
+use toml::Table;
+
+/// Reads a machine description, version 1: the machine of the text, or the first check that fails.
+#[tactic(auto, unfolding(crate::specs::Description::machine_of))]
+pub fn read(alloc: Global, text: &[u8]) -> Result<Machine, MachineFail>
+    // The answer is that of the text, unless memory runs out.
+    ensures answer { Gives result (machine_of text.now) }
+    ensures valid { IfOk result IsMachine }
+{
+    let document = parse(alloc, text)?;
+    read_document(alloc, &document)
+}
+
+/// The machine of a document, or the first check that fails.
+#[tactic(auto, using(crate::proofs::Accepted::accepted), unfolding(crate::specs::Description::machine_of_document))]
+fn read_document(alloc: Global, document: &Table) -> Result<Machine, MachineFail>
+    ensures answer { Gives result (machine_of_document (table_view document.now)) }
+    ensures valid { IfOk result IsMachine }
+{
+    check_document(alloc, document)?;
+    Ok(numbers(alloc, document)?)
+}
+
+/// No check of a document fails, or the first that does.
+#[tactic(auto, unfolding(crate::specs::Description::fault_of))]
+fn check_document(alloc: Global, document: &Table) -> Result<(), MachineFail>
+    ensures { Finds result (fault_of (table_view document.now)) }
+{
+    check_keys(alloc, document, checks())?;
+    check_names(alloc, document, checks())?;
+    check_ratios(alloc, document, ratios())?;
+    check_domains(alloc, document)
+}

@@ -1,0 +1,43 @@
+// Want of memory. With ample memory these runs end as they should; where an allocation is refused,
+// which the gate does not try, each of them answers NoMemory instead, and no other answer.
+use crate::executables::{SEVEN, executable};
+use crate::harness::{Called, run};
+use std::alloc::Global;
+use std::process::Abort;
+use zs_num::NoMemory;
+use zsim::{Said, Status};
+
+#[test]
+fn a_run_answers_its_status_or_no_memory(rt: HostRuntime) {
+    let alloc = rt.alloc();
+    if let Ok(called) = run_seven(alloc) {
+        assert_answered(&rt, &called, Status::Ran, "");
+    }
+    if let Ok(called) = run(alloc, b"") {
+        let number = called.ended.status.number();
+        assert!(rt; number == 7 || number == 8);
+        assert!(rt; called.out.bytes().is_empty());
+    }
+}
+
+fn run_seven(alloc: Global) -> Result<Called, NoMemory> {
+    let exe = executable(alloc, &SEVEN)?;
+    run(alloc, &exe)
+}
+
+// The call ended so, or for want of memory, with what belongs to that on both streams.
+fn assert_answered(rt: &impl Abort, called: &Called, status: Status, line: &str) {
+    let wants_memory = called.ended.status == Status::NoMemory;
+    assert!(rt; wants_memory || called.ended.status == status);
+    assert_eq!(rt; called.out.bytes().is_empty(), wants_memory);
+    let line = if wants_memory {
+        "zsim: out of memory\n"
+    } else {
+        line
+    };
+    match called.ended.said {
+        Said::All => assert_eq!(rt; called.err.bytes(), line.as_bytes()),
+        Said::NoMemory => assert!(rt; line.as_bytes().starts_with(called.err.bytes())),
+        Said::Fault => assert!(rt; false, "nothing failed"),
+    }
+}
