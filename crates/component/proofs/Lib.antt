@@ -1,0 +1,2 @@
+mod SameState
+mod Stepped

@@ -1,0 +1,45 @@
+-- That the components of a machine stay its components while they serve events.
+use Rattle.std.specs.Prelude.{◌≡◌, ◌<◌, ℕ, List, length, slice_set, slice_index_or, slice_get, Some}
+use Rattle.std.specs.List.{AllWithin}
+use Rattle.std.proofs.Common.{ap, ◌∙◌, sym, subst, inl, inr, length-set, get_or-set_same, get_or-set_other}
+use Rattle.std.proofs.lemmas.Bool.{cases_eq}
+use Rattle.std.proofs.lemmas.Option.{slice_get_within, get_or_from_slice_get}
+use Rattle.machine_desc.specs.declared.machine.Machine.{Machine}
+use Rattle.component.specs.declared.kind.Kind.{Kind}
+use Rattle.component.specs.declared.comp.Comp.{Comp}
+use Rattle.component.specs.declared.comp.Comp.TheVariants.{Bank as ABank, Controller as AController}
+use Rattle.component.specs.ComponentStep.{comp_step}
+use Rattle.component.specs.Components.{AreComponents, IsBankOf, IsControllerOf}
+
+bank_stays : (m : Machine) (c : Comp) (kind : Kind) (start : ℕ) → IsBankOf m c → IsBankOf m (comp_step c kind start).0
+bank_stays m (ABank b) kind start is = record { lookup = is.lookup; remote = is.remote; fill = is.fill; occupancy = is.occupancy }
+bank_stays m (AController c) kind start is = is
+
+controller_stays : (m : Machine) (c : Comp) (kind : Kind) (start : ℕ) → IsControllerOf m c → IsControllerOf m (comp_step c kind start).0
+controller_stays m (ABank b) kind start is = is
+controller_stays m (AController c) kind start is = record { read = is.read; write = is.write; occupancy = is.occupancy }
+
+-- a range of elements, after a write that keeps what is true of the element
+within_set : {X : Type 0} (P : X → Type 0) (xs : List X) (i : ℕ) (old new : X) → slice_get xs i ≡ Some old → (P old → P new) → (low high : ℕ)
+    → AllWithin P xs low high → AllWithin P (slice_set xs i new) low high
+within_set P xs i old new at' keeps low high all k d from below =
+    elim (cases_eq k i) [
+      | inl same ↦
+          let there : i < length xs = slice_get_within xs i old at' in
+          let is : slice_index_or (slice_set xs i new) k d ≡ new = ap (λ (n : ℕ). slice_index_or (slice_set xs i new) n d) same ∙ get_or-set_same xs i new d there in
+          let was : slice_index_or xs k d ≡ old = ap (λ (n : ℕ). slice_index_or xs n d) same ∙ get_or_from_slice_get xs i old d at' in
+          subst P (sym is) (keeps (subst P was (all k d from below)))
+      | inr other ↦ subst P (sym (get_or-set_other xs i k new d other)) (all k d from below)
+    ]
+
+-- after one of them served an event
+pub components_stay : (m : Machine) (comps : List Comp) (i : ℕ) (c : Comp) (kind : Kind) (start : ℕ) → AreComponents m comps → slice_get comps i ≡ Some c
+    → AreComponents m (slice_set comps i (comp_step c kind start).0)
+components_stay m comps i c kind start are at' =
+    let long = length-set comps i (comp_step c kind start).0 in
+    record {
+      count = long ∙ are.count;
+      banks = within_set (IsBankOf m) comps i c (comp_step c kind start).0 at' (bank_stays m c kind start) 0 m.l2.banks are.banks;
+      controllers = subst (AllWithin (IsControllerOf m) (slice_set comps i (comp_step c kind start).0) m.l2.banks) (sym long)
+          (within_set (IsControllerOf m) comps i c (comp_step c kind start).0 at' (controller_stays m c kind start) m.l2.banks (length comps) are.controllers);
+    }

@@ -1,0 +1,37 @@
+-- The components of a machine.
+use Rattle.std.specs.Prelude.{◌≡◌, ◌+◌, List, length}
+use Rattle.std.specs.List.{AllWithin}
+use Rattle.machine_desc.specs.declared.machine.L2.{L2}
+use Rattle.machine_desc.specs.declared.machine.Controllers.{Controllers}
+use Rattle.machine_desc.specs.declared.machine.Machine.{Machine}
+use Rattle.component.specs.declared.bank.Bank.{Bank}
+use Rattle.component.specs.declared.controller.Controller.{Controller}
+use Rattle.component.specs.declared.comp.Comp.{Comp}
+use Rattle.component.specs.declared.comp.Comp.TheVariants.{Bank as ABank, Controller as AController}
+
+-- a bank with the times of this shared cache; a look-up that another core's copy delays takes both
+pub record HasBankTimes (l2 : L2) (b : Bank) : Type 0 where
+  pub lookup : b.lookup ≡ l2.latency
+  pub remote : b.remote ≡ l2.latency + l2.remote
+  pub fill : b.fill ≡ l2.fill
+  pub occupancy : b.occupancy ≡ l2.occupancy
+
+-- a controller with the times of these
+pub record HasControllerTimes (all : Controllers) (c : Controller) : Type 0 where
+  pub read : c.read ≡ all.read
+  pub write : c.write ≡ all.write
+  pub occupancy : c.occupancy ≡ all.occupancy
+
+abbrev pub IsBankOf : Machine → Comp → Type 0
+IsBankOf m (ABank b) = HasBankTimes m.l2 b
+IsBankOf m (AController c) = ⊥
+
+abbrev pub IsControllerOf : Machine → Comp → Type 0
+IsControllerOf m (ABank b) = ⊥
+IsControllerOf m (AController c) = HasControllerTimes m.controllers c
+
+-- the components of a machine by their numbers: its banks, and then its controllers
+pub record AreComponents (m : Machine) (comps : List Comp) : Type 0 where
+  pub count : length comps ≡ m.l2.banks + m.controllers.count
+  pub banks : AllWithin (IsBankOf m) comps 0 m.l2.banks
+  pub controllers : AllWithin (IsControllerOf m) comps m.l2.banks (length comps)

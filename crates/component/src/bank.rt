@@ -1,0 +1,70 @@
+// A bank of the shared cache.
+ghost use Rattle.std.specs.Prelude.{◌≤◌};
+
+use crate::{Component, Kind};
+use zs_num::Cycle;
+
+/// A bank of the shared cache. It serves one event after the other. Times are in cycles.
+#[derive(Debug, Drop)]
+pub struct Bank {
+    /// The time of a look-up.
+    pub lookup: u64,
+    /// The whole time of a look-up of a line of which another core has to change its copy.
+    pub remote: u64,
+    /// The time to take in a line from memory.
+    pub fill: u64,
+    /// For how long an event keeps the bank busy.
+    pub occupancy: u64,
+    /// The cycle from which on it can serve the next event.
+    pub free: Cycle,
+    pub ghost lookup_counts: { 1 ≤ lookup },
+    pub ghost remote_counts: { 1 ≤ remote },
+    pub ghost fill_counts: { 1 ≤ fill },
+}
+
+impl Component for Bank {
+    ghost use Rattle.std.specs.Prelude.{◌+◌, max};
+    ghost use Rattle.component.specs.ComponentStep.{bank_serves, bank_latency, bank_step, bank_greatest};
+    ghost use Rattle.component.specs.ComponentLaws.{bank_floor_counts, bank_floor_holds, bank_serves_stays, bank_floor_stays, bank_finish_counts};
+
+    ghost serves = { bank_serves };
+
+    ghost floor = { bank_latency };
+
+    ghost stepped = { bank_step };
+
+    ghost greatest = { bank_greatest };
+
+    fn serves(&self, kind: Kind) -> bool {
+        match kind {
+            Kind::Lookup | Kind::Remote | Kind::Fill => true,
+            Kind::Read | Kind::Write => false,
+        }
+    }
+
+    fn floor(&self, kind: Kind) -> u64 {
+        match kind {
+            Kind::Lookup => self.lookup,
+            Kind::Remote => self.remote,
+            Kind::Fill => self.fill,
+            Kind::Read | Kind::Write => 0,
+        }
+    }
+
+    fn step(&mut self, kind: Kind, start: Cycle) -> Cycle {
+        let latency = self.floor(kind);
+        let served = start.max(self.free);
+        self.free = served + self.occupancy;
+        served + latency
+    }
+
+    ghost floor_counts = { bank_floor_counts };
+
+    ghost floor_holds = { bank_floor_holds };
+
+    ghost serves_stays = { bank_serves_stays };
+
+    ghost floor_stays = { bank_floor_stays };
+
+    ghost finish_counts = { bank_finish_counts };
+}

@@ -1,0 +1,69 @@
+// A component of this machine: a bank or a controller.
+use crate::{Bank, Component, Controller, Kind};
+use zs_num::Cycle;
+
+/// A bank of the shared cache or a memory controller.
+#[derive(Debug, Drop)]
+pub enum Comp {
+    Bank(Bank),
+    Controller(Controller),
+}
+
+impl Comp {
+    ghost use Rattle.std.specs.Prelude.{◌≡◌};
+    ghost use Rattle.component.specs.ComponentStep.{free_of};
+
+    /// The cycle from which on it can serve the next event.
+    pub fn free(&self) -> Cycle
+        ensures { result ≡ free_of self.now }
+    {
+        match self {
+            Comp::Bank(bank) => bank.free,
+            Comp::Controller(controller) => controller.free,
+        }
+    }
+}
+
+impl Component for Comp {
+    ghost use Rattle.component.specs.ComponentStep.{comp_serves, comp_latency, comp_step, comp_greatest};
+    ghost use Rattle.component.specs.ComponentLaws.{comp_floor_counts, comp_floor_holds, comp_serves_stays, comp_floor_stays, comp_finish_counts};
+
+    ghost serves = { comp_serves };
+
+    ghost floor = { comp_latency };
+
+    ghost stepped = { comp_step };
+
+    ghost greatest = { comp_greatest };
+
+    fn serves(&self, kind: Kind) -> bool {
+        match self {
+            Comp::Bank(bank) => bank.serves(kind),
+            Comp::Controller(controller) => controller.serves(kind),
+        }
+    }
+
+    fn floor(&self, kind: Kind) -> u64 {
+        match self {
+            Comp::Bank(bank) => bank.floor(kind),
+            Comp::Controller(controller) => controller.floor(kind),
+        }
+    }
+
+    fn step(&mut self, kind: Kind, start: Cycle) -> Cycle {
+        match self {
+            Comp::Bank(bank) => bank.step(kind, start),
+            Comp::Controller(controller) => controller.step(kind, start),
+        }
+    }
+
+    ghost floor_counts = { comp_floor_counts };
+
+    ghost floor_holds = { comp_floor_holds };
+
+    ghost serves_stays = { comp_serves_stays };
+
+    ghost floor_stays = { comp_floor_stays };
+
+    ghost finish_counts = { comp_finish_counts };
+}

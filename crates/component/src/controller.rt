@@ -1,0 +1,65 @@
+// A memory controller.
+ghost use Rattle.std.specs.Prelude.{◌≤◌};
+
+use crate::{Component, Kind};
+use zs_num::Cycle;
+
+/// A memory controller. It serves one event after the other. Times are in cycles.
+#[derive(Debug, Drop)]
+pub struct Controller {
+    /// The time of a read.
+    pub read: u64,
+    /// The time of a write.
+    pub write: u64,
+    /// For how long an event keeps the controller busy.
+    pub occupancy: u64,
+    /// The cycle from which on it can serve the next event.
+    pub free: Cycle,
+    pub ghost read_counts: { 1 ≤ read },
+    pub ghost write_counts: { 1 ≤ write },
+}
+
+impl Component for Controller {
+    ghost use Rattle.component.specs.ComponentStep.{controller_serves, controller_latency, controller_step, controller_greatest};
+    ghost use Rattle.component.specs.ComponentLaws.{controller_floor_counts, controller_floor_holds, controller_serves_stays, controller_floor_stays, controller_finish_counts};
+
+    ghost serves = { controller_serves };
+
+    ghost floor = { controller_latency };
+
+    ghost stepped = { controller_step };
+
+    ghost greatest = { controller_greatest };
+
+    fn serves(&self, kind: Kind) -> bool {
+        match kind {
+            Kind::Read | Kind::Write => true,
+            Kind::Lookup | Kind::Remote | Kind::Fill => false,
+        }
+    }
+
+    fn floor(&self, kind: Kind) -> u64 {
+        match kind {
+            Kind::Read => self.read,
+            Kind::Write => self.write,
+            Kind::Lookup | Kind::Remote | Kind::Fill => 0,
+        }
+    }
+
+    fn step(&mut self, kind: Kind, start: Cycle) -> Cycle {
+        let latency = self.floor(kind);
+        let served = start.max(self.free);
+        self.free = served + self.occupancy;
+        served + latency
+    }
+
+    ghost floor_counts = { controller_floor_counts };
+
+    ghost floor_holds = { controller_floor_holds };
+
+    ghost serves_stays = { controller_serves_stays };
+
+    ghost floor_stays = { controller_floor_stays };
+
+    ghost finish_counts = { controller_finish_counts };
+}

@@ -1,0 +1,16 @@
+// What an event asks of its component.
+
+/// What an event asks of its component.
+#[derive(Clone, Copy, Debug, PartialEq, Eq)]
+pub enum Kind {
+    /// A bank looks up a line.
+    Lookup,
+    /// A bank looks up a line of which another core has to change its copy.
+    Remote,
+    /// A bank takes in a line from memory.
+    Fill,
+    /// A controller reads a line.
+    Read,
+    /// A controller writes a line back.
+    Write,
+}

@@ -1,0 +1,6 @@
+mod LastKept
+mod Places
+mod AccessSteps
+mod AllEvents
+mod ToldFits
+mod PlainFits

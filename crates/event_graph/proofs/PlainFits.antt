@@ -1,0 +1,90 @@
+-- That the components of a machine serve the events of its accesses.
+use Rattle.std.proofs.Common.{◌≡◌, ◌+◌, ◌<◌, ◌≤◌, ℕ, Bool, true, false, List, length, get_or, None, Some, refl, arith, subst, inl, inr, if◌then◌else◌, nat_lt, nat_le}
+use Rattle.std.specs.List.{slice_get}
+use Rattle.std.proofs.lemmas.Bool.{ltb-true, leb-true, and_parts}
+use Rattle.std.proofs.lemmas.Option.{slice_get_cases}
+use Rattle.machine_desc.specs.declared.machine.Machine.{Machine}
+use Rattle.machine_desc.specs.Machine.{IsMachine}
+use Rattle.zs_num.specs.declared.entry.Entry.{Entry}
+use Rattle.component.specs.declared.kind.Kind.{Kind}
+use Rattle.component.specs.declared.kind.Kind.TheVariants.{Lookup, Remote, Fill, Read, Write}
+use Rattle.component.specs.declared.comp.Comp.{Comp}
+use Rattle.component.specs.declared.comp.Comp.TheVariants.{Bank as ABank, Controller as AController}
+use Rattle.component.specs.ComponentStep.{comp_serves, comp_latency}
+use Rattle.component.specs.Components.{AreComponents, IsBankOf, IsControllerOf}
+use Rattle.event_graph.specs.Fits.{GraphFits}
+use Rattle.event_graph.specs.Timing.{pieces_of, floor_told, is_bank, is_controller, look_up_time}
+use Rattle.event_graph.specs.PlainLaws.{plain_floors_told}
+use Rattle.event_graph.specs.Told.{ServesWith}
+use Rattle.event_graph.specs.EventGraph.{all_events}
+use Rattle.event_graph.proofs.ToldFits.{told_fits}
+
+told_if : (b : Bool) (x y : ℕ) → (if b then Some x else None) ≡ Some y → (b ≡ true) × (x ≡ y)
+told_if true x y is = (refl, cc)
+told_if false x y is = cc
+
+module _ (m : Machine) (comps : List Comp) (are : AreComponents m comps) where
+  stands : (component : ℕ) → component < length comps → (c : Comp) × (slice_get comps component ≡ Some c) × (get_or comps component c ≡ c)
+  stands component below = elim (slice_get_cases comps component).1 [
+    | inl found ↦ (found.0, found.2, found.3)
+    | inr past ↦ absurd (omega arith)
+  ]
+
+  bank_at : (component : ℕ) → is_bank m.l2 component ≡ true → (c : Comp) × (slice_get comps component ≡ Some c) × IsBankOf m c
+  bank_at component bank =
+      let low : component < m.l2.banks = ltb-true component m.l2.banks bank in
+      let found = stands component (omega (arith, are.count)) in
+      (found.0, found.1, subst (IsBankOf m) found.2 (are.banks component found.0 (omega arith) low))
+
+  controller_at : (component : ℕ) → is_controller m.l2 m.controllers component ≡ true → (c : Comp) × (slice_get comps component ≡ Some c) × IsControllerOf m c
+  controller_at component controller =
+      let parts = and_parts (nat_le m.l2.banks component) (nat_lt component (m.l2.banks + m.controllers.count)) controller in
+      let from : m.l2.banks ≤ component = leb-true m.l2.banks component parts.0 in
+      let low : component < m.l2.banks + m.controllers.count = ltb-true component (m.l2.banks + m.controllers.count) parts.1 in
+      let below : component < length comps = omega (arith, are.count) in
+      let found = stands component below in
+      (found.0, found.1, subst (IsControllerOf m) found.2 (are.controllers component found.0 from below))
+
+  of_bank : (component : ℕ) (c : Comp) → slice_get comps component ≡ Some c → IsBankOf m c
+      → ServesWith comp_serves comp_latency comps component Lookup (look_up_time m.l2 false) × ServesWith comp_serves comp_latency comps component Remote (look_up_time m.l2 true) × ServesWith comp_serves comp_latency comps component Fill m.l2.fill
+  of_bank component (ABank b) at' times = (
+    record { component = ABank b; there = at'; served = refl; floor_is = times.lookup },
+    record { component = ABank b; there = at'; served = refl; floor_is = times.remote },
+    record { component = ABank b; there = at'; served = refl; floor_is = times.fill },
+  )
+  of_bank component (AController c) at' times = absurd times
+
+  of_controller : (component : ℕ) (c : Comp) → slice_get comps component ≡ Some c → IsControllerOf m c
+      → ServesWith comp_serves comp_latency comps component Read m.controllers.read × ServesWith comp_serves comp_latency comps component Write m.controllers.write
+  of_controller component (ABank b) at' times = absurd times
+  of_controller component (AController c) at' times = (
+    record { component = AController c; there = at'; served = refl; floor_is = times.read },
+    record { component = AController c; there = at'; served = refl; floor_is = times.write },
+  )
+
+  pub plain_tells : (component : ℕ) (kind : Kind) (floor : ℕ) → floor_told m.l2 m.controllers component kind ≡ Some floor → ServesWith comp_serves comp_latency comps component kind floor
+  plain_tells component Lookup floor is =
+      let told = told_if (is_bank m.l2 component) (look_up_time m.l2 false) floor is in
+      let found = bank_at component told.0 in
+      subst (ServesWith comp_serves comp_latency comps component Lookup) told.1 (of_bank component found.0 found.1 found.2).0
+  plain_tells component Remote floor is =
+      let told = told_if (is_bank m.l2 component) (look_up_time m.l2 true) floor is in
+      let found = bank_at component told.0 in
+      subst (ServesWith comp_serves comp_latency comps component Remote) told.1 (of_bank component found.0 found.1 found.2).1
+  plain_tells component Fill floor is =
+      let told = told_if (is_bank m.l2 component) m.l2.fill floor is in
+      let found = bank_at component told.0 in
+      subst (ServesWith comp_serves comp_latency comps component Fill) told.1 (of_bank component found.0 found.1 found.2).2
+  plain_tells component Read floor is =
+      let told = told_if (is_controller m.l2 m.controllers component) m.controllers.read floor is in
+      let found = controller_at component told.0 in
+      subst (ServesWith comp_serves comp_latency comps component Read) told.1 (of_controller component found.0 found.1 found.2).0
+  plain_tells component Write floor is =
+      let told = told_if (is_controller m.l2 m.controllers component) m.controllers.write floor is in
+      let found = controller_at component told.0 in
+      subst (ServesWith comp_serves comp_latency comps component Write) told.1 (of_controller component found.0 found.1 found.2).1
+
+  pub plain_fits : IsMachine m → (entries : List Entry) → GraphFits comp_serves comp_latency (all_events (pieces_of m.l1 m.l2 m.controllers) entries) comps
+  plain_fits ok entries =
+      told_fits (pieces_of m.l1 m.l2 m.controllers) (floor_told m.l2 m.controllers) (plain_floors_told m.l1 m.l2 m.controllers ok.l2 ok.controllers)
+      comp_serves comp_latency comps plain_tells entries

@@ -1,0 +1,30 @@
+use Rattle.std.proofs.Common.{◌≡◌, ◌+◌, ◌<◌, vec_len, length, arith, sym, ap, ◌∙◌, length-append, None, refl, ◌∷◌, []}
+use Rattle.std.specs.Option.{option_map}
+use Rattle.std.proofs.lemmas.Option.{slice_get_read, get_or_from_slice_get}
+use Rattle.event_graph.specs.Critical.{last_critical}
+use Rattle.event_graph.specs.NextEvent.{critical_of}
+use Rattle.event_graph.proofs.AccessSteps.{place_done}
+use Rattle.event_graph.proofs.make.add_access.Goals as goal
+
+pub loop-place-preserved : goal.loop-place-preserved
+loop-place-preserved g c =
+    let before = c.args.events.now in
+    let last = c.args.last.now in
+    let entry = c.args.entry.now in
+    let law = g.met.X.Expand.parents_come_before c.args.x.now entry in
+    let there : entry.core < length last.items = omega (arith, last.ok.0) in
+    let read = rw c.from.ensures at c.index-earlier.ensures in
+    let kept : c.index-earlier.result.now ≡ option_map critical_of (last_critical entry.core before.items) =
+    sym (get_or_from_slice_get last.items entry.core c.index-earlier.result.now None (slice_get_read last.items (length last.items) entry.core c.index-earlier.result.now refl there read))
+    ∙ c.requires.told.at entry.core there in
+    let base : c.len-base.result ≡ length before.items = omega (arith, before.ok.0) in
+    let pushed = c.in_ok-push_event.ensures.pushed in
+    let grown : length c.push_event.new.events.items ≡ length c.loop-place.events.items + 1 = ap length pushed ∙ length-append c.loop-place.events.items (c.event_of-event.result ∷ []) in
+    let long : vec_len c.push_event.new.events ≡ vec_len before + (c.loop-place.place + 1) = omega (arith, grown, c.push_event.new.events.ok.0, c.loop-place.events.ok.0) in (
+      place_done before.items entry (g.X.Expand.pieces c.args.x.now entry) c.loop-place.place c.piece-piece.result law c.piece-piece.ensures
+          c.loop-place.events.items c.deref.result.now c.push_event.new.events.items c.index-earlier.result.now c.len-base.result c.count-count.result c.event_of-event.result
+          c.loop-place.invariant.0 c.deref.ensures.value kept base c.count-count.ensures c.event_of-event.ensures pushed,
+      long,
+      c.in_ok-push_event.ensures.told,
+      omega (arith, c.in_ok-push_event.ensures.cores),
+    )

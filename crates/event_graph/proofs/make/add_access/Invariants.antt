@@ -1,0 +1,11 @@
+use Rattle.std.proofs.Common.{◌≡◌, ◌++◌, ◌+◌, vec_len}
+use Rattle.event_graph.specs.NextEvent.{TellsLast}
+use Rattle.event_graph.proofs.AccessSteps.{events_below}
+use Rattle.event_graph.proofs.make.add_access.Given as goal
+
+abbrev pub invariant-loop-place : goal.invariant-loop-place
+invariant-loop-place g l =
+    (l.events.items ≡ l.initial.events.items ++ events_below l.initial.events.items l.entry (g.X.Expand.pieces l.x l.entry) l.place)
+    × (vec_len l.events ≡ vec_len l.initial.events + l.place)
+    × TellsLast l.last.items l.events.items
+    × (vec_len l.last ≡ vec_len l.initial.last)

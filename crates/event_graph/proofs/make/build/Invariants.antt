@@ -1,0 +1,14 @@
+use Rattle.std.proofs.Common.{◌≡◌, ◌<◌, ℕ, None, length, vec_len, get_or, take}
+use Rattle.event_graph.specs.EventGraph.{all_events}
+use Rattle.event_graph.specs.NextEvent.{TellsLast}
+use Rattle.event_graph.proofs.make.build.Given as goal
+
+abbrev pub invariant-loop-core : goal.invariant-loop-core
+invariant-loop-core g l =
+    (vec_len l.last ≡ l._core) × ((core : ℕ) → core < length l.last.items → get_or l.last.items core None ≡ None)
+
+abbrev pub invariant-loop-entry : goal.invariant-loop-entry
+invariant-loop-entry g l =
+    (vec_len l.last ≡ l.cores)
+    × TellsLast l.last.items l.events.items
+    × (l.events.items ≡ all_events (g.X.Expand.pieces l.x) (take l.entry-index l.entries))

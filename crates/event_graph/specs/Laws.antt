@@ -1,0 +1,23 @@
+-- What is true of every machine's graphs.
+use Rattle.std.specs.Prelude.{List}
+use Rattle.machine_desc.specs.declared.machine.Machine.{Machine}
+use Rattle.machine_desc.specs.Machine.{IsMachine}
+use Rattle.zs_num.specs.declared.entry.Entry.{Entry}
+use Rattle.component.specs.declared.comp.Comp.{Comp}
+use Rattle.component.specs.ComponentStep.{comp_serves, comp_latency}
+use Rattle.component.specs.Components.{AreComponents}
+use Rattle.event_graph.specs.Fits.{GraphFits}
+use Rattle.event_graph.specs.Timing.{pieces_of, floor_told}
+use Rattle.event_graph.specs.Told.{IsTrueOf}
+use Rattle.event_graph.specs.EventGraph.{all_events}
+
+-- what is told of a machine without a network is true of its components
+abbrev pub PlainTellsComponents : Type 0
+PlainTellsComponents = (m : Machine) (comps : List Comp) → AreComponents m comps
+    → IsTrueOf (floor_told m.l2 m.controllers) comp_serves comp_latency comps
+
+-- the components of a machine serve all events of its accesses, and each with the event's time at
+-- zero load as its floor
+abbrev pub PlainGraphsFit : Type 0
+PlainGraphsFit = (m : Machine) (comps : List Comp) (entries : List Entry) → IsMachine m → AreComponents m comps
+    → GraphFits comp_serves comp_latency (all_events (pieces_of m.l1 m.l2 m.controllers) entries) comps

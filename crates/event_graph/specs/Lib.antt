@@ -1,0 +1,12 @@
+pub mod Fits
+pub mod Laws
+pub mod Numbered
+pub mod Critical
+pub mod Expansion
+pub mod Timing
+pub mod PlainLaws
+pub mod Told
+pub mod EventGraph
+pub mod NextEvent
+pub mod OneListWeave
+pub mod TimingSolution

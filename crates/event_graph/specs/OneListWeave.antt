@@ -1,0 +1,126 @@
+-- The one-list weave: while an event is unfired, of the events whose parents are fired the one with the least (start, number) fires.
+use Rattle.std.specs.Prelude.{◌≡◌, ◌≤◌, ◌+◌, ◌^◌, ◌==◌, ◌&&◌, ◌||◌, ℕ, zero, suc, max, Bool, true, not, cond, nat_lt, List, [], ◌∷◌, ◌++◌, map, length, slice_get, slice_set, Option, Some, None, is_some, IfSome}
+use Rattle.std.specs.List.{find}
+use Rattle.component.specs.declared.kind.Kind.{Kind}
+use Rattle.event_graph.specs.declared.event.Event.{Event}
+use Rattle.event_graph.specs.declared.event.Parent.{Parent}
+use Rattle.event_graph.specs.declared.fired.Fired.{Fired}
+
+-- an event with its start and its finish
+pub record Timed : Type 0 where
+  pub event : Event
+  pub start : ℕ
+  pub finish : ℕ
+
+-- the lesser start first, and at a tie the lesser number
+abbrev pub is_before : Event → ℕ → Event → ℕ → Bool
+is_before e start other other_start = nat_lt start other_start || (start == other_start && nat_lt e.number other.number)
+
+-- The start rule.
+
+-- the finish of a parent and its delay
+abbrev pub after_parent : (ℕ → ℕ) → Option Parent → ℕ
+after_parent finish None = 0
+after_parent finish (Some p) = finish p.number + p.delay
+
+-- no earlier than `min_start`, and than each parent's finish and its delay
+abbrev pub start_of : (ℕ → ℕ) → Event → ℕ
+start_of finish e = max e.min_start (max (after_parent finish e.first) (after_parent finish e.second))
+
+-- What is known of the events that fired.
+
+abbrev pub entry_of : List Timed → ℕ → Option Timed
+entry_of fired number = find (λ x. x.event.number == number) fired
+
+abbrev pub finish_of : Option Timed → ℕ
+finish_of None = 0
+finish_of (Some x) = x.finish
+
+-- the finish of the event of this number
+abbrev pub finish_in : List Timed → ℕ → ℕ
+finish_in fired number = finish_of (entry_of fired number)
+
+abbrev pub is_fired : List Timed → ℕ → Bool
+is_fired fired number = is_some (entry_of fired number)
+
+abbrev pub is_parent_fired : List Timed → Option Parent → Bool
+is_parent_fired fired None = true
+is_parent_fired fired (Some p) = is_fired fired p.number
+
+-- unfired, with its parents fired
+abbrev pub is_ready : List Timed → Event → Bool
+is_ready fired e = not (is_fired fired e.number) && (is_parent_fired fired e.first && is_parent_fired fired e.second)
+
+-- the earlier of an event at its start and another one
+abbrev pub earlier : Event × ℕ → Option (Event × ℕ) → Event × ℕ
+earlier a None = a
+earlier a (Some b) = cond (is_before b.0 b.1 a.0 a.1) b a
+
+-- the ready event with the least (start, number), and its start
+abbrev pub least_ready : List Timed → List Event → Option (Event × ℕ)
+least_ready fired [] = None
+least_ready fired (e ∷ es) =
+    cond (is_ready fired e) (Some (earlier (e, start_of (finish_in fired) e) (least_ready fired es))) (least_ready fired es)
+
+-- an event's entry
+
+abbrev pub timed_of : Event → Option Timed → Timed
+timed_of e None = record { event = e; start = 0; finish = 0 }
+timed_of e (Some x) = x
+
+abbrev pub timed_in : List Timed → Event → Timed
+timed_in fired e = timed_of e (entry_of fired e.number)
+
+-- The rounds of the weave.
+
+-- the events that fired, in the order in which they did, and the components
+pub record Weave (C : Type 0) : Type 0 where
+  pub fired : List Timed
+  pub comps : List C
+
+module _ {C : Type 0} (stepped : C → Kind → ℕ → C × ℕ) where
+  -- after the event's component served it from this start
+  abbrev pub served : Weave C → Event → ℕ → Option C → Weave C
+  served w e start None = w
+  served w e start (Some c) = record {
+    fired = w.fired ++ (record { event = e; start = start; finish = (stepped c e.kind start).1 }) ∷ [];
+    comps = slice_set w.comps e.component (stepped c e.kind start).0;
+  }
+
+  abbrev pub fire : Weave C → Option (Event × ℕ) → Weave C
+  fire w None = w
+  fire w (Some next) = served w next.0 next.1 (slice_get w.comps next.0.component)
+
+  -- the least ready event fires
+  unfoldable pub round : List Event → Weave C → Weave C
+  round events w = fire w (least_ready w.fired events)
+
+  -- after so many rounds
+  unfoldable pub after : List Event → List C → ℕ → Weave C
+  after events comps zero = record { fired = []; comps = comps }
+  after events comps (suc rounds) = round events (after events comps rounds)
+
+  -- after as many rounds as there are events
+  abbrev pub weave : List Event → List C → Weave C
+  weave events comps = after events comps (length events)
+
+  -- What the weave answers: each event with its start and finish, in order of number, and the components after.
+
+  unfoldable pub woven : List Event → List C → List Timed
+  woven events comps = map (timed_in (weave events comps).fired) events
+
+  abbrev pub comps_after : List Event → List C → List C
+  comps_after events comps = (weave events comps).comps
+
+  -- The greatest sum of each step is at most 2^62.
+
+  abbrev pub IsSmallStep : (C → Kind → ℕ → ℕ) → Weave C → Option (Event × ℕ) → Type 0
+  IsSmallStep greatest w next = IfSome next (λ x. IfSome (slice_get w.comps x.0.component) (λ c. greatest c x.0.kind x.1 ≤ 2 ^ 62))
+
+  abbrev pub AreSmallSteps : (C → Kind → ℕ → ℕ) → List Event → List C → Type 0
+  AreSmallSteps greatest events comps =
+      (rounds : ℕ) → IsSmallStep greatest (after events comps rounds) (least_ready (after events comps rounds).fired events)
+
+-- an event's number, start and finish
+abbrev pub fired_of : Timed → Fired
+fired_of x = record { number = x.event.number; start = x.start; finish = x.finish }

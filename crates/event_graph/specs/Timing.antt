@@ -1,0 +1,106 @@
+-- The time of an access where nothing else runs, and the events that it is made of.
+use Rattle.std.specs.Prelude.{◌+◌, ◌/◌, ◌%◌, ℕ, Bool, true, false, ◌&&◌, nat_lt, nat_le, max, if◌then◌else◌, List, [], ◌∷◌, Option, None, Some}
+use Rattle.component.specs.declared.kind.Kind.{Kind}
+use Rattle.component.specs.declared.kind.Kind.TheVariants.{Lookup, Remote, Fill, Read, Write}
+use Rattle.machine_desc.specs.declared.machine.L1.{L1}
+use Rattle.machine_desc.specs.declared.machine.L2.{L2}
+use Rattle.machine_desc.specs.declared.machine.Controllers.{Controllers}
+use Rattle.zs_num.specs.declared.entry.Entry.{Entry}
+use Rattle.zs_num.specs.declared.entry.Outcome.{Outcome}
+use Rattle.zs_num.specs.declared.entry.Outcome.TheVariants.{Hit, Upgrade, L2 as FoundInL2, Miss}
+use Rattle.zs_num.specs.Request.{addr_of}
+use Rattle.event_graph.specs.declared.piece.Piece.{Piece}
+
+-- a look-up in the shared cache; others: another core has to change its copy
+abbrev pub look_up_time : L2 → (others : Bool) → ℕ
+look_up_time l2 others = (if others then l2.latency + l2.remote else l2.latency)
+
+-- what a miss waits for memory; dirty: a line is written back beside the read
+abbrev pub memory_time : Controllers → (dirty : Bool) → ℕ
+memory_time all dirty = (if dirty then max all.read all.write else all.read)
+
+-- the zero-load time of an access, by its outcome
+abbrev pub time_by : L1 → L2 → Controllers → Outcome → ℕ
+time_by l1 l2 all Hit = l1.latency
+time_by l1 l2 all (Upgrade others) = l1.latency + look_up_time l2 others
+time_by l1 l2 all (FoundInL2 others) = l1.latency + look_up_time l2 others
+time_by l1 l2 all (Miss dirty) = l1.latency + l2.latency + memory_time all dirty + l2.fill
+
+-- the line of 64 bytes that an access is in, the bank that has the line, and the bank's controller:
+-- bank b is component b, and controller m is component banks + m
+abbrev pub line_of : Entry → ℕ
+line_of e = addr_of e.request / 64
+
+abbrev pub bank_of : L2 → Entry → ℕ
+bank_of l2 e = line_of e % l2.banks
+
+abbrev pub controller_of : L2 → Controllers → Entry → ℕ
+controller_of l2 all e = l2.banks + bank_of l2 e % all.count
+
+-- the events: a look-up; on a miss a read, and beside it a write where a line is written back; and
+-- then a fill, which waits for both
+module _ (l1 : L1) (l2 : L2) (all : Controllers) (bank controller : ℕ) where
+  abbrev pub look_up : (others : Bool) → Piece
+  look_up others = record {
+    component = bank;
+    kind = (if others then Remote else Lookup);
+    offset = l1.latency;
+    time = look_up_time l2 others;
+    first = None;
+    second = None;
+  }
+
+  abbrev pub read : Piece
+  read = record {
+    component = controller;
+    kind = Read;
+    offset = l1.latency + l2.latency;
+    time = all.read;
+    first = Some 0;
+    second = None;
+  }
+
+  abbrev pub write : Piece
+  write = record {
+    component = controller;
+    kind = Write;
+    offset = l1.latency + l2.latency;
+    time = all.write;
+    first = Some 0;
+    second = None;
+  }
+
+  abbrev pub fill : (dirty : Bool) → Piece
+  fill dirty = record {
+    component = bank;
+    kind = Fill;
+    offset = l1.latency + l2.latency + memory_time all dirty;
+    time = l2.fill;
+    first = Some 1;
+    second = (if dirty then Some 2 else None);
+  }
+
+  abbrev pub pieces_by : Outcome → List Piece
+  pieces_by Hit = []
+  pieces_by (Upgrade others) = look_up others ∷ []
+  pieces_by (FoundInL2 others) = look_up others ∷ []
+  pieces_by (Miss false) = look_up false ∷ read ∷ fill false ∷ []
+  pieces_by (Miss true) = look_up false ∷ read ∷ write ∷ fill true ∷ []
+
+abbrev pub pieces_of : L1 → L2 → Controllers → Entry → List Piece
+pieces_of l1 l2 all e = pieces_by l1 l2 all (bank_of l2 e) (controller_of l2 all e) e.outcome
+
+-- whether a component is a bank, or a controller
+abbrev pub is_bank : L2 → (component : ℕ) → Bool
+is_bank l2 component = nat_lt component l2.banks
+
+abbrev pub is_controller : L2 → Controllers → (component : ℕ) → Bool
+is_controller l2 all component = nat_le l2.banks component && nat_lt component (l2.banks + all.count)
+
+-- the floor with which a component serves a kind, if it is there and serves it
+abbrev pub floor_told : L2 → Controllers → (component : ℕ) → Kind → Option ℕ
+floor_told l2 all component Lookup = (if is_bank l2 component then Some (look_up_time l2 false) else None)
+floor_told l2 all component Remote = (if is_bank l2 component then Some (look_up_time l2 true) else None)
+floor_told l2 all component Fill = (if is_bank l2 component then Some l2.fill else None)
+floor_told l2 all component Read = (if is_controller l2 all component then Some all.read else None)
+floor_told l2 all component Write = (if is_controller l2 all component then Some all.write else None)

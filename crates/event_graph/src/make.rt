@@ -1,0 +1,159 @@
+// How the events of an interval are made from its accesses.
+ghost use Rattle.std.specs.Prelude.{◌≡◌, ◌+◌, ◌<◌, ◌^◌, ◌++◌, ◌∷◌, [], IfOk, OnOk, All, length, vec_len, sum_by};
+ghost use Rattle.std.specs.Option.{ForSome};
+ghost use Rattle.event_graph.specs.EventGraph.{all_events, access_events};
+ghost use Rattle.event_graph.specs.NextEvent.{TellsLast, parent_among, next_event};
+
+use crate::{Event, Expand, Graph, Parent, Piece};
+use std::alloc::Global;
+use zs_num::{Cycle, Entries, Entry, NoMemory};
+
+/// What is kept of a core's last critical event: its number, and its finish at zero load.
+#[derive(Clone, Copy, Debug, PartialEq, Eq)]
+struct Critical {
+    number: u32,
+    finish: Cycle,
+}
+
+/// The event at a place of the access whose event 0 has the number `base`, as a parent of an event
+/// that starts then.
+fn parent_at(events: &[Event], base: u32, place: Option<u16>, start: Cycle) -> Option<Parent>
+    requires { ForSome place (λ i. base + i < length events.now) }
+    ensures { result ≡ parent_among events.now base start place }
+{
+    match place {
+        None => None,
+        Some(i) => {
+            let parent = events[base as usize + usize::from(i)];
+            Some(Parent {
+                number: parent.number,
+                delay: start.saturating_sub(parent.min_finish),
+            })
+        }
+    }
+}
+
+/// Where an event stands: the number of its access's event 0, its place, and whether it is the last.
+#[derive(Clone, Copy)]
+struct Spot {
+    base: u32,
+    place: u16,
+    last: bool,
+}
+
+/// The next event of an access. `events` has those before it, and `earlier` is what is kept of the
+/// core's last critical event before the access.
+fn event_of(
+    events: &[Event],
+    earlier: Option<Critical>,
+    entry: &Entry,
+    spot: Spot,
+    piece: Piece,
+) -> Event
+    requires number { spot.base + spot.place < 2 ^ 32 }
+    requires cycles { entry.now.start + piece.offset + piece.time < 2 ^ 64 }
+    requires first { ForSome piece.first (λ i. spot.base + i < length events.now) }
+    requires second { ForSome piece.second (λ i. spot.base + i < length events.now) }
+    ensures { result ≡ next_event events.now earlier entry.now spot.base spot.place spot.last piece }
+{
+    let start = entry.start + piece.offset;
+    let first = if spot.place == 0 {
+        match earlier {
+            None => None,
+            Some(critical) => Some(Parent {
+                number: critical.number,
+                delay: start.saturating_sub(critical.finish),
+            }),
+        }
+    } else {
+        parent_at(events, spot.base, piece.first, start)
+    };
+    Event {
+        number: spot.base + u32::from(spot.place),
+        core: entry.core,
+        component: piece.component,
+        kind: piece.kind,
+        min_start: start,
+        min_finish: start + piece.time,
+        critical: spot.last,
+        first,
+        second: parent_at(events, spot.base, piece.second, start),
+    }
+}
+
+/// Puts an event behind the others, and keeps what is kept of critical events.
+fn push_event(
+    events: &mut Vec<Event>,
+    last: &mut Vec<Option<Critical>>,
+    event: Event,
+) -> Result<(), NoMemory>
+    requires core { event.core < vec_len last.old }
+    requires told { TellsLast last.old.items events.old.items }
+    ensures pushed { OnOk result (events.new.items ≡ events.old.items ++ event ∷ []) }
+    ensures told { OnOk result (TellsLast last.new.items events.new.items) }
+    ensures cores { vec_len last.new ≡ vec_len last.old }
+{
+    events.push(event)?;
+    if event.critical {
+        last[usize::from(event.core)] = Some(Critical {
+            number: event.number,
+            finish: event.min_finish,
+        });
+    }
+    Ok(())
+}
+
+/// Puts the events of an access behind those of the accesses before it.
+fn add_access<X: Expand>(
+    events: &mut Vec<Event>,
+    last: &mut Vec<Option<Critical>>,
+    x: &X,
+    entry: &Entry,
+) -> Result<(), NoMemory>
+    requires core { entry.now.core < vec_len last.old }
+    requires told { TellsLast last.old.items events.old.items }
+    requires start { entry.now.start < 2 ^ 62 }
+    requires few { vec_len events.old + length (X.pieces x.now entry.now) < 2 ^ 32 }
+    ensures added { OnOk result (events.new.items ≡ events.old.items ++ access_events events.old.items entry.now (X.pieces x.now entry.now)) }
+    ensures told { OnOk result (TellsLast last.new.items events.new.items) }
+    ensures cores { vec_len last.new ≡ vec_len last.old }
+{
+    let base = events.len() as u32;
+    let earlier = last[usize::from(entry.core)];
+    let count = x.count(entry);
+    for place in 0..count {
+        let piece = x.piece(entry, place);
+        let spot = Spot {
+            base,
+            place,
+            last: place + 1 == count,
+        };
+        let event = event_of(events, earlier, entry, spot, piece);
+        push_event(events, last, event)?;
+    }
+    Ok(())
+}
+
+/// The events of all accesses of an interval, numbered in the order of the entries and then in the
+/// order of the places. Entries in recorded order give the events of the interval.
+pub fn build<X: Expand>(
+    alloc: Global,
+    x: &X,
+    entries: &Entries,
+    cores: u16,
+) -> Result<Graph, NoMemory>
+    requires cores { All (λ e. e.core < cores) entries.now }
+    requires starts { All (λ e. e.start < 2 ^ 62) entries.now }
+    requires few { sum_by (λ e. length (X.pieces x.now e)) entries.now < 2 ^ 32 }
+    ensures { IfOk result (λ g. g ≡ all_events (X.pieces x.now) entries.now) }
+{
+    let mut last = Vec::new(alloc);
+    for _core in 0..cores {
+        last.push(None)?;
+    }
+    let mut events = Vec::new(alloc);
+    for entry in entries.as_slice() {
+        add_access(&mut events, &mut last, x, entry)?;
+    }
+    Ok(Graph::of(events))
+}

@@ -1,0 +1,167 @@
+// What no clause says: worked cycles, and that the calls succeed.
+ghost use Rattle.std.specs.Prelude.{◌≡◌, IfOk};
+ghost use Rattle.machine_desc.specs.Machine.{IsMachine};
+
+use crate::{Event, Expand, Fired, FiredList, Graph, Kind, Parent, Plain, build};
+use machine_desc::{Controllers, Domains, L1, L2, Machine, Memory, Places};
+use std::alloc::Global;
+use std::test::Fail;
+use zs_num::{Cycle, Entries, Entry, NoMemory, Outcome, Request};
+
+/// Two cores, one bank and one controller.
+fn plain(alloc: Global) -> Result<Machine, NoMemory>
+    ensures { IfOk result IsMachine }
+{
+    Ok(Machine {
+        version: 1,
+        cores: 2,
+        interval: 10_000,
+        intervals: 100_000,
+        memory: Memory {
+            base: 65_536,
+            size: 1_048_576,
+            stack: 4_096,
+        },
+        l1: L1 {
+            sets: 2,
+            ways: 1,
+            latency: 1,
+        },
+        l2: L2 {
+            banks: 1,
+            sets: 4,
+            ways: 2,
+            latency: 10,
+            remote: 5,
+            fill: 2,
+            occupancy: 4,
+        },
+        controllers: Controllers {
+            count: 1,
+            read: 100,
+            write: 40,
+            occupancy: 20,
+        },
+        domains: Domains {
+            count: 2,
+            banks: Places::of(vec![in alloc; 0]?),
+            controllers: Places::of(vec![in alloc; 1]?),
+        },
+    })
+}
+
+/// A load of core `core` that starts then.
+fn load(core: u16, start: Cycle, outcome: Outcome) -> Entry
+    ensures core { result.core ≡ core }
+    ensures start { result.start ≡ start }
+    ensures outcome { result.outcome ≡ outcome }
+{
+    Entry {
+        core,
+        stamp: 1,
+        start,
+        request: Request::Load {
+            addr: 0x11000,
+            width: 8,
+        },
+        reply: 0,
+        outcome,
+    }
+}
+
+const MISS: Outcome = Outcome::Miss {
+    dirty_victim: false,
+};
+
+#[test]
+fn accesses_take_their_zero_load_times(rt: HostRuntime) -> Result<(), Fail> {
+    let x = Plain::of(&plain(rt.alloc())?);
+    let cases = [
+        (Outcome::Hit, 1, 0),
+        (Outcome::Upgrade { others: false }, 11, 1),
+        (Outcome::Upgrade { others: true }, 16, 1),
+        (Outcome::L2 { others: false }, 11, 1),
+        (Outcome::L2 { others: true }, 16, 1),
+        (MISS, 113, 3),
+        (Outcome::Miss { dirty_victim: true }, 113, 4),
+    ];
+    for (outcome, time, count) in cases {
+        let entry = load(0, 6, outcome);
+        assert_eq!(rt;
+            (x.time(&entry), x.count(&entry)),
+            (time, count),
+            "{outcome:?}"
+        );
+    }
+    Ok(())
+}
+
+#[test]
+fn two_cores_that_miss_at_once_make_six_events(rt: HostRuntime) -> Result<(), Fail> {
+    let x = Plain::of(&plain(rt.alloc())?);
+    let entries = Entries::of(vec![in rt.alloc(); load(0, 1, MISS), load(1, 1, MISS)]?);
+    let graph = build(rt.alloc(), &x, &entries, 2)?;
+    let wanted = [
+        (0, 0, Kind::Lookup, 2, 12, None, false),
+        (0, 1, Kind::Read, 12, 112, Some(0), false),
+        (0, 0, Kind::Fill, 112, 114, Some(1), true),
+        (1, 0, Kind::Lookup, 2, 12, None, false),
+        (1, 1, Kind::Read, 12, 112, Some(3), false),
+        (1, 0, Kind::Fill, 112, 114, Some(4), true),
+    ];
+    let events = graph.events();
+    assert_eq!(rt; events.len(), wanted.len());
+    for i in 0..wanted.len() {
+        let (core, component, kind, min_start, min_finish, parent, critical) = wanted[i];
+        let first = match parent {
+            None => None,
+            Some(number) => Some(Parent { number, delay: 0 }),
+        };
+        let event = Event {
+            number: i as u32,
+            core,
+            component,
+            kind,
+            min_start,
+            min_finish,
+            critical,
+            first,
+            second: None,
+        };
+        assert_eq!(rt; events[i], event);
+    }
+    Ok(())
+}
+
+#[test]
+fn a_core_goes_on_from_its_last_critical_event(rt: HostRuntime) -> Result<(), Fail> {
+    let x = Plain::of(&plain(rt.alloc())?);
+    let entries = Entries::of(vec![in rt.alloc(); load(0, 2, MISS), load(0, 116, MISS)]?);
+    let graph = build(rt.alloc(), &x, &entries, 1)?;
+    let events = graph.events();
+    assert_eq!(rt; events.len(), 6);
+    assert_eq!(rt; (events[2].min_finish, events[3].min_start), (115, 117));
+    assert_eq!(rt;
+        events[3].first,
+        Some(Parent {
+            number: 2,
+            delay: 2
+        })
+    );
+    assert_eq!(rt; events[5].min_finish, 229);
+    Ok(())
+}
+
+#[test]
+fn fired_events_are_kept(rt: HostRuntime) -> Result<(), Fail> {
+    let fired = Fired {
+        number: 0,
+        start: 2,
+        finish: 12,
+    };
+    let list = FiredList::of(vec![in rt.alloc(); fired]?);
+    assert_eq!(rt; list.as_slice(), [fired].as_slice());
+    assert_eq!(rt; list.into_list().len(), 1);
+    assert_eq!(rt; Graph::of(Vec::new(rt.alloc())).events().len(), 0);
+    Ok(())
+}

@@ -1,0 +1,11 @@
+//! What the weave found later than the bound phase did, by core: the delays by which clocks grow.
+#![tactic(auto)]
+
+mod feed;
+mod list;
+
+pub use feed::delays;
+pub use list::Delays;
+
+#[cfg(test)]
+mod tests;

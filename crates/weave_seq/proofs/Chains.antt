@@ -1,0 +1,148 @@
+-- One more child in the chains.
+use Rattle.std.proofs.Common.{◌≡◌, ◌<◌, ◌≤◌, ◌+◌, ℕ, List, [], ◌∷◌, ◌++◌, length, get_or, set, inl, inr, Option, Some, None, sym, ◌∙◌, ap, subst, refl, arith, length-set}
+use Rattle.std.specs.Prelude.{slice_get, slice_index}
+use Rattle.std.proofs.lemmas.Bool.{cases_eq, cases_lt}
+use Rattle.std.proofs.lemmas.List.{get_or-set_other, get_or-set_same, get_or_append_left, get_or_past, get_or_push, length-map, length_push}
+use Rattle.event_graph.specs.declared.event.Event.{Event}
+use Rattle.event_graph.specs.declared.event.Parent.{Parent}
+use Rattle.event_graph.specs.Numbered.{IsNumbered}
+use Rattle.weave_seq.specs.declared.children.Place.{Place}
+use Rattle.weave_seq.specs.declared.children.Place.TheVariants.{First, Second}
+use Rattle.weave_seq.specs.Chains.{AreChains, IsParent, latest, parent_at, parents_of, with_latest}
+use Rattle.weave_seq.proofs.Lists.{get-map, get_some, read_is}
+
+push_size : (before : List ℕ) (upto x : ℕ) → length before ≡ upto → length (before ++ x ∷ []) ≡ upto + 1
+push_size before upto x h = length_push before x ∙ ap (λ n. n + 1) h
+
+push_old : (before : List ℕ) (upto x d : ℕ) → length before ≡ upto → d < upto → slice_index (before ++ x ∷ []) d ≡ slice_index before d
+push_old before upto x d h l = get_or_append_left before (x ∷ []) 0 d (omega arith)
+
+push_new : (before : List ℕ) (upto x : ℕ) → length before ≡ upto → slice_index (before ++ x ∷ []) upto ≡ x
+push_new before upto x h = get_or_push before x 0 upto h
+
+push_past : (before : List ℕ) (upto x d : ℕ) → length before ≡ upto → upto < d → slice_index (before ++ x ∷ []) d ≡ 0
+push_past before upto x d h l = get_or_past (before ++ x ∷ []) d 0 (omega (arith, push_size before upto x h, l))
+
+push_below : (before : List ℕ) (upto x : ℕ) → length before ≡ upto → x ≤ upto → ((d : ℕ) → slice_index before d ≤ d) → (d : ℕ) → slice_index (before ++ x ∷ []) d ≤ d
+push_below before upto x h small all d =
+    elim (cases_lt d upto) [
+      | inl l ↦ omega (arith, push_old before upto x d h l, all d)
+      | inr l ↦ elim (cases_eq d upto) [
+        | inl e ↦ subst (λ z. slice_index (before ++ x ∷ []) z ≤ z) (sym e) (omega (arith, push_new before upto x h, small))
+        | inr ne ↦ omega (arith, push_past before upto x d h (omega arith))
+      ]
+    ]
+
+module _ (parents : List (Option Parent)) (last before : List ℕ) (upto : ℕ) (h : AreChains parents last before upto) where
+  none_more : get_or parents upto None ≡ None → AreChains parents last (before ++ 0 ∷ []) (upto + 1)
+  none_more is = record {
+    last_size = h.last_size;
+    before_size = push_size before upto 0 h.before_size;
+    last_below = λ n. omega (arith, h.last_below n);
+    last_covers = λ c p l k.
+        elim (cases_eq c upto) [
+          | inl e ↦ absurd (let q : get_or parents upto None ≡ Some p = subst (λ z. get_or parents z None ≡ Some p) e k in cc)
+          | inr ne ↦ h.last_covers c p (omega (arith, l, ne)) k
+        ];
+    last_is = h.last_is;
+    before_below = push_below before upto 0 h.before_size (omega arith) h.before_below;
+    before_covers = λ c d p q a b k m e.
+        elim (cases_eq d upto) [
+          | inl same ↦ absurd (let z : get_or parents upto None ≡ Some q = subst (λ z. get_or parents z None ≡ Some q) same m in cc)
+          | inr ne ↦ omega (arith, push_old before upto 0 d h.before_size (omega (arith, b, ne)), h.before_covers c d p q a (omega (arith, b, ne)) k m e)
+        ];
+    before_is = λ d c q m e.
+        elim (cases_lt d upto) [
+          | inl l ↦ h.before_is d c q m (sym (push_old before upto 0 d h.before_size l) ∙ e)
+          | inr l ↦ elim (cases_eq d upto) [
+            | inl same ↦ absurd (let z : get_or parents upto None ≡ Some q = subst (λ z. get_or parents z None ≡ Some q) same m in cc)
+            | inr ne ↦ absurd (omega (arith, e, push_past before upto 0 d h.before_size (omega (arith, l, ne))))
+          ]
+        ];
+  }
+
+  some_more : (r : Parent) → get_or parents upto None ≡ Some r → r.number < length parents → AreChains parents (set last r.number (upto + 1)) (before ++ slice_index last r.number ∷ []) (upto + 1)
+  some_more r is within =
+      let room : r.number < length last = omega (arith, within, h.last_size) in
+      let at_upto : (p : Parent) (c : ℕ) → c ≡ upto → IsParent parents c p → p ≡ r =
+      λ p c same k. (let z : get_or parents upto None ≡ Some p = subst (λ z. get_or parents z None ≡ Some p) same k in cc)
+      in
+      record {
+        last_size = length-set last r.number (upto + 1) ∙ h.last_size;
+        before_size = push_size before upto (slice_index last r.number) h.before_size;
+        last_below = λ n.
+            elim (cases_eq n r.number) [
+              | inl e ↦ subst (λ z. slice_index (set last r.number (upto + 1)) z ≤ upto + 1) (sym e) (omega (arith, get_or-set_same last r.number (upto + 1) 0 room))
+              | inr ne ↦ omega (arith, get_or-set_other last r.number n (upto + 1) 0 ne, h.last_below n)
+            ];
+        last_covers = λ c p l k.
+            elim (cases_eq p.number r.number) [
+              | inl e ↦ subst (λ z. c < slice_index (set last r.number (upto + 1)) z) (sym e) (omega (arith, get_or-set_same last r.number (upto + 1) 0 room, l))
+              | inr ne ↦
+                  let apart : c ≡ upto → ⊥ = λ same. ne (ap (λ (y : Parent). y.number) (at_upto p c same k)) in
+                  omega (arith, get_or-set_other last r.number p.number (upto + 1) 0 ne, h.last_covers c p (omega (arith, l, apart)) k)
+            ];
+        last_is = λ n c e.
+            elim (cases_eq n r.number) [
+              | inl same ↦
+                  let set_is : slice_index (set last r.number (upto + 1)) n ≡ upto + 1 = subst (λ z. slice_index (set last r.number (upto + 1)) z ≡ upto + 1) (sym same) (get_or-set_same last r.number (upto + 1) 0 room) in
+                  let here : upto ≡ c = omega (arith, e, set_is) in
+                  (r, (subst (λ z. get_or parents z None ≡ Some r) here is, sym same))
+              | inr ne ↦ h.last_is n c (sym (get_or-set_other last r.number n (upto + 1) 0 ne) ∙ e)
+            ];
+        before_below = push_below before upto (slice_index last r.number) h.before_size (h.last_below r.number) h.before_below;
+        before_covers = λ c d p q a b k m e.
+            elim (cases_eq d upto) [
+              | inl same ↦
+                  let n : p.number ≡ r.number = e ∙ ap (λ (y : Parent). y.number) (at_upto q d same m) in
+                  let covers : c < slice_index last p.number = h.last_covers c p (omega (arith, a, same)) k in
+                  let covers' : c < slice_index last r.number = subst (λ z. c < slice_index last z) n covers in
+                  subst (λ z. c < slice_index (before ++ slice_index last r.number ∷ []) z) (sym same) (omega (arith, push_new before upto (slice_index last r.number) h.before_size, covers'))
+              | inr ne ↦ omega (arith, push_old before upto (slice_index last r.number) d h.before_size (omega (arith, b, ne)), h.before_covers c d p q a (omega (arith, b, ne)) k m e)
+            ];
+        before_is = λ d c q m e.
+            elim (cases_lt d upto) [
+              | inl l ↦ h.before_is d c q m (sym (push_old before upto (slice_index last r.number) d h.before_size l) ∙ e)
+              | inr l ↦ elim (cases_eq d upto) [
+                | inl same ↦
+                    let at : slice_index (before ++ slice_index last r.number ∷ []) d ≡ slice_index last r.number =
+                    subst (λ z. slice_index (before ++ slice_index last r.number ∷ []) z ≡ slice_index last r.number) (sym same) (push_new before upto (slice_index last r.number) h.before_size)
+                    in
+                    let f : (p : Parent) × (IsParent parents c p × (p.number ≡ r.number)) = h.last_is r.number c (sym at ∙ e) in
+                    (f.0, (f.1.0, f.1.1 ∙ ap (λ (y : Parent). y.number) (sym (at_upto q d same m))))
+                | inr ne ↦ absurd (omega (arith, e, push_past before upto (slice_index last r.number) d h.before_size (omega (arith, l, ne))))
+              ]
+            ];
+      }
+
+  more : (o : Option Parent) → get_or parents upto None ≡ o → ((p : Parent) → o ≡ Some p → p.number < length parents) → AreChains parents (with_latest last o upto) (before ++ latest last o ∷ []) (upto + 1)
+  more None is within = none_more is
+  more (Some r) is within = some_more r is (within r refl)
+
+  pub one_more : (last' before' : List ℕ) (o : Option Parent) → get_or parents upto None ≡ o → ((p : Parent) → o ≡ Some p → p.number < length parents)
+      → last' ≡ with_latest last o upto → before' ≡ before ++ latest last o ∷ [] → AreChains parents last' before' (upto + 1)
+  one_more last' before' o is within a b =
+      subst (λ xs. AreChains parents xs before' (upto + 1)) (sym a) (subst (λ xs. AreChains parents (with_latest last o upto) xs (upto + 1)) (sym b) (more o is within))
+
+pub length-with_latest : (last : List ℕ) (o : Option Parent) (child : ℕ) → length (with_latest last o child) ≡ length last
+length-with_latest last None child = refl
+length-with_latest last (Some p) child = length-set last p.number (child + 1)
+
+at_place : (place : Place) (e : Event) (i : ℕ) (events : List Event) (p : Parent) → IsNumbered events → slice_get events i ≡ Some e → parent_at place e ≡ Some p → p.number < i
+at_place First e i events p numbered at is = numbered.first i e p at is
+at_place Second e i events p numbered at is = numbered.second i e p at is
+
+-- an event's parent is one of the events
+pub parent_below : (events : List Event) → IsNumbered events → (place : Place) (c : ℕ) (p : Parent) → IsParent (parents_of place events) c p → p.number < length (parents_of place events)
+parent_below events numbered place c p h =
+    elim (cases_lt c (length events)) [
+      | inl l ↦
+          let e : (e : Event) × (slice_get events c ≡ Some e) = get_some events c l in
+          let k : parent_at place e.0 ≡ Some p =
+          sym (read_is (parents_of place events) c None (parent_at place e.0) (get-map (parent_at place) e.0 events c e.1)) ∙ h
+          in
+          omega (arith, at_place place e.0 c events p numbered e.1 k, l, length-map events (parent_at place))
+      | inr l ↦
+          let none : get_or (parents_of place events) c None ≡ None = get_or_past (parents_of place events) c None (omega (arith, l, length-map events (parent_at place))) in
+          absurd (cc)
+    ]

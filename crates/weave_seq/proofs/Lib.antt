@@ -1,0 +1,16 @@
+mod Chains
+mod Entries
+mod Example
+mod Growth
+mod Least
+mod Lists
+mod Order
+mod Progress
+mod RoundStep
+mod Rounds
+mod Solves
+mod State
+mod Theorem
+mod Tournament
+mod Turns
+mod Unique

@@ -1,0 +1,68 @@
+-- The weave is a solution of the timing rules.
+use Rattle.std.proofs.Common.{◌≡◌, ℕ, Bool, List, map, length, Some, sym, ◌∙◌, ap, subst, refl}
+use Rattle.component.specs.declared.kind.Kind.{Kind}
+use Rattle.event_graph.specs.declared.event.Event.{Event}
+use Rattle.event_graph.specs.Numbered.{IsNumbered}
+use Rattle.event_graph.specs.OneListWeave.{Timed, entry_of, timed_in, timed_of, weave, woven}
+use Rattle.event_graph.specs.TimingSolution.{IsSolution}
+use Rattle.weave_seq.proofs.Entries.{IsOneEach, entry_from_in, entry_in, extends_from, some_from_fired, start_extends}
+use Rattle.weave_seq.proofs.Lists.{In, contains_in, from_map, in_contains, in_map, map_itself, map_map}
+use Rattle.weave_seq.proofs.Progress.{all_fired, holds}
+use Rattle.weave_seq.proofs.Rounds.{HoldsBetween, IsLawful, IsServed, same_event}
+
+module _ {C : Type 0} (serves : C → Kind → Bool) (stepped : C → Kind → ℕ → C × ℕ) (events : List Event) (comps : List C)
+    (lawful : IsLawful serves stepped) (numbered : IsNumbered events) (fits : (e : Event) → In e events → IsServed serves comps e) where
+  pub held : HoldsBetween serves stepped events comps (weave stepped events comps)
+  held = holds serves stepped events comps lawful numbered fits (length events)
+
+  pub woven-is : woven stepped events comps ≡ map (timed_in (weave stepped events comps).fired) events
+  unfolding woven
+  woven-is = refl
+
+  entry_at : (e : Event) → In e events → (x : Timed) × ((entry_of (weave stepped events comps).fired e.number ≡ Some x) × (In x (weave stepped events comps).fired × (x.event ≡ e)))
+  entry_at e m =
+      let r : (x : Timed) × (entry_of (weave stepped events comps).fired e.number ≡ Some x) = some_from_fired _ (all_fired serves stepped events comps lawful numbered fits e m) in
+      let k : In r.0 (weave stepped events comps).fired × (r.0.event.number ≡ e.number) = entry_in (weave stepped events comps).fired e.number r.0 r.1 in
+      (r.0, (r.1, (k.0, same_event events numbered r.0.event e (held.members r.0 k.0) m k.1)))
+
+  pub answer_at : (x : Timed) → In x (weave stepped events comps).fired → timed_in (weave stepped events comps).fired x.event ≡ x
+  answer_at x m = ap (λ o. timed_of x.event o) (entry_from_in (weave stepped events comps).fired held.one_each x x.event.number m refl)
+
+  in_woven : (x : Timed) → In x (weave stepped events comps).fired → In x (woven stepped events comps)
+  in_woven x m =
+      subst (λ xs. In x xs) (sym woven-is)
+      (subst (λ z. In z (map (timed_in (weave stepped events comps).fired) events)) (answer_at x m)
+      (in_map (timed_in (weave stepped events comps).fired) x.event events (held.members x m)))
+
+  from_woven : (x : Timed) → In x (woven stepped events comps) → In x (weave stepped events comps).fired
+  from_woven x m =
+      let r : (e : Event) × (In e events × (timed_in (weave stepped events comps).fired e ≡ x)) = from_map (timed_in (weave stepped events comps).fired) x events (subst (λ xs. In x xs) woven-is m) in
+      let k : (y : Timed) × ((entry_of (weave stepped events comps).fired r.0.number ≡ Some y) × (In y (weave stepped events comps).fired × (y.event ≡ r.0))) = entry_at r.0 r.1.0 in
+      let same : k.0 ≡ x = ap (λ o. timed_of r.0 o) (sym k.1.0) ∙ r.1.1 in
+      subst (λ z. In z (weave stepped events comps).fired) same k.1.1.0
+
+  one_each_woven : IsOneEach (woven stepped events comps)
+  one_each_woven x y mx my q = held.one_each x y (from_woven x mx) (from_woven y my) q
+
+  event_of_answer : (e : Event) → In e events → (timed_in (weave stepped events comps).fired e).event ≡ e
+  event_of_answer e m =
+      let k : (y : Timed) × ((entry_of (weave stepped events comps).fired e.number ≡ Some y) × (In y (weave stepped events comps).fired × (y.event ≡ e))) = entry_at e m in
+      ap (λ o. (timed_of e o).event) k.1.0 ∙ k.1.1.1
+
+  pub solves : IsSolution stepped events comps (woven stepped events comps)
+  solves = record {
+    events_are =
+        ap (λ xs. map (λ (x : Timed). x.event) xs) woven-is
+        ∙ (map_map (timed_in (weave stepped events comps).fired) (λ (x : Timed). x.event) events
+        ∙ map_itself (λ e. (timed_in (weave stepped events comps).fired e).event) events event_of_answer);
+    starts = λ x m.
+        let k : In x (weave stepped events comps).fired = from_woven x (in_contains x (woven stepped events comps) m) in
+        held.starts x k ∙ sym (start_extends (weave stepped events comps).fired (woven stepped events comps) (extends_from (weave stepped events comps).fired (woven stepped events comps) one_each_woven in_woven) x.event (held.parents x k));
+    sorted = (weave stepped events comps).fired;
+    in_order = held.in_order;
+    same = λ x. (
+      λ m. contains_in x (woven stepped events comps) (in_woven x (in_contains x (weave stepped events comps).fired m)),
+      λ m. contains_in x (weave stepped events comps).fired (from_woven x (in_contains x (woven stepped events comps) m)),
+    );
+    finishes = held.turns;
+  }

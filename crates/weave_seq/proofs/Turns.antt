@@ -1,0 +1,43 @@
+-- A component that serves one event after the other.
+use Rattle.std.proofs.Common.{◌≡◌, ◌<◌, ℕ, Bool, List, [], ◌∷◌, ◌++◌, inl, inr, sym, subst, refl, arith}
+use Rattle.std.specs.Prelude.{IsTrue}
+use Rattle.component.specs.declared.kind.Kind.{Kind}
+use Rattle.event_graph.specs.OneListWeave.{Timed}
+use Rattle.event_graph.specs.TimingSolution.{ServesInTurn}
+use Rattle.weave_seq.proofs.Lists.{In}
+
+module _ {C : Type 0} (stepped : C → Kind → ℕ → C × ℕ) where
+  -- the component after it served these
+  abbrev pub left_by : C → List Timed → C
+  left_by c [] = c
+  left_by c (x ∷ xs) = left_by (stepped c x.event.kind x.start).0 xs
+
+  pub left_by-push : (c : C) (xs : List Timed) (y : Timed) → left_by c (xs ++ y ∷ []) ≡ (stepped (left_by c xs) y.event.kind y.start).0
+  left_by-push c [] y = refl
+  left_by-push c (x ∷ xs) y = left_by-push (stepped c x.event.kind x.start).0 xs y
+
+  pub turns_push : (c : C) (xs : List Timed) (y : Timed) → ServesInTurn stepped c xs → y.finish ≡ (stepped (left_by c xs) y.event.kind y.start).1 → ServesInTurn stepped c (xs ++ y ∷ [])
+  turns_push c [] y h e = (e, tt)
+  turns_push c (x ∷ xs) y h e = (h.0, turns_push (stepped c x.event.kind x.start).0 xs y h.1 e)
+
+  -- the finish of one among others
+  pub turns_at : (c : C) (xs : List Timed) (y : Timed) (ys : List Timed) → ServesInTurn stepped c (xs ++ y ∷ ys) → y.finish ≡ (stepped (left_by c xs) y.event.kind y.start).1
+  turns_at c [] y ys h = h.0
+  turns_at c (x ∷ xs) y ys h = turns_at (stepped c x.event.kind x.start).0 xs y ys h.1
+
+  -- each finish is later than its start
+  pub turns_grow : (serves : C → Kind → Bool)
+      → ((c : C) (kind : Kind) (start : ℕ) (other : Kind) → IsTrue (serves c kind) → serves (stepped c kind start).0 other ≡ serves c other)
+      → ((c : C) (kind : Kind) (start : ℕ) → IsTrue (serves c kind) → start < (stepped c kind start).1)
+      → (c : C) (xs : List Timed) → ((x : Timed) → In x xs → IsTrue (serves c x.event.kind)) → ServesInTurn stepped c xs → (x : Timed) → In x xs → x.start < x.finish
+  turns_grow serves stays grows c [] each h x m = absurd m
+  turns_grow serves stays grows c (y ∷ ys) each h x m =
+      elim m [
+        | inl same ↦
+            let P : Timed → Type 0 = λ z. z.start < z.finish in
+            subst P same (let g : y.start < (stepped c y.event.kind y.start).1 = grows c y.event.kind y.start (each y (inl refl)) in omega (arith, g, h.0))
+        | inr rest ↦
+            turns_grow serves stays grows (stepped c y.event.kind y.start).0 ys
+            (λ z k. subst IsTrue (sym (stays c y.event.kind y.start z.event.kind (each y (inl refl)))) (each z (inr k)))
+            h.1 x rest
+      ]

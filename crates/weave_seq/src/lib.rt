@@ -1,0 +1,15 @@
+//! The weave on one list.
+#![tactic(auto)]
+
+mod children;
+pub mod laws;
+mod link;
+mod queue;
+mod refresh;
+mod start;
+#[cfg(test)]
+mod tests;
+mod times;
+mod weave;
+
+pub use weave::weave_seq;
