@@ -1,2 +1,4 @@
+mod Fresh
+mod FreshThere
 mod SameState
 mod Stepped

@@ -1,5 +1,5 @@
 -- Banks and controllers with the same numbers are the same: what their types keep says nothing more.
-use Rattle.std.proofs.Common.{◌≡◌, ◌+◌, ◌≤◌, ℕ, max}
+use Rattle.std.proofs.Common.{◌≡◌, ◌+◌, ◌≤◌, ℕ, max, subst}
 use Rattle.std.proofs.Math.Bridge.{le_prop}
 use Rattle.component.specs.declared.kind.Kind.{Kind}
 use Rattle.component.specs.declared.bank.Bank.{Bank}
@@ -15,3 +15,33 @@ pub controller_with_free : (c : Controller) (kind : Kind) (start : ℕ) (p : 1 �
     → (let made : Controller = record { read = c.read; write = c.write; occupancy = c.occupancy; free = max start c.free + c.occupancy; read_counts = p; write_counts = q } in (made, max start c.free + controller_latency c kind)) ≡ controller_step c kind start
 controller_with_free c kind start p q =
     cc (le_prop p c.read_counts, le_prop q c.write_counts)
+
+pub same_bank : (a b : Bank) → a.lookup ≡ b.lookup → a.remote ≡ b.remote → a.fill ≡ b.fill → a.occupancy ≡ b.occupancy → a.free ≡ b.free → a ≡ b
+same_bank a b lookup remote fill occupancy free =
+    let made : (l r f o e : ℕ) → 1 ≤ l → 1 ≤ r → 1 ≤ f → Bank =
+    λ l r f o e p q s. record { lookup = l; remote = r; fill = f; occupancy = o; free = e; lookup_counts = p; remote_counts = q; fill_counts = s }
+    in
+    let own : (p : 1 ≤ a.lookup) (q : 1 ≤ a.remote) (s : 1 ≤ a.fill)
+    → made a.lookup a.remote a.fill a.occupancy a.free a.lookup_counts a.remote_counts a.fill_counts ≡ made a.lookup a.remote a.fill b.occupancy b.free p q s =
+    λ p q s. cc (le_prop p a.lookup_counts, le_prop q a.remote_counts, le_prop s a.fill_counts)
+    in
+    let with_fill : (p : 1 ≤ a.lookup) (q : 1 ≤ a.remote) (s : 1 ≤ b.fill) → a ≡ made a.lookup a.remote b.fill b.occupancy b.free p q s =
+    subst (λ n. (p : 1 ≤ a.lookup) (q : 1 ≤ a.remote) (s : 1 ≤ n) → a ≡ made a.lookup a.remote n b.occupancy b.free p q s) fill own
+    in
+    let with_remote : (p : 1 ≤ a.lookup) (q : 1 ≤ b.remote) (s : 1 ≤ b.fill) → a ≡ made a.lookup b.remote b.fill b.occupancy b.free p q s =
+    subst (λ n. (p : 1 ≤ a.lookup) (q : 1 ≤ n) (s : 1 ≤ b.fill) → a ≡ made a.lookup n b.fill b.occupancy b.free p q s) remote with_fill
+    in
+    subst (λ n. (p : 1 ≤ n) (q : 1 ≤ b.remote) (s : 1 ≤ b.fill) → a ≡ made n b.remote b.fill b.occupancy b.free p q s) lookup with_remote b.lookup_counts b.remote_counts b.fill_counts
+
+pub same_controller : (a b : Controller) → a.read ≡ b.read → a.write ≡ b.write → a.occupancy ≡ b.occupancy → a.free ≡ b.free → a ≡ b
+same_controller a b read write occupancy free =
+    let made : (r w o e : ℕ) → 1 ≤ r → 1 ≤ w → Controller =
+    λ r w o e p q. record { read = r; write = w; occupancy = o; free = e; read_counts = p; write_counts = q }
+    in
+    let own : (p : 1 ≤ a.read) (q : 1 ≤ a.write) → made a.read a.write a.occupancy a.free a.read_counts a.write_counts ≡ made a.read a.write b.occupancy b.free p q =
+    λ p q. cc (le_prop p a.read_counts, le_prop q a.write_counts)
+    in
+    let with_write : (p : 1 ≤ a.read) (q : 1 ≤ b.write) → a ≡ made a.read b.write b.occupancy b.free p q =
+    subst (λ n. (p : 1 ≤ a.read) (q : 1 ≤ n) → a ≡ made a.read n b.occupancy b.free p q) write own
+    in
+    subst (λ n. (p : 1 ≤ n) (q : 1 ≤ b.write) → a ≡ made n b.write b.occupancy b.free p q) read with_write b.read_counts b.write_counts

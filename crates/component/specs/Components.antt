@@ -1,6 +1,6 @@
 -- The components of a machine.
 use Rattle.std.specs.Prelude.{◌≡◌, ◌+◌, List, length}
-use Rattle.std.specs.List.{AllWithin}
+use Rattle.std.specs.List.{All, AllWithin}
 use Rattle.machine_desc.specs.declared.machine.L2.{L2}
 use Rattle.machine_desc.specs.declared.machine.Controllers.{Controllers}
 use Rattle.machine_desc.specs.declared.machine.Machine.{Machine}
@@ -8,6 +8,7 @@ use Rattle.component.specs.declared.bank.Bank.{Bank}
 use Rattle.component.specs.declared.controller.Controller.{Controller}
 use Rattle.component.specs.declared.comp.Comp.{Comp}
 use Rattle.component.specs.declared.comp.Comp.TheVariants.{Bank as ABank, Controller as AController}
+use Rattle.component.specs.ComponentStep.{free_of}
 
 -- a bank with the times of this shared cache; a look-up that another core's copy delays takes both
 pub record HasBankTimes (l2 : L2) (b : Bank) : Type 0 where
@@ -35,3 +36,8 @@ pub record AreComponents (m : Machine) (comps : List Comp) : Type 0 where
   pub count : length comps ≡ m.l2.banks + m.controllers.count
   pub banks : AllWithin (IsBankOf m) comps 0 m.l2.banks
   pub controllers : AllWithin (IsControllerOf m) comps m.l2.banks (length comps)
+
+-- the components of a machine before their first event: each is free from cycle 0 on
+pub record AreFresh (m : Machine) (comps : List Comp) : Type 0 where
+  pub are : AreComponents m comps
+  pub free : All (λ c. free_of c ≡ 0) comps

@@ -1,8 +1,7 @@
 // The components of a machine.
-ghost use Rattle.std.specs.Prelude.{◌≡◌, IfOk, All};
+ghost use Rattle.std.specs.Prelude.{◌≡◌, IfOk};
 ghost use Rattle.machine_desc.specs.Machine.{IsMachine, IsL2, IsControllers};
-ghost use Rattle.component.specs.ComponentStep.{free_of};
-ghost use Rattle.component.specs.Components.{AreComponents, HasBankTimes, HasControllerTimes};
+ghost use Rattle.component.specs.Components.{AreFresh, HasBankTimes, HasControllerTimes};
 
 use crate::{Bank, Comp, Comps, Controller};
 use machine_desc::{Controllers, L2, Machine};
@@ -12,8 +11,7 @@ use zs_num::NoMemory;
 /// The components of a machine in order of their numbers, all free: the banks and then the controllers.
 pub fn components(alloc: Global, m: &Machine) -> Result<Comps<Comp>, NoMemory>
     requires { IsMachine m.now }
-    ensures components { IfOk result (AreComponents m.now) }
-    ensures free { IfOk result (All (λ c. free_of c ≡ 0)) }
+    ensures { IfOk result (AreFresh m.now) }
 {
     let mut list = Vec::new(alloc);
     'banks: for _bank in 0..m.l2.banks {

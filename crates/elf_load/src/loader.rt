@@ -14,7 +14,8 @@ use zs_num::{Bytes, NoMemory};
 /// fails.
 pub fn load(alloc: Global, file: &[u8], base: u64, size: u64) -> Result<Image, LoadFail>
     requires { base + size ≤ 2 ^ 48 }
-    ensures { Loads result (image_of file.now base size) }
+    ensures answer { Loads result (image_of file.now base size) }
+    ensures memory { IfOk result (λ image. (image.base ≡ base) × (image.size ≡ size)) }
 {
     if file.len() < HEADER_LEN {
         return Err(LoadFail::Bad(BadElf::Short));

@@ -1,10 +1,11 @@
 -- What is true of each event of an interval.
 use Rattle.std.proofs.Common.{◌≡◌, ◌+◌, ◌-◌, ◌<◌, ◌≤◌, ℕ, Bool, true, false, zero, suc, List, [], ◌∷◌, ◌++◌, length, take, fold, Option, None, Some, refl, ap, ◌∙◌, sym, arith, subst, ◌⊎◌, inl, inr, zero-add, if◌then◌else◌, ◌==◌, length-append, sum_by, get_or, add_assoc}
-use Rattle.std.specs.List.{slice_get, filter, last_or, enumerate_from}
+use Rattle.std.specs.List.{All, slice_get, filter, last_or, enumerate_from}
 use Rattle.std.specs.Option.{option_map}
 use Rattle.std.proofs.Math.Dec.{eqb-suc-zero}
 use Rattle.std.proofs.lemmas.Bool.{cases_lt, cond-false}
 use Rattle.std.proofs.lemmas.List.{length-map}
+use Rattle.std.proofs.lemmas.List.Elements.{All-head, All-tail}
 use Rattle.std.proofs.lemmas.List.Sums.{sum_by_more_le, sum_by-cons}
 use Rattle.std.proofs.lemmas.List.FromFn.{length-enumerate_from}
 use Rattle.std.proofs.lemmas.Option.{slice_get_within, slice_get-map}
@@ -19,7 +20,7 @@ use Rattle.event_graph.specs.EventGraph.{event_at, access_events, all_events, pa
 use Rattle.event_graph.proofs.Places.{slice_get_left, slice_get_right, slice_get_enumerate}
 
 -- what a map made of an option
-mapped_some : {A B : Type 0} (f : A → B) (o : Option A) (y : B) → option_map f o ≡ Some y → (x : A) × (o ≡ Some x) × (y ≡ f x)
+pub mapped_some : {A B : Type 0} (f : A → B) (o : Option A) (y : B) → option_map f o ≡ Some y → (x : A) × (o ≡ Some x) × (y ≡ f x)
 mapped_some f None y is = cc
 mapped_some f (Some x) y is = (x, refl, cc)
 
@@ -94,23 +95,29 @@ few_at pieces entries items i d seen len room same below is long few =
     sum_by_more_le (λ (e : Entry). length (pieces e)) entries i d inside in
     rw same (omega arith)
 
--- what is true of the events of each piece is true of all events
-module _ (pieces : Entry → List Piece) (R : Event → Type 0) (each : (before : List Event) (e : Entry) (k : ℕ) (p : Piece) → slice_get (pieces e) k ≡ Some p → R (event_at before e (pieces e) k p)) where
-  every_from : (before : List Event) → ((i : ℕ) (ev : Event) → slice_get before i ≡ Some ev → R ev) → (entries : List Entry)
+-- where Q holds of each access, what is then true of the events of its pieces is true of all events
+module _ (pieces : Entry → List Piece) (Q : Entry → Type 0) (R : Event → Type 0) (each : (before : List Event) (e : Entry) (k : ℕ) (p : Piece) → Q e → slice_get (pieces e) k ≡ Some p → R (event_at before e (pieces e) k p)) where
+  every_from : (before : List Event) → ((i : ℕ) (ev : Event) → slice_get before i ≡ Some ev → R ev) → (entries : List Entry) → All Q entries
       → (i : ℕ) (ev : Event) → slice_get (fold (λ seen e. seen ++ access_events seen e (pieces e)) before entries) i ≡ Some ev → R ev
-  every_from before so_far [] i ev is = so_far i ev is
-  every_from before so_far (e ∷ entries) i ev is =
+  every_from before so_far [] all i ev is = so_far i ev is
+  every_from before so_far (e ∷ entries) all i ev is =
       every_from (before ++ access_events before e (pieces e))
       (λ j w at'. elim (joined before (access_events before e (pieces e)) j w at') [
         | inl old ↦ so_far j w old
         | inr new ↦
             let made = of_access before e (pieces e) new.0 w new.2 in
-            subst R (sym made.2) (each before e new.0 made.0 made.1)
+            subst R (sym made.2) (each before e new.0 made.0 (All-head Q e entries all) made.1)
       ])
-      entries i ev is
+      entries (All-tail Q e entries all) i ev is
 
-  pub every : (entries : List Entry) (i : ℕ) (ev : Event) → slice_get (all_events pieces entries) i ≡ Some ev → R ev
-  every entries i ev is = every_from [] (λ j w at'. cc) entries i ev is
+  pub every_of : (entries : List Entry) → All Q entries → (i : ℕ) (ev : Event) → slice_get (all_events pieces entries) i ≡ Some ev → R ev
+  every_of entries all i ev is = every_from [] (λ j w at'. cc) entries all i ev is
+
+-- what is true of the events of each piece is true of all events
+pub every : (pieces : Entry → List Piece) (R : Event → Type 0) → ((before : List Event) (e : Entry) (k : ℕ) (p : Piece) → slice_get (pieces e) k ≡ Some p → R (event_at before e (pieces e) k p))
+    → (entries : List Entry) (i : ℕ) (ev : Event) → slice_get (all_events pieces entries) i ≡ Some ev → R ev
+every pieces R each entries i ev is =
+    every_of pieces (λ e. Unit {0}) R (λ before e k p any at'. each before e k p at') entries (λ k d below. tt) i ev is
 
 -- the numbers of an interval's events
 module _ (pieces : Entry → List Piece) (law : (e : Entry) → ParentsComeBefore (pieces e)) where

@@ -1,5 +1,8 @@
 -- What is true of every machine's graphs.
-use Rattle.std.specs.Prelude.{List}
+use Rattle.std.specs.Prelude.{◌*◌, ◌≤◌, List, length, sum_by}
+use Rattle.machine_desc.specs.declared.machine.L1.{L1}
+use Rattle.machine_desc.specs.declared.machine.L2.{L2}
+use Rattle.machine_desc.specs.declared.machine.Controllers.{Controllers}
 use Rattle.machine_desc.specs.declared.machine.Machine.{Machine}
 use Rattle.machine_desc.specs.Machine.{IsMachine}
 use Rattle.zs_num.specs.declared.entry.Entry.{Entry}
@@ -21,3 +24,8 @@ PlainTellsComponents = (m : Machine) (comps : List Comp) → AreComponents m com
 abbrev pub PlainGraphsFit : Type 0
 PlainGraphsFit = (m : Machine) (comps : List Comp) (entries : List Entry) → IsMachine m → AreComponents m comps
     → GraphFits comp_serves comp_latency (all_events (pieces_of m.l1 m.l2 m.controllers) entries) comps
+
+-- an access has four events at most
+abbrev pub PlainAccessesHaveFewEvents : Type 0
+PlainAccessesHaveFewEvents = (l1 : L1) (l2 : L2) (all : Controllers) (entries : List Entry)
+    → sum_by (λ e. length (pieces_of l1 l2 all e)) entries ≤ 4 * length entries

@@ -10,3 +10,5 @@ pub mod EventGraph
 pub mod NextEvent
 pub mod OneListWeave
 pub mod TimingSolution
+pub mod Near
+pub mod Timely

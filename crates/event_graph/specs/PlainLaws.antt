@@ -30,8 +30,6 @@ module _ (l1 : L1) (l2 : L2) (all : Controllers) (ok1 : IsL1 l2.banks l1) (ok2 :
   plain_time_small (Miss false) = omega arith
 
 -- by outcome and place
-
--- by outcome and place
 module _ (l1 : L1) (l2 : L2) (all : Controllers) (bank controller : ℕ) where
   first_before : (o : Outcome) (k : ℕ) (p : Piece) (i : ℕ) → slice_get (pieces_by l1 l2 all bank controller o) k ≡ Some p → p.first ≡ Some i → i < k
   first_before Hit k p i is parent = cc

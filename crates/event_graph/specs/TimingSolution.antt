@@ -1,5 +1,5 @@
 -- The solutions of the timing rules, which say nothing of an order of execution.
-use Rattle.std.specs.Prelude.{◌≡◌, ◌==◌, ◌↔◌, ℕ, IsTrue, List, [], ◌∷◌, map, slice_get, Option, Some}
+use Rattle.std.specs.Prelude.{◌≡◌, ◌==◌, ◌↔◌, ℕ, IsTrue, List, [], ◌∷◌, map, slice_get, Some}
 use Rattle.std.specs.List.{AllPairs, Contains, filter}
 use Rattle.component.specs.declared.kind.Kind.{Kind}
 use Rattle.event_graph.specs.declared.event.Event.{Event}

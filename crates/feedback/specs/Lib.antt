@@ -1,1 +1,2 @@
 pub mod FeedbackDelay
+pub mod Laws

@@ -8,7 +8,8 @@ use Rattle.event_graph.specs.declared.event.Event.{Event}
 use Rattle.event_graph.specs.declared.event.Parent.{Parent}
 use Rattle.event_graph.specs.Numbered.{IsNumbered}
 use Rattle.event_graph.specs.OneListWeave.{AreSmallSteps, IsSmallStep, Timed, Weave, after, after_parent, entry_of, finish_in, finish_of, least_ready, round, start_of, weave}
-use Rattle.weave_seq.specs.Growth.{AreNear, BeginBy, IsNear, IsPaced}
+use Rattle.event_graph.specs.Near.{AreNear, IsNear}
+use Rattle.weave_seq.specs.Growth.{BeginBy, IsPaced}
 use Rattle.weave_seq.proofs.Entries.{entry_in}
 use Rattle.weave_seq.proofs.Least.{IsLeast, least_some}
 use Rattle.weave_seq.proofs.Lists.{In, get-set_other, get-set_same, in_at, in_push_cases}

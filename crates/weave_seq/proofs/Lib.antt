@@ -2,8 +2,10 @@ mod Chains
 mod Entries
 mod Example
 mod Growth
+mod Kept
 mod Least
 mod Lists
+mod MachineGrowth
 mod Order
 mod Progress
 mod RoundStep
@@ -11,6 +13,7 @@ mod Rounds
 mod Solves
 mod State
 mod Theorem
+mod Timely
 mod Tournament
 mod Turns
 mod Unique

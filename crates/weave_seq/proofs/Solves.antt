@@ -19,7 +19,7 @@ module _ {C : Type 0} (serves : C → Kind → Bool) (stepped : C → Kind → �
   unfolding woven
   woven-is = refl
 
-  entry_at : (e : Event) → In e events → (x : Timed) × ((entry_of (weave stepped events comps).fired e.number ≡ Some x) × (In x (weave stepped events comps).fired × (x.event ≡ e)))
+  pub entry_at : (e : Event) → In e events → (x : Timed) × ((entry_of (weave stepped events comps).fired e.number ≡ Some x) × (In x (weave stepped events comps).fired × (x.event ≡ e)))
   entry_at e m =
       let r : (x : Timed) × (entry_of (weave stepped events comps).fired e.number ≡ Some x) = some_from_fired _ (all_fired serves stepped events comps lawful numbered fits e m) in
       let k : In r.0 (weave stepped events comps).fired × (r.0.event.number ≡ e.number) = entry_in (weave stepped events comps).fired e.number r.0 r.1 in

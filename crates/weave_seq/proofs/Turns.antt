@@ -1,5 +1,5 @@
 -- A component that serves one event after the other.
-use Rattle.std.proofs.Common.{◌≡◌, ◌<◌, ℕ, Bool, List, [], ◌∷◌, ◌++◌, inl, inr, sym, subst, refl, arith}
+use Rattle.std.proofs.Common.{◌≡◌, ◌+◌, ◌<◌, ◌≤◌, ℕ, Bool, List, [], ◌∷◌, ◌++◌, inl, inr, sym, subst, refl, arith}
 use Rattle.std.specs.Prelude.{IsTrue}
 use Rattle.component.specs.declared.kind.Kind.{Kind}
 use Rattle.event_graph.specs.OneListWeave.{Timed}
@@ -40,4 +40,25 @@ module _ {C : Type 0} (stepped : C → Kind → ℕ → C × ℕ) where
             turns_grow serves stays grows (stepped c y.event.kind y.start).0 ys
             (λ z k. subst IsTrue (sym (stays c y.event.kind y.start z.event.kind (each y (inl refl)))) (each z (inr k)))
             h.1 x rest
+      ]
+
+  -- each finish is later than its start by the floor that the component had at first
+  pub turns_take : (serves : C → Kind → Bool) (floor : C → Kind → ℕ)
+      → ((c : C) (kind : Kind) (start : ℕ) (other : Kind) → IsTrue (serves c kind) → serves (stepped c kind start).0 other ≡ serves c other)
+      → ((c : C) (kind : Kind) (start : ℕ) (other : Kind) → IsTrue (serves c kind) → floor (stepped c kind start).0 other ≡ floor c other)
+      → ((c : C) (kind : Kind) (start : ℕ) → IsTrue (serves c kind) → start + floor c kind ≤ (stepped c kind start).1)
+      → (c : C) (xs : List Timed) → ((x : Timed) → In x xs → IsTrue (serves c x.event.kind)) → ServesInTurn stepped c xs → (x : Timed) → In x xs → x.start + floor c x.event.kind ≤ x.finish
+  turns_take serves floor stays floor_stays holds c [] each h x m = absurd m
+  turns_take serves floor stays floor_stays holds c (y ∷ ys) each h x m =
+      elim m [
+        | inl same ↦
+            let P : Timed → Type 0 = λ z. z.start + floor c z.event.kind ≤ z.finish in
+            subst P same (let g : y.start + floor c y.event.kind ≤ (stepped c y.event.kind y.start).1 = holds c y.event.kind y.start (each y (inl refl)) in omega (arith, g, h.0))
+        | inr rest ↦
+            let later : x.start + floor (stepped c y.event.kind y.start).0 x.event.kind ≤ x.finish =
+            turns_take serves floor stays floor_stays holds (stepped c y.event.kind y.start).0 ys
+            (λ z k. subst IsTrue (sym (stays c y.event.kind y.start z.event.kind (each y (inl refl)))) (each z (inr k)))
+            h.1 x rest
+            in
+            omega (arith, later, floor_stays c y.event.kind y.start x.event.kind (each y (inl refl)))
       ]

@@ -1,4 +1,5 @@
 pub mod Chains
 pub mod Growth
+pub mod Laws
 pub mod Times
 pub mod Tournament

@@ -3,7 +3,8 @@ ghost use Rattle.std.specs.Prelude.{◌≡◌, ◌<◌, ◌≤◌, IsTrue, Some,
 ghost use Rattle.event_graph.specs.declared.event.Parent.{Parent};
 ghost use Rattle.event_graph.specs.Fits.{EventFits, GraphFits};
 ghost use Rattle.event_graph.specs.Numbered.{IsNumbered};
-ghost use Rattle.weave_seq.specs.Growth.{AreNear, BeginBy, IsNear};
+ghost use Rattle.event_graph.specs.Near.{AreNear, IsNear};
+ghost use Rattle.weave_seq.specs.Growth.{BeginBy};
 
 use crate::{laws, weave_seq};
 use component::{Component, Comps, Kind};

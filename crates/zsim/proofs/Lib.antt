@@ -1,3 +1,6 @@
 pub mod Instructions
-pub mod Intervals
+pub mod IntervalWeave
+pub mod NextInterval
 pub mod Pieces
+pub mod RunEnds
+pub mod RunSoFar

@@ -1,5 +1,6 @@
 -- What a core is at a moment.
 use Rattle.std.specs.Prelude.{ℕ, List, Option}
+use Rattle.zsim.specs.declared.pending.Pending.{Pending}
 use Rattle.zsim.specs.declared.why.Why.{Why}
 
 -- as its program sees it
@@ -8,6 +9,8 @@ pub record CoreState : Type 0 where
   pub registers : List ℕ
   -- the address of the next instruction
   pub pc : ℕ
+  -- the access whose reply the instruction at pc waits for, if it does
+  pub pending : Option Pending
   -- why it halted, if it did
   pub halted : Option Why
 

@@ -1,14 +1,19 @@
--- What an instruction does to the registers and pc (RISC-V Unprivileged ISA manual, "RV32I Base Integer Instruction
--- Set" and "RV64I Base Integer Instruction Set"). Numbers are of 64 bits, and sums are modulo 2^64.
-use Rattle.std.specs.Prelude.{ℕ, ◌+◌, ◌%◌, ◌^◌, ◌==◌, Bool, ◌||◌, if◌then◌else◌, List, slice_index, slice_set, Option, Some, None}
+-- What an instruction does to the registers and pc, and which access it asks for (RISC-V Unprivileged ISA manual, "RV32I
+-- Base Integer Instruction Set" and "RV64I Base Integer Instruction Set"). Numbers are of 64 bits, and sums are modulo
+-- 2^64.
+use Rattle.std.specs.Prelude.{ℕ, ◌+◌, ◌%◌, ◌^◌, ◌==◌, nat_le, Bool, ◌||◌, if◌then◌else◌, List, slice_index, slice_set, Option, Some, None}
 use Rattle.std.specs.Int.{w64, cast_unsigned}
 use Rattle.rv_decode.specs.declared.inst.Inst.{Inst}
 use Rattle.rv_decode.specs.declared.name.Name.{Name}
-use Rattle.rv_decode.specs.declared.name.Name.TheVariants.{Lui, Auipc, Jal, Beq, Bne, Addi, Add, Sub, And, Or, Xor, Ecall}
+use Rattle.rv_decode.specs.declared.name.Name.TheVariants.{Lui, Auipc, Jal, Beq, Bne, Ld, Sd, Addi, Add, Sub, And, Or, Xor, Ecall}
 use Rattle.rv_decode.specs.InstructionTable.{decoded}
 use Rattle.rv_alu.specs.Arithmetic.{result_of}
 use Rattle.rv_alu.specs.Branch.{is_taken}
-use Rattle.elf_load.specs.MemoryImage.{MemoryImage, fetched}
+use Rattle.elf_load.specs.MemoryImage.{MemoryImage, fetched, is_within}
+use Rattle.zs_num.specs.Request.{addr_of, width_of}
+use Rattle.zs_num.specs.declared.request.Request.{Request}
+use Rattle.zs_num.specs.declared.request.Request.TheVariants.{Load, Store}
+use Rattle.zsim.specs.declared.pending.Pending.{Pending}
 use Rattle.zsim.specs.declared.why.Why.{Why}
 use Rattle.zsim.specs.declared.why.Why.TheVariants.{Exit, Illegal, Misaligned, AtomicAlign, Fetch, Access, Break}
 use Rattle.zsim.specs.CoreState.{CoreState}
@@ -46,10 +51,30 @@ abbrev pub branches : CoreState → Bool → (target : ℕ) → CoreState
 branches core taken target = if taken then jumps core 0 target else goes_on core 0 0
 
 -- A call of the environment by its number in a7 (x17): 93 and 94 end the program with the number in a0 (x10), as on
--- Linux. No other call is known yet.
+-- Linux. Every other call halts the core as illegal: it is not carried out yet.
 unfoldable pub called : ℕ → CoreState → CoreState
 called word core =
     if (register core 17 == 93) || (register core 17 == 94) then halts (Exit (register core 10)) core else halts (Illegal word) core
+
+-- an access lies in one line of 64 bytes
+abbrev pub is_in_line : Request → Bool
+is_in_line request = nat_le (addr_of request % 64 + width_of request) 64
+
+-- all its bytes are in memory
+abbrev pub is_in_memory : MemoryImage → Request → Bool
+is_in_memory image request = is_within (addr_of request) (width_of request) image.base (image.base + image.size)
+
+-- The core asks for an access, whose reply goes to a register. An access that crosses a line halts the core as illegal:
+-- it is not carried out yet. One that is not wholly in memory halts the core too.
+unfoldable pub asks : MemoryImage → (word : ℕ) → Pending → CoreState → CoreState
+asks image word pending core =
+    if is_in_line pending.request
+    then (if is_in_memory image pending.request then record core { pending = Some pending } else halts (Access (addr_of pending.request)) core)
+    else halts (Illegal word) core
+
+-- the reply to the core's access: it goes to the register, and the core to the next instruction
+unfoldable pub answered : (register reply : ℕ) → CoreState → CoreState
+answered register reply core = record (goes_on core register reply) { pending = None }
 
 -- the immediate as a number of 64 bits, in two's complement
 abbrev pub immediate : Inst → ℕ
@@ -63,35 +88,49 @@ relative core i = (core.pc + immediate i) % 2 ^ 64
 abbrev pub computes : CoreState → Inst → (second : ℕ) → CoreState
 computes core i second = goes_on core i.rd (result_of i.name (register core i.rs1) second)
 
+-- the address that the immediate is away from rs1
+abbrev pub address : CoreState → Inst → ℕ
+address core i = (register core i.rs1 + immediate i) % 2 ^ 64
+
+-- the eight bytes of a load or a store; the reply to a store goes to x0, which drops it
+abbrev pub load_of : CoreState → Inst → Pending
+load_of core i = record { request = Load (address core i) 8; register = i.rd }
+
+abbrev pub store_of : CoreState → Inst → Pending
+store_of core i = record { request = Store (address core i) 8 (register core i.rs2); register = 0 }
+
 -- an instruction that this word spells, by its name
-abbrev pub carried_out : (word : ℕ) → Name → Inst → CoreState → CoreState
-carried_out word Lui i core = goes_on core i.rd (immediate i)
-carried_out word Auipc i core = goes_on core i.rd (relative core i)
-carried_out word Jal i core = jumps core i.rd (relative core i)
-carried_out word Beq i core = branches core (is_taken Beq (register core i.rs1) (register core i.rs2)) (relative core i)
-carried_out word Bne i core = branches core (is_taken Bne (register core i.rs1) (register core i.rs2)) (relative core i)
-carried_out word Addi i core = computes core i (immediate i)
-carried_out word Add i core = computes core i (register core i.rs2)
-carried_out word Sub i core = computes core i (register core i.rs2)
-carried_out word And i core = computes core i (register core i.rs2)
-carried_out word Or i core = computes core i (register core i.rs2)
-carried_out word Xor i core = computes core i (register core i.rs2)
-carried_out word Ecall i core = called word core
+abbrev pub carried_out : MemoryImage → (word : ℕ) → Name → Inst → CoreState → CoreState
+carried_out image word Lui i core = goes_on core i.rd (immediate i)
+carried_out image word Auipc i core = goes_on core i.rd (relative core i)
+carried_out image word Jal i core = jumps core i.rd (relative core i)
+carried_out image word Beq i core = branches core (is_taken Beq (register core i.rs1) (register core i.rs2)) (relative core i)
+carried_out image word Bne i core = branches core (is_taken Bne (register core i.rs1) (register core i.rs2)) (relative core i)
+carried_out image word Ld i core = asks image word (load_of core i) core
+carried_out image word Sd i core = asks image word (store_of core i) core
+carried_out image word Addi i core = computes core i (immediate i)
+carried_out image word Add i core = computes core i (register core i.rs2)
+carried_out image word Sub i core = computes core i (register core i.rs2)
+carried_out image word And i core = computes core i (register core i.rs2)
+carried_out image word Or i core = computes core i (register core i.rs2)
+carried_out image word Xor i core = computes core i (register core i.rs2)
+carried_out image word Ecall i core = called word core
 -- every other instruction is still to come
-carried_out word _ i core = halts (Illegal word) core
+carried_out image word _ i core = halts (Illegal word) core
 
 -- a word that spells this instruction, or none
-unfoldable pub effect : ℕ → Option Inst → CoreState → CoreState
-effect word None core = halts (Illegal word) core
-effect word (Some i) core = carried_out word i.name i core
+unfoldable pub effect : MemoryImage → ℕ → Option Inst → CoreState → CoreState
+effect image word None core = halts (Illegal word) core
+effect image word (Some i) core = carried_out image word i.name i core
 
--- the core after the instruction at pc, or halted where there is no word at pc
-abbrev pub after_fetch : Option ℕ → CoreState → CoreState
-after_fetch None core = halts (Fetch core.pc) core
-after_fetch (Some word) core = effect word (decoded word) core
+-- The core after the instruction at pc, or halted where there is no word at pc. An instruction with an access is done
+-- when its reply has come.
+abbrev pub after_fetch : MemoryImage → Option ℕ → CoreState → CoreState
+after_fetch image None core = halts (Fetch core.pc) core
+after_fetch image (Some word) core = effect image word (decoded word) core
 
 abbrev pub stepped : MemoryImage → CoreState → CoreState
-stepped image core = after_fetch (fetched image.segments core.pc) core
+stepped image core = after_fetch image (fetched image.segments core.pc) core
 
 -- an instruction is counted and costs a cycle, unless the core halted by a fault
 abbrev pub cost : Option Why → ℕ

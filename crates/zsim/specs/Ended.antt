@@ -19,7 +19,7 @@ use Rattle.zsim.specs.declared.limits.TheConstants.{EXE_LIMIT}
 use Rattle.zsim.specs.declared.results.Ending.{Ending}
 use Rattle.zsim.specs.declared.results.Ending.TheVariants as ending
 use Rattle.zsim.specs.Results.{Results}
-use Rattle.zsim.specs.ReferenceRun.{reference_run, IsLegalSoFar}
+use Rattle.zsim.specs.ReferenceRun.{IsLegalSoFar, IsRunOf}
 use Rattle.zsim.specs.ReportText.{report_text}
 
 -- A stream that tells its bytes had some, and has now gained these.
@@ -39,13 +39,13 @@ refused_elf (Err bad) = Err (status.BadElf bad)
 unfoldable pub checked : List ℕ → Result MemoryImage Status
 checked exe = if nat_lt EXE_LIMIT (length exe) then Err (status.TooLong Exe) else refused_elf (image_of exe plain_machine.memory.base plain_machine.memory.size)
 
--- the run of an executable under a schedule, where the checks let it pass and the schedule is legal for its run
-abbrev pub run_of_image : Result MemoryImage Status → List (List ℕ) → Option Results
-run_of_image (Ok image) lists = reference_run plain_machine image lists
-run_of_image (Err refusal) lists = None
+-- what the run of an executable under a schedule gives: the checks let it pass, and the schedule is legal for its run
+abbrev pub IsRunOfImage : Result MemoryImage Status → List (List ℕ) → Results → Type 0
+IsRunOfImage (Ok image) lists results = IsRunOf plain_machine image lists results
+IsRunOfImage (Err refusal) lists results = ⊥
 
-abbrev pub run_of : (exe : List ℕ) → List (List ℕ) → Option Results
-run_of exe lists = run_of_image (checked exe) lists
+abbrev pub IsRunOfExe : (exe : List ℕ) → List (List ℕ) → Results → Type 0
+IsRunOfExe exe lists results = IsRunOfImage (checked exe) lists results
 
 -- the files failed to read this name in the call, and that is their latest fault
 abbrev pub FailedToRead : {F : Type 0} → (faults : F → ℕ) → (latest : F → Option Fault) → (before after : F) → (name : List ℕ) → Type 0
@@ -92,7 +92,7 @@ HasCause status.NoMemory command read_failed exe write_failed = Unit {0}
 -- The run that was reported ended in this way, and the stream gained its whole report.
 abbrev pub IsReport : Ending → (exe : List ℕ) → (lists : List (List ℕ)) → (gained : List ℕ → Type 0) → Type 0
 IsReport ending exe lists gained =
-    (r : Results) × (run_of exe lists ≡ Some r) × (r.ending ≡ ending) × gained (report_text r)
+    (r : Results) × IsRunOfExe exe lists r × (r.ending ≡ ending) × gained (report_text r)
 
 abbrev pub Reports : Status → (exe : List ℕ) → (lists : List (List ℕ)) → (gained : List ℕ → Type 0) → Type 0
 Reports status.Ran exe lists gained = IsReport ending.Halted exe lists gained
@@ -101,9 +101,9 @@ Reports _ exe lists gained = Unit {0}
 
 -- the schedule is legal for the whole run, and the stream gained the first bytes of its report
 abbrev pub IsCutReport : (exe : List ℕ) → (lists : List (List ℕ)) → (gained_prefix : List ℕ → Type 0) → Type 0
-IsCutReport exe lists gained_prefix = (r : Results) × (run_of exe lists ≡ Some r) × gained_prefix (report_text r)
+IsCutReport exe lists gained_prefix = (r : Results) × IsRunOfExe exe lists r × gained_prefix (report_text r)
 
--- the schedule has the intervals that were completed, each legal
+-- the checks let the executable pass, and the schedule is legal as far as it goes
 abbrev pub IsStopped : (exe : List ℕ) → (lists : List (List ℕ)) → Type 0
 IsStopped exe lists = (image : MemoryImage) × (checked exe ≡ Ok image) × IsLegalSoFar plain_machine image lists
 
@@ -141,13 +141,13 @@ Answers (Err _) checks = ⊥
 -- The run of an image under a schedule: it ended in this way, and the stream gained its whole report.
 abbrev pub IsRun : Ending → MemoryImage → (lists : List (List ℕ)) → (gained : List ℕ → Type 0) → Type 0
 IsRun ending image lists gained =
-    (r : Results) × (reference_run plain_machine image lists ≡ Some r) × (r.ending ≡ ending) × gained (report_text r)
+    (r : Results) × IsRunOf plain_machine image lists r × (r.ending ≡ ending) × gained (report_text r)
 
 abbrev pub IsCutRun : MemoryImage → (lists : List (List ℕ)) → (gained_prefix : List ℕ → Type 0) → Type 0
 IsCutRun image lists gained_prefix =
-    (r : Results) × (reference_run plain_machine image lists ≡ Some r) × gained_prefix (report_text r)
+    (r : Results) × IsRunOf plain_machine image lists r × gained_prefix (report_text r)
 
--- The same as the answers of a run tell it.
+-- What each status says of the run of an image, and of what the stream gained.
 abbrev pub RunsAs : Status → MemoryImage → (lists : List (List ℕ)) → (gained gained_prefix : List ℕ → Type 0) → (unchanged write_failed : Type 0) → Type 0
 RunsAs status.Ran image lists gained gained_prefix unchanged write_failed = IsRun ending.Halted image lists gained
 RunsAs status.Limit image lists gained gained_prefix unchanged write_failed = IsRun ending.Limit image lists gained
@@ -156,12 +156,13 @@ RunsAs status.NoMemory image lists gained gained_prefix unchanged write_failed =
     (IsLegalSoFar plain_machine image lists × unchanged) ⊎ IsCutRun image lists gained_prefix
 RunsAs _ image lists gained gained_prefix unchanged write_failed = ⊥
 
--- nothing was kept yet
+-- nothing was kept yet; the schedule is for one core
 pub record IsEmpty (kept : Kept) : Type 0 where
   pub machine : kept.machine ≡ []
   pub exe : kept.exe ≡ []
   pub sched_file : kept.sched_file ≡ []
   pub schedule : kept.schedule.lists ≡ []
+  pub cores : kept.schedule.cores ≡ 1
 
 -- the status of a run that was reported whole
 abbrev pub status_at : Ending → Status

@@ -1,9 +1,15 @@
 pub mod CommandLine
 pub mod CoreState
 pub mod Effect
+pub mod FlatMemory
+pub mod Asked
+pub mod ReferenceMachine
 pub mod Results
 pub mod Schedule
 pub mod ReferenceRun
+pub mod IntervalWeave
+pub mod Progress
 pub mod ReportText
 pub mod ErrorLine
 pub mod Ended
+pub mod Laws

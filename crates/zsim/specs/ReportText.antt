@@ -3,9 +3,9 @@ use Rattle.std.specs.Prelude.{ℕ, zero, suc, ◌+◌, ◌/◌, ◌%◌, max, �
 use Rattle.std.specs.Fmt.{decimal}
 use Rattle.zsim.specs.declared.why.Why.{Why}
 use Rattle.zsim.specs.declared.why.Why.TheVariants.{Exit, Illegal, Misaligned, AtomicAlign, Fetch, Access, Break}
-use Rattle.zsim.specs.declared.results.CoreCount.{CoreCount}
+use Rattle.stats.specs.declared.counts.CoreCount.{CoreCount}
 use Rattle.zsim.specs.declared.results.CoreResult.{CoreResult}
-use Rattle.zsim.specs.declared.results.ComponentCount.{ComponentCount}
+use Rattle.stats.specs.declared.counts.CompCount.{CompCount}
 use Rattle.zsim.specs.Results.{Results}
 
 -- a hexadecimal digit, in lower case
@@ -68,7 +68,7 @@ abbrev pub core_lines : ℕ → CoreResult → List ℕ
 core_lines n c = core_line n c ++ console_line n c.console
 
 -- the line of a bank or a controller
-unfoldable pub component_line : List ℕ → ℕ → ComponentCount → List ℕ
+unfoldable pub component_line : List ℕ → ℕ → CompCount → List ℕ
 component_line kind n c =
     kind ++ (labelled ((codes " ", n) ∷ (codes " events ", c.events) ∷ (codes " waited ", c.waited) ∷ (codes " free ", c.free) ∷ []) ++ codes "\n")
 

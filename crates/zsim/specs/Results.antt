@@ -1,7 +1,7 @@
 -- What a run gives.
 use Rattle.std.specs.Prelude.{ℕ, List}
 use Rattle.zsim.specs.declared.results.CoreResult.{CoreResult}
-use Rattle.zsim.specs.declared.results.ComponentCount.{ComponentCount}
+use Rattle.stats.specs.declared.counts.CompCount.{CompCount}
 use Rattle.zsim.specs.declared.results.Ending.{Ending}
 
 pub record Results : Type 0 where
@@ -13,5 +13,5 @@ pub record Results : Type 0 where
   pub events : ℕ
   -- in order of their numbers
   pub cores : List CoreResult
-  pub banks : List ComponentCount
-  pub controllers : List ComponentCount
+  pub banks : List CompCount
+  pub controllers : List CompCount

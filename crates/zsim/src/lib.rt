@@ -6,14 +6,21 @@ mod command_line;
 mod ended;
 mod error_line;
 mod interpreter;
+pub mod laws;
 mod limits;
 mod machine;
+mod memory;
+mod pending;
+mod progress;
 mod put;
 mod report;
 mod results;
 mod running;
 mod schedule;
+#[cfg(test)]
+mod tests;
 mod top;
+mod weaving;
 mod why;
 
 pub use ended::{Ended, Kept, Said, Status, Which};

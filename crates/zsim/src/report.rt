@@ -2,8 +2,9 @@
 ghost use Rattle.std.specs.Prelude.{◌≡◌, ◌<◌, ◌^◌, ◌++◌, IfOk, OnOk, map, string_bytes};
 ghost use Rattle.zsim.specs.ReportText.{all_instructions, component_line, console_line, core_line, core_lines, count_text, greatest_clock, halt_text, hex_digit, hexadecimal, labelled, numbered, printed, printed_byte, report_text, summary};
 
-use crate::results::{ComponentCount, CoreCount, CoreResult, RunResults};
+use crate::results::{CoreResult, RunResults};
 use crate::why::Why;
+use stats::{CompCount, CoreCount};
 use std::alloc::{AllocError, Global};
 use zs_num::{Bytes, Cycle, NoMemory};
 
@@ -221,7 +222,7 @@ fn write_byte(text: &mut String, byte: u8) -> Result<(), AllocError>
 fn write_components(
     text: &mut String,
     kind: &str,
-    components: &[ComponentCount],
+    components: &[CompCount],
 ) -> Result<(), AllocError>
     ensures { OnOk result (string_bytes text.new ≡ string_bytes text.old ++ numbered (component_line kind.now) 0 components.now) }
 {
@@ -236,7 +237,7 @@ fn write_component(
     text: &mut String,
     kind: &str,
     n: usize,
-    component: &ComponentCount,
+    component: &CompCount,
 ) -> Result<(), AllocError>
     ensures { OnOk result (string_bytes text.new ≡ string_bytes text.old ++ component_line kind.now n component.now) }
 {

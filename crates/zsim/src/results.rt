@@ -2,6 +2,7 @@
 ghost use Rattle.std.specs.Prelude.{◌≡◌};
 
 use crate::why::Why;
+use stats::{CompCount, CoreCount};
 use std::marker::Model;
 use zs_num::{Bytes, Cycle};
 
@@ -12,20 +13,6 @@ pub enum Ending {
     Halted,
     /// A limit was reached, with a core that is not halted.
     Limit,
-}
-
-/// What is counted of a core's accesses.
-#[derive(Clone, Copy, Debug, PartialEq, Eq)]
-pub struct CoreCount {
-    /// The sum of the delays that the weave fed back, in cycles.
-    pub delay: u128,
-    pub loads: u64,
-    pub stores: u64,
-    pub atomics: u64,
-    pub hits: u64,
-    pub upgrades: u64,
-    pub l2hits: u64,
-    pub misses: u64,
 }
 
 /// What a run gives of a core.
@@ -41,17 +28,6 @@ pub struct CoreResult {
     pub console: Bytes,
 }
 
-/// What a run gives of a bank or a controller.
-#[derive(Clone, Copy, Debug, PartialEq, Eq)]
-pub struct ComponentCount {
-    /// How many events it served.
-    pub events: u64,
-    /// How long events waited for it, in cycles.
-    pub waited: u128,
-    /// The cycle from which on it is free.
-    pub free: Cycle,
-}
-
 /// What a run gives.
 #[derive(Debug, Drop)]
 pub struct RunResults {
@@ -62,8 +38,8 @@ pub struct RunResults {
     pub events: u64,
     /// In order of their numbers.
     pub cores: Vec<CoreResult>,
-    pub banks: Vec<ComponentCount>,
-    pub controllers: Vec<ComponentCount>,
+    pub banks: Vec<CompCount>,
+    pub controllers: Vec<CompCount>,
 }
 
 impl Model for RunResults {

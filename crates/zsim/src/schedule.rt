@@ -1,9 +1,9 @@
 // The schedule of a run: for each interval the numbers of the cores, in the order of their accesses.
-ghost use Rattle.std.specs.Prelude.{◌≡◌, ◌<◌, ◌+◌, ◌-◌, ◌^◌, [], ◌∷◌, ◌++◌, Some, length, slice_get, OnOk, OnErr};
+ghost use Rattle.std.specs.Prelude.{◌≡◌, ◌<◌, ◌+◌, ◌-◌, ◌^◌, [], ◌∷◌, ◌++◌, All, Some, length, map, slice_get, OnOk, OnErr};
 
 use std::alloc::Global;
 use std::marker::Model;
-use zs_num::NoMemory;
+use zs_num::{Entries, NoMemory};
 
 /// For each interval that was run, the numbers of the cores in the order of their accesses.
 #[derive(Debug, Drop)]
@@ -56,14 +56,17 @@ impl Schedule {
         &self.lists[k as usize]
     }
 
-    /// Adds an interval in which no core made an access.
-    pub(crate) fn add_idle(&mut self, alloc: Global) -> Result<(), NoMemory>
-        requires { length self.old.lists < 2 ^ 32 - 1 }
+    /// Adds an interval: the cores of its accesses, which are in recorded order.
+    pub fn add(&mut self, alloc: Global, entries: &Entries) -> Result<(), NoMemory>
+        requires cores { All (λ e. e.core < self.old.cores) entries.now }
+        requires count { length entries.now < 2 ^ 32 }
+        requires room { length self.old.lists < 2 ^ 32 - 1 }
         ensures cores { self.new.cores ≡ self.old.cores }
-        ensures ok { OnOk result (self.new.lists ≡ self.old.lists ++ [] ∷ []) }
+        ensures ok { OnOk result (self.new.lists ≡ self.old.lists ++ map (λ e. e.core) entries.now ∷ []) }
         ensures err { OnErr result (self.new ≡ self.old) }
     {
-        self.lists.push(Vec::new(alloc))?;
+        let turns = entries.as_slice().iter().map(|e| e.core).collect(alloc)?;
+        self.lists.push(turns)?;
         Ok(())
     }
 }

@@ -5,7 +5,7 @@ ghost use Rattle.machine_desc.specs.Plain.{plain_machine};
 ghost use Rattle.machine_desc.specs.declared.plain.TheConstants.{PLAIN};
 ghost use Rattle.zsim.specs.CommandLine.{command_of};
 ghost use Rattle.zsim.specs.ErrorLine.{line_of};
-ghost use Rattle.zsim.specs.ReferenceRun.{reference_run, IsLegalSoFar};
+ghost use Rattle.zsim.specs.ReferenceRun.{IsLegalSoFar, IsRunOf};
 ghost use Rattle.zsim.specs.Ended.{checked, status_at, Answers, FailedToRead, Gained, GainedPrefix, HasCause, IsEmpty, IsFull, KeepsExe, KeepsMachine, Leaves, Reports, RunsAs, Says, WasRead};
 
 use crate::command_line::command;
@@ -120,7 +120,8 @@ fn conduct<F: Files, O: Sink>(
 #[tactic(auto, unfolding(crate::specs::Ended::checked))]
 fn check(alloc: Global, machine: &Machine, exe: &[u8]) -> Result<Image, Status>
     requires { machine.now ≡ plain_machine }
-    ensures { Answers result (checked exe.now) }
+    ensures answer { Answers result (checked exe.now) }
+    ensures memory { IfOk result (λ image. (image.base ≡ machine.now.memory.base) × (image.size ≡ machine.now.memory.size)) }
 {
     if exe.len() > EXE_LIMIT {
         return Err(Status::TooLong(Which::Exe));
@@ -141,7 +142,10 @@ fn run_and_report<O: Sink>(
     schedule: &mut Schedule,
 ) -> Status
     requires machine { machine.now ≡ plain_machine }
+    requires base { image.now.base ≡ machine.now.memory.base }
+    requires size { image.now.size ≡ machine.now.memory.size }
     requires empty { schedule.old.lists ≡ [] }
+    requires cores_known { schedule.old.cores ≡ 1 }
     ensures cores { schedule.new.cores ≡ schedule.old.cores }
     ensures run { RunsAs result image.now schedule.new.lists (Gained O.tells (O.bytes out.old) (O.bytes out.new)) (GainedPrefix O.tells (O.bytes out.old) (O.bytes out.new)) (out.new ≡ out.old) (Rose (O.faults out.old) (O.faults out.new)) }
 {
@@ -168,8 +172,11 @@ fn run_plain(
     schedule: &mut Schedule,
 ) -> Result<RunResults, NoMemory>
     requires machine { machine.now ≡ plain_machine }
+    requires base { image.now.base ≡ machine.now.memory.base }
+    requires size { image.now.size ≡ machine.now.memory.size }
     requires empty { schedule.old.lists ≡ [] }
-    ensures ok { IfOk result (λ results. reference_run plain_machine image.now schedule.new.lists ≡ Some results) }
+    requires cores_known { schedule.old.cores ≡ 1 }
+    ensures ok { IfOk result (IsRunOf plain_machine image.now schedule.new.lists) }
     ensures err { OnErr result (IsLegalSoFar plain_machine image.now schedule.new.lists) }
     ensures cores { schedule.new.cores ≡ schedule.old.cores }
 {

@@ -44,6 +44,17 @@ pub fn owned(alloc: Global, words: &[&str]) -> Result<Vec<String>, AllocError> {
     Ok(all)
 }
 
+/// The call's report has this part once.
+pub fn assert_reported_once(rt: &impl Abort, called: &Called, part: &str) {
+    assert!(rt; !part.is_empty());
+    let parts = called.out.bytes().windows(part.len());
+    assert_eq!(rt;
+        parts.filter(|bytes| *bytes == part.as_bytes()).count(),
+        1,
+        "{part}"
+    );
+}
+
 /// The call ended so, with this on standard output and this on standard error.
 pub fn assert_ended(rt: &impl Abort, called: &Called, status: Status, out: &str, err: &str) {
     assert_eq!(rt; called.ended.status, status);

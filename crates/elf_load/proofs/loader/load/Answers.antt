@@ -7,17 +7,17 @@ use Rattle.elf_load.proofs.Faults.{short, header_refused, segment_refused, accep
 use Rattle.elf_load.proofs.Sound.{sound}
 use Rattle.elf_load.proofs.loader.load.Goals as goal
 
-pub returns-then-file-lt-HEADER_LEN : goal.returns-then-file-lt-HEADER_LEN
-returns-then-file-lt-HEADER_LEN c = short _ _ _ (omega arith)
+pub returns-then-file-lt-HEADER_LEN-clause-answer : goal.returns-then-file-lt-HEADER_LEN-clause-answer
+returns-then-file-lt-HEADER_LEN-clause-answer c = short _ _ _ (omega arith)
 
-pub returns-in-Some : goal.returns-in-Some
-returns-in-Some c = header_refused _ _ _ c.read-header.result (omega arith) c.read-header.ensures _ c.in-Some.ensures.value
+pub returns-in-Some-clause-answer : goal.returns-in-Some-clause-answer
+returns-in-Some-clause-answer c = header_refused _ _ _ c.read-header.result (omega arith) c.read-header.ensures _ c.in-Some.ensures.value
 
 pub segment_fault-requires : goal.segment_fault-requires
 segment_fault-requires c = few_in_table _ _ _ _ (c.deref.ensures.value ∙ c.in_ok-headers.ensures) c.in_default.ensures.table
 
-pub returns-in-Some-segment_fault : goal.returns-in-Some-segment_fault
-returns-in-Some-segment_fault c =
+pub returns-in-Some-segment_fault-clause-answer : goal.returns-in-Some-segment_fault-clause-answer
+returns-in-Some-segment_fault-clause-answer c =
     segment_refused _ _ _ c.read-header.result (omega arith) c.read-header.ensures c.in_default.ensures.value c.deref.result.now
     (c.deref.ensures.value ∙ c.in_ok-headers.ensures) _ c.in-Some-segment_fault.ensures
 
@@ -33,8 +33,8 @@ make-requires c =
     let few = few_in_table _ _ c.deref.result.now _ (c.deref.ensures.value ∙ c.in_ok-headers.ensures) c.in_default.ensures.table in
     rw items (sound _ c.read-header.result _ _ _ c.requires few (passes _ _ _ _ _ c.in_default-segment_fault.ensures))
 
-pub returns : goal.returns
-returns c =
+pub returns-clause-answer : goal.returns-clause-answer
+returns-clause-answer c =
     let same : c.deref-2.result.now ≡ c.deref.result.now = c.deref-2.ensures.value ∙ sym c.deref.ensures.value in
     let items : c.in_ok-segments.segments.items ≡ segments_of c.args.file.now c.deref.result.now = c.in_ok-segments.ensures ∙ ap (segments_of c.args.file.now) same in
     let image : List Segment → MemoryImage = λ s. record { base = c.args.base; size = c.args.size; entry = c.read-header.result.entry; segments = s } in

@@ -4,7 +4,7 @@ use Rattle.std.specs.Prelude.{slice_get}
 use Rattle.event_graph.specs.declared.event.Event.{Event}
 use Rattle.event_graph.specs.declared.event.Parent.{Parent}
 use Rattle.event_graph.specs.Fits.{EventFits}
-use Rattle.weave_seq.specs.Growth.{IsNear}
+use Rattle.event_graph.specs.Near.{IsNear}
 use Rattle.weave_seq.proofs.tests.is_graph.Given as goal
 
 abbrev pub invariant-loop-place : goal.invariant-loop-place

@@ -1,17 +1,20 @@
--- the core is the one after the intervals of the schedule
-use Rattle.std.proofs.Common.{◌≡◌, ◌≤◌, ◌-◌, ◌*◌, Some, length}
-use Rattle.zsim.specs.ReferenceRun.{after_intervals, start}
+-- the run has come to where the intervals of the schedule lead
+use Rattle.std.proofs.Common.{◌≡◌, ◌≤◌, ◌-◌, ◌*◌, ◌^◌, [], length}
+use Rattle.zsim.specs.IntervalWeave.{IsPlainOf}
+use Rattle.zsim.proofs.RunSoFar.{HasRun}
 use Rattle.zsim.proofs.running.run.Given as goal
 
 abbrev pub invariant-loop-ending : goal.invariant-loop-ending
 invariant-loop-ending l = record {
-  reached : after_intervals l.machine l.image 0 (start l.machine l.image 0) l.schedule.lists ≡ Some l.core;
+  run : HasRun l.machine l.image l.schedule.lists l.progress;
+  plain : IsPlainOf l.machine l.plain;
   count : length l.schedule.lists ≡ l.k;
   end : l.end ≡ l.k * l.machine.interval;
   small : l.end ≤ 10000 * l.k;
   within : l.k ≤ l.machine.intervals;
-  counted : l.core.instructions ≤ l.core.clock;
+  accesses : l.progress.counters.accesses ≤ 2 ^ 26;
   cores : l.schedule.cores ≡ l.initial.schedule.cores;
+  empty : l.list.items ≡ [];
 }
 
 abbrev pub decreases-loop-ending : goal.decreases-loop-ending

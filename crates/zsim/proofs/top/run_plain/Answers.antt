@@ -1,12 +1,12 @@
 -- The machine is the built-in one.
-use Rattle.std.proofs.Common.{◌≡◌, subst, IfOk, OnErr, Some}
+use Rattle.std.proofs.Common.{subst, IfOk, OnErr}
 use Rattle.machine_desc.specs.declared.machine.Machine.{Machine}
-use Rattle.zsim.specs.ReferenceRun.{reference_run, IsLegalSoFar}
+use Rattle.zsim.specs.ReferenceRun.{IsLegalSoFar, IsRunOf}
 use Rattle.zsim.proofs.top.run_plain.Goals as goal
 
 pub returns-clause-ok : goal.returns-clause-ok
 returns-clause-ok c =
-    let runs = λ (machine : Machine). IfOk c.run.result (λ results. reference_run machine c.args.image.now c.run.new.schedule.lists ≡ Some results) in
+    let runs = λ (machine : Machine). IfOk c.run.result (IsRunOf machine c.args.image.now c.run.new.schedule.lists) in
     subst runs c.requires.machine c.run.ensures.ok
 
 pub returns-clause-err : goal.returns-clause-err

@@ -1,0 +1,16 @@
+-- What is true of the feedback of every interval.
+use Rattle.std.specs.Prelude.{◌≡◌, ◌≤◌, ◌^◌, ℕ, List, All, length}
+use Rattle.event_graph.specs.declared.event.Event.{Event}
+use Rattle.event_graph.specs.declared.fired.Fired.{Fired}
+use Rattle.event_graph.specs.Numbered.{IsNumbered}
+use Rattle.event_graph.specs.Timely.{AreTimely}
+use Rattle.feedback.specs.FeedbackDelay.{IsWoven, feedback_delays}
+
+-- timely events have all that is asked of a weave
+abbrev pub TimelyEventsAreWoven : Type 0
+TimelyEventsAreWoven = (events : List Event) (fired : List Fired) → IsNumbered events → AreTimely events fired → IsWoven events fired
+
+-- there is a delay for each core, and none is over 2^62 cycles
+abbrev pub DelaysAreSmall : Type 0
+DelaysAreSmall = (events : List Event) (fired : List Fired) (cores : ℕ) → IsNumbered events → AreTimely events fired
+    → (length (feedback_delays events fired cores) ≡ cores) × All (λ d. d ≤ 2 ^ 62) (feedback_delays events fired cores)

@@ -1,0 +1,12 @@
+//! Laws over the definitions alone, each the contract of a function that does nothing.
+ghost use Rattle.feedback.specs.Laws.{TimelyEventsAreWoven, DelaysAreSmall};
+
+/// Events that were fired timely, in order of number, have all that `delays` asks of a weave.
+pub fn timely_events_are_woven()
+    ensures { TimelyEventsAreWoven }
+{}
+
+/// There is a delay for each core, and none is longer than 2^62 cycles.
+pub fn delays_are_small()
+    ensures { DelaysAreSmall }
+{}

@@ -1,0 +1,5 @@
+mod AccessSteps
+mod Added
+mod EventSteps
+mod Sums
+mod SumsFit

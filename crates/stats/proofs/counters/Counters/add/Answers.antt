@@ -1,0 +1,54 @@
+use Rattle.std.proofs.Common.{◌≡◌, ◌+◌, ◌<◌, ◌^◌, List, length, ap, ◌∙◌, sym, subst, arith}
+use Rattle.std.specs.Vec.{with_items}
+use Rattle.std.proofs.lemmas.List.{with_items_is}
+use Rattle.component.specs.declared.comp.Comp.{Comp}
+use Rattle.stats.specs.Counts.{Counts, Fits, Interval, added}
+use Rattle.stats.proofs.Added.{core_fits, comp_fits, counts_added}
+use Rattle.stats.proofs.counters.Counters.add.Goals as goal
+
+pub add_to_cores-requires-clause-fits : goal.add_to_cores-requires-clause-fits
+add_to_cores-requires-clause-fits c =
+    let i : Interval = record { entries = c.args.entries.now; events = c.args.g.now; fired = c.args.fired.now; delays = c.args.d.now } in
+    let first : Counts = record { cores = c.self.inside.cores.items; comps = c.self.inside.comps.items; accesses = c.self.inside.accesses; events = c.self.inside.events } in
+    let fits : Fits (added first i c.args.comps.now) = subst (λ (v : Counts). Fits (added v i c.args.comps.now)) (sym c.self.view_is) c.requires.fits in
+    rw (c.deref_mut.ensures.value, c.as_slice.ensures, c.as_slice-2.ensures) (core_fits i first c.args.comps.now fits)
+
+pub add_to_comps-requires-clause-fits : goal.add_to_comps-requires-clause-fits
+add_to_comps-requires-clause-fits c =
+    let i : Interval = record { entries = c.args.entries.now; events = c.args.g.now; fired = c.args.fired.now; delays = c.args.d.now } in
+    let first : Counts = record { cores = c.self.inside.cores.items; comps = c.self.inside.comps.items; accesses = c.self.inside.accesses; events = c.self.inside.events } in
+    let fits : Fits (added first i c.args.comps.now) = subst (λ (v : Counts). Fits (added v i c.args.comps.now)) (sym c.self.view_is) c.requires.fits in
+    let same : length c.args.comps.now ≡ length first.comps = c.requires.parts ∙ ap (λ (v : Counts). length v.comps) (sym c.self.view_is) in
+    rw (c.deref_mut-2.ensures.value, c.events.ensures.events, c.as_slice-3.ensures) (comp_fits i first c.args.comps.now same fits)
+
+pub overflow_add-self : goal.overflow_add-self
+unfolding added
+overflow_add-self c =
+    let fits : c.args.self.now.accesses + length c.args.entries.now < 2 ^ 64 = c.requires.fits.accesses in
+    let was : c.self.inside.accesses ≡ c.args.self.now.accesses = ap (λ (v : Counts). v.accesses) c.self.view_is in
+    let seen : length c.as_slice-5.result.now ≡ length c.args.entries.now = ap length c.as_slice-5.ensures in
+    omega arith
+
+pub overflow_add-self-2 : goal.overflow_add-self-2
+unfolding added
+overflow_add-self-2 c =
+    let fits : c.args.self.now.events + length c.args.g.now < 2 ^ 64 = c.requires.fits.events in
+    let was : c.self.inside.events ≡ c.args.self.now.events = ap (λ (v : Counts). v.events) c.self.view_is in
+    let seen : length c.events-2.result.now ≡ length c.args.g.now = ap length c.events-2.ensures.events in
+    omega arith
+
+pub returns : goal.returns
+returns c =
+    let i : Interval = record { entries = c.args.entries.now; events = c.args.g.now; fired = c.args.fired.now; delays = c.args.d.now } in
+    let first : Counts = record { cores = c.self.inside.cores.items; comps = c.self.inside.comps.items; accesses = c.self.inside.accesses; events = c.self.inside.events } in
+    let parts : List Comp = c.args.comps.now in
+    let same : length parts ≡ length first.comps = c.requires.parts ∙ ap (λ (v : Counts). length v.comps) (sym c.self.view_is) in
+    let long : length c.add_to_cores.new.cores ≡ length first.cores = c.add_to_cores.auto.cores ∙ ap length c.deref_mut.ensures.value in
+    let as_long : length c.add_to_comps.new.comps ≡ length first.comps = c.add_to_comps.auto.comps ∙ ap length c.deref_mut-2.ensures.value in
+    let cores = rw (c.deref_mut.ensures.value, c.as_slice.ensures, c.as_slice-2.ensures) at c.add_to_cores.ensures in
+    let comps = rw (c.deref_mut-2.ensures.value, c.events.ensures.events, c.as_slice-3.ensures, c.as_slice-4.ensures) at c.add_to_comps.ensures in
+    let cores_are : (with_items c.self.inside.cores c.add_to_cores.new.cores).items ≡ c.add_to_cores.new.cores = with_items_is c.self.inside.cores c.add_to_cores.new.cores (omega (arith, long, c.self.inside.cores.ok.0)) in
+    let comps_are : (with_items c.self.inside.comps c.add_to_comps.new.comps).items ≡ c.add_to_comps.new.comps = with_items_is c.self.inside.comps c.add_to_comps.new.comps (omega (arith, as_long, c.self.inside.comps.ok.0)) in
+    rw (cores_are, comps_are, c.as_slice-5.ensures, c.events-2.ensures.events)
+    (counts_added i first c.add_to_cores.new.cores c.add_to_comps.new.comps parts long cores as_long same comps
+    ∙ ap (λ (v : Counts). added v i parts) c.self.view_is)

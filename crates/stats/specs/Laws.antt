@@ -1,0 +1,30 @@
+-- What is true of the counts of every run.
+use Rattle.std.specs.Prelude.{◌≡◌, ◌<◌, ◌≤◌, ◌^◌, ℕ, List, [], ◌∷◌, ◌++◌, length}
+use Rattle.std.specs.List.{All}
+use Rattle.machine_desc.specs.declared.machine.Machine.{Machine}
+use Rattle.component.specs.declared.comp.Comp.{Comp}
+use Rattle.component.specs.Components.{AreFresh}
+use Rattle.event_graph.specs.Timely.{AreTimely}
+use Rattle.stats.specs.Counts.{Interval, Fits, added, counts_of, no_counts, total_accesses, total_events}
+
+-- to add an interval to the counts of a run gives the counts of the longer run
+abbrev pub CountersAreSums : Type 0
+CountersAreSums = (cores : ℕ) (before comps : List Comp) (intervals : List Interval) (i : Interval) → length before ≡ length comps
+    → added (counts_of cores before intervals) i comps ≡ counts_of cores comps (intervals ++ i ∷ [])
+
+-- the counts of a run without intervals
+abbrev pub NothingIsCountedFirst : Type 0
+NothingIsCountedFirst = (m : Machine) (comps : List Comp) → AreFresh m comps → counts_of m.cores comps [] ≡ no_counts m
+
+-- what holds of an interval that was run: its events are timely, and no delay is over 2^62 cycles
+abbrev pub WasRun : Interval → Type 0
+WasRun i = AreTimely i.events i.fired × All (λ d. d ≤ 2 ^ 62) i.delays
+
+-- the counts of a run of bounded length pass no type
+abbrev pub SumsFit : Type 0
+SumsFit = (cores : ℕ) (comps : List Comp) (intervals : List Interval)
+    → total_accesses intervals < 2 ^ 64
+    → total_events intervals ≤ 2 ^ 60
+    → length intervals ≤ 2 ^ 60
+    → All WasRun intervals
+    → Fits (counts_of cores comps intervals)

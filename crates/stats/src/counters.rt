@@ -1,0 +1,133 @@
+// The counters of a run.
+use crate::comps::add_to_comps;
+use crate::cores::add_to_cores;
+use crate::{CompCount, CoreCount};
+use component::{Comp, Comps};
+use event_graph::{FiredList, Graph};
+use feedback::Delays;
+use machine_desc::{Machine, component_count};
+use std::alloc::Global;
+use std::marker::Model;
+use zs_num::{Entries, NoMemory};
+
+/// What was counted so far, by the numbers of the cores and of the components.
+#[derive(Debug, Drop)]
+pub struct Counters {
+    cores: Vec<CoreCount>,
+    comps: Vec<CompCount>,
+    accesses: u64,
+    events: u64,
+}
+
+impl Model for Counters {
+    ghost use Rattle.stats.specs.Counts.{Counts};
+
+    ghost Value = { Counts };
+
+    ghost view = { λ c. record { cores = c.cores.items; comps = c.comps.items; accesses = c.accesses; events = c.events } };
+}
+
+impl Counters {
+    ghost use Rattle.std.specs.Prelude.{◌≡◌, ◌<◌, All, IfOk, Some, length, slice_get};
+    ghost use Rattle.machine_desc.specs.Machine.{IsMachine};
+    ghost use Rattle.event_graph.specs.Timely.{AreTimely};
+    ghost use Rattle.stats.specs.Counts.{Fits, added, no_counts};
+
+    /// The counters of this machine, all 0.
+    pub fn new(alloc: Global, m: &Machine) -> Result<Counters, NoMemory>
+        requires { IsMachine m.now }
+        ensures { IfOk result (λ c. c ≡ no_counts m.now) }
+    {
+        Ok(Counters {
+            cores: vec![in alloc; NO_CORE_COUNT; usize::from(m.cores)]?,
+            comps: vec![in alloc; NO_COMP_COUNT; usize::from(component_count(m))]?,
+            accesses: 0,
+            events: 0,
+        })
+    }
+
+    /// Adds an interval: its accesses, its events as the weave fired them, the delays of the cores,
+    /// and the components after it.
+    pub fn add(
+        &mut self,
+        entries: &Entries,
+        g: &Graph,
+        fired: &FiredList,
+        d: &Delays,
+        comps: &Comps<Comp>,
+    )
+        requires cores { All (λ e. e.core < length self.old.cores) entries.now }
+        requires comps { All (λ e. e.component < length self.old.comps) g.now }
+        requires delays { length d.now ≡ length self.old.cores }
+        requires parts { length comps.now ≡ length self.old.comps }
+        requires timely { AreTimely g.now fired.now }
+        requires fits { Fits (added self.old (record { entries = entries.now; events = g.now; fired = fired.now; delays = d.now }) comps.now) }
+        ensures { self.new ≡ added self.old (record { entries = entries.now; events = g.now; fired = fired.now; delays = d.now }) comps.now }
+    {
+        add_to_cores(&mut self.cores, entries.as_slice(), d.as_slice());
+        add_to_comps(
+            &mut self.comps,
+            g.events(),
+            fired.as_slice(),
+            comps.as_slice(),
+        );
+        self.accesses += entries.as_slice().len() as u64;
+        self.events += g.events().len() as u64;
+    }
+
+    /// What was counted of a core.
+    pub fn core(&self, n: u16) -> CoreCount
+        requires { n < length self.now.cores }
+        ensures { slice_get self.now.cores n ≡ Some result }
+    {
+        self.cores[usize::from(n)]
+    }
+
+    /// What was counted of the components, in order of their numbers.
+    pub fn comps(&self) -> &[CompCount]
+        ensures { result.now ≡ self.now.comps }
+    {
+        &self.comps
+    }
+
+    /// What was counted of a component.
+    pub fn comp(&self, n: u16) -> CompCount
+        requires { n < length self.now.comps }
+        ensures { slice_get self.now.comps n ≡ Some result }
+    {
+        self.comps[usize::from(n)]
+    }
+
+    /// How many accesses there were.
+    pub fn accesses(&self) -> u64
+        ensures { result ≡ self.now.accesses }
+    {
+        self.accesses
+    }
+
+    /// How many events there were.
+    pub fn events(&self) -> u64
+        ensures { result ≡ self.now.events }
+    {
+        self.events
+    }
+}
+
+/// The count of a core before its first access.
+const NO_CORE_COUNT: CoreCount = CoreCount {
+    delay: 0,
+    loads: 0,
+    stores: 0,
+    atomics: 0,
+    hits: 0,
+    upgrades: 0,
+    l2hits: 0,
+    misses: 0,
+};
+
+/// The count of a component before its first event.
+const NO_COMP_COUNT: CompCount = CompCount {
+    events: 0,
+    waited: 0,
+    free: 0,
+};

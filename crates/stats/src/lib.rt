@@ -1,0 +1,14 @@
+//! The counters of a run: sums over the accesses and events of its intervals.
+#![tactic(auto)]
+
+mod comps;
+mod cores;
+mod counters;
+mod counts;
+pub mod laws;
+
+pub use counters::Counters;
+pub use counts::{CompCount, CoreCount};
+
+#[cfg(test)]
+mod tests;

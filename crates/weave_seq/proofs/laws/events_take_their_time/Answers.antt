@@ -1,0 +1,10 @@
+-- By the laws of the components.
+use Rattle.weave_seq.proofs.Theorem.{lawful_from}
+use Rattle.weave_seq.proofs.Timely.{all_timely}
+use Rattle.weave_seq.proofs.laws.events_take_their_time.Goals as goal
+
+pub returns : goal.returns
+returns g c events comps numbered fits small =
+    all_timely g.C.Component.serves g.C.Component.floor g.C.Component.stepped g.C.Component.greatest events comps
+    (lawful_from g.C.Component.serves g.C.Component.floor g.C.Component.stepped g.met.C.Component.floor_counts g.met.C.Component.floor_holds g.met.C.Component.serves_stays)
+    g.met.C.Component.floor_holds g.met.C.Component.floor_stays g.met.C.Component.finish_counts numbered fits small

@@ -1,0 +1,123 @@
+-- A run from its start up to now.
+use Rattle.std.proofs.Common.{◌≡◌, ◌≢◌, ◌<◌, ◌≤◌, ℕ, ◌+◌, ◌*◌, List, [], ◌∷◌, ◌++◌, length, Bool, true, false, if◌then◌else◌, Option, Some, None, Result, Ok, Err, refl, sym, ◌∙◌, ap, arith}
+use Rattle.std.specs.Prelude.{OnErr, is_none}
+use Rattle.std.specs.Option.{option_and_then, option_map}
+use Rattle.std.proofs.lemmas.List.{length-append}
+use Rattle.elf_load.specs.MemoryImage.{MemoryImage}
+use Rattle.machine_desc.specs.declared.machine.Machine.{Machine}
+use Rattle.component.specs.declared.comp.Comp.{Comp}
+use Rattle.component.specs.Components.{AreFresh}
+use Rattle.stats.specs.Counts.{Counts, Interval, counts_of, total_accesses}
+use Rattle.zsim.specs.declared.progress.Progress.{Progress}
+use Rattle.zsim.specs.declared.results.Ending.{Ending}
+use Rattle.zsim.specs.CoreState.{TimedCore}
+use Rattle.zsim.specs.Progress.{GoesOn, StandsFor, LeadsTo}
+use Rattle.zsim.specs.ReferenceRun.{RunState, after_interval, after_intervals, ending_at, ending_before, first_state, IsLegalSoFar, reference_run, results_before, results_of}
+use Rattle.zsim.proofs.NextInterval.{goes_on}
+
+-- the code has come to where the run is after the intervals of this schedule
+pub record HasRun (machine : Machine) (image : MemoryImage) (lists : List (List ℕ)) (p : Progress) : Type 0 where
+  pub comps : List Comp
+  pub fresh : AreFresh machine comps
+  pub state : RunState
+  pub reached : after_intervals machine image (first_state machine image comps) lists ≡ Some state
+  pub as_long : length state.intervals ≡ length lists
+  pub come : StandsFor machine image state p
+
+pub counted_accesses : (cores : ℕ) (comps : List Comp) (intervals : List Interval) → (counts_of cores comps intervals).accesses ≡ total_accesses intervals
+unfolding counts_of
+counted_accesses cores comps intervals = refl
+
+-- the accesses that the code has counted
+pub accesses_are : (machine : Machine) (image : MemoryImage) (s : RunState) (p : Progress) → StandsFor machine image s p → p.counters.accesses ≡ total_accesses s.intervals
+accesses_are machine image s p come = ap (λ (c : Counts). c.accesses) come.counters ∙ counted_accesses machine.cores s.comps s.intervals
+
+-- how the run ends, by what the code has
+pub same_ending : (machine : Machine) (image : MemoryImage) (s : RunState) (p : Progress) → StandsFor machine image s p → (k : ℕ) → length s.intervals ≡ k
+    → ending_at machine k p.counters.accesses p.core p.comps ≡ ending_before machine s
+same_ending machine image s p come k as_long =
+    ap (λ (n : ℕ). ending_at machine n p.counters.accesses p.core p.comps) (sym as_long)
+    ∙ ap (λ (n : ℕ). ending_at machine (length s.intervals) n p.core p.comps) (accesses_are machine image s p come)
+    ∙ ap (λ (c : TimedCore). ending_at machine (length s.intervals) (total_accesses s.intervals) c p.comps) come.core
+    ∙ ap (λ (comps : List Comp). ending_at machine (length s.intervals) (total_accesses s.intervals) s.core comps) come.comps
+
+-- the run goes on with an interval that ends then
+pub goes_to : (machine : Machine) (image : MemoryImage) (s : RunState) (p : Progress) → StandsFor machine image s p → (k end : ℕ) → length s.intervals ≡ k → end ≡ (k + 1) * machine.interval
+    → ending_at machine k p.counters.accesses p.core p.comps ≡ None → GoesOn machine image end s p
+goes_to machine image s p come k end as_long ends on = record {
+  come = come;
+  on = sym (same_ending machine image s p come k as_long) ∙ on;
+  ends = ends ∙ ap (λ (n : ℕ). (n + 1) * machine.interval) (sym as_long);
+}
+
+-- what a test let pass, where the result is there
+passed : (test : Bool) (rest : Option RunState) (t : RunState) → (if test then rest else None) ≡ Some t → (test ≡ true) × (rest ≡ Some t)
+passed true rest t e = (refl, e)
+passed false rest t e = cc
+
+none_is : (ending : Option Ending) → ending ≡ None → is_none ending ≡ true
+none_is None e = refl
+none_is (Some how) e = cc
+
+-- one more interval, with the run at t after those before
+one_interval : (machine : Machine) (image : MemoryImage) (s : RunState) (lists : List (List ℕ)) (t u : RunState) (turns : List ℕ)
+    → after_intervals machine image s lists ≡ Some t → ending_before machine t ≡ None → after_interval machine image t turns ≡ Some u → after_intervals machine image s (lists ++ turns ∷ []) ≡ Some u
+one_interval machine image s [] t u turns at on after =
+    let same : s ≡ t = cc in
+    let goes : is_none (ending_before machine s) ≡ true = none_is (ending_before machine s) (ap (ending_before machine) same ∙ on) in
+    let leads : after_interval machine image s turns ≡ Some u = ap (λ (r : RunState). after_interval machine image r turns) same ∙ after in
+    rw (goes, leads) refl
+one_interval machine image s (first ∷ lists) t u turns at on after =
+    let parts = passed (is_none (ending_before machine s)) (option_and_then (λ r. after_intervals machine image r lists) (after_interval machine image s first)) t at in
+    let rest : (o : Option RunState) → option_and_then (λ r. after_intervals machine image r lists) o ≡ Some t → option_and_then (λ r. after_intervals machine image r (lists ++ turns ∷ [])) o ≡ Some u =
+    λ o. elim o as (λ v. option_and_then (λ r. after_intervals machine image r lists) v ≡ Some t → option_and_then (λ r. after_intervals machine image r (lists ++ turns ∷ [])) v ≡ Some u) [
+      | None ↦ λ e. cc
+      | Some r ↦ λ e. one_interval machine image r lists t u turns e on after
+    ]
+    in
+    rw parts.0 (rest (after_interval machine image s first) parts.1)
+
+-- the run is an interval further, and its schedule a list longer
+pub further : (machine : Machine) (image : MemoryImage) (lists : List (List ℕ)) (p q : Progress) (h : HasRun machine image lists p) (turns : List ℕ) → ending_before machine h.state ≡ None
+    → LeadsTo machine image h.state turns q → HasRun machine image (lists ++ turns ∷ []) q
+further machine image lists p q h turns on leads = record {
+  comps = h.comps;
+  fresh = h.fresh;
+  state = leads.state;
+  reached = one_interval machine image (first_state machine image h.comps) lists h.state leads.state turns h.reached on leads.after;
+  as_long = omega (arith, leads.longer, h.as_long, length-append lists (turns ∷ []));
+  come = leads.come;
+}
+
+-- what the run gives where it ends
+pub ends_with : (machine : Machine) (image : MemoryImage) (lists : List (List ℕ)) (p : Progress) (h : HasRun machine image lists p) (ending : Ending) → ending_before machine h.state ≡ Some ending
+    → reference_run machine image h.comps lists ≡ Some (results_of machine h.state ending)
+ends_with machine image lists p h ending ends =
+    ap (option_and_then (results_before machine)) h.reached ∙ ap (option_map (results_of machine h.state)) ends
+
+-- a fact, where there is an error and where there is none
+pub on_err : {T E : Type 0} (P : Type 0) (r : Result T E) → P → OnErr r P
+on_err P (Ok x) p = tt
+on_err P (Err e) p = p
+
+-- the schedule has legal lists up to where the code has come
+pub legal_so_far : (machine : Machine) (image : MemoryImage) (lists : List (List ℕ)) (p : Progress) → HasRun machine image lists p → IsLegalSoFar machine image lists
+legal_so_far machine image lists p h = record { comps = h.comps; fresh = h.fresh; state = h.state; reached = h.reached }
+
+pub nothing_run : (machine : Machine) (image : MemoryImage) (lists : List (List ℕ)) → lists ≡ [] → (comps : List Comp) → AreFresh machine comps → IsLegalSoFar machine image lists
+nothing_run machine image lists none comps fresh = record {
+  comps = comps;
+  fresh = fresh;
+  state = first_state machine image comps;
+  reached = ap (after_intervals machine image (first_state machine image comps)) none;
+}
+
+-- a run that goes on, and what the code needs of it
+module _ (machine : Machine) (image : MemoryImage) (lists : List (List ℕ)) (p : Progress) (h : HasRun machine image lists p) (k end : ℕ) (count : length lists ≡ k) (ends : end ≡ k * machine.interval) where
+  pub goes : ending_at machine k p.counters.accesses p.core p.comps ≡ None → GoesOn machine image (end + machine.interval) h.state p
+  goes on = goes_to machine image h.state p h.come k (end + machine.interval) (h.as_long ∙ count) (omega (arith, ends)) on
+
+  pub below_limit : (on : ending_at machine k p.counters.accesses p.core p.comps ≡ None) → k ≤ machine.intervals → k < machine.intervals
+  below_limit on within =
+      let left : length h.state.intervals ≢ machine.intervals = (goes_on machine h.state (goes on).on).1.intervals_left in
+      omega (arith, left, h.as_long, count)

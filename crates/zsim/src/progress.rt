@@ -1,0 +1,177 @@
+// A run between two intervals.
+ghost use Rattle.std.specs.Prelude.{◌≡◌, ◌+◌, ◌-◌, ◌*◌, ◌<◌, ◌≤◌, ◌^◌, [], ◌∷◌, All, IfOk, length, map, take, drop, nat_lt, slice_get, Some, if◌then◌else◌, is_none};
+ghost use Rattle.std.specs.List.{list_any};
+ghost use Rattle.machine_desc.specs.Machine.{IsMachine};
+ghost use Rattle.component.specs.ComponentStep.{free_of};
+ghost use Rattle.component.specs.Components.{AreFresh};
+ghost use Rattle.stats.specs.declared.counts.CoreCount.{CoreCount};
+ghost use Rattle.zsim.specs.ReferenceRun.{RunState, access_room, at_limit, core_result, ending_at, first_state, results_of};
+ghost use Rattle.zsim.specs.Progress.{GoesOn, StandsFor, HasRoom, LeadsTo};
+ghost use Rattle.zsim.specs.IntervalWeave.{IsPlainOf};
+
+use crate::bound_core::BoundCore;
+use crate::limits::{ACCESS_LIMIT, CYCLE_LIMIT, ROOM_BEYOND};
+use crate::memory::FlatMemory;
+use crate::results::{CoreResult, Ending, RunResults};
+use crate::weaving::weave_interval;
+use component::{Comp, Comps, components};
+use elf_load::Image;
+use event_graph::Plain;
+use machine_desc::Machine;
+use stats::Counters;
+use std::alloc::Global;
+use zs_num::{Bytes, Cycle, Entries, Entry, NoMemory};
+
+/// A run between two intervals: its core, its memory, its components and what was counted.
+#[derive(Drop)]
+pub struct Progress {
+    core: BoundCore,
+    memory: FlatMemory,
+    comps: Comps<Comp>,
+    counters: Counters,
+}
+
+impl Progress {
+    /// A run before its first interval.
+    pub fn new(alloc: Global, machine: &Machine, image: &Image) -> Result<Self, NoMemory>
+        requires machine { IsMachine machine.now }
+        requires base { image.now.base ≡ machine.now.memory.base }
+        requires size { image.now.size ≡ machine.now.memory.size }
+        ensures { IfOk result (λ p. (comps : _) × AreFresh machine.now comps × StandsFor machine.now image.now (first_state machine.now image.now comps) p) }
+    {
+        stats::laws::nothing_is_counted_first();
+        Ok(Progress {
+            core: BoundCore::new(machine, image, 0),
+            memory: FlatMemory::loaded(alloc, image)?,
+            comps: components(alloc, machine)?,
+            counters: Counters::new(alloc, machine)?,
+        })
+    }
+
+    /// How the run ends before interval k, or None where it goes on.
+    pub fn ending(&self, machine: &Machine, k: u32) -> Option<Ending>
+        requires machine { IsMachine machine.now }
+        requires accesses { self.now.counters.accesses ≤ 2 ^ 26 }
+        ensures { result ≡ ending_at machine.now k self.now.counters.accesses self.now.core self.now.comps }
+    {
+        if self.core.halted().is_some() {
+            Some(Ending::Halted)
+        } else if self.is_at_limit(machine, k) {
+            Some(Ending::Limit)
+        } else {
+            None
+        }
+    }
+
+    // Whether a limit is reached before interval k.
+    #[tactic(auto, unfolding(crate::specs::ReferenceRun::at_limit))]
+    fn is_at_limit(&self, machine: &Machine, k: u32) -> bool
+        requires machine { IsMachine machine.now }
+        requires accesses { self.now.counters.accesses ≤ 2 ^ 26 }
+        ensures { result ≡ at_limit machine.now k self.now.counters.accesses self.now.core.clock self.now.comps }
+    {
+        k == machine.intervals
+            || self.counters.accesses() + access_room(machine) > ACCESS_LIMIT
+            || self.core.clock() > CYCLE_LIMIT
+            || is_one_late(self.comps.as_slice())
+    }
+
+    /// Runs the interval that ends at cycle `end`, at most 2^34. Answers its accesses, which go into
+    /// the empty list.
+    pub fn interval(
+        &mut self,
+        alloc: Global,
+        machine: &Machine,
+        image: &Image,
+        plain: &Plain,
+        end: Cycle,
+        mut list: Vec<Entry>,
+    ) -> Result<Entries, NoMemory>
+        requires machine { IsMachine machine.now }
+        requires cores { machine.now.cores ≡ 1 }
+        requires plain { IsPlainOf machine.now plain.now }
+        requires end { end ≤ 2 ^ 34 }
+        requires room { HasRoom machine.now image.now end self.old }
+        requires goes_on { (s : RunState) × GoesOn machine.now image.now end s self.old }
+        requires none { list.items ≡ [] }
+        ensures leads { IfOk result (λ entries. (s : RunState) → GoesOn machine.now image.now end s self.old → LeadsTo machine.now image.now s (map (λ e. e.core) entries) self.new) }
+        ensures cores { IfOk result (λ entries. All (λ e. e.core < 1) entries) }
+        ensures few { IfOk result (λ entries. length entries < 2 ^ 32) }
+    {
+        stats::laws::counters_are_sums();
+        stats::laws::sums_fit();
+        list.reserve(machine.interval as usize)?;
+        self.core
+            .run_to(image, plain, end, &mut self.memory, &mut list);
+        let entries = Entries::of(list);
+        let woven = weave_interval(alloc, machine, plain, &entries, &mut self.comps)?;
+        self.core.delay(woven.delays.as_slice()[0]);
+        self.counters.add(
+            &entries,
+            &woven.graph,
+            &woven.fired,
+            &woven.delays,
+            &self.comps,
+        );
+        Ok(entries)
+    }
+
+    /// What the run gives where it ends before interval k.
+    pub fn results(
+        &self,
+        alloc: Global,
+        machine: &Machine,
+        k: u32,
+        ending: Ending,
+    ) -> Result<RunResults, NoMemory>
+        requires machine { IsMachine machine.now }
+        requires cores { machine.now.cores ≡ 1 }
+        requires comps { length self.now.counters.comps ≡ machine.now.l2.banks + machine.now.controllers.count }
+        requires count { length self.now.counters.cores ≡ 1 }
+        ensures { IfOk result (λ r. (s : RunState) (image : _) → StandsFor machine.now image s self.now → length s.intervals ≡ k → r ≡ results_of machine.now s ending) }
+    {
+        let comps = self.counters.comps();
+        let (banks, controllers) = comps.split_at(machine.l2.banks as usize);
+        Ok(RunResults {
+            ending,
+            intervals: k,
+            accesses: self.counters.accesses(),
+            events: self.counters.events(),
+            cores: self.core_results(alloc)?,
+            banks: Vec::from_slice(alloc, banks)?,
+            controllers: Vec::from_slice(alloc, controllers)?,
+        })
+    }
+
+    // What the run gives of its one core, which writes on no console yet.
+    fn core_results(&self, alloc: Global) -> Result<Vec<CoreResult>, NoMemory>
+        requires { length self.now.counters.cores ≡ 1 }
+        ensures { IfOk result (λ cores. (count : CoreCount) → slice_get self.now.counters.cores 0 ≡ Some count → cores.items ≡ core_result self.now.core count ∷ []) }
+    {
+        let mut cores = Vec::new(alloc);
+        cores.push(CoreResult {
+            instructions: self.core.instructions(),
+            cycles: self.core.clock(),
+            count: self.counters.core(0),
+            halted: self.core.halted(),
+            console: Bytes::of(Vec::new(alloc)),
+        })?;
+        Ok(cores)
+    }
+}
+
+// The room for the accesses of all cores in an interval.
+fn access_room(machine: &Machine) -> u64
+    requires { IsMachine machine.now }
+    ensures value { result ≡ access_room machine.now }
+    ensures small { result ≤ 2 ^ 20 }
+{
+    u64::from(machine.cores) * (machine.interval + ROOM_BEYOND)
+}
+
+// Whether a component is busy for too long for another interval.
+fn is_one_late(comps: &[Comp]) -> bool
+    ensures { result ≡ list_any (λ c. nat_lt CYCLE_LIMIT (free_of c)) comps.now }
+{
+    comps.iter().any(|c| c.free() > CYCLE_LIMIT)
+}

@@ -1,0 +1,191 @@
+// Runs on machines that the command line cannot name yet.
+ghost use Rattle.std.specs.Prelude.{◌≡◌, ◌<◌, ◌≤◌, ◌^◌, All, IfOk, length};
+
+use crate::Schedule;
+use crate::machine::plain;
+use crate::results::Ending;
+use crate::running::run;
+use crate::weaving::weave_interval;
+use component::components;
+use elf_load::load;
+use event_graph::{Fired, Plain};
+use stats::CompCount;
+use std::alloc::Global;
+use std::test::Fail;
+use zs_num::{Entries, Entry, NoMemory, Outcome, Request};
+
+// An executable of eight words, by the ELF-64 object file format, up to its code at byte 120.
+static FRONT: [u8; 120] = [
+    0x7f, 0x45, 0x4c, 0x46, 0x02, 0x01, 0x01, 0x00, 0x00, 0x00, 0x00, 0x00, 0x00, 0x00, 0x00, 0x00,
+    0x02, 0x00, 0xf3, 0x00, 0x01, 0x00, 0x00, 0x00, 0x00, 0x00, 0x01, 0x00, 0x00, 0x00, 0x00, 0x00,
+    0x40, 0x00, 0x00, 0x00, 0x00, 0x00, 0x00, 0x00, 0x00, 0x00, 0x00, 0x00, 0x00, 0x00, 0x00, 0x00,
+    0x00, 0x00, 0x00, 0x00, 0x40, 0x00, 0x38, 0x00, 0x01, 0x00, 0x00, 0x00, 0x00, 0x00, 0x00, 0x00,
+    0x01, 0x00, 0x00, 0x00, 0x07, 0x00, 0x00, 0x00, 0x78, 0x00, 0x00, 0x00, 0x00, 0x00, 0x00, 0x00,
+    0x00, 0x00, 0x01, 0x00, 0x00, 0x00, 0x00, 0x00, 0x00, 0x00, 0x01, 0x00, 0x00, 0x00, 0x00, 0x00,
+    0x20, 0x00, 0x00, 0x00, 0x00, 0x00, 0x00, 0x00, 0x20, 0x00, 0x00, 0x00, 0x00, 0x00, 0x00, 0x00,
+    0x01, 0x00, 0x00, 0x00, 0x00, 0x00, 0x00, 0x00,
+];
+
+// addi x10, x0, 7; addi x17, x0, 93; ecall
+static SEVEN: [u32; 8] = [0x0070_0513, 0x05D0_0893, 0x0000_0073, 0, 0, 0, 0, 0];
+
+// jal x0, 0
+static FOREVER: [u32; 8] = [0x0000_006F, 0, 0, 0, 0, 0, 0, 0];
+
+// ld x5, -8(x2); ld x6, -8(x2); addi x17, x0, 93; ecall
+static TWO_LOADS: [u32; 8] = [
+    0xFF81_3283,
+    0xFF81_3303,
+    0x05D0_0893,
+    0x0000_0073,
+    0,
+    0,
+    0,
+    0,
+];
+
+// The file of eight words.
+fn file_of(alloc: Global, words: &[u32; 8]) -> Result<Vec<u8>, NoMemory> {
+    let mut file = Vec::from_slice(alloc, &FRONT)?;
+    for word in words {
+        file.extend_from_slice(&word.to_le_bytes())?;
+    }
+    Ok(file)
+}
+
+// The length of an interval, the limit of intervals, how the run ends, and after how many
+// intervals and instructions.
+#[test]
+fn a_run_ends_at_the_limit_of_intervals(rt: HostRuntime) -> Result<(), Fail> {
+    let alloc = rt.alloc();
+    for (words, interval, intervals, ending, ran, instructions) in [
+        (&SEVEN, 1, 3, Ending::Halted, 3, 3),
+        (&SEVEN, 1, 2, Ending::Limit, 2, 2),
+        (&FOREVER, 1000, 3, Ending::Limit, 3, 3000),
+    ] {
+        let file = file_of(alloc, words)?;
+        let mut machine = plain(alloc)?;
+        machine.interval = interval;
+        machine.intervals = intervals;
+        let image = load(alloc, &file, machine.memory.base, machine.memory.size)?;
+        let mut schedule = Schedule::new(alloc, 1);
+        let results = run(alloc, &machine, &image, &mut schedule)?;
+        assert_eq!(rt; results.ending, ending);
+        assert_eq!(rt; results.intervals, ran);
+        assert_eq!(rt; schedule.intervals(), ran);
+        assert_eq!(rt; results.cores.len(), 1);
+        for core in &results.cores {
+            assert_eq!(rt; core.instructions, instructions);
+            assert_eq!(rt; core.cycles, instructions);
+        }
+    }
+    Ok(())
+}
+
+// At a bank that is busy for 20 cycles with each event, the second load's look-up starts at 116 and
+// waits for the first load's fill until 132. The core has halted by then, and its clock grows all
+// the same.
+#[test]
+fn a_busy_bank_delays_the_core(rt: HostRuntime) -> Result<(), Fail> {
+    let alloc = rt.alloc();
+    let file = file_of(alloc, &TWO_LOADS)?;
+    let mut machine = plain(alloc)?;
+    machine.l2.occupancy = 20;
+    let image = load(alloc, &file, machine.memory.base, machine.memory.size)?;
+    let mut schedule = Schedule::new(alloc, 1);
+    let results = run(alloc, &machine, &image, &mut schedule)?;
+    assert_eq!(rt; results.ending, Ending::Halted);
+    assert_eq!(rt; results.cores.len(), 1);
+    for core in &results.cores {
+        assert_eq!(rt;
+            (core.instructions, core.cycles, core.count.delay),
+            (4, 246, 16)
+        );
+        assert_eq!(rt; (core.count.loads, core.count.misses), (2, 2));
+    }
+    assert_eq!(rt;
+        results.banks.as_slice(),
+        [CompCount {
+            events: 4,
+            waited: 16,
+            free: 262
+        }]
+        .as_slice()
+    );
+    assert_eq!(rt;
+        results.controllers.as_slice(),
+        [CompCount {
+            events: 2,
+            waited: 0,
+            free: 162
+        }]
+        .as_slice()
+    );
+    assert_eq!(rt; schedule.intervals(), 1);
+    assert_eq!(rt; schedule.list(0), [0, 0].as_slice());
+    Ok(())
+}
+
+// A miss of this core on the address, which its clock makes at 1.
+fn miss(core: u16, addr: u64) -> Entry
+    ensures core { result.core ≡ core }
+    ensures start { result.start ≡ 1 }
+{
+    Entry {
+        core,
+        stamp: 1,
+        start: 1,
+        request: Request::Load { addr, width: 8 },
+        reply: 0,
+        outcome: Outcome::Miss {
+            dirty_victim: false,
+        },
+    }
+}
+
+// A miss of each of two cores.
+fn two_misses(alloc: Global) -> Result<Entries, NoMemory>
+    ensures cores { IfOk result (All (λ e. e.core < 2)) }
+    ensures starts { IfOk result (All (λ e. e.start ≤ 2 ^ 36)) }
+    ensures few { IfOk result (λ entries. length entries ≤ 2 ^ 20) }
+{
+    let mut list = Vec::new(alloc);
+    list.push(miss(0, 0x10_FFF8))?;
+    list.push(miss(1, 0x10_EFF8))?;
+    Ok(Entries::of(list))
+}
+
+// Both look up at 2. The second waits for the bank until 6, and then for the controller until 32.
+#[test]
+fn two_misses_at_one_bank_wait_for_each_other(rt: HostRuntime) -> Result<(), Fail> {
+    let alloc = rt.alloc();
+    let mut machine = plain(alloc)?;
+    machine.cores = 2;
+    let entries = two_misses(alloc)?;
+    let mut comps = components(alloc, &machine)?;
+    let woven = weave_interval(alloc, &machine, &Plain::of(&machine), &entries, &mut comps)?;
+    let starts_and_finishes = [
+        (2, 12),
+        (12, 112),
+        (112, 114),
+        (2, 16),
+        (16, 132),
+        (132, 134),
+    ];
+    assert_eq!(rt; woven.fired.as_slice().len(), 6);
+    for (number, (start, finish)) in starts_and_finishes.iter().enumerate() {
+        let expected = Fired {
+            number: number as u32,
+            start: *start,
+            finish: *finish,
+        };
+        assert!(rt; woven.fired.as_slice().contains(&expected));
+    }
+    assert_eq!(rt; woven.delays.as_slice(), [0, 20].as_slice());
+    let mut free = Vec::new(alloc);
+    for comp in comps.as_slice() {
+        free.push(comp.free())?;
+    }
+    assert_eq!(rt; free.as_slice(), [136, 52].as_slice());
+    Ok(())
+}
