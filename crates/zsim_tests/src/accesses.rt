@@ -1,20 +1,11 @@
 // Runs with loads and stores, with their reports and schedules.
-use crate::executables::executable;
+use crate::executables::{STORE_AND_LOAD, executable};
 use crate::harness::{assert_ended, assert_reported_once, run};
 use std::test::Fail;
 use zsim::Status;
 
 // ld x5, -8(x2); addi x17, x0, 93; ecall
 static ONE_LOAD: [u32; 3] = [0xFF81_3283, 0x05D0_0893, 0x0000_0073];
-
-// addi x5, x0, 9; sd x5, -8(x2); ld x10, -8(x2); addi x17, x0, 93; ecall
-static STORE_AND_LOAD: [u32; 5] = [
-    0x0090_0293,
-    0xFE51_3C23,
-    0xFF81_3503,
-    0x05D0_0893,
-    0x0000_0073,
-];
 
 // addi x6, x0, 200; ld x5, -8(x2); addi x6, x6, -1; bne x6, x0, -8; addi x17, x0, 93; ecall
 static TWO_HUNDRED_LOADS: [u32; 6] = [

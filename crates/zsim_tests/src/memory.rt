@@ -1,6 +1,6 @@
 // Want of memory. With ample memory these runs end as they should; where an allocation is refused,
 // which the gate does not try, each of them answers NoMemory instead, and no other answer.
-use crate::executables::{SEVEN, executable};
+use crate::executables::{SEVEN, STORE_AND_LOAD, executable};
 use crate::harness::{Called, run};
 use std::alloc::Global;
 use std::process::Abort;
@@ -10,7 +10,10 @@ use zsim::{Said, Status};
 #[test]
 fn a_run_answers_its_status_or_no_memory(rt: HostRuntime) {
     let alloc = rt.alloc();
-    if let Ok(called) = run_seven(alloc) {
+    if let Ok(called) = run_words(alloc, &SEVEN) {
+        assert_answered(&rt, &called, Status::Ran, "");
+    }
+    if let Ok(called) = run_words(alloc, &STORE_AND_LOAD) {
         assert_answered(&rt, &called, Status::Ran, "");
     }
     if let Ok(called) = run(alloc, b"") {
@@ -20,8 +23,8 @@ fn a_run_answers_its_status_or_no_memory(rt: HostRuntime) {
     }
 }
 
-fn run_seven(alloc: Global) -> Result<Called, NoMemory> {
-    let exe = executable(alloc, &SEVEN)?;
+fn run_words(alloc: Global, words: &[u32]) -> Result<Called, NoMemory> {
+    let exe = executable(alloc, words)?;
     run(alloc, &exe)
 }
 
