@@ -29,7 +29,7 @@ in_file p len h e =
 placed : (file : List ℕ) (base size : ℕ) (p : ProgramHeader) → is_loaded p ≡ true → is_past_memory base size p ≡ false → is_placed base size (segment_of file p) ≡ true
 unfolding is_placed is_past_memory segment_of
 placed file base size p h e =
-    let inside : not (nat_le p.filesz p.memsz && is_within p.vaddr p.memsz base (base + size)) ≡ false = rw h at e in
+    let inside : not (nat_le p.filesz p.memsz && is_within p.vaddr p.memsz base size) ≡ false = rw h at e in
     let parts = and_parts _ _ (not-false _ inside) in
     let room : p.filesz ≤ p.memsz = leb-true _ _ parts.0 in
     let takes : 0 < p.memsz = loaded-takes p h room in

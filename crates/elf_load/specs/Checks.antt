@@ -51,7 +51,7 @@ is_past_file len p = is_loaded p && nat_lt len (p.offset + p.filesz)
 
 -- more bytes of the file than of memory, or not in memory
 unfoldable pub is_past_memory : (base size : ℕ) → ProgramHeader → Bool
-is_past_memory base size p = is_loaded p && not (nat_le p.filesz p.memsz && is_within p.vaddr p.memsz base (base + size))
+is_past_memory base size p = is_loaded p && not (nat_le p.filesz p.memsz && is_within p.vaddr p.memsz base size)
 
 -- two segments have an address in common
 unfoldable pub overlaps : ProgramHeader → ProgramHeader → Bool
@@ -59,7 +59,7 @@ overlaps p q = is_loaded p && is_loaded q && do_meet p.vaddr p.memsz q.vaddr q.m
 
 -- the four bytes from the entry on lie in an executable segment
 unfoldable pub is_entered : (entry : ℕ) → ProgramHeader → Bool
-is_entered entry p = is_loaded p && is_executable p && is_within entry 4 p.vaddr (p.vaddr + p.memsz)
+is_entered entry p = is_loaded p && is_executable p && is_within entry 4 p.vaddr p.memsz
 
 -- the first place, and the first later place, whose elements pass the test together, in a list that begins at place i
 abbrev pub first_pair : {X : Type 0} → (X → X → Bool) → (i : ℕ) → List X → Option (ℕ × ℕ)

@@ -1,6 +1,6 @@
 -- What memory holds when an executable was loaded.
-use Rattle.std.specs.Prelude.{◌≡◌, ℕ, ◌+◌, ◌-◌, ◌%◌, ◌^◌, ◌≤◌, min, max, nat_lt, nat_le, Bool, true, not, ◌&&◌, if◌then◌else◌, List, [], ◌∷◌, length, slice_index, Option, Some, None, IsTrue, IsSome}
-use Rattle.std.specs.List.{list_all, list_any}
+use Rattle.std.specs.Prelude.{◌≡◌, ℕ, ◌+◌, ◌-◌, ◌%◌, ◌^◌, ◌≤◌, min, max, nat_lt, nat_le, Bool, true, not, ◌&&◌, if◌then◌else◌, List, [], ◌∷◌, length, map, slice_index, Option, Some, None, IsTrue, IsSome}
+use Rattle.std.specs.List.{list_all, list_any, range_with_len}
 use Rattle.byteorder.specs.Endian.{little_from}
 use Rattle.elf_load.specs.declared.segment.Segment.{Segment}
 
@@ -11,9 +11,9 @@ pub record MemoryImage : Type 0 where
   pub entry : ℕ
   pub segments : List Segment
 
--- so many from start on lie between low and high
-abbrev pub is_within : (start count low high : ℕ) → Bool
-is_within start count low high = nat_le low start && nat_le (start + count) high
+-- `count` numbers from `start` on lie among the `size` numbers from `base` on
+abbrev pub is_within : (start count base size : ℕ) → Bool
+is_within start count base size = nat_le base start && nat_le (start + count) (base + size)
 
 -- so many from the first start on and so many from the second start on have an address in common: the later start lies
 -- before the earlier end
@@ -22,7 +22,7 @@ do_meet first count second others = nat_lt (max first second) (min (first + coun
 
 -- so many bytes from this address on lie in the segment
 abbrev pub covers : Segment → ℕ → ℕ → Bool
-covers segment addr bytes = is_within addr bytes segment.vaddr (segment.vaddr + segment.memsz)
+covers segment addr bytes = is_within addr bytes segment.vaddr segment.memsz
 
 -- the four bytes from this address on in a segment, as a number. Past the bytes of the file they are 0.
 abbrev pub word_in : Segment → ℕ → ℕ
@@ -38,10 +38,19 @@ abbrev pub byte_at : List Segment → ℕ → ℕ
 byte_at [] addr = 0
 byte_at (segment ∷ segments) addr = if covers segment addr 1 then slice_index segment.bytes (addr - segment.vaddr) else byte_at segments addr
 
+-- so many bytes of memory from an address on
+abbrev pub bytes_from : List Segment → (addr count : ℕ) → List ℕ
+bytes_from segments addr count = map (byte_at segments) (range_with_len addr count)
+
+-- the byte at an address that the file has of a segment, or another byte where the file has none there
+abbrev pub byte_over : Segment → (addr other : ℕ) → ℕ
+byte_over segment addr other =
+    if is_within addr 1 segment.vaddr (length segment.bytes) then slice_index segment.bytes (addr - segment.vaddr) else other
+
 -- a segment is not empty, has at most as many bytes as it takes of memory, and lies in memory
 unfoldable pub is_placed : (base size : ℕ) → Segment → Bool
 is_placed base size segment =
-    nat_lt 0 segment.memsz && nat_le (length segment.bytes) segment.memsz && is_within segment.vaddr segment.memsz base (base + size)
+    nat_lt 0 segment.memsz && nat_le (length segment.bytes) segment.memsz && is_within segment.vaddr segment.memsz base size
 
 -- two segments have an address in common
 unfoldable pub do_overlap : Segment → Segment → Bool

@@ -1,6 +1,6 @@
 // What memory holds when an executable was loaded.
-ghost use Rattle.std.specs.Prelude.{◌≡◌, ◌≤◌, ◌<◌, ◌+◌, ◌&&◌, slice_index, IsTrue};
-ghost use Rattle.elf_load.specs.MemoryImage.{byte_at, covers, fetched, word_in, IsSound};
+ghost use Rattle.std.specs.Prelude.{◌≡◌, ◌≤◌, ◌<◌, ◌+◌, ◌&&◌, ℕ, length, slice_index, IsTrue};
+ghost use Rattle.elf_load.specs.MemoryImage.{byte_at, byte_over, bytes_from, covers, fetched, word_in, IsSound};
 
 use crate::Segment;
 use crate::range::is_within;
@@ -78,10 +78,22 @@ impl Image {
     {
         for segment in &self.segments {
             if is_within(addr, 1, segment.vaddr, segment.memsz) {
-                return byte_at(segment, addr - segment.vaddr);
+                return byte_at(segment.bytes.as_slice(), (addr - segment.vaddr) as usize);
             }
         }
         0
+    }
+
+    /// Copies the bytes of memory from an address on into `out`, each as `byte` gives it.
+    pub fn copy_to(&self, addr: u64, out: &mut [u8])
+        requires begins { self.now.base ≤ addr }
+        requires ends { addr + length out.old ≤ self.now.base + self.now.size }
+        ensures { out.new ≡ bytes_from self.now.segments addr (length out.old) }
+    {
+        out.fill(0);
+        for segment in &self.segments {
+            copy_segment(segment, addr, out);
+        }
     }
 
     /// The word at an address, or None where its four bytes are not in one executable segment.
@@ -128,19 +140,36 @@ fn word_in(segment: &Segment, pc: u64) -> u32
     requires { IsTrue (covers segment.now pc 4) }
     ensures { result ≡ word_in segment.now pc }
 {
-    let offset = pc - segment.vaddr;
-    LittleEndian::read_u32(&[
-        byte_at(segment, offset),
-        byte_at(segment, offset + 1),
-        byte_at(segment, offset + 2),
-        byte_at(segment, offset + 3),
-    ])
+    let bytes = segment.bytes.as_slice();
+    let offset = (pc - segment.vaddr) as usize;
+    if offset + 4 <= bytes.len() {
+        LittleEndian::read_u32(&bytes[offset..])
+    } else {
+        LittleEndian::read_u32(&[
+            byte_at(bytes, offset),
+            byte_at(bytes, offset + 1),
+            byte_at(bytes, offset + 2),
+            byte_at(bytes, offset + 3),
+        ])
+    }
+}
+
+// Copies the bytes that the file has of a segment to their places in `out`, which begins at `addr`.
+fn copy_segment(segment: &Segment, addr: u64, out: &mut [u8])
+    ensures { (i : ℕ) → i < length out.old → slice_index out.new i ≡ byte_over segment.now (addr + i) (slice_index out.old i) }
+{
+    let bytes = segment.bytes.as_slice();
+    let before = addr.saturating_sub(segment.vaddr) as usize;
+    let start = segment.vaddr.saturating_sub(addr) as usize;
+    if before < bytes.len() && start < out.len() {
+        let count = (bytes.len() - before).min(out.len() - start);
+        out[start..start + count].copy_from_slice(&bytes[before..before + count]);
+    }
 }
 
 // A byte of a segment, which is 0 past those of the file.
-fn byte_at(segment: &Segment, offset: u64) -> u8
-    ensures { result ≡ slice_index segment.now.bytes offset }
+fn byte_at(bytes: &[u8], offset: usize) -> u8
+    ensures { result ≡ slice_index bytes.now offset }
 {
-    let bytes = segment.bytes.as_slice();
-    bytes.get(offset as usize).copied().unwrap_or(0)
+    bytes.get(offset).copied().unwrap_or(0)
 }

@@ -2,11 +2,11 @@
 ghost use Rattle.std.specs.Prelude.{◌≡◌, ◌+◌};
 ghost use Rattle.elf_load.specs.MemoryImage.{do_meet, is_within};
 
-/// Whether `count` numbers from `start` on lie among the `len` numbers from `low` on.
-pub fn is_within(start: u64, count: u64, low: u64, len: u64) -> bool
-    ensures { result ≡ is_within start count low (low + len) }
+/// Whether `count` numbers from `start` on lie among the `size` numbers from `base` on.
+pub fn is_within(start: u64, count: u64, base: u64, size: u64) -> bool
+    ensures { result ≡ is_within start count base size }
 {
-    low <= start && start - low <= len && count <= len - (start - low)
+    base <= start && start - base <= size && count <= size - (start - base)
 }
 
 /// Whether `count` numbers from `first` on and `others` from `second` on have a number in common.

@@ -83,6 +83,20 @@ fn byte_of(image: &Image, addr: u64) -> Option<u8> {
     }
 }
 
+// The bytes from an address on, where all are in memory.
+fn bytes_of<const N: usize>(image: &Image, addr: u64) -> Option<[u8; N]> {
+    let mut bytes = [0xff; N];
+    if image.base() <= addr
+        && addr - image.base() <= image.size()
+        && N as u64 <= image.size() - (addr - image.base())
+    {
+        image.copy_to(addr, &mut bytes);
+        Some(bytes)
+    } else {
+        None
+    }
+}
+
 // A fault, and the change of SEVEN that makes it.
 struct Row {
     fault: BadElf,
@@ -308,6 +322,10 @@ fn headers_of_other_types_are_skipped(rt: HostRuntime) -> Result<(), Fail> {
     assert_eq!(rt; image.word(0x10000), Some(0x0000_0597));
     assert_eq!(rt; byte_of(&image, 0x10024), Some(b'h'));
     assert_eq!(rt; byte_of(&image, 0x10027), Some(0));
+    assert_eq!(rt;
+        bytes_of(&image, 0x10023),
+        Some([0, b'h', b'i', b'\n', 0, 0])
+    );
     Ok(())
 }
 
@@ -367,6 +385,12 @@ fn a_linked_executable_has_gaps_between_segments(rt: HostRuntime) -> Result<(), 
     ] {
         assert_eq!(rt; byte_of(&image, addr), Some(byte));
     }
+    assert_eq!(rt;
+        bytes_of(&image, 0x11fff),
+        Some([0, b'h', b'i', b'\n', 0, 0])
+    );
+    assert_eq!(rt; bytes_of(&image, 0x13fff), Some([0, 5, 0]));
+    assert_eq!(rt; bytes_of::<2>(&image, 0x10_ffff + 0x1_0000), None);
     Ok(())
 }
 

@@ -62,7 +62,7 @@ is_in_line request = nat_le (addr_of request % 64 + width_of request) 64
 
 -- all its bytes are in memory
 abbrev pub is_in_memory : MemoryImage → Request → Bool
-is_in_memory image request = is_within (addr_of request) (width_of request) image.base (image.base + image.size)
+is_in_memory image request = is_within (addr_of request) (width_of request) image.base image.size
 
 -- The core asks for an access, whose reply goes to a register. An access that crosses a line halts the core as illegal:
 -- it is not carried out yet. One that is not wholly in memory halts the core too.

@@ -1,8 +1,7 @@
 -- The memory of a machine as one list of bytes. Numbers in it are little-endian.
-use Rattle.std.specs.Prelude.{ℕ, ◌+◌, ◌-◌, List, ◌++◌, length, map, take, drop}
-use Rattle.std.specs.List.{range_with_len}
+use Rattle.std.specs.Prelude.{ℕ, ◌+◌, ◌-◌, List, ◌++◌, length, take, drop}
 use Rattle.byteorder.specs.Endian.{little_bytes, little_number}
-use Rattle.elf_load.specs.MemoryImage.{MemoryImage, byte_at}
+use Rattle.elf_load.specs.MemoryImage.{MemoryImage, bytes_from}
 use Rattle.zs_num.specs.declared.request.Request.{Request}
 use Rattle.zs_num.specs.declared.request.Request.TheVariants.{Load, Store, Lr, Sc, Amo}
 
@@ -13,7 +12,7 @@ pub record MemoryBytes : Type 0 where
 
 -- what memory holds when an executable was loaded
 abbrev pub loaded : MemoryImage → MemoryBytes
-loaded image = record { base = image.base; bytes = map (byte_at image.segments) (range_with_len image.base image.size) }
+loaded image = record { base = image.base; bytes = bytes_from image.segments image.base image.size }
 
 -- the number in so many bytes from an address on
 unfoldable pub number_at : MemoryBytes → (addr width : ℕ) → ℕ

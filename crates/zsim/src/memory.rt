@@ -31,12 +31,8 @@ impl FlatMemory {
         ensures { IfOk result (λ memory. memory ≡ loaded image.now) }
     {
         let base = image.base();
-        let end = base + image.size();
-        let mut bytes = Vec::new(alloc);
-        bytes.reserve(image.size() as usize)?;
-        for addr in base..end {
-            bytes.push(image.byte(addr))?;
-        }
+        let mut bytes = vec![in alloc; 0; image.size() as usize]?;
+        image.copy_to(base, &mut bytes);
         Ok(FlatMemory { base, bytes })
     }
 
