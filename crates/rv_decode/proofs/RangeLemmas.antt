@@ -165,12 +165,18 @@ pub instruction_by_row : (word : ℕ) (o : Option Inst) → o ≡ decoded word �
 instruction_by_row word (Some i) e = row_from_decoded word i (sym e)
 instruction_by_row word None e = tt
 
+pub in_range : (word : ℕ) (i : Inst) → decoded word ≡ Some i → IsInRange i
+in_range word i e = in_range_by_row word i (row_from_decoded word i e)
+
+pub registers : (word : ℕ) (i : Inst) → decoded word ≡ Some i → (i.rd < 32) × (i.rs1 < 32) × (i.rs2 < 32)
+registers word i e = registers_by_format (format_of i.name) i (in_range word i e).0
+
 pub instruction_in_range : (word : ℕ) (o : Option Inst) → o ≡ decoded word → IfSome o IsInRange
-instruction_in_range word (Some i) e = in_range_by_row word i (row_from_decoded word i (sym e))
+instruction_in_range word (Some i) e = in_range word i (sym e)
 instruction_in_range word None e = tt
 
 pub instruction_registers : (word : ℕ) (o : Option Inst) → o ≡ decoded word → IfSome o (λ i. (i.rd < 32) × (i.rs1 < 32) × (i.rs2 < 32))
-instruction_registers word (Some i) e = registers_by_format (format_of i.name) i (in_range_by_row word i (row_from_decoded word i (sym e))).0
+instruction_registers word (Some i) e = registers word i (sym e)
 instruction_registers word None e = tt
 
 -- ---- each name is that of one row
