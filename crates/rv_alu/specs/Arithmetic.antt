@@ -8,12 +8,12 @@ use Rattle.rv_decode.specs.declared.name.Name.TheVariants.{Addi, Slti, Sltiu, Xo
 use Rattle.rv_alu.specs.Operations.{sum, difference, shift_left, shift_right, shift_right_signed, product, upper_half, quotient, remainder, signed_quotient, signed_remainder, low_word, sign_extended}
 
 -- the number that 64 bits read as signed
-abbrev pub signed : ℕ → ℤ
-signed x = cast_signed w64 x
+abbrev pub signed_64 : ℕ → ℤ
+signed_64 x = cast_signed w64 x
 
 -- 1 where a is less, and else 0
 abbrev pub less_signed : ℕ → ℕ → ℕ
-less_signed a b = if int_lt (signed a) (signed b) then 1 else 0
+less_signed a b = if int_lt (signed_64 a) (signed_64 b) then 1 else 0
 
 abbrev pub less_unsigned : ℕ → ℕ → ℕ
 less_unsigned a b = if nat_lt a b then 1 else 0
@@ -55,8 +55,8 @@ result_of Sraiw a b = on_words (shift_right_signed w32) a b
 result_of Sraw a b = on_words (shift_right_signed w32) a b
 -- "M", on 64 bits
 result_of Mul a b = product w64 a b
-result_of Mulh a b = upper_half (signed a *ℤ signed b)
-result_of Mulhsu a b = upper_half (signed a *ℤ pos b)
+result_of Mulh a b = upper_half (signed_64 a *ℤ signed_64 b)
+result_of Mulhsu a b = upper_half (signed_64 a *ℤ pos b)
 result_of Mulhu a b = upper_half (pos a *ℤ pos b)
 result_of Div a b = signed_quotient w64 a b
 result_of Divu a b = quotient w64 a b

@@ -3,7 +3,7 @@
 ghost use Rattle.std.specs.Prelude.{◌≡◌, IsTrue};
 ghost use Rattle.rv_alu.specs.Arithmetic.{is_arithmetic, result_of};
 
-use crate::{doubles, words};
+use crate::{doublewords, words};
 use rv_decode::Name;
 use words::{low, sign_extend};
 
@@ -43,20 +43,20 @@ pub fn alu(name: Name, a: u64, b: u64) -> u64
         Name::Andi | Name::And => a & b,
         Name::Slli | Name::Sll => a << (b % 64),
         Name::Srli | Name::Srl => a >> (b % 64),
-        Name::Srai | Name::Sra => doubles::shift_right_signed(a, b),
+        Name::Srai | Name::Sra => doublewords::shift_right_signed(a, b),
         Name::Addiw | Name::Addw => sign_extend(low(a).wrapping_add(low(b))),
         Name::Subw => sign_extend(low(a).wrapping_sub(low(b))),
         Name::Slliw | Name::Sllw => sign_extend(low(a) << (low(b) % 32)),
         Name::Srliw | Name::Srlw => sign_extend(low(a) >> (low(b) % 32)),
         Name::Sraiw | Name::Sraw => sign_extend(words::shift_right_signed(low(a), low(b))),
         Name::Mul => a.wrapping_mul(b),
-        Name::Mulh => doubles::multiply_high(a, b),
-        Name::Mulhsu => doubles::multiply_high_mixed(a, b),
-        Name::Mulhu => doubles::multiply_high_unsigned(a, b),
-        Name::Div => doubles::divide(a, b),
-        Name::Divu => doubles::divide_unsigned(a, b),
-        Name::Rem => doubles::remainder(a, b),
-        Name::Remu => doubles::remainder_unsigned(a, b),
+        Name::Mulh => doublewords::multiply_high(a, b),
+        Name::Mulhsu => doublewords::multiply_high_mixed(a, b),
+        Name::Mulhu => doublewords::multiply_high_unsigned(a, b),
+        Name::Div => doublewords::divide(a, b),
+        Name::Divu => doublewords::divide_unsigned(a, b),
+        Name::Rem => doublewords::remainder(a, b),
+        Name::Remu => doublewords::remainder_unsigned(a, b),
         Name::Mulw => sign_extend(low(a).wrapping_mul(low(b))),
         Name::Divw => sign_extend(words::divide(low(a), low(b))),
         Name::Divuw => sign_extend(words::divide_unsigned(low(a), low(b))),

@@ -3,7 +3,7 @@
 ghost use Rattle.std.specs.Prelude.{◌≡◌, ◌⊎◌, ◌^◌, ◌<◌};
 ghost use Rattle.rv_alu.specs.Atomic.{new_number};
 
-use crate::{doubles, words};
+use crate::{doublewords, words};
 use words::low;
 use zs_num::AmoOp;
 
@@ -19,6 +19,6 @@ pub fn amo(op: AmoOp, width: u8, old: u64, value: u64) -> u64
     if width == 4 {
         u64::from(words::update(op, low(old), low(value)))
     } else {
-        doubles::update(op, old, value)
+        doublewords::update(op, old, value)
     }
 }

@@ -2,21 +2,35 @@
 //! contract of a function that does nothing.
 #![tactic(auto, unfolding(crate::specs::Arithmetic::result_of, crate::specs::Branch::is_taken))]
 
-ghost use Rattle.std.specs.Prelude.{◌≡◌, ◌≢◌, ℕ, ◌+◌, ◌-◌, ◌*◌, ◌%◌, ◌^◌, ◌<◌, ◌≤◌, not, pos, negsuc, ◌*ℤ◌};
+ghost use Rattle.std.specs.Prelude.{◌==◌, [], ◌∷◌, ◌≡◌, ◌≢◌, ℕ, ◌+◌, ◌-◌, ◌*◌, ◌%◌, ◌^◌, ◌<◌, ◌≤◌, not, pos, negsuc, ◌*ℤ◌};
 ghost use Rattle.std.specs.Int.{w64};
-ghost use Rattle.rv_alu.specs.Arithmetic.{result_of, signed};
-ghost use Rattle.rv_alu.specs.Branch.{is_taken};
+ghost use Rattle.std.specs.List.{list_any};
+ghost use Rattle.rv_decode.specs.InstructionWord.{opcode_of};
+ghost use Rattle.rv_decode.specs.NamedRows.{value_of};
+ghost use Rattle.rv_decode.specs.Opcodes as opcode;
+ghost use Rattle.rv_decode.specs.declared.name.Name.{Name};
+ghost use Rattle.rv_alu.specs.Arithmetic.{is_arithmetic, result_of, signed_64};
+ghost use Rattle.rv_alu.specs.Branch.{is_branch, is_taken};
 ghost use Rattle.rv_alu.specs.Laws.{AreHalves, IsDivision, IsOverflow};
 ghost use Rattle.rv_alu.specs.Operations.{low_word, word_of};
 
 use rv_decode::Name;
 
+/// `alu` computes exactly the instructions whose row has the opcode OP-IMM, OP-IMM-32, OP or OP-32, and `taken`
+/// decides exactly those of BRANCH.
+pub fn opcodes()
+    ensures arithmetic { (name : Name) → is_arithmetic name
+        ≡ list_any (λ code. opcode_of (value_of name) == code)
+        (opcode.op_imm ∷ opcode.op_imm_32 ∷ opcode.op ∷ opcode.op_32 ∷ []) }
+    ensures branches { (name : Name) → is_branch name ≡ (opcode_of (value_of name) == opcode.branch) }
+{}
+
 /// DIV and REM divide, except by zero and where the quotient overflows.
 pub fn signed_division()
     ensures { (a b : ℕ) → a < 2 ^ 64 → b < 2 ^ 64 → b ≢ 0 → ¬ IsOverflow w64 a b
-        → (let quotient = signed (result_of Name.Div a b) in
-        let remainder = signed (result_of Name.Rem a b) in
-        IsDivision (signed a) (signed b) quotient remainder) }
+        → (let quotient = signed_64 (result_of Name.Div a b) in
+        let remainder = signed_64 (result_of Name.Rem a b) in
+        IsDivision (signed_64 a) (signed_64 b) quotient remainder) }
 {}
 
 /// Where the quotient overflows, it is the dividend, and the remainder is 0.
@@ -34,7 +48,7 @@ pub fn unsigned_division()
 
 /// By zero the quotient has all bits set, and the remainder is the dividend.
 pub fn division_by_zero()
-    ensures signed_quotient { (a : ℕ) → signed (result_of Name.Div a 0) ≡ negsuc 0 }
+    ensures signed_quotient { (a : ℕ) → signed_64 (result_of Name.Div a 0) ≡ negsuc 0 }
     ensures signed_remainder { (a : ℕ) → result_of Name.Rem a 0 ≡ a }
     ensures quotient { (a : ℕ) → result_of Name.Divu a 0 ≡ 2 ^ 64 - 1 }
     ensures remainder { (a : ℕ) → result_of Name.Remu a 0 ≡ a }
@@ -43,11 +57,11 @@ pub fn division_by_zero()
 /// The two halves of a product are the whole product.
 pub fn product_halves()
     ensures signed { (a b : ℕ) → a < 2 ^ 64 → b < 2 ^ 64
-        → AreHalves (signed (result_of Name.Mulh a b)) (result_of Name.Mul a b)
-        (signed a *ℤ signed b) }
+        → AreHalves (signed_64 (result_of Name.Mulh a b)) (result_of Name.Mul a b)
+        (signed_64 a *ℤ signed_64 b) }
     ensures mixed { (a b : ℕ) → a < 2 ^ 64 → b < 2 ^ 64
-        → AreHalves (signed (result_of Name.Mulhsu a b)) (result_of Name.Mul a b)
-        (signed a *ℤ pos b) }
+        → AreHalves (signed_64 (result_of Name.Mulhsu a b)) (result_of Name.Mul a b)
+        (signed_64 a *ℤ pos b) }
     ensures unsigned { (a b : ℕ) → a < 2 ^ 64 → b < 2 ^ 64
         → AreHalves (pos (result_of Name.Mulhu a b)) (result_of Name.Mul a b) (pos (a * b)) }
 {}

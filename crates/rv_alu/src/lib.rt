@@ -6,7 +6,7 @@
 mod arithmetic;
 mod atomic;
 mod branch;
-mod doubles;
+mod doublewords;
 pub mod laws;
 mod words;
 

@@ -3,15 +3,15 @@ use Rattle.std.proofs.Common.{◌≡◌, ℕ, ◌+◌, ◌-◌, ◌^◌, ◌<◌
 use Rattle.std.specs.List.{list_all}
 use Rattle.std.specs.Option.{option_or}
 use Rattle.std.proofs.lemmas.List.Folds.{find-append}
-use Rattle.rv_decode.specs.InstructionWord.{bits_of, opcode_of, rd_of, funct3_of, rs1_of, rs2_of, funct7_of}
-use Rattle.rv_decode.specs.InstructionTable.{Family, row_at, matches, named, families, table, decoded, by_row, instruction, uppers, jumps, register_jumps, branches, loads, stores, immediates, left_shifts, right_shifts, word_immediates, left_word_shifts, right_word_shifts, fences, calls, operations, alternate_operations, multiplications, word_operations, alternate_word_operations, word_multiplications, word_atomics, doubleword_atomics}
+use Rattle.rv_decode.specs.InstructionWord.{bits_of, ones, opcode_of, rd_of, funct3_of, rs1_of, rs2_of, funct7_of}
+use Rattle.rv_decode.specs.InstructionTable.{Family, row_at, matches, named, families, table, decoded, by_row, instruction, uppers, jumps, register_jumps, branches, loads, stores, immediates, left_shifts, right_shifts, word_immediates, left_word_shifts, right_word_shifts, fences, calls, operations, alternate_operations, extension_m, word_operations, alternate_word_operations, extension_m_words, word_atomics, doubleword_atomics}
 use Rattle.rv_decode.specs.declared.format.Format.{Format}
 use Rattle.rv_decode.specs.declared.format.Format.TheVariants.{U, J, I, B, S, R, Shift, WordShift, Atomic, LoadReserved, Whole}
 use Rattle.rv_decode.specs.declared.name.Name.TheVariants.{Lui, Auipc, Jal, LrW, LrD}
 use Rattle.rv_decode.specs.declared.inst.Inst.{Inst}
 use Rattle.rv_decode.specs.declared.name.Name.{Name}
 use Rattle.rv_decode.proofs.WordLemmas.{states, and-states}
-use Rattle.rv_decode.proofs.FamilyLemmas.{ones, is_family, find-rows, both_true}
+use Rattle.rv_decode.proofs.FamilyLemmas.{is_family, find-rows, both_true}
 
 -- a family whose numbers are 32 bits wide
 abbrev pub is_word_family : Family → Bool
@@ -167,8 +167,8 @@ decoded-operations word e f = decoded_at_funct7 0x33 0x00 word e f ∙ option_or
 pub decoded-alternate_operations : (word : ℕ) → opcode_of word ≡ 0x33 → funct7_of word ≡ 0x20 → decoded word ≡ formatted R (named alternate_operations.names (funct3_of word)) word
 decoded-alternate_operations word e f = decoded_at_funct7 0x33 0x20 word e f ∙ option_or-None _
 
-pub decoded-multiplications : (word : ℕ) → opcode_of word ≡ 0x33 → funct7_of word ≡ 0x01 → decoded word ≡ formatted R (named multiplications.names (funct3_of word)) word
-decoded-multiplications word e f = decoded_at_funct7 0x33 0x01 word e f ∙ option_or-None _
+pub decoded-extension_m : (word : ℕ) → opcode_of word ≡ 0x33 → funct7_of word ≡ 0x01 → decoded word ≡ formatted R (named extension_m.names (funct3_of word)) word
+decoded-extension_m word e f = decoded_at_funct7 0x33 0x01 word e f ∙ option_or-None _
 
 pub no_operation : (word : ℕ) → opcode_of word ≡ 0x33 → funct7_of word ≢ 0x00 → funct7_of word ≢ 0x20 → funct7_of word ≢ 0x01 → decoded word ≡ None
 no_operation word e a b d = decoded_at 0x33 word e ∙ rw (ne_eqb _ _ a, ne_eqb _ _ b, ne_eqb _ _ d) refl
@@ -179,8 +179,8 @@ decoded-word_operations word e f = decoded_at_funct7 0x3b 0x00 word e f ∙ opti
 pub decoded-alternate_word_operations : (word : ℕ) → opcode_of word ≡ 0x3b → funct7_of word ≡ 0x20 → decoded word ≡ formatted R (named alternate_word_operations.names (funct3_of word)) word
 decoded-alternate_word_operations word e f = decoded_at_funct7 0x3b 0x20 word e f ∙ option_or-None _
 
-pub decoded-word_multiplications : (word : ℕ) → opcode_of word ≡ 0x3b → funct7_of word ≡ 0x01 → decoded word ≡ formatted R (named word_multiplications.names (funct3_of word)) word
-decoded-word_multiplications word e f = decoded_at_funct7 0x3b 0x01 word e f ∙ option_or-None _
+pub decoded-extension_m_words : (word : ℕ) → opcode_of word ≡ 0x3b → funct7_of word ≡ 0x01 → decoded word ≡ formatted R (named extension_m_words.names (funct3_of word)) word
+decoded-extension_m_words word e f = decoded_at_funct7 0x3b 0x01 word e f ∙ option_or-None _
 
 pub no_word_operation : (word : ℕ) → opcode_of word ≡ 0x3b → funct7_of word ≢ 0x00 → funct7_of word ≢ 0x20 → funct7_of word ≢ 0x01 → decoded word ≡ None
 no_word_operation word e a b d = decoded_at 0x3b word e ∙ rw (ne_eqb _ _ a, ne_eqb _ _ b, ne_eqb _ _ d) refl
@@ -281,8 +281,8 @@ pub ruleset by_word_immediate = (decoded-left_word_shifts, decoded-right_word_sh
 
 pub ruleset by_call = (decoded-calls, no_call)
 
-pub ruleset by_operation = (decoded-operations, decoded-alternate_operations, decoded-multiplications, no_operation)
+pub ruleset by_operation = (decoded-operations, decoded-alternate_operations, decoded-extension_m, no_operation)
 
-pub ruleset by_word_operation = (decoded-word_operations, decoded-alternate_word_operations, decoded-word_multiplications, no_word_operation)
+pub ruleset by_word_operation = (decoded-word_operations, decoded-alternate_word_operations, decoded-extension_m_words, no_word_operation)
 
 pub ruleset by_atomic = (decoded-lr_w, decoded-lr_d, decoded-word_atomics, decoded-doubleword_atomics, no_atomic)

@@ -5,14 +5,10 @@ use Rattle.std.specs.List.{list_all}
 use Rattle.std.proofs.lemmas.Nat.{shl-shr}
 use Rattle.std.proofs.lemmas.Nat.Bits.{and_high}
 use Rattle.std.proofs.lemmas.Bool.Decides.{same_from_decides, Decides-eqb, Decides-and}
-use Rattle.rv_decode.specs.InstructionWord.{bits_of}
+use Rattle.rv_decode.specs.InstructionWord.{bits_of, ones}
 use Rattle.rv_decode.specs.InstructionTable.{Family, row_at, matches}
 use Rattle.rv_decode.specs.declared.name.Name.{Name}
 use Rattle.rv_decode.proofs.WordLemmas.{and-sum, parts_of_sums}
-
--- the bits from high down to low
-abbrev pub ones : ℕ → ℕ → ℕ
-ones high low = 2 ^ (high + 1) - 2 ^ low
 
 pub and-ones : (high low x : ℕ) → low ≤ high → bit_and x (ones high low) ≡ bits_of high low x * 2 ^ low
 and-ones high low x h =

@@ -1,7 +1,8 @@
 -- The instruction table of RV64I with the extensions M and A (RISC-V Unprivileged ISA manual,
 -- version 20191213, "RV32/64G Instruction Set Listings"), and the instruction that a word is.
-use Rattle.std.specs.Prelude.{ℕ, ◌+◌, ◌-◌, ◌*◌, ◌^◌, pos, Bool, ◌==◌, bit_and, List, [], ◌∷◌, map, flat_map, find, Option, option_map}
-use Rattle.rv_decode.specs.InstructionWord.{bits_of, rd_of, rs1_of, rs2_of, i_immediate, s_immediate, b_immediate, u_immediate, j_immediate}
+use Rattle.std.specs.Prelude.{ℕ, ◌+◌, ◌*◌, ◌^◌, pos, Bool, ◌==◌, bit_and, List, [], ◌∷◌, map, flat_map, find, Option, option_map}
+use Rattle.rv_decode.specs.InstructionWord.{bits_of, ones, rd_of, rs1_of, rs2_of, i_immediate, s_immediate, b_immediate, u_immediate, j_immediate}
+use Rattle.rv_decode.specs.Opcodes as opcode
 use Rattle.rv_decode.specs.declared.format.Format.{Format}
 use Rattle.rv_decode.specs.declared.format.Format.TheVariants.{U, J, I, B, S, R, Shift, WordShift, Atomic, LoadReserved, Whole}
 use Rattle.rv_decode.specs.declared.inst.Inst.{Inst}
@@ -35,7 +36,7 @@ named names number = option_map (λ entry. entry.1) (find (λ entry. entry.0 == 
 -- the row of a family with this number and name
 abbrev pub row_at : Family → ℕ × Name → Row
 row_at family entry = record {
-  mask = family.mask + (2 ^ (family.high + 1) - 2 ^ family.low);
+  mask = family.mask + ones family.high family.low;
   value = family.value + entry.0 * 2 ^ family.low;
   format = family.format;
   name = entry.1;
@@ -86,93 +87,93 @@ by_funct12 opcode names =
 
 -- "Integer Register-Immediate Instructions": LUI and AUIPC
 abbrev pub uppers : Family
-uppers = by_opcode U ((0x37, Lui) ∷ (0x17, Auipc) ∷ [])
+uppers = by_opcode U ((opcode.lui, Lui) ∷ (opcode.auipc, Auipc) ∷ [])
 
 -- "Unconditional Jumps"
 abbrev pub jumps : Family
-jumps = by_opcode J ((0x6f, Jal) ∷ [])
+jumps = by_opcode J ((opcode.jal, Jal) ∷ [])
 
 abbrev pub register_jumps : Family
-register_jumps = by_funct3 0x67 I ((0, Jalr) ∷ [])
+register_jumps = by_funct3 opcode.jalr I ((0, Jalr) ∷ [])
 
 -- "Conditional Branches"
 abbrev pub branches : Family
-branches = by_funct3 0x63 B ((0, Beq) ∷ (1, Bne) ∷ (4, Blt) ∷ (5, Bge) ∷ (6, Bltu) ∷ (7, Bgeu) ∷ [])
+branches = by_funct3 opcode.branch B ((0, Beq) ∷ (1, Bne) ∷ (4, Blt) ∷ (5, Bge) ∷ (6, Bltu) ∷ (7, Bgeu) ∷ [])
 
 -- "Load and Store Instructions", of RV32I and of RV64I
 abbrev pub loads : Family
-loads = by_funct3 0x03 I ((0, Lb) ∷ (1, Lh) ∷ (2, Lw) ∷ (3, Ld) ∷ (4, Lbu) ∷ (5, Lhu) ∷ (6, Lwu) ∷ [])
+loads = by_funct3 opcode.load I ((0, Lb) ∷ (1, Lh) ∷ (2, Lw) ∷ (3, Ld) ∷ (4, Lbu) ∷ (5, Lhu) ∷ (6, Lwu) ∷ [])
 
 abbrev pub stores : Family
-stores = by_funct3 0x23 S ((0, Sb) ∷ (1, Sh) ∷ (2, Sw) ∷ (3, Sd) ∷ [])
+stores = by_funct3 opcode.store S ((0, Sb) ∷ (1, Sh) ∷ (2, Sw) ∷ (3, Sd) ∷ [])
 
 -- "Integer Register-Immediate Instructions", of RV32I and of RV64I
 abbrev pub immediates : Family
-immediates = by_funct3 0x13 I ((0, Addi) ∷ (2, Slti) ∷ (3, Sltiu) ∷ (4, Xori) ∷ (6, Ori) ∷ (7, Andi) ∷ [])
+immediates = by_funct3 opcode.op_imm I ((0, Addi) ∷ (2, Slti) ∷ (3, Sltiu) ∷ (4, Xori) ∷ (6, Ori) ∷ (7, Andi) ∷ [])
 
 abbrev pub left_shifts : Family
-left_shifts = by_shift 0x13 1 ((0, Slli) ∷ [])
+left_shifts = by_shift opcode.op_imm 1 ((0, Slli) ∷ [])
 
 abbrev pub right_shifts : Family
-right_shifts = by_shift 0x13 5 ((0, Srli) ∷ (0x10, Srai) ∷ [])
+right_shifts = by_shift opcode.op_imm 5 ((0, Srli) ∷ (0x10, Srai) ∷ [])
 
 abbrev pub word_immediates : Family
-word_immediates = by_funct3 0x1b I ((0, Addiw) ∷ [])
+word_immediates = by_funct3 opcode.op_imm_32 I ((0, Addiw) ∷ [])
 
 abbrev pub left_word_shifts : Family
-left_word_shifts = by_word_shift 0x1b 1 ((0, Slliw) ∷ [])
+left_word_shifts = by_word_shift opcode.op_imm_32 1 ((0, Slliw) ∷ [])
 
 abbrev pub right_word_shifts : Family
-right_word_shifts = by_word_shift 0x1b 5 ((0, Srliw) ∷ (0x20, Sraiw) ∷ [])
+right_word_shifts = by_word_shift opcode.op_imm_32 5 ((0, Srliw) ∷ (0x20, Sraiw) ∷ [])
 
 -- "Memory Ordering Instructions": FENCE, whose fields pred, succ and fm are its I immediate
 abbrev pub fences : Family
-fences = by_funct3 0x0f I ((0, Fence) ∷ [])
+fences = by_funct3 opcode.misc_mem I ((0, Fence) ∷ [])
 
 -- "Environment Call and Breakpoints"
 abbrev pub calls : Family
-calls = by_funct12 0x73 ((0, Ecall) ∷ (1, Ebreak) ∷ [])
+calls = by_funct12 opcode.system ((0, Ecall) ∷ (1, Ebreak) ∷ [])
 
--- "Integer Register-Register Operations", of RV32I and of RV64I, and of the extension M
--- "Multiplication Operations" and "Division Operations"
+-- "Integer Register-Register Operations", of RV32I and of RV64I, and the extension M: "Multiplication Operations" and
+-- "Division Operations"
 abbrev pub operations : Family
-operations = by_funct7_funct3 0x33 0x00 ((0, Add) ∷ (1, Sll) ∷ (2, Slt) ∷ (3, Sltu) ∷ (4, Xor) ∷ (5, Srl) ∷ (6, Or) ∷ (7, And) ∷ [])
+operations = by_funct7_funct3 opcode.op 0x00 ((0, Add) ∷ (1, Sll) ∷ (2, Slt) ∷ (3, Sltu) ∷ (4, Xor) ∷ (5, Srl) ∷ (6, Or) ∷ (7, And) ∷ [])
 
 abbrev pub alternate_operations : Family
-alternate_operations = by_funct7_funct3 0x33 0x20 ((0, Sub) ∷ (5, Sra) ∷ [])
+alternate_operations = by_funct7_funct3 opcode.op 0x20 ((0, Sub) ∷ (5, Sra) ∷ [])
 
-abbrev pub multiplications : Family
-multiplications = by_funct7_funct3 0x33 0x01 ((0, Mul) ∷ (1, Mulh) ∷ (2, Mulhsu) ∷ (3, Mulhu) ∷ (4, Div) ∷ (5, Divu) ∷ (6, Rem) ∷ (7, Remu) ∷ [])
+abbrev pub extension_m : Family
+extension_m = by_funct7_funct3 opcode.op 0x01 ((0, Mul) ∷ (1, Mulh) ∷ (2, Mulhsu) ∷ (3, Mulhu) ∷ (4, Div) ∷ (5, Divu) ∷ (6, Rem) ∷ (7, Remu) ∷ [])
 
 abbrev pub word_operations : Family
-word_operations = by_funct7_funct3 0x3b 0x00 ((0, Addw) ∷ (1, Sllw) ∷ (5, Srlw) ∷ [])
+word_operations = by_funct7_funct3 opcode.op_32 0x00 ((0, Addw) ∷ (1, Sllw) ∷ (5, Srlw) ∷ [])
 
 abbrev pub alternate_word_operations : Family
-alternate_word_operations = by_funct7_funct3 0x3b 0x20 ((0, Subw) ∷ (5, Sraw) ∷ [])
+alternate_word_operations = by_funct7_funct3 opcode.op_32 0x20 ((0, Subw) ∷ (5, Sraw) ∷ [])
 
-abbrev pub word_multiplications : Family
-word_multiplications = by_funct7_funct3 0x3b 0x01 ((0, Mulw) ∷ (4, Divw) ∷ (5, Divuw) ∷ (6, Remw) ∷ (7, Remuw) ∷ [])
+abbrev pub extension_m_words : Family
+extension_m_words = by_funct7_funct3 opcode.op_32 0x01 ((0, Mulw) ∷ (4, Divw) ∷ (5, Divuw) ∷ (6, Remw) ∷ (7, Remuw) ∷ [])
 
 -- The extension A: "Load-Reserved/Store-Conditional Instructions" and "Atomic Memory Operations"
 abbrev pub word_reservations : Family
-word_reservations = by_funct5_without_rs2 0x2f 2 ((0x02, LrW) ∷ [])
+word_reservations = by_funct5_without_rs2 opcode.amo 2 ((0x02, LrW) ∷ [])
 
 abbrev pub word_atomics : Family
-word_atomics = by_funct5 0x2f 2 ((0x03, ScW) ∷ (0x01, AmoswapW) ∷ (0x00, AmoaddW) ∷ (0x04, AmoxorW) ∷ (0x0c, AmoandW) ∷ (0x08, AmoorW) ∷ (0x10, AmominW) ∷ (0x14, AmomaxW) ∷ (0x18, AmominuW) ∷ (0x1c, AmomaxuW) ∷ [])
+word_atomics = by_funct5 opcode.amo 2 ((0x03, ScW) ∷ (0x01, AmoswapW) ∷ (0x00, AmoaddW) ∷ (0x04, AmoxorW) ∷ (0x0c, AmoandW) ∷ (0x08, AmoorW) ∷ (0x10, AmominW) ∷ (0x14, AmomaxW) ∷ (0x18, AmominuW) ∷ (0x1c, AmomaxuW) ∷ [])
 
 abbrev pub doubleword_reservations : Family
-doubleword_reservations = by_funct5_without_rs2 0x2f 3 ((0x02, LrD) ∷ [])
+doubleword_reservations = by_funct5_without_rs2 opcode.amo 3 ((0x02, LrD) ∷ [])
 
 abbrev pub doubleword_atomics : Family
-doubleword_atomics = by_funct5 0x2f 3 ((0x03, ScD) ∷ (0x01, AmoswapD) ∷ (0x00, AmoaddD) ∷ (0x04, AmoxorD) ∷ (0x0c, AmoandD) ∷ (0x08, AmoorD) ∷ (0x10, AmominD) ∷ (0x14, AmomaxD) ∷ (0x18, AmominuD) ∷ (0x1c, AmomaxuD) ∷ [])
+doubleword_atomics = by_funct5 opcode.amo 3 ((0x03, ScD) ∷ (0x01, AmoswapD) ∷ (0x00, AmoaddD) ∷ (0x04, AmoxorD) ∷ (0x0c, AmoandD) ∷ (0x08, AmoorD) ∷ (0x10, AmominD) ∷ (0x14, AmomaxD) ∷ (0x18, AmominuD) ∷ (0x1c, AmomaxuD) ∷ [])
 
 abbrev pub families : List Family
 families = uppers ∷ jumps ∷ register_jumps ∷ branches ∷ loads ∷ stores
     ∷ immediates ∷ left_shifts ∷ right_shifts
     ∷ word_immediates ∷ left_word_shifts ∷ right_word_shifts
     ∷ fences ∷ calls
-    ∷ operations ∷ alternate_operations ∷ multiplications
-    ∷ word_operations ∷ alternate_word_operations ∷ word_multiplications
+    ∷ operations ∷ alternate_operations ∷ extension_m
+    ∷ word_operations ∷ alternate_word_operations ∷ extension_m_words
     ∷ word_reservations ∷ word_atomics ∷ doubleword_reservations ∷ doubleword_atomics ∷ []
 
 -- the rows

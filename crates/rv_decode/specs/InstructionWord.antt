@@ -3,8 +3,12 @@
 use Rattle.std.specs.Prelude.{ℕ, ◌+◌, ◌-◌, ◌*◌, ◌/◌, ◌%◌, ◌^◌, ℤ, pos, ◌-ℤ◌, nat_lt, if◌then◌else◌}
 
 -- the bits of a word from high down to low, as a number
-abbrev pub bits_of : ℕ → ℕ → ℕ → ℕ
+abbrev pub bits_of : (high low word : ℕ) → ℕ
 bits_of high low word = word / 2 ^ low % 2 ^ (high + 1 - low)
+
+-- the mask of the bits from high down to low
+abbrev pub ones : (high low : ℕ) → ℕ
+ones high low = 2 ^ (high + 1) - 2 ^ low
 
 abbrev pub opcode_of : ℕ → ℕ
 opcode_of word = bits_of 6 0 word
@@ -25,7 +29,7 @@ abbrev pub funct7_of : ℕ → ℕ
 funct7_of word = bits_of 31 25 word
 
 -- the number that `width` bits stand for in two's complement
-abbrev pub signed : ℕ → ℕ → ℤ
+abbrev pub signed : (width n : ℕ) → ℤ
 signed width n = if nat_lt n (2 ^ (width - 1)) then pos n else pos n -ℤ pos (2 ^ width)
 
 -- bits 11 to 0 are 31 to 20 of the word

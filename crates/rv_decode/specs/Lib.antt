@@ -1,4 +1,5 @@
 pub mod InstructionWord
+pub mod Opcodes
 pub mod InstructionTable
 pub mod Matching
 pub mod NamedRows

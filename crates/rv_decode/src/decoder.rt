@@ -3,13 +3,14 @@ ghost use Rattle.std.specs.Prelude.{◌≡◌, ◌==◌, ◌<◌, ◌↔◌, if�
 ghost use Rattle.rv_decode.specs.InstructionWord.{opcode_of, rs2_of};
 ghost use Rattle.rv_decode.specs.InstructionTable as spec;
 ghost use Rattle.rv_decode.specs.InstructionTable.{Row, table, matches, by_row, decoded};
+ghost use Rattle.rv_decode.specs.Opcodes as opcode;
 ghost use Rattle.rv_decode.specs.Matching.{IsByRow, NoRowMatches};
 ghost use Rattle.rv_decode.specs.Ranges.{IsInRange};
 
 use crate::fields::{bits, funct3, funct7, opcode, rs2};
 use crate::formats::instruction;
 use crate::names::*;
-use crate::{Format, Inst, Name};
+use crate::{Format, Inst, Name, opcodes};
 
 /// The instruction that a word is, or None where no row of the instruction table matches it
 /// (RISC-V Unprivileged ISA manual, "RV32/64G Instruction Set Listings").
@@ -33,20 +34,20 @@ fn by_opcode(word: u32) -> Option<Inst>
     ensures { result ≡ decoded word }
 {
     match opcode(word) {
-        0x37 => Some(instruction(Format::U, Name::Lui, word)),
-        0x17 => Some(instruction(Format::U, Name::Auipc, word)),
-        0x6f => Some(instruction(Format::J, Name::Jal, word)),
-        0x67 => formatted(Format::I, register_jump_name(funct3(word)), word),
-        0x63 => formatted(Format::B, branch_name(funct3(word)), word),
-        0x03 => formatted(Format::I, load_name(funct3(word)), word),
-        0x23 => formatted(Format::S, store_name(funct3(word)), word),
-        0x13 => immediate(word),
-        0x1b => word_immediate(word),
-        0x0f => formatted(Format::I, fence_name(funct3(word)), word),
-        0x73 => call(word),
-        0x33 => operation(word),
-        0x3b => word_operation(word),
-        0x2f => atomic(word),
+        opcodes::LUI => Some(instruction(Format::U, Name::Lui, word)),
+        opcodes::AUIPC => Some(instruction(Format::U, Name::Auipc, word)),
+        opcodes::JAL => Some(instruction(Format::J, Name::Jal, word)),
+        opcodes::JALR => formatted(Format::I, register_jump_name(funct3(word)), word),
+        opcodes::BRANCH => formatted(Format::B, branch_name(funct3(word)), word),
+        opcodes::LOAD => formatted(Format::I, load_name(funct3(word)), word),
+        opcodes::STORE => formatted(Format::S, store_name(funct3(word)), word),
+        opcodes::OP_IMM => immediate(word),
+        opcodes::OP_IMM_32 => word_immediate(word),
+        opcodes::MISC_MEM => formatted(Format::I, fence_name(funct3(word)), word),
+        opcodes::SYSTEM => call(word),
+        opcodes::OP => operation(word),
+        opcodes::OP_32 => word_operation(word),
+        opcodes::AMO => atomic(word),
         _ => None,
     }
 }
@@ -63,7 +64,7 @@ fn formatted(format: Format, name: Option<Name>, word: u32) -> Option<Inst>
 /// An operation of a register and an immediate.
 #[tactic(auto, using(crate::proofs::DecodedLemmas::by_immediate))]
 fn immediate(word: u32) -> Option<Inst>
-    requires { opcode_of word ≡ 0x13 }
+    requires { opcode_of word ≡ opcode.op_imm }
     ensures { result ≡ decoded word }
 {
     match funct3(word) {
@@ -76,7 +77,7 @@ fn immediate(word: u32) -> Option<Inst>
 /// The same on the low 32 bits.
 #[tactic(auto, using(crate::proofs::DecodedLemmas::by_word_immediate))]
 fn word_immediate(word: u32) -> Option<Inst>
-    requires { opcode_of word ≡ 0x1b }
+    requires { opcode_of word ≡ opcode.op_imm_32 }
     ensures { result ≡ decoded word }
 {
     match funct3(word) {
@@ -89,7 +90,7 @@ fn word_immediate(word: u32) -> Option<Inst>
 /// ECALL and EBREAK, whose words have no field.
 #[tactic(auto, using(crate::proofs::DecodedLemmas::by_call))]
 fn call(word: u32) -> Option<Inst>
-    requires { opcode_of word ≡ 0x73 }
+    requires { opcode_of word ≡ opcode.system }
     ensures { result ≡ decoded word }
 {
     if bits(word, 19, 7) == 0 {
@@ -102,13 +103,13 @@ fn call(word: u32) -> Option<Inst>
 /// An operation of two registers.
 #[tactic(auto, using(crate::proofs::DecodedLemmas::by_operation))]
 fn operation(word: u32) -> Option<Inst>
-    requires { opcode_of word ≡ 0x33 }
+    requires { opcode_of word ≡ opcode.op }
     ensures { result ≡ decoded word }
 {
     match funct7(word) {
         0x00 => formatted(Format::R, operation_name(funct3(word)), word),
         0x20 => formatted(Format::R, alternate_operation_name(funct3(word)), word),
-        0x01 => formatted(Format::R, multiplication_name(funct3(word)), word),
+        0x01 => formatted(Format::R, extension_m_name(funct3(word)), word),
         _ => None,
     }
 }
@@ -116,13 +117,13 @@ fn operation(word: u32) -> Option<Inst>
 /// The same on the low 32 bits.
 #[tactic(auto, using(crate::proofs::DecodedLemmas::by_word_operation))]
 fn word_operation(word: u32) -> Option<Inst>
-    requires { opcode_of word ≡ 0x3b }
+    requires { opcode_of word ≡ opcode.op_32 }
     ensures { result ≡ decoded word }
 {
     match funct7(word) {
         0x00 => formatted(Format::R, word_operation_name(funct3(word)), word),
         0x20 => formatted(Format::R, alternate_word_operation_name(funct3(word)), word),
-        0x01 => formatted(Format::R, word_multiplication_name(funct3(word)), word),
+        0x01 => formatted(Format::R, extension_m_word_name(funct3(word)), word),
         _ => None,
     }
 }
@@ -130,7 +131,7 @@ fn word_operation(word: u32) -> Option<Inst>
 /// An atomic. The bits 31 to 27 are its funct5, which is 2 for a load-reserved.
 #[tactic(auto, using(crate::proofs::DecodedLemmas::by_atomic))]
 fn atomic(word: u32) -> Option<Inst>
-    requires { opcode_of word ≡ 0x2f }
+    requires { opcode_of word ≡ opcode.amo }
     ensures { result ≡ decoded word }
 {
     let funct5 = bits(word, 31, 27);

@@ -50,8 +50,8 @@ pub fn funct7(word: u32) -> u32
     bits(word, 31, 25)
 }
 
-/// The number that the low `width` bits of `bits` stand for in two's complement.
-fn signed(bits: u32, width: u32) -> i64
+/// The number that `width` bits stand for in two's complement.
+fn signed(width: u32, bits: u32) -> i64
     requires some { 0 < width }
     requires within { width ≤ 32 }
     requires fits { bits < 2 ^ width }
@@ -68,13 +68,13 @@ fn signed(bits: u32, width: u32) -> i64
 pub fn i_immediate(word: u32) -> i64
     ensures { result ≡ spec.i_immediate word }
 {
-    signed(bits(word, 31, 20), 12)
+    signed(12, bits(word, 31, 20))
 }
 
 pub fn s_immediate(word: u32) -> i64
     ensures { result ≡ spec.s_immediate word }
 {
-    signed((bits(word, 31, 25) << 5) + bits(word, 11, 7), 12)
+    signed(12, (bits(word, 31, 25) << 5) + bits(word, 11, 7))
 }
 
 pub fn b_immediate(word: u32) -> i64
@@ -82,13 +82,13 @@ pub fn b_immediate(word: u32) -> i64
 {
     let high = (bits(word, 31, 31) << 12) + (bits(word, 7, 7) << 11);
     let low = (bits(word, 30, 25) << 5) + (bits(word, 11, 8) << 1);
-    signed(high + low, 13)
+    signed(13, high + low)
 }
 
 pub fn u_immediate(word: u32) -> i64
     ensures { result ≡ spec.u_immediate word }
 {
-    signed(bits(word, 31, 12) << 12, 32)
+    signed(32, bits(word, 31, 12) << 12)
 }
 
 pub fn j_immediate(word: u32) -> i64
@@ -96,5 +96,5 @@ pub fn j_immediate(word: u32) -> i64
 {
     let high = (bits(word, 31, 31) << 20) + (bits(word, 19, 12) << 12);
     let low = (bits(word, 20, 20) << 11) + (bits(word, 30, 21) << 1);
-    signed(high + low, 21)
+    signed(21, high + low)
 }

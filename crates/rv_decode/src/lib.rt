@@ -9,6 +9,7 @@ mod inst;
 pub mod laws;
 mod name;
 mod names;
+mod opcodes;
 
 pub use decoder::decode;
 pub use fields::bits;

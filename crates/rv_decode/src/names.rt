@@ -1,7 +1,7 @@
 //! The names of the instructions of one opcode, by the field in which their rows differ. The groups are
 //! those of the instruction table.
 ghost use Rattle.std.specs.Prelude.{◌≡◌};
-ghost use Rattle.rv_decode.specs.InstructionTable.{named, register_jumps, branches, loads, stores, immediates, left_shifts, right_shifts, word_immediates, left_word_shifts, right_word_shifts, fences, calls, operations, alternate_operations, multiplications, word_operations, alternate_word_operations, word_multiplications, word_atomics, doubleword_atomics};
+ghost use Rattle.rv_decode.specs.InstructionTable.{named, register_jumps, branches, loads, stores, immediates, left_shifts, right_shifts, word_immediates, left_word_shifts, right_word_shifts, fences, calls, operations, alternate_operations, extension_m, word_operations, alternate_word_operations, extension_m_words, word_atomics, doubleword_atomics};
 
 use crate::Name;
 
@@ -161,8 +161,8 @@ pub fn alternate_operation_name(funct3: u32) -> Option<Name>
     }
 }
 
-pub fn multiplication_name(funct3: u32) -> Option<Name>
-    ensures { result ≡ named multiplications.names funct3 }
+pub fn extension_m_name(funct3: u32) -> Option<Name>
+    ensures { result ≡ named extension_m.names funct3 }
 {
     match funct3 {
         0 => Some(Name::Mul),
@@ -198,8 +198,8 @@ pub fn alternate_word_operation_name(funct3: u32) -> Option<Name>
     }
 }
 
-pub fn word_multiplication_name(funct3: u32) -> Option<Name>
-    ensures { result ≡ named word_multiplications.names funct3 }
+pub fn extension_m_word_name(funct3: u32) -> Option<Name>
+    ensures { result ≡ named extension_m_words.names funct3 }
 {
     match funct3 {
         0 => Some(Name::Mulw),

@@ -1,3 +1,4 @@
+pub mod TableLaws
 pub mod RowLemmas
 pub mod UnsignedLemmas
 pub mod PlaceLemmas

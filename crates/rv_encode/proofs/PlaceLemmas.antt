@@ -3,38 +3,38 @@
 use Rattle.std.proofs.Common.{◌≡◌, ℕ, ◌+◌, ◌-◌, ◌*◌, ◌%◌, ◌^◌, ◌<◌, ◌≤◌, Bool, true, false, cond, refl, ap, ap₂, ◌∙◌, arith, bit_and, pos, negsuc, neg_ℤ, ◌-ℤ◌, ℤ, nat_lt, suc, lt-ltb, le-ltb, ltb-false}
 use Rattle.std.proofs.lemmas.Int.{ints}
 use Rattle.std.proofs.lemmas.Nat.{and_mask}
-use Rattle.rv_decode.specs.InstructionWord.{bits_of, signed}
+use Rattle.rv_decode.specs.InstructionWord.{bits_of, ones, signed}
 use Rattle.rv_decode.specs.Ranges.{IsWithin}
 use Rattle.rv_encode.specs.Encoding.{unsigned}
-use Rattle.rv_decode.proofs.WordLemmas.{and-sum}
-use Rattle.rv_decode.proofs.FamilyLemmas.{ones, and-ones}
+use Rattle.rv_encode.proofs.TableLaws.{MaskLaws}
 
--- a number under a mask of two runs of ones
-two_runs : (high low high' low' x : ℕ) → bit_and (ones high low) (ones high' low') ≡ 0 → low ≤ high → low' ≤ high' → bit_and x (ones high low + ones high' low') ≡ bits_of high low x * 2 ^ low + bits_of high' low' x * 2 ^ low'
-two_runs high low high' low' x apart a b = and-sum (ones high low) (ones high' low') apart x ∙ ap₂ (λ m n. m + n) (and-ones high low x a) (and-ones high' low' x b)
+module _ (laws : MaskLaws) where
+  -- a number under a mask of two runs of ones
+  two_runs : (high low high' low' x : ℕ) → bit_and (ones high low) (ones high' low') ≡ 0 → low ≤ high → low' ≤ high' → bit_and x (ones high low + ones high' low') ≡ bits_of high low x * 2 ^ low + bits_of high' low' x * 2 ^ low'
+  two_runs high low high' low' x apart a b = laws.sums (ones high low) (ones high' low') x apart ∙ ap₂ (λ m n. m + n) (laws.bits high low x a) (laws.bits high' low' x b)
 
--- the opcode and funct3
-pub under_funct3 : (x : ℕ) → bit_and x 0x707f ≡ bits_of 6 0 x * 2 ^ 0 + bits_of 14 12 x * 2 ^ 12
-under_funct3 x = two_runs 6 0 14 12 x refl (omega arith) (omega arith)
+  -- the opcode and funct3
+  pub under_funct3 : (x : ℕ) → bit_and x 0x707f ≡ bits_of 6 0 x * 2 ^ 0 + bits_of 14 12 x * 2 ^ 12
+  under_funct3 x = two_runs 6 0 14 12 x refl (omega arith) (omega arith)
 
-pub under_opcode : (x : ℕ) → bit_and x 0x7f ≡ bits_of 6 0 x * 2 ^ 0
-under_opcode x = and-ones 6 0 x (omega arith)
+  pub under_opcode : (x : ℕ) → bit_and x 0x7f ≡ bits_of 6 0 x * 2 ^ 0
+  under_opcode x = laws.bits 6 0 x (omega arith)
 
--- the opcode, funct3 and the bits from low on
-three_runs : (high low x : ℕ) → bit_and 0x707f (ones high low) ≡ 0 → low ≤ high → bit_and x (0x707f + ones high low) ≡ bits_of 6 0 x * 2 ^ 0 + bits_of 14 12 x * 2 ^ 12 + bits_of high low x * 2 ^ low
-three_runs high low x apart a = and-sum 0x707f (ones high low) apart x ∙ ap₂ (λ m n. m + n) (under_funct3 x) (and-ones high low x a)
+  -- the opcode, funct3 and the bits from low on
+  three_runs : (high low x : ℕ) → bit_and 0x707f (ones high low) ≡ 0 → low ≤ high → bit_and x (0x707f + ones high low) ≡ bits_of 6 0 x * 2 ^ 0 + bits_of 14 12 x * 2 ^ 12 + bits_of high low x * 2 ^ low
+  three_runs high low x apart a = laws.sums 0x707f (ones high low) x apart ∙ ap₂ (λ m n. m + n) (under_funct3 x) (laws.bits high low x a)
 
-pub under_funct7 : (x : ℕ) → bit_and x 0xfe00_707f ≡ bits_of 6 0 x * 2 ^ 0 + bits_of 14 12 x * 2 ^ 12 + bits_of 31 25 x * 2 ^ 25
-under_funct7 x = three_runs 31 25 x refl (omega arith)
+  pub under_funct7 : (x : ℕ) → bit_and x 0xfe00_707f ≡ bits_of 6 0 x * 2 ^ 0 + bits_of 14 12 x * 2 ^ 12 + bits_of 31 25 x * 2 ^ 25
+  under_funct7 x = three_runs 31 25 x refl (omega arith)
 
-pub under_shift : (x : ℕ) → bit_and x 0xfc00_707f ≡ bits_of 6 0 x * 2 ^ 0 + bits_of 14 12 x * 2 ^ 12 + bits_of 31 26 x * 2 ^ 26
-under_shift x = three_runs 31 26 x refl (omega arith)
+  pub under_shift : (x : ℕ) → bit_and x 0xfc00_707f ≡ bits_of 6 0 x * 2 ^ 0 + bits_of 14 12 x * 2 ^ 12 + bits_of 31 26 x * 2 ^ 26
+  under_shift x = three_runs 31 26 x refl (omega arith)
 
-pub under_funct5 : (x : ℕ) → bit_and x 0xf800_707f ≡ bits_of 6 0 x * 2 ^ 0 + bits_of 14 12 x * 2 ^ 12 + bits_of 31 27 x * 2 ^ 27
-under_funct5 x = three_runs 31 27 x refl (omega arith)
+  pub under_funct5 : (x : ℕ) → bit_and x 0xf800_707f ≡ bits_of 6 0 x * 2 ^ 0 + bits_of 14 12 x * 2 ^ 12 + bits_of 31 27 x * 2 ^ 27
+  under_funct5 x = three_runs 31 27 x refl (omega arith)
 
-pub under_load_reserved : (x : ℕ) → bit_and x 0xf9f0_707f ≡ bits_of 6 0 x * 2 ^ 0 + bits_of 14 12 x * 2 ^ 12 + bits_of 31 27 x * 2 ^ 27 + bits_of 24 20 x * 2 ^ 20
-under_load_reserved x = and-sum 0xf800_707f (ones 24 20) refl x ∙ ap₂ (λ m n. m + n) (under_funct5 x) (and-ones 24 20 x (omega arith))
+  pub under_load_reserved : (x : ℕ) → bit_and x 0xf9f0_707f ≡ bits_of 6 0 x * 2 ^ 0 + bits_of 14 12 x * 2 ^ 12 + bits_of 31 27 x * 2 ^ 27 + bits_of 24 20 x * 2 ^ 20
+  under_load_reserved x = laws.sums 0xf800_707f (ones 24 20) x refl ∙ ap₂ (λ m n. m + n) (under_funct5 x) (laws.bits 24 20 x (omega arith))
 
 pub under_all : (x : ℕ) → x < 2 ^ 32 → bit_and x 0xffff_ffff ≡ x
 under_all x h = and_mask x 32 ∙ omega arith

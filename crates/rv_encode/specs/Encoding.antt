@@ -7,7 +7,7 @@ use Rattle.rv_decode.specs.declared.format.Format.TheVariants.{U, J, I, B, S, R,
 use Rattle.rv_decode.specs.declared.inst.Inst.{Inst}
 
 -- the number that stands for z in two's complement of `width` bits
-abbrev pub unsigned : ℕ → ℤ → ℕ
+abbrev pub unsigned : (width : ℕ) → ℤ → ℕ
 unsigned width (pos n) = n
 unsigned width (negsuc n) = 2 ^ width - suc n
 

@@ -7,7 +7,7 @@ ghost use Rattle.rv_encode.specs.Encoding.{registers_of};
 
 use crate::immediates::immediate;
 use crate::rows::ROWS;
-use rv_decode::{Format, Inst, Name};
+use rv_decode::{Format, Inst, Name, laws};
 
 /// The word of an instruction: the one that decodes to it.
 pub fn encode(i: Inst) -> u32
@@ -15,6 +15,10 @@ pub fn encode(i: Inst) -> u32
     ensures decodes { decoded result ≡ Some i }
     ensures only { (word : ℕ) → word < 2 ^ 32 → decoded word ≡ Some i → result ≡ word }
 {
+    // What the table says of its rows, and of words under masks, shows that the word is the one.
+    laws::rows();
+    laws::names();
+    laws::masks();
     let (value, format) = row(i.name);
     value + registers(i) + immediate(format, i.imm)
 }

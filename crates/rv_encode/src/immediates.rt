@@ -7,7 +7,7 @@ ghost use Rattle.rv_decode.specs.Ranges.{IsImmediate};
 use rv_decode::{Format, bits};
 
 /// The number that stands for `z` in two's complement of `width` bits.
-fn unsigned(z: i64, width: u32) -> u32
+fn unsigned(width: u32, z: i64) -> u32
     requires some { 0 < width }
     requires within { width ≤ 32 }
     requires at_least { neg_ℤ (pos (2 ^ width)) ≤ℤ z }
@@ -49,14 +49,14 @@ pub fn immediate(format: Format, z: i64) -> u32
     ensures { result ≡ spec.immediate_of format z }
 {
     match format {
-        Format::U => unsigned(z, 32),
-        Format::J => jump_offset(unsigned(z, 21)),
-        Format::I => unsigned(z, 12) << 20,
-        Format::B => branch_offset(unsigned(z, 13)),
-        Format::S => store_offset(unsigned(z, 12)),
+        Format::U => unsigned(32, z),
+        Format::J => jump_offset(unsigned(21, z)),
+        Format::I => unsigned(12, z) << 20,
+        Format::B => branch_offset(unsigned(13, z)),
+        Format::S => store_offset(unsigned(12, z)),
         Format::R | Format::Whole => 0,
-        Format::Shift => unsigned(z, 6) << 20,
-        Format::WordShift => unsigned(z, 5) << 20,
-        Format::Atomic | Format::LoadReserved => unsigned(z, 2) << 25,
+        Format::Shift => unsigned(6, z) << 20,
+        Format::WordShift => unsigned(5, z) << 20,
+        Format::Atomic | Format::LoadReserved => unsigned(2, z) << 25,
     }
 }
