@@ -3,6 +3,6 @@ pub mod Table
 pub mod Fetch
 pub mod Faults
 pub mod Sound
-pub mod Laws
+pub mod Meanings
 pub mod Pairs
 pub mod Copies

@@ -1,17 +1,13 @@
 -- The first pair of a list is the least pair of places, by the first and then by the second.
-use Rattle.std.proofs.Common.{◌≡◌, ℕ, zero, suc, ◌+◌, ◌<◌, ◌⊎◌, Bool, true, false, List, [], ◌∷◌, length, get_or, Option, Some, None, inl, inr, unwrap_or, refl, ap, subst, arith}
+use Rattle.std.proofs.Common.{◌≡◌, ℕ, zero, suc, ◌+◌, ◌<◌, ◌⊎◌, Bool, true, false, List, [], ◌∷◌, length, get_or, Option, Some, None, inl, inr, unwrap_or, refl, ap, ap₂, subst, arith}
 use Rattle.std.specs.List.{position, list_any}
 use Rattle.std.specs.Option.{option_or, option_map}
 use Rattle.std.proofs.lemmas.List.Quantifiers.{position-Some}
-use Rattle.elf_load.specs.Checks.{first_pair}
+use Rattle.elf_load.specs.Checks.{first_pair, overlap_fault, overlaps}
+use Rattle.elf_load.specs.declared.bad_elf.BadElf.TheVariants as bad
+use Rattle.elf_load.specs.declared.header.ProgramHeader.{ProgramHeader}
+use Rattle.elf_load.specs.Meaning.{IsLeastPair}
 use Rattle.elf_load.proofs.Lists.{position-None, passed_over}
-
--- the elements at places j and k pass the test, and those at no lesser pair of places do
-pub record IsLeastPair {X : Type 0} (test : X → X → Bool) (xs : List X) (d : X) (j k : ℕ) : Type 0 where
-  pub order : j < k
-  pub bound : k < length xs
-  pub passes : test (get_or xs j d) (get_or xs k d) ≡ true
-  pub least : (m n : ℕ) → m < n → n < length xs → (m < j) ⊎ ((m ≡ j) × (n < k)) → test (get_or xs m d) (get_or xs n d) ≡ false
 
 module _ {X : Type 0} (test : X → X → Bool) where
   -- the first element is in the pair
@@ -56,3 +52,15 @@ module _ {X : Type 0} (test : X → X → Bool) where
       let first : found.0 ≡ a = omega (arith, found.2) in
       let second : found.1 ≡ b = omega (arith, found.3) in
       subst (λ j. IsLeastPair test xs d j b) first (subst (λ k. IsLeastPair test xs d found.0 k) second found.4)
+
+-- the segments of a refusal
+overlap_of : (o : Option (ℕ × ℕ)) (first second : ℕ) → option_map (λ pair. bad.Overlap pair.0 pair.1) o ≡ Some (bad.Overlap first second) → o ≡ Some (first, second)
+overlap_of (Some pair) first second h =
+    let a : pair.0 ≡ first = cc in
+    let b : pair.1 ≡ second = cc in
+    ap₂ (λ x y. Some (x, y)) a b
+overlap_of None first second h = cc
+
+pub overlap_fault-least : (headers : List ProgramHeader) (d : ProgramHeader) (first second : ℕ) → overlap_fault headers ≡ Some (bad.Overlap first second) → IsLeastPair overlaps headers d first second
+unfolding overlap_fault
+overlap_fault-least headers d first second h = first_pair-least overlaps headers d first second (overlap_of (first_pair overlaps 0 headers) first second h)

@@ -14,7 +14,7 @@ use Rattle.elf_load.proofs.Faults.{Passes}
 loaded-takes : (p : ProgramHeader) → is_loaded p ≡ true → p.filesz ≤ p.memsz → 0 < p.memsz
 unfolding is_loaded
 loaded-takes p h l =
-    let some : (eqb p.filesz 0 && eqb p.memsz 0) ≡ false = not-true (eqb p.filesz 0 && eqb p.memsz 0) (and_parts (eqb p.kind 1) (not (eqb p.filesz 0 && eqb p.memsz 0)) h).1 in
+    let some : (eqb p.filesz 0 && eqb p.memsz 0) ≡ false = not-true (eqb p.filesz 0 && eqb p.memsz 0) (and_parts (eqb p.type_ 1) (not (eqb p.filesz 0 && eqb p.memsz 0)) h).1 in
     elim (cases_eq p.memsz 0) [
       | inl e ↦ absurd (both_ways _ some (and_from _ _ (eq-eqb p.filesz 0 (omega arith)) (eq-eqb p.memsz 0 e)))
       | inr n ↦ omega arith

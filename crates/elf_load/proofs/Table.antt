@@ -7,18 +7,18 @@ use Rattle.elf_load.specs.Checks.{has_table}
 use Rattle.elf_load.specs.Header.{program_header_at, headers_from, program_headers}
 
 -- there are at most 128 headers
-few_headers : (h : Header) (len : ℕ) → IsTrue (has_table h len) → h.count ≤ 128
+few_headers : (h : Header) (len : ℕ) → IsTrue (has_table h len) → h.phnum ≤ 128
 unfolding has_table
-few_headers h len e = leb-true h.count 128 (and_parts _ _ e).0
+few_headers h len e = leb-true h.phnum 128 (and_parts _ _ e).0
 
 -- each header lies in the file
-pub header_room : (h : Header) (len i : ℕ) → IsTrue (has_table h len) → i < h.count → (h.table + 56 * i) + 56 ≤ len
+pub header_room : (h : Header) (len i : ℕ) → IsTrue (has_table h len) → i < h.phnum → (h.phoff + 56 * i) + 56 ≤ len
 unfolding has_table
 header_room h len i e l =
-    let cases : ((h.count == 0) ≡ true) ⊎ (((h.entry_size == 56) && nat_le (h.table + 56 * h.count) len) ≡ true) = or_cases _ _ (and_parts _ _ e).1 in
+    let cases : ((h.phnum == 0) ≡ true) ⊎ (((h.phentsize == 56) && nat_le (h.phoff + 56 * h.phnum) len) ≡ true) = or_cases _ _ (and_parts _ _ e).1 in
     elim cases [
-      | inl none ↦ let z : h.count ≡ 0 = eqb-true h.count 0 none in omega arith
-      | inr some ↦ let room : h.table + 56 * h.count ≤ len = leb-true (h.table + 56 * h.count) len (and_parts (h.entry_size == 56) _ some).1 in omega arith
+      | inl none ↦ let z : h.phnum ≡ 0 = eqb-true h.phnum 0 none in omega arith
+      | inr some ↦ let room : h.phoff + 56 * h.phnum ≤ len = leb-true (h.phoff + 56 * h.phnum) len (and_parts (h.phentsize == 56) _ some).1 in omega arith
     ]
 
 -- the header at a place, and those after it
@@ -32,9 +32,9 @@ pub length-headers_from : (file : List ℕ) (at count : ℕ) → length (headers
 length-headers_from file at zero = refl
 length-headers_from file at (suc count) = ap suc (length-headers_from file (at + 56) count)
 
-length-program_headers : (file : List ℕ) (h : Header) → length (program_headers file h) ≡ h.count
+length-program_headers : (file : List ℕ) (h : Header) → length (program_headers file h) ≡ h.phnum
 unfolding program_headers
-length-program_headers file h = length-headers_from file h.table h.count
+length-program_headers file h = length-headers_from file h.phoff h.phnum
 
 pub few_in_table : (file : List ℕ) (h : Header) (ps : List ProgramHeader) (len : ℕ) → ps ≡ program_headers file h → IsTrue (has_table h len) → length ps ≤ 128
 few_in_table file h ps len e t = rw e (omega (arith, length-program_headers file h, few_headers h len t))

@@ -1,8 +1,9 @@
 -- The checks of an executable, in their order. Each is made over all program headers before the next. Sums are whole
 -- numbers.
-use Rattle.std.specs.Prelude.{◌==◌, ◌+◌, ◌*◌, ◌%◌, ℕ, nat_lt, nat_le, Bool, not, ◌&&◌, ◌||◌, if◌then◌else◌, List, [], ◌∷◌, Option, Some, None}
+use Rattle.std.specs.Prelude.{◌==◌, ◌+◌, ◌*◌, ◌%◌, ℕ, nat_lt, nat_le, bit_and, bit_or, Bool, not, ◌&&◌, ◌||◌, if◌then◌else◌, List, [], ◌∷◌, Option, Some, None}
 use Rattle.std.specs.List.{list_any, position}
 use Rattle.std.specs.Option.{option_map, option_or}
+use Rattle.elf_load.specs.Constants.{elf_magic, elfclass64, elfdata2lsb, et_exec, em_riscv, ef_riscv_rvc, ef_riscv_float_abi, pt_load, pt_dynamic, pt_interp, pf_x, program_header_len, most_headers}
 use Rattle.elf_load.specs.declared.bad_elf.BadElf.{BadElf}
 use Rattle.elf_load.specs.declared.bad_elf.BadElf.TheVariants as bad
 use Rattle.elf_load.specs.declared.header.Header.{Header}
@@ -18,33 +19,34 @@ abbrev pub first_fault : List (Option BadElf) → Option BadElf
 first_fault [] = None
 first_fault (check ∷ checks) = option_or check (first_fault checks)
 
--- at most 128 program headers, of 56 bytes each, which lie in a file of this length
+-- at most 128 program headers, of the right length each, which lie in a file of this length
 unfoldable pub has_table : Header → ℕ → Bool
-has_table h len = nat_le h.count 128 && ((h.count == 0) || ((h.entry_size == 56) && nat_le (h.table + 56 * h.count) len))
+has_table h len =
+    nat_le h.phnum most_headers && ((h.phnum == 0) || ((h.phentsize == program_header_len) && nat_le (h.phoff + program_header_len * h.phnum) len))
 
--- the first check of the ELF header that fails, in a file of this length: an executable (2) of 64 bits (2),
--- little-endian (1), for RISC-V (243), that needs neither compressed instructions nor a float ABI (bits 0 to 2)
+-- the first check of the ELF header that fails, in a file of this length: an executable of 64 bits, little-endian, for
+-- RISC-V, that needs neither compressed instructions nor a floating-point ABI
 unfoldable pub header_fault : Header → ℕ → Option BadElf
 header_fault h len = first_fault (
-    unless (h.magic == 0x464C_457F) bad.Magic
-    ∷ unless ((h.class == 2) && (h.encoding == 1)) bad.ClassOrData
-    ∷ unless (h.kind == 2) bad.Type_
-    ∷ unless (h.machine == 243) bad.Machine
-    ∷ unless (h.flags % 8 == 0) bad.Flags
+    unless (h.magic == elf_magic) bad.Magic
+    ∷ unless ((h.class == elfclass64) && (h.encoding == elfdata2lsb)) bad.ClassOrData
+    ∷ unless (h.type_ == et_exec) bad.Type_
+    ∷ unless (h.machine == em_riscv) bad.Machine
+    ∷ unless (bit_and h.flags (bit_or ef_riscv_rvc ef_riscv_float_abi) == 0) bad.Flags
     ∷ unless (has_table h len) bad.Headers
     ∷ [])
 
--- for an executable that is linked as it is loaded: DYNAMIC (2) or INTERP (3)
+-- for an executable that is linked as it is loaded
 unfoldable pub is_dynamic : ProgramHeader → Bool
-is_dynamic p = (p.kind == 2) || (p.kind == 3)
+is_dynamic p = (p.type_ == pt_dynamic) || (p.type_ == pt_interp)
 
--- for a segment to load: LOAD (1), and not empty
+-- for a segment to load that is not empty
 unfoldable pub is_loaded : ProgramHeader → Bool
-is_loaded p = (p.kind == 1) && not ((p.filesz == 0) && (p.memsz == 0))
+is_loaded p = (p.type_ == pt_load) && not ((p.filesz == 0) && (p.memsz == 0))
 
--- bit 0 of the flags: the right to execute
+-- it gives the permission to execute
 unfoldable pub is_executable : ProgramHeader → Bool
-is_executable p = p.flags % 2 == 1
+is_executable p = not (bit_and p.flags pf_x == 0)
 
 unfoldable pub is_past_file : (len : ℕ) → ProgramHeader → Bool
 is_past_file len p = is_loaded p && nat_lt len (p.offset + p.filesz)

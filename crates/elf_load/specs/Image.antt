@@ -1,6 +1,7 @@
 -- The image of an executable, or the first check that it fails.
 use Rattle.std.specs.Prelude.{◌≡◌, ℕ, nat_le, List, map, filter, length, take, drop, Option, Some, None, Result, Ok, Err}
 use Rattle.std.specs.Option.{option_or}
+use Rattle.elf_load.specs.Constants.{header_len}
 use Rattle.elf_load.specs.declared.bad_elf.BadElf.{BadElf}
 use Rattle.elf_load.specs.declared.bad_elf.BadElf.TheVariants as bad
 use Rattle.elf_load.specs.declared.bad_elf.LoadFail.{LoadFail}
@@ -33,7 +34,7 @@ image_in file h ps base size = record { base = base; size = size; entry = h.entr
 unfoldable pub fault_of : List ℕ → (base size : ℕ) → Option BadElf
 fault_of file base size =
     let h = header_of file in
-    option_or (unless (nat_le 64 (length file)) bad.Short)
+    option_or (unless (nat_le header_len (length file)) bad.Short)
     (option_or (header_fault h (length file))
     (segment_fault (program_headers file h) h.entry (length file) base size))
 
@@ -48,8 +49,8 @@ image_of file base size =
     let h = header_of file in
     image_unless (fault_of file base size) (image_in file h (program_headers file h) base size)
 
--- what `load` answered is the image or the first check that fails, unless memory ran out
-abbrev pub Loads : Result MemoryImage LoadFail → Result MemoryImage BadElf → Type 0
-Loads (Ok image) read = read ≡ Ok image
-Loads (Err (fail.Bad b)) read = read ≡ Err b
-Loads (Err fail.NoMemory) read = Unit {0}
+-- the call answers the image or the first check that fails, unless memory runs out
+abbrev pub Answers : Result MemoryImage LoadFail → Result MemoryImage BadElf → Type 0
+Answers (Ok image) read = read ≡ Ok image
+Answers (Err (fail.Bad b)) read = read ≡ Err b
+Answers (Err fail.NoMemory) read = Unit {0}

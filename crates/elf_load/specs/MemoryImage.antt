@@ -2,6 +2,7 @@
 use Rattle.std.specs.Prelude.{◌≡◌, ℕ, ◌+◌, ◌-◌, ◌%◌, ◌^◌, ◌≤◌, min, max, nat_lt, nat_le, Bool, true, not, ◌&&◌, if◌then◌else◌, List, [], ◌∷◌, length, map, slice_index, Option, Some, None, IsTrue, IsSome}
 use Rattle.std.specs.List.{list_all, list_any, range_with_len}
 use Rattle.byteorder.specs.Endian.{little_from}
+use Rattle.elf_load.specs.Constants.{most_headers}
 use Rattle.elf_load.specs.declared.segment.Segment.{Segment}
 
 -- the range of memory, the address of the first instruction, and the segments
@@ -65,7 +66,7 @@ are_apart (segment ∷ segments) = not (list_any (do_overlap segment) segments) 
 -- from the others, and the first instruction lies in an executable one.
 pub record IsSound (image : MemoryImage) : Type 0 where
   pub reach : image.base + image.size ≤ 2 ^ 48
-  pub few : length image.segments ≤ 128
+  pub few : length image.segments ≤ most_headers
   pub placed : IsTrue (list_all (is_placed image.base image.size) image.segments)
   pub apart : IsTrue (are_apart image.segments)
   pub aligned : image.entry % 4 ≡ 0

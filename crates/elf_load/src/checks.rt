@@ -4,24 +4,12 @@ ghost use Rattle.std.specs.List.{list_any};
 ghost use Rattle.elf_load.specs.Checks.{file_fault, has_table, header_fault, is_dynamic, is_entered, is_executable, is_loaded, is_past_file, is_past_memory, memory_fault, overlap_fault, overlaps, segment_fault};
 
 use crate::BadElf;
-use crate::header::{Header, MOST_HEADERS, PROGRAM_HEADER_LEN, ProgramHeader};
+use crate::constants::{
+    EF_RISCV_FLOAT_ABI, EF_RISCV_RVC, ELF_MAGIC, ELFCLASS64, ELFDATA2LSB, EM_RISCV, ET_EXEC,
+    MOST_HEADERS, PF_X, PROGRAM_HEADER_LEN, PT_DYNAMIC, PT_INTERP, PT_LOAD,
+};
+use crate::header::{Header, ProgramHeader};
 use crate::range::{do_meet, is_within};
-
-const MAGIC: u32 = 0x464C_457F;
-
-const CLASS_64: u8 = 2;
-
-const LITTLE_ENDIAN: u8 = 1;
-
-const EXECUTABLE: u16 = 2;
-
-const RISC_V: u16 = 243;
-
-const LOAD: u32 = 1;
-
-const DYNAMIC: u32 = 2;
-
-const INTERP: u32 = 3;
 
 /// The first check of the ELF header that fails, in a file of `len` bytes.
 #[tactic(auto, unfolding(crate::specs::Checks::header_fault))]
@@ -29,19 +17,19 @@ pub fn header_fault(header: &Header, len: usize) -> Option<BadElf>
     ensures value { result ≡ header_fault header.now len }
     ensures table { IfNone result (IsTrue (has_table header.now len)) }
 {
-    if header.magic != MAGIC {
+    if header.magic != ELF_MAGIC {
         return Some(BadElf::Magic);
     }
-    if header.class != CLASS_64 || header.encoding != LITTLE_ENDIAN {
+    if header.class != ELFCLASS64 || header.encoding != ELFDATA2LSB {
         return Some(BadElf::ClassOrData);
     }
-    if header.kind != EXECUTABLE {
+    if header.type_ != ET_EXEC {
         return Some(BadElf::Type_);
     }
-    if header.machine != RISC_V {
+    if header.machine != EM_RISCV {
         return Some(BadElf::Machine);
     }
-    if header.flags % 8 != 0 {
+    if header.flags & (EF_RISCV_RVC | EF_RISCV_FLOAT_ABI) != 0 {
         return Some(BadElf::Flags);
     }
     if !has_table(header, len) {
@@ -54,12 +42,12 @@ pub fn header_fault(header: &Header, len: usize) -> Option<BadElf>
 fn has_table(header: &Header, len: usize) -> bool
     ensures { result ≡ has_table header.now len }
 {
-    let count = header.count as usize;
+    let count = header.phnum as usize;
     count <= MOST_HEADERS
         && (count == 0
-            || (header.entry_size as usize == PROGRAM_HEADER_LEN
-                && header.table <= len as u64
-                && PROGRAM_HEADER_LEN * count <= len - header.table as usize))
+            || (header.phentsize as usize == PROGRAM_HEADER_LEN
+                && header.phoff <= len as u64
+                && PROGRAM_HEADER_LEN * count <= len - header.phoff as usize))
 }
 
 /// The first check of the program headers that fails, in a file of `len` bytes and a memory of
@@ -170,7 +158,7 @@ fn is_entered_by(headers: &[ProgramHeader], entry: u64) -> bool
 fn is_dynamic(p: &ProgramHeader) -> bool
     ensures { result ≡ is_dynamic p.now }
 {
-    p.kind == DYNAMIC || p.kind == INTERP
+    p.type_ == PT_DYNAMIC || p.type_ == PT_INTERP
 }
 
 /// Whether it is for a segment to load that is not empty.
@@ -178,15 +166,15 @@ fn is_dynamic(p: &ProgramHeader) -> bool
 pub fn is_loaded(p: &ProgramHeader) -> bool
     ensures { result ≡ is_loaded p.now }
 {
-    p.kind == LOAD && !(p.filesz == 0 && p.memsz == 0)
+    p.type_ == PT_LOAD && !(p.filesz == 0 && p.memsz == 0)
 }
 
-/// Whether it gives the right to execute.
+/// Whether it gives the permission to execute.
 #[tactic(auto, unfolding(crate::specs::Checks::is_executable))]
 pub fn is_executable(p: &ProgramHeader) -> bool
     ensures { result ≡ is_executable p.now }
 {
-    p.flags % 2 == 1
+    p.flags & PF_X != 0
 }
 
 #[tactic(auto, unfolding(crate::specs::Checks::is_past_file))]

@@ -2,40 +2,32 @@
 // "Program header table").
 ghost use Rattle.std.specs.Prelude.{◌≡◌, ◌≤◌, ◌+◌, length, IsTrue, IfOk};
 ghost use Rattle.elf_load.specs.Checks.{has_table};
-ghost use Rattle.elf_load.specs.Header.{header_of, number_at, program_header_at, program_headers};
+ghost use Rattle.elf_load.specs.Header.{header_of, read_field, program_header_at, program_headers};
 
+use crate::constants::{HEADER_LEN, PROGRAM_HEADER_LEN};
 use byteorder::{ByteOrder, LittleEndian};
 use std::alloc::Global;
 use zs_num::NoMemory;
 
-/// The length of the ELF header, in bytes.
-pub const HEADER_LEN: usize = 64;
-
-/// The length of a program header, in bytes.
-pub const PROGRAM_HEADER_LEN: usize = 56;
-
-/// How many program headers there may be.
-pub const MOST_HEADERS: usize = 128;
-
 /// The fields of the ELF header that decide.
 #[derive(Clone, Copy)]
 pub struct Header {
-    /// The four bytes of the magic.
+    /// The first four bytes.
     pub magic: u32,
     pub class: u8,
     /// The encoding of the file's numbers.
     pub encoding: u8,
-    pub kind: u16,
+    pub type_: u16,
     pub machine: u16,
     /// The address of the first instruction.
     pub entry: u64,
     /// Where the program headers begin in the file.
-    pub table: u64,
+    pub phoff: u64,
     pub flags: u32,
     /// The length of a program header.
-    pub entry_size: u16,
+    pub phentsize: u16,
     /// How many program headers there are.
-    pub count: u16,
+    pub phnum: u16,
 }
 
 impl Header {
@@ -49,13 +41,13 @@ impl Header {
             magic: u32_at(file, 0),
             class: file[4],
             encoding: file[5],
-            kind: u16_at(file, 16),
+            type_: u16_at(file, 16),
             machine: u16_at(file, 18),
             entry: u64_at(file, 24),
-            table: u64_at(file, 32),
+            phoff: u64_at(file, 32),
             flags: u32_at(file, 48),
-            entry_size: u16_at(file, 54),
-            count: u16_at(file, 56),
+            phentsize: u16_at(file, 54),
+            phnum: u16_at(file, 56),
         }
     }
 }
@@ -63,7 +55,7 @@ impl Header {
 /// The fields of a program header that decide.
 #[derive(Clone, Copy)]
 pub struct ProgramHeader {
-    pub kind: u32,
+    pub type_: u32,
     pub flags: u32,
     /// Where the segment begins in the file.
     pub offset: u64,
@@ -83,7 +75,7 @@ impl ProgramHeader {
         ensures { result ≡ program_header_at file.now at }
     {
         ProgramHeader {
-            kind: u32_at(file, at),
+            type_: u32_at(file, at),
             flags: u32_at(file, at + 4),
             offset: u64_at(file, at + 8),
             vaddr: u64_at(file, at + 16),
@@ -103,8 +95,8 @@ pub fn program_headers(
     ensures { IfOk result (λ headers. headers.items ≡ program_headers file.now header.now) }
 {
     let mut headers = Vec::new(alloc);
-    for i in 0..header.count as usize {
-        let at = header.table as usize + PROGRAM_HEADER_LEN * i;
+    for i in 0..header.phnum as usize {
+        let at = header.phoff as usize + PROGRAM_HEADER_LEN * i;
         headers.push(ProgramHeader::read(file, at))?;
     }
     Ok(headers)
@@ -112,21 +104,21 @@ pub fn program_headers(
 
 fn u16_at(file: &[u8], at: usize) -> u16
     requires { at + 2 ≤ length file.now }
-    ensures { result ≡ number_at file.now at 2 }
+    ensures { result ≡ read_field file.now at 2 }
 {
     LittleEndian::read_u16(&file[at..])
 }
 
 fn u32_at(file: &[u8], at: usize) -> u32
     requires { at + 4 ≤ length file.now }
-    ensures { result ≡ number_at file.now at 4 }
+    ensures { result ≡ read_field file.now at 4 }
 {
     LittleEndian::read_u32(&file[at..])
 }
 
 fn u64_at(file: &[u8], at: usize) -> u64
     requires { at + 8 ≤ length file.now }
-    ensures { result ≡ number_at file.now at 8 }
+    ensures { result ≡ read_field file.now at 8 }
 {
     LittleEndian::read_u64(&file[at..])
 }

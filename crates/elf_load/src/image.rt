@@ -27,8 +27,8 @@ impl Model for Image {
 }
 
 impl Image {
-    /// An image of these parts.
-    pub fn make(base: u64, size: u64, entry: u64, segments: Vec<Segment>) -> Self
+    /// An image of these segments, which it takes over.
+    pub fn of(base: u64, size: u64, entry: u64, segments: Vec<Segment>) -> Self
         requires { IsSound (record { base = base; size = size; entry = entry; segments = segments.items }) }
         ensures { result ≡ record { base = base; size = size; entry = entry; segments = segments.items } }
     {

@@ -3,8 +3,10 @@
 
 mod bad_elf;
 mod checks;
+pub mod constants;
 mod header;
 mod image;
+pub mod laws;
 mod loader;
 mod range;
 mod segment;

@@ -2,10 +2,11 @@
 ghost use Rattle.std.specs.Prelude.{◌≡◌, ◌≤◌, ◌+◌, ◌^◌, length, false, IfOk};
 ghost use Rattle.std.specs.List.{list_any};
 ghost use Rattle.elf_load.specs.Checks.{is_past_file};
-ghost use Rattle.elf_load.specs.Image.{image_of, segment_of, segments_of, Loads};
+ghost use Rattle.elf_load.specs.Image.{image_of, segment_of, segments_of, Answers};
 
 use crate::checks::{header_fault, is_executable, is_loaded, segment_fault};
-use crate::header::{HEADER_LEN, Header, ProgramHeader, program_headers};
+use crate::constants::HEADER_LEN;
+use crate::header::{Header, ProgramHeader, program_headers};
 use crate::{BadElf, Image, LoadFail, Segment};
 use std::alloc::Global;
 use zs_num::{Bytes, NoMemory};
@@ -14,7 +15,7 @@ use zs_num::{Bytes, NoMemory};
 /// fails.
 pub fn load(alloc: Global, file: &[u8], base: u64, size: u64) -> Result<Image, LoadFail>
     requires { base + size ≤ 2 ^ 48 }
-    ensures answer { Loads result (image_of file.now base size) }
+    ensures answer { Answers result (image_of file.now base size) }
     ensures memory { IfOk result (λ image. (image.base ≡ base) × (image.size ≡ size)) }
 {
     if file.len() < HEADER_LEN {
@@ -29,7 +30,7 @@ pub fn load(alloc: Global, file: &[u8], base: u64, size: u64) -> Result<Image, L
         return Err(LoadFail::Bad(fault));
     }
     let segments = segments(alloc, file, &headers)?;
-    Ok(Image::make(base, size, header.entry, segments))
+    Ok(Image::of(base, size, header.entry, segments))
 }
 
 // The segments to load, in the order of their headers.

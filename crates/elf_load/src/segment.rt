@@ -1,4 +1,4 @@
-// A part of memory that an executable fills.
+// A segment of an executable.
 use zs_num::Bytes;
 
 /// A range of memory that the executable fills: its first bytes are those of the file, the rest are 0.

@@ -1,15 +1,16 @@
 -- The program headers of a sound image pass the checks, and give its segments back.
-use Rattle.std.proofs.Common.{◌≡◌, ◌==◌, ℕ, ◌+◌, ◌%◌, ◌<◌, ◌≤◌, Bool, true, false, ◌&&◌, if◌then◌else◌, List, [], ◌∷◌, ◌++◌, length, take, drop, None, IsSome, inl, inr, refl, sym, ap, ◌∙◌, arith, length-append}
+use Rattle.std.proofs.Common.{◌≡◌, ◌==◌, ℕ, ◌+◌, ◌%◌, ◌<◌, ◌≤◌, Bool, true, false, not, bit_and, ◌&&◌, if◌then◌else◌, List, [], ◌∷◌, ◌++◌, length, take, drop, None, IsSome, inl, inr, refl, sym, ap, ◌∙◌, arith, length-append}
 use Rattle.std.specs.List.{list_all, list_any, position, position_from}
 use Rattle.std.proofs.lemmas.Bool.{and_parts, and_from, and_right, or_parts, or_from, or_left, or_right, not-true, not_from_true, not_from_false, le-leb, le-ltb, eq-eqb, ne_eqb, cases_Bool, cond-false}
 use Rattle.std.proofs.lemmas.Iterator.Adapters.{position_from-zero}
 use Rattle.std.proofs.lemmas.List.{append_assoc, take_at, drop_at}
+use Rattle.elf_load.specs.Constants.{pf_x}
 use Rattle.elf_load.specs.declared.header.ProgramHeader.{ProgramHeader}
 use Rattle.elf_load.specs.declared.segment.Segment.{Segment}
 use Rattle.elf_load.specs.Checks.{is_loaded, is_executable, is_dynamic, is_past_file, is_past_memory, overlaps, is_entered, first_pair, file_fault, memory_fault, overlap_fault, segment_fault}
 use Rattle.elf_load.specs.Image.{segment_of, segments_of}
 use Rattle.elf_load.specs.MemoryImage.{is_placed, do_overlap, are_apart, covers, fetched}
-use Rattle.elf_write.specs.File.{contents}
+use Rattle.elf_write.specs.File.{contents, permissions}
 use Rattle.elf_write.proofs.Written.{written_program_header}
 use Rattle.elf_write.proofs.Table.{place_of, written_table}
 
@@ -29,13 +30,13 @@ loaded segment offset h =
     let some : (segment.memsz == 0) ≡ false = ne_eqb _ _ (λ e. omega arith) in
     not_from_false _ (and_right _ _ some)
 
-bit_of_flags : (exec : Bool) → ((if exec then 7 else 6) % 2 == 1) ≡ exec
-bit_of_flags true = refl
-bit_of_flags false = refl
+executes : (exec : Bool) → not (bit_and (permissions exec) pf_x == 0) ≡ exec
+executes true = refl
+executes false = refl
 
 executable : (segment : Segment) (offset : ℕ) → is_executable (written_program_header segment offset) ≡ segment.exec
 unfolding is_executable
-executable segment offset = bit_of_flags segment.exec
+executable segment offset = executes segment.exec
 
 none_dynamic : (segments : List Segment) (offset : ℕ) → list_any is_dynamic (written_table segments offset) ≡ false
 unfolding is_dynamic

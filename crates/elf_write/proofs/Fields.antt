@@ -3,7 +3,7 @@ use Rattle.std.proofs.Common.{◌≡◌, ℕ, zero, suc, ◌+◌, ◌^◌, ◌<�
 use Rattle.std.proofs.lemmas.List.{append_assoc, drop-drop, drop_at}
 use Rattle.byteorder.specs.Endian.{little_bytes, little_number}
 use Rattle.byteorder.specs.Numbers.{little_number-reads_back, length-bytes_low_first}
-use Rattle.elf_load.specs.Header.{number_at}
+use Rattle.elf_load.specs.Header.{read_field}
 use Rattle.elf_write.specs.declared.field.Field.{Field}
 use Rattle.elf_write.specs.File.{fields_bytes}
 
@@ -18,14 +18,14 @@ length-fields_bytes (f ∷ fs) =
     omega (arith, length-append (little_bytes f.width f.value) (fields_bytes fs), length-bytes_low_first 0 f.width f.value, length-fields_bytes fs)
 
 -- a number past what stands in front
-pub number_at-past : (front rest : List ℕ) (n at w : ℕ) → length front ≡ n → number_at (front ++ rest) (n + at) w ≡ number_at rest at w
-number_at-past front rest n at w e =
+pub read_field-past : (front rest : List ℕ) (n at w : ℕ) → length front ≡ n → read_field (front ++ rest) (n + at) w ≡ read_field rest at w
+read_field-past front rest n at w e =
     ap (little_number w) (sym (drop-drop at n (front ++ rest)) ∙ ap (drop at) (drop_at front rest n e))
 
 -- the number of a field, read at its place
-pub field_at : (fs : List Field) (k : ℕ) (d : Field) (rest : List ℕ) → k < length fs → (get_or fs k d).value < 256 ^ (get_or fs k d).width → number_at (fields_bytes fs ++ rest) (widths (take k fs)) (get_or fs k d).width ≡ (get_or fs k d).value
-field_at [] k d rest l h = absurd (omega arith)
-field_at (f ∷ fs) zero d rest l h =
+pub field-written : (fs : List Field) (k : ℕ) (d : Field) (rest : List ℕ) → k < length fs → (get_or fs k d).value < 256 ^ (get_or fs k d).width → read_field (fields_bytes fs ++ rest) (widths (take k fs)) (get_or fs k d).width ≡ (get_or fs k d).value
+field-written [] k d rest l h = absurd (omega arith)
+field-written (f ∷ fs) zero d rest l h =
     rw append_assoc (little_number-reads_back f.width f.value (fields_bytes fs ++ rest) h)
-field_at (f ∷ fs) (suc k) d rest l h =
-    rw append_assoc (number_at-past (little_bytes f.width f.value) (fields_bytes fs ++ rest) f.width (widths (take k fs)) _ (length-bytes_low_first 0 f.width f.value) ∙ field_at fs k d rest (omega arith) h)
+field-written (f ∷ fs) (suc k) d rest l h =
+    rw append_assoc (read_field-past (little_bytes f.width f.value) (fields_bytes fs ++ rest) f.width (widths (take k fs)) _ (length-bytes_low_first 0 f.width f.value) ∙ field-written fs k d rest (omega arith) h)

@@ -6,9 +6,10 @@ use Rattle.std.proofs.lemmas.List.{append_assoc}
 use Rattle.elf_load.specs.declared.segment.Segment.{Segment}
 use Rattle.elf_load.specs.Checks.{has_table, header_fault, segment_fault}
 use Rattle.elf_load.specs.Header.{header_of, program_headers}
-use Rattle.elf_load.specs.Image.{image_of, segments_of}
+use Rattle.elf_load.specs.Image.{image_of, image_in, fault_of, segments_of}
 use Rattle.elf_load.specs.MemoryImage.{MemoryImage, IsSound, is_placed, fetched, covers}
-use Rattle.elf_load.proofs.Faults.{accepted}
+use Rattle.elf_load.specs.declared.header.Header.{Header}
+use Rattle.elf_load.specs.declared.header.ProgramHeader.{ProgramHeader}
 use Rattle.elf_write.specs.File.{fields_bytes, header_fields, table_bytes, contents, file_of}
 use Rattle.elf_write.proofs.Fields.{length-fields_bytes}
 use Rattle.elf_write.proofs.Written.{written_header, header_of-written}
@@ -37,6 +38,11 @@ entry_fits (segment ∷ segments) entry base size reach placed h =
       | inr miss ↦ entry_fits segments entry base size reach parts.1 (rw miss at h)
     ]
 
+-- a file whose headers pass the checks is read as their image
+accepted : (file : List ℕ) (base size : ℕ) (h : Header) (ps : List ProgramHeader) → 64 ≤ length file → h ≡ header_of file → None ≡ header_fault h (length file) → ps ≡ program_headers file h → None ≡ segment_fault ps h.entry (length file) base size → image_of file base size ≡ Ok (image_in file h ps base size)
+unfolding image_of fault_of
+accepted file base size h ps long read passed listed sound = rw (le-leb 64 (length file) long, ← read, ← passed, ← listed, ← sound) refl
+
 pub image_of-file_of : (image : MemoryImage) → IsSound image → image_of (file_of image) image.base image.size ≡ Ok image
 unfolding file_of program_headers
 image_of-file_of image sound =
@@ -61,7 +67,7 @@ image_of-file_of image sound =
     let back : segments_of file ps ≡ segments =
     ap (λ f. segments_of f ps) (sym (append_assoc header table (contents segments))) ∙ segments_of-written (header ++ table) segments place image.base image.size front_len sound.placed in
     let made : List Segment → MemoryImage = λ s. record { base = image.base; size = image.size; entry = image.entry; segments = s } in
-    accepted file image.base image.size h (omega arith) read passed ps listed fault ∙ ap (λ s. Ok (made s)) back
+    accepted file image.base image.size h ps (omega arith) read passed listed fault ∙ ap (λ s. Ok (made s)) back
 
 -- no segment has more bytes than memory
 pub short_segments : (segments : List Segment) (base size k : ℕ) (d : Segment) → base + size ≤ 2 ^ 48 → list_all (is_placed base size) segments ≡ true → k < length segments → length (get_or segments k d).bytes ≤ 2 ^ 48

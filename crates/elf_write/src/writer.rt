@@ -4,7 +4,8 @@ ghost use Rattle.elf_load.specs.Image.{image_of};
 ghost use Rattle.elf_write.specs.File.{contents, fields_bytes, file_of, header_fields, table_bytes};
 
 use crate::field::write_fields;
-use crate::headers::{HEADER_LEN, PROGRAM_HEADER_LEN, header_fields, program_header_fields};
+use crate::headers::{header_fields, program_header_fields};
+use elf_load::constants::{HEADER_LEN, PROGRAM_HEADER_LEN};
 use elf_load::{Image, Segment};
 use std::alloc::Global;
 use zs_num::{Bytes, NoMemory};
@@ -24,17 +25,17 @@ pub fn write(alloc: Global, image: &Image) -> Result<Bytes, NoMemory>
     Ok(Bytes::of(out))
 }
 
-fn write_header(out: &mut Vec<u8>, entry: u64, count: usize) -> Result<(), NoMemory>
-    requires { count ≤ 128 }
-    ensures { OnOk result (out.new.items ≡ out.old.items ++ fields_bytes (header_fields entry count)) }
+fn write_header(out: &mut Vec<u8>, entry: u64, phnum: usize) -> Result<(), NoMemory>
+    requires { phnum ≤ 128 }
+    ensures { OnOk result (out.new.items ≡ out.old.items ++ fields_bytes (header_fields entry phnum)) }
 {
-    write_fields(out, &header_fields(entry, count))
+    write_fields(out, &header_fields(entry, phnum))
 }
 
 fn write_table(out: &mut Vec<u8>, segments: &[Segment]) -> Result<(), NoMemory>
     requires few { length segments.now ≤ 128 }
     requires short { All (λ s. length s.bytes ≤ 2 ^ 48) segments.now }
-    ensures { OnOk result (out.new.items ≡ out.old.items ++ table_bytes segments.now (64 + 56 * length segments.now)) }
+    ensures { OnOk result (out.new.items ≡ out.old.items ++ table_bytes segments.now (HEADER_LEN + PROGRAM_HEADER_LEN * length segments.now)) }
 {
     let mut offset = (HEADER_LEN + PROGRAM_HEADER_LEN * segments.len()) as u64;
     for segment in segments {

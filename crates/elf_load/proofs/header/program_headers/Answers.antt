@@ -13,11 +13,11 @@ read-requires c = header_room c.args.header.now _ c.loop-i.i c.requires c.loop-i
 
 pub loop-i-preserved : goal.loop-i-preserved
 loop-i-preserved c =
-    let next = headers_from-next c.args.file.now c.args.header.now.table c.args.header.now.count c.loop-i.i c.loop-i-test.true in
+    let next = headers_from-next c.args.file.now c.args.header.now.phoff c.args.header.now.phnum c.loop-i.i c.loop-i-test.true in
     grind (arith, common_steps, next)
 
 pub returns : goal.returns
 unfolding program_headers
 returns c =
-    let end : c.args.header.now.count - c.loop-i.i ≡ 0 = omega arith in
+    let end : c.args.header.now.phnum - c.loop-i.i ≡ 0 = omega arith in
     sym (append-nil c.loop-i.headers.items) ∙ (rw end at c.loop-i.invariant)

@@ -1,11 +1,13 @@
--- What the definitions mean in other words, for readers and for the crates above.
-use Rattle.std.proofs.Common.{◌≡◌, ◌==◌, ◌&&◌, ℕ, ◌+◌, ◌%◌, ◌^◌, ◌<◌, ◌≤◌, min, max, true, List, [], ◌∷◌, length, Option, Some, None, Ok, refl, sym, ap, subst, arith}
+-- What the definitions mean in other words.
+use Rattle.std.proofs.Common.{◌≡◌, ◌==◌, ◌&&◌, ℕ, ◌+◌, ◌%◌, ◌^◌, ◌<◌, ◌≤◌, min, max, bit_and, bit_or, true, List, [], ◌∷◌, length, Option, Some, None, Ok, refl, sym, ap, subst, arith}
 use Rattle.std.proofs.lemmas.Bool.{and_from, le-leb, lt-ltb, ltb-true}
 use Rattle.elf_load.specs.declared.bad_elf.BadElf.{BadElf}
 use Rattle.elf_load.specs.declared.bad_elf.BadElf.TheVariants as bad
 use Rattle.elf_load.specs.declared.header.Header.{Header}
 use Rattle.elf_load.specs.declared.segment.Segment.{Segment}
 use Rattle.elf_load.specs.Checks.{header_fault, has_table, unless}
+use Rattle.elf_load.specs.Constants.{elf_magic, elfclass64, elfdata2lsb, et_exec, em_riscv, ef_riscv_rvc, ef_riscv_float_abi}
+use Rattle.elf_load.specs.Meaning.{IsAmong}
 use Rattle.elf_load.specs.Header.{header_of, program_headers}
 use Rattle.elf_load.specs.Image.{image_of, image_unless, fault_of}
 use Rattle.elf_load.specs.MemoryImage.{MemoryImage, IsSound, is_placed, do_meet, covers}
@@ -13,11 +15,6 @@ use Rattle.elf_load.proofs.Lists.{option_or-None}
 use Rattle.elf_load.proofs.Faults.{passes, unless-None}
 use Rattle.elf_load.proofs.Sound.{sound}
 use Rattle.elf_load.proofs.Table.{few_in_table}
-
--- x lies among so many numbers from start on
-pub record IsAmong (start count x : ℕ) : Type 0 where
-  pub begins : start ≤ x
-  pub ends : x < start + count
 
 -- two ranges meet exactly where they have a number in common
 pub do_meet-common : (first count second others : ℕ) → do_meet first count second others ≡ true → (x : ℕ) × IsAmong first count x × IsAmong second others x
@@ -47,11 +44,11 @@ image_of-memory file base size image h =
 header_fault-None : (h : Header) (len : ℕ) → header_fault h len ≡ None → has_table h len ≡ true
 unfolding header_fault
 header_fault-None h len e =
-    let magic = (option_or-None (unless (h.magic == 0x464C_457F) bad.Magic) _ e).1 in
-    let class = (option_or-None (unless ((h.class == 2) && (h.encoding == 1)) bad.ClassOrData) _ magic).1 in
-    let kind = (option_or-None (unless (h.kind == 2) bad.Type_) _ class).1 in
-    let machine = (option_or-None (unless (h.machine == 243) bad.Machine) _ kind).1 in
-    let flags = (option_or-None (unless (h.flags % 8 == 0) bad.Flags) _ machine).1 in
+    let magic = (option_or-None (unless (h.magic == elf_magic) bad.Magic) _ e).1 in
+    let class = (option_or-None (unless ((h.class == elfclass64) && (h.encoding == elfdata2lsb)) bad.ClassOrData) _ magic).1 in
+    let kind = (option_or-None (unless (h.type_ == et_exec) bad.Type_) _ class).1 in
+    let machine = (option_or-None (unless (h.machine == em_riscv) bad.Machine) _ kind).1 in
+    let flags = (option_or-None (unless (bit_and h.flags (bit_or ef_riscv_rvc ef_riscv_float_abi) == 0) bad.Flags) _ machine).1 in
     unless-None (has_table h len) bad.Headers (option_or-None (unless (has_table h len) bad.Headers) None flags).0
 
 -- the image of a file is sound

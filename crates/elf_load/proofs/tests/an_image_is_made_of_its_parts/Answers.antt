@@ -1,7 +1,0 @@
-use Rattle.std.proofs.Common.{lit<, lit≤, refl}
-use Rattle.elf_load.proofs.Laws.{sound_alone}
-use Rattle.elf_load.proofs.tests.an_image_is_made_of_its_parts.Goals as goal
-
-pub make-image-requires : goal.make-image-requires
-make-image-requires g c =
-    rw c.in_ok-segments.ensures (sound_alone _ _ _ _ (lit≤ tt) (lit< tt) (lit≤ tt) (lit≤ tt) (lit≤ tt) refl refl (lit≤ tt) (lit≤ tt))
