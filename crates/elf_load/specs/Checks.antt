@@ -19,10 +19,11 @@ abbrev pub first_fault : List (Option BadElf) → Option BadElf
 first_fault [] = None
 first_fault (check ∷ checks) = option_or check (first_fault checks)
 
--- at most 128 program headers, of the right length each, which lie in a file of this length
+-- at most 128 program headers of 56 bytes, which lie in a file of this length
 unfoldable pub has_table : Header → ℕ → Bool
 has_table h len =
-    nat_le h.phnum most_headers && ((h.phnum == 0) || ((h.phentsize == program_header_len) && nat_le (h.phoff + program_header_len * h.phnum) len))
+    nat_le h.phnum most_headers
+    && ((h.phnum == 0) || ((h.phentsize == program_header_len) && nat_le (h.phoff + program_header_len * h.phnum) len))
 
 -- the first check of the ELF header that fails, in a file of this length: an executable of 64 bits, little-endian, for
 -- RISC-V, that needs neither compressed instructions nor a floating-point ABI
@@ -66,7 +67,8 @@ is_entered entry p = is_loaded p && is_executable p && is_within entry 4 p.vaddr
 -- the first place, and the first later place, whose elements pass the test together, in a list that begins at place i
 abbrev pub first_pair : {X : Type 0} → (X → X → Bool) → (i : ℕ) → List X → Option (ℕ × ℕ)
 first_pair test i [] = None
-first_pair test i (x ∷ xs) = option_or (option_map (λ k. (i, i + 1 + k)) (position (test x) xs)) (first_pair test (i + 1) xs)
+first_pair test i (x ∷ xs) =
+    option_or (option_map (λ k. (i, i + 1 + k)) (position (test x) xs)) (first_pair test (i + 1) xs)
 
 -- the first segment that passes the file's end
 unfoldable pub file_fault : List ProgramHeader → ℕ → Option BadElf

@@ -1,4 +1,5 @@
--- The constants of executables, by their names in the ELF-64 object file format and in the RISC-V ELF psABI specification.
+-- The constants of executables, by their names in the ELF-64 object file format and in the RISC-V ELF psABI
+-- specification.
 use Rattle.std.specs.Prelude.{ℕ}
 
 -- the first four bytes, as a number: 0x7F and "ELF"

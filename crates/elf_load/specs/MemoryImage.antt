@@ -32,12 +32,14 @@ word_in segment pc = little_from (pc - segment.vaddr) 4 segment.bytes
 -- the word that is fetched at pc: None where its four bytes are not in one executable segment
 abbrev pub fetched : List Segment → ℕ → Option ℕ
 fetched [] pc = None
-fetched (segment ∷ segments) pc = if segment.exec && covers segment pc 4 then Some (word_in segment pc) else fetched segments pc
+fetched (segment ∷ segments) pc =
+    if segment.exec && covers segment pc 4 then Some (word_in segment pc) else fetched segments pc
 
 -- the byte at an address: 0 outside the segments and past the bytes that the file has of a segment
 abbrev pub byte_at : List Segment → ℕ → ℕ
 byte_at [] addr = 0
-byte_at (segment ∷ segments) addr = if covers segment addr 1 then slice_index segment.bytes (addr - segment.vaddr) else byte_at segments addr
+byte_at (segment ∷ segments) addr =
+    if covers segment addr 1 then slice_index segment.bytes (addr - segment.vaddr) else byte_at segments addr
 
 -- so many bytes of memory from an address on
 abbrev pub bytes_from : List Segment → (addr count : ℕ) → List ℕ
@@ -46,12 +48,15 @@ bytes_from segments addr count = map (byte_at segments) (range_with_len addr cou
 -- the byte at an address that the file has of a segment, or another byte where the file has none there
 abbrev pub byte_over : Segment → (addr other : ℕ) → ℕ
 byte_over segment addr other =
-    if is_within addr 1 segment.vaddr (length segment.bytes) then slice_index segment.bytes (addr - segment.vaddr) else other
+    if is_within addr 1 segment.vaddr (length segment.bytes)
+    then slice_index segment.bytes (addr - segment.vaddr)
+    else other
 
 -- a segment is not empty, has at most as many bytes as it takes of memory, and lies in memory
 unfoldable pub is_placed : (base size : ℕ) → Segment → Bool
 is_placed base size segment =
-    nat_lt 0 segment.memsz && nat_le (length segment.bytes) segment.memsz && is_within segment.vaddr segment.memsz base size
+    nat_lt 0 segment.memsz && nat_le (length segment.bytes) segment.memsz
+    && is_within segment.vaddr segment.memsz base size
 
 -- two segments have an address in common
 unfoldable pub do_overlap : Segment → Segment → Bool

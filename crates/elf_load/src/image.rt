@@ -7,7 +7,8 @@ use crate::range::is_within;
 use byteorder::{ByteOrder, LittleEndian};
 use std::marker::Model;
 
-/// An executable in memory: the range of memory, the entry, and the segments in the order of the file.
+/// An executable in memory: the range of memory, the entry, and the segments in the order of the
+/// file.
 #[derive(Drop)]
 pub struct Image {
     base: u64,
@@ -21,16 +22,28 @@ impl Model for Image {
 
     ghost Value = { MemoryImage };
 
-    ghost view = { λ i. record { base = i.base; size = i.size; entry = i.entry; segments = i.segments.items } };
+    ghost view = { λ i.
+        record { base = i.base; size = i.size; entry = i.entry; segments = i.segments.items } };
 
-    ghost invariant = { λ i. IsSound (record { base = i.base; size = i.size; entry = i.entry; segments = i.segments.items }) };
+    ghost invariant = { λ i.
+        IsSound (record { base = i.base; size = i.size; entry = i.entry; segments = i.segments.items }) };
 }
 
 impl Image {
     /// An image of these segments, which it takes over.
     pub fn of(base: u64, size: u64, entry: u64, segments: Vec<Segment>) -> Self
-        requires { IsSound (record { base = base; size = size; entry = entry; segments = segments.items }) }
-        ensures { result ≡ record { base = base; size = size; entry = entry; segments = segments.items } }
+        requires { IsSound (record {
+          base = base;
+          size = size;
+          entry = entry;
+          segments = segments.items;
+        }) }
+        ensures { result ≡ record {
+          base = base;
+          size = size;
+          entry = entry;
+          segments = segments.items;
+        } }
     {
         Image {
             base,
@@ -69,8 +82,8 @@ impl Image {
         &self.segments
     }
 
-    /// The byte at an address of memory: 0 outside the segments and past the bytes that the file has
-    /// of a segment.
+    /// The byte at an address of memory: 0 outside the segments and past the bytes that the file
+    /// has of a segment.
     pub fn byte(&self, addr: u64) -> u8
         requires begins { self.now.base ≤ addr }
         requires ends { addr < self.now.base + self.now.size }
@@ -156,7 +169,8 @@ fn word_in(segment: &Segment, pc: u64) -> u32
 
 // Copies the bytes that the file has of a segment to their places in `out`, which begins at `addr`.
 fn copy_segment(segment: &Segment, addr: u64, out: &mut [u8])
-    ensures { (i : ℕ) → i < length out.old → slice_index out.new i ≡ byte_over segment.now (addr + i) (slice_index out.old i) }
+    ensures { (i : ℕ) → i < length out.old
+        → slice_index out.new i ≡ byte_over segment.now (addr + i) (slice_index out.old i) }
 {
     let bytes = segment.bytes.as_slice();
     let before = addr.saturating_sub(segment.vaddr) as usize;

@@ -1,5 +1,5 @@
-//! Laws of the definitions by which executables are read. Each is the contract of a function that does
-//! nothing.
+//! Laws of the definitions by which executables are read. Each is the contract of a function that
+//! does nothing.
 ghost use Rattle.std.specs.Prelude.{◌≡◌, ◌↔◌, ◌+◌, ◌^◌, ◌≤◌, ℕ, true, List, Ok, Some};
 ghost use Rattle.elf_load.specs.Checks.{overlap_fault, overlaps};
 ghost use Rattle.elf_load.specs.Image.{image_of};

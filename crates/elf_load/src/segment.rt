@@ -1,7 +1,8 @@
 // A segment of an executable.
 use zs_num::Bytes;
 
-/// A range of memory that the executable fills: its first bytes are those of the file, the rest are 0.
+/// A range of memory that the executable fills: its first bytes are those of the file, the rest are
+/// 0.
 #[derive(Debug, Drop)]
 pub struct Segment {
     /// The address of its first byte.

@@ -1,3 +1,4 @@
+// What no clause says: files that linkers made, each check, and files at the limits.
 ghost use Rattle.std.specs.Prelude.{◌≡◌, [], ◌∷◌, true, IfOk};
 
 use crate::executables::{GREETING, LINKED_APART, LINKED_AS_ONE, SEVEN};
@@ -279,24 +280,55 @@ fn short_and_empty_files_are_refused(rt: HostRuntime) {
     );
 }
 
+// The headers of SEVEN's segment with changes of their own, each at its place in SEVEN, and the
+// bytes of the segment.
+fn with_headers(alloc: Global, headers: &[[Change; 2]]) -> Result<Vec<u8>, AllocError> {
+    let phnum = headers.len();
+    let mut file = changed(alloc, &SEVEN[..64], &[put(E_PHNUM, 2, phnum as u64)])?;
+    for changes in headers {
+        let header = changed(alloc, &SEVEN[..120], changes)?;
+        file.extend_from_slice(header.get(64..).unwrap_or(&[]))?;
+    }
+    file.extend_from_slice(&SEVEN[120..])?;
+    Ok(file)
+}
+
 #[test]
-fn two_copies_of_a_segment_overlap(rt: HostRuntime) -> Result<(), Fail> {
-    let mut file = Vec::from_slice(rt.alloc(), &SEVEN[..120])?;
-    file.extend_from_slice(&SEVEN[64..])?;
-    let file = changed(
-        rt.alloc(),
-        &file,
-        &[
-            put(E_PHNUM, 2, 2),
-            put(P_OFFSET, 8, 176),
-            put(P_OFFSET + 56, 8, 176),
-        ],
-    )?;
-    let overlap = BadElf::Overlap {
-        first: 0,
-        second: 1,
-    };
-    assert_eq!(rt; fault_of(rt.alloc(), &file), Some(LoadFail::Bad(overlap)));
+fn as_many_program_headers_as_may_be_are_loaded(rt: HostRuntime) -> Result<(), Fail> {
+    let mut headers = [[put(P_OFFSET, 8, 64 + 56 * 128); 2]; 128];
+    for (i, changes) in headers.iter_mut().enumerate() {
+        changes[1] = put(P_VADDR, 8, BASE.wrapping_add(i.wrapping_mul(16) as u64));
+    }
+    let file = with_headers(rt.alloc(), &headers)?;
+    let image = load(rt.alloc(), &file, BASE, SIZE)?;
+    assert_eq!(rt; image.segments().len(), 128);
+    assert_eq!(rt; image.word(0x107f8), Some(0x73));
+    assert_eq!(rt; image.word(0x107fc), None);
+    Ok(())
+}
+
+#[test]
+fn a_check_is_made_of_all_headers_before_the_next_check(rt: HostRuntime) -> Result<(), Fail> {
+    let loaded = [put(P_OFFSET, 8, 176), put(P_FLAGS, 4, 7)];
+    let past_file = [put(P_OFFSET, 8, 177), put(P_VADDR, 8, BASE)];
+    let past_memory = [put(P_OFFSET, 8, 176), put(P_VADDR, 8, 0)];
+    let dynamic = [put(P_OFFSET, 8, 176), put(P_TYPE, 4, 2)];
+    for (first, second, fault) in [
+        (past_file, dynamic, BadElf::Dynamic),
+        (past_memory, past_file, BadElf::SegmentPastFile { index: 1 }),
+        (loaded, past_memory, BadElf::SegmentPastMemory { index: 1 }),
+        (
+            loaded,
+            loaded,
+            BadElf::Overlap {
+                first: 0,
+                second: 1,
+            },
+        ),
+    ] {
+        let file = with_headers(rt.alloc(), &[first, second])?;
+        assert_eq!(rt; fault_of(rt.alloc(), &file), Some(LoadFail::Bad(fault)));
+    }
     Ok(())
 }
 
@@ -396,7 +428,8 @@ fn a_linked_executable_has_gaps_between_segments(rt: HostRuntime) -> Result<(), 
 
 // One executable segment of eight bytes, of which the file has none.
 fn alone(alloc: Global) -> Result<Vec<Segment>, NoMemory>
-    ensures { IfOk result (λ s. s.items ≡ record { vaddr = BASE; bytes = []; memsz = 8; exec = true } ∷ []) }
+    ensures { IfOk result (λ s.
+        s.items ≡ record { vaddr = BASE; bytes = []; memsz = 8; exec = true } ∷ []) }
 {
     let mut segments = Vec::new(alloc);
     segments.push(Segment {

@@ -1,5 +1,5 @@
--- The file of an image (ELF-64 object file format, "ELF header" and "Program header table"): a table of fields, and then
--- the bytes of the segments. Numbers are little-endian.
+-- The file of an image (ELF-64 object file format, "ELF header" and "Program header table"): a table of fields, and
+-- then the bytes of the segments. Numbers are little-endian.
 use Rattle.std.specs.Prelude.{ℕ, ◌+◌, ◌*◌, ◌^◌, nat_lt, nat_le, Bool, ◌&&◌, if◌then◌else◌, List, [], ◌∷◌, ◌++◌, length}
 use Rattle.std.specs.List.{flat_map}
 use Rattle.byteorder.specs.Endian.{little_bytes}
@@ -19,8 +19,8 @@ is_writable f = nat_le 1 f.width && nat_le f.width 8 && nat_lt f.value (256 ^ f.
 abbrev pub fields_bytes : List Field → List ℕ
 fields_bytes fields = flat_map (λ f. little_bytes f.width f.value) fields
 
--- The fields of the ELF header, by the names of the standard: an executable of 64 bits, little-endian, for RISC-V, whose
--- program headers follow at once, with no sections.
+-- The fields of the ELF header, by the names of the standard: an executable of 64 bits, little-endian, for RISC-V,
+-- whose program headers follow at once, with no sections.
 abbrev pub header_fields : (entry phnum : ℕ) → List Field
 header_fields entry phnum =
     -- e_ident: the magic, class, data encoding and version, the OS ABI, the ABI version and padding
@@ -49,7 +49,8 @@ program_header_fields segment offset =
 -- the program headers of segments whose bytes stand one after the other from this place of the file on
 abbrev pub table_bytes : List Segment → (offset : ℕ) → List ℕ
 table_bytes [] offset = []
-table_bytes (segment ∷ segments) offset = fields_bytes (program_header_fields segment offset) ++ table_bytes segments (offset + length segment.bytes)
+table_bytes (segment ∷ segments) offset =
+    fields_bytes (program_header_fields segment offset) ++ table_bytes segments (offset + length segment.bytes)
 
 -- the bytes of segments, one after the other
 abbrev pub contents : List Segment → List ℕ
@@ -59,4 +60,5 @@ contents segments = flat_map (λ segment. segment.bytes) segments
 unfoldable pub file_of : MemoryImage → List ℕ
 file_of image =
     let count = length image.segments in
-    fields_bytes (header_fields image.entry count) ++ (table_bytes image.segments (header_len + program_header_len * count) ++ contents image.segments)
+    fields_bytes (header_fields image.entry count)
+    ++ (table_bytes image.segments (header_len + program_header_len * count) ++ contents image.segments)

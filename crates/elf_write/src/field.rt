@@ -37,7 +37,8 @@ pub fn write_fields(out: &mut Vec<u8>, fields: &[Field]) -> Result<(), NoMemory>
 
 fn write_field(out: &mut Vec<u8>, field: &Field) -> Result<(), NoMemory>
     requires { IsTrue (is_writable field.now) }
-    ensures { OnOk result (out.new.items ≡ out.old.items ++ little_bytes field.now.width field.now.value) }
+    ensures { OnOk result (out.new.items ≡ out.old.items
+        ++ little_bytes field.now.width field.now.value) }
 {
     let mut bytes = [0; 8];
     LittleEndian::write_uint(&mut bytes, field.value, field.width);

@@ -13,7 +13,8 @@ use zs_num::{Bytes, NoMemory};
 /// The executable that is loaded as this image.
 pub fn write(alloc: Global, image: &Image) -> Result<Bytes, NoMemory>
     ensures layout { IfOk result (λ bytes. bytes ≡ file_of image.now) }
-    ensures read_again { IfOk result (λ bytes. image_of bytes image.now.base image.now.size ≡ Ok image.now) }
+    ensures read_again { IfOk result (λ bytes.
+        image_of bytes image.now.base image.now.size ≡ Ok image.now) }
 {
     // What an image keeps bounds the numbers below.
     let _ = image.base();
@@ -27,7 +28,8 @@ pub fn write(alloc: Global, image: &Image) -> Result<Bytes, NoMemory>
 
 fn write_header(out: &mut Vec<u8>, entry: u64, phnum: usize) -> Result<(), NoMemory>
     requires { phnum ≤ 128 }
-    ensures { OnOk result (out.new.items ≡ out.old.items ++ fields_bytes (header_fields entry phnum)) }
+    ensures { OnOk result (out.new.items ≡ out.old.items
+        ++ fields_bytes (header_fields entry phnum)) }
 {
     write_fields(out, &header_fields(entry, phnum))
 }
@@ -35,7 +37,8 @@ fn write_header(out: &mut Vec<u8>, entry: u64, phnum: usize) -> Result<(), NoMem
 fn write_table(out: &mut Vec<u8>, segments: &[Segment]) -> Result<(), NoMemory>
     requires few { length segments.now ≤ 128 }
     requires short { All (λ s. length s.bytes ≤ 2 ^ 48) segments.now }
-    ensures { OnOk result (out.new.items ≡ out.old.items ++ table_bytes segments.now (HEADER_LEN + PROGRAM_HEADER_LEN * length segments.now)) }
+    ensures { OnOk result (out.new.items ≡ out.old.items
+        ++ table_bytes segments.now (HEADER_LEN + PROGRAM_HEADER_LEN * length segments.now)) }
 {
     let mut offset = (HEADER_LEN + PROGRAM_HEADER_LEN * segments.len()) as u64;
     for segment in segments {

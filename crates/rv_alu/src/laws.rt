@@ -16,13 +16,14 @@ ghost use Rattle.rv_alu.specs.Operations.{low_word, word_of};
 
 use rv_decode::Name;
 
-/// `alu` computes exactly the instructions whose row has the opcode OP-IMM, OP-IMM-32, OP or OP-32, and `taken`
-/// decides exactly those of BRANCH.
+/// `alu` computes exactly the instructions whose row has the opcode OP-IMM, OP-IMM-32, OP or OP-32,
+/// and `taken` decides exactly those of BRANCH.
 pub fn opcodes()
     ensures arithmetic { (name : Name) → is_arithmetic name
         ≡ list_any (λ code. opcode_of (value_of name) == code)
         (opcode.op_imm ∷ opcode.op_imm_32 ∷ opcode.op ∷ opcode.op_32 ∷ []) }
-    ensures branches { (name : Name) → is_branch name ≡ (opcode_of (value_of name) == opcode.branch) }
+    ensures branches { (name : Name)
+        → is_branch name ≡ (opcode_of (value_of name) == opcode.branch) }
 {}
 
 /// DIV and REM divide, except by zero and where the quotient overflows.
@@ -85,8 +86,8 @@ pub fn words_of_shifts()
         → result_of Name.Sraw a b ≡ result_of Name.Sra (word_of a) (b % 32) }
 {}
 
-/// The bits that come in are copies of the sign: a number that is not negative is shifted as by SRL,
-/// and the complement of a negative one is.
+/// The bits that come in are copies of the sign: a number that is not negative is shifted as by
+/// SRL, and the complement of a negative one is.
 pub fn signed_shifts()
     ensures zeros { (a b : ℕ) → a < 2 ^ 63
         → result_of Name.Sra a b ≡ result_of Name.Srl a b }

@@ -1,5 +1,5 @@
-//! Edge values against numbers that another program computed from the RISC-V Unprivileged ISA
-//! manual with whole numbers, and the manual's own cases of division.
+// Edge values against numbers that another program computed from the RISC-V Unprivileged ISA
+// manual with whole numbers, and the manual's own cases of division.
 
 use crate::{alu, amo, is_arithmetic, is_branch, taken};
 use rv_decode::Name;

@@ -78,7 +78,14 @@ by_funct5 opcode funct3 names =
 -- the opcode, funct3, that rs2 is 0, and funct5
 abbrev pub by_funct5_without_rs2 : ℕ → ℕ → List (ℕ × Name) → Family
 by_funct5_without_rs2 opcode funct3 names =
-    record { mask = 0x01f0_707f; value = opcode + funct3 * 2 ^ 12; high = 31; low = 27; format = LoadReserved; names = names }
+    record {
+      mask = 0x01f0_707f;
+      value = opcode + funct3 * 2 ^ 12;
+      high = 31;
+      low = 27;
+      format = LoadReserved;
+      names = names;
+    }
 
 -- the opcode, that bits 19 to 7 are 0, and bits 31 to 20 (funct12)
 abbrev pub by_funct12 : ℕ → List (ℕ × Name) → Family
@@ -137,13 +144,17 @@ calls = by_funct12 opcode.system ((0, Ecall) ∷ (1, Ebreak) ∷ [])
 -- "Integer Register-Register Operations", of RV32I and of RV64I, and the extension M: "Multiplication Operations" and
 -- "Division Operations"
 abbrev pub operations : Family
-operations = by_funct7_funct3 opcode.op 0x00 ((0, Add) ∷ (1, Sll) ∷ (2, Slt) ∷ (3, Sltu) ∷ (4, Xor) ∷ (5, Srl) ∷ (6, Or) ∷ (7, And) ∷ [])
+operations =
+    by_funct7_funct3 opcode.op 0x00 ((0, Add) ∷ (1, Sll) ∷ (2, Slt) ∷ (3, Sltu) ∷ (4, Xor) ∷ (5, Srl)
+    ∷ (6, Or) ∷ (7, And) ∷ [])
 
 abbrev pub alternate_operations : Family
 alternate_operations = by_funct7_funct3 opcode.op 0x20 ((0, Sub) ∷ (5, Sra) ∷ [])
 
 abbrev pub extension_m : Family
-extension_m = by_funct7_funct3 opcode.op 0x01 ((0, Mul) ∷ (1, Mulh) ∷ (2, Mulhsu) ∷ (3, Mulhu) ∷ (4, Div) ∷ (5, Divu) ∷ (6, Rem) ∷ (7, Remu) ∷ [])
+extension_m =
+    by_funct7_funct3 opcode.op 0x01 ((0, Mul) ∷ (1, Mulh) ∷ (2, Mulhsu) ∷ (3, Mulhu) ∷ (4, Div) ∷ (5, Divu)
+    ∷ (6, Rem) ∷ (7, Remu) ∷ [])
 
 abbrev pub word_operations : Family
 word_operations = by_funct7_funct3 opcode.op_32 0x00 ((0, Addw) ∷ (1, Sllw) ∷ (5, Srlw) ∷ [])
@@ -152,20 +163,27 @@ abbrev pub alternate_word_operations : Family
 alternate_word_operations = by_funct7_funct3 opcode.op_32 0x20 ((0, Subw) ∷ (5, Sraw) ∷ [])
 
 abbrev pub extension_m_words : Family
-extension_m_words = by_funct7_funct3 opcode.op_32 0x01 ((0, Mulw) ∷ (4, Divw) ∷ (5, Divuw) ∷ (6, Remw) ∷ (7, Remuw) ∷ [])
+extension_m_words =
+    by_funct7_funct3 opcode.op_32 0x01 ((0, Mulw) ∷ (4, Divw) ∷ (5, Divuw) ∷ (6, Remw) ∷ (7, Remuw) ∷ [])
 
 -- The extension A: "Load-Reserved/Store-Conditional Instructions" and "Atomic Memory Operations"
 abbrev pub word_reservations : Family
 word_reservations = by_funct5_without_rs2 opcode.amo 2 ((0x02, LrW) ∷ [])
 
 abbrev pub word_atomics : Family
-word_atomics = by_funct5 opcode.amo 2 ((0x03, ScW) ∷ (0x01, AmoswapW) ∷ (0x00, AmoaddW) ∷ (0x04, AmoxorW) ∷ (0x0c, AmoandW) ∷ (0x08, AmoorW) ∷ (0x10, AmominW) ∷ (0x14, AmomaxW) ∷ (0x18, AmominuW) ∷ (0x1c, AmomaxuW) ∷ [])
+word_atomics =
+    by_funct5 opcode.amo 2 ((0x03, ScW) ∷ (0x01, AmoswapW) ∷ (0x00, AmoaddW) ∷ (0x04, AmoxorW) ∷ (0x0c, AmoandW)
+    ∷ (0x08, AmoorW) ∷ (0x10, AmominW) ∷ (0x14, AmomaxW) ∷ (0x18, AmominuW)
+    ∷ (0x1c, AmomaxuW) ∷ [])
 
 abbrev pub doubleword_reservations : Family
 doubleword_reservations = by_funct5_without_rs2 opcode.amo 3 ((0x02, LrD) ∷ [])
 
 abbrev pub doubleword_atomics : Family
-doubleword_atomics = by_funct5 opcode.amo 3 ((0x03, ScD) ∷ (0x01, AmoswapD) ∷ (0x00, AmoaddD) ∷ (0x04, AmoxorD) ∷ (0x0c, AmoandD) ∷ (0x08, AmoorD) ∷ (0x10, AmominD) ∷ (0x14, AmomaxD) ∷ (0x18, AmominuD) ∷ (0x1c, AmomaxuD) ∷ [])
+doubleword_atomics =
+    by_funct5 opcode.amo 3 ((0x03, ScD) ∷ (0x01, AmoswapD) ∷ (0x00, AmoaddD) ∷ (0x04, AmoxorD) ∷ (0x0c, AmoandD)
+    ∷ (0x08, AmoorD) ∷ (0x10, AmominD) ∷ (0x14, AmomaxD) ∷ (0x18, AmominuD)
+    ∷ (0x1c, AmomaxuD) ∷ [])
 
 abbrev pub families : List Family
 families = uppers ∷ jumps ∷ register_jumps ∷ branches ∷ loads ∷ stores
@@ -189,10 +207,14 @@ instruction I name word = record { name = name; rd = rd_of word; rs1 = rs1_of wo
 instruction B name word = record { name = name; rd = 0; rs1 = rs1_of word; rs2 = rs2_of word; imm = b_immediate word }
 instruction S name word = record { name = name; rd = 0; rs1 = rs1_of word; rs2 = rs2_of word; imm = s_immediate word }
 instruction R name word = record { name = name; rd = rd_of word; rs1 = rs1_of word; rs2 = rs2_of word; imm = pos 0 }
-instruction Shift name word = record { name = name; rd = rd_of word; rs1 = rs1_of word; rs2 = 0; imm = pos (bits_of 25 20 word) }
-instruction WordShift name word = record { name = name; rd = rd_of word; rs1 = rs1_of word; rs2 = 0; imm = pos (bits_of 24 20 word) }
-instruction Atomic name word = record { name = name; rd = rd_of word; rs1 = rs1_of word; rs2 = rs2_of word; imm = pos (bits_of 26 25 word) }
-instruction LoadReserved name word = record { name = name; rd = rd_of word; rs1 = rs1_of word; rs2 = 0; imm = pos (bits_of 26 25 word) }
+instruction Shift name word =
+    record { name = name; rd = rd_of word; rs1 = rs1_of word; rs2 = 0; imm = pos (bits_of 25 20 word) }
+instruction WordShift name word =
+    record { name = name; rd = rd_of word; rs1 = rs1_of word; rs2 = 0; imm = pos (bits_of 24 20 word) }
+instruction Atomic name word =
+    record { name = name; rd = rd_of word; rs1 = rs1_of word; rs2 = rs2_of word; imm = pos (bits_of 26 25 word) }
+instruction LoadReserved name word =
+    record { name = name; rd = rd_of word; rs1 = rs1_of word; rs2 = 0; imm = pos (bits_of 26 25 word) }
 instruction Whole name word = record { name = name; rd = 0; rs1 = 0; rs2 = 0; imm = pos 0 }
 
 -- the instruction that a word is by a row

@@ -43,7 +43,8 @@ s_immediate word = signed 12 (bits_of 31 25 word * 2 ^ 5 + bits_of 11 7 word)
 -- bit 12 is 31; 11 is 7; 10 to 5 are 30 to 25; 4 to 1 are 11 to 8; 0 is 0
 abbrev pub b_immediate : ℕ → ℤ
 b_immediate word =
-    signed 13 (bits_of 31 31 word * 2 ^ 12 + bits_of 7 7 word * 2 ^ 11 + bits_of 30 25 word * 2 ^ 5 + bits_of 11 8 word * 2 ^ 1)
+    signed 13 (bits_of 31 31 word * 2 ^ 12 + bits_of 7 7 word * 2 ^ 11
+    + bits_of 30 25 word * 2 ^ 5 + bits_of 11 8 word * 2 ^ 1)
 
 -- bits 31 to 12 are 31 to 12; 11 to 0 are 0
 abbrev pub u_immediate : ℕ → ℤ
@@ -52,4 +53,5 @@ u_immediate word = signed 32 (bits_of 31 12 word * 2 ^ 12)
 -- bit 20 is 31; 19 to 12 are 19 to 12; 11 is 20; 10 to 1 are 30 to 21; 0 is 0
 abbrev pub j_immediate : ℕ → ℤ
 j_immediate word =
-    signed 21 (bits_of 31 31 word * 2 ^ 20 + bits_of 19 12 word * 2 ^ 12 + bits_of 20 20 word * 2 ^ 11 + bits_of 30 21 word * 2 ^ 1)
+    signed 21 (bits_of 31 31 word * 2 ^ 20 + bits_of 19 12 word * 2 ^ 12
+    + bits_of 20 20 word * 2 ^ 11 + bits_of 30 21 word * 2 ^ 1)

@@ -1,4 +1,4 @@
-//! The decoder: it branches over the fields of a word.
+// The decoder: it branches over the fields of a word.
 ghost use Rattle.std.specs.Prelude.{◌≡◌, ◌==◌, ◌<◌, ◌↔◌, if◌then◌else◌, option_map, Contains, IsTrue, IfSome};
 ghost use Rattle.rv_decode.specs.InstructionWord.{opcode_of, rs2_of};
 ghost use Rattle.rv_decode.specs.InstructionTable as spec;
@@ -18,7 +18,8 @@ pub fn decode(word: u32) -> Option<Inst>
     ensures exact { result ≡ decoded word }
 
     // It is the instruction by each row that matches, and an instruction only by such a row.
-    ensures matching { (row : Row) → Contains table row → IsTrue (matches row word) → result ≡ Some (by_row row word) }
+    ensures matching { (row : Row) → Contains table row → IsTrue (matches row word)
+        → result ≡ Some (by_row row word) }
     ensures matched { IfSome result (IsByRow word) }
     ensures none { (result ≡ None) ↔ NoRowMatches word }
 
@@ -146,7 +147,8 @@ fn atomic(word: u32) -> Option<Inst>
 
 /// A load-reserved has no rs2: it must be 0.
 fn load_reserved(name: Name, word: u32) -> Option<Inst>
-    ensures { result ≡ (if rs2_of word == 0 then Some (spec.instruction Format.LoadReserved name word) else None) }
+    ensures { result ≡ (if rs2_of word == 0
+        then Some (spec.instruction Format.LoadReserved name word) else None) }
 {
     if rs2(word) == 0 {
         Some(instruction(Format::LoadReserved, name, word))

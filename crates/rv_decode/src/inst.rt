@@ -1,3 +1,4 @@
+// What a word decodes to.
 use crate::Name;
 
 /// A decoded instruction. A field that its format does not have is 0.
@@ -10,6 +11,7 @@ pub struct Inst {
     pub rs1: u8,
     /// The second source register, 0 to 31.
     pub rs2: u8,
-    /// The immediate, sign-extended; the amount of a shift by immediate; `2 * aq + rl` of an atomic.
+    /// The immediate, sign-extended; the amount of a shift by immediate; `2 * aq + rl` of an
+    /// atomic.
     pub imm: i64,
 }

@@ -1,5 +1,5 @@
-//! The names of the instructions of one opcode, by the field in which their rows differ. The groups are
-//! those of the instruction table.
+// The names of the instructions of one opcode, by the field in which their rows differ. The groups
+// are those of the instruction table.
 ghost use Rattle.std.specs.Prelude.{◌≡◌};
 ghost use Rattle.rv_decode.specs.InstructionTable.{named, register_jumps, branches, loads, stores, immediates, left_shifts, right_shifts, word_immediates, left_word_shifts, right_word_shifts, fences, calls, operations, alternate_operations, extension_m, word_operations, alternate_word_operations, extension_m_words, word_atomics, doubleword_atomics};
 

@@ -1,4 +1,4 @@
-//! Words that the assembler of GNU binutils 2.40 made, with what was written.
+// Words that the assembler of GNU binutils 2.40 made, with what was written.
 use super::*;
 
 /// A word, and the name, rd, rs1, rs2 and immediate of the instruction that it was made from.

@@ -1,5 +1,5 @@
-//! The encoder of RV64I with the extensions M and A (RISC-V Unprivileged ISA manual), the inverse of
-//! the decoder.
+//! The encoder of RV64I with the extensions M and A (RISC-V Unprivileged ISA manual), the inverse
+//! of the decoder.
 #![tactic(auto)]
 
 mod encoder;

@@ -1,4 +1,4 @@
-//! Words that the assembler of GNU binutils 2.40 made.
+// Words that the assembler of GNU binutils 2.40 made.
 use super::*;
 use rv_decode::{Inst, Name, decode};
 

@@ -1,3 +1,4 @@
+// A list of bytes as one value.
 ghost use Rattle.std.specs.Prelude.{◌≡◌, IfOk};
 
 use crate::NoMemory;
@@ -35,12 +36,14 @@ impl Bytes {
         })
     }
 
+    /// The bytes, in place.
     pub fn as_slice(&self) -> &[u8]
         ensures { result.now ≡ self.now }
     {
         &self.list
     }
 
+    /// The list of the bytes.
     pub fn into_list(self) -> Vec<u8>
         ensures { result.items ≡ self }
     {

@@ -1,3 +1,4 @@
+// The accesses of an interval, as they were served.
 ghost use Rattle.std.specs.Prelude.{◌≡◌};
 
 use crate::{Cycle, Request, Stamp};
@@ -6,9 +7,9 @@ use std::marker::Model;
 /// How the caches met a request.
 #[derive(Clone, Copy, Debug, PartialEq, Eq)]
 pub enum Outcome {
-    /// The core's own cache had the line with the right that was needed.
+    /// The core's own cache had the line with the permission that was needed.
     Hit,
-    /// The core's own cache had the line, and needed the right to write it. `others`: another core
+    /// The core's own cache had the line without write permission. `others`: another core
     /// had it too.
     Upgrade { others: bool },
     /// The shared cache had the line. `others`: another core had a copy that had to change.
@@ -55,12 +56,14 @@ impl Entries {
         Entries { list }
     }
 
+    /// The entries, in place.
     pub fn as_slice(&self) -> &[Entry]
         ensures { result.now ≡ self.now }
     {
         &self.list
     }
 
+    /// The list of the entries.
     pub fn into_list(self) -> Vec<Entry>
         ensures { result.items ≡ self }
     {

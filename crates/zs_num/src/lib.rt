@@ -10,7 +10,7 @@ mod time;
 pub use bytes::Bytes;
 pub use entry::{Entries, Entry, Outcome};
 pub use memory::NoMemory;
-pub use request::{AmoOp, Request};
+pub use request::{AmoOp, LINE, Request};
 pub use time::{Cycle, Key, Stamp, Word};
 
 #[cfg(test)]
@@ -44,13 +44,13 @@ mod tests {
     }
 
     #[test]
-    fn a_request_tells_its_address_and_width(rt: HostRuntime) {
+    fn a_request_tells_its_address_width_and_line(rt: HostRuntime) {
         let add = Request::Amo {
             op: AmoOp::Add,
-            addr: 0x11000,
+            addr: 0x11078,
             width: 8,
             value: 1,
         };
-        assert_eq!(rt; (add.addr(), add.width()), (0x11000, 8));
+        assert_eq!(rt; (add.addr(), add.width(), add.line()), (0x11078, 8, 0x441));
     }
 }

@@ -1,4 +1,8 @@
+// What a core asks of memory.
 ghost use Rattle.std.specs.Prelude.{◌≡◌};
+
+/// How many bytes a cache line has.
+pub const LINE: u64 = 64;
 
 /// The operation of an atomic read-modify-write (RISC-V Unprivileged ISA manual, "A" extension).
 #[derive(Clone, Copy, Debug, PartialEq, Eq)]
@@ -18,7 +22,7 @@ pub enum AmoOp {
     Maxu,
 }
 
-/// What a core asks of memory. It lies in one line of 64 bytes. Widths are in bytes: 1 to 8 for a
+/// What a core asks of memory. It lies in one line. Widths are in bytes: 1 to 8 for a
 /// load or a store, 4 or 8 for the others. Of a `value` the low `width` bytes count.
 #[derive(Clone, Copy, Debug, PartialEq, Eq)]
 pub enum Request {
@@ -54,7 +58,7 @@ pub enum Request {
 }
 
 impl Request {
-    ghost use Rattle.zs_num.specs.Request.{addr_of, width_of};
+    ghost use Rattle.zs_num.specs.Request.{addr_of, line_of, width_of};
 
     /// The address of its lowest byte.
     pub fn addr(&self) -> u64
@@ -80,5 +84,12 @@ impl Request {
             | Request::Sc { width, .. }
             | Request::Amo { width, .. } => width,
         }
+    }
+
+    /// The number of the line in which it lies.
+    pub fn line(&self) -> u64
+        ensures { result ≡ line_of self.now }
+    {
+        self.addr() / LINE
     }
 }
