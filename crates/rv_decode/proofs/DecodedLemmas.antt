@@ -4,6 +4,7 @@ use Rattle.std.specs.List.{list_all}
 use Rattle.std.specs.Option.{option_or}
 use Rattle.std.proofs.lemmas.List.Folds.{find-append}
 use Rattle.rv_decode.specs.InstructionWord.{bits_of, ones, opcode_of, rd_of, funct3_of, rs1_of, rs2_of, funct7_of}
+use Rattle.rv_decode.specs.Opcodes as opcodes
 use Rattle.rv_decode.specs.InstructionTable.{Family, row_at, matches, named, families, table, decoded, by_row, instruction, uppers, jumps, register_jumps, branches, loads, stores, immediates, left_shifts, right_shifts, word_immediates, left_word_shifts, right_word_shifts, fences, calls, operations, alternate_operations, extension_m, word_operations, alternate_word_operations, extension_m_words, word_atomics, doubleword_atomics}
 use Rattle.rv_decode.specs.declared.format.Format.{Format}
 use Rattle.rv_decode.specs.declared.format.Format.TheVariants.{U, J, I, B, S, R, Shift, WordShift, Atomic, LoadReserved, Whole}
@@ -119,85 +120,85 @@ option_or-None (Some x) = refl
 abbrev pub formatted : Format → Option Name → ℕ → Option Inst
 formatted format name word = option_map (λ n. instruction format n word) name
 
-pub decoded-lui : (word : ℕ) → opcode_of word ≡ 0x37 → decoded word ≡ Some (instruction U Lui word)
-decoded-lui word e = decoded_at 0x37 word e
+pub decoded-lui : (word : ℕ) → opcode_of word ≡ opcodes.lui → decoded word ≡ Some (instruction U Lui word)
+decoded-lui word e = decoded_at opcodes.lui word e
 
-pub decoded-auipc : (word : ℕ) → opcode_of word ≡ 0x17 → decoded word ≡ Some (instruction U Auipc word)
-decoded-auipc word e = decoded_at 0x17 word e
+pub decoded-auipc : (word : ℕ) → opcode_of word ≡ opcodes.auipc → decoded word ≡ Some (instruction U Auipc word)
+decoded-auipc word e = decoded_at opcodes.auipc word e
 
-pub decoded-jal : (word : ℕ) → opcode_of word ≡ 0x6f → decoded word ≡ Some (instruction J Jal word)
-decoded-jal word e = decoded_at 0x6f word e
+pub decoded-jal : (word : ℕ) → opcode_of word ≡ opcodes.jal → decoded word ≡ Some (instruction J Jal word)
+decoded-jal word e = decoded_at opcodes.jal word e
 
-pub decoded-register_jumps : (word : ℕ) → opcode_of word ≡ 0x67 → decoded word ≡ formatted I (named register_jumps.names (funct3_of word)) word
-decoded-register_jumps word e = decoded_at 0x67 word e ∙ option_or-None _
+pub decoded-register_jumps : (word : ℕ) → opcode_of word ≡ opcodes.jalr → decoded word ≡ formatted I (named register_jumps.names (funct3_of word)) word
+decoded-register_jumps word e = decoded_at opcodes.jalr word e ∙ option_or-None _
 
-pub decoded-branches : (word : ℕ) → opcode_of word ≡ 0x63 → decoded word ≡ formatted B (named branches.names (funct3_of word)) word
-decoded-branches word e = decoded_at 0x63 word e ∙ option_or-None _
+pub decoded-branches : (word : ℕ) → opcode_of word ≡ opcodes.branch → decoded word ≡ formatted B (named branches.names (funct3_of word)) word
+decoded-branches word e = decoded_at opcodes.branch word e ∙ option_or-None _
 
-pub decoded-loads : (word : ℕ) → opcode_of word ≡ 0x03 → decoded word ≡ formatted I (named loads.names (funct3_of word)) word
-decoded-loads word e = decoded_at 0x03 word e ∙ option_or-None _
+pub decoded-loads : (word : ℕ) → opcode_of word ≡ opcodes.load → decoded word ≡ formatted I (named loads.names (funct3_of word)) word
+decoded-loads word e = decoded_at opcodes.load word e ∙ option_or-None _
 
-pub decoded-stores : (word : ℕ) → opcode_of word ≡ 0x23 → decoded word ≡ formatted S (named stores.names (funct3_of word)) word
-decoded-stores word e = decoded_at 0x23 word e ∙ option_or-None _
+pub decoded-stores : (word : ℕ) → opcode_of word ≡ opcodes.store → decoded word ≡ formatted S (named stores.names (funct3_of word)) word
+decoded-stores word e = decoded_at opcodes.store word e ∙ option_or-None _
 
-pub decoded-fences : (word : ℕ) → opcode_of word ≡ 0x0f → decoded word ≡ formatted I (named fences.names (funct3_of word)) word
-decoded-fences word e = decoded_at 0x0f word e ∙ option_or-None _
+pub decoded-fences : (word : ℕ) → opcode_of word ≡ opcodes.misc_mem → decoded word ≡ formatted I (named fences.names (funct3_of word)) word
+decoded-fences word e = decoded_at opcodes.misc_mem word e ∙ option_or-None _
 
-pub decoded-left_shifts : (word : ℕ) → opcode_of word ≡ 0x13 → funct3_of word ≡ 1 → decoded word ≡ formatted Shift (named left_shifts.names (bits_of 31 26 word)) word
-decoded-left_shifts word e f = decoded_at_funct3 0x13 1 word e f ∙ option_or-None _
+pub decoded-left_shifts : (word : ℕ) → opcode_of word ≡ opcodes.op_imm → funct3_of word ≡ 1 → decoded word ≡ formatted Shift (named left_shifts.names (bits_of 31 26 word)) word
+decoded-left_shifts word e f = decoded_at_funct3 opcodes.op_imm 1 word e f ∙ option_or-None _
 
-pub decoded-right_shifts : (word : ℕ) → opcode_of word ≡ 0x13 → funct3_of word ≡ 5 → decoded word ≡ formatted Shift (named right_shifts.names (bits_of 31 26 word)) word
-decoded-right_shifts word e f = decoded_at_funct3 0x13 5 word e f ∙ option_or-None _
+pub decoded-right_shifts : (word : ℕ) → opcode_of word ≡ opcodes.op_imm → funct3_of word ≡ 5 → decoded word ≡ formatted Shift (named right_shifts.names (bits_of 31 26 word)) word
+decoded-right_shifts word e f = decoded_at_funct3 opcodes.op_imm 5 word e f ∙ option_or-None _
 
-pub decoded-immediates : (word : ℕ) → opcode_of word ≡ 0x13 → funct3_of word ≢ 1 → funct3_of word ≢ 5 → decoded word ≡ formatted I (named immediates.names (funct3_of word)) word
-decoded-immediates word e a b = decoded_at 0x13 word e ∙ rw (ne_eqb _ _ a, ne_eqb _ _ b) (option_or-None _)
+pub decoded-immediates : (word : ℕ) → opcode_of word ≡ opcodes.op_imm → funct3_of word ≢ 1 → funct3_of word ≢ 5 → decoded word ≡ formatted I (named immediates.names (funct3_of word)) word
+decoded-immediates word e a b = decoded_at opcodes.op_imm word e ∙ rw (ne_eqb _ _ a, ne_eqb _ _ b) (option_or-None _)
 
-pub decoded-left_word_shifts : (word : ℕ) → opcode_of word ≡ 0x1b → funct3_of word ≡ 1 → decoded word ≡ formatted WordShift (named left_word_shifts.names (bits_of 31 25 word)) word
-decoded-left_word_shifts word e f = decoded_at_funct3 0x1b 1 word e f ∙ option_or-None _
+pub decoded-left_word_shifts : (word : ℕ) → opcode_of word ≡ opcodes.op_imm_32 → funct3_of word ≡ 1 → decoded word ≡ formatted WordShift (named left_word_shifts.names (bits_of 31 25 word)) word
+decoded-left_word_shifts word e f = decoded_at_funct3 opcodes.op_imm_32 1 word e f ∙ option_or-None _
 
-pub decoded-right_word_shifts : (word : ℕ) → opcode_of word ≡ 0x1b → funct3_of word ≡ 5 → decoded word ≡ formatted WordShift (named right_word_shifts.names (bits_of 31 25 word)) word
-decoded-right_word_shifts word e f = decoded_at_funct3 0x1b 5 word e f ∙ option_or-None _
+pub decoded-right_word_shifts : (word : ℕ) → opcode_of word ≡ opcodes.op_imm_32 → funct3_of word ≡ 5 → decoded word ≡ formatted WordShift (named right_word_shifts.names (bits_of 31 25 word)) word
+decoded-right_word_shifts word e f = decoded_at_funct3 opcodes.op_imm_32 5 word e f ∙ option_or-None _
 
-pub decoded-word_immediates : (word : ℕ) → opcode_of word ≡ 0x1b → funct3_of word ≢ 1 → funct3_of word ≢ 5 → decoded word ≡ formatted I (named word_immediates.names (funct3_of word)) word
-decoded-word_immediates word e a b = decoded_at 0x1b word e ∙ rw (ne_eqb _ _ a, ne_eqb _ _ b) (option_or-None _)
+pub decoded-word_immediates : (word : ℕ) → opcode_of word ≡ opcodes.op_imm_32 → funct3_of word ≢ 1 → funct3_of word ≢ 5 → decoded word ≡ formatted I (named word_immediates.names (funct3_of word)) word
+decoded-word_immediates word e a b = decoded_at opcodes.op_imm_32 word e ∙ rw (ne_eqb _ _ a, ne_eqb _ _ b) (option_or-None _)
 
-pub decoded-operations : (word : ℕ) → opcode_of word ≡ 0x33 → funct7_of word ≡ 0x00 → decoded word ≡ formatted R (named operations.names (funct3_of word)) word
-decoded-operations word e f = decoded_at_funct7 0x33 0x00 word e f ∙ option_or-None _
+pub decoded-operations : (word : ℕ) → opcode_of word ≡ opcodes.op → funct7_of word ≡ 0x00 → decoded word ≡ formatted R (named operations.names (funct3_of word)) word
+decoded-operations word e f = decoded_at_funct7 opcodes.op 0x00 word e f ∙ option_or-None _
 
-pub decoded-alternate_operations : (word : ℕ) → opcode_of word ≡ 0x33 → funct7_of word ≡ 0x20 → decoded word ≡ formatted R (named alternate_operations.names (funct3_of word)) word
-decoded-alternate_operations word e f = decoded_at_funct7 0x33 0x20 word e f ∙ option_or-None _
+pub decoded-alternate_operations : (word : ℕ) → opcode_of word ≡ opcodes.op → funct7_of word ≡ 0x20 → decoded word ≡ formatted R (named alternate_operations.names (funct3_of word)) word
+decoded-alternate_operations word e f = decoded_at_funct7 opcodes.op 0x20 word e f ∙ option_or-None _
 
-pub decoded-extension_m : (word : ℕ) → opcode_of word ≡ 0x33 → funct7_of word ≡ 0x01 → decoded word ≡ formatted R (named extension_m.names (funct3_of word)) word
-decoded-extension_m word e f = decoded_at_funct7 0x33 0x01 word e f ∙ option_or-None _
+pub decoded-extension_m : (word : ℕ) → opcode_of word ≡ opcodes.op → funct7_of word ≡ 0x01 → decoded word ≡ formatted R (named extension_m.names (funct3_of word)) word
+decoded-extension_m word e f = decoded_at_funct7 opcodes.op 0x01 word e f ∙ option_or-None _
 
-pub no_operation : (word : ℕ) → opcode_of word ≡ 0x33 → funct7_of word ≢ 0x00 → funct7_of word ≢ 0x20 → funct7_of word ≢ 0x01 → decoded word ≡ None
-no_operation word e a b d = decoded_at 0x33 word e ∙ rw (ne_eqb _ _ a, ne_eqb _ _ b, ne_eqb _ _ d) refl
+pub no_operation : (word : ℕ) → opcode_of word ≡ opcodes.op → funct7_of word ≢ 0x00 → funct7_of word ≢ 0x20 → funct7_of word ≢ 0x01 → decoded word ≡ None
+no_operation word e a b d = decoded_at opcodes.op word e ∙ rw (ne_eqb _ _ a, ne_eqb _ _ b, ne_eqb _ _ d) refl
 
-pub decoded-word_operations : (word : ℕ) → opcode_of word ≡ 0x3b → funct7_of word ≡ 0x00 → decoded word ≡ formatted R (named word_operations.names (funct3_of word)) word
-decoded-word_operations word e f = decoded_at_funct7 0x3b 0x00 word e f ∙ option_or-None _
+pub decoded-word_operations : (word : ℕ) → opcode_of word ≡ opcodes.op_32 → funct7_of word ≡ 0x00 → decoded word ≡ formatted R (named word_operations.names (funct3_of word)) word
+decoded-word_operations word e f = decoded_at_funct7 opcodes.op_32 0x00 word e f ∙ option_or-None _
 
-pub decoded-alternate_word_operations : (word : ℕ) → opcode_of word ≡ 0x3b → funct7_of word ≡ 0x20 → decoded word ≡ formatted R (named alternate_word_operations.names (funct3_of word)) word
-decoded-alternate_word_operations word e f = decoded_at_funct7 0x3b 0x20 word e f ∙ option_or-None _
+pub decoded-alternate_word_operations : (word : ℕ) → opcode_of word ≡ opcodes.op_32 → funct7_of word ≡ 0x20 → decoded word ≡ formatted R (named alternate_word_operations.names (funct3_of word)) word
+decoded-alternate_word_operations word e f = decoded_at_funct7 opcodes.op_32 0x20 word e f ∙ option_or-None _
 
-pub decoded-extension_m_words : (word : ℕ) → opcode_of word ≡ 0x3b → funct7_of word ≡ 0x01 → decoded word ≡ formatted R (named extension_m_words.names (funct3_of word)) word
-decoded-extension_m_words word e f = decoded_at_funct7 0x3b 0x01 word e f ∙ option_or-None _
+pub decoded-extension_m_words : (word : ℕ) → opcode_of word ≡ opcodes.op_32 → funct7_of word ≡ 0x01 → decoded word ≡ formatted R (named extension_m_words.names (funct3_of word)) word
+decoded-extension_m_words word e f = decoded_at_funct7 opcodes.op_32 0x01 word e f ∙ option_or-None _
 
-pub no_word_operation : (word : ℕ) → opcode_of word ≡ 0x3b → funct7_of word ≢ 0x00 → funct7_of word ≢ 0x20 → funct7_of word ≢ 0x01 → decoded word ≡ None
-no_word_operation word e a b d = decoded_at 0x3b word e ∙ rw (ne_eqb _ _ a, ne_eqb _ _ b, ne_eqb _ _ d) refl
+pub no_word_operation : (word : ℕ) → opcode_of word ≡ opcodes.op_32 → funct7_of word ≢ 0x00 → funct7_of word ≢ 0x20 → funct7_of word ≢ 0x01 → decoded word ≡ None
+no_word_operation word e a b d = decoded_at opcodes.op_32 word e ∙ rw (ne_eqb _ _ a, ne_eqb _ _ b, ne_eqb _ _ d) refl
 
 fields_zero : (word : ℕ) → bits_of 19 7 word ≡ 0 → (rd_of word ≡ 0) × (funct3_of word ≡ 0) × (rs1_of word ≡ 0)
 fields_zero word e = (omega arith, omega arith, omega arith)
 
 -- a word whose fields rd, funct3 and rs1 are 0
-pub decoded-calls : (word : ℕ) → opcode_of word ≡ 0x73 → bits_of 19 7 word ≡ 0 → decoded word ≡ formatted Whole (named calls.names (bits_of 31 20 word)) word
+pub decoded-calls : (word : ℕ) → opcode_of word ≡ opcodes.system → bits_of 19 7 word ≡ 0 → decoded word ≡ formatted Whole (named calls.names (bits_of 31 20 word)) word
 decoded-calls word e z =
     let rd = (fields_zero word z).0 in
     let funct3 = (fields_zero word z).1 in
     let rs1 = (fields_zero word z).2 in
-    decoded_at 0x73 word e
-    ∙ ap (λ n. choose families 0x73 n (funct3_of word) (rs1_of word) (rs2_of word) (funct7_of word) word) rd
-    ∙ ap (λ n. choose families 0x73 0 n (rs1_of word) (rs2_of word) (funct7_of word) word) funct3
-    ∙ ap (λ n. choose families 0x73 0 0 n (rs2_of word) (funct7_of word) word) rs1
+    decoded_at opcodes.system word e
+    ∙ ap (λ n. choose families opcodes.system n (funct3_of word) (rs1_of word) (rs2_of word) (funct7_of word) word) rd
+    ∙ ap (λ n. choose families opcodes.system 0 n (rs1_of word) (rs2_of word) (funct7_of word) word) funct3
+    ∙ ap (λ n. choose families opcodes.system 0 0 n (rs2_of word) (funct7_of word) word) rs1
     ∙ option_or-None _
 
 no_call_by : (a b d : Bool) (x : Option Inst) → (a ≡ true → b ≡ true → d ≡ true → ⊥) → cond (a && (b && (d && true))) x None ≡ None
@@ -209,27 +210,27 @@ no_call_by false b d x h = refl
 no_fields : (word : ℕ) → rd_of word ≡ 0 → rs1_of word ≡ 0 → funct3_of word ≡ 0 → bits_of 19 7 word ≡ 0
 no_fields word a b d = omega arith
 
-pub no_call : (word : ℕ) → opcode_of word ≡ 0x73 → bits_of 19 7 word ≢ 0 → decoded word ≡ None
-no_call word e h = decoded_at 0x73 word e ∙ no_call_by (funct3_of word == 0) (rd_of word == 0) (rs1_of word == 0) _ (λ a b d. h (no_fields word (eqb-true _ _ b) (eqb-true _ _ d) (eqb-true _ _ a)))
+pub no_call : (word : ℕ) → opcode_of word ≡ opcodes.system → bits_of 19 7 word ≢ 0 → decoded word ≡ None
+no_call word e h = decoded_at opcodes.system word e ∙ no_call_by (funct3_of word == 0) (rd_of word == 0) (rs1_of word == 0) _ (λ a b d. h (no_fields word (eqb-true _ _ b) (eqb-true _ _ d) (eqb-true _ _ a)))
 
 cond_same : {A : Type 0} (b : Bool) (x : A) → cond b x x ≡ x
 cond_same true x = refl
 cond_same false x = refl
 
-pub decoded-lr_w : (word : ℕ) → opcode_of word ≡ 0x2f → funct3_of word ≡ 2 → bits_of 31 27 word ≡ 2 → decoded word ≡ (if rs2_of word == 0 then Some (instruction LoadReserved LrW word) else None)
-decoded-lr_w word e f n = decoded_at_funct3 0x2f 2 word e f ∙ rw n refl
+pub decoded-lr_w : (word : ℕ) → opcode_of word ≡ opcodes.amo → funct3_of word ≡ 2 → bits_of 31 27 word ≡ 2 → decoded word ≡ (if rs2_of word == 0 then Some (instruction LoadReserved LrW word) else None)
+decoded-lr_w word e f n = decoded_at_funct3 opcodes.amo 2 word e f ∙ rw n refl
 
-pub decoded-lr_d : (word : ℕ) → opcode_of word ≡ 0x2f → funct3_of word ≡ 3 → bits_of 31 27 word ≡ 2 → decoded word ≡ (if rs2_of word == 0 then Some (instruction LoadReserved LrD word) else None)
-decoded-lr_d word e f n = decoded_at_funct3 0x2f 3 word e f ∙ rw n refl
+pub decoded-lr_d : (word : ℕ) → opcode_of word ≡ opcodes.amo → funct3_of word ≡ 3 → bits_of 31 27 word ≡ 2 → decoded word ≡ (if rs2_of word == 0 then Some (instruction LoadReserved LrD word) else None)
+decoded-lr_d word e f n = decoded_at_funct3 opcodes.amo 3 word e f ∙ rw n refl
 
-pub decoded-word_atomics : (word : ℕ) → opcode_of word ≡ 0x2f → funct3_of word ≡ 2 → bits_of 31 27 word ≢ 2 → decoded word ≡ formatted Atomic (named word_atomics.names (bits_of 31 27 word)) word
-decoded-word_atomics word e f n = decoded_at_funct3 0x2f 2 word e f ∙ rw (ne_eqb _ _ (λ p. n (sym p))) (cond_same _ _ ∙ option_or-None _)
+pub decoded-word_atomics : (word : ℕ) → opcode_of word ≡ opcodes.amo → funct3_of word ≡ 2 → bits_of 31 27 word ≢ 2 → decoded word ≡ formatted Atomic (named word_atomics.names (bits_of 31 27 word)) word
+decoded-word_atomics word e f n = decoded_at_funct3 opcodes.amo 2 word e f ∙ rw (ne_eqb _ _ (λ p. n (sym p))) (cond_same _ _ ∙ option_or-None _)
 
-pub decoded-doubleword_atomics : (word : ℕ) → opcode_of word ≡ 0x2f → funct3_of word ≡ 3 → bits_of 31 27 word ≢ 2 → decoded word ≡ formatted Atomic (named doubleword_atomics.names (bits_of 31 27 word)) word
-decoded-doubleword_atomics word e f n = decoded_at_funct3 0x2f 3 word e f ∙ rw (ne_eqb _ _ (λ p. n (sym p))) (cond_same _ _ ∙ option_or-None _)
+pub decoded-doubleword_atomics : (word : ℕ) → opcode_of word ≡ opcodes.amo → funct3_of word ≡ 3 → bits_of 31 27 word ≢ 2 → decoded word ≡ formatted Atomic (named doubleword_atomics.names (bits_of 31 27 word)) word
+decoded-doubleword_atomics word e f n = decoded_at_funct3 opcodes.amo 3 word e f ∙ rw (ne_eqb _ _ (λ p. n (sym p))) (cond_same _ _ ∙ option_or-None _)
 
-pub no_atomic : (word : ℕ) → opcode_of word ≡ 0x2f → funct3_of word ≢ 2 → funct3_of word ≢ 3 → decoded word ≡ None
-no_atomic word e a b = decoded_at 0x2f word e ∙ rw (ne_eqb _ _ a, ne_eqb _ _ b) refl
+pub no_atomic : (word : ℕ) → opcode_of word ≡ opcodes.amo → funct3_of word ≢ 2 → funct3_of word ≢ 3 → decoded word ≡ None
+no_atomic word e a b = decoded_at opcodes.amo word e ∙ rw (ne_eqb _ _ a, ne_eqb _ _ b) refl
 
 -- families of other opcodes
 states_other : (f : Family) (opcode rd funct3 rs1 rs2 funct7 : ℕ) → (bits_of 6 0 f.mask == 127) ≡ true → (opcode == bits_of 6 0 f.value) ≡ false → states f.mask f.value opcode rd funct3 rs1 rs2 funct7 ≡ false
@@ -247,11 +248,11 @@ choose_other (f ∷ fs) opcode rd funct3 rs1 rs2 funct7 word whole other =
     not_true true e = cc
     not_true false e = refl
 
-no_upper : (opcode funct3 word : ℕ) → opcode ≢ 0x37 → opcode ≢ 0x17 → of_family uppers opcode funct3 word ≡ None
-no_upper opcode funct3 word a b = rw (ne_eqb 0x37 opcode (λ p. a (sym p)), ne_eqb 0x17 opcode (λ p. b (sym p))) refl
+no_upper : (opcode funct3 word : ℕ) → opcode ≢ opcodes.lui → opcode ≢ opcodes.auipc → of_family uppers opcode funct3 word ≡ None
+no_upper opcode funct3 word a b = rw (ne_eqb opcodes.lui opcode (λ p. a (sym p)), ne_eqb opcodes.auipc opcode (λ p. b (sym p))) refl
 
-no_jump : (opcode funct3 word : ℕ) → opcode ≢ 0x6f → of_family jumps opcode funct3 word ≡ None
-no_jump opcode funct3 word a = rw (ne_eqb 0x6f opcode (λ p. a (sym p))) refl
+no_jump : (opcode funct3 word : ℕ) → opcode ≢ opcodes.jal → of_family jumps opcode funct3 word ≡ None
+no_jump opcode funct3 word a = rw (ne_eqb opcodes.jal opcode (λ p. a (sym p))) refl
 
 none_of_three : (x y z : Option Inst) → x ≡ None → y ≡ None → z ≡ None → option_or x (option_or y z) ≡ None
 none_of_three x y z a b d = rw (a, b, d) refl
@@ -260,12 +261,12 @@ none_of_three x y z a b d = rw (a, b, d) refl
 others : List Family
 others = drop 2 families
 
-pub no_row : (word : ℕ) → opcode_of word ≢ 0x37 → opcode_of word ≢ 0x17 → opcode_of word ≢ 0x6f → opcode_of word ≢ 0x67 → opcode_of word ≢ 0x63 → opcode_of word ≢ 0x03 → opcode_of word ≢ 0x23 → opcode_of word ≢ 0x13 → opcode_of word ≢ 0x1b → opcode_of word ≢ 0x0f → opcode_of word ≢ 0x73 → opcode_of word ≢ 0x33 → opcode_of word ≢ 0x3b → opcode_of word ≢ 0x2f → decoded word ≡ None
+pub no_row : (word : ℕ) → opcode_of word ≢ opcodes.lui → opcode_of word ≢ opcodes.auipc → opcode_of word ≢ opcodes.jal → opcode_of word ≢ opcodes.jalr → opcode_of word ≢ opcodes.branch → opcode_of word ≢ opcodes.load → opcode_of word ≢ opcodes.store → opcode_of word ≢ opcodes.op_imm → opcode_of word ≢ opcodes.op_imm_32 → opcode_of word ≢ opcodes.misc_mem → opcode_of word ≢ opcodes.system → opcode_of word ≢ opcodes.op → opcode_of word ≢ opcodes.op_32 → opcode_of word ≢ opcodes.amo → decoded word ≡ None
 unfolding others
 no_row word a b c d e f g h i j k l m n =
     let o = opcode_of word in
     let other : list_all (λ f. not (o == bits_of 6 0 f.value)) others ≡ true =
-    rw (ne_eqb o 0x67 d, ne_eqb o 0x63 e, ne_eqb o 0x03 f, ne_eqb o 0x23 g, ne_eqb o 0x13 h, ne_eqb o 0x1b i, ne_eqb o 0x0f j, ne_eqb o 0x73 k, ne_eqb o 0x33 l, ne_eqb o 0x3b m, ne_eqb o 0x2f n) refl in
+    rw (ne_eqb o opcodes.jalr d, ne_eqb o opcodes.branch e, ne_eqb o opcodes.load f, ne_eqb o opcodes.store g, ne_eqb o opcodes.op_imm h, ne_eqb o opcodes.op_imm_32 i, ne_eqb o opcodes.misc_mem j, ne_eqb o opcodes.system k, ne_eqb o opcodes.op l, ne_eqb o opcodes.op_32 m, ne_eqb o opcodes.amo n) refl in
     decoded-choose word
     ∙ none_of_three (of_family uppers o (funct3_of word) word) (of_family jumps o (funct3_of word) word) (choose others o (rd_of word) (funct3_of word) (rs1_of word) (rs2_of word) (funct7_of word) word)
     (no_upper o (funct3_of word) word a b)

@@ -15,8 +15,8 @@ abbrev pub loaded : MemoryImage → MemoryBytes
 loaded image = record { base = image.base; bytes = bytes_from image.segments image.base image.size }
 
 -- the number in so many bytes from an address on
-unfoldable pub number_at : MemoryBytes → (addr width : ℕ) → ℕ
-number_at memory addr width = little_number width (drop (addr - memory.base) memory.bytes)
+unfoldable pub memory_number : MemoryBytes → (addr width : ℕ) → ℕ
+memory_number memory addr width = little_number width (drop (addr - memory.base) memory.bytes)
 
 -- other bytes in the place of those from here on
 abbrev pub overwritten : List ℕ → (place : ℕ) → (others : List ℕ) → List ℕ
@@ -28,7 +28,7 @@ stored memory addr width value = record memory { bytes = overwritten memory.byte
 
 -- What an access is answered: a load the number, and a store 0. No core asks for an atomic access yet.
 abbrev pub reply_of : MemoryBytes → Request → ℕ
-reply_of memory (Load addr width) = number_at memory addr width
+reply_of memory (Load addr width) = memory_number memory addr width
 reply_of memory (Store addr width value) = 0
 reply_of memory (Lr addr width) = 0
 reply_of memory (Sc addr width value paired) = 0

@@ -2,7 +2,7 @@
 ghost use Rattle.std.specs.Prelude.{◌≡◌, ◌+◌, ◌≤◌, length, IfOk, IsTrue};
 ghost use Rattle.zs_num.specs.Request.{addr_of, width_of};
 ghost use Rattle.zsim.specs.Asked.{is_load_or_store};
-ghost use Rattle.zsim.specs.FlatMemory.{memory_after, loaded, number_at, reply_of, stored};
+ghost use Rattle.zsim.specs.FlatMemory.{memory_after, loaded, memory_number, reply_of, stored};
 
 use byteorder::{ByteOrder, LittleEndian};
 use elf_load::Image;
@@ -58,11 +58,11 @@ impl FlatMemory {
     }
 
     // The number in eight bytes.
-    #[tactic(auto, unfolding(crate::specs::FlatMemory::number_at))]
+    #[tactic(auto, unfolding(crate::specs::FlatMemory::memory_number))]
     fn load(&self, addr: u64) -> u64
         requires begins { self.now.base ≤ addr }
         requires ends { addr + 8 ≤ self.now.base + length self.now.bytes }
-        ensures { result ≡ number_at self.now addr 8 }
+        ensures { result ≡ memory_number self.now addr 8 }
     {
         LittleEndian::read_u64(&self.bytes[(addr - self.base) as usize..])
     }
