@@ -5,7 +5,8 @@ use Rattle.std.proofs.lemmas.Bool.{and_parts, and_from, leb-true, le-leb, lt-ltb
 use Rattle.std.proofs.lemmas.List.{ext_get_or, get_or-take, get_or-drop, get_or_append_left, get_or-append_right, get_or-replicate, get_or_past, length-replicate}
 use Rattle.std.proofs.lemmas.List.FromFn.{get_or-map-range_with_len, length-map-range_with_len}
 use Rattle.elf_load.specs.declared.segment.Segment.{Segment}
-use Rattle.elf_load.specs.MemoryImage.{is_within, covers, byte_at, byte_over, bytes_from, is_placed, do_overlap, are_apart}
+use Rattle.elf_load.specs.Copying.{byte_over}
+use Rattle.elf_load.specs.MemoryImage.{is_within, covers, byte_at, bytes_from, is_placed, do_overlap, are_apart}
 use Rattle.elf_load.proofs.Lists.{passed_over}
 
 -- the start and the end of what lies within

@@ -1,5 +1,5 @@
 -- The first pair of a list is the least pair of places, by the first and then by the second.
-use Rattle.std.proofs.Common.{◌≡◌, ℕ, zero, suc, ◌+◌, ◌<◌, ◌⊎◌, Bool, true, false, List, [], ◌∷◌, length, get_or, Option, Some, None, inl, inr, unwrap_or, refl, ap, ap₂, subst, arith}
+use Rattle.std.proofs.Common.{◌≡◌, ℕ, zero, suc, ◌+◌, ◌<◌, ◌⊎◌, Bool, false, List, [], ◌∷◌, length, get_or, Option, Some, None, inl, inr, unwrap_or, refl, ap, ap₂, subst, arith}
 use Rattle.std.specs.List.{position, list_any}
 use Rattle.std.specs.Option.{option_or, option_map}
 use Rattle.std.proofs.lemmas.List.Quantifiers.{position-Some}

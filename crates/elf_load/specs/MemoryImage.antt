@@ -45,13 +45,6 @@ byte_at (segment ∷ segments) addr =
 abbrev pub bytes_from : List Segment → (addr count : ℕ) → List ℕ
 bytes_from segments addr count = map (byte_at segments) (range_with_len addr count)
 
--- the byte at an address that the file has of a segment, or another byte where the file has none there
-abbrev pub byte_over : Segment → (addr other : ℕ) → ℕ
-byte_over segment addr other =
-    if is_within addr 1 segment.vaddr (length segment.bytes)
-    then slice_index segment.bytes (addr - segment.vaddr)
-    else other
-
 -- a segment is not empty, has at most as many bytes as it takes of memory, and lies in memory
 unfoldable pub is_placed : (base size : ℕ) → Segment → Bool
 is_placed base size segment =

@@ -1,6 +1,7 @@
 // What memory holds when an executable was loaded.
 ghost use Rattle.std.specs.Prelude.{◌≡◌, ◌≤◌, ◌<◌, ◌+◌, ◌&&◌, ℕ, length, slice_index, IsTrue};
-ghost use Rattle.elf_load.specs.MemoryImage.{byte_at, byte_over, bytes_from, covers, fetched, word_in, IsSound};
+ghost use Rattle.elf_load.specs.Copying.{byte_over};
+ghost use Rattle.elf_load.specs.MemoryImage.{byte_at, bytes_from, covers, fetched, word_in, IsSound};
 
 use crate::Segment;
 use crate::range::is_within;
