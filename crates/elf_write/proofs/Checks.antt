@@ -1,5 +1,5 @@
 -- The program headers of a sound image pass the checks, and give its segments back.
-use Rattle.std.proofs.Common.{◌≡◌, ◌==◌, ℕ, ◌+◌, ◌%◌, ◌<◌, ◌≤◌, Bool, true, false, not, bit_and, ◌&&◌, if◌then◌else◌, List, [], ◌∷◌, ◌++◌, length, take, drop, None, IsSome, inl, inr, refl, sym, ap, ◌∙◌, arith, length-append}
+use Rattle.std.proofs.Common.{◌≡◌, ◌==◌, ℕ, ◌+◌, ◌%◌, ◌<◌, ◌≤◌, Bool, true, false, not, bit_and, ◌&&◌, List, [], ◌∷◌, ◌++◌, length, take, drop, None, IsSome, inl, inr, refl, sym, ap, ◌∙◌, arith, length-append}
 use Rattle.std.specs.List.{list_all, list_any, position, position_from}
 use Rattle.std.proofs.lemmas.Bool.{and_parts, and_from, and_right, or_parts, or_from, or_left, or_right, not-true, not_from_true, not_from_false, le-leb, le-ltb, eq-eqb, ne_eqb, cases_Bool, cond-false}
 use Rattle.std.proofs.lemmas.Iterator.Adapters.{position_from-zero}
