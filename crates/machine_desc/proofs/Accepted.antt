@@ -1,37 +1,79 @@
 -- A document in which no check fails describes a machine whose numbers are in their ranges.
-use Rattle.std.proofs.Common.{◌≡◌, ℕ, ◌+◌, ◌<◌, ◌≤◌, ℤ, List, [], ◌++◌, codes, length, get_or, All, None, refl, ◌∙◌, subst, arith, lit<}
+use Rattle.std.proofs.Common.{◌≡◌, ℕ, ◌+◌, ◌<◌, ◌≤◌, ◌^◌, Bool, true, ◌==◌, ◌&&◌, ℤ, List, ◌++◌, codes, length, get_or, All, Some, None, inl, inr, refl, ◌∙◌, subst, arith, eq-eqb}
+use Rattle.std.specs.Prelude.{bytes_eq}
+use Rattle.std.specs.List.{find}
+use Rattle.std.proofs.lemmas.Bool.{cases_Bool}
 use Rattle.std.proofs.lemmas.List.{length-append, length-map, get_or_append_left, get_or-append-add}
 use Rattle.std.proofs.lemmas.List.Elements.{All-map}
 use Rattle.toml.specs.Data.{Members}
-use Rattle.machine_desc.specs.Keys.{Key, table_check, range_check, top, at, checks, version_checks, memory_checks, l1_checks, l2_checks, controller_checks, domain_checks, ratios}
-use Rattle.machine_desc.specs.Text.{natural, number_at, integers_at}
+use Rattle.machine_desc.specs.Keys.{Key, Check, Ratio, range_check, pages_check, array_check, top, at, top_checks, memory_checks, l1_checks, l2_checks, controller_checks, domain_checks, version_1_checks, version_1_ratios}
+use Rattle.machine_desc.specs.Text.{natural, integer_at, version_of, integers_at}
 use Rattle.machine_desc.specs.Machine.{IsBetween, IsMemory, IsL1, IsL2, IsControllers, IsDomains, IsMachine}
-use Rattle.machine_desc.specs.Description.{check_fault, checks_fault, ratios_fault, written_domains, domain_fault, names_fault, fault_of, memory_of, l1_of, l2_of, controllers_of, domains_of, numbers_of}
-use Rattle.machine_desc.proofs.Valid.{check_none, integer_holds, share_holds, array_holds, ratio_holds, domains_hold, first_none, second_none, map_none}
+use Rattle.machine_desc.specs.Description.{checks_of, ratios_of, is_named, checks_fault, ratios_fault, written_domains, domain_fault, names_fault, fault_of, memory_of, l1_of, l2_of, controllers_of, domains_of, numbers_of}
+use Rattle.machine_desc.proofs.Valid.{IsWithin, checks_none-append, check_none, integer_holds, share_holds, array_holds, ratio_none, ratio_holds, domains_hold, first_none, second_none, map_none}
 
-length-checks : length checks ≡ 29
-unfolding checks version_checks memory_checks l1_checks l2_checks controller_checks domain_checks
-length-checks = refl
+-- the check and the ratio of this key
+abbrev is_check_of : Key → Check → Bool
+is_check_of key c = is_named key.table key.name c
 
--- the check at a place finds nothing where all find nothing
-row : (document : Members) → checks_fault document checks ≡ None → (i : ℕ) → i < 29 → check_fault document (get_or checks i (table_check [])) ≡ None
-row document h i within = check_none document checks i (table_check []) h (rw length-checks within)
+abbrev is_ratio_of : Key → Ratio → Bool
+is_ratio_of key r = bytes_eq r.key.table key.table && bytes_eq r.key.name key.name
 
-between : (document : Members) → checks_fault document checks ≡ None → (key : Key) (low high i : ℕ) → i < 29
-    → get_or checks i (table_check []) ≡ range_check key low high → IsBetween low (number_at document key) high
-between document h key low high i within same =
-    let holds = integer_holds document key (record { low = low; high = high; step = 1 }) (rw (← same) (row document h i within)) in
-    (holds.low, holds.high)
+-- the lists of checks of a document, none of which finds anything
+record Passed (document : Members) : Type 0 where
+  pub top : checks_fault document top_checks ≡ None
+  pub memory : checks_fault document memory_checks ≡ None
+  pub l1 : checks_fault document l1_checks ≡ None
+  pub l2 : checks_fault document l2_checks ≡ None
+  pub controllers : checks_fault document controller_checks ≡ None
+  pub domains : checks_fault document domain_checks ≡ None
 
-abbrev pub Known : Members → Type 0
-Known document = checks_fault document checks ≡ None
+-- a document whose checks find nothing is of version 1
+is_version_1 : (document : Members) → checks_fault document (checks_of document) ≡ None → (version_of document == 1) ≡ true
+unfolding checks_of
+is_version_1 document h =
+    elim (cases_Bool (version_of document == 1)) [
+      | inl is ↦ is
+      | inr other ↦
+          let holds = integer_holds document (top (codes "version")) (record { low = 1; high = 1; step = 1 }) (first_none _ _ (rw other at h)) in
+          eq-eqb (version_of document) 1 (omega (arith, holds.low, holds.high))
+    ]
 
-memory_holds : (document : Members) → Known document → IsMemory (number_at document (top (codes "cores"))) (memory_of document)
-unfolding checks version_checks memory_checks l1_checks l2_checks controller_checks domain_checks memory_of
-memory_holds document h =
-    let base = integer_holds document (at (codes "memory") (codes "base")) _ (row document h 5 (lit< tt)) in
-    let size = integer_holds document (at (codes "memory") (codes "size")) _ (row document h 6 (lit< tt)) in
-    let stack = share_holds document (at (codes "memory") (codes "stack")) _ (top (codes "cores")) (at (codes "memory") (codes "size")) (row document h 7 (lit< tt)) in
+passed : (document : Members) → checks_fault document (checks_of document) ≡ None → Passed document
+unfolding checks_of version_1_checks
+passed document h =
+    let all : checks_fault document version_1_checks ≡ None = rw (is_version_1 document h) at h in
+    let (to_controllers, domains) = checks_none-append document (top_checks ++ memory_checks ++ l1_checks ++ l2_checks ++ controller_checks) domain_checks all in
+    let (to_l2, controllers) = checks_none-append document (top_checks ++ memory_checks ++ l1_checks ++ l2_checks) controller_checks to_controllers in
+    let (to_l1, l2) = checks_none-append document (top_checks ++ memory_checks ++ l1_checks) l2_checks to_l2 in
+    let (to_memory, l1) = checks_none-append document (top_checks ++ memory_checks) l1_checks to_l1 in
+    let (top, memory) = checks_none-append document top_checks memory_checks to_memory in
+    record { top = top; memory = memory; l1 = l1; l2 = l2; controllers = controllers; domains = domains }
+
+ratios_hold : (document : Members) → checks_fault document (checks_of document) ≡ None → ratios_fault document (ratios_of document) ≡ None → ratios_fault document version_1_ratios ≡ None
+unfolding ratios_of
+ratios_hold document h r = rw (is_version_1 document h) at r
+
+-- what a list of checks that finds nothing says of a key, which is found by its name
+module _ (document : Members) (cs : List Check) (none : checks_fault document cs ≡ None) where
+  between : (key : Key) (low high : ℕ) → find (is_check_of key) cs ≡ Some (range_check key low high) → IsBetween low (integer_at document key) high
+  between key low high found =
+      let holds = integer_holds document key (record { low = low; high = high; step = 1 }) (check_none document cs (is_check_of key) _ none found) in
+      (holds.low, holds.high)
+
+  pages : (key : Key) (low high : ℕ) → find (is_check_of key) cs ≡ Some (pages_check key low high) → IsWithin (record { low = low; high = high; step = 4096 }) (integer_at document key)
+  pages key low high found = integer_holds document key _ (check_none document cs (is_check_of key) _ none found)
+
+  listed : (key count : Key) → find (is_check_of key) cs ≡ Some (array_check key count) → length (integers_at document key) ≡ integer_at document count
+  listed key count found = array_holds document key count (check_none document cs (is_check_of key) _ none found)
+
+memory_holds : (document : Members) → Passed document → IsMemory (integer_at document (top (codes "cores"))) (memory_of document)
+unfolding memory_checks memory_of
+memory_holds document p =
+    let base = pages document memory_checks p.memory (at (codes "memory") (codes "base")) 0 (2 ^ 40) refl in
+    let size = pages document memory_checks p.memory (at (codes "memory") (codes "size")) 4096 (2 ^ 28) refl in
+    let stack_key = at (codes "memory") (codes "stack") in
+    let stack = share_holds document stack_key _ (top (codes "cores")) (at (codes "memory") (codes "size")) (check_none document memory_checks (is_check_of stack_key) _ p.memory refl) in
     record {
       base = base.high;
       base_page = base.step;
@@ -42,52 +84,53 @@ memory_holds document h =
       stacks = stack.1;
     }
 
-l1_holds : (document : Members) → Known document → ratios_fault document ratios ≡ None → IsL1 (number_at document (at (codes "l2") (codes "banks"))) (l1_of document)
-unfolding checks version_checks memory_checks l1_checks l2_checks controller_checks domain_checks ratios l1_of
-l1_holds document h r = record {
-  sets = between document h _ 1 4096 9 (lit< tt) refl;
-  ratio = ratio_holds document _ (first_none _ _ r);
-  ways = between document h _ 1 16 10 (lit< tt) refl;
-  latency = between document h _ 1 65536 11 (lit< tt) refl;
+l1_holds : (document : Members) → Passed document → ratios_fault document version_1_ratios ≡ None → IsL1 (integer_at document (at (codes "l2") (codes "banks"))) (l1_of document)
+unfolding l1_checks version_1_ratios l1_of
+l1_holds document p r = let in_range = between document l1_checks p.l1 in record {
+  sets = in_range (at (codes "l1") (codes "sets")) 1 4096 refl;
+  ratio = ratio_holds document _ (ratio_none document version_1_ratios (is_ratio_of (at (codes "l1") (codes "sets"))) _ r refl);
+  ways = in_range (at (codes "l1") (codes "ways")) 1 16 refl;
+  latency = in_range (at (codes "l1") (codes "latency")) 1 65536 refl;
 }
 
-l2_holds : (document : Members) → Known document → ratios_fault document ratios ≡ None → IsL2 (l2_of document)
-unfolding checks version_checks memory_checks l1_checks l2_checks controller_checks domain_checks ratios l2_of
-l2_holds document h r = record {
-  banks = between document h _ 1 64 13 (lit< tt) refl;
-  sets = between document h _ 1 65536 14 (lit< tt) refl;
-  ratio = ratio_holds document _ (first_none _ _ (second_none _ _ r));
-  ways = between document h _ 1 32 15 (lit< tt) refl;
-  latency = between document h _ 1 65536 16 (lit< tt) refl;
-  remote = (between document h _ 0 65536 17 (lit< tt) refl).1;
-  fill = between document h _ 1 65536 18 (lit< tt) refl;
-  occupancy = between document h _ 1 65536 19 (lit< tt) refl;
+l2_holds : (document : Members) → Passed document → ratios_fault document version_1_ratios ≡ None → IsL2 (l2_of document)
+unfolding l2_checks version_1_ratios l2_of
+l2_holds document p r = let in_range = between document l2_checks p.l2 in record {
+  banks = in_range (at (codes "l2") (codes "banks")) 1 64 refl;
+  sets = in_range (at (codes "l2") (codes "sets")) 1 65536 refl;
+  ratio = ratio_holds document _ (ratio_none document version_1_ratios (is_ratio_of (at (codes "l2") (codes "sets"))) _ r refl);
+  ways = in_range (at (codes "l2") (codes "ways")) 1 32 refl;
+  latency = in_range (at (codes "l2") (codes "latency")) 1 65536 refl;
+  remote = (in_range (at (codes "l2") (codes "remote")) 0 65536 refl).1;
+  fill = in_range (at (codes "l2") (codes "fill")) 1 65536 refl;
+  occupancy = in_range (at (codes "l2") (codes "occupancy")) 1 65536 refl;
 }
 
-controllers_hold : (document : Members) → Known document → IsControllers (controllers_of document)
-unfolding checks version_checks memory_checks l1_checks l2_checks controller_checks domain_checks controllers_of
-controllers_hold document h = record {
-  count = between document h _ 1 16 21 (lit< tt) refl;
-  read = between document h _ 1 65536 22 (lit< tt) refl;
-  write = between document h _ 1 65536 23 (lit< tt) refl;
-  occupancy = between document h _ 1 65536 24 (lit< tt) refl;
+controllers_hold : (document : Members) → Passed document → IsControllers (controllers_of document)
+unfolding controller_checks controllers_of
+controllers_hold document p = let in_range = between document controller_checks p.controllers in record {
+  count = in_range (at (codes "controllers") (codes "count")) 1 16 refl;
+  read = in_range (at (codes "controllers") (codes "read")) 1 65536 refl;
+  write = in_range (at (codes "controllers") (codes "write")) 1 65536 refl;
+  occupancy = in_range (at (codes "controllers") (codes "occupancy")) 1 65536 refl;
 }
 
 -- as many domains are written as there are banks and controllers
-banks_listed : (document : Members) → Known document → length (integers_at document (at (codes "domains") (codes "banks"))) ≡ number_at document (at (codes "l2") (codes "banks"))
-unfolding checks version_checks memory_checks l1_checks l2_checks controller_checks domain_checks
-banks_listed document h = array_holds document _ _ (row document h 27 (lit< tt))
+banks_listed : (document : Members) → Passed document → length (integers_at document (at (codes "domains") (codes "banks"))) ≡ integer_at document (at (codes "l2") (codes "banks"))
+unfolding domain_checks
+banks_listed document p = listed document domain_checks p.domains (at (codes "domains") (codes "banks")) (at (codes "l2") (codes "banks")) refl
 
-controllers_listed : (document : Members) → Known document → length (integers_at document (at (codes "domains") (codes "controllers"))) ≡ number_at document (at (codes "controllers") (codes "count"))
-unfolding checks version_checks memory_checks l1_checks l2_checks controller_checks domain_checks
-controllers_listed document h = array_holds document _ _ (row document h 28 (lit< tt))
+controllers_listed : (document : Members) → Passed document → length (integers_at document (at (codes "domains") (codes "controllers"))) ≡ integer_at document (at (codes "controllers") (codes "count"))
+unfolding domain_checks
+controllers_listed document p = listed document domain_checks p.domains (at (codes "domains") (codes "controllers")) (at (codes "controllers") (codes "count")) refl
 
-pub domains_short : (document : Members) → Known document → length (written_domains document) ≤ 80
-unfolding checks version_checks memory_checks l1_checks l2_checks controller_checks domain_checks written_domains
+pub domains_short : (document : Members) → checks_fault document (checks_of document) ≡ None → length (written_domains document) ≤ 80
+unfolding l2_checks controller_checks written_domains
 domains_short document h =
-    let banks = between document h (at (codes "l2") (codes "banks")) 1 64 13 (lit< tt) refl in
-    let controllers = between document h (at (codes "controllers") (codes "count")) 1 16 21 (lit< tt) refl in
-    omega (arith, length-append (integers_at document (at (codes "domains") (codes "banks"))) (integers_at document (at (codes "domains") (codes "controllers"))), banks_listed document h, controllers_listed document h, banks.1, controllers.1)
+    let p = passed document h in
+    let banks = between document l2_checks p.l2 (at (codes "l2") (codes "banks")) 1 64 refl in
+    let controllers = between document controller_checks p.controllers (at (codes "controllers") (codes "count")) 1 16 refl in
+    omega (arith, length-append (integers_at document (at (codes "domains") (codes "banks"))) (integers_at document (at (codes "domains") (codes "controllers"))), banks_listed document p, controllers_listed document p, banks.1, controllers.1)
 
 -- what holds of each element of a joined list holds in both parts
 all_first : {X : Type 0} (P : X → Type 0) (xs ys : List X) → All P (xs ++ ys) → All P xs
@@ -99,47 +142,49 @@ all_second P xs ys h = λ k d within.
     subst P (get_or-append-add xs ys k d) (h (length xs + k) d (rw length-append (omega arith)))
 
 -- every written domain is below their count
-domains_below : (document : Members) → domain_fault document ≡ None → All (λ z. natural z < number_at document (at (codes "domains") (codes "count"))) (written_domains document)
+domains_below : (document : Members) → domain_fault document ≡ None → All (λ z. natural z < integer_at document (at (codes "domains") (codes "count"))) (written_domains document)
 unfolding domain_fault
 domains_below document h = domains_hold _ (written_domains document) (map_none _ _ h)
 
-domains_all : (document : Members) → Known document → domain_fault document ≡ None
-    → IsDomains (number_at document (at (codes "l2") (codes "banks"))) (number_at document (at (codes "controllers") (codes "count"))) (domains_of document)
-unfolding checks version_checks memory_checks l1_checks l2_checks controller_checks domain_checks written_domains domains_of
-domains_all document h below =
+domains_all : (document : Members) → Passed document → domain_fault document ≡ None
+    → IsDomains (integer_at document (at (codes "l2") (codes "banks"))) (integer_at document (at (codes "controllers") (codes "count"))) (domains_of document)
+unfolding domain_checks written_domains domains_of
+domains_all document p below =
     let banks = integers_at document (at (codes "domains") (codes "banks")) in
     let controllers = integers_at document (at (codes "domains") (codes "controllers")) in
-    let count = number_at document (at (codes "domains") (codes "count")) in
+    let count = integer_at document (at (codes "domains") (codes "count")) in
     let is_below = λ (n : ℕ). n < count in
     let is_below_count = λ (z : ℤ). natural z < count in
     let each = domains_below document below in
     record {
-      count = between document h _ 1 64 26 (lit< tt) refl;
-      banks_length = length-map banks natural ∙ banks_listed document h;
+      count = between document domain_checks p.domains (at (codes "domains") (codes "count")) 1 64 refl;
+      banks_length = length-map banks natural ∙ banks_listed document p;
       banks_below = All-map is_below natural banks (all_first is_below_count banks controllers each);
-      controllers_length = length-map controllers natural ∙ controllers_listed document h;
+      controllers_length = length-map controllers natural ∙ controllers_listed document p;
       controllers_below = All-map is_below natural controllers (all_second is_below_count banks controllers each);
     }
 
 -- the machine of a document in which no check fails
 pub accepted : (document : Members) → fault_of document ≡ None → IsMachine (numbers_of document)
-unfolding checks version_checks memory_checks l1_checks l2_checks controller_checks domain_checks fault_of numbers_of l2_of controllers_of
+unfolding top_checks fault_of numbers_of l2_of controllers_of
 accepted document none =
-    let known : Known document = first_none _ _ none in
-    let rest = second_none (checks_fault document checks) _ none in
-    let rest' = second_none (names_fault document checks) _ rest in
-    let ratio = first_none (ratios_fault document ratios) _ rest' in
-    let domain = second_none (ratios_fault document ratios) _ rest' in
+    let known = first_none (checks_fault document (checks_of document)) _ none in
+    let rest = second_none (checks_fault document (checks_of document)) _ none in
+    let rest' = second_none (names_fault document (checks_of document)) _ rest in
+    let ratio = ratios_hold document known (first_none (ratios_fault document (ratios_of document)) _ rest') in
+    let domain = second_none (ratios_fault document (ratios_of document)) _ rest' in
+    let p = passed document known in
+    let in_range = between document top_checks p.top in
     record {
       version =
-          let version = between document known _ 1 1 0 (lit< tt) refl in
+          let version = in_range (top (codes "version")) 1 1 refl in
           omega (arith, version.0, version.1);
-      cores = between document known _ 1 64 1 (lit< tt) refl;
-      interval = between document known _ 1 10000 2 (lit< tt) refl;
-      intervals = between document known _ 1 1048576 3 (lit< tt) refl;
-      memory = memory_holds document known;
-      l1 = l1_holds document known ratio;
-      l2 = l2_holds document known ratio;
-      controllers = controllers_hold document known;
-      domains = domains_all document known domain;
+      cores = in_range (top (codes "cores")) 1 64 refl;
+      interval = in_range (top (codes "interval")) 1 10000 refl;
+      intervals = in_range (top (codes "intervals")) 1 1048576 refl;
+      memory = memory_holds document p;
+      l1 = l1_holds document p ratio;
+      l2 = l2_holds document p ratio;
+      controllers = controllers_hold document p;
+      domains = domains_all document p domain;
     }

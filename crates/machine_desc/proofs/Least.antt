@@ -19,9 +19,9 @@ use Rattle.machine_desc.specs.declared.errors.BadMachine.TheVariants.{Unknown}
 
 -- the first of the members that no check names
 abbrev pub first_unknown : List Check → List ℕ → Members → Option BadMachine
-first_unknown all table no_members = None
-first_unknown all table (member name d ms) =
-    option_or (unless (is_known all table name) (Unknown (full_name (at table name)))) (first_unknown all table ms)
+first_unknown checks table no_members = None
+first_unknown checks table (member name d ms) =
+    option_or (unless (is_known checks table name) (Unknown (full_name (at table name)))) (first_unknown checks table ms)
 
 -- the name is below the one that is there
 abbrev IsBelow : List ℕ → Option (List ℕ) → Type 0
@@ -32,13 +32,13 @@ below_lesser name n None here more = here
 below_lesser name n (Some m) here more =
     elim (cases_Bool (is_lt (slice_cmp nat_cmp m n))) [ inl less ↦ rw less more | inr other ↦ rw other here ]
 
-below_least : (all : List Check) (table name : List ℕ) (es : List Entry) → AllByRecursion (λ y. slice_cmp nat_cmp name (string_bytes y) ≡ Less) (keys_of es)
-    → IsBelow name (least (unknown_names all table (members_view es)))
-below_least all table name [] h = tt
-below_least all table name (e ∷ es) h =
-    elim (cases_Bool (is_known all table (string_bytes e.0))) [
-      | inl known ↦ rw known (below_least all table name es h.1)
-      | inr unknown ↦ rw unknown (below_lesser name (string_bytes e.0) _ h.0 (below_least all table name es h.1))
+below_least : (checks : List Check) (table name : List ℕ) (es : List Entry) → AllByRecursion (λ y. slice_cmp nat_cmp name (string_bytes y) ≡ Less) (keys_of es)
+    → IsBelow name (least (unknown_names checks table (members_view es)))
+below_least checks table name [] h = tt
+below_least checks table name (e ∷ es) h =
+    elim (cases_Bool (is_known checks table (string_bytes e.0))) [
+      | inl known ↦ rw known (below_least checks table name es h.1)
+      | inr unknown ↦ rw unknown (below_lesser name (string_bytes e.0) _ h.0 (below_least checks table name es h.1))
     ]
 
 stays : (name : List ℕ) (o : Option (List ℕ)) → IsBelow name o → option_map_or (lesser name) o name ≡ name
@@ -47,12 +47,12 @@ stays name (Some m) h =
     let above : slice_cmp nat_cmp m name ≡ Greater = nat_list_cmp_total.antisymm m name ∙ ap ordering_reverse h in
     rw above
 
-pub members_fault-first : (all : List Check) (table : List ℕ) (es : List Entry) → IsStrictlySortedBy string_cmp (keys_of es)
-    → members_fault all table (members_view es) ≡ first_unknown all table (members_view es)
+pub members_fault-first : (checks : List Check) (table : List ℕ) (es : List Entry) → IsStrictlySortedBy string_cmp (keys_of es)
+    → members_fault checks table (members_view es) ≡ first_unknown checks table (members_view es)
 unfolding IsStrictlySortedBy
-members_fault-first all table [] h = refl
-members_fault-first all table (e ∷ es) h =
-    elim (cases_Bool (is_known all table (string_bytes e.0))) [
-      | inl known ↦ rw known (members_fault-first all table es h.1)
-      | inr unknown ↦ rw (unknown, stays (string_bytes e.0) _ (below_least all table (string_bytes e.0) es h.0))
+members_fault-first checks table [] h = refl
+members_fault-first checks table (e ∷ es) h =
+    elim (cases_Bool (is_known checks table (string_bytes e.0))) [
+      | inl known ↦ rw known (members_fault-first checks table es h.1)
+      | inr unknown ↦ rw (unknown, stays (string_bytes e.0) _ (below_least checks table (string_bytes e.0) es h.0))
     ]

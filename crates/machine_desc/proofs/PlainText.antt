@@ -7,10 +7,15 @@ use Rattle.toml.specs.Data.{integer, array, table, no_items, item, Members, no_m
 use Rattle.toml.specs.Parse.{parse_document}
 use Rattle.toml.proofs.OnLiterals.{toml_on_literals}
 use Rattle.machine_desc.specs.declared.plain.TheConstants.{PLAIN}
-use Rattle.machine_desc.specs.Keys.{checks, version_checks, memory_checks, l1_checks, l2_checks, controller_checks, domain_checks, ratios}
-use Rattle.machine_desc.specs.Text.{table_at, value_at, number_at, integers_at, full_name}
-use Rattle.machine_desc.specs.Description.{value_fault, check_fault, table_fault, written_domains, domain_fault, fault_of, memory_of, l1_of, l2_of, controllers_of, domains_of, numbers_of}
-use Rattle.machine_desc.specs.Plain.{plain_machine}
+use Rattle.machine_desc.specs.Keys.{version_1_checks, top_checks, memory_checks, l1_checks, l2_checks, controller_checks, domain_checks, version_1_ratios}
+use Rattle.machine_desc.specs.Text.{table_at, value_at, integer_at, integers_at, full_name}
+use Rattle.machine_desc.specs.Description.{checks_of, ratios_of, value_fault, check_fault, table_fault, written_domains, domain_fault, fault_of, memory_of, l1_of, l2_of, controllers_of, domains_of, numbers_of}
+use Rattle.machine_desc.specs.Plain.{plain_text, plain_machine}
+
+-- its bytes, one by one
+pub is_plain_text : PLAIN.now ≡ plain_text
+unfolding plain_text encode
+is_plain_text = refl
 
 pub is_text : is_utf8 PLAIN.now ≡ true
 unfolding encode
@@ -42,9 +47,9 @@ unfolding toml_on_literals
 is_document = refl
 
 pub no_fault : fault_of plain_document ≡ None
-unfolding checks version_checks memory_checks l1_checks l2_checks controller_checks domain_checks ratios table_at value_at number_at integers_at full_name value_fault check_fault table_fault written_domains domain_fault fault_of
+unfolding checks_of version_1_checks top_checks memory_checks l1_checks l2_checks controller_checks domain_checks ratios_of version_1_ratios table_at value_at integer_at integers_at full_name value_fault check_fault table_fault written_domains domain_fault fault_of
 no_fault = refl
 
 pub same_numbers : numbers_of plain_document ≡ plain_machine
-unfolding table_at value_at number_at integers_at memory_of l1_of l2_of controllers_of domains_of numbers_of
+unfolding table_at value_at integer_at integers_at memory_of l1_of l2_of controllers_of domains_of numbers_of
 same_numbers = refl

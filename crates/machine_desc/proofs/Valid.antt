@@ -1,14 +1,15 @@
 -- What the checks say of the numbers that pass them.
-use Rattle.std.proofs.Common.{◌≡◌, ℕ, zero, suc, ◌+◌, ◌*◌, ◌%◌, ◌<◌, ◌≤◌, Bool, true, false, not, ◌==◌, ◌&&◌, nat_le, ℤ, pos, negsuc, List, [], ◌∷◌, length, get_or, All, Option, Some, None, option_map, option_and_then, unwrap_or, position, inl, inr, refl, sym, ◌∙◌, arith}
+use Rattle.std.proofs.Common.{◌≡◌, ℕ, zero, suc, ◌+◌, ◌*◌, ◌%◌, ◌<◌, ◌≤◌, Bool, true, false, not, ◌==◌, ◌&&◌, nat_le, ℤ, pos, negsuc, List, [], ◌∷◌, ◌++◌, length, get_or, All, Option, Some, None, option_map, option_and_then, unwrap_or, position, Ok, inl, inr, refl, sym, ◌∙◌, arith}
 use Rattle.std.specs.Option.{option_or, option_map_or}
 use Rattle.std.proofs.lemmas.Bool.Decides.{nat_tests}
 use Rattle.std.proofs.lemmas.Bool.{and_parts, cases_Bool}
-use Rattle.std.specs.List.{position_from}
+use Rattle.std.specs.List.{find, position_from}
 use Rattle.std.proofs.lemmas.Iterator.Adapters.{position_from-zero}
 use Rattle.toml.specs.Data.{Data, Members, as_integer}
 use Rattle.machine_desc.specs.Keys.{Key, Range, Check, Ratio, is_integer, is_share, is_array}
-use Rattle.machine_desc.specs.Text.{natural, number_at, number_of, integers_at, array_integers, value_at}
+use Rattle.machine_desc.specs.Text.{natural, integer_at, natural_of, integers_at, array_integers, value_at}
 use Rattle.machine_desc.specs.Description.{is_in_range, is_share_of, unless, integer_fault, array_fault, value_fault, refusal_of, check_fault, checks_fault, ratio_fault, ratios_fault, is_below}
+use Rattle.machine_desc.specs.Answers.{passed_unless}
 use Rattle.machine_desc.specs.declared.checks.Fault.{Fault}
 use Rattle.machine_desc.specs.declared.checks.Fault.TheVariants.{OtherKind, OutOfRange}
 use Rattle.machine_desc.specs.declared.errors.BadMachine.{BadMachine}
@@ -22,11 +23,27 @@ pub second_none : {A : Type 0} (a b : Option A) → option_or a b ≡ None → b
 second_none None b h = h
 second_none (Some x) b h = cc
 
--- each check finds nothing where all do
-pub check_none : (document : Members) (cs : List Check) (i : ℕ) (d : Check) → checks_fault document cs ≡ None → i < length cs → check_fault document (get_or cs i d) ≡ None
-check_none document [] i d h within = absurd (omega arith)
-check_none document (c ∷ cs) zero d h within = first_none _ _ h
-check_none document (c ∷ cs) (suc i) d h within = check_none document cs i d (second_none _ _ h) (omega arith)
+-- a check that passed found nothing
+pub fault_none : (fault : Option BadMachine) (x : Unit {0}) → passed_unless fault ≡ Ok x → fault ≡ None
+fault_none None x h = refl
+fault_none (Some bad) x h = cc
+
+-- neither of two lists of checks finds anything
+pub checks_none-append : (document : Members) (xs ys : List Check) → checks_fault document (xs ++ ys) ≡ None
+    → (checks_fault document xs ≡ None) × (checks_fault document ys ≡ None)
+checks_none-append document [] ys h = (refl, h)
+checks_none-append document (x ∷ xs) ys h =
+    let rest = checks_none-append document xs ys (second_none (check_fault document x) _ h) in
+    (rw (first_none (check_fault document x) _ h) rest.0, rest.1)
+
+-- the check of a key finds nothing where its list finds nothing
+pub check_none : (document : Members) (cs : List Check) (p : Check → Bool) (c : Check) → checks_fault document cs ≡ None → find p cs ≡ Some c → check_fault document c ≡ None
+check_none document [] p c h found = cc
+check_none document (x ∷ xs) p c h found =
+    elim (cases_Bool (p x)) [
+      | inl passes ↦ let same = rw passes at found in let is : x ≡ c = cc in rw (← is) (first_none _ _ h)
+      | inr other ↦ check_none document xs p c (second_none (check_fault document x) _ h) (rw other at found)
+    ]
 
 -- some integer that passes the test is the number
 abbrev pub Passes : (ℤ → Bool) → ℕ → Type 0
@@ -45,7 +62,7 @@ integer_passes is_good None h = cc
 integer_passes is_good (Some z) h = (z, (unless_none (is_good z) _ h, refl))
 
 value_passes : (is_good : ℤ → Bool) (refusal : Fault → BadMachine) (missing : BadMachine) (o : Option Data)
-    → option_map_or (λ d. option_map refusal (integer_fault is_good d)) o (Some missing) ≡ None → Passes is_good (option_map_or number_of o 0)
+    → option_map_or (λ d. option_map refusal (integer_fault is_good d)) o (Some missing) ≡ None → Passes is_good (option_map_or natural_of o 0)
 value_passes is_good refusal missing None h = cc
 value_passes is_good refusal missing (Some d) h = integer_passes is_good (as_integer d) (map_none refusal _ h)
 
@@ -62,17 +79,17 @@ from_range range (pos n) h =
     record { low = grind (arith, nat_tests); high = grind (arith, nat_tests); step = grind (arith, nat_tests) }
 from_range range (negsuc n) h = cc
 
-pub integer_holds : (document : Members) (key : Key) (range : Range) → check_fault document (record { key = key; rule = is_integer range }) ≡ None → IsWithin range (number_at document key)
-unfolding check_fault value_fault number_at
+pub integer_holds : (document : Members) (key : Key) (range : Range) → check_fault document (record { key = key; rule = is_integer range }) ≡ None → IsWithin range (integer_at document key)
+unfolding check_fault value_fault integer_at
 integer_holds document key range h =
     let (z, passes) = value_passes (is_in_range range) (refusal_of key) _ (value_at document key) h in
     rw passes.1 (from_range range z passes.0)
 
 pub share_holds : (document : Members) (key : Key) (range : Range) (times whole : Key) → check_fault document (record { key = key; rule = is_share range times whole }) ≡ None
-    → IsWithin range (number_at document key) × (number_at document times * number_at document key ≤ number_at document whole)
-unfolding check_fault value_fault number_at
+    → IsWithin range (integer_at document key) × (integer_at document times * integer_at document key ≤ integer_at document whole)
+unfolding check_fault value_fault integer_at
 share_holds document key range times whole h =
-    let (z, passes) = value_passes (λ z. is_in_range range z && is_share_of (number_at document times) (number_at document whole) z) (refusal_of key) _ (value_at document key) h in
+    let (z, passes) = value_passes (λ z. is_in_range range z && is_share_of (integer_at document times) (integer_at document whole) z) (refusal_of key) _ (value_at document key) h in
     let (inside, share) = and_parts _ _ passes.0 in
     rw passes.1 (from_range range z inside, grind (arith, nat_tests))
 
@@ -87,19 +104,22 @@ array_passes : (count : ℕ) (refusal : Fault → BadMachine) (missing : BadMach
 array_passes count refusal missing None h = cc
 array_passes count refusal missing (Some d) h = array_long count (array_integers d) (map_none refusal _ h)
 
-pub array_holds : (document : Members) (key count : Key) → check_fault document (record { key = key; rule = is_array count }) ≡ None → length (integers_at document key) ≡ number_at document count
+pub array_holds : (document : Members) (key count : Key) → check_fault document (record { key = key; rule = is_array count }) ≡ None → length (integers_at document key) ≡ integer_at document count
 unfolding check_fault value_fault integers_at
-array_holds document key count h = array_passes (number_at document count) (refusal_of key) _ (value_at document key) h
+array_holds document key count h = array_passes (integer_at document count) (refusal_of key) _ (value_at document key) h
 
--- each ratio holds where all do
-pub ratio_none : (document : Members) (rs : List Ratio) (i : ℕ) (d : Ratio) → ratios_fault document rs ≡ None → i < length rs → ratio_fault document (get_or rs i d) ≡ None
-ratio_none document [] i d h within = absurd (omega arith)
-ratio_none document (r ∷ rs) zero d h within = first_none _ _ h
-ratio_none document (r ∷ rs) (suc i) d h within = ratio_none document rs i d (second_none _ _ h) (omega arith)
+-- the ratio of a key finds nothing where its list finds nothing
+pub ratio_none : (document : Members) (rs : List Ratio) (p : Ratio → Bool) (r : Ratio) → ratios_fault document rs ≡ None → find p rs ≡ Some r → ratio_fault document r ≡ None
+ratio_none document [] p r h found = cc
+ratio_none document (x ∷ xs) p r h found =
+    elim (cases_Bool (p x)) [
+      | inl passes ↦ let same = rw passes at found in let is : x ≡ r = cc in rw (← is) (first_none _ _ h)
+      | inr other ↦ ratio_none document xs p r (second_none (ratio_fault document x) _ h) (rw other at found)
+    ]
 
-pub ratio_holds : (document : Members) (r : Ratio) → ratio_fault document r ≡ None → number_at document r.key % number_at document r.divisor ≡ 0
+pub ratio_holds : (document : Members) (r : Ratio) → ratio_fault document r ≡ None → integer_at document r.key % integer_at document r.divisor ≡ 0
 ratio_holds document r h =
-    let divides = unless_none (number_at document r.key % number_at document r.divisor == 0) _ h in
+    let divides = unless_none (integer_at document r.key % integer_at document r.divisor == 0) _ h in
     grind (arith, nat_tests)
 
 -- where no element passes, each fails

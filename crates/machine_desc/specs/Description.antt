@@ -5,8 +5,8 @@ use Rattle.std.specs.Cmp.Lexicographic.{slice_cmp}
 use Rattle.std.specs.Ordering.{nat_cmp, is_lt}
 use Rattle.std.specs.Option.{option_or, option_map_or}
 use Rattle.toml.specs.Data.{Data, Members, no_members, member, as_integer, as_table}
-use Rattle.machine_desc.specs.Keys.{Key, Range as Bounds, Rule, is_table, is_integer, is_share, is_array, Check, Ratio, top, at, checks, ratios}
-use Rattle.machine_desc.specs.Text.{document_of, table_at, value_at, number_at, natural, array_integers, integers_at, full_name}
+use Rattle.machine_desc.specs.Keys.{Key, Range as Bounds, Rule, is_table, is_integer, is_share, is_array, Check, Ratio, top, at, version_check, version_1_checks, version_1_ratios}
+use Rattle.machine_desc.specs.Text.{document_of, table_at, value_at, integer_at, version_of, natural, array_integers, integers_at, full_name}
 use Rattle.machine_desc.specs.declared.errors.BadMachine.{BadMachine}
 use Rattle.machine_desc.specs.declared.errors.BadMachine.TheVariants.{Text, Missing, Kind, Range, Unknown, Ratio as BadRatio, Domain}
 use Rattle.machine_desc.specs.declared.checks.Fault.{Fault}
@@ -17,6 +17,14 @@ use Rattle.machine_desc.specs.declared.machine.L2.{L2}
 use Rattle.machine_desc.specs.declared.machine.Controllers.{Controllers}
 use Rattle.machine_desc.specs.declared.machine.Domains.{Domains}
 use Rattle.machine_desc.specs.declared.machine.Machine.{Machine}
+
+-- The checks of a document, in order: those of its version. Of a version that there is not, the version alone is checked,
+-- and fails.
+unfoldable pub checks_of : Members → List Check
+checks_of document = if version_of document == 1 then version_1_checks else version_check ∷ []
+
+unfoldable pub ratios_of : Members → List Ratio
+ratios_of document = if version_of document == 1 then version_1_ratios else []
 
 -- the integer is in the range
 abbrev pub is_in_range : Bounds → ℤ → Bool
@@ -44,8 +52,8 @@ unfoldable pub value_fault : Members → Rule → Data → Option Fault
 value_fault document is_table d = unless (is_some (as_table d)) OtherKind
 value_fault document (is_integer range) d = integer_fault (is_in_range range) d
 value_fault document (is_share range times whole) d =
-    integer_fault (λ z. is_in_range range z && is_share_of (number_at document times) (number_at document whole) z) d
-value_fault document (is_array count) d = array_fault (number_at document count) d
+    integer_fault (λ z. is_in_range range z && is_share_of (integer_at document times) (integer_at document whole) z) d
+value_fault document (is_array count) d = array_fault (integer_at document count) d
 
 -- the refusal of a key's value
 abbrev pub refusal_of : Key → Fault → BadMachine
@@ -69,13 +77,13 @@ is_named table name c = bytes_eq c.key.table table && bytes_eq c.key.name name
 
 -- some check is
 abbrev pub is_known : List Check → (table name : List ℕ) → Bool
-is_known all table name = list_any (is_named table name) all
+is_known checks table name = list_any (is_named table name) checks
 
 -- the names of a table that no check names
 abbrev pub unknown_names : List Check → List ℕ → Members → List (List ℕ)
-unknown_names all table no_members = []
-unknown_names all table (member name d ms) =
-    if is_known all table name then unknown_names all table ms else name ∷ unknown_names all table ms
+unknown_names checks table no_members = []
+unknown_names checks table (member name d ms) =
+    if is_known checks table name then unknown_names checks table ms else name ∷ unknown_names checks table ms
 
 -- the lesser of two names, by their bytes
 abbrev pub lesser : List ℕ → List ℕ → List ℕ
@@ -88,30 +96,30 @@ least (n ∷ ns) = Some (option_map_or (lesser n) (least ns) n)
 
 -- the least unknown name of a table
 abbrev pub members_fault : List Check → List ℕ → Members → Option BadMachine
-members_fault all table ms = option_map (λ name. Unknown (full_name (at table name))) (least (unknown_names all table ms))
+members_fault checks table ms = option_map (λ name. Unknown (full_name (at table name))) (least (unknown_names checks table ms))
 
 unfoldable pub table_fault : Members → List Check → List ℕ → Option BadMachine
-table_fault document all table = option_map_or (members_fault all table) (table_at document table) None
+table_fault document checks table = option_map_or (members_fault checks table) (table_at document table) None
 
 -- the unknown member of the table that a check asks for, if it asks for one
 abbrev pub inside_fault : Members → List Check → Check → Option BadMachine
-inside_fault document all c = inside c.rule
+inside_fault document checks c = inside c.rule
   where
     inside : Rule → Option BadMachine
-    inside is_table = table_fault document all c.key.name
+    inside is_table = table_fault document checks c.key.name
     inside _ = None
 
 abbrev pub tables_fault : Members → List Check → List Check → Option BadMachine
-tables_fault document all [] = None
-tables_fault document all (c ∷ cs) = option_or (inside_fault document all c) (tables_fault document all cs)
+tables_fault document checks [] = None
+tables_fault document checks (c ∷ cs) = option_or (inside_fault document checks c) (tables_fault document checks cs)
 
 -- the least unknown key of the top level, and then of the tables in the order of their checks
 abbrev pub names_fault : Members → List Check → Option BadMachine
-names_fault document all = option_or (table_fault document all []) (tables_fault document all all)
+names_fault document checks = option_or (table_fault document checks []) (tables_fault document checks checks)
 
 -- the first number that is no multiple of the one that it has to be a multiple of
 abbrev pub ratio_fault : Members → Ratio → Option BadMachine
-ratio_fault document r = unless (number_at document r.key % number_at document r.divisor == 0) (BadRatio (full_name r.key))
+ratio_fault document r = unless (integer_at document r.key % integer_at document r.divisor == 0) (BadRatio (full_name r.key))
 
 abbrev pub ratios_fault : Members → List Ratio → Option BadMachine
 ratios_fault document [] = None
@@ -130,50 +138,51 @@ is_below count (negsuc n) = false
 -- the least component whose domain is not there
 unfoldable pub domain_fault : Members → Option BadMachine
 domain_fault document =
-    option_map Domain (position (λ z. not (is_below (number_at document (at (codes "domains") (codes "count"))) z)) (written_domains document))
+    option_map Domain (position (λ z. not (is_below (integer_at document (at (codes "domains") (codes "count"))) z)) (written_domains document))
 
 -- what the first check finds that finds something
 unfoldable pub fault_of : Members → Option BadMachine
 fault_of document =
+    let checks = checks_of document in
     option_or (checks_fault document checks)
-    (option_or (names_fault document checks) (option_or (ratios_fault document ratios) (domain_fault document)))
+    (option_or (names_fault document checks) (option_or (ratios_fault document (ratios_of document)) (domain_fault document)))
 
 unfoldable pub memory_of : Members → Memory
 memory_of document = record {
-  base = number_at document (at (codes "memory") (codes "base"));
-  size = number_at document (at (codes "memory") (codes "size"));
-  stack = number_at document (at (codes "memory") (codes "stack"));
+  base = integer_at document (at (codes "memory") (codes "base"));
+  size = integer_at document (at (codes "memory") (codes "size"));
+  stack = integer_at document (at (codes "memory") (codes "stack"));
 }
 
 unfoldable pub l1_of : Members → L1
 l1_of document = record {
-  sets = number_at document (at (codes "l1") (codes "sets"));
-  ways = number_at document (at (codes "l1") (codes "ways"));
-  latency = number_at document (at (codes "l1") (codes "latency"));
+  sets = integer_at document (at (codes "l1") (codes "sets"));
+  ways = integer_at document (at (codes "l1") (codes "ways"));
+  latency = integer_at document (at (codes "l1") (codes "latency"));
 }
 
 unfoldable pub l2_of : Members → L2
 l2_of document = record {
-  banks = number_at document (at (codes "l2") (codes "banks"));
-  sets = number_at document (at (codes "l2") (codes "sets"));
-  ways = number_at document (at (codes "l2") (codes "ways"));
-  latency = number_at document (at (codes "l2") (codes "latency"));
-  remote = number_at document (at (codes "l2") (codes "remote"));
-  fill = number_at document (at (codes "l2") (codes "fill"));
-  occupancy = number_at document (at (codes "l2") (codes "occupancy"));
+  banks = integer_at document (at (codes "l2") (codes "banks"));
+  sets = integer_at document (at (codes "l2") (codes "sets"));
+  ways = integer_at document (at (codes "l2") (codes "ways"));
+  latency = integer_at document (at (codes "l2") (codes "latency"));
+  remote = integer_at document (at (codes "l2") (codes "remote"));
+  fill = integer_at document (at (codes "l2") (codes "fill"));
+  occupancy = integer_at document (at (codes "l2") (codes "occupancy"));
 }
 
 unfoldable pub controllers_of : Members → Controllers
 controllers_of document = record {
-  count = number_at document (at (codes "controllers") (codes "count"));
-  read = number_at document (at (codes "controllers") (codes "read"));
-  write = number_at document (at (codes "controllers") (codes "write"));
-  occupancy = number_at document (at (codes "controllers") (codes "occupancy"));
+  count = integer_at document (at (codes "controllers") (codes "count"));
+  read = integer_at document (at (codes "controllers") (codes "read"));
+  write = integer_at document (at (codes "controllers") (codes "write"));
+  occupancy = integer_at document (at (codes "controllers") (codes "occupancy"));
 }
 
 unfoldable pub domains_of : Members → Domains
 domains_of document = record {
-  count = number_at document (at (codes "domains") (codes "count"));
+  count = integer_at document (at (codes "domains") (codes "count"));
   banks = map natural (integers_at document (at (codes "domains") (codes "banks")));
   controllers = map natural (integers_at document (at (codes "domains") (codes "controllers")));
 }
@@ -181,10 +190,10 @@ domains_of document = record {
 -- the machine with the numbers of a document
 unfoldable pub numbers_of : Members → Machine
 numbers_of document = record {
-  version = number_at document (top (codes "version"));
-  cores = number_at document (top (codes "cores"));
-  interval = number_at document (top (codes "interval"));
-  intervals = number_at document (top (codes "intervals"));
+  version = integer_at document (top (codes "version"));
+  cores = integer_at document (top (codes "cores"));
+  interval = integer_at document (top (codes "interval"));
+  intervals = integer_at document (top (codes "intervals"));
   memory = memory_of document;
   l1 = l1_of document;
   l2 = l2_of document;

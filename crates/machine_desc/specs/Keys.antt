@@ -1,4 +1,4 @@
--- The keys of a machine description, with what each has to be, in the order in which they are checked.
+-- The keys of a machine description, with what each has to be, in the order in which they are checked: one list for each table.
 use Rattle.std.specs.Prelude.{ℕ, ◌^◌, List, [], ◌∷◌, ◌++◌, codes}
 
 -- where a value stands: the name of its table, which is empty at the top level, and its own name
@@ -48,9 +48,13 @@ pages_check key low high = record { key = key; rule = is_integer (record { low =
 abbrev pub array_check : Key → Key → Check
 array_check key count = record { key = key; rule = is_array count }
 
-unfoldable pub version_checks : List Check
-version_checks =
-    range_check (top (codes "version")) 1 1
+-- the first check of every description
+abbrev pub version_check : Check
+version_check = range_check (top (codes "version")) 1 1
+
+unfoldable pub top_checks : List Check
+top_checks =
+    version_check
     ∷ range_check (top (codes "cores")) 1 64
     ∷ range_check (top (codes "interval")) 1 10000
     ∷ range_check (top (codes "intervals")) 1 1048576
@@ -104,13 +108,13 @@ domain_checks =
     ∷ array_check (at (codes "domains") (codes "controllers")) (at (codes "controllers") (codes "count"))
     ∷ []
 
--- all keys, in the order in which they are checked
-unfoldable pub checks : List Check
-checks = version_checks ++ memory_checks ++ l1_checks ++ l2_checks ++ controller_checks ++ domain_checks
+-- all keys of version 1
+unfoldable pub version_1_checks : List Check
+version_1_checks = top_checks ++ memory_checks ++ l1_checks ++ l2_checks ++ controller_checks ++ domain_checks
 
--- the ratios, in the order in which they are checked
-unfoldable pub ratios : List Ratio
-ratios =
+-- its ratios, in the order in which they are checked
+unfoldable pub version_1_ratios : List Ratio
+version_1_ratios =
     record { key = at (codes "l1") (codes "sets"); divisor = at (codes "l2") (codes "banks") }
     ∷ record { key = at (codes "l2") (codes "sets"); divisor = at (codes "l2") (codes "banks") }
     ∷ []

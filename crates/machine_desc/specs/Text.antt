@@ -4,7 +4,7 @@ use Rattle.std.specs.Option.{option_map_or}
 use Rattle.std.specs.Str.{is_utf8}
 use Rattle.toml.specs.Data.{Data, Items, no_items, item, Members, get_member, as_integer, as_array, as_table}
 use Rattle.toml.specs.Parse.{parse_document}
-use Rattle.machine_desc.specs.Keys.{Key}
+use Rattle.machine_desc.specs.Keys.{Key, top}
 
 -- the document that the bytes are, if they are UTF-8 and TOML
 unfoldable pub document_of : List ℕ → Option Members
@@ -25,12 +25,16 @@ natural (pos n) = n
 natural (negsuc n) = 0
 
 -- a value as a natural number: 0 where it is no integer
-abbrev pub number_of : Data → ℕ
-number_of d = option_map_or natural (as_integer d) 0
+abbrev pub natural_of : Data → ℕ
+natural_of d = option_map_or natural (as_integer d) 0
 
--- the number at a key: 0 where no integer stands there
-unfoldable pub number_at : Members → Key → ℕ
-number_at document key = option_map_or number_of (value_at document key) 0
+-- the integer at a key, as a natural number: 0 where no integer stands there
+unfoldable pub integer_at : Members → Key → ℕ
+integer_at document key = option_map_or natural_of (value_at document key) 0
+
+-- the version that a document says it is of
+abbrev pub version_of : Members → ℕ
+version_of document = integer_at document (top (codes "version"))
 
 -- the items, if all are integers
 abbrev pub integers_of : Items → Option (List ℤ)

@@ -3,11 +3,11 @@ ghost use Rattle.std.specs.Prelude.{◌≡◌, ◌&&◌, map, IfOk, is_some};
 ghost use Rattle.toml.specs.Data.{as_table};
 ghost use Rattle.toml.specs.View.{view, table_view};
 ghost use Rattle.machine_desc.specs.Description.{is_in_range, is_share_of, unless, integer_fault, array_fault, value_fault, refusal_of, check_fault, checks_fault};
-ghost use Rattle.machine_desc.specs.Reading.{Finds, Tells};
+ghost use Rattle.machine_desc.specs.Answers.{Answers, passed_unless};
 ghost use Rattle.machine_desc.specs.Rows.{key_of, range_of, rule_of, check_of};
-ghost use Rattle.machine_desc.specs.Text.{number_at};
+ghost use Rattle.machine_desc.specs.Text.{integer_at};
 
-use crate::document::{array_integers, natural, number_at, value_at};
+use crate::document::{array_integers, natural, integer_at, value_at};
 use crate::keys::{Check, Key, Range, Rule, full_name};
 use crate::{BadMachine, MachineFail};
 use std::alloc::{AllocError, Global};
@@ -27,7 +27,8 @@ pub(crate) fn check_keys(
     document: &Table,
     checks: &[Check],
 ) -> Result<(), MachineFail>
-    ensures { Finds result (checks_fault (table_view document.now) (map check_of checks.now)) }
+    ensures { Answers result
+        (passed_unless (checks_fault (table_view document.now) (map check_of checks.now))) }
 {
     for check in checks {
         check_key(alloc, document, check)?;
@@ -38,11 +39,12 @@ pub(crate) fn check_keys(
 /// The key is there, and its value meets its rule.
 #[tactic(auto, unfolding(crate::specs::Description::check_fault))]
 fn check_key(alloc: Global, document: &Table, check: &Check) -> Result<(), MachineFail>
-    ensures { Finds result (check_fault (table_view document.now) (check_of check.now)) }
+    ensures { Answers result
+        (passed_unless (check_fault (table_view document.now) (check_of check.now))) }
 {
     match value_at(document, check.key.table, check.key.name) {
         Some(value) => match value_fault(alloc, document, &check.rule, value)? {
-            Some(fault) => Err(refusal(alloc, &check.key, fault)),
+            Some(fault) => Err(MachineFail::Bad(refusal(alloc, &check.key, fault)?)),
             None => Ok(()),
         },
         None => {
@@ -53,13 +55,11 @@ fn check_key(alloc: Global, document: &Table, check: &Check) -> Result<(), Machi
 }
 
 /// The refusal of a key's value.
-fn refusal(alloc: Global, key: &Key, fault: Fault) -> MachineFail
-    ensures { Tells result (refusal_of (key_of key.now) fault) }
+fn refusal(alloc: Global, key: &Key, fault: Fault) -> Result<BadMachine, AllocError>
+    ensures { IfOk result (λ bad. bad ≡ refusal_of (key_of key.now) fault) }
 {
-    let Ok(key) = full_name(alloc, key.table, key.name) else {
-        return MachineFail::NoMemory;
-    };
-    MachineFail::Bad(match fault {
+    let key = full_name(alloc, key.table, key.name)?;
+    Ok(match fault {
         Fault::OtherKind => BadMachine::Kind { key },
         Fault::OutOfRange(value) => BadMachine::Range { key, value },
     })
@@ -84,12 +84,12 @@ fn value_fault(
             times,
             whole,
         } => {
-            let times = number_at(document, times.table, times.name);
-            let whole = number_at(document, whole.table, whole.name);
+            let times = integer_at(document, times.table, times.name);
+            let whole = integer_at(document, whole.table, whole.name);
             Ok(share_fault(range, times, whole, value))
         }
         Rule::Array(count) => {
-            let count = number_at(document, count.table, count.name);
+            let count = integer_at(document, count.table, count.name);
             array_fault(alloc, count, value)
         }
     }

@@ -4,8 +4,8 @@ ghost use Rattle.std.specs.Option.{option_or};
 ghost use Rattle.toml.specs.Data.{get_member};
 ghost use Rattle.toml.specs.View.{view, array_view, table_view};
 ghost use Rattle.machine_desc.specs.Keys.{at};
-ghost use Rattle.machine_desc.specs.Reading.{ReadsDocument};
-ghost use Rattle.machine_desc.specs.Text.{table_at, value_at, number_at, integers_at, array_integers, number_of, natural};
+ghost use Rattle.machine_desc.specs.Answers.{ReadsDocument};
+ghost use Rattle.machine_desc.specs.Text.{table_at, value_at, integer_at, integers_at, array_integers, natural_of, natural};
 
 use crate::{BadMachine, MachineFail};
 use std::alloc::{AllocError, Global};
@@ -63,8 +63,8 @@ pub(crate) fn natural(integer: i64) -> u64
 }
 
 /// The number that a value is: 0 where it is no integer, or negative.
-fn number_of(value: &Value) -> u64
-    ensures { result ≡ number_of (view value.now) }
+fn natural_of(value: &Value) -> u64
+    ensures { result ≡ natural_of (view value.now) }
 {
     match value.as_integer() {
         Some(integer) => natural(integer),
@@ -73,12 +73,12 @@ fn number_of(value: &Value) -> u64
 }
 
 /// The number at a key: 0 where no integer stands there.
-#[tactic(auto, unfolding(crate::specs::Text::number_at))]
-pub(crate) fn number_at(document: &Table, table: &str, name: &str) -> u64
-    ensures { result ≡ number_at (table_view document.now) (at table.now name.now) }
+#[tactic(auto, unfolding(crate::specs::Text::integer_at))]
+pub(crate) fn integer_at(document: &Table, table: &str, name: &str) -> u64
+    ensures { result ≡ integer_at (table_view document.now) (at table.now name.now) }
 {
     match value_at(document, table, name) {
-        Some(value) => number_of(value),
+        Some(value) => natural_of(value),
         None => 0,
     }
 }

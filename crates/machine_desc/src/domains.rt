@@ -2,9 +2,9 @@
 ghost use Rattle.std.specs.Prelude.{◌≡◌, ◌≤◌, IfOk, length, not, position};
 ghost use Rattle.toml.specs.View.{table_view};
 ghost use Rattle.machine_desc.specs.Description.{is_below, written_domains, domain_fault};
-ghost use Rattle.machine_desc.specs.Reading.{Finds};
+ghost use Rattle.machine_desc.specs.Answers.{Answers, passed_unless};
 
-use crate::document::{integers_at, natural, number_at};
+use crate::document::{integers_at, natural, integer_at};
 use crate::{BadMachine, MachineFail};
 use std::alloc::{AllocError, Global};
 use toml::Table;
@@ -13,9 +13,9 @@ use toml::Table;
 #[tactic(auto, unfolding(crate::specs::Description::domain_fault))]
 pub(crate) fn check_domains(alloc: Global, document: &Table) -> Result<(), MachineFail>
     requires { length (written_domains (table_view document.now)) ≤ 80 }
-    ensures { Finds result (domain_fault (table_view document.now)) }
+    ensures { Answers result (passed_unless (domain_fault (table_view document.now))) }
 {
-    let count = number_at(document, "domains", "count");
+    let count = integer_at(document, "domains", "count");
     let domains = written_domains(alloc, document)?;
     match first_outside(count, &domains) {
         Some(component) => Err(MachineFail::Bad(BadMachine::Domain {

@@ -1,13 +1,15 @@
 // The checks of a description as data. A later version of the description adds rows.
 ghost use Rattle.std.specs.Prelude.{◌≡◌, map, IfOk, string_bytes};
-ghost use Rattle.machine_desc.specs.Description.{is_in_range};
-ghost use Rattle.machine_desc.specs.Keys.{at, checks, ratios};
+ghost use Rattle.toml.specs.View.{table_view};
+ghost use Rattle.machine_desc.specs.Description.{is_in_range, checks_of, ratios_of};
+ghost use Rattle.machine_desc.specs.Keys.{at, version_1_checks, version_1_ratios};
 ghost use Rattle.machine_desc.specs.Rows.{range_of, check_of, ratio_of};
-ghost use Rattle.machine_desc.specs.Text.{full_name};
+ghost use Rattle.machine_desc.specs.Text.{full_name, version_of};
 
 use crate::KeyName;
-use crate::document::natural;
+use crate::document::{integer_at, natural};
 use std::alloc::{AllocError, Global};
+use toml::Table;
 
 /// Where a value stands: the name of its table, which is empty at the top level, and its own name.
 #[derive(Clone, Copy, Debug)]
@@ -117,7 +119,7 @@ macro_rules! array {
     };
 }
 
-/// All keys, in the order in which they are checked.
+/// All keys of version 1, in the order in which they are checked.
 static CHECKS: [Check; 29] = [
     integer!("", "version", 1, 1),
     integer!("", "cores", 1, 64),
@@ -157,7 +159,7 @@ static CHECKS: [Check; 29] = [
     array!("domains", "controllers", key!("controllers", "count")),
 ];
 
-/// The ratios, in the order in which they are checked.
+/// The ratios of version 1, in the order in which they are checked.
 static RATIOS: [Ratio; 2] = [
     Ratio {
         key: key!("l1", "sets"),
@@ -169,15 +171,45 @@ static RATIOS: [Ratio; 2] = [
     },
 ];
 
-pub(crate) fn checks() -> &'static [Check]
-    ensures { map check_of result.now ≡ checks }
+/// The checks of a document, in order: those of its version. Of a version that there is not, the
+/// check of the version alone, which fails.
+#[tactic(auto, unfolding(crate::specs::Description::checks_of))]
+pub(crate) fn checks(document: &Table) -> &'static [Check]
+    ensures { map check_of result.now ≡ checks_of (table_view document.now) }
+{
+    match version(document) {
+        1 => version_1_checks(),
+        _ => &CHECKS[..1],
+    }
+}
+
+/// The ratios of a document, in order.
+#[tactic(auto, unfolding(crate::specs::Description::ratios_of))]
+pub(crate) fn ratios(document: &Table) -> &'static [Ratio]
+    ensures { map ratio_of result.now ≡ ratios_of (table_view document.now) }
+{
+    match version(document) {
+        1 => version_1_ratios(),
+        _ => &[],
+    }
+}
+
+/// The version that a document says it is of: 0 where it says none.
+fn version(document: &Table) -> u64
+    ensures { result ≡ version_of (table_view document.now) }
+{
+    integer_at(document, "", "version")
+}
+
+fn version_1_checks() -> &'static [Check]
+    ensures { map check_of result.now ≡ version_1_checks }
 {
     &CHECKS
 }
 
-#[tactic(auto, unfolding(crate::specs::Keys::ratios))]
-pub(crate) fn ratios() -> &'static [Ratio]
-    ensures { map ratio_of result.now ≡ ratios }
+#[tactic(auto, unfolding(crate::specs::Keys::version_1_ratios))]
+fn version_1_ratios() -> &'static [Ratio]
+    ensures { map ratio_of result.now ≡ version_1_ratios }
 {
     &RATIOS
 }

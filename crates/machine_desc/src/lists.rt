@@ -40,18 +40,18 @@ impl Places {
     }
 }
 
-/// The name of a key, in UTF-8, as it stands in a refusal.
+/// The name of a key, in UTF-8, as it stands in a refusal. It is printed as it is.
 #[derive(Debug, Drop)]
 pub struct KeyName {
-    list: Vec<u8>,
+    text: String,
 }
 
 impl Model for KeyName {
-    ghost use Rattle.std.specs.Prelude.{List, ℕ};
+    ghost use Rattle.std.specs.Prelude.{List, ℕ, string_bytes};
 
     ghost Value = { List ℕ };
 
-    ghost view = { λ k. k.list.items };
+    ghost view = { λ k. string_bytes k.text };
 }
 
 impl KeyName {
@@ -60,27 +60,31 @@ impl KeyName {
         requires { IsUtf8 list.items }
         ensures { result ≡ list.items }
     {
-        KeyName { list }
+        match String::from_utf8(list) {
+            Ok(text) => KeyName { text },
+            Err(_) => unreachable!(),
+        }
     }
 
     pub fn as_slice(&self) -> &[u8]
         ensures { result.now ≡ self.now }
     {
-        &self.list
+        self.text.as_bytes()
     }
 
     pub fn into_list(self) -> Vec<u8>
         ensures { result.items ≡ self }
     {
-        self.list
+        self.text.into_bytes()
     }
 }
 
 impl fmt::Display for KeyName {
+    ghost use Rattle.std.specs.Prelude.{Some};
+
+    ghost output = { λ name. Some name };
+
     fn fmt<W: fmt::Write>(&self, f: &mut fmt::Formatter<W>) -> fmt::Result {
-        match std::str::from_utf8(self.as_slice()) {
-            Ok(text) => f.write_str(text),
-            Err(_) => f.write_str("?"),
-        }
+        f.write_str(&self.text)
     }
 }

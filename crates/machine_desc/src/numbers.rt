@@ -4,9 +4,9 @@ ghost use Rattle.toml.specs.View.{table_view};
 ghost use Rattle.machine_desc.specs.Description.{memory_of, l1_of, l2_of, controllers_of, domains_of, numbers_of};
 ghost use Rattle.machine_desc.specs.Keys.{at};
 ghost use Rattle.machine_desc.specs.Machine.{IsL1, IsL2, IsControllers, IsDomains, IsMachine};
-ghost use Rattle.machine_desc.specs.Text.{natural, number_at, integers_at};
+ghost use Rattle.machine_desc.specs.Text.{natural, integer_at, integers_at};
 
-use crate::document::{integers_at, natural, number_at};
+use crate::document::{integers_at, natural, integer_at};
 use crate::{Controllers, Domains, L1, L2, Machine, Memory, Places};
 use std::alloc::{AllocError, Global};
 use toml::Table;
@@ -20,7 +20,7 @@ pub(crate) fn numbers(alloc: Global, document: &Table) -> Result<Machine, AllocE
     Ok(Machine {
         version: small(document, "", "version"),
         cores: short(document, "", "cores"),
-        interval: number_at(document, "", "interval"),
+        interval: integer_at(document, "", "interval"),
         intervals: small(document, "", "intervals"),
         memory: memory(document),
         l1: l1(document),
@@ -32,18 +32,18 @@ pub(crate) fn numbers(alloc: Global, document: &Table) -> Result<Machine, AllocE
 
 /// A number of at most 32 bits.
 fn small(document: &Table, table: &str, name: &str) -> u32
-    requires { number_at (table_view document.now) (at table.now name.now) < 2 ^ 32 }
-    ensures { result ≡ number_at (table_view document.now) (at table.now name.now) }
+    requires { integer_at (table_view document.now) (at table.now name.now) < 2 ^ 32 }
+    ensures { result ≡ integer_at (table_view document.now) (at table.now name.now) }
 {
-    number_at(document, table, name) as u32
+    integer_at(document, table, name) as u32
 }
 
 /// A number of at most 16 bits.
 fn short(document: &Table, table: &str, name: &str) -> u16
-    requires { number_at (table_view document.now) (at table.now name.now) < 2 ^ 16 }
-    ensures { result ≡ number_at (table_view document.now) (at table.now name.now) }
+    requires { integer_at (table_view document.now) (at table.now name.now) < 2 ^ 16 }
+    ensures { result ≡ integer_at (table_view document.now) (at table.now name.now) }
 {
-    number_at(document, table, name) as u16
+    integer_at(document, table, name) as u16
 }
 
 #[tactic(auto, unfolding(crate::specs::Description::memory_of))]
@@ -51,9 +51,9 @@ fn memory(document: &Table) -> Memory
     ensures { result ≡ memory_of (table_view document.now) }
 {
     Memory {
-        base: number_at(document, "memory", "base"),
-        size: number_at(document, "memory", "size"),
-        stack: number_at(document, "memory", "stack"),
+        base: integer_at(document, "memory", "base"),
+        size: integer_at(document, "memory", "size"),
+        stack: integer_at(document, "memory", "stack"),
     }
 }
 

@@ -2,10 +2,10 @@
 ghost use Rattle.std.specs.Prelude.{◌≡◌, map};
 ghost use Rattle.toml.specs.View.{table_view};
 ghost use Rattle.machine_desc.specs.Description.{ratio_fault, ratios_fault};
-ghost use Rattle.machine_desc.specs.Reading.{Finds};
+ghost use Rattle.machine_desc.specs.Answers.{Answers, passed_unless};
 ghost use Rattle.machine_desc.specs.Rows.{ratio_of};
 
-use crate::document::number_at;
+use crate::document::integer_at;
 use crate::keys::{Ratio, full_name};
 use crate::{BadMachine, MachineFail};
 use std::alloc::Global;
@@ -17,7 +17,8 @@ pub(crate) fn check_ratios(
     document: &Table,
     ratios: &[Ratio],
 ) -> Result<(), MachineFail>
-    ensures { Finds result (ratios_fault (table_view document.now) (map ratio_of ratios.now)) }
+    ensures { Answers result
+        (passed_unless (ratios_fault (table_view document.now) (map ratio_of ratios.now))) }
 {
     for ratio in ratios {
         check_ratio(alloc, document, ratio)?;
@@ -26,10 +27,11 @@ pub(crate) fn check_ratios(
 }
 
 fn check_ratio(alloc: Global, document: &Table, ratio: &Ratio) -> Result<(), MachineFail>
-    ensures { Finds result (ratio_fault (table_view document.now) (ratio_of ratio.now)) }
+    ensures { Answers result
+        (passed_unless (ratio_fault (table_view document.now) (ratio_of ratio.now))) }
 {
-    let number = number_at(document, ratio.key.table, ratio.key.name);
-    let divisor = number_at(document, ratio.divisor.table, ratio.divisor.name);
+    let number = integer_at(document, ratio.key.table, ratio.key.name);
+    let divisor = integer_at(document, ratio.divisor.table, ratio.divisor.name);
     if number.is_multiple_of(divisor) {
         return Ok(());
     }

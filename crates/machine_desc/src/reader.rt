@@ -3,7 +3,7 @@ ghost use Rattle.std.specs.Prelude.{IfOk};
 ghost use Rattle.toml.specs.View.{table_view};
 ghost use Rattle.machine_desc.specs.Description.{fault_of, machine_of, machine_of_document};
 ghost use Rattle.machine_desc.specs.Machine.{IsMachine};
-ghost use Rattle.machine_desc.specs.Reading.{Finds, Gives};
+ghost use Rattle.machine_desc.specs.Answers.{Answers, passed_unless};
 
 use crate::checks::check_keys;
 use crate::document::parse;
@@ -20,7 +20,7 @@ use toml::Table;
 #[tactic(auto, unfolding(crate::specs::Description::machine_of))]
 pub fn read(alloc: Global, text: &[u8]) -> Result<Machine, MachineFail>
     // The answer is that of the text, unless memory runs out.
-    ensures answer { Gives result (machine_of text.now) }
+    ensures answer { Answers result (machine_of text.now) }
     ensures valid { IfOk result IsMachine }
 {
     let document = parse(alloc, text)?;
@@ -30,7 +30,7 @@ pub fn read(alloc: Global, text: &[u8]) -> Result<Machine, MachineFail>
 /// The machine of a document, or the first check that fails.
 #[tactic(auto, using(crate::proofs::Accepted::accepted), unfolding(crate::specs::Description::machine_of_document))]
 fn read_document(alloc: Global, document: &Table) -> Result<Machine, MachineFail>
-    ensures answer { Gives result (machine_of_document (table_view document.now)) }
+    ensures answer { Answers result (machine_of_document (table_view document.now)) }
     ensures valid { IfOk result IsMachine }
 {
     check_document(alloc, document)?;
@@ -40,10 +40,11 @@ fn read_document(alloc: Global, document: &Table) -> Result<Machine, MachineFail
 /// No check of a document fails, or the first that does.
 #[tactic(auto, unfolding(crate::specs::Description::fault_of))]
 fn check_document(alloc: Global, document: &Table) -> Result<(), MachineFail>
-    ensures { Finds result (fault_of (table_view document.now)) }
+    ensures { Answers result (passed_unless (fault_of (table_view document.now))) }
 {
-    check_keys(alloc, document, checks())?;
-    check_names(alloc, document, checks())?;
-    check_ratios(alloc, document, ratios())?;
+    let checks = checks(document);
+    check_keys(alloc, document, checks)?;
+    check_names(alloc, document, checks)?;
+    check_ratios(alloc, document, ratios(document))?;
     check_domains(alloc, document)
 }

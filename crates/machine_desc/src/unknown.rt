@@ -2,7 +2,7 @@
 ghost use Rattle.std.specs.Prelude.{◌≡◌, map, []};
 ghost use Rattle.toml.specs.View.{table_view};
 ghost use Rattle.machine_desc.specs.Description.{is_named, is_known, members_fault, table_fault, tables_fault, inside_fault, names_fault};
-ghost use Rattle.machine_desc.specs.Reading.{Finds};
+ghost use Rattle.machine_desc.specs.Answers.{Answers, passed_unless};
 ghost use Rattle.machine_desc.specs.Rows.{check_of};
 
 use crate::document::table_at;
@@ -17,15 +17,16 @@ pub(crate) fn check_names(
     document: &Table,
     checks: &[Check],
 ) -> Result<(), MachineFail>
-    ensures { Finds result (names_fault (table_view document.now) (map check_of checks.now)) }
+    ensures { Answers result
+        (passed_unless (names_fault (table_view document.now) (map check_of checks.now))) }
 {
     check_table(alloc, document, checks, "")?;
     check_tables(alloc, document, checks)
 }
 
 fn check_tables(alloc: Global, document: &Table, checks: &[Check]) -> Result<(), MachineFail>
-    ensures { Finds result
-        (tables_fault (table_view document.now) (map check_of checks.now) (map check_of checks.now)) }
+    ensures { Answers result (passed_unless
+        (tables_fault (table_view document.now) (map check_of checks.now) (map check_of checks.now))) }
 {
     for check in checks {
         check_inside(alloc, document, checks, check)?;
@@ -40,8 +41,8 @@ fn check_inside(
     checks: &[Check],
     check: &Check,
 ) -> Result<(), MachineFail>
-    ensures { Finds result
-        (inside_fault (table_view document.now) (map check_of checks.now) (check_of check.now)) }
+    ensures { Answers result (passed_unless
+        (inside_fault (table_view document.now) (map check_of checks.now) (check_of check.now))) }
 {
     match check.rule {
         Rule::Table => check_table(alloc, document, checks, check.key.name),
@@ -57,8 +58,8 @@ fn check_table(
     checks: &[Check],
     table: &str,
 ) -> Result<(), MachineFail>
-    ensures { Finds result
-        (table_fault (table_view document.now) (map check_of checks.now) table.now) }
+    ensures { Answers result (passed_unless
+        (table_fault (table_view document.now) (map check_of checks.now) table.now)) }
 {
     match table_at(document, table) {
         Some(members) => check_members(alloc, checks, table, members),
@@ -72,8 +73,8 @@ fn check_members(
     table: &str,
     members: &Table,
 ) -> Result<(), MachineFail>
-    ensures { Finds result
-        (members_fault (map check_of checks.now) table.now (table_view members.now)) }
+    ensures { Answers result (passed_unless
+        (members_fault (map check_of checks.now) table.now (table_view members.now))) }
 {
     for (name, _) in members.iter() {
         if !is_known(checks, table, name.as_str()) {
