@@ -1,4 +1,4 @@
-mod Fresh
-mod FreshThere
+mod FreshAreOne
+mod FreshAreThere
 mod SameState
 mod Stepped

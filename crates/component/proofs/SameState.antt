@@ -7,23 +7,23 @@ use Rattle.component.specs.declared.controller.Controller.{Controller}
 use Rattle.component.specs.ComponentStep.{bank_step, bank_latency, controller_step, controller_latency}
 
 pub bank_with_free : (b : Bank) (kind : Kind) (start : ℕ) (p : 1 ≤ b.lookup) (q : 1 ≤ b.remote) (r : 1 ≤ b.fill)
-    → (let made : Bank = record { lookup = b.lookup; remote = b.remote; fill = b.fill; occupancy = b.occupancy; free = max start b.free + b.occupancy; lookup_counts = p; remote_counts = q; fill_counts = r } in (made, max start b.free + bank_latency b kind)) ≡ bank_step b kind start
+    → (let made : Bank = record { lookup = b.lookup; remote = b.remote; fill = b.fill; occupancy = b.occupancy; free = max start b.free + b.occupancy; lookup_at_least_one = p; remote_at_least_one = q; fill_at_least_one = r } in (made, max start b.free + bank_latency b kind)) ≡ bank_step b kind start
 bank_with_free b kind start p q r =
-    cc (le_prop p b.lookup_counts, le_prop q b.remote_counts, le_prop r b.fill_counts)
+    cc (le_prop p b.lookup_at_least_one, le_prop q b.remote_at_least_one, le_prop r b.fill_at_least_one)
 
 pub controller_with_free : (c : Controller) (kind : Kind) (start : ℕ) (p : 1 ≤ c.read) (q : 1 ≤ c.write)
-    → (let made : Controller = record { read = c.read; write = c.write; occupancy = c.occupancy; free = max start c.free + c.occupancy; read_counts = p; write_counts = q } in (made, max start c.free + controller_latency c kind)) ≡ controller_step c kind start
+    → (let made : Controller = record { read = c.read; write = c.write; occupancy = c.occupancy; free = max start c.free + c.occupancy; read_at_least_one = p; write_at_least_one = q } in (made, max start c.free + controller_latency c kind)) ≡ controller_step c kind start
 controller_with_free c kind start p q =
-    cc (le_prop p c.read_counts, le_prop q c.write_counts)
+    cc (le_prop p c.read_at_least_one, le_prop q c.write_at_least_one)
 
 pub same_bank : (a b : Bank) → a.lookup ≡ b.lookup → a.remote ≡ b.remote → a.fill ≡ b.fill → a.occupancy ≡ b.occupancy → a.free ≡ b.free → a ≡ b
 same_bank a b lookup remote fill occupancy free =
     let made : (l r f o e : ℕ) → 1 ≤ l → 1 ≤ r → 1 ≤ f → Bank =
-    λ l r f o e p q s. record { lookup = l; remote = r; fill = f; occupancy = o; free = e; lookup_counts = p; remote_counts = q; fill_counts = s }
+    λ l r f o e p q s. record { lookup = l; remote = r; fill = f; occupancy = o; free = e; lookup_at_least_one = p; remote_at_least_one = q; fill_at_least_one = s }
     in
     let own : (p : 1 ≤ a.lookup) (q : 1 ≤ a.remote) (s : 1 ≤ a.fill)
-    → made a.lookup a.remote a.fill a.occupancy a.free a.lookup_counts a.remote_counts a.fill_counts ≡ made a.lookup a.remote a.fill b.occupancy b.free p q s =
-    λ p q s. cc (le_prop p a.lookup_counts, le_prop q a.remote_counts, le_prop s a.fill_counts)
+    → made a.lookup a.remote a.fill a.occupancy a.free a.lookup_at_least_one a.remote_at_least_one a.fill_at_least_one ≡ made a.lookup a.remote a.fill b.occupancy b.free p q s =
+    λ p q s. cc (le_prop p a.lookup_at_least_one, le_prop q a.remote_at_least_one, le_prop s a.fill_at_least_one)
     in
     let with_fill : (p : 1 ≤ a.lookup) (q : 1 ≤ a.remote) (s : 1 ≤ b.fill) → a ≡ made a.lookup a.remote b.fill b.occupancy b.free p q s =
     subst (λ n. (p : 1 ≤ a.lookup) (q : 1 ≤ a.remote) (s : 1 ≤ n) → a ≡ made a.lookup a.remote n b.occupancy b.free p q s) fill own
@@ -31,17 +31,17 @@ same_bank a b lookup remote fill occupancy free =
     let with_remote : (p : 1 ≤ a.lookup) (q : 1 ≤ b.remote) (s : 1 ≤ b.fill) → a ≡ made a.lookup b.remote b.fill b.occupancy b.free p q s =
     subst (λ n. (p : 1 ≤ a.lookup) (q : 1 ≤ n) (s : 1 ≤ b.fill) → a ≡ made a.lookup n b.fill b.occupancy b.free p q s) remote with_fill
     in
-    subst (λ n. (p : 1 ≤ n) (q : 1 ≤ b.remote) (s : 1 ≤ b.fill) → a ≡ made n b.remote b.fill b.occupancy b.free p q s) lookup with_remote b.lookup_counts b.remote_counts b.fill_counts
+    subst (λ n. (p : 1 ≤ n) (q : 1 ≤ b.remote) (s : 1 ≤ b.fill) → a ≡ made n b.remote b.fill b.occupancy b.free p q s) lookup with_remote b.lookup_at_least_one b.remote_at_least_one b.fill_at_least_one
 
 pub same_controller : (a b : Controller) → a.read ≡ b.read → a.write ≡ b.write → a.occupancy ≡ b.occupancy → a.free ≡ b.free → a ≡ b
 same_controller a b read write occupancy free =
     let made : (r w o e : ℕ) → 1 ≤ r → 1 ≤ w → Controller =
-    λ r w o e p q. record { read = r; write = w; occupancy = o; free = e; read_counts = p; write_counts = q }
+    λ r w o e p q. record { read = r; write = w; occupancy = o; free = e; read_at_least_one = p; write_at_least_one = q }
     in
-    let own : (p : 1 ≤ a.read) (q : 1 ≤ a.write) → made a.read a.write a.occupancy a.free a.read_counts a.write_counts ≡ made a.read a.write b.occupancy b.free p q =
-    λ p q. cc (le_prop p a.read_counts, le_prop q a.write_counts)
+    let own : (p : 1 ≤ a.read) (q : 1 ≤ a.write) → made a.read a.write a.occupancy a.free a.read_at_least_one a.write_at_least_one ≡ made a.read a.write b.occupancy b.free p q =
+    λ p q. cc (le_prop p a.read_at_least_one, le_prop q a.write_at_least_one)
     in
     let with_write : (p : 1 ≤ a.read) (q : 1 ≤ b.write) → a ≡ made a.read b.write b.occupancy b.free p q =
     subst (λ n. (p : 1 ≤ a.read) (q : 1 ≤ n) → a ≡ made a.read n b.occupancy b.free p q) write own
     in
-    subst (λ n. (p : 1 ≤ n) (q : 1 ≤ b.write) → a ≡ made n b.write b.occupancy b.free p q) read with_write b.read_counts b.write_counts
+    subst (λ n. (p : 1 ≤ n) (q : 1 ≤ b.write) → a ≡ made n b.write b.occupancy b.free p q) read with_write b.read_at_least_one b.write_at_least_one

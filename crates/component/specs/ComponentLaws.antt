@@ -9,12 +9,12 @@ use Rattle.component.specs.declared.comp.Comp.{Comp}
 use Rattle.component.specs.declared.comp.Comp.TheVariants.{Bank as ABank, Controller as AController}
 use Rattle.component.specs.ComponentStep.{bank_serves, bank_latency, bank_step, bank_greatest, controller_serves, controller_latency, controller_step, controller_greatest, comp_serves, comp_latency, comp_step, comp_greatest}
 
-pub bank_floor_counts : (b : Bank) (kind : Kind) → IsTrue (bank_serves b kind) → 1 ≤ bank_latency b kind
-bank_floor_counts b Lookup s = b.lookup_counts
-bank_floor_counts b Remote s = b.remote_counts
-bank_floor_counts b Fill s = b.fill_counts
-bank_floor_counts b Read s = cc
-bank_floor_counts b Write s = cc
+pub bank_floor_at_least_one : (b : Bank) (kind : Kind) → IsTrue (bank_serves b kind) → 1 ≤ bank_latency b kind
+bank_floor_at_least_one b Lookup s = b.lookup_at_least_one
+bank_floor_at_least_one b Remote s = b.remote_at_least_one
+bank_floor_at_least_one b Fill s = b.fill_at_least_one
+bank_floor_at_least_one b Read s = cc
+bank_floor_at_least_one b Write s = cc
 
 pub bank_floor_holds : (b : Bank) (kind : Kind) (start : ℕ) → IsTrue (bank_serves b kind) → start + bank_latency b kind ≤ (bank_step b kind start).1
 bank_floor_holds b kind start s = omega arith
@@ -33,15 +33,15 @@ bank_floor_stays b kind start Fill s = refl
 bank_floor_stays b kind start Read s = refl
 bank_floor_stays b kind start Write s = refl
 
-pub bank_finish_counts : (b : Bank) (kind : Kind) (start : ℕ) → IsTrue (bank_serves b kind) → (bank_step b kind start).1 ≤ bank_greatest b kind start
-bank_finish_counts b kind start s = omega arith
+pub bank_finish_within_greatest : (b : Bank) (kind : Kind) (start : ℕ) → IsTrue (bank_serves b kind) → (bank_step b kind start).1 ≤ bank_greatest b kind start
+bank_finish_within_greatest b kind start s = omega arith
 
-pub controller_floor_counts : (c : Controller) (kind : Kind) → IsTrue (controller_serves c kind) → 1 ≤ controller_latency c kind
-controller_floor_counts c Lookup s = cc
-controller_floor_counts c Remote s = cc
-controller_floor_counts c Fill s = cc
-controller_floor_counts c Read s = c.read_counts
-controller_floor_counts c Write s = c.write_counts
+pub controller_floor_at_least_one : (c : Controller) (kind : Kind) → IsTrue (controller_serves c kind) → 1 ≤ controller_latency c kind
+controller_floor_at_least_one c Lookup s = cc
+controller_floor_at_least_one c Remote s = cc
+controller_floor_at_least_one c Fill s = cc
+controller_floor_at_least_one c Read s = c.read_at_least_one
+controller_floor_at_least_one c Write s = c.write_at_least_one
 
 pub controller_floor_holds : (c : Controller) (kind : Kind) (start : ℕ) → IsTrue (controller_serves c kind) → start + controller_latency c kind ≤ (controller_step c kind start).1
 controller_floor_holds c kind start s = omega arith
@@ -60,12 +60,12 @@ controller_floor_stays c kind start Fill s = refl
 controller_floor_stays c kind start Read s = refl
 controller_floor_stays c kind start Write s = refl
 
-pub controller_finish_counts : (c : Controller) (kind : Kind) (start : ℕ) → IsTrue (controller_serves c kind) → (controller_step c kind start).1 ≤ controller_greatest c kind start
-controller_finish_counts c kind start s = omega arith
+pub controller_finish_within_greatest : (c : Controller) (kind : Kind) (start : ℕ) → IsTrue (controller_serves c kind) → (controller_step c kind start).1 ≤ controller_greatest c kind start
+controller_finish_within_greatest c kind start s = omega arith
 
-pub comp_floor_counts : (c : Comp) (kind : Kind) → IsTrue (comp_serves c kind) → 1 ≤ comp_latency c kind
-comp_floor_counts (ABank b) kind s = bank_floor_counts b kind s
-comp_floor_counts (AController c) kind s = controller_floor_counts c kind s
+pub comp_floor_at_least_one : (c : Comp) (kind : Kind) → IsTrue (comp_serves c kind) → 1 ≤ comp_latency c kind
+comp_floor_at_least_one (ABank b) kind s = bank_floor_at_least_one b kind s
+comp_floor_at_least_one (AController c) kind s = controller_floor_at_least_one c kind s
 
 pub comp_floor_holds : (c : Comp) (kind : Kind) (start : ℕ) → IsTrue (comp_serves c kind) → start + comp_latency c kind ≤ (comp_step c kind start).1
 comp_floor_holds (ABank b) kind start s = bank_floor_holds b kind start s
@@ -79,6 +79,6 @@ pub comp_floor_stays : (c : Comp) (kind : Kind) (start : ℕ) (other : Kind) →
 comp_floor_stays (ABank b) kind start other s = bank_floor_stays b kind start other s
 comp_floor_stays (AController c) kind start other s = controller_floor_stays c kind start other s
 
-pub comp_finish_counts : (c : Comp) (kind : Kind) (start : ℕ) → IsTrue (comp_serves c kind) → (comp_step c kind start).1 ≤ comp_greatest c kind start
-comp_finish_counts (ABank b) kind start s = bank_finish_counts b kind start s
-comp_finish_counts (AController c) kind start s = controller_finish_counts c kind start s
+pub comp_finish_within_greatest : (c : Comp) (kind : Kind) (start : ℕ) → IsTrue (comp_serves c kind) → (comp_step c kind start).1 ≤ comp_greatest c kind start
+comp_finish_within_greatest (ABank b) kind start s = bank_finish_within_greatest b kind start s
+comp_finish_within_greatest (AController c) kind start s = controller_finish_within_greatest c kind start s

@@ -4,6 +4,7 @@ use Rattle.std.specs.List.{All, AllWithin}
 use Rattle.machine_desc.specs.declared.machine.L2.{L2}
 use Rattle.machine_desc.specs.declared.machine.Controllers.{Controllers}
 use Rattle.machine_desc.specs.declared.machine.Machine.{Machine}
+use Rattle.machine_desc.specs.Components.{component_count}
 use Rattle.component.specs.declared.bank.Bank.{Bank}
 use Rattle.component.specs.declared.controller.Controller.{Controller}
 use Rattle.component.specs.declared.comp.Comp.{Comp}
@@ -17,11 +18,11 @@ pub record HasBankTimes (l2 : L2) (b : Bank) : Type 0 where
   pub fill : b.fill ≡ l2.fill
   pub occupancy : b.occupancy ≡ l2.occupancy
 
--- a controller with the times of these
-pub record HasControllerTimes (all : Controllers) (c : Controller) : Type 0 where
-  pub read : c.read ≡ all.read
-  pub write : c.write ≡ all.write
-  pub occupancy : c.occupancy ≡ all.occupancy
+-- a controller with the times of these controllers
+pub record HasControllerTimes (controllers : Controllers) (c : Controller) : Type 0 where
+  pub read : c.read ≡ controllers.read
+  pub write : c.write ≡ controllers.write
+  pub occupancy : c.occupancy ≡ controllers.occupancy
 
 abbrev pub IsBankOf : Machine → Comp → Type 0
 IsBankOf m (ABank b) = HasBankTimes m.l2 b
@@ -33,7 +34,7 @@ IsControllerOf m (AController c) = HasControllerTimes m.controllers c
 
 -- the components of a machine by their numbers: its banks, and then its controllers
 pub record AreComponents (m : Machine) (comps : List Comp) : Type 0 where
-  pub count : length comps ≡ m.l2.banks + m.controllers.count
+  pub count : length comps ≡ component_count m
   pub banks : AllWithin (IsBankOf m) comps 0 m.l2.banks
   pub controllers : AllWithin (IsControllerOf m) comps m.l2.banks (length comps)
 

@@ -17,15 +17,15 @@ pub struct Bank {
     pub occupancy: u64,
     /// The cycle from which on it can serve the next event.
     pub free: Cycle,
-    pub ghost lookup_counts: { 1 ≤ lookup },
-    pub ghost remote_counts: { 1 ≤ remote },
-    pub ghost fill_counts: { 1 ≤ fill },
+    pub ghost lookup_at_least_one: { 1 ≤ lookup },
+    pub ghost remote_at_least_one: { 1 ≤ remote },
+    pub ghost fill_at_least_one: { 1 ≤ fill },
 }
 
 impl Component for Bank {
     ghost use Rattle.std.specs.Prelude.{◌+◌, max};
     ghost use Rattle.component.specs.ComponentStep.{bank_serves, bank_latency, bank_step, bank_greatest};
-    ghost use Rattle.component.specs.ComponentLaws.{bank_floor_counts, bank_floor_holds, bank_serves_stays, bank_floor_stays, bank_finish_counts};
+    ghost use Rattle.component.specs.ComponentLaws.{bank_floor_at_least_one, bank_floor_holds, bank_serves_stays, bank_floor_stays, bank_finish_within_greatest};
 
     ghost serves = { bank_serves };
 
@@ -58,7 +58,7 @@ impl Component for Bank {
         served + latency
     }
 
-    ghost floor_counts = { bank_floor_counts };
+    ghost floor_at_least_one = { bank_floor_at_least_one };
 
     ghost floor_holds = { bank_floor_holds };
 
@@ -66,5 +66,5 @@ impl Component for Bank {
 
     ghost floor_stays = { bank_floor_stays };
 
-    ghost finish_counts = { bank_finish_counts };
+    ghost finish_within_greatest = { bank_finish_within_greatest };
 }

@@ -26,7 +26,7 @@ impl Comp {
 
 impl Component for Comp {
     ghost use Rattle.component.specs.ComponentStep.{comp_serves, comp_latency, comp_step, comp_greatest};
-    ghost use Rattle.component.specs.ComponentLaws.{comp_floor_counts, comp_floor_holds, comp_serves_stays, comp_floor_stays, comp_finish_counts};
+    ghost use Rattle.component.specs.ComponentLaws.{comp_floor_at_least_one, comp_floor_holds, comp_serves_stays, comp_floor_stays, comp_finish_within_greatest};
 
     ghost serves = { comp_serves };
 
@@ -57,7 +57,7 @@ impl Component for Comp {
         }
     }
 
-    ghost floor_counts = { comp_floor_counts };
+    ghost floor_at_least_one = { comp_floor_at_least_one };
 
     ghost floor_holds = { comp_floor_holds };
 
@@ -65,5 +65,5 @@ impl Component for Comp {
 
     ghost floor_stays = { comp_floor_stays };
 
-    ghost finish_counts = { comp_finish_counts };
+    ghost finish_within_greatest = { comp_finish_within_greatest };
 }

@@ -15,13 +15,13 @@ pub struct Controller {
     pub occupancy: u64,
     /// The cycle from which on it can serve the next event.
     pub free: Cycle,
-    pub ghost read_counts: { 1 ≤ read },
-    pub ghost write_counts: { 1 ≤ write },
+    pub ghost read_at_least_one: { 1 ≤ read },
+    pub ghost write_at_least_one: { 1 ≤ write },
 }
 
 impl Component for Controller {
     ghost use Rattle.component.specs.ComponentStep.{controller_serves, controller_latency, controller_step, controller_greatest};
-    ghost use Rattle.component.specs.ComponentLaws.{controller_floor_counts, controller_floor_holds, controller_serves_stays, controller_floor_stays, controller_finish_counts};
+    ghost use Rattle.component.specs.ComponentLaws.{controller_floor_at_least_one, controller_floor_holds, controller_serves_stays, controller_floor_stays, controller_finish_within_greatest};
 
     ghost serves = { controller_serves };
 
@@ -53,7 +53,7 @@ impl Component for Controller {
         served + latency
     }
 
-    ghost floor_counts = { controller_floor_counts };
+    ghost floor_at_least_one = { controller_floor_at_least_one };
 
     ghost floor_holds = { controller_floor_holds };
 
@@ -61,5 +61,5 @@ impl Component for Controller {
 
     ghost floor_stays = { controller_floor_stays };
 
-    ghost finish_counts = { controller_finish_counts };
+    ghost finish_within_greatest = { controller_finish_within_greatest };
 }

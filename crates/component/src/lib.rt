@@ -1,22 +1,23 @@
-//! The components whose busy times the weave finds: banks of the shared cache and memory controllers.
+//! The components whose busy times the weave finds: the banks of the shared cache and the memory
+//! controllers.
 #![tactic(auto)]
 
 mod bank;
 mod comp;
+mod component;
 mod comps;
 mod controller;
+mod fresh;
 mod kind;
 pub mod laws;
-mod make;
-mod part;
 
 pub use bank::Bank;
 pub use comp::Comp;
+pub use component::Component;
 pub use comps::Comps;
 pub use controller::Controller;
+pub use fresh::components;
 pub use kind::Kind;
-pub use make::components;
-pub use part::Component;
 
 #[cfg(test)]
 mod tests;

@@ -1,53 +1,21 @@
-// What no clause says: worked cycles, and that the calls succeed.
+// What no clause says: worked cycles, and that the calls succeed, at the largest machine too.
 ghost use Rattle.std.specs.Prelude.{IfOk};
 ghost use Rattle.machine_desc.specs.Machine.{IsMachine};
 
 use crate::{Bank, Comp, Component, Comps, Controller, Kind, components};
-use machine_desc::{Controllers, Domains, L1, L2, Machine, Memory, Places};
+use machine_desc::{Machine, PLAIN, read};
 use std::alloc::Global;
 use std::test::Fail;
-use zs_num::NoMemory;
 
-/// One core, one bank and one controller.
-fn plain(alloc: Global) -> Result<Machine, NoMemory>
+/// The machine of the built-in text with each first word of a pair replaced by the second.
+fn edited(alloc: Global, edits: &[(&str, &str)]) -> Result<Machine, Fail>
     ensures { IfOk result IsMachine }
 {
-    Ok(Machine {
-        version: 1,
-        cores: 1,
-        interval: 10_000,
-        intervals: 100_000,
-        memory: Memory {
-            base: 65_536,
-            size: 1_048_576,
-            stack: 4_096,
-        },
-        l1: L1 {
-            sets: 2,
-            ways: 1,
-            latency: 1,
-        },
-        l2: L2 {
-            banks: 1,
-            sets: 4,
-            ways: 2,
-            latency: 10,
-            remote: 5,
-            fill: 2,
-            occupancy: 4,
-        },
-        controllers: Controllers {
-            count: 1,
-            read: 100,
-            write: 40,
-            occupancy: 20,
-        },
-        domains: Domains {
-            count: 2,
-            banks: Places::of(vec![in alloc; 0]?),
-            controllers: Places::of(vec![in alloc; 1]?),
-        },
-    })
+    let mut text = String::from_str(alloc, PLAIN)?;
+    for (old, new) in edits {
+        text = text.replacen(alloc, *old, *new, 1)?;
+    }
+    Ok(read(alloc, text.as_bytes())?)
 }
 
 #[test]
@@ -78,7 +46,7 @@ fn two_misses_at_once_wait_for_bank_and_controller(rt: HostRuntime) {
 
 #[test]
 fn the_plain_machine_has_a_bank_and_then_a_controller(rt: HostRuntime) -> Result<(), Fail> {
-    let machine = plain(rt.alloc())?;
+    let machine = edited(rt.alloc(), &[])?;
     let mut comps = components(rt.alloc(), &machine)?;
     let floors = [
         (0, Kind::Lookup, 10),
@@ -97,5 +65,36 @@ fn the_plain_machine_has_a_bank_and_then_a_controller(rt: HostRuntime) -> Result
     assert_eq!(rt; list.len(), 2);
     assert!(rt; !list[0].serves(Kind::Read) && !list[1].serves(Kind::Fill));
     assert_eq!(rt; Comps::of(list).as_slice().len(), 2);
+    Ok(())
+}
+
+/// 64 banks and 16 controllers.
+const MOST_COMPONENTS: [(&str, &str); 6] = [
+    ("sets = 2", "sets = 64"),
+    ("banks = 1", "banks = 64"),
+    ("sets = 4", "sets = 64"),
+    ("count = 1", "count = 16"),
+    (
+        "banks = [0]",
+        "banks = [
+            0, 0, 0, 0, 0, 0, 0, 0, 0, 0, 0, 0, 0, 0, 0, 0, 0, 0, 0, 0, 0, 0, 0, 0, 0, 0, 0, 0, 0, 0, 0, 0,
+            0, 0, 0, 0, 0, 0, 0, 0, 0, 0, 0, 0, 0, 0, 0, 0, 0, 0, 0, 0, 0, 0, 0, 0, 0, 0, 0, 0, 0, 0, 0, 0,
+        ]",
+    ),
+    (
+        "controllers = [1]",
+        "controllers = [1, 1, 1, 1, 1, 1, 1, 1, 1, 1, 1, 1, 1, 1, 1, 1]",
+    ),
+];
+
+#[test]
+fn the_largest_machine_has_80_components(rt: HostRuntime) -> Result<(), Fail> {
+    let machine = edited(rt.alloc(), &MOST_COMPONENTS)?;
+    let comps = components(rt.alloc(), &machine)?;
+    let list = comps.as_slice();
+    assert_eq!(rt; list.len(), 80);
+    for (number, is_bank) in [(0, true), (63, true), (64, false), (79, false)] {
+        assert_eq!(rt; matches!(list[number], Comp::Bank(_)), is_bank, "at {number}");
+    }
     Ok(())
 }

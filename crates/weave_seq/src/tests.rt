@@ -56,7 +56,7 @@ impl Component for Server {
         served + latency
     }
 
-    ghost floor_counts = { λ c kind s. elim kind as (λ k. 1 ≤ elim k [ Lookup ↦ 10 | Remote ↦ 15 | Fill ↦ 2 | Read ↦ 100 | Write ↦ 100 ]) [ Lookup ↦ Prim.omega arith | Remote ↦ Prim.omega arith | Fill ↦ Prim.omega arith | Read ↦ Prim.omega arith | Write ↦ Prim.omega arith ] };
+    ghost floor_at_least_one = { λ c kind s. elim kind as (λ k. 1 ≤ elim k [ Lookup ↦ 10 | Remote ↦ 15 | Fill ↦ 2 | Read ↦ 100 | Write ↦ 100 ]) [ Lookup ↦ Prim.omega arith | Remote ↦ Prim.omega arith | Fill ↦ Prim.omega arith | Read ↦ Prim.omega arith | Write ↦ Prim.omega arith ] };
 
     ghost floor_holds = { λ c kind start s. Prim.omega arith };
 
@@ -64,7 +64,7 @@ impl Component for Server {
 
     ghost floor_stays = { λ c kind start other s. refl };
 
-    ghost finish_counts = { λ c kind start s. elim kind as (λ k. max start c.free + elim k [ Lookup ↦ 10 | Remote ↦ 15 | Fill ↦ 2 | Read ↦ 100 | Write ↦ 100 ] ≤ max start c.free + (c.occupancy + 100)) [ Lookup ↦ Prim.omega arith | Remote ↦ Prim.omega arith | Fill ↦ Prim.omega arith | Read ↦ Prim.omega arith | Write ↦ Prim.omega arith ] };
+    ghost finish_within_greatest = { λ c kind start s. elim kind as (λ k. max start c.free + elim k [ Lookup ↦ 10 | Remote ↦ 15 | Fill ↦ 2 | Read ↦ 100 | Write ↦ 100 ] ≤ max start c.free + (c.occupancy + 100)) [ Lookup ↦ Prim.omega arith | Remote ↦ Prim.omega arith | Fill ↦ Prim.omega arith | Read ↦ Prim.omega arith | Write ↦ Prim.omega arith ] };
 }
 
 /// Whether the parent has a smaller number and a small delay.

@@ -1,4 +1,4 @@
-use Rattle.component.proofs.Fresh.{one_list}
+use Rattle.component.proofs.FreshAreOne.{one_list}
 use Rattle.component.proofs.laws.fresh_components_are_one.Goals as goal
 
 pub returns : goal.returns

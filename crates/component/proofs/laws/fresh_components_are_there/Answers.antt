@@ -1,4 +1,4 @@
-use Rattle.component.proofs.FreshThere.{fresh_there}
+use Rattle.component.proofs.FreshAreThere.{fresh_there}
 use Rattle.component.proofs.laws.fresh_components_are_there.Goals as goal
 
 pub returns : goal.returns

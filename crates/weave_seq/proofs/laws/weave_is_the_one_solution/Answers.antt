@@ -5,4 +5,4 @@ use Rattle.weave_seq.proofs.laws.weave_is_the_one_solution.Goals as goal
 pub returns : goal.returns
 returns g c =
     one_solution g.C.Component.serves g.C.Component.floor g.C.Component.stepped
-    (lawful_from g.C.Component.serves g.C.Component.floor g.C.Component.stepped g.met.C.Component.floor_counts g.met.C.Component.floor_holds g.met.C.Component.serves_stays)
+    (lawful_from g.C.Component.serves g.C.Component.floor g.C.Component.stepped g.met.C.Component.floor_at_least_one g.met.C.Component.floor_holds g.met.C.Component.serves_stays)

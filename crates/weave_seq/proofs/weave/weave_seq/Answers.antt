@@ -11,6 +11,6 @@ ready_events-requires-clause-small g c =
     subst (λ times. StartSmall c.events-events.result.now times) (sym (c.deref.ensures.value ∙ c.in_ok-times.ensures))
     (subst (λ events. StartSmall events (times_of events [])) (sym same)
     (small_at_first g.C.Component.serves g.C.Component.stepped g.C.Component.greatest c.args.g.now c.args.comps.now
-    (lawful_from g.C.Component.serves g.C.Component.floor g.C.Component.stepped g.met.C.Component.floor_counts g.met.C.Component.floor_holds g.met.C.Component.serves_stays)
-    g.met.C.Component.finish_counts c.events-events.ensures.numbered
+    (lawful_from g.C.Component.serves g.C.Component.floor g.C.Component.stepped g.met.C.Component.floor_at_least_one g.met.C.Component.floor_holds g.met.C.Component.serves_stays)
+    g.met.C.Component.finish_within_greatest c.events-events.ensures.numbered
     (served_from g.C.Component.serves g.C.Component.floor g.C.Component.stepped c.args.g.now c.args.comps.now c.requires.fits) c.requires.small))

@@ -8,6 +8,7 @@ use Rattle.std.proofs.Math.Seq.{get_or-append_right}
 use Rattle.machine_desc.specs.declared.machine.Machine.{Machine}
 use Rattle.machine_desc.specs.declared.machine.L2.{L2}
 use Rattle.machine_desc.specs.declared.machine.Controllers.{Controllers}
+use Rattle.machine_desc.specs.Components.{component_count}
 use Rattle.machine_desc.specs.Machine.{IsMachine, IsL2, IsControllers}
 use Rattle.component.specs.declared.bank.Bank.{Bank}
 use Rattle.component.specs.declared.controller.Controller.{Controller}
@@ -23,19 +24,19 @@ bank l2 ok = record {
   fill = l2.fill;
   occupancy = l2.occupancy;
   free = 0;
-  lookup_counts = ok.latency.0;
-  remote_counts = omega (arith, ok.latency.0);
-  fill_counts = ok.fill.0;
+  lookup_at_least_one = ok.latency.0;
+  remote_at_least_one = omega (arith, ok.latency.0);
+  fill_at_least_one = ok.fill.0;
 }
 
-abbrev controller : (all : Controllers) → IsControllers all → Controller
-controller all ok = record {
-  read = all.read;
-  write = all.write;
-  occupancy = all.occupancy;
+abbrev controller : (controllers : Controllers) → IsControllers controllers → Controller
+controller controllers ok = record {
+  read = controllers.read;
+  write = controllers.write;
+  occupancy = controllers.occupancy;
   free = 0;
-  read_counts = ok.read.0;
-  write_counts = ok.write.0;
+  read_at_least_one = ok.read.0;
+  write_at_least_one = ok.write.0;
 }
 
 -- what holds of the element that is repeated first, and of the one that is repeated behind it
@@ -56,7 +57,7 @@ fresh_there m ok =
     let a : Comp = ABank (bank m.l2 ok.l2) in
     let b : Comp = AController (controller m.controllers ok.controllers) in
     let comps : List Comp = replicate m.l2.banks a ++ replicate m.controllers.count b in
-    let long : length comps ≡ m.l2.banks + m.controllers.count = omega (arith, length-append (replicate m.l2.banks a) (replicate m.controllers.count b), length-replicate m.l2.banks a, length-replicate m.controllers.count b) in
+    let long : length comps ≡ component_count m = omega (arith, length-append (replicate m.l2.banks a) (replicate m.controllers.count b), length-replicate m.l2.banks a, length-replicate m.controllers.count b) in
     let free : Comp → Type 0 = λ c. free_of c ≡ 0 in (
       comps,
       record {

@@ -5,7 +5,7 @@ ghost use Rattle.component.specs.declared.kind.Kind.{Kind};
 use crate::Kind;
 use zs_num::Cycle;
 
-/// A part of the machine that serves events one after the other.
+/// What serves events one after the other, as a bank, a controller or a link does.
 pub trait Component: Drop {
     /// Which kinds it serves.
     ghost serves: { Self → Kind → Bool };
@@ -28,23 +28,28 @@ pub trait Component: Drop {
         requires { IsTrue (serves self.now kind) }
         ensures { result ≡ floor self.now kind };
 
-    /// Serves an event, and answers its finish.
+    /// Serves an event that starts at this cycle, and answers the cycle of its finish.
     fn step(&mut self, kind: Kind, start: Cycle) -> Cycle
         requires serves { IsTrue (serves self.old kind) }
         requires small { greatest self.old kind start ≤ 2 ^ 62 }
         ensures { (self.new, result) ≡ stepped self.old kind start };
 
     /// A floor is a cycle at least.
-    ghost floor_counts: { (c : Self) (kind : Kind) → IsTrue (serves c kind) → 1 ≤ floor c kind };
+    ghost floor_at_least_one: { (c : Self) (kind : Kind) → IsTrue (serves c kind)
+        → 1 ≤ floor c kind };
 
     /// No event finishes before its start and the floor.
-    ghost floor_holds: { (c : Self) (kind : Kind) (start : ℕ) → IsTrue (serves c kind) → start + floor c kind ≤ (stepped c kind start).1 };
+    ghost floor_holds: { (c : Self) (kind : Kind) (start : ℕ) → IsTrue (serves c kind)
+        → start + floor c kind ≤ (stepped c kind start).1 };
 
     /// A step changes neither what is served nor the floors.
-    ghost serves_stays: { (c : Self) (kind : Kind) (start : ℕ) (other : Kind) → IsTrue (serves c kind) → serves (stepped c kind start).0 other ≡ serves c other };
+    ghost serves_stays: { (c : Self) (kind : Kind) (start : ℕ) (other : Kind)
+        → IsTrue (serves c kind) → serves (stepped c kind start).0 other ≡ serves c other };
 
-    ghost floor_stays: { (c : Self) (kind : Kind) (start : ℕ) (other : Kind) → IsTrue (serves c kind) → floor (stepped c kind start).0 other ≡ floor c other };
+    ghost floor_stays: { (c : Self) (kind : Kind) (start : ℕ) (other : Kind)
+        → IsTrue (serves c kind) → floor (stepped c kind start).0 other ≡ floor c other };
 
-    /// The finish is one of the sums.
-    ghost finish_counts: { (c : Self) (kind : Kind) (start : ℕ) → IsTrue (serves c kind) → (stepped c kind start).1 ≤ greatest c kind start };
+    /// The finish is no more than the greatest sum.
+    ghost finish_within_greatest: { (c : Self) (kind : Kind) (start : ℕ) → IsTrue (serves c kind)
+        → (stepped c kind start).1 ≤ greatest c kind start };
 }

@@ -2,7 +2,7 @@ use Rattle.std.proofs.Common.{◌≡◌, ◌+◌, length}
 use Rattle.std.specs.List.{All, AllWithin}
 use Rattle.component.specs.ComponentStep.{free_of}
 use Rattle.component.specs.Components.{IsBankOf, IsControllerOf}
-use Rattle.component.proofs.make.components.Given as goal
+use Rattle.component.proofs.fresh.components.Given as goal
 
 abbrev pub invariant-banks : goal.invariant-banks
 invariant-banks l =
