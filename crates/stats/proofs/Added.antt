@@ -1,15 +1,21 @@
 -- The counts with an interval more, from what is true of each core and of each component.
-use Rattle.std.proofs.Common.{◌≡◌, ◌+◌, ◌<◌, ℕ, List, [], ◌∷◌, length, get_or, map, slice_index, refl, ap, ◌∙◌, sym, subst, arith, zero-add}
-use Rattle.std.specs.List.{zip, enumerate_from}
+use Rattle.std.proofs.Common.{◌≡◌, ◌+◌, ◌<◌, ℕ, List, [], ◌∷◌, ◌==◌, length, get_or, map, slice_index, refl, ap, ◌∙◌, sym, subst, arith, zero-add}
+use Rattle.std.specs.List.{zip, enumerate_from, filter, fold}
+use Rattle.std.proofs.lemmas.List.Folds.{fold-map}
 use Rattle.std.proofs.lemmas.List.{length-map, same_lists, get_or-map}
 use Rattle.std.proofs.lemmas.List.FromFn.{length-enumerate_from, get_or-enumerate_from}
 use Rattle.std.proofs.lemmas.Slice.Zip.{length-zip, get_or-zip}
+use Rattle.zs_num.specs.declared.entry.Entry.{Entry}
+use Rattle.event_graph.specs.declared.event.Event.{Event}
+use Rattle.event_graph.specs.declared.fired.Fired.{Fired}
 use Rattle.component.specs.declared.comp.Comp.{Comp}
 use Rattle.component.specs.ComponentStep.{free_of}
 use Rattle.stats.specs.declared.counts.CoreCount.{CoreCount}
 use Rattle.stats.specs.declared.counts.CompCount.{CompCount}
-use Rattle.stats.specs.Counts.{Interval, Counts, CoreFits, CompFits, Fits, added, core_after, comp_after}
+use Rattle.stats.specs.Counted.{core_plus, entry_count, delay_count, no_core_count, comp_plus, event_count, no_comp_count}
+use Rattle.stats.specs.Counts.{Interval, Counts, CoreFits, CompFits, Fits, added, core_in, core_after, comp_in, comp_after}
 use Rattle.stats.specs.Passes.{with_accesses, with_delay, with_events, with_free}
+use Rattle.stats.proofs.Plus.{core_plus-assoc, core_plus-none, comp_plus-assoc, comp_plus-none, plus-fold}
 
 -- a list made of another's elements and their numbers
 length_numbered : {X Y : Type 0} (f : ℕ × X → Y) (xs : List X) → length (map f (enumerate_from 0 xs)) ≡ length xs
@@ -23,14 +29,14 @@ at_number {X} f xs n d z below =
     ∙ ap (λ (k : ℕ). f (k, get_or xs n d)) (zero-add n)
 
 -- there are as many counts as before
-pub as_many_cores : (first : Counts) (i : Interval) (parts : List Comp) → length (added first i parts).cores ≡ length first.cores
+pub as_many_cores : (first : Counts) (i : Interval) (comps : List Comp) → length (added first i comps).core_counts ≡ length first.core_counts
 unfolding added
-as_many_cores first i parts = length_numbered (λ at'. core_after i at'.0 at'.1) first.cores
+as_many_cores first i comps = length_numbered (λ at'. core_after i at'.0 at'.1) first.core_counts
 
-pub as_many_comps : (first : Counts) (i : Interval) (parts : List Comp) → length parts ≡ length first.comps → length (added first i parts).comps ≡ length first.comps
+pub as_many_comps : (first : Counts) (i : Interval) (comps : List Comp) → length comps ≡ length first.comp_counts → length (added first i comps).comp_counts ≡ length first.comp_counts
 unfolding added
-as_many_comps first i parts same =
-    omega (arith, length_numbered (λ at'. comp_after i at'.0 at'.1.0 at'.1.1) (zip first.comps parts), length-zip first.comps parts)
+as_many_comps first i comps same =
+    omega (arith, length_numbered (λ at'. comp_after i at'.0 at'.1.0 at'.1.1) (zip first.comp_counts comps), length-zip first.comp_counts comps)
 
 -- an element of a list that has one
 one_of : {X : Type 0} (xs : List X) (n : ℕ) → n < length xs → X
@@ -43,40 +49,53 @@ module _ (i : Interval) where
   core_next c n = with_accesses (with_delay c (slice_index i.delays n)) n i.entries
 
   abbrev comp_next : CompCount → (n : ℕ) → CompCount
-  comp_next c n = with_events c n i.events (zip i.events i.fired)
+  comp_next c n = with_events c n (zip i.events i.fired)
 
   core_is : (c : CoreCount) (n : ℕ) → core_next c n ≡ core_after i n c
   unfolding with_accesses
-  core_is c n = refl
+  core_is c n =
+      let own : List Entry = filter (λ e. e.core == n) i.entries in
+      let delay : CoreCount = delay_count (slice_index i.delays n) in
+      sym (fold-map core_plus entry_count (core_plus c delay) own)
+      ∙ ap (λ (x : CoreCount). fold core_plus x (map entry_count own)) (sym (core_plus-none c delay))
+      ∙ sym (plus-fold core_plus core_plus-assoc c (core_plus no_core_count delay) (map entry_count own))
+
+  counted_in : (c : CompCount) (n : ℕ) → comp_next c n ≡ comp_plus c (comp_in i n)
+  unfolding with_events
+  counted_in c n =
+      let own : List (Event × Fired) = filter (λ x. x.0.component == n) (zip i.events i.fired) in
+      sym (fold-map comp_plus event_count c own)
+      ∙ ap (λ (x : CompCount). fold comp_plus x (map event_count own)) (sym (comp_plus-none c))
+      ∙ sym (plus-fold comp_plus comp_plus-assoc c no_comp_count (map event_count own))
 
   comp_is : (c : CompCount) (n : ℕ) (after : Comp) → with_free (comp_next c n) (free_of after) ≡ comp_after i n c after
-  unfolding with_events
-  comp_is c n after = refl
+  comp_is c n after = ap (λ (x : CompCount). with_free x (free_of after)) (counted_in c n)
 
   -- each sum fits where the sums do
-  pub core_fits : (first : Counts) (parts : List Comp) → Fits (added first i parts)
-      → (n : ℕ) (d : CoreCount) → n < length first.cores → CoreFits (core_next (get_or first.cores n d) n)
+  pub core_fits : (first : Counts) (comps : List Comp) → Fits (added first i comps)
+      → (n : ℕ) (d : CoreCount) → n < length first.core_counts → CoreFits (core_next (get_or first.core_counts n d) n)
   unfolding added
-  core_fits first parts fits n d below =
+  core_fits first comps fits n d below =
       let f : ℕ × CoreCount → CoreCount = λ at'. core_after i at'.0 at'.1 in
-      let there : n < length (map f (enumerate_from 0 first.cores)) = omega (arith, length_numbered f first.cores) in
-      subst CoreFits (at_number f first.cores n d d below ∙ sym (core_is (get_or first.cores n d) n)) (fits.cores n d there)
+      let there : n < length (map f (enumerate_from 0 first.core_counts)) = omega (arith, length_numbered f first.core_counts) in
+      subst CoreFits (at_number f first.core_counts n d d below ∙ sym (core_is (get_or first.core_counts n d) n)) (fits.core_counts n d there)
 
-  pub comp_fits : (first : Counts) (parts : List Comp) → length parts ≡ length first.comps → Fits (added first i parts)
-      → (n : ℕ) (d : CompCount) → n < length first.comps → CompFits (comp_next (get_or first.comps n d) n)
-  unfolding added with_events
-  comp_fits first parts same fits n d below =
+  pub comp_fits : (first : Counts) (comps : List Comp) → length comps ≡ length first.comp_counts → Fits (added first i comps)
+      → (n : ℕ) (d : CompCount) → n < length first.comp_counts → CompFits (comp_next (get_or first.comp_counts n d) n)
+  unfolding added
+  comp_fits first comps same fits n d below =
       let f : ℕ × (CompCount × Comp) → CompCount = λ at'. comp_after i at'.0 at'.1.0 at'.1.1 in
-      let inside : n < length parts = omega arith in
-      let c : Comp = one_of parts n inside in
-      let within : n < length (zip first.comps parts) = omega (arith, length-zip first.comps parts) in
-      let there : n < length (map f (enumerate_from 0 (zip first.comps parts))) = omega (arith, length_numbered f (zip first.comps parts)) in
-      let all : CompFits (comp_after i n (get_or first.comps n d) (get_or parts n c)) =
+      let inside : n < length comps = omega arith in
+      let c : Comp = one_of comps n inside in
+      let within : n < length (zip first.comp_counts comps) = omega (arith, length-zip first.comp_counts comps) in
+      let there : n < length (map f (enumerate_from 0 (zip first.comp_counts comps))) = omega (arith, length_numbered f (zip first.comp_counts comps)) in
+      let all : CompFits (comp_after i n (get_or first.comp_counts n d) (get_or comps n c)) =
       subst CompFits
-      (at_number f (zip first.comps parts) n (d, c) d within ∙ ap (λ (x : CompCount × Comp). f (n, x)) (get_or-zip first.comps parts n (d, c) below inside))
-      (fits.comps n d there)
+      (at_number f (zip first.comp_counts comps) n (d, c) d within ∙ ap (λ (x : CompCount × Comp). f (n, x)) (get_or-zip first.comp_counts comps n (d, c) below inside))
+      (fits.comp_counts n d there)
       in
-      record { events = all.events; waited = all.waited }
+      let sums : CompFits (comp_plus (get_or first.comp_counts n d) (comp_in i n)) = record { events = all.events; waited = all.waited } in
+      subst CompFits (sym (counted_in (get_or first.comp_counts n d) n)) sums
 
   -- the counts of all
   cores_added : (first now : List CoreCount) → length now ≡ length first
@@ -89,31 +108,31 @@ module _ (i : Interval) where
       let there : n < length first = omega arith in
       each n d there ∙ core_is (get_or first n d) n ∙ sym (at_number f first n d d there))
 
-  comps_added : (first now : List CompCount) (parts : List Comp) → length now ≡ length first → length parts ≡ length first
-      → ((n : ℕ) (d : CompCount) (c : Comp) → n < length first → get_or now n d ≡ with_free (comp_next (get_or first n d) n) (free_of (get_or parts n c)))
-      → now ≡ map (λ at'. comp_after i at'.0 at'.1.0 at'.1.1) (enumerate_from 0 (zip first parts))
-  comps_added first now parts long same each =
+  comps_added : (first now : List CompCount) (comps : List Comp) → length now ≡ length first → length comps ≡ length first
+      → ((n : ℕ) (d : CompCount) (c : Comp) → n < length first → get_or now n d ≡ with_free (comp_next (get_or first n d) n) (free_of (get_or comps n c)))
+      → now ≡ map (λ at'. comp_after i at'.0 at'.1.0 at'.1.1) (enumerate_from 0 (zip first comps))
+  comps_added first now comps long same each =
       let f : ℕ × (CompCount × Comp) → CompCount = λ at'. comp_after i at'.0 at'.1.0 at'.1.1 in
-      let paired : length (zip first parts) ≡ length first = omega (arith, length-zip first parts) in
-      same_lists now (map f (enumerate_from 0 (zip first parts))) (long ∙ sym paired ∙ sym (length_numbered f (zip first parts)))
+      let paired : length (zip first comps) ≡ length first = omega (arith, length-zip first comps) in
+      same_lists now (map f (enumerate_from 0 (zip first comps))) (long ∙ sym paired ∙ sym (length_numbered f (zip first comps)))
       (λ n d below.
       let there : n < length first = omega arith in
-      let inside : n < length parts = omega arith in
-      let within : n < length (zip first parts) = omega arith in
-      let c : Comp = one_of parts n inside in
+      let inside : n < length comps = omega arith in
+      let within : n < length (zip first comps) = omega arith in
+      let c : Comp = one_of comps n inside in
       each n d c there
-      ∙ comp_is (get_or first n d) n (get_or parts n c)
-      ∙ ap (λ (x : CompCount × Comp). f (n, x)) (sym (get_or-zip first parts n (d, c) there inside))
-      ∙ sym (at_number f (zip first parts) n (d, c) d within))
+      ∙ comp_is (get_or first n d) n (get_or comps n c)
+      ∙ ap (λ (x : CompCount × Comp). f (n, x)) (sym (get_or-zip first comps n (d, c) there inside))
+      ∙ sym (at_number f (zip first comps) n (d, c) d within))
 
-  pub counts_added : (first : Counts) (cores : List CoreCount) (comps : List CompCount) (parts : List Comp)
-      → length cores ≡ length first.cores → ((n : ℕ) (d : CoreCount) → n < length first.cores → get_or cores n d ≡ core_next (get_or first.cores n d) n)
-      → length comps ≡ length first.comps → length parts ≡ length first.comps
-      → ((n : ℕ) (d : CompCount) (c : Comp) → n < length first.comps → get_or comps n d ≡ with_free (comp_next (get_or first.comps n d) n) (free_of (get_or parts n c)))
-      → (let all : Counts = record { cores = cores; comps = comps; accesses = first.accesses + length i.entries; events = first.events + length i.events } in all) ≡ added first i parts
+  pub counts_added : (first : Counts) (cores : List CoreCount) (counts : List CompCount) (comps : List Comp)
+      → length cores ≡ length first.core_counts → ((n : ℕ) (d : CoreCount) → n < length first.core_counts → get_or cores n d ≡ core_next (get_or first.core_counts n d) n)
+      → length counts ≡ length first.comp_counts → length comps ≡ length first.comp_counts
+      → ((n : ℕ) (d : CompCount) (c : Comp) → n < length first.comp_counts → get_or counts n d ≡ with_free (comp_next (get_or first.comp_counts n d) n) (free_of (get_or comps n c)))
+      → (let all : Counts = record { core_counts = cores; comp_counts = counts; accesses = first.accesses + length i.entries; events = first.events + length i.events } in all) ≡ added first i comps
   unfolding added
-  counts_added first cores comps parts long each as_long same each_comp =
-      let cores_are : cores ≡ map (λ at'. core_after i at'.0 at'.1) (enumerate_from 0 first.cores) = cores_added first.cores cores long each in
-      let comps_are : comps ≡ map (λ at'. comp_after i at'.0 at'.1.0 at'.1.1) (enumerate_from 0 (zip first.comps parts)) = comps_added first.comps comps parts as_long same each_comp in
-      ap (λ (xs : List CoreCount). let all : Counts = record { cores = xs; comps = comps; accesses = first.accesses + length i.entries; events = first.events + length i.events } in all) cores_are
-      ∙ ap (λ (xs : List CompCount). let all : Counts = record { cores = map (λ at'. core_after i at'.0 at'.1) (enumerate_from 0 first.cores); comps = xs; accesses = first.accesses + length i.entries; events = first.events + length i.events } in all) comps_are
+  counts_added first cores counts comps long each as_long same each_comp =
+      let cores_are : cores ≡ map (λ at'. core_after i at'.0 at'.1) (enumerate_from 0 first.core_counts) = cores_added first.core_counts cores long each in
+      let counts_are : counts ≡ map (λ at'. comp_after i at'.0 at'.1.0 at'.1.1) (enumerate_from 0 (zip first.comp_counts comps)) = comps_added first.comp_counts counts comps as_long same each_comp in
+      ap (λ (xs : List CoreCount). let all : Counts = record { core_counts = xs; comp_counts = counts; accesses = first.accesses + length i.entries; events = first.events + length i.events } in all) cores_are
+      ∙ ap (λ (xs : List CompCount). let all : Counts = record { core_counts = map (λ at'. core_after i at'.0 at'.1) (enumerate_from 0 first.core_counts); comp_counts = xs; accesses = first.accesses + length i.entries; events = first.events + length i.events } in all) counts_are

@@ -1,5 +1,6 @@
-mod AccessSteps
 mod Added
-mod EventSteps
+mod Events
+mod Plus
+mod Steps
 mod Sums
 mod SumsFit

@@ -1,47 +1,40 @@
 -- The counts of a run and of the run with an interval more, and those of a run without intervals.
 use Rattle.std.proofs.Common.{◌≡◌, ◌+◌, ℕ, zero, suc, List, [], ◌∷◌, ◌++◌, length, map, replicate, refl, ap, ◌∙◌, sym, arith}
-use Rattle.std.specs.List.{All, zip, enumerate_from, range_with_len}
+use Rattle.std.specs.List.{All, zip, enumerate_from, range_with_len, fold}
+use Rattle.std.proofs.lemmas.List.{map-append}
 use Rattle.std.proofs.lemmas.List.Elements.{All-head, All-tail}
-use Rattle.std.proofs.lemmas.List.Sums.{sum_by_push}
+use Rattle.std.proofs.lemmas.List.Sums.{sum_by_push, fold_push}
 use Rattle.machine_desc.specs.declared.machine.Machine.{Machine}
 use Rattle.component.specs.declared.comp.Comp.{Comp}
 use Rattle.component.specs.ComponentStep.{free_of}
 use Rattle.component.specs.Components.{AreFresh}
 use Rattle.stats.specs.declared.counts.CoreCount.{CoreCount}
 use Rattle.stats.specs.declared.counts.CompCount.{CompCount}
-use Rattle.stats.specs.Counts.{Interval, Counts, added, counts_of, core_in, core_total, core_after, comp_total, comp_after, events_in, waited_in, no_core_count, no_comp_count, no_counts}
-use Rattle.stats.proofs.AccessSteps.{same_count as same_core_count}
-use Rattle.stats.proofs.EventSteps.{same_count as same_comp_count}
+use Rattle.stats.specs.Counted.{core_plus, comp_plus, no_core_count, no_comp_count}
+use Rattle.stats.specs.Counts.{Interval, Counts, added, counts_of, core_in, core_total, core_after, comp_in, comp_total, comp_after, no_counts}
+use Rattle.stats.proofs.Plus.{same_comp}
 
 -- the counts of these
-abbrev all : List CoreCount → List CompCount → (accesses events : ℕ) → Counts
-all cores comps accesses events = record { cores = cores; comps = comps; accesses = accesses; events = events }
+abbrev counts : List CoreCount → List CompCount → (accesses events : ℕ) → Counts
+counts cores comps accesses events = record { core_counts = cores; comp_counts = comps; accesses = accesses; events = events }
 
--- counts of the same parts are the same
-same_counts : (a b : Counts) → a.cores ≡ b.cores → a.comps ≡ b.comps → a.accesses ≡ b.accesses → a.events ≡ b.events → a ≡ b
+-- counts with the same fields are the same
+same_counts : (a b : Counts) → a.core_counts ≡ b.core_counts → a.comp_counts ≡ b.comp_counts → a.accesses ≡ b.accesses → a.events ≡ b.events → a ≡ b
 same_counts a b cores comps accesses events =
-    let same : all a.cores a.comps a.accesses a.events ≡ all b.cores b.comps b.accesses b.events = cc in
+    let same : counts a.core_counts a.comp_counts a.accesses a.events ≡ counts b.core_counts b.comp_counts b.accesses b.events = cc in
     same
 
 module _ (intervals : List Interval) (i : Interval) where
   core_more : (n : ℕ) → core_after i n (core_total intervals n) ≡ core_total (intervals ++ i ∷ []) n
   core_more n =
-      same_core_count _ _
-      (sym (sum_by_push (λ (x : Interval). (core_in x n).delay) intervals i))
-      (sym (sum_by_push (λ (x : Interval). (core_in x n).loads) intervals i))
-      (sym (sum_by_push (λ (x : Interval). (core_in x n).stores) intervals i))
-      (sym (sum_by_push (λ (x : Interval). (core_in x n).atomics) intervals i))
-      (sym (sum_by_push (λ (x : Interval). (core_in x n).hits) intervals i))
-      (sym (sum_by_push (λ (x : Interval). (core_in x n).upgrades) intervals i))
-      (sym (sum_by_push (λ (x : Interval). (core_in x n).l2hits) intervals i))
-      (sym (sum_by_push (λ (x : Interval). (core_in x n).misses) intervals i))
+      let of : Interval → CoreCount = λ x. core_in x n in
+      sym (ap (fold core_plus no_core_count) (map-append of intervals (i ∷ [])) ∙ fold_push core_plus no_core_count (map of intervals) (of i))
 
   comp_more : (n : ℕ) (before after : Comp) → comp_after i n (comp_total intervals n before) after ≡ comp_total (intervals ++ i ∷ []) n after
   comp_more n before after =
-      same_comp_count _ _
-      (sym (sum_by_push (λ (x : Interval). events_in x n) intervals i))
-      (sym (sum_by_push (λ (x : Interval). waited_in x n) intervals i))
-      refl
+      let of : Interval → CompCount = λ x. comp_in x n in
+      let sums = ap (fold comp_plus no_comp_count) (map-append of intervals (i ∷ [])) ∙ fold_push comp_plus no_comp_count (map of intervals) (of i) in
+      sym (ap (λ (c : CompCount). let with_free : CompCount = record c { free = free_of after } in with_free) sums)
 
   -- all cores from number a on, and all components
   cores_more : (a n : ℕ) → map (λ at'. core_after i at'.0 at'.1) (enumerate_from a (map (core_total intervals) (range_with_len a n)))
@@ -74,7 +67,7 @@ no_comps : (a : ℕ) (comps : List Comp) → All (λ c. free_of c ≡ 0) comps
     → map (λ at'. comp_total [] at'.0 at'.1) (enumerate_from a comps) ≡ replicate (length comps) no_comp_count
 no_comps a [] free = refl
 no_comps a (c ∷ cs) free =
-    let one : comp_total [] a c ≡ no_comp_count = same_comp_count _ _ refl refl (All-head (λ x. free_of x ≡ 0) c cs free) in
+    let one : comp_total [] a c ≡ no_comp_count = same_comp _ _ refl refl (All-head (λ x. free_of x ≡ 0) c cs free) in
     let rest = no_comps (a + 1) cs (All-tail (λ x. free_of x ≡ 0) c cs free) in
     cc
 

@@ -1,6 +1,6 @@
 // The counters of a run.
-use crate::comps::add_to_comps;
-use crate::cores::add_to_cores;
+use crate::comp_counts::add_to_comp_counts;
+use crate::core_counts::add_to_core_counts;
 use crate::{CompCount, CoreCount};
 use component::{Comp, Comps};
 use event_graph::{FiredList, Graph};
@@ -13,8 +13,8 @@ use zs_num::{Entries, NoMemory};
 /// What was counted so far, by the numbers of the cores and of the components.
 #[derive(Debug, Drop)]
 pub struct Counters {
-    cores: Vec<CoreCount>,
-    comps: Vec<CompCount>,
+    core_counts: Vec<CoreCount>,
+    comp_counts: Vec<CompCount>,
     accesses: u64,
     events: u64,
 }
@@ -24,7 +24,12 @@ impl Model for Counters {
 
     ghost Value = { Counts };
 
-    ghost view = { λ c. record { cores = c.cores.items; comps = c.comps.items; accesses = c.accesses; events = c.events } };
+    ghost view = { λ c. record {
+        core_counts = c.core_counts.items;
+        comp_counts = c.comp_counts.items;
+        accesses = c.accesses;
+        events = c.events
+    } };
 }
 
 impl Counters {
@@ -39,8 +44,8 @@ impl Counters {
         ensures { IfOk result (λ c. c ≡ no_counts m.now) }
     {
         Ok(Counters {
-            cores: vec![in alloc; NO_CORE_COUNT; usize::from(m.cores)]?,
-            comps: vec![in alloc; NO_COMP_COUNT; usize::from(component_count(m))]?,
+            core_counts: vec![in alloc; NO_CORE_COUNT; usize::from(m.cores)]?,
+            comp_counts: vec![in alloc; NO_COMP_COUNT; usize::from(component_count(m))]?,
             accesses: 0,
             events: 0,
         })
@@ -56,17 +61,21 @@ impl Counters {
         d: &Delays,
         comps: &Comps<Comp>,
     )
-        requires cores { All (λ e. e.core < length self.old.cores) entries.now }
-        requires comps { All (λ e. e.component < length self.old.comps) g.now }
-        requires delays { length d.now ≡ length self.old.cores }
-        requires parts { length comps.now ≡ length self.old.comps }
+        requires cores { All (λ e. e.core < length self.old.core_counts) entries.now }
+        requires components { All (λ e. e.component < length self.old.comp_counts) g.now }
+        requires delays { length d.now ≡ length self.old.core_counts }
+        requires comps { length comps.now ≡ length self.old.comp_counts }
         requires timely { AreTimely g.now fired.now }
-        requires fits { Fits (added self.old (record { entries = entries.now; events = g.now; fired = fired.now; delays = d.now }) comps.now) }
-        ensures { self.new ≡ added self.old (record { entries = entries.now; events = g.now; fired = fired.now; delays = d.now }) comps.now }
+        requires fits { Fits (added self.old
+            (record { entries = entries.now; events = g.now; fired = fired.now; delays = d.now })
+            comps.now) }
+        ensures { self.new ≡ added self.old
+            (record { entries = entries.now; events = g.now; fired = fired.now; delays = d.now })
+            comps.now }
     {
-        add_to_cores(&mut self.cores, entries.as_slice(), d.as_slice());
-        add_to_comps(
-            &mut self.comps,
+        add_to_core_counts(&mut self.core_counts, entries.as_slice(), d.as_slice());
+        add_to_comp_counts(
+            &mut self.comp_counts,
             g.events(),
             fired.as_slice(),
             comps.as_slice(),
@@ -77,25 +86,25 @@ impl Counters {
 
     /// What was counted of a core.
     pub fn core(&self, n: u16) -> CoreCount
-        requires { n < length self.now.cores }
-        ensures { slice_get self.now.cores n ≡ Some result }
+        requires { n < length self.now.core_counts }
+        ensures { slice_get self.now.core_counts n ≡ Some result }
     {
-        self.cores[usize::from(n)]
+        self.core_counts[usize::from(n)]
     }
 
     /// What was counted of the components, in order of their numbers.
-    pub fn comps(&self) -> &[CompCount]
-        ensures { result.now ≡ self.now.comps }
+    pub fn comp_counts(&self) -> &[CompCount]
+        ensures { result.now ≡ self.now.comp_counts }
     {
-        &self.comps
+        &self.comp_counts
     }
 
     /// What was counted of a component.
     pub fn comp(&self, n: u16) -> CompCount
-        requires { n < length self.now.comps }
-        ensures { slice_get self.now.comps n ≡ Some result }
+        requires { n < length self.now.comp_counts }
+        ensures { slice_get self.now.comp_counts n ≡ Some result }
     {
-        self.comps[usize::from(n)]
+        self.comp_counts[usize::from(n)]
     }
 
     /// How many accesses there were.

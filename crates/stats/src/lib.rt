@@ -1,8 +1,8 @@
 //! The counters of a run: sums over the accesses and events of its intervals.
 #![tactic(auto)]
 
-mod comps;
-mod cores;
+mod comp_counts;
+mod core_counts;
 mod counters;
 mod counts;
 pub mod laws;

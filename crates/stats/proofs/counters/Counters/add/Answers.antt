@@ -6,19 +6,19 @@ use Rattle.stats.specs.Counts.{Counts, Fits, Interval, added}
 use Rattle.stats.proofs.Added.{core_fits, comp_fits, counts_added}
 use Rattle.stats.proofs.counters.Counters.add.Goals as goal
 
-pub add_to_cores-requires-clause-fits : goal.add_to_cores-requires-clause-fits
-add_to_cores-requires-clause-fits c =
+pub add_to_core_counts-requires-clause-fits : goal.add_to_core_counts-requires-clause-fits
+add_to_core_counts-requires-clause-fits c =
     let i : Interval = record { entries = c.args.entries.now; events = c.args.g.now; fired = c.args.fired.now; delays = c.args.d.now } in
-    let first : Counts = record { cores = c.self.inside.cores.items; comps = c.self.inside.comps.items; accesses = c.self.inside.accesses; events = c.self.inside.events } in
+    let first : Counts = record { core_counts = c.self.inside.core_counts.items; comp_counts = c.self.inside.comp_counts.items; accesses = c.self.inside.accesses; events = c.self.inside.events } in
     let fits : Fits (added first i c.args.comps.now) = subst (λ (v : Counts). Fits (added v i c.args.comps.now)) (sym c.self.view_is) c.requires.fits in
     rw (c.deref_mut.ensures.value, c.as_slice.ensures, c.as_slice-2.ensures) (core_fits i first c.args.comps.now fits)
 
-pub add_to_comps-requires-clause-fits : goal.add_to_comps-requires-clause-fits
-add_to_comps-requires-clause-fits c =
+pub add_to_comp_counts-requires-clause-fits : goal.add_to_comp_counts-requires-clause-fits
+add_to_comp_counts-requires-clause-fits c =
     let i : Interval = record { entries = c.args.entries.now; events = c.args.g.now; fired = c.args.fired.now; delays = c.args.d.now } in
-    let first : Counts = record { cores = c.self.inside.cores.items; comps = c.self.inside.comps.items; accesses = c.self.inside.accesses; events = c.self.inside.events } in
+    let first : Counts = record { core_counts = c.self.inside.core_counts.items; comp_counts = c.self.inside.comp_counts.items; accesses = c.self.inside.accesses; events = c.self.inside.events } in
     let fits : Fits (added first i c.args.comps.now) = subst (λ (v : Counts). Fits (added v i c.args.comps.now)) (sym c.self.view_is) c.requires.fits in
-    let same : length c.args.comps.now ≡ length first.comps = c.requires.parts ∙ ap (λ (v : Counts). length v.comps) (sym c.self.view_is) in
+    let same : length c.args.comps.now ≡ length first.comp_counts = c.requires.comps ∙ ap (λ (v : Counts). length v.comp_counts) (sym c.self.view_is) in
     rw (c.deref_mut-2.ensures.value, c.events.ensures.events, c.as_slice-3.ensures) (comp_fits i first c.args.comps.now same fits)
 
 pub overflow_add-self : goal.overflow_add-self
@@ -40,15 +40,15 @@ overflow_add-self-2 c =
 pub returns : goal.returns
 returns c =
     let i : Interval = record { entries = c.args.entries.now; events = c.args.g.now; fired = c.args.fired.now; delays = c.args.d.now } in
-    let first : Counts = record { cores = c.self.inside.cores.items; comps = c.self.inside.comps.items; accesses = c.self.inside.accesses; events = c.self.inside.events } in
-    let parts : List Comp = c.args.comps.now in
-    let same : length parts ≡ length first.comps = c.requires.parts ∙ ap (λ (v : Counts). length v.comps) (sym c.self.view_is) in
-    let long : length c.add_to_cores.new.cores ≡ length first.cores = c.add_to_cores.auto.cores ∙ ap length c.deref_mut.ensures.value in
-    let as_long : length c.add_to_comps.new.comps ≡ length first.comps = c.add_to_comps.auto.comps ∙ ap length c.deref_mut-2.ensures.value in
-    let cores = rw (c.deref_mut.ensures.value, c.as_slice.ensures, c.as_slice-2.ensures) at c.add_to_cores.ensures in
-    let comps = rw (c.deref_mut-2.ensures.value, c.events.ensures.events, c.as_slice-3.ensures, c.as_slice-4.ensures) at c.add_to_comps.ensures in
-    let cores_are : (with_items c.self.inside.cores c.add_to_cores.new.cores).items ≡ c.add_to_cores.new.cores = with_items_is c.self.inside.cores c.add_to_cores.new.cores (omega (arith, long, c.self.inside.cores.ok.0)) in
-    let comps_are : (with_items c.self.inside.comps c.add_to_comps.new.comps).items ≡ c.add_to_comps.new.comps = with_items_is c.self.inside.comps c.add_to_comps.new.comps (omega (arith, as_long, c.self.inside.comps.ok.0)) in
+    let first : Counts = record { core_counts = c.self.inside.core_counts.items; comp_counts = c.self.inside.comp_counts.items; accesses = c.self.inside.accesses; events = c.self.inside.events } in
+    let comps : List Comp = c.args.comps.now in
+    let same : length comps ≡ length first.comp_counts = c.requires.comps ∙ ap (λ (v : Counts). length v.comp_counts) (sym c.self.view_is) in
+    let long : length c.add_to_core_counts.new.counts ≡ length first.core_counts = c.add_to_core_counts.auto.counts ∙ ap length c.deref_mut.ensures.value in
+    let as_long : length c.add_to_comp_counts.new.counts ≡ length first.comp_counts = c.add_to_comp_counts.auto.counts ∙ ap length c.deref_mut-2.ensures.value in
+    let cores = rw (c.deref_mut.ensures.value, c.as_slice.ensures, c.as_slice-2.ensures) at c.add_to_core_counts.ensures in
+    let counted = rw (c.deref_mut-2.ensures.value, c.events.ensures.events, c.as_slice-3.ensures, c.as_slice-4.ensures) at c.add_to_comp_counts.ensures in
+    let cores_are : (with_items c.self.inside.core_counts c.add_to_core_counts.new.counts).items ≡ c.add_to_core_counts.new.counts = with_items_is c.self.inside.core_counts c.add_to_core_counts.new.counts (omega (arith, long, c.self.inside.core_counts.ok.0)) in
+    let comps_are : (with_items c.self.inside.comp_counts c.add_to_comp_counts.new.counts).items ≡ c.add_to_comp_counts.new.counts = with_items_is c.self.inside.comp_counts c.add_to_comp_counts.new.counts (omega (arith, as_long, c.self.inside.comp_counts.ok.0)) in
     rw (cores_are, comps_are, c.as_slice-5.ensures, c.events-2.ensures.events)
-    (counts_added i first c.add_to_cores.new.cores c.add_to_comps.new.comps parts long cores as_long same comps
-    ∙ ap (λ (v : Counts). added v i parts) c.self.view_is)
+    (counts_added i first c.add_to_core_counts.new.counts c.add_to_comp_counts.new.counts comps long cores as_long same counted
+    ∙ ap (λ (v : Counts). added v i comps) c.self.view_is)

@@ -1,0 +1,73 @@
+// The counts of the components over an interval.
+ghost use Rattle.std.specs.Prelude.{◌≡◌, ◌<◌, ℕ, All, length, slice_index_or};
+ghost use Rattle.std.specs.List.{zip};
+ghost use Rattle.component.specs.declared.comp.Comp.{Comp};
+ghost use Rattle.component.specs.ComponentStep.{free_of};
+ghost use Rattle.event_graph.specs.Timely.{AreTimely, IsTimely};
+ghost use Rattle.stats.specs.declared.counts.CompCount.{CompCount};
+ghost use Rattle.stats.specs.Counts.{CompFits};
+ghost use Rattle.stats.specs.Passes.{with_event, with_events, with_free};
+
+use crate::CompCount;
+use component::Comp;
+use event_graph::{Event, Fired};
+
+/// Counts an event of the component, and how much longer it took than at zero load.
+fn count_event(count: &mut CompCount, event: &Event, fired: &Fired)
+    requires timely { IsTimely event.now fired.now }
+    requires fits { CompFits (with_event count.old (event.now, fired.now)) }
+    ensures { count.new ≡ with_event count.old (event.now, fired.now) }
+{
+    let at_zero_load = event.min_finish.saturating_sub(event.min_start);
+    let wait = fired.finish - fired.start - at_zero_load;
+    count.events += 1;
+    count.waited += u128::from(wait);
+}
+
+/// Counts each event at its component.
+fn count_events(counts: &mut [CompCount], events: &[Event], fired: &[Fired])
+    requires components { All (λ e. e.component < length counts.old) events.now }
+    requires timely { AreTimely events.now fired.now }
+    requires fits { (n : ℕ) (d : CompCount) → n < length counts.old
+        → CompFits (with_events (slice_index_or counts.old n d) n (zip events.now fired.now)) }
+    ensures { (n : ℕ) (d : CompCount) → n < length counts.old → slice_index_or counts.new n d
+        ≡ with_events (slice_index_or counts.old n d) n (zip events.now fired.now) }
+{
+    for (i, event) in events.iter().enumerate() {
+        count_event(&mut counts[usize::from(event.component)], event, &fired[i]);
+    }
+}
+
+/// Keeps of each component from which cycle on it is free.
+fn keep_free(counts: &mut [CompCount], comps: &[Comp])
+    requires { length comps.now ≡ length counts.old }
+    ensures { (n : ℕ) (d : CompCount) (c : Comp) → n < length counts.old
+        → slice_index_or counts.new n d
+        ≡ with_free (slice_index_or counts.old n d) (free_of (slice_index_or comps.now n c)) }
+{
+    for (n, count) in counts.iter_mut().enumerate() {
+        count.free = comps[n].free();
+    }
+}
+
+/// Adds the events of an interval, and keeps what the components are free from after it.
+pub(crate) fn add_to_comp_counts(
+    counts: &mut [CompCount],
+    events: &[Event],
+    fired: &[Fired],
+    comps: &[Comp],
+)
+    requires components { All (λ e. e.component < length counts.old) events.now }
+    requires timely { AreTimely events.now fired.now }
+    requires comps { length comps.now ≡ length counts.old }
+    requires fits { (n : ℕ) (d : CompCount) → n < length counts.old
+        → CompFits (with_events (slice_index_or counts.old n d) n (zip events.now fired.now)) }
+    ensures { (n : ℕ) (d : CompCount) (c : Comp) → n < length counts.old
+        → slice_index_or counts.new n d
+        ≡ with_free
+            (with_events (slice_index_or counts.old n d) n (zip events.now fired.now))
+            (free_of (slice_index_or comps.now n c)) }
+{
+    count_events(counts, events, fired);
+    keep_free(counts, comps);
+}
