@@ -38,8 +38,8 @@ module _ {C X : Type 0} (step : C → X → C) (owner : X → ℕ) where
     pub first_fit : (c : C) (n : ℕ) (xs : List X) (k : ℕ) → Fits (with_own c n xs) → Fits (with_own c n (take k xs))
     first_fit c n xs k fits =
         let p = λ (y : X). owner y == n in
-        let parts = ap (fold step c) (ap (filter p) (sym (take-append-drop k xs)) ∙ filter-append p (take k xs) (drop k xs)) ∙ fold-append step c (filter p (take k xs)) (filter p (drop k xs)) in
-        shorter (with_own c n (take k xs)) (filter p (drop k xs)) (subst Fits parts fits)
+        let split = ap (fold step c) (ap (filter p) (sym (take-append-drop k xs)) ∙ filter-append p (take k xs) (drop k xs)) ∙ fold-append step c (filter p (take k xs)) (filter p (drop k xs)) in
+        shorter (with_own c n (take k xs)) (filter p (drop k xs)) (subst Fits split fits)
 
   -- the counts of all numbers, which so far have the first items, at one item more: it is owned by `spot`
   module _ (first now : List C) (xs : List X) (i : ℕ) (d : X) (below : i < length xs)

@@ -6,9 +6,9 @@ use zs_num::Cycle;
 pub struct CoreCount {
     /// The sum of the delays that the weave fed back, in cycles.
     pub delay: u128,
-    /// How many plain loads.
+    /// How many loads.
     pub loads: u64,
-    /// How many plain stores.
+    /// How many stores.
     pub stores: u64,
     /// How many load-reserveds, store-conditionals and read-modify-writes.
     pub atomics: u64,

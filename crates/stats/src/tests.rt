@@ -9,58 +9,24 @@ use crate::{CompCount, CoreCount, Counters, laws};
 use component::{Bank, Comp, Comps, Controller, components};
 use event_graph::{Event, Fired, FiredList, Graph, Kind};
 use feedback::Delays;
-use machine_desc::{Controllers, Domains, L1, L2, Machine, Memory, Places};
+use machine_desc::{Machine, PLAIN, component_count, read};
 use std::alloc::Global;
 use std::test::Fail;
 use zs_num::{AmoOp, Cycle, Entries, Entry, NoMemory, Outcome, Request};
 
-/// Two cores, one bank and one controller.
-fn plain(alloc: Global) -> Result<Machine, NoMemory>
-    ensures machine { IfOk result IsMachine }
-    ensures cores { IfOk result (λ m. m.cores ≡ 2) }
-    ensures banks { IfOk result (λ m. m.l2.banks ≡ 1) }
-    ensures controllers { IfOk result (λ m. m.controllers.count ≡ 1) }
+/// The machine of the built-in text with each first word of a pair replaced by the second.
+fn edited(alloc: Global, edits: &[(&str, &str)]) -> Result<Machine, Fail>
+    ensures { IfOk result IsMachine }
 {
-    Ok(Machine {
-        version: 1,
-        cores: 2,
-        interval: 10_000,
-        intervals: 100_000,
-        memory: Memory {
-            base: 65_536,
-            size: 1_048_576,
-            stack: 4_096,
-        },
-        l1: L1 {
-            sets: 2,
-            ways: 1,
-            latency: 1,
-        },
-        l2: L2 {
-            banks: 1,
-            sets: 4,
-            ways: 2,
-            latency: 10,
-            remote: 5,
-            fill: 2,
-            occupancy: 4,
-        },
-        controllers: Controllers {
-            count: 1,
-            read: 100,
-            write: 40,
-            occupancy: 20,
-        },
-        domains: Domains {
-            count: 2,
-            banks: Places::of(vec![in alloc; 0]?),
-            controllers: Places::of(vec![in alloc; 1]?),
-        },
-    })
+    let mut text = String::from_str(alloc, PLAIN)?;
+    for (old, new) in edits {
+        text = text.replacen(alloc, *old, *new, 1)?;
+    }
+    Ok(read(alloc, text.as_bytes())?)
 }
 
 /// The bank and the controller, free from these cycles on.
-fn parts(alloc: Global, bank: Cycle, controller: Cycle) -> Result<Comps<Comp>, NoMemory>
+fn comps(alloc: Global, bank: Cycle, controller: Cycle) -> Result<Comps<Comp>, NoMemory>
     ensures { IfOk result (λ c. length c ≡ 2) }
 {
     let list = vec![in alloc;
@@ -159,15 +125,15 @@ struct Woven {
     graph: Graph,
     fired: FiredList,
     delays: Delays,
-    parts: Comps<Comp>,
+    comps: Comps<Comp>,
     ghost cores: { All (λ e. e.core < 2) entries },
-    ghost comps: { All (λ e. e.component < 2) graph },
+    ghost components: { All (λ e. e.component < 2) graph },
     ghost few_entries: { length entries < 10 },
     ghost few_events: { length graph < 10 },
     ghost timely: { AreTimely graph fired },
     ghost delay_count: { length delays ≡ 2 },
     ghost short_delays: { All (λ d. d ≤ 100) delays },
-    ghost part_count: { length parts ≡ 2 },
+    ghost comp_count: { length comps ≡ 2 },
 }
 
 /// Core 0 misses at cycle 1, and a line is written back: the write waits 20 cycles for the read, and
@@ -198,7 +164,7 @@ fn first(alloc: Global) -> Result<Woven, NoMemory> {
         graph: Graph::of(events),
         fired: FiredList::of(woven),
         delays: Delays::of(vec![in alloc; 20, 2]?),
-        parts: parts(alloc, 136, 52)?,
+        comps: comps(alloc, 136, 52)?,
     })
 }
 
@@ -219,21 +185,21 @@ fn second(alloc: Global) -> Result<Woven, NoMemory> {
         graph: Graph::of(events),
         fired: FiredList::of(woven),
         delays: Delays::of(vec![in alloc; 4, 0]?),
-        parts: parts(alloc, 10_009, 52)?,
+        comps: comps(alloc, 10_009, 52)?,
     })
 }
 
 /// Adds an interval to the counters of two cores and two components.
 #[tactic(auto, using(crate::proofs::Added::as_many_cores, crate::proofs::Added::as_many_comps))]
 fn add(counters: &mut Counters, w: &Woven)
-    requires cores { length counters.old.cores ≡ 2 }
-    requires comps { length counters.old.comps ≡ 2 }
-    requires fits { Fits (added counters.old (record { entries = w.now.entries; events = w.now.graph; fired = w.now.fired; delays = w.now.delays }) w.now.parts) }
-    ensures added { counters.new ≡ added counters.old (record { entries = w.now.entries; events = w.now.graph; fired = w.now.fired; delays = w.now.delays }) w.now.parts }
-    ensures cores { length counters.new.cores ≡ 2 }
-    ensures comps { length counters.new.comps ≡ 2 }
+    requires cores { length counters.old.core_counts ≡ 2 }
+    requires comps { length counters.old.comp_counts ≡ 2 }
+    requires fits { Fits (added counters.old (record { entries = w.now.entries; events = w.now.graph; fired = w.now.fired; delays = w.now.delays }) w.now.comps) }
+    ensures added { counters.new ≡ added counters.old (record { entries = w.now.entries; events = w.now.graph; fired = w.now.fired; delays = w.now.delays }) w.now.comps }
+    ensures cores { length counters.new.core_counts ≡ 2 }
+    ensures comps { length counters.new.comp_counts ≡ 2 }
 {
-    counters.add(&w.entries, &w.graph, &w.fired, &w.delays, &w.parts);
+    counters.add(&w.entries, &w.graph, &w.fired, &w.delays, &w.comps);
 }
 
 /// The counters after both intervals, which fit by the laws.
@@ -242,8 +208,8 @@ fn counted(alloc: Global, machine: &Machine) -> Result<Counters, NoMemory>
     requires cores { machine.now.cores ≡ 2 }
     requires banks { machine.now.l2.banks ≡ 1 }
     requires controllers { machine.now.controllers.count ≡ 1 }
-    ensures cores { IfOk result (λ c. length c.cores ≡ 2) }
-    ensures comps { IfOk result (λ c. length c.comps ≡ 2) }
+    ensures cores { IfOk result (λ c. length c.core_counts ≡ 2) }
+    ensures comps { IfOk result (λ c. length c.comp_counts ≡ 2) }
 {
     laws::nothing_is_counted_first();
     laws::counters_are_sums();
@@ -259,7 +225,8 @@ fn counted(alloc: Global, machine: &Machine) -> Result<Counters, NoMemory>
 
 #[test]
 fn two_intervals_are_counted(rt: HostRuntime) -> Result<(), Fail> {
-    let machine = plain(rt.alloc())?;
+    let machine = edited(rt.alloc(), &[("cores = 1", "cores = 2")])?;
+    assert!(rt; machine.cores == 2 && machine.l2.banks == 1 && machine.controllers.count == 1);
     let counters = counted(rt.alloc(), &machine)?;
     let core = CoreCount {
         delay: 24,
@@ -296,5 +263,36 @@ fn two_intervals_are_counted(rt: HostRuntime) -> Result<(), Fail> {
     };
     assert_eq!(rt; counters.comp(1), controller);
     assert_eq!(rt; (counters.accesses(), counters.events()), (5, 7));
+    Ok(())
+}
+
+/// 64 cores, 64 banks and 16 controllers.
+const LARGEST: [(&str, &str); 7] = [
+    ("cores = 1", "cores = 64"),
+    ("sets = 2", "sets = 64"),
+    ("banks = 1", "banks = 64"),
+    ("sets = 4", "sets = 64"),
+    ("count = 1", "count = 16"),
+    (
+        "banks = [0]",
+        "banks = [
+            0, 0, 0, 0, 0, 0, 0, 0, 0, 0, 0, 0, 0, 0, 0, 0, 0, 0, 0, 0, 0, 0, 0, 0, 0, 0, 0, 0, 0, 0, 0, 0,
+            0, 0, 0, 0, 0, 0, 0, 0, 0, 0, 0, 0, 0, 0, 0, 0, 0, 0, 0, 0, 0, 0, 0, 0, 0, 0, 0, 0, 0, 0, 0, 0,
+        ]",
+    ),
+    (
+        "controllers = [1]",
+        "controllers = [1, 1, 1, 1, 1, 1, 1, 1, 1, 1, 1, 1, 1, 1, 1, 1]",
+    ),
+];
+
+#[test]
+fn the_largest_machine_has_counters(rt: HostRuntime) -> Result<(), Fail> {
+    let machine = edited(rt.alloc(), &LARGEST)?;
+    assert!(rt; machine.cores == 64 && component_count(&machine) == 80);
+    let counters = Counters::new(rt.alloc(), &machine)?;
+    assert_eq!(rt; counters.comp_counts().len(), 80);
+    assert_eq!(rt; (counters.core(63).loads, counters.comp(79).events), (0, 0));
+    assert_eq!(rt; (counters.accesses(), counters.events()), (0, 0));
     Ok(())
 }

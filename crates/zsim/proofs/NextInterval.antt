@@ -15,6 +15,7 @@ use Rattle.machine_desc.specs.declared.machine.Machine.{Machine}
 use Rattle.machine_desc.specs.declared.machine.L1.{L1}
 use Rattle.machine_desc.specs.declared.machine.L2.{L2}
 use Rattle.machine_desc.specs.declared.machine.Controllers.{Controllers}
+use Rattle.machine_desc.specs.Components.{component_count}
 use Rattle.machine_desc.specs.Machine.{IsMachine}
 use Rattle.component.specs.declared.comp.Comp.{Comp}
 use Rattle.component.specs.ComponentStep.{comp_step, free_of}
@@ -95,11 +96,11 @@ came None from clock is (inl some) = cc
 came None from clock is (inr here) = here
 came (Some why) from clock is come = cc
 
-pub counted_cores : (cores : ℕ) (comps : List Comp) (intervals : List Interval) → length (counts_of cores comps intervals).cores ≡ cores
+pub counted_cores : (cores : ℕ) (comps : List Comp) (intervals : List Interval) → length (counts_of cores comps intervals).core_counts ≡ cores
 unfolding counts_of
 counted_cores cores comps intervals = length-map-range_with_len (core_total intervals) 0 cores
 
-pub counted_comps : (cores : ℕ) (comps : List Comp) (intervals : List Interval) → length (counts_of cores comps intervals).comps ≡ length comps
+pub counted_comps : (cores : ℕ) (comps : List Comp) (intervals : List Interval) → length (counts_of cores comps intervals).comp_counts ≡ length comps
 unfolding counts_of
 counted_comps cores comps intervals =
     length-map (enumerate_from 0 comps) (λ at. comp_total intervals at.0 at.1) ∙ length-enumerate_from 0 comps
@@ -118,8 +119,8 @@ module _ (machine : Machine) (image : MemoryImage) (end : ℕ) (s : RunState) (p
         free = subst (λ (comps : List Comp). All (λ c. free_of c ≤ 2 ^ 56) comps) (sym come.comps) goes.1.free_left;
         left = omega (arith, clock, from, g.ends);
         components = subst (AreComponents machine) (sym come.comps) between.components;
-        cores = ap (λ (counts : Counts). length counts.cores) come.counters ∙ counted_cores machine.cores s.comps s.intervals;
-        comps = ap (λ (counts : Counts). length counts.comps) come.counters ∙ counted_comps machine.cores s.comps s.intervals ∙ between.components.count;
+        cores = ap (λ (counts : Counts). length counts.core_counts) come.counters ∙ counted_cores machine.cores s.comps s.intervals;
+        comps = ap (λ (counts : Counts). length counts.comp_counts) come.counters ∙ counted_comps machine.cores s.comps s.intervals ∙ between.components.count;
       }
 
 -- with one core, an interval more stays within the accesses of a run
@@ -252,8 +253,8 @@ first_between machine image comps fresh = record {
 
 -- how many cores and components are counted
 pub counts_come : (machine : Machine) (image : MemoryImage) (s : RunState) (p : Progress) → StandsFor machine image s p
-    → (length p.counters.cores ≡ machine.cores) × (length p.counters.comps ≡ machine.l2.banks + machine.controllers.count)
+    → (length p.counters.core_counts ≡ machine.cores) × (length p.counters.comp_counts ≡ component_count machine)
 counts_come machine image s p come = (
-  ap (λ (counts : Counts). length counts.cores) come.counters ∙ counted_cores machine.cores s.comps s.intervals,
-  ap (λ (counts : Counts). length counts.comps) come.counters ∙ counted_comps machine.cores s.comps s.intervals ∙ come.between.components.count,
+  ap (λ (counts : Counts). length counts.core_counts) come.counters ∙ counted_cores machine.cores s.comps s.intervals,
+  ap (λ (counts : Counts). length counts.comp_counts) come.counters ∙ counted_comps machine.cores s.comps s.intervals ∙ come.between.components.count,
 )

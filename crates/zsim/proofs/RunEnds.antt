@@ -14,17 +14,17 @@ use Rattle.zsim.specs.ReferenceRun.{RunState, core_result, results_of}
 use Rattle.zsim.specs.Results.{Results}
 
 -- the counts of the one core
-first_core : (comps : List Comp) (intervals : List Interval) → slice_get (counts_of 1 comps intervals).cores 0 ≡ Some (core_total intervals 0)
+first_core : (comps : List Comp) (intervals : List Interval) → slice_get (counts_of 1 comps intervals).core_counts 0 ≡ Some (core_total intervals 0)
 unfolding counts_of
 first_core comps intervals = refl
 
 module _ (machine : Machine) (image : MemoryImage) (s : RunState) (p : Progress) (come : StandsFor machine image s p) (one : machine.cores ≡ 1) where
-  pub first_count : slice_get p.counters.cores 0 ≡ Some (core_total s.intervals 0)
-  first_count = ap (λ (c : Counts). slice_get c.cores 0) come.counters ∙ ap (λ cores. slice_get (counts_of cores s.comps s.intervals).cores 0) one ∙ first_core s.comps s.intervals
+  pub first_count : slice_get p.counters.core_counts 0 ≡ Some (core_total s.intervals 0)
+  first_count = ap (λ (c : Counts). slice_get c.core_counts 0) come.counters ∙ ap (λ cores. slice_get (counts_of cores s.comps s.intervals).core_counts 0) one ∙ first_core s.comps s.intervals
 
   pub results_are : (ending : Ending) (k accesses events : ℕ) → length s.intervals ≡ k → accesses ≡ p.counters.accesses → events ≡ p.counters.events
       → (cores : List CoreResult) → cores ≡ core_result p.core (core_total s.intervals 0) ∷ [] → (banks controllers : List CompCount)
-      → banks ≡ take machine.l2.banks p.counters.comps → controllers ≡ drop machine.l2.banks p.counters.comps
+      → banks ≡ take machine.l2.banks p.counters.comp_counts → controllers ≡ drop machine.l2.banks p.counters.comp_counts
       → (let r : Results = record { ending = ending; intervals = k; accesses = accesses; events = events; cores = cores; banks = banks; controllers = controllers } in r) ≡ results_of machine s ending
   results_are ending k accesses events length_is accesses_are events_are cores cores_are banks controllers banks_are controllers_are =
       let counts : Counts = counts_of machine.cores s.comps s.intervals in

@@ -3,6 +3,7 @@ use Rattle.std.specs.Prelude.{◌≡◌, ◌+◌, ◌*◌, ◌<◌, ◌≤◌, �
 use Rattle.std.specs.List.{All}
 use Rattle.zs_num.specs.declared.entry.Entry.{Entry}
 use Rattle.machine_desc.specs.declared.machine.Machine.{Machine}
+use Rattle.machine_desc.specs.Components.{component_count}
 use Rattle.component.specs.declared.comp.Comp.{Comp}
 use Rattle.component.specs.ComponentStep.{comp_greatest, comp_latency, comp_serves, comp_step}
 use Rattle.event_graph.specs.declared.event.Event.{Event}
@@ -42,5 +43,5 @@ pub record IsWeaveOf (machine : Machine) (comps : List Comp) (entries : List Ent
   pub timely : AreTimely w.graph w.fired
   pub delays : length w.delays ≡ machine.cores
   pub delays_small : All (λ d. d ≤ 2 ^ 62) w.delays
-  pub there : All (λ e. e.component < machine.l2.banks + machine.controllers.count) w.graph
+  pub there : All (λ e. e.component < component_count machine) w.graph
   pub few : length w.graph ≤ 4 * length entries

@@ -3,6 +3,7 @@ use Rattle.std.specs.Prelude.{◌≡◌, ◌⊎◌, ℕ, ◌+◌, ◌-◌, ◌*�
 use Rattle.std.specs.List.{All}
 use Rattle.elf_load.specs.MemoryImage.{MemoryImage}
 use Rattle.machine_desc.specs.declared.machine.Machine.{Machine}
+use Rattle.machine_desc.specs.Components.{component_count}
 use Rattle.component.specs.ComponentStep.{free_of}
 use Rattle.component.specs.Components.{AreComponents}
 use Rattle.stats.specs.Counts.{counts_of, total_accesses, total_events}
@@ -42,8 +43,8 @@ pub record HasRoom (machine : Machine) (image : MemoryImage) (end : ℕ) (p : Pr
   pub free : All (λ c. free_of c ≤ 2 ^ 56) p.comps
   pub left : end - p.core.clock ≤ machine.interval
   pub components : AreComponents machine p.comps
-  pub cores : length p.counters.cores ≡ machine.cores
-  pub comps : length p.counters.comps ≡ machine.l2.banks + machine.controllers.count
+  pub cores : length p.counters.core_counts ≡ machine.cores
+  pub comps : length p.counters.comp_counts ≡ component_count machine
 
 -- an interval under these turns leads on from there
 pub record LeadsTo (machine : Machine) (image : MemoryImage) (s : RunState) (turns : List ℕ) (p : Progress) : Type 0 where

@@ -114,8 +114,8 @@ results_of machine s ending = let counts = counts_of machine.cores s.comps s.int
   accesses = counts.accesses;
   events = counts.events;
   cores = core_result s.core (core_total s.intervals 0) ∷ [];
-  banks = take machine.l2.banks counts.comps;
-  controllers = drop machine.l2.banks counts.comps;
+  banks = take machine.l2.banks counts.comp_counts;
+  controllers = drop machine.l2.banks counts.comp_counts;
 }
 
 -- what the run gives where it ends before the next interval

@@ -1,6 +1,7 @@
 // A run between two intervals.
 ghost use Rattle.std.specs.Prelude.{◌≡◌, ◌+◌, ◌-◌, ◌*◌, ◌<◌, ◌≤◌, ◌^◌, [], ◌∷◌, All, IfOk, length, map, take, drop, nat_lt, slice_get, Some, if◌then◌else◌, is_none};
 ghost use Rattle.std.specs.List.{list_any};
+ghost use Rattle.machine_desc.specs.Components.{component_count};
 ghost use Rattle.machine_desc.specs.Machine.{IsMachine};
 ghost use Rattle.component.specs.ComponentStep.{free_of};
 ghost use Rattle.component.specs.Components.{AreFresh};
@@ -126,12 +127,12 @@ impl Progress {
     ) -> Result<RunResults, NoMemory>
         requires machine { IsMachine machine.now }
         requires cores { machine.now.cores ≡ 1 }
-        requires comps { length self.now.counters.comps ≡ machine.now.l2.banks + machine.now.controllers.count }
-        requires count { length self.now.counters.cores ≡ 1 }
+        requires comps { length self.now.counters.comp_counts ≡ component_count machine.now }
+        requires count { length self.now.counters.core_counts ≡ 1 }
         ensures { IfOk result (λ r. (s : RunState) (image : _) → StandsFor machine.now image s self.now → length s.intervals ≡ k → r ≡ results_of machine.now s ending) }
     {
-        let comps = self.counters.comps();
-        let (banks, controllers) = comps.split_at(machine.l2.banks as usize);
+        let counts = self.counters.comp_counts();
+        let (banks, controllers) = counts.split_at(machine.l2.banks as usize);
         Ok(RunResults {
             ending,
             intervals: k,
@@ -145,8 +146,8 @@ impl Progress {
 
     // What the run gives of its one core, which writes on no console yet.
     fn core_results(&self, alloc: Global) -> Result<Vec<CoreResult>, NoMemory>
-        requires { length self.now.counters.cores ≡ 1 }
-        ensures { IfOk result (λ cores. (count : CoreCount) → slice_get self.now.counters.cores 0 ≡ Some count → cores.items ≡ core_result self.now.core count ∷ []) }
+        requires { length self.now.counters.core_counts ≡ 1 }
+        ensures { IfOk result (λ cores. (count : CoreCount) → slice_get self.now.counters.core_counts 0 ≡ Some count → cores.items ≡ core_result self.now.core count ∷ []) }
     {
         let mut cores = Vec::new(alloc);
         cores.push(CoreResult {

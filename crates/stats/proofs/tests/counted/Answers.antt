@@ -22,13 +22,13 @@ bounded w = (w.timely, All-weaker (λ d. d ≤ 100) (λ d. d ≤ 2 ^ 62) (λ d l
 
 -- the counters with one interval more
 counts_more : CountersAreSums → (cores : ℕ) (before : List Comp) (intervals : List Interval) (c : Counts) (w : Woven) → c ≡ counts_of cores before intervals → length before ≡ 2
-    → added c (interval w) w.parts ≡ counts_of cores w.parts (intervals ++ interval w ∷ [])
+    → added c (interval w) w.comps ≡ counts_of cores w.comps (intervals ++ interval w ∷ [])
 counts_more sums cores before intervals c w is two =
-    ap (λ (x : Counts). added x (interval w) w.parts) is ∙ sums cores before w.parts intervals (interval w) (two ∙ sym w.part_count)
+    ap (λ (x : Counts). added x (interval w) w.comps) is ∙ sums cores before w.comps intervals (interval w) (two ∙ sym w.comp_count)
 
 -- the counters with the first interval
 counted_once : NothingIsCountedFirst → CountersAreSums → (m : Machine) → m.l2.banks ≡ 1 → m.controllers.count ≡ 1 → (before : List Comp) → AreFresh m before
-    → (c : Counts) → c ≡ no_counts m → (w : Woven) → added c (interval w) w.parts ≡ counts_of m.cores w.parts (interval w ∷ [])
+    → (c : Counts) → c ≡ no_counts m → (w : Woven) → added c (interval w) w.comps ≡ counts_of m.cores w.comps (interval w ∷ [])
 counted_once none sums m bank controller before fresh c is w =
     let two : length before ≡ 2 = omega (arith, fresh.are.count) in
     counts_more sums m.cores before [] c w (is ∙ sym (none m before fresh)) two
@@ -41,7 +41,7 @@ add-requires-clause-fits c =
     let once = counted_once c.nothing_is_counted_first.ensures c.counters_are_sums.ensures m c.requires.banks c.requires.controllers
     c.in_ok-_before._before before c.in_ok-counters.counters c.in_ok-counters.ensures one in
     subst Fits (sym once)
-    (c.sums_fit.ensures m.cores one.parts (interval one ∷ []) (omega (arith, one.few_entries)) (omega (arith, one.few_events)) (omega arith)
+    (c.sums_fit.ensures m.cores one.comps (interval one ∷ []) (omega (arith, one.few_entries)) (omega (arith, one.few_events)) (omega arith)
     (All-cons IsBounded (interval one) [] (bounded one) (All-nil IsBounded)))
 
 pub add-requires-2-clause-fits : goal.add-requires-2-clause-fits
@@ -52,7 +52,7 @@ add-requires-2-clause-fits c =
     let two : Woven = c.in_ok-two.two in
     let once = counted_once c.nothing_is_counted_first.ensures c.counters_are_sums.ensures m c.requires.banks c.requires.controllers
     c.in_ok-_before._before before c.in_ok-counters.counters c.in_ok-counters.ensures one in
-    let twice = counts_more c.counters_are_sums.ensures m.cores one.parts (interval one ∷ []) c.add.new.counters two (c.add.ensures.added ∙ once) one.part_count in
+    let twice = counts_more c.counters_are_sums.ensures m.cores one.comps (interval one ∷ []) c.add.new.counters two (c.add.ensures.added ∙ once) one.comp_count in
     subst Fits (sym twice)
-    (c.sums_fit.ensures m.cores two.parts (interval one ∷ interval two ∷ []) (omega (arith, one.few_entries, two.few_entries)) (omega (arith, one.few_events, two.few_events)) (omega arith)
+    (c.sums_fit.ensures m.cores two.comps (interval one ∷ interval two ∷ []) (omega (arith, one.few_entries, two.few_entries)) (omega (arith, one.few_events, two.few_events)) (omega arith)
     (All-cons IsBounded (interval one) (interval two ∷ []) (bounded one) (All-cons IsBounded (interval two) [] (bounded two) (All-nil IsBounded))))

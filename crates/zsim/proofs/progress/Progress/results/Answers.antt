@@ -9,5 +9,5 @@ returns c = λ s image come length_is.
     let banks = machine.l2.banks in
     results_are machine image s c.args.self.now come c.requires.cores c.args.ending c.args.k c.accesses.result c.events.result length_is c.accesses.ensures c.events.ensures
     _ (c.in_ok-core_results.ensures (core_total s.intervals 0) (first_count machine image s c.args.self.now come c.requires.cores)) _ _
-    (c.in_ok-from_slice.ensures.items ∙ c.split_at.ensures.front ∙ ap (take banks) c.comps-comps.ensures)
-    (c.in_ok-from_slice-2.ensures.items ∙ c.split_at.ensures.back ∙ ap (drop banks) c.comps-comps.ensures)
+    (c.in_ok-from_slice.ensures.items ∙ c.split_at.ensures.front ∙ ap (take banks) c.comp_counts-counts.ensures)
+    (c.in_ok-from_slice-2.ensures.items ∙ c.split_at.ensures.back ∙ ap (drop banks) c.comp_counts-counts.ensures)
