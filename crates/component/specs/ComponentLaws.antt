@@ -1,84 +1,42 @@
--- That banks and controllers obey the laws of a component.
-use Rattle.std.specs.Prelude.{◌≡◌, ◌+◌, ◌≤◌, ℕ, IsTrue, refl}
-use Rattle.std.proofs.Common.{arith}
+-- The laws of a component: what a step keeps, and when events finish.
+use Rattle.std.specs.Prelude.{◌≡◌, ◌+◌, ◌≤◌, ℕ, Bool, IsTrue}
 use Rattle.component.specs.declared.kind.Kind.{Kind}
-use Rattle.component.specs.declared.kind.Kind.TheVariants.{Lookup, Remote, Fill, Read, Write}
-use Rattle.component.specs.declared.bank.Bank.{Bank}
-use Rattle.component.specs.declared.controller.Controller.{Controller}
-use Rattle.component.specs.declared.comp.Comp.{Comp}
-use Rattle.component.specs.declared.comp.Comp.TheVariants.{Bank as ABank, Controller as AController}
-use Rattle.component.specs.ComponentStep.{bank_serves, bank_latency, bank_step, bank_greatest, controller_serves, controller_latency, controller_step, controller_greatest, comp_serves, comp_latency, comp_step, comp_greatest}
 
-pub bank_floor_at_least_one : (b : Bank) (kind : Kind) → IsTrue (bank_serves b kind) → 1 ≤ bank_latency b kind
-bank_floor_at_least_one b Lookup s = b.lookup_at_least_one
-bank_floor_at_least_one b Remote s = b.remote_at_least_one
-bank_floor_at_least_one b Fill s = b.fill_at_least_one
-bank_floor_at_least_one b Read s = cc
-bank_floor_at_least_one b Write s = cc
+-- whether a component serves a kind; the least time from an event's start to its finish; the component after an event of
+-- a kind that starts then, and the event's finish; and the greatest sum of that step
+abbrev pub Serves : Type 0 → Type 0
+Serves C = C → Kind → Bool
 
-pub bank_floor_holds : (b : Bank) (kind : Kind) (start : ℕ) → IsTrue (bank_serves b kind) → start + bank_latency b kind ≤ (bank_step b kind start).1
-bank_floor_holds b kind start s = omega arith
+abbrev pub Floor : Type 0 → Type 0
+Floor C = C → Kind → ℕ
 
-pub bank_serves_stays : (b : Bank) (kind : Kind) (start : ℕ) (other : Kind) → IsTrue (bank_serves b kind) → bank_serves (bank_step b kind start).0 other ≡ bank_serves b other
-bank_serves_stays b kind start Lookup s = refl
-bank_serves_stays b kind start Remote s = refl
-bank_serves_stays b kind start Fill s = refl
-bank_serves_stays b kind start Read s = refl
-bank_serves_stays b kind start Write s = refl
+abbrev pub Stepped : Type 0 → Type 0
+Stepped C = C → Kind → (start : ℕ) → C × ℕ
 
-pub bank_floor_stays : (b : Bank) (kind : Kind) (start : ℕ) (other : Kind) → IsTrue (bank_serves b kind) → bank_latency (bank_step b kind start).0 other ≡ bank_latency b other
-bank_floor_stays b kind start Lookup s = refl
-bank_floor_stays b kind start Remote s = refl
-bank_floor_stays b kind start Fill s = refl
-bank_floor_stays b kind start Read s = refl
-bank_floor_stays b kind start Write s = refl
+abbrev pub Greatest : Type 0 → Type 0
+Greatest C = C → Kind → (start : ℕ) → ℕ
 
-pub bank_finish_within_greatest : (b : Bank) (kind : Kind) (start : ℕ) → IsTrue (bank_serves b kind) → (bank_step b kind start).1 ≤ bank_greatest b kind start
-bank_finish_within_greatest b kind start s = omega arith
+-- a floor is a cycle at least
+abbrev pub FloorAtLeastOne : {C : Type 0} → Serves C → Floor C → Type 0
+FloorAtLeastOne {C} serves floor = (c : C) (kind : Kind) → IsTrue (serves c kind) → 1 ≤ floor c kind
 
-pub controller_floor_at_least_one : (c : Controller) (kind : Kind) → IsTrue (controller_serves c kind) → 1 ≤ controller_latency c kind
-controller_floor_at_least_one c Lookup s = cc
-controller_floor_at_least_one c Remote s = cc
-controller_floor_at_least_one c Fill s = cc
-controller_floor_at_least_one c Read s = c.read_at_least_one
-controller_floor_at_least_one c Write s = c.write_at_least_one
+-- no event finishes before its start and the floor
+abbrev pub FloorHolds : {C : Type 0} → Serves C → Floor C → Stepped C → Type 0
+FloorHolds {C} serves floor stepped =
+    (c : C) (kind : Kind) (start : ℕ) → IsTrue (serves c kind) → start + floor c kind ≤ (stepped c kind start).1
 
-pub controller_floor_holds : (c : Controller) (kind : Kind) (start : ℕ) → IsTrue (controller_serves c kind) → start + controller_latency c kind ≤ (controller_step c kind start).1
-controller_floor_holds c kind start s = omega arith
+-- a step changes neither what is served nor the floors
+abbrev pub ServesStays : {C : Type 0} → Serves C → Stepped C → Type 0
+ServesStays {C} serves stepped =
+    (c : C) (kind : Kind) (start : ℕ) (other : Kind) → IsTrue (serves c kind)
+    → serves (stepped c kind start).0 other ≡ serves c other
 
-pub controller_serves_stays : (c : Controller) (kind : Kind) (start : ℕ) (other : Kind) → IsTrue (controller_serves c kind) → controller_serves (controller_step c kind start).0 other ≡ controller_serves c other
-controller_serves_stays c kind start Lookup s = refl
-controller_serves_stays c kind start Remote s = refl
-controller_serves_stays c kind start Fill s = refl
-controller_serves_stays c kind start Read s = refl
-controller_serves_stays c kind start Write s = refl
+abbrev pub FloorStays : {C : Type 0} → Serves C → Floor C → Stepped C → Type 0
+FloorStays {C} serves floor stepped =
+    (c : C) (kind : Kind) (start : ℕ) (other : Kind) → IsTrue (serves c kind)
+    → floor (stepped c kind start).0 other ≡ floor c other
 
-pub controller_floor_stays : (c : Controller) (kind : Kind) (start : ℕ) (other : Kind) → IsTrue (controller_serves c kind) → controller_latency (controller_step c kind start).0 other ≡ controller_latency c other
-controller_floor_stays c kind start Lookup s = refl
-controller_floor_stays c kind start Remote s = refl
-controller_floor_stays c kind start Fill s = refl
-controller_floor_stays c kind start Read s = refl
-controller_floor_stays c kind start Write s = refl
-
-pub controller_finish_within_greatest : (c : Controller) (kind : Kind) (start : ℕ) → IsTrue (controller_serves c kind) → (controller_step c kind start).1 ≤ controller_greatest c kind start
-controller_finish_within_greatest c kind start s = omega arith
-
-pub comp_floor_at_least_one : (c : Comp) (kind : Kind) → IsTrue (comp_serves c kind) → 1 ≤ comp_latency c kind
-comp_floor_at_least_one (ABank b) kind s = bank_floor_at_least_one b kind s
-comp_floor_at_least_one (AController c) kind s = controller_floor_at_least_one c kind s
-
-pub comp_floor_holds : (c : Comp) (kind : Kind) (start : ℕ) → IsTrue (comp_serves c kind) → start + comp_latency c kind ≤ (comp_step c kind start).1
-comp_floor_holds (ABank b) kind start s = bank_floor_holds b kind start s
-comp_floor_holds (AController c) kind start s = controller_floor_holds c kind start s
-
-pub comp_serves_stays : (c : Comp) (kind : Kind) (start : ℕ) (other : Kind) → IsTrue (comp_serves c kind) → comp_serves (comp_step c kind start).0 other ≡ comp_serves c other
-comp_serves_stays (ABank b) kind start other s = bank_serves_stays b kind start other s
-comp_serves_stays (AController c) kind start other s = controller_serves_stays c kind start other s
-
-pub comp_floor_stays : (c : Comp) (kind : Kind) (start : ℕ) (other : Kind) → IsTrue (comp_serves c kind) → comp_latency (comp_step c kind start).0 other ≡ comp_latency c other
-comp_floor_stays (ABank b) kind start other s = bank_floor_stays b kind start other s
-comp_floor_stays (AController c) kind start other s = controller_floor_stays c kind start other s
-
-pub comp_finish_within_greatest : (c : Comp) (kind : Kind) (start : ℕ) → IsTrue (comp_serves c kind) → (comp_step c kind start).1 ≤ comp_greatest c kind start
-comp_finish_within_greatest (ABank b) kind start s = bank_finish_within_greatest b kind start s
-comp_finish_within_greatest (AController c) kind start s = controller_finish_within_greatest c kind start s
+-- the finish is no more than the greatest sum
+abbrev pub FinishWithinGreatest : {C : Type 0} → Serves C → Stepped C → Greatest C → Type 0
+FinishWithinGreatest {C} serves stepped greatest =
+    (c : C) (kind : Kind) (start : ℕ) → IsTrue (serves c kind) → (stepped c kind start).1 ≤ greatest c kind start

@@ -1,5 +1,6 @@
 pub mod ComponentLaws
 pub mod ComponentStep
 pub mod Components
+pub mod Lawful
 pub mod Laws
 pub mod Lending

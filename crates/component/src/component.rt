@@ -1,6 +1,8 @@
 // What the weave asks of a component.
-ghost use Rattle.std.specs.Prelude.{◌≡◌, ◌<◌, ◌≤◌, ◌+◌, ◌^◌, ℕ, Bool, IsTrue};
-ghost use Rattle.component.specs.declared.kind.Kind.{Kind};
+ghost use Rattle.std.specs.Prelude.{◌≡◌, ◌≤◌, ◌^◌, IsTrue};
+ghost use Rattle.component.specs.ComponentLaws.{Serves, Floor, Stepped, Greatest};
+ghost use Rattle.component.specs.ComponentLaws.{FloorAtLeastOne, FloorHolds, ServesStays};
+ghost use Rattle.component.specs.ComponentLaws.{FloorStays, FinishWithinGreatest};
 
 use crate::Kind;
 use zs_num::Cycle;
@@ -8,16 +10,16 @@ use zs_num::Cycle;
 /// What serves events one after the other, as a bank, a controller or a link does.
 pub trait Component: Drop {
     /// Which kinds it serves.
-    ghost serves: { Self → Kind → Bool };
+    ghost serves: { Serves Self };
 
     /// The least time from an event's start to its finish.
-    ghost floor: { Self → Kind → ℕ };
+    ghost floor: { Floor Self };
 
-    /// The component after an event of this kind that starts then, and the event's finish.
-    ghost stepped: { Self → Kind → (start : ℕ) → Self × ℕ };
+    /// The component after an event of a kind that starts then, and the event's finish.
+    ghost stepped: { Stepped Self };
 
     /// The greatest sum that a step computes.
-    ghost greatest: { Self → Kind → (start : ℕ) → ℕ };
+    ghost greatest: { Greatest Self };
 
     /// Whether it serves events of this kind.
     fn serves(&self, kind: Kind) -> bool
@@ -35,21 +37,16 @@ pub trait Component: Drop {
         ensures { (self.new, result) ≡ stepped self.old kind start };
 
     /// A floor is a cycle at least.
-    ghost floor_at_least_one: { (c : Self) (kind : Kind) → IsTrue (serves c kind)
-        → 1 ≤ floor c kind };
+    ghost floor_at_least_one: { FloorAtLeastOne serves floor };
 
     /// No event finishes before its start and the floor.
-    ghost floor_holds: { (c : Self) (kind : Kind) (start : ℕ) → IsTrue (serves c kind)
-        → start + floor c kind ≤ (stepped c kind start).1 };
+    ghost floor_holds: { FloorHolds serves floor stepped };
 
     /// A step changes neither what is served nor the floors.
-    ghost serves_stays: { (c : Self) (kind : Kind) (start : ℕ) (other : Kind)
-        → IsTrue (serves c kind) → serves (stepped c kind start).0 other ≡ serves c other };
+    ghost serves_stays: { ServesStays serves stepped };
 
-    ghost floor_stays: { (c : Self) (kind : Kind) (start : ℕ) (other : Kind)
-        → IsTrue (serves c kind) → floor (stepped c kind start).0 other ≡ floor c other };
+    ghost floor_stays: { FloorStays serves floor stepped };
 
     /// The finish is no more than the greatest sum.
-    ghost finish_within_greatest: { (c : Self) (kind : Kind) (start : ℕ) → IsTrue (serves c kind)
-        → (stepped c kind start).1 ≤ greatest c kind start };
+    ghost finish_within_greatest: { FinishWithinGreatest serves stepped greatest };
 }

@@ -8,7 +8,8 @@ use machine_desc::{Controllers, L2, Machine};
 use std::alloc::Global;
 use zs_num::NoMemory;
 
-/// The components of a machine in order of their numbers, all free: the banks and then the controllers.
+/// The components of a machine in order of their numbers, all free: the banks and then the
+/// controllers.
 pub fn components(alloc: Global, m: &Machine) -> Result<Comps<Comp>, NoMemory>
     requires { IsMachine m.now }
     ensures { IfOk result (AreFresh m.now) }

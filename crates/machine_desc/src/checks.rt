@@ -73,8 +73,8 @@ fn value_fault(
     rule: &Rule,
     value: &Value,
 ) -> Result<Option<Fault>, AllocError>
-    ensures { IfOk result
-        (λ fault. fault ≡ value_fault (table_view document.now) (rule_of rule.now) (view value.now)) }
+    ensures { IfOk result (λ fault.
+        fault ≡ value_fault (table_view document.now) (rule_of rule.now) (view value.now)) }
 {
     match rule {
         Rule::Table => Ok(table_fault(value)),

@@ -32,7 +32,8 @@ fn get<'a>(table: &'a Table, name: &str) -> Option<&'a Value>
 /// The table of a name: the document itself where the name is empty.
 #[tactic(auto, unfolding(crate::specs::Text::table_at))]
 pub(crate) fn table_at<'a>(document: &'a Table, table: &str) -> Option<&'a Table>
-    ensures { option_map (λ t. table_view t.now) result ≡ table_at (table_view document.now) table.now }
+    ensures { option_map (λ t. table_view t.now) result
+        ≡ table_at (table_view document.now) table.now }
 {
     if table.is_empty() {
         return Some(document);
@@ -62,7 +63,7 @@ pub(crate) fn natural(integer: i64) -> u64
     if integer < 0 { 0 } else { integer as u64 }
 }
 
-/// The number that a value is: 0 where it is no integer, or negative.
+/// A value as a natural number: 0 where it is no integer, or negative.
 fn natural_of(value: &Value) -> u64
     ensures { result ≡ natural_of (view value.now) }
 {
@@ -72,7 +73,7 @@ fn natural_of(value: &Value) -> u64
     }
 }
 
-/// The number at a key: 0 where no integer stands there.
+/// The integer at a key, as a natural number: 0 where no integer stands there, or a negative one.
 #[tactic(auto, unfolding(crate::specs::Text::integer_at))]
 pub(crate) fn integer_at(document: &Table, table: &str, name: &str) -> u64
     ensures { result ≡ integer_at (table_view document.now) (at table.now name.now) }
@@ -108,7 +109,8 @@ pub(crate) fn integers_at(
     table: &str,
     name: &str,
 ) -> Result<Vec<i64>, AllocError>
-    ensures { IfOk result (λ v. v.items ≡ integers_at (table_view document.now) (at table.now name.now)) }
+    ensures { IfOk result (λ v.
+        v.items ≡ integers_at (table_view document.now) (at table.now name.now)) }
 {
     let integers = match value_at(document, table, name) {
         Some(value) => array_integers(alloc, value)?,

@@ -35,7 +35,7 @@ fn written_domains(alloc: Global, document: &Table) -> Result<Vec<i64>, AllocErr
     Ok(domains)
 }
 
-/// The first place of a number that is not below the count.
+/// The first index of a number that is not below the count.
 fn first_outside(count: u64, domains: &[i64]) -> Option<usize>
     ensures { result ≡ position (λ domain. not (is_below count domain)) domains.now }
 {

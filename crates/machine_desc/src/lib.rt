@@ -1,4 +1,4 @@
-//! Machine descriptions: the numbers of a machine.
+//! Machine descriptions: the text that gives the numbers of a machine, read and checked.
 #![tactic(auto)]
 
 mod checks;

@@ -30,7 +30,7 @@ pub(crate) fn numbers(alloc: Global, document: &Table) -> Result<Machine, AllocE
     })
 }
 
-/// A number of at most 32 bits.
+/// An integer of at most 32 bits.
 fn small(document: &Table, table: &str, name: &str) -> u32
     requires { integer_at (table_view document.now) (at table.now name.now) < 2 ^ 32 }
     ensures { result ≡ integer_at (table_view document.now) (at table.now name.now) }
@@ -38,7 +38,7 @@ fn small(document: &Table, table: &str, name: &str) -> u32
     integer_at(document, table, name) as u32
 }
 
-/// A number of at most 16 bits.
+/// An integer of at most 16 bits.
 fn short(document: &Table, table: &str, name: &str) -> u16
     requires { integer_at (table_view document.now) (at table.now name.now) < 2 ^ 16 }
     ensures { result ≡ integer_at (table_view document.now) (at table.now name.now) }
@@ -115,8 +115,8 @@ fn domains(alloc: Global, document: &Table) -> Result<Domains, AllocError>
 fn places(alloc: Global, document: &Table, name: &str) -> Result<Places, AllocError>
     requires { All (λ z. natural z < 2 ^ 16)
         (integers_at (table_view document.now) (at (codes "domains") name.now)) }
-    ensures { IfOk result
-        (λ p. p ≡ map natural (integers_at (table_view document.now) (at (codes "domains") name.now))) }
+    ensures { IfOk result (λ p.
+        p ≡ map natural (integers_at (table_view document.now) (at (codes "domains") name.now))) }
 {
     let integers = integers_at(alloc, document, "domains", name)?;
     Ok(Places::of(shorts(alloc, &integers)?))

@@ -1,4 +1,5 @@
 // The built-in description.
+
 /// The description of a small machine of one core, which is built in under the name `plain`.
 pub const PLAIN: &str = "version = 1
 cores = 1

@@ -14,7 +14,7 @@ fn edited(alloc: Global, edits: &[(&str, &str)]) -> Result<String, AllocError> {
 }
 
 /// The number of a refusal, its key, and its value or component.
-fn parts(bad: &BadMachine) -> (u8, &[u8], i64) {
+fn answer_of(bad: &BadMachine) -> (u8, &[u8], i64) {
     match bad {
         BadMachine::Text => (1, b"", 0),
         BadMachine::Missing { key } => (2, key.as_slice(), 0),
@@ -232,7 +232,7 @@ fn refuse(rt: &(impl Abort + AllocGlobal), cases: &[Case]) -> Result<(), Fail> {
         let text = edited(rt.alloc(), edits)?;
         match read(rt.alloc(), text.as_bytes()) {
             Err(MachineFail::Bad(bad)) => {
-                assert_eq!(rt; parts(&bad), (*number, key.as_bytes(), *value), "at {text}")
+                assert_eq!(rt; answer_of(&bad), (*number, key.as_bytes(), *value), "at {text}")
             }
             _ => panic!(rt; "not refused: {text}"),
         }
@@ -325,9 +325,9 @@ l2.occupancy = 65536
 controllers = { count = 16, read = 65536, write = 65536, occupancy = 65536 }
 domains.count = 64
 domains.banks = [
-    0, 1, 2, 3, 4, 5, 6, 7, 8, 9, 10, 11, 12, 13, 14, 15, 16, 17, 18, 19, 20, 21, 22, 23, 24, 25, 26, 27,
-    28, 29, 30, 31, 32, 33, 34, 35, 36, 37, 38, 39, 40, 41, 42, 43, 44, 45, 46, 47, 48, 49, 50, 51, 52,
-    53, 54, 55, 56, 57, 58, 59, 60, 61, 62, 63,
+    0, 1, 2, 3, 4, 5, 6, 7, 8, 9, 10, 11, 12, 13, 14, 15, 16, 17, 18, 19, 20, 21,
+    22, 23, 24, 25, 26, 27, 28, 29, 30, 31, 32, 33, 34, 35, 36, 37, 38, 39, 40, 41, 42,
+    43, 44, 45, 46, 47, 48, 49, 50, 51, 52, 53, 54, 55, 56, 57, 58, 59, 60, 61, 62, 63,
 ]
 domains.controllers = [63, 62, 61, 60, 59, 58, 57, 56, 55, 54, 53, 52, 51, 50, 49, 48]
 ";
@@ -345,13 +345,47 @@ fn the_greatest_machine_is_read(rt: HostRuntime) -> Result<(), Fail> {
 }
 
 #[test]
-fn a_refusal_is_told_in_words(rt: HostRuntime) -> Result<(), Fail> {
-    let text = edited(rt.alloc(), &[("ways = 1", "ways = 0")])?;
+fn a_long_name_and_a_long_text_are_read(rt: HostRuntime) -> Result<(), Fail> {
+    let name = "colour".repeat(rt.alloc(), 200)?;
+    let line = format!(in rt.alloc(); "100000\n{name} = 1")?;
+    let text = edited(rt.alloc(), &[("100000", line.as_str())])?;
     match read(rt.alloc(), text.as_bytes()) {
-        Ok(_) => panic!(rt; "not refused"),
-        Err(fail) => {
-            let told = format!(in rt.alloc(); "{fail}")?;
-            assert_eq!(rt; told.as_str(), "the value 0 of l1.ways is out of range");
+        Err(MachineFail::Bad(BadMachine::Unknown { key })) => {
+            assert_eq!(rt; key.as_slice(), name.as_bytes())
+        }
+        _ => panic!(rt; "not refused"),
+    }
+    let comments = "# a line of a comment\n".repeat(rt.alloc(), 40_000)?;
+    let text = format!(in rt.alloc(); "{comments}{PLAIN}")?;
+    let machine = read(rt.alloc(), text.as_bytes())?;
+    assert_eq!(rt; machine.interval, 10000);
+    Ok(())
+}
+
+/// Edits of the built-in text, and the words of the refusal.
+static WORDS: [(&[(&str, &str)], &str); 7] = [
+    (&[("cores = 1", "cores =")], "the description is no TOML document"),
+    (&[("cores = 1\n", "")], "the key cores is missing"),
+    (&[("banks = [0]", "banks = 0")], "the value of domains.banks is of another kind"),
+    (&[("ways = 1", "ways = 0")], "the value 0 of l1.ways is out of range"),
+    (&[("100000", "100000\nzebra = 1")], "the key zebra is unknown"),
+    (
+        &[("banks = 1", "banks = 2"), ("banks = [0]", "banks = [0, 1]"), ("sets = 2", "sets = 3")],
+        "the value of l1.sets is no multiple of the number of banks",
+    ),
+    (&[("count = 2", "count = 1")], "component 1 is in a domain that is not there"),
+];
+
+#[test]
+fn a_refusal_is_told_in_words(rt: HostRuntime) -> Result<(), Fail> {
+    for (edits, words) in &WORDS {
+        let text = edited(rt.alloc(), edits)?;
+        match read(rt.alloc(), text.as_bytes()) {
+            Ok(_) => panic!(rt; "not refused: {words}"),
+            Err(fail) => {
+                let told = format!(in rt.alloc(); "{fail}")?;
+                assert_eq!(rt; told.as_str(), *words);
+            }
         }
     }
     Ok(())

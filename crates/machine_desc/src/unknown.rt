@@ -25,8 +25,8 @@ pub(crate) fn check_names(
 }
 
 fn check_tables(alloc: Global, document: &Table, checks: &[Check]) -> Result<(), MachineFail>
-    ensures { Answers result (passed_unless
-        (tables_fault (table_view document.now) (map check_of checks.now) (map check_of checks.now))) }
+    ensures { let rows = map check_of checks.now in
+        Answers result (passed_unless (tables_fault (table_view document.now) rows rows)) }
 {
     for check in checks {
         check_inside(alloc, document, checks, check)?;

@@ -10,15 +10,15 @@ pub struct CoreCount {
     pub loads: u64,
     /// How many stores.
     pub stores: u64,
-    /// How many load-reserveds, store-conditionals and read-modify-writes.
+    /// How many load-reserved, store-conditional and read-modify-write accesses.
     pub atomics: u64,
-    /// How many of all these the core's own cache met with the right that was needed.
+    /// How many of all these hit the core's own cache, with write permission where it was needed.
     pub hits: u64,
-    /// How many it met without the right to write.
+    /// How many hit it without the write permission that they needed.
     pub upgrades: u64,
-    /// How many the shared cache met.
+    /// How many hit the shared cache.
     pub l2hits: u64,
-    /// How many memory met.
+    /// How many went to memory.
     pub misses: u64,
 }
 

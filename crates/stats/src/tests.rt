@@ -1,5 +1,5 @@
 // What no clause says: counts worked by hand, on one bank and one controller with the times of the
-// plain machine.
+// built-in machine, and that the calls succeed at the largest machine too.
 ghost use Rattle.std.specs.Prelude.{◌≡◌, ◌+◌, ◌<◌, ◌≤◌, All, IfOk, None, length};
 ghost use Rattle.machine_desc.specs.Machine.{IsMachine};
 ghost use Rattle.event_graph.specs.Timely.{AreTimely};
@@ -136,9 +136,9 @@ struct Woven {
     ghost comp_count: { length comps ≡ 2 },
 }
 
-/// Core 0 misses at cycle 1, and a line is written back: the write waits 20 cycles for the read, and
-/// so the fill comes 20 cycles later. Core 1 takes the right to write from another core at cycle 3,
-/// and waits 2 cycles for the bank; then it has a hit.
+/// Core 0 misses at cycle 1, and a line is written back: the write waits 20 cycles for the read,
+/// and so the fill comes 20 cycles later. Core 1 takes the write permission from another core at
+/// cycle 3, and waits 2 cycles for the bank; then it has a hit.
 fn first(alloc: Global) -> Result<Woven, NoMemory> {
     let entries = vec![in alloc;
         access(0, 1, LOAD, Outcome::Miss { dirty_victim: true }),
@@ -194,8 +194,12 @@ fn second(alloc: Global) -> Result<Woven, NoMemory> {
 fn add(counters: &mut Counters, w: &Woven)
     requires cores { length counters.old.core_counts ≡ 2 }
     requires comps { length counters.old.comp_counts ≡ 2 }
-    requires fits { Fits (added counters.old (record { entries = w.now.entries; events = w.now.graph; fired = w.now.fired; delays = w.now.delays }) w.now.comps) }
-    ensures added { counters.new ≡ added counters.old (record { entries = w.now.entries; events = w.now.graph; fired = w.now.fired; delays = w.now.delays }) w.now.comps }
+    requires fits { let w = w.now in Fits (added counters.old
+        (record { entries = w.entries; events = w.graph; fired = w.fired; delays = w.delays })
+        w.comps) }
+    ensures added { let w = w.now in counters.new ≡ added counters.old
+        (record { entries = w.entries; events = w.graph; fired = w.fired; delays = w.delays })
+        w.comps }
     ensures cores { length counters.new.core_counts ≡ 2 }
     ensures comps { length counters.new.comp_counts ≡ 2 }
 {
@@ -276,8 +280,10 @@ const LARGEST: [(&str, &str); 7] = [
     (
         "banks = [0]",
         "banks = [
-            0, 0, 0, 0, 0, 0, 0, 0, 0, 0, 0, 0, 0, 0, 0, 0, 0, 0, 0, 0, 0, 0, 0, 0, 0, 0, 0, 0, 0, 0, 0, 0,
-            0, 0, 0, 0, 0, 0, 0, 0, 0, 0, 0, 0, 0, 0, 0, 0, 0, 0, 0, 0, 0, 0, 0, 0, 0, 0, 0, 0, 0, 0, 0, 0,
+            0, 0, 0, 0, 0, 0, 0, 0, 0, 0, 0, 0, 0, 0, 0, 0,
+            0, 0, 0, 0, 0, 0, 0, 0, 0, 0, 0, 0, 0, 0, 0, 0,
+            0, 0, 0, 0, 0, 0, 0, 0, 0, 0, 0, 0, 0, 0, 0, 0,
+            0, 0, 0, 0, 0, 0, 0, 0, 0, 0, 0, 0, 0, 0, 0, 0,
         ]",
     ),
     (
