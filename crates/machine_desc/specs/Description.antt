@@ -128,7 +128,8 @@ ratios_fault document (r ∷ rs) = option_or (ratio_fault document r) (ratios_fa
 -- the domains of all components as they are written: of the banks, and then of the controllers
 unfoldable pub written_domains : Members → List ℤ
 written_domains document =
-    integers_at document (at (codes "domains") (codes "banks")) ++ integers_at document (at (codes "domains") (codes "controllers"))
+    integers_at document (at (codes "domains") (codes "banks"))
+    ++ integers_at document (at (codes "domains") (codes "controllers"))
 
 -- the integer is a number from 0 to below the count
 abbrev pub is_below : ℕ → ℤ → Bool
@@ -138,7 +139,8 @@ is_below count (negsuc n) = false
 -- the least component whose domain is not there
 unfoldable pub domain_fault : Members → Option BadMachine
 domain_fault document =
-    option_map Domain (position (λ z. not (is_below (integer_at document (at (codes "domains") (codes "count"))) z)) (written_domains document))
+    let count = integer_at document (at (codes "domains") (codes "count")) in
+    option_map Domain (position (λ z. not (is_below count z)) (written_domains document))
 
 -- what the first check finds that finds something
 unfoldable pub fault_of : Members → Option BadMachine

@@ -7,7 +7,7 @@ ghost use Rattle.machine_desc.specs.Answers.{Answers, passed_unless};
 ghost use Rattle.machine_desc.specs.Rows.{key_of, range_of, rule_of, check_of};
 ghost use Rattle.machine_desc.specs.Text.{integer_at};
 
-use crate::document::{array_integers, natural, integer_at, value_at};
+use crate::document::{array_integers, integer_at, natural, value_at};
 use crate::keys::{Check, Key, Range, Rule, full_name};
 use crate::{BadMachine, MachineFail};
 use std::alloc::{AllocError, Global};

@@ -1,8 +1,7 @@
 // What stands at the keys of a TOML document.
-ghost use Rattle.std.specs.Prelude.{◌≡◌, option_map, IfOk, MatchResult, OnOk, IfSome, ⊤};
-ghost use Rattle.std.specs.Option.{option_or};
+ghost use Rattle.std.specs.Prelude.{◌≡◌, option_map, IfOk};
 ghost use Rattle.toml.specs.Data.{get_member};
-ghost use Rattle.toml.specs.View.{view, array_view, table_view};
+ghost use Rattle.toml.specs.View.{view, table_view};
 ghost use Rattle.machine_desc.specs.Keys.{at};
 ghost use Rattle.machine_desc.specs.Answers.{ReadsDocument};
 ghost use Rattle.machine_desc.specs.Text.{table_at, value_at, integer_at, integers_at, array_integers, natural_of, natural};

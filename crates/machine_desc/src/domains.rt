@@ -4,7 +4,7 @@ ghost use Rattle.toml.specs.View.{table_view};
 ghost use Rattle.machine_desc.specs.Description.{is_below, written_domains, domain_fault};
 ghost use Rattle.machine_desc.specs.Answers.{Answers, passed_unless};
 
-use crate::document::{integers_at, natural, integer_at};
+use crate::document::{integer_at, integers_at, natural};
 use crate::{BadMachine, MachineFail};
 use std::alloc::{AllocError, Global};
 use toml::Table;

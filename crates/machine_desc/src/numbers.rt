@@ -6,7 +6,7 @@ ghost use Rattle.machine_desc.specs.Keys.{at};
 ghost use Rattle.machine_desc.specs.Machine.{IsL1, IsL2, IsControllers, IsDomains, IsMachine};
 ghost use Rattle.machine_desc.specs.Text.{natural, integer_at, integers_at};
 
-use crate::document::{integers_at, natural, integer_at};
+use crate::document::{integer_at, integers_at, natural};
 use crate::{Controllers, Domains, L1, L2, Machine, Memory, Places};
 use std::alloc::{AllocError, Global};
 use toml::Table;

@@ -1,5 +1,5 @@
 // The numbers that have to be multiples of others: the first that is none.
-ghost use Rattle.std.specs.Prelude.{◌≡◌, map};
+ghost use Rattle.std.specs.Prelude.{map};
 ghost use Rattle.toml.specs.View.{table_view};
 ghost use Rattle.machine_desc.specs.Description.{ratio_fault, ratios_fault};
 ghost use Rattle.machine_desc.specs.Answers.{Answers, passed_unless};

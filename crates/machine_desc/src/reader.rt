@@ -28,11 +28,7 @@ pub fn read(alloc: Global, text: &[u8]) -> Result<Machine, MachineFail>
 }
 
 /// The machine of a document, or the first check that fails.
-#[tactic(
-    auto,
-    using(crate::proofs::Accepted::accepted),
-    unfolding(crate::specs::Description::machine_of_document)
-)]
+#[tactic(auto, using(crate::proofs::Accepted::accepted), unfolding(crate::specs::Description::machine_of_document))]
 fn read_document(alloc: Global, document: &Table) -> Result<Machine, MachineFail>
     ensures answer { Answers result (machine_of_document (table_view document.now)) }
     ensures valid { IfOk result IsMachine }

@@ -232,7 +232,11 @@ fn refuse(rt: &(impl Abort + AllocGlobal), cases: &[Case]) -> Result<(), Fail> {
         let text = edited(rt.alloc(), edits)?;
         match read(rt.alloc(), text.as_bytes()) {
             Err(MachineFail::Bad(bad)) => {
-                assert_eq!(rt; answer_of(&bad), (*number, key.as_bytes(), *value), "at {text}")
+                assert_eq!(rt;
+                    answer_of(&bad),
+                    (*number, key.as_bytes(), *value),
+                    "at {text}"
+                )
             }
             _ => panic!(rt; "not refused: {text}"),
         }
@@ -364,16 +368,35 @@ fn a_long_name_and_a_long_text_are_read(rt: HostRuntime) -> Result<(), Fail> {
 
 /// Edits of the built-in text, and the words of the refusal.
 static WORDS: [(&[(&str, &str)], &str); 7] = [
-    (&[("cores = 1", "cores =")], "the description is no TOML document"),
-    (&[("cores = 1\n", "")], "the key cores is missing"),
-    (&[("banks = [0]", "banks = 0")], "the value of domains.banks is of another kind"),
-    (&[("ways = 1", "ways = 0")], "the value 0 of l1.ways is out of range"),
-    (&[("100000", "100000\nzebra = 1")], "the key zebra is unknown"),
     (
-        &[("banks = 1", "banks = 2"), ("banks = [0]", "banks = [0, 1]"), ("sets = 2", "sets = 3")],
+        &[("cores = 1", "cores =")],
+        "the description is no TOML document",
+    ),
+    (&[("cores = 1\n", "")], "the key cores is missing"),
+    (
+        &[("banks = [0]", "banks = 0")],
+        "the value of domains.banks is of another kind",
+    ),
+    (
+        &[("ways = 1", "ways = 0")],
+        "the value 0 of l1.ways is out of range",
+    ),
+    (
+        &[("100000", "100000\nzebra = 1")],
+        "the key zebra is unknown",
+    ),
+    (
+        &[
+            ("banks = 1", "banks = 2"),
+            ("banks = [0]", "banks = [0, 1]"),
+            ("sets = 2", "sets = 3"),
+        ],
         "the value of l1.sets is no multiple of the number of banks",
     ),
-    (&[("count = 2", "count = 1")], "component 1 is in a domain that is not there"),
+    (
+        &[("count = 2", "count = 1")],
+        "component 1 is in a domain that is not there",
+    ),
 ];
 
 #[test]

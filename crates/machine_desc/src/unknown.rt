@@ -1,5 +1,5 @@
 // The keys that no check names: the first of the top level, and then of the tables.
-ghost use Rattle.std.specs.Prelude.{◌≡◌, map, []};
+ghost use Rattle.std.specs.Prelude.{◌≡◌, map};
 ghost use Rattle.toml.specs.View.{table_view};
 ghost use Rattle.machine_desc.specs.Description.{is_named, is_known, members_fault, table_fault, tables_fault, inside_fault, names_fault};
 ghost use Rattle.machine_desc.specs.Answers.{Answers, passed_unless};
