@@ -1,11 +1,7 @@
 -- That banks and controllers obey the laws of a component.
-use Rattle.std.specs.Prelude.{◌≡◌, ◌+◌, ◌≤◌, ℕ, IsTrue, refl}
+use Rattle.std.specs.Prelude.{refl}
 use Rattle.std.proofs.Common.{arith}
-use Rattle.component.specs.declared.kind.Kind.{Kind}
 use Rattle.component.specs.declared.kind.Kind.TheVariants.{Lookup, Remote, Fill, Read, Write}
-use Rattle.component.specs.declared.bank.Bank.{Bank}
-use Rattle.component.specs.declared.controller.Controller.{Controller}
-use Rattle.component.specs.declared.comp.Comp.{Comp}
 use Rattle.component.specs.declared.comp.Comp.TheVariants.{Bank as ABank, Controller as AController}
 use Rattle.component.specs.ComponentStep.{bank_serves, bank_latency, bank_step, bank_greatest, controller_serves, controller_latency, controller_step, controller_greatest, comp_serves, comp_latency, comp_step, comp_greatest}
 use Rattle.component.specs.ComponentLaws.{FloorAtLeastOne, FloorHolds, ServesStays, FloorStays, FinishWithinGreatest}

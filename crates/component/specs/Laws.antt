@@ -9,7 +9,8 @@ use Rattle.component.specs.Components.{AreComponents, AreFresh}
 
 -- the components of a machine stay its components when one of them serves an event
 abbrev pub ComponentsStay : Type 0
-ComponentsStay = (m : Machine) (comps : List Comp) (number : ℕ) (c : Comp) (kind : Kind) (start : ℕ) → AreComponents m comps → slice_get comps number ≡ Some c
+ComponentsStay = (m : Machine) (comps : List Comp) (number : ℕ) (c : Comp) (kind : Kind) (start : ℕ)
+    → AreComponents m comps → slice_get comps number ≡ Some c
     → AreComponents m (slice_set comps number (comp_step c kind start).0)
 
 -- the components of a machine before their first event are one list

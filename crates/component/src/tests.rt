@@ -96,7 +96,11 @@ fn the_largest_machine_has_80_components(rt: HostRuntime) -> Result<(), Fail> {
     let list = comps.as_slice();
     assert_eq!(rt; list.len(), 80);
     for (number, is_bank) in [(0, true), (63, true), (64, false), (79, false)] {
-        assert_eq!(rt; matches!(list[number], Comp::Bank(_)), is_bank, "at {number}");
+        assert_eq!(rt;
+            matches!(list[number], Comp::Bank(_)),
+            is_bank,
+            "at {number}"
+        );
     }
     Ok(())
 }
