@@ -1,5 +1,5 @@
 -- The counts with an interval more, from what is true of each core and of each component.
-use Rattle.std.proofs.Common.{◌≡◌, ◌+◌, ◌<◌, ℕ, List, [], ◌∷◌, ◌==◌, length, get_or, map, slice_index, refl, ap, ◌∙◌, sym, subst, arith, zero-add}
+use Rattle.std.proofs.Common.{◌≡◌, ◌+◌, ◌<◌, ℕ, List, [], ◌∷◌, ◌==◌, length, get_or, map, slice_index, ap, ◌∙◌, sym, subst, arith, zero-add}
 use Rattle.std.specs.List.{zip, enumerate_from, filter, fold}
 use Rattle.std.proofs.lemmas.List.Folds.{fold-map}
 use Rattle.std.proofs.lemmas.List.{length-map, same_lists, get_or-map}
@@ -13,7 +13,7 @@ use Rattle.component.specs.ComponentStep.{free_of}
 use Rattle.stats.specs.declared.counts.CoreCount.{CoreCount}
 use Rattle.stats.specs.declared.counts.CompCount.{CompCount}
 use Rattle.stats.specs.Counted.{core_plus, entry_count, delay_count, no_core_count, comp_plus, event_count, no_comp_count}
-use Rattle.stats.specs.Counts.{Interval, Counts, CoreFits, CompFits, Fits, added, core_in, core_after, comp_in, comp_after}
+use Rattle.stats.specs.Counts.{Interval, Counts, CoreFits, CompFits, Fits, added, core_after, comp_in, comp_after}
 use Rattle.stats.specs.Passes.{with_accesses, with_delay, with_events, with_free}
 use Rattle.stats.proofs.Plus.{core_plus-assoc, core_plus-none, comp_plus-assoc, comp_plus-none, plus-fold}
 

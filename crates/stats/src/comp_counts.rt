@@ -65,8 +65,8 @@ pub(crate) fn add_to_comp_counts(
     ensures { (n : ℕ) (d : CompCount) (c : Comp) → n < length counts.old
         → slice_index_or counts.new n d
         ≡ with_free
-            (with_events (slice_index_or counts.old n d) n (zip events.now fired.now))
-            (free_of (slice_index_or comps.now n c)) }
+        (with_events (slice_index_or counts.old n d) n (zip events.now fired.now))
+        (free_of (slice_index_or comps.now n c)) }
 {
     count_events(counts, events, fired);
     keep_free(counts, comps);

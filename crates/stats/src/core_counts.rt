@@ -67,12 +67,12 @@ pub(crate) fn add_to_core_counts(counts: &mut [CoreCount], entries: &[Entry], de
     requires delays { length delays.now ≡ length counts.old }
     requires fits { (n : ℕ) (d : CoreCount) → n < length counts.old → CoreFits
         (with_accesses
-            (with_delay (slice_index_or counts.old n d) (slice_index delays.now n))
-            n entries.now) }
+        (with_delay (slice_index_or counts.old n d) (slice_index delays.now n))
+        n entries.now) }
     ensures { (n : ℕ) (d : CoreCount) → n < length counts.old → slice_index_or counts.new n d
         ≡ with_accesses
-            (with_delay (slice_index_or counts.old n d) (slice_index delays.now n))
-            n entries.now }
+        (with_delay (slice_index_or counts.old n d) (slice_index delays.now n))
+        n entries.now }
 {
     count_delays(counts, delays);
     count_accesses(counts, entries);

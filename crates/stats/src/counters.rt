@@ -25,10 +25,10 @@ impl Model for Counters {
     ghost Value = { Counts };
 
     ghost view = { λ c. record {
-        core_counts = c.core_counts.items;
-        comp_counts = c.comp_counts.items;
-        accesses = c.accesses;
-        events = c.events
+      core_counts = c.core_counts.items;
+      comp_counts = c.comp_counts.items;
+      accesses = c.accesses;
+      events = c.events;
     } };
 }
 

@@ -1,6 +1,6 @@
 // What no clause says: counts worked by hand, on one bank and one controller with the times of the
 // built-in machine, and that the calls succeed at the largest machine too.
-ghost use Rattle.std.specs.Prelude.{◌≡◌, ◌+◌, ◌<◌, ◌≤◌, All, IfOk, None, length};
+ghost use Rattle.std.specs.Prelude.{◌≡◌, ◌<◌, ◌≤◌, All, IfOk, None, length};
 ghost use Rattle.machine_desc.specs.Machine.{IsMachine};
 ghost use Rattle.event_graph.specs.Timely.{AreTimely};
 ghost use Rattle.stats.specs.Counts.{Fits, added};
