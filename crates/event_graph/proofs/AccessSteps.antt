@@ -10,7 +10,7 @@ use Rattle.event_graph.specs.declared.make.Critical.{Critical}
 use Rattle.event_graph.specs.declared.piece.Piece.{Piece}
 use Rattle.event_graph.specs.Critical.{last_critical}
 use Rattle.event_graph.specs.Expansion.{ParentsComeBefore}
-use Rattle.event_graph.specs.EventGraph.{event_at, parent_of, start_of, finish_of, inner_parent}
+use Rattle.event_graph.specs.EventGraph.{event_at, parent_of, zero_load_start, zero_load_finish, inner_parent}
 use Rattle.event_graph.specs.NextEvent.{critical_of, parent_among, next_event}
 use Rattle.event_graph.proofs.Places.{slice_get_right, slice_get_take, slice_get_enumerate, take_one_more, enumerate_one_more}
 
@@ -49,13 +49,13 @@ module _ (before : List Event) (e : Entry) (pieces : List Piece) where
   inner_is k start None low = refl
   inner_is k start (Some i) low =
       ap (option_map (λ (q : Event). parent_of q.number q.min_finish start)) (event_below k i (low i refl))
-      ∙ fused (λ (q : Event). parent_of q.number q.min_finish start) (event_at before e pieces i) (λ q. parent_of (length before + i) (finish_of e q) start) (λ q. refl) (slice_get pieces i)
+      ∙ fused (λ (q : Event). parent_of q.number q.min_finish start) (event_at before e pieces i) (λ q. parent_of (length before + i) (zero_load_finish e q) start) (λ q. refl) (slice_get pieces i)
 
   pub next_is : (k : ℕ) (p : Piece) → ParentsComeBefore pieces → slice_get pieces k ≡ Some p
       → next_event (before ++ events_below k) (option_map critical_of (last_critical e.core before)) e (length before) k (k + 1 == length pieces) p
       ≡ event_at before e pieces k p
   next_is k p law is =
-      let start : ℕ = start_of e p in
+      let start : ℕ = zero_load_start e p in
       let earlier : option_map (λ (c : Critical). parent_of c.number c.finish start) (option_map critical_of (last_critical e.core before))
       ≡ option_map (λ (c : Event). parent_of c.number c.min_finish start) (last_critical e.core before)
       = fused (λ (c : Critical). parent_of c.number c.finish start) critical_of (λ (c : Event). parent_of c.number c.min_finish start) (λ c. refl) (last_critical e.core before) in

@@ -16,7 +16,7 @@ use Rattle.event_graph.specs.declared.piece.Piece.{Piece}
 use Rattle.event_graph.specs.Numbered.{IsNumbered}
 use Rattle.event_graph.specs.Critical.{is_critical_of, last_critical}
 use Rattle.event_graph.specs.Expansion.{ParentsComeBefore}
-use Rattle.event_graph.specs.EventGraph.{event_at, access_events, all_events, parent_of, start_of, finish_of, earlier_parent, inner_parent}
+use Rattle.event_graph.specs.EventGraph.{event_at, access_events, all_events, parent_of, zero_load_start, zero_load_finish, earlier_parent, inner_parent}
 use Rattle.event_graph.proofs.Places.{slice_get_left, slice_get_right, slice_get_enumerate}
 
 -- what a map made of an option
@@ -134,7 +134,7 @@ module _ (pieces : Entry → List Piece) (law : (e : Entry) → ParentsComeBefor
       → inner_parent base e (pieces e) start o ≡ Some par → par.number < base + k
   inner_below base e start k None par low is = cc
   inner_below base e start k (Some i) par low is =
-      let from = mapped_some (λ (q : Piece). parent_of (base + i) (finish_of e q) start) (slice_get (pieces e) i) par is in
+      let from = mapped_some (λ (q : Piece). parent_of (base + i) (zero_load_finish e q) start) (slice_get (pieces e) i) par is in
       let same : par.number ≡ base + i = ap (λ (r : Parent). r.number) from.2 in
       let below : i < k = low i refl in
       omega arith
@@ -142,12 +142,12 @@ module _ (pieces : Entry → List Piece) (law : (e : Entry) → ParentsComeBefor
   first_below : (before : List Event) (e : Entry) (k : ℕ) (p : Piece) (par : Parent) → IsNumbered before → slice_get (pieces e) k ≡ Some p
       → (event_at before e (pieces e) k p).first ≡ Some par → par.number < length before + k
   first_below before e zero p par numbered at' is =
-      let below : par.number < length before = earlier_below before e.core (start_of e p) par numbered is in
+      let below : par.number < length before = earlier_below before e.core (zero_load_start e p) par numbered is in
       omega arith
   first_below before e (suc k) p par numbered at' is =
       let later : (suc k == 0) ≡ false = eqb-suc-zero k in
-      inner_below (length before) e (start_of e p) (suc k) p.first par (λ i from. (law e).first (suc k) p i at' from)
-      (sym (cond-false (suc k == 0) (earlier_parent before e.core (start_of e p)) (inner_parent (length before) e (pieces e) (start_of e p) p.first) later) ∙ is)
+      inner_below (length before) e (zero_load_start e p) (suc k) p.first par (λ i from. (law e).first (suc k) p i at' from)
+      (sym (cond-false (suc k == 0) (earlier_parent before e.core (zero_load_start e p)) (inner_parent (length before) e (pieces e) (zero_load_start e p) p.first) later) ∙ is)
 
   numbered_more : (before : List Event) (e : Entry) → IsNumbered before → IsNumbered (before ++ access_events before e (pieces e))
   numbered_more before e numbered = record {
@@ -171,7 +171,7 @@ module _ (pieces : Entry → List Piece) (law : (e : Entry) → ParentsComeBefor
       | inr new ↦
           let made = of_access before e (pieces e) new.0 ev new.2 in
           let below : par.number < length before + new.0 =
-          inner_below (length before) e (start_of e made.0) new.0 made.0.second par (λ j from'. (law e).second new.0 made.0 j made.1 from') (sym (ap (λ (w : Event). w.second) made.2) ∙ from) in
+          inner_below (length before) e (zero_load_start e made.0) new.0 made.0.second par (λ j from'. (law e).second new.0 made.0 j made.1 from') (sym (ap (λ (w : Event). w.second) made.2) ∙ from) in
           let spot : i ≡ length before + new.0 = new.1 in
           omega arith
     ];

@@ -12,7 +12,7 @@ use Rattle.event_graph.specs.declared.piece.Piece.{Piece}
 use Rattle.event_graph.specs.Critical.{last_critical}
 use Rattle.event_graph.specs.Expansion.{EndsAt}
 use Rattle.event_graph.specs.Near.{IsNear, AreNear}
-use Rattle.event_graph.specs.EventGraph.{event_at, all_events, parent_of, start_of, finish_of, earlier_parent, inner_parent}
+use Rattle.event_graph.specs.EventGraph.{event_at, all_events, parent_of, zero_load_start, zero_load_finish, earlier_parent, inner_parent}
 use Rattle.event_graph.proofs.AllEvents.{mapped_some, every_of}
 
 -- A delay is a start minus a finish, and so no more than the start.
@@ -26,17 +26,17 @@ earlier_delay before core start par is =
 inner_delay : (base : ℕ) (e : Entry) (pieces : List Piece) (start : ℕ) (o : Option ℕ) (par : Parent) → inner_parent base e pieces start o ≡ Some par → par.delay ≤ start
 inner_delay base e pieces start None par is = cc
 inner_delay base e pieces start (Some i) par is =
-    let from = mapped_some (λ (q : Piece). parent_of (base + i) (finish_of e q) start) (slice_get pieces i) par is in
-    let same : par.delay ≡ start - finish_of e from.0 = ap (λ (r : Parent). r.delay) from.2 in
+    let from = mapped_some (λ (q : Piece). parent_of (base + i) (zero_load_finish e q) start) (slice_get pieces i) par is in
+    let same : par.delay ≡ start - zero_load_finish e from.0 = ap (λ (r : Parent). r.delay) from.2 in
     omega arith
 
 first_delay : (before : List Event) (e : Entry) (pieces : List Piece) (k : ℕ) (p : Piece) (par : Parent)
-    → (event_at before e pieces k p).first ≡ Some par → par.delay ≤ start_of e p
-first_delay before e pieces zero p par is = earlier_delay before e.core (start_of e p) par is
+    → (event_at before e pieces k p).first ≡ Some par → par.delay ≤ zero_load_start e p
+first_delay before e pieces zero p par is = earlier_delay before e.core (zero_load_start e p) par is
 first_delay before e pieces (suc k) p par is =
     let later : (suc k == 0) ≡ false = eqb-suc-zero k in
-    inner_delay (length before) e pieces (start_of e p) p.first par
-    (sym (cond-false (suc k == 0) (earlier_parent before e.core (start_of e p)) (inner_parent (length before) e pieces (start_of e p) p.first) later) ∙ is)
+    inner_delay (length before) e pieces (zero_load_start e p) p.first par
+    (sym (cond-false (suc k == 0) (earlier_parent before e.core (zero_load_start e p)) (inner_parent (length before) e pieces (zero_load_start e p) p.first) later) ∙ is)
 
 -- Accesses that start by `last` and take `most` have events that begin by the sum of both.
 module _ (pieces : Entry → List Piece) (time : Entry → ℕ) (most : ℕ) (small : (e : Entry) → time e ≤ most) (ends : (e : Entry) → EndsAt (pieces e) (time e)) (last : ℕ) where
@@ -45,14 +45,14 @@ module _ (pieces : Entry → List Piece) (time : Entry → ℕ) (most : ℕ) (sm
   near_at before e k p early is =
       let ended : p.offset + p.time ≤ time e = (ends e).each k p is in
       let short : time e ≤ most = small e in
-      let begins : start_of e p ≤ last + most = omega arith in
+      let begins : zero_load_start e p ≤ last + most = omega arith in
       record {
         min_start = begins;
         first = λ par from.
-            let delayed : par.delay ≤ start_of e p = first_delay before e (pieces e) k p par from in
+            let delayed : par.delay ≤ zero_load_start e p = first_delay before e (pieces e) k p par from in
             omega arith;
         second = λ par from.
-            let delayed : par.delay ≤ start_of e p = inner_delay (length before) e (pieces e) (start_of e p) p.second par from in
+            let delayed : par.delay ≤ zero_load_start e p = inner_delay (length before) e (pieces e) (zero_load_start e p) p.second par from in
             omega arith;
       }
 

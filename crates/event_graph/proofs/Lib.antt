@@ -1,8 +1,26 @@
-mod LastKept
-mod Places
 mod AccessSteps
 mod AllEvents
+mod Example
+pub mod FindFired
+mod Fitting
 mod FromEntries
-mod ToldFits
-mod PlainFits
+pub mod Growth
+pub mod Kept
+mod LastKept
+pub mod Least
+pub mod Lists
+mod MachineGrowth
+mod Once
+pub mod Order
+mod Places
 mod PlainCounts
+mod PlainFits
+pub mod Progress
+pub mod Rounds
+pub mod SmallSteps
+pub mod Solves
+pub mod Theorem
+mod Timely
+mod ToldFits
+mod Turns
+mod Unique

@@ -10,11 +10,11 @@ use Rattle.event_graph.specs.declared.piece.Piece.{Piece}
 use Rattle.event_graph.specs.Critical.{last_critical}
 
 -- the start and the finish of an event at zero load
-abbrev pub start_of : Entry → Piece → ℕ
-start_of e p = e.start + p.offset
+abbrev pub zero_load_start : Entry → Piece → ℕ
+zero_load_start e p = e.start + p.offset
 
-abbrev pub finish_of : Entry → Piece → ℕ
-finish_of e p = e.start + p.offset + p.time
+abbrev pub zero_load_finish : Entry → Piece → ℕ
+zero_load_finish e p = e.start + p.offset + p.time
 
 -- a parent of an event that starts then at zero load. The delay is what the event starts later than
 -- its parent finishes, at zero load, and 0 where it starts earlier
@@ -29,7 +29,7 @@ earlier_parent before core start =
 -- the event at a place of the same access, whose event 0 has the number `base`
 abbrev pub inner_parent : (base : ℕ) → Entry → List Piece → (start : ℕ) → (place : Option ℕ) → Option Parent
 inner_parent base e pieces start place =
-    option_and_then (λ i. option_map (λ q. parent_of (base + i) (finish_of e q) start) (slice_get pieces i)) place
+    option_and_then (λ i. option_map (λ q. parent_of (base + i) (zero_load_finish e q) start) (slice_get pieces i)) place
 
 -- the event at a place of an access. The last event is critical. Event 0 waits for the core's last
 -- critical event, and the others for the events that their pieces name
@@ -39,13 +39,13 @@ event_at before e pieces place p = record {
   core = e.core;
   component = p.component;
   kind = p.kind;
-  min_start = start_of e p;
-  min_finish = finish_of e p;
+  min_start = zero_load_start e p;
+  min_finish = zero_load_finish e p;
   critical = place + 1 == length pieces;
   first = (if place == 0
-      then earlier_parent before e.core (start_of e p)
-      else inner_parent (length before) e pieces (start_of e p) p.first);
-  second = inner_parent (length before) e pieces (start_of e p) p.second;
+      then earlier_parent before e.core (zero_load_start e p)
+      else inner_parent (length before) e pieces (zero_load_start e p) p.first);
+  second = inner_parent (length before) e pieces (zero_load_start e p) p.second;
 }
 
 -- the events of an access, after those of the accesses before it

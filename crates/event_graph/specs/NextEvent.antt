@@ -8,7 +8,7 @@ use Rattle.event_graph.specs.declared.event.Event.{Event}
 use Rattle.event_graph.specs.declared.event.Parent.{Parent}
 use Rattle.event_graph.specs.declared.piece.Piece.{Piece}
 use Rattle.event_graph.specs.Critical.{last_critical}
-use Rattle.event_graph.specs.EventGraph.{parent_of, start_of, finish_of}
+use Rattle.event_graph.specs.EventGraph.{parent_of, zero_load_start, zero_load_finish}
 
 -- what is kept of a core's last critical event
 abbrev pub critical_of : Event → Critical
@@ -29,11 +29,11 @@ next_event events last e base place critical p = record {
   core = e.core;
   component = p.component;
   kind = p.kind;
-  min_start = start_of e p;
-  min_finish = finish_of e p;
+  min_start = zero_load_start e p;
+  min_finish = zero_load_finish e p;
   critical = critical;
   first = (if place == 0
-      then option_map (λ c. parent_of c.number c.finish (start_of e p)) last
-      else parent_among events base (start_of e p) p.first);
-  second = parent_among events base (start_of e p) p.second;
+      then option_map (λ c. parent_of c.number c.finish (zero_load_start e p)) last
+      else parent_among events base (zero_load_start e p) p.first);
+  second = parent_among events base (zero_load_start e p) p.second;
 }

@@ -29,19 +29,19 @@ start_of finish e = max e.min_start (max (after_parent finish e.first) (after_pa
 
 -- What is known of the events that fired.
 
-abbrev pub entry_of : List Timed → ℕ → Option Timed
-entry_of fired number = find (λ x. x.event.number == number) fired
+abbrev pub find_fired : List Timed → ℕ → Option Timed
+find_fired fired number = find (λ x. x.event.number == number) fired
 
-abbrev pub finish_of : Option Timed → ℕ
-finish_of None = 0
-finish_of (Some x) = x.finish
+abbrev pub finish_or_zero : Option Timed → ℕ
+finish_or_zero None = 0
+finish_or_zero (Some x) = x.finish
 
 -- the finish of the event of this number
 abbrev pub finish_in : List Timed → ℕ → ℕ
-finish_in fired number = finish_of (entry_of fired number)
+finish_in fired number = finish_or_zero (find_fired fired number)
 
 abbrev pub is_fired : List Timed → ℕ → Bool
-is_fired fired number = is_some (entry_of fired number)
+is_fired fired number = is_some (find_fired fired number)
 
 abbrev pub is_parent_fired : List Timed → Option Parent → Bool
 is_parent_fired fired None = true
@@ -62,14 +62,14 @@ least_ready fired [] = None
 least_ready fired (e ∷ es) =
     cond (is_ready fired e) (Some (earlier (e, start_of (finish_in fired) e) (least_ready fired es))) (least_ready fired es)
 
--- an event's entry
+-- what is known of an event
 
 abbrev pub timed_of : Event → Option Timed → Timed
 timed_of e None = record { event = e; start = 0; finish = 0 }
 timed_of e (Some x) = x
 
 abbrev pub timed_in : List Timed → Event → Timed
-timed_in fired e = timed_of e (entry_of fired e.number)
+timed_in fired e = timed_of e (find_fired fired e.number)
 
 -- The rounds of the weave.
 

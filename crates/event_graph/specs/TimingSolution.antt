@@ -1,6 +1,6 @@
 -- The solutions of the timing rules, which say nothing of an order of execution.
 use Rattle.std.specs.Prelude.{◌≡◌, ◌==◌, ◌↔◌, ℕ, IsTrue, List, [], ◌∷◌, map, slice_get, Some}
-use Rattle.std.specs.List.{AllPairs, Contains, filter}
+use Rattle.std.specs.List.{AllPairs, Contains, filter, fold}
 use Rattle.component.specs.declared.kind.Kind.{Kind}
 use Rattle.event_graph.specs.declared.event.Event.{Event}
 use Rattle.event_graph.specs.OneListWeave.{Timed, finish_in, is_before, start_of}
@@ -14,6 +14,10 @@ abbrev pub IsInOrder : List Timed → Type 0
 IsInOrder xs = AllPairs (λ x y. IsTrue (is_before x.event x.start y.event y.start)) xs
 
 module _ {C : Type 0} (stepped : C → Kind → ℕ → C × ℕ) where
+  -- the component after it served these, one after the other
+  abbrev pub after_serving : C → List Timed → C
+  after_serving c xs = fold (λ before x. (stepped before x.event.kind x.start).0) c xs
+
   -- the finishes are those of a component that serves one event after the other
   abbrev pub ServesInTurn : C → List Timed → Type 0
   ServesInTurn c [] = Unit {0}
@@ -24,7 +28,7 @@ module _ {C : Type 0} (stepped : C → Kind → ℕ → C × ℕ) where
   pub record IsSolution (events : List Event) (comps : List C) (timed : List Timed) : Type 0 where
     pub events_are : map (λ x. x.event) timed ≡ events
     pub starts : (x : Timed) → Contains timed x → x.start ≡ start_of (finish_in timed) x.event
-    -- the same entries, in order of (start, number)
+    -- the same, in order of (start, number)
     pub sorted : List Timed
     pub in_order : IsInOrder sorted
     pub same : (x : Timed) → Contains sorted x ↔ Contains timed x

@@ -1,15 +1,22 @@
 //! Laws over the definitions alone, each the contract of a function that does nothing.
-ghost use Rattle.std.specs.Prelude.{◌≡◌, ◌+◌, ◌^◌, ◌<◌, ◌≤◌, ℕ, List, All, length, sum_by};
+ghost use Rattle.std.specs.Prelude.{◌≡◌, ◌+◌, ◌*◌, ◌^◌, ◌<◌, ◌≤◌, ◌↔◌, ℕ, Bool, List, All, Some, length, map, slice_get, sum_by, take, IsPermutation};
+ghost use Rattle.std.specs.Option.{option_map};
 ghost use Rattle.zs_num.specs.declared.entry.Entry.{Entry};
 ghost use Rattle.event_graph.specs.declared.event.Event.{Event};
 ghost use Rattle.event_graph.specs.EventGraph.{all_events};
+ghost use Rattle.event_graph.specs.Firing.{IsNext};
 ghost use Rattle.event_graph.specs.Fits.{GraphFits};
-ghost use Rattle.event_graph.specs.Laws.{PlainTellsComponents, PlainGraphsFit, PlainAccessesHaveFewEvents};
+ghost use Rattle.event_graph.specs.Growth.{BeginBy, IsPaced};
+ghost use Rattle.event_graph.specs.Laws.{MachineComponentsStay, MachineStepsStaySmall, PlainAccessesHaveFewEvents, PlainGraphsFit, PlainTellsComponents};
 ghost use Rattle.event_graph.specs.Near.{AreNear};
+ghost use Rattle.event_graph.specs.Numbered.{IsNumbered};
+ghost use Rattle.event_graph.specs.OneListWeave.{AreSmallSteps, Timed, after, fired_of, weave, woven};
+ghost use Rattle.event_graph.specs.Timely.{AreTimely};
+ghost use Rattle.event_graph.specs.TimingSolution.{IsInOrder, IsSolution, ServesInTurn, after_serving, of_component};
 ghost use Rattle.event_graph.specs.Told.{IsTrueOf};
 
 use crate::Expand;
-use component::Component;
+use component::{Comp, Component};
 
 /// Components of which an expansion tells the truth serve all events of its accesses, and each with
 /// the event's time at zero load as its floor.
@@ -52,3 +59,95 @@ pub fn plain_accesses_have_few_events()
 pub fn fitting_events_are_there<C: Component>()
     ensures { (events : List Event) (comps : List C) → GraphFits C.serves C.floor events comps → All (λ e. e.component < length comps) events }
 {}
+
+/// The weave fires each event exactly once.
+pub fn each_event_fires_once<C: Component>()
+    ensures { (events : List Event) (comps : List C) →
+        IsNumbered events → GraphFits C.serves C.floor events comps →
+        IsPermutation events (map (λ x. x.event) (weave C.stepped events comps).fired) }
+{}
+
+/// The weave fires events in order of start, and at a tie in order of number.
+pub fn events_fire_in_order<C: Component>()
+    ensures { (events : List Event) (comps : List C) →
+        IsNumbered events → GraphFits C.serves C.floor events comps →
+        IsInOrder (weave C.stepped events comps).fired }
+{}
+
+/// So many rounds fire so many events, the first that the weave fires.
+pub fn rounds_fire_the_first_events<C: Component>()
+    ensures { (events : List Event) (comps : List C) (rounds : ℕ) →
+        IsNumbered events → GraphFits C.serves C.floor events comps →
+        (after C.stepped events comps rounds).fired ≡ take rounds (weave C.stepped events comps).fired }
+{}
+
+/// Each event that the weave fires was the least ready one, with those fired that the weave fires before it.
+pub fn the_least_ready_event_fires<C: Component>()
+    ensures { (events : List Event) (comps : List C) (index : ℕ) (x : Timed) →
+        IsNumbered events → GraphFits C.serves C.floor events comps →
+        slice_get (weave C.stepped events comps).fired index ≡ Some x →
+        IsNext (take index (weave C.stepped events comps).fired) events x }
+{}
+
+/// After each round a component is what its own events left, served in the order in which they fired.
+pub fn components_serve_their_own_events<C: Component>()
+    ensures { (events : List Event) (comps : List C) (rounds number : ℕ) →
+        IsNumbered events → GraphFits C.serves C.floor events comps →
+        (slice_get (after C.stepped events comps rounds).comps number
+            ≡ option_map (λ c. after_serving C.stepped c (of_component number (after C.stepped events comps rounds).fired)) (slice_get comps number)) }
+{}
+
+/// The finish of each event is what its component computed when it served the event, after the events
+/// of its own that fired before.
+pub fn finishes_are_served_in_turn<C: Component>()
+    ensures { (events : List Event) (comps : List C) (number : ℕ) (c : C) →
+        IsNumbered events → GraphFits C.serves C.floor events comps → slice_get comps number ≡ Some c →
+        ServesInTurn C.stepped c (of_component number (weave C.stepped events comps).fired) }
+{}
+
+/// After each round the graph fits the components.
+pub fn graphs_keep_fitting<C: Component>()
+    ensures { (events : List Event) (comps : List C) (rounds : ℕ) →
+        IsNumbered events → GraphFits C.serves C.floor events comps →
+        GraphFits C.serves C.floor events (after C.stepped events comps rounds).comps }
+{}
+
+/// The one-list weave solves the timing rules, and nothing else does: the rules, which say nothing of
+/// an order of execution, fix every start and finish.
+pub fn weave_is_the_one_solution<C: Component>()
+    ensures { (events : List Event) (comps : List C) (timed : List Timed) →
+        IsNumbered events → GraphFits C.serves C.floor events comps →
+        (IsSolution C.stepped events comps timed ↔ (timed ≡ woven C.stepped events comps)) }
+{}
+
+/// Where a step computes no more than `most` above the later of its start and the cycle until which the
+/// component is busy, no sum of a weave passes that of all its steps and delays, from `base` on.
+pub fn steps_stay_small<C: Component>()
+    ensures { (paced : C → Bool) (busy : C → ℕ) (most delay base : ℕ) (events : List Event) (comps : List C) →
+        IsNumbered events → GraphFits C.serves C.floor events comps →
+        IsPaced C.serves C.stepped C.greatest paced busy most → AreNear base delay events → BeginBy paced busy base comps →
+        base + length events * (delay + most) ≤ 2 ^ 62 → AreSmallSteps C.stepped C.greatest events comps }
+{}
+
+/// No event starts before its start at zero load or takes less than its time at zero load, and each
+/// finishes within 2^62 cycles.
+pub fn events_take_their_time<C: Component>()
+    ensures { (events : List Event) (comps : List C) →
+        IsNumbered events → GraphFits C.serves C.floor events comps → AreSmallSteps C.stepped C.greatest events comps →
+        AreTimely events (map fired_of (woven C.stepped events comps)) }
+{}
+
+/// The components of a machine stay its components in a weave.
+pub fn machine_components_stay()
+    ensures { MachineComponentsStay }
+{
+    component::laws::components_stay();
+}
+
+/// On the components of a machine no sum of a weave passes 2^62, where 2^17 cycles and the delay for
+/// each event still have room above `base`.
+pub fn machine_steps_stay_small()
+    ensures { MachineStepsStaySmall }
+{
+    steps_stay_small::<Comp>();
+}

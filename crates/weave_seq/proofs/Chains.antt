@@ -9,7 +9,7 @@ use Rattle.event_graph.specs.Numbered.{IsNumbered}
 use Rattle.weave_seq.specs.declared.children.Place.{Place}
 use Rattle.weave_seq.specs.declared.children.Place.TheVariants.{First, Second}
 use Rattle.weave_seq.specs.Chains.{AreChains, IsParent, latest, parent_at, parents_of, with_latest}
-use Rattle.weave_seq.proofs.Lists.{get-map, get_some, read_is}
+use Rattle.event_graph.proofs.Lists.{get-map, get_some, read_is}
 
 push_size : (before : List ℕ) (upto x : ℕ) → length before ≡ upto → length (before ++ x ∷ []) ≡ upto + 1
 push_size before upto x h = length_push before x ∙ ap (λ n. n + 1) h

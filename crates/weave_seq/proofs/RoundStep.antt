@@ -16,11 +16,12 @@ use Rattle.weave_seq.specs.declared.children.Place.TheVariants.{First, Second}
 use Rattle.weave_seq.specs.Chains.{IsParent, parent_at, parents_of}
 use Rattle.weave_seq.specs.Times.{IsRight, StartSmall, finish_at, ready_start, times_of}
 use Rattle.weave_seq.specs.Tournament.{IsFirst}
-use Rattle.weave_seq.proofs.Least.{IsLeast, least_some, ready_parts}
-use Rattle.weave_seq.proofs.Lists.{In, at_in, get-map, get_read, get_within, read_is}
-use Rattle.weave_seq.proofs.Progress.{after_more, holds, round_fires, round_stays}
-use Rattle.weave_seq.proofs.Rounds.{IsLawful, IsServed}
-use Rattle.weave_seq.proofs.State.{first_least, first_never, grown, ready_small, ready_start-done, ready_start-set_other, small_step, start_small_at, times_of-push}
+use Rattle.event_graph.proofs.Least.{IsLeast, least_some, ready_parts}
+use Rattle.event_graph.proofs.Lists.{In, at_in, get-map, get_read, get_within, read_is}
+use Rattle.event_graph.proofs.Progress.{after_more, holds, round_fires, round_stays}
+use Rattle.event_graph.proofs.Rounds.{IsLawful, IsServed}
+use Rattle.weave_seq.proofs.State.{first_least, first_never, ready_start-done, ready_start-set_other, start_small_at, times_of-push}
+use Rattle.event_graph.proofs.SmallSteps.{grown, ready_small, small_step}
 
 abbrev pub no_event : Event
 no_event = record { number = 0; core = 0; component = 0; kind = Lookup; min_start = 0; min_finish = 0; critical = false; first = None; second = None }

@@ -1,5 +1,5 @@
 -- What the weave's starts and finishes are in each round, as the program keeps them.
-use Rattle.std.proofs.Common.{◌≡◌, ◌<◌, ◌≤◌, ◌+◌, ◌^◌, ◌&&◌, ℕ, zero, suc, Bool, true, false, not, cond, List, [], ◌∷◌, ◌++◌, length, get_or, set, inl, inr, Option, Some, None, is_some, sym, ◌∙◌, ap, subst, refl, arith, length-set, ltb}
+use Rattle.std.proofs.Common.{◌≡◌, ◌<◌, ◌≤◌, ◌+◌, ◌^◌, ◌&&◌, ℕ, Bool, true, false, not, cond, List, [], ◌∷◌, ◌++◌, length, get_or, set, inl, inr, Option, Some, None, is_some, sym, ◌∙◌, ap, subst, refl, arith, length-set, ltb}
 use Rattle.std.specs.Prelude.{IsTrue, IfSome, slice_get, slice_index}
 use Rattle.std.proofs.lemmas.Bool.{and_left, cases_Bool, cases_eq, cond-true, cond-false, lt-ltb, le-ltb, not_from_true}
 use Rattle.std.proofs.lemmas.List.{get_or-set_other, get_or-set_same, length-map, same_lists}
@@ -8,21 +8,22 @@ use Rattle.event_graph.specs.declared.event.Event.{Event}
 use Rattle.event_graph.specs.declared.event.Parent.{Parent}
 use Rattle.event_graph.specs.declared.fired.Fired.{Fired}
 use Rattle.event_graph.specs.Numbered.{IsNumbered}
-use Rattle.event_graph.specs.OneListWeave.{AreSmallSteps, IsSmallStep, Timed, Weave, after, after_parent, entry_of, finish_in, finish_of, fired_of, is_fired, is_parent_fired, is_ready, least_ready, round, start_of, timed_in, timed_of, weave}
+use Rattle.event_graph.specs.OneListWeave.{AreSmallSteps, Timed, Weave, after_parent, find_fired, finish_in, finish_or_zero, fired_of, is_fired, is_parent_fired, is_ready, least_ready, start_of, timed_in, timed_of}
 use Rattle.zs_num.specs.declared.time.Key.{Key}
 use Rattle.weave_seq.specs.Times.{IsRight, StartSmall, finish_at, is_done, is_parent_done, may_start, ready_start, times_of}
 use Rattle.weave_seq.specs.Tournament.{IsFirst}
-use Rattle.weave_seq.proofs.Entries.{Extends, entry_in, entry_push_new, entry_push_other, extends_from, fired_in, start_extends}
-use Rattle.weave_seq.proofs.Least.{IsLeast, least_is, least_some, ready_parts}
-use Rattle.weave_seq.proofs.Lists.{In, at_in, get-map, get_some, get_within, in_at, in_left, in_push_cases, read_is}
-use Rattle.weave_seq.proofs.Order.{before_by_number, before_by_start}
-use Rattle.weave_seq.proofs.Progress.{after_first_round, after_more, all_fired, holds, round_fires, round_stays}
-use Rattle.weave_seq.proofs.Rounds.{HoldsBetween, IsLawful, IsServed, same_event}
+use Rattle.event_graph.proofs.FindFired.{found_in, find_push_new, find_push_other}
+use Rattle.event_graph.proofs.Least.{IsLeast, least_is, least_some, same_event}
+use Rattle.event_graph.proofs.Lists.{In, at_in, get-map, get_some, get_within, in_at, read_is}
+use Rattle.event_graph.proofs.Order.{before_by_number, before_by_start}
+use Rattle.event_graph.proofs.Progress.{after_first_round}
+use Rattle.event_graph.proofs.Rounds.{IsLawful, IsServed}
+use Rattle.event_graph.proofs.SmallSteps.{ready_small}
 
 abbrev no_fired : Fired
 no_fired = record { number = 0; start = 0; finish = 0 }
 
-finish_timed : (e : Event) (o : Option Timed) → (timed_of e o).finish ≡ finish_of o
+finish_timed : (e : Event) (o : Option Timed) → (timed_of e o).finish ≡ finish_or_zero o
 finish_timed e None = refl
 finish_timed e (Some x) = refl
 
@@ -34,9 +35,9 @@ pub finish_at-is : (events : List Event) → IsNumbered events → (fired : List
 finish_at-is events numbered fired i l =
     let r : (e : Event) × (slice_get events i ≡ Some e) = get_some events i l in
     ap (λ (f : Fired). f.finish) (times_at events fired i no_fired r.0 r.1)
-    ∙ (finish_timed r.0 (entry_of fired r.0.number) ∙ ap (λ k. finish_in fired k) (numbered.number i r.0 r.1))
+    ∙ (finish_timed r.0 (find_fired fired r.0.number) ∙ ap (λ k. finish_in fired k) (numbered.number i r.0 r.1))
 
-done_by : (o : Option Timed) → ((x : Timed) → o ≡ Some x → x.start < x.finish) → ltb 0 (finish_of o) ≡ is_some o
+done_by : (o : Option Timed) → ((x : Timed) → o ≡ Some x → x.start < x.finish) → ltb 0 (finish_or_zero o) ≡ is_some o
 done_by None h = le-ltb 0 0 (omega arith)
 done_by (Some x) h = lt-ltb 0 x.finish (omega (arith, h x refl))
 
@@ -52,7 +53,7 @@ after_parent_same F G n h (Some p) k = ap (λ z. z + p.delay) (h p.number k)
 module _ (events : List Event) (numbered : IsNumbered events) (fired : List Timed) (grown : (x : Timed) → In x fired → x.start < x.finish) where
   pub is_done-is : (i : ℕ) → i < length events → is_done (times_of events fired) i ≡ is_fired fired i
   is_done-is i l =
-      ap (λ n. ltb 0 n) (finish_at-is events numbered fired i l) ∙ done_by (entry_of fired i) (λ x k. grown x (entry_in fired i x k).0)
+      ap (λ n. ltb 0 n) (finish_at-is events numbered fired i l) ∙ done_by (find_fired fired i) (λ x k. grown x (found_in fired i x k).0)
 
   pub is_parent_done-is : (o : Option Parent) → IfSome o (λ p. p.number < length events) → is_parent_done (times_of events fired) o ≡ is_parent_fired fired o
   is_parent_done-is None h = refl
@@ -150,7 +151,7 @@ module _ (events : List Event) (numbered : IsNumbered events) (fired : List Time
               ∙ ap (λ k. Some (e, k)) (sym s)
         ]
 
--- one more entry
+-- one more next
 
 pub times_of-push : (events : List Event) → IsNumbered events → (fired : List Timed) (t : Timed) → In t.event events → is_fired fired t.event.number ≡ false
     → times_of events (fired ++ t ∷ []) ≡ set (times_of events fired) t.event.number (fired_of t)
@@ -164,11 +165,11 @@ times_of-push events numbered fired t m unfired =
     times_at events (fired ++ t ∷ []) k d r.0 r.1
     ∙ elim (cases_eq k t.event.number) [
       | inl same ↦
-          ap (λ o. fired_of (timed_of r.0 o)) (entry_push_new fired t r.0.number (subst (λ z. is_fired fired z ≡ false) (sym same ∙ sym n) unfired) (sym same ∙ sym n))
+          ap (λ o. fired_of (timed_of r.0 o)) (find_push_new fired t r.0.number (subst (λ z. is_fired fired z ≡ false) (sym same ∙ sym n) unfired) (sym same ∙ sym n))
           ∙ sym (ap (λ z. get_or (set (times_of events fired) t.event.number (fired_of t)) z d) same
           ∙ get_or-set_same (times_of events fired) t.event.number (fired_of t) d (omega (arith, lk, same, length-map events (λ e. fired_of (timed_in fired e)))))
       | inr ne ↦
-          ap (λ o. fired_of (timed_of r.0 o)) (entry_push_other fired t r.0.number (λ e. ne (sym n ∙ sym e)))
+          ap (λ o. fired_of (timed_of r.0 o)) (find_push_other fired t r.0.number (λ e. ne (sym n ∙ sym e)))
           ∙ sym (get_or-set_other (times_of events fired) t.event.number k (fired_of t) d ne ∙ times_at events fired k d r.0 r.1)
     ])
 
@@ -204,84 +205,11 @@ pub ready_start-done : (times : List Fired) (e : Event) → is_done times e.numb
 ready_start-done times e h =
     cond-false (may_start times e) (start_of (finish_at times) e) 18446744073709551615 (and_left (not (is_done times e.number)) (is_parent_done times e.first && is_parent_done times e.second) (not_from_true (is_done times e.number) h))
 
--- the rounds of a weave whose steps are small
-
+-- before the first round
 module _ {C : Type 0} (serves : C → Kind → Bool) (stepped : C → Kind → ℕ → C × ℕ) (greatest : C → Kind → ℕ → ℕ) (events : List Event) (comps : List C)
     (lawful : IsLawful serves stepped) (counts : (c : C) (kind : Kind) (start : ℕ) → IsTrue (serves c kind) → (stepped c kind start).1 ≤ greatest c kind start)
     (numbered : IsNumbered events) (fits : (e : Event) → In e events → IsServed serves comps e) (small : AreSmallSteps stepped greatest events comps) where
-  pub small_step : (n : ℕ) (r : Event × ℕ) (c : C) → least_ready (after stepped events comps n).fired events ≡ Some r → slice_get (after stepped events comps n).comps r.0.component ≡ Some c → greatest c r.0.kind r.1 ≤ 2 ^ 62
-  small_step n r c h k =
-      let a : IsSmallStep stepped greatest (after stepped events comps n) (Some r) = subst (λ o. IsSmallStep stepped greatest (after stepped events comps n) o) h (small n) in
-      subst (λ o. IfSome o (λ c. greatest c r.0.kind r.1 ≤ 2 ^ 62)) k a
-
-  entries_by : (n : ℕ) → ((x : Timed) → In x (after stepped events comps n).fired → (x.start < x.finish) × (x.finish ≤ 2 ^ 62))
-      → (o : Option (Event × ℕ)) → least_ready (after stepped events comps n).fired events ≡ o
-      → (x : Timed) → In x (round stepped events (after stepped events comps n)).fired → (x.start < x.finish) × (x.finish ≤ 2 ^ 62)
-  entries_by n ih None is x m = ih x (subst (λ (v : Weave C). In x v.fired) (round_stays serves stepped events comps (after stepped events comps n) is) m)
-  entries_by n ih (Some r) is x m =
-      let w : Weave C = after stepped events comps n in
-      let l : IsLeast w.fired events r.0 r.1 = least_some w.fired events r is in
-      let f : IsServed serves w.comps r.0 = (holds serves stepped events comps lawful numbered fits n).are_served r.0 l.member in
-      let entry : Timed = record { event = r.0; start = r.1; finish = (stepped f.0 r.0.kind r.1).1 } in
-      elim (in_push_cases x w.fired entry (subst (λ (v : Weave C). In x v.fired) (round_fires serves stepped events comps w r f.0 is f.1.0) m)) [
-        | inl old ↦ ih x old
-        | inr same ↦
-            subst (λ (z : Timed). (z.start < z.finish) × (z.finish ≤ 2 ^ 62)) same
-            (lawful.grows f.0 r.0.kind r.1 f.1.1, omega (arith, counts f.0 r.0.kind r.1 f.1.1, small_step n r f.0 is f.1.0))
-      ]
-
-  -- each entry finishes later than it starts, and at a small cycle
-  pub entries : (n : ℕ) (x : Timed) → In x (after stepped events comps n).fired → (x.start < x.finish) × (x.finish ≤ 2 ^ 62)
-  entries zero x m = absurd (subst (λ (v : Weave C). In x v.fired) (after_first_round serves stepped events comps) m)
-  entries (suc n) x m =
-      entries_by n (λ y k. entries n y k) (least_ready (after stepped events comps n).fired events) refl x
-      (subst (λ (v : Weave C). In x v.fired) (after_more serves stepped events comps n) m)
-
-  pub grown : (n : ℕ) (x : Timed) → In x (after stepped events comps n).fired → x.start < x.finish
-  grown n x m = (entries n x m).0
-
-  kept_by : (n : ℕ) (x : Timed) → In x (after stepped events comps n).fired → (o : Option (Event × ℕ)) → least_ready (after stepped events comps n).fired events ≡ o
-      → In x (round stepped events (after stepped events comps n)).fired
-  kept_by n x m None is = subst (λ (v : Weave C). In x v.fired) (sym (round_stays serves stepped events comps (after stepped events comps n) is)) m
-  kept_by n x m (Some r) is =
-      let w : Weave C = after stepped events comps n in
-      let l : IsLeast w.fired events r.0 r.1 = least_some w.fired events r is in
-      let f : IsServed serves w.comps r.0 = (holds serves stepped events comps lawful numbered fits n).are_served r.0 l.member in
-      let entry : Timed = record { event = r.0; start = r.1; finish = (stepped f.0 r.0.kind r.1).1 } in
-      subst (λ (v : Weave C). In x v.fired) (sym (round_fires serves stepped events comps w r f.0 is f.1.0)) (in_left x w.fired (entry ∷ []) m)
-
-  pub later : (n m : ℕ) → n ≤ m → (x : Timed) → In x (after stepped events comps n).fired → In x (after stepped events comps m).fired
-  later n zero l x h = subst (λ k. In x (after stepped events comps k).fired) (omega arith) h
-  later n (suc m) l x h =
-      elim (cases_eq n (suc m)) [
-        | inl same ↦ subst (λ k. In x (after stepped events comps k).fired) same h
-        | inr ne ↦
-            subst (λ (v : Weave C). In x v.fired) (sym (after_more serves stepped events comps m))
-            (kept_by m x (later n m (omega (arith, l, ne)) x h) (least_ready (after stepped events comps m).fired events) refl)
-      ]
-
-  -- what is ready will start at a small cycle
-  pub ready_small : (n : ℕ) → n ≤ length events → (e : Event) → In e events → is_ready (after stepped events comps n).fired e ≡ true → start_of (finish_in (after stepped events comps n).fired) e ≤ 2 ^ 62
-  ready_small n l e m r =
-      let now : List Timed = (after stepped events comps n).fired in
-      let end : HoldsBetween serves stepped events comps (weave stepped events comps) = holds serves stepped events comps lawful numbered fits (length events) in
-      let x : (x : Timed) × (In x (weave stepped events comps).fired × (x.event.number ≡ e.number)) =
-      fired_in (weave stepped events comps).fired e.number (all_fired serves stepped events comps lawful numbered fits e m)
-      in
-      let same : x.0.event ≡ e = same_event events numbered x.0.event e (end.members x.0 x.1.0) m x.1.1 in
-      let ext : Extends (after stepped events comps n).fired (weave stepped events comps).fired =
-      extends_from (after stepped events comps n).fired (weave stepped events comps).fired end.one_each (λ z k. later n (length events) l z k)
-      in
-      let s : x.0.start ≡ start_of (finish_in (after stepped events comps n).fired) e =
-      end.starts x.0 x.1.0
-      ∙ (ap (λ z. start_of (finish_in (weave stepped events comps).fired) z) same
-      ∙ start_extends (after stepped events comps n).fired (weave stepped events comps).fired ext e (ready_parts (after stepped events comps n).fired e r).1)
-      in
-      let small : (x.0.start < x.0.finish) × (x.0.finish ≤ 2 ^ 62) = entries (length events) x.0 x.1.0 in
-      omega (arith, s, small.0, small.1)
-
-  -- before the first round
   pub small_at_first : StartSmall events (times_of events [])
   small_at_first =
       start_small_at events numbered [] (λ x m. absurd m)
-      (λ e m r. subst (λ (v : Weave C). is_ready v.fired e ≡ true → start_of (finish_in v.fired) e ≤ 2 ^ 62) (after_first_round serves stepped events comps) (ready_small 0 (omega arith) e m) r)
+      (λ e m r. subst (λ (v : Weave C). is_ready v.fired e ≡ true → start_of (finish_in v.fired) e ≤ 2 ^ 62) (after_first_round serves stepped events comps) (ready_small serves stepped greatest events comps lawful counts numbered fits small 0 (omega arith) e m) r)

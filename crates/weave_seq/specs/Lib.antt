@@ -1,5 +1,3 @@
 pub mod Chains
-pub mod Growth
-pub mod Laws
 pub mod Times
 pub mod Tournament

@@ -2,7 +2,6 @@
 #![tactic(auto)]
 
 mod children;
-pub mod laws;
 mod link;
 mod queue;
 mod refresh;

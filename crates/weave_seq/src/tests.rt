@@ -4,11 +4,11 @@ ghost use Rattle.event_graph.specs.declared.event.Parent.{Parent};
 ghost use Rattle.event_graph.specs.Fits.{EventFits, GraphFits};
 ghost use Rattle.event_graph.specs.Numbered.{IsNumbered};
 ghost use Rattle.event_graph.specs.Near.{AreNear, IsNear};
-ghost use Rattle.weave_seq.specs.Growth.{BeginBy};
+ghost use Rattle.event_graph.specs.Growth.{BeginBy};
 
-use crate::{laws, weave_seq};
+use crate::weave_seq;
 use component::{Component, Comps, Kind};
-use event_graph::{Event, FiredList, Graph, Parent};
+use event_graph::{Event, FiredList, Graph, Parent, laws};
 use std::alloc::Global;
 use std::process::Abort;
 use std::test::Fail;

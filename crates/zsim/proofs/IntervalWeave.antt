@@ -12,13 +12,12 @@ use Rattle.event_graph.specs.declared.fired.Fired.{Fired}
 use Rattle.event_graph.specs.declared.plain.Plain.{Plain}
 use Rattle.event_graph.specs.EventGraph.{all_events}
 use Rattle.event_graph.specs.Fits.{GraphFits}
-use Rattle.event_graph.specs.Laws.{PlainAccessesHaveFewEvents, PlainGraphsFit}
+use Rattle.event_graph.specs.Laws.{MachineStepsStaySmall, PlainAccessesHaveFewEvents, PlainGraphsFit}
 use Rattle.event_graph.specs.Near.{AreNear}
 use Rattle.event_graph.specs.Numbered.{IsNumbered}
 use Rattle.event_graph.specs.OneListWeave.{AreSmallSteps, fired_of, woven}
 use Rattle.event_graph.specs.Timing.{pieces_of}
 use Rattle.feedback.specs.FeedbackDelay.{feedback_delays}
-use Rattle.weave_seq.specs.Laws.{MachineStepsStaySmall}
 use Rattle.stats.specs.Counts.{Interval}
 use Rattle.zsim.specs.IntervalWeave.{IsPlainOf}
 use Rattle.zsim.specs.ReferenceRun.{woven_interval}

@@ -48,8 +48,8 @@ pub fn weave_interval(
     ensures components { OnOk result (AreComponents machine.now comps.new) }
 {
     event_graph::laws::fitting_events_are_there::<Comp>();
-    weave_seq::laws::machine_components_stay();
-    weave_seq::laws::events_take_their_time::<Comp>();
+    event_graph::laws::machine_components_stay();
+    event_graph::laws::events_take_their_time::<Comp>();
     feedback::laws::timely_events_are_woven();
     feedback::laws::delays_are_small();
     let graph = events_of(alloc, machine, plain, entries, comps)?;
@@ -84,7 +84,7 @@ fn events_of(
     event_graph::laws::events_are_counted::<Plain>();
     event_graph::laws::events_keep_their_cores::<Plain>();
     event_graph::laws::events_begin_with_their_accesses::<Plain>();
-    weave_seq::laws::machine_steps_stay_small();
+    event_graph::laws::machine_steps_stay_small();
     let graph = build(alloc, plain, entries, machine.cores)?;
     // Its events are numbered in order, as the type keeps.
     let _numbered = graph.events();

@@ -6,7 +6,7 @@ use Rattle.std.proofs.lemmas.List.{get_or-set_other, get_or-set_same, get_or_rea
 use Rattle.event_graph.specs.declared.event.Parent.{Parent}
 use Rattle.weave_seq.specs.Chains.{IsParent, parents_of}
 use Rattle.weave_seq.specs.Times.{IsRight, ready_start}
-use Rattle.weave_seq.proofs.Lists.{read_is}
+use Rattle.event_graph.proofs.Lists.{read_is}
 use Rattle.weave_seq.proofs.refresh.refresh_children.Goals as goal
 
 pub loop-next-preserved : goal.loop-next-preserved

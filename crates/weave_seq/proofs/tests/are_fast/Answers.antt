@@ -3,7 +3,7 @@ use Rattle.std.proofs.Common.{◌≡◌, get_or, Some, ap, subst, inl, inr, arit
 use Rattle.std.proofs.lemmas.Bool.{cases_eq, le-leb}
 use Rattle.std.specs.Prelude.{slice_get}
 use Rattle.weave_seq.specs.declared.tests.Server.{Server}
-use Rattle.weave_seq.proofs.Lists.{get_within, read_is}
+use Rattle.event_graph.proofs.Lists.{get_within, read_is}
 use Rattle.weave_seq.proofs.tests.are_fast.Goals as goal
 
 pub loop-server-preserved : goal.loop-server-preserved

@@ -5,7 +5,7 @@ use Rattle.std.specs.Prelude.{slice_get}
 use Rattle.event_graph.specs.declared.event.Event.{Event}
 use Rattle.event_graph.specs.Fits.{EventFits}
 use Rattle.event_graph.specs.Near.{IsNear}
-use Rattle.weave_seq.proofs.Lists.{get_within, read_is}
+use Rattle.event_graph.proofs.Lists.{get_within, read_is}
 use Rattle.weave_seq.proofs.RoundStep.{no_event}
 use Rattle.weave_seq.proofs.tests.is_graph.Goals as goal
 

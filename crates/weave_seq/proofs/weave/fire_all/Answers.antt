@@ -5,11 +5,11 @@ use Rattle.std.proofs.lemmas.List.{length-map}
 use Rattle.event_graph.specs.OneListWeave.{after, fired_of, timed_in, weave}
 use Rattle.weave_seq.specs.Chains.{IsParent, parents_of}
 use Rattle.weave_seq.specs.Times.{IsRight, StartSmall, times_of}
-use Rattle.weave_seq.proofs.Lists.{map_map}
-use Rattle.weave_seq.proofs.Progress.{after_first_round}
+use Rattle.event_graph.proofs.Lists.{map_map}
+use Rattle.event_graph.proofs.Progress.{after_first_round}
 use Rattle.weave_seq.proofs.RoundStep.{all_right, component_within, finish_counts, is_small, next, no_event, serves_it, small_next, stays, times_next, within}
-use Rattle.weave_seq.proofs.Solves.{woven-is}
-use Rattle.weave_seq.proofs.Theorem.{lawful_from, served_from}
+use Rattle.event_graph.proofs.Solves.{woven-is}
+use Rattle.event_graph.proofs.Theorem.{lawful_from, served_from}
 use Rattle.weave_seq.proofs.weave.fire_all.Goals as goal
 
 pub loop-init : goal.loop-init

@@ -2,7 +2,7 @@
 use Rattle.std.proofs.Common.{sym, ◌∙◌, subst, []}
 use Rattle.weave_seq.specs.Times.{StartSmall, times_of}
 use Rattle.weave_seq.proofs.State.{small_at_first}
-use Rattle.weave_seq.proofs.Theorem.{lawful_from, served_from}
+use Rattle.event_graph.proofs.Theorem.{lawful_from, served_from}
 use Rattle.weave_seq.proofs.weave.weave_seq.Goals as goal
 
 pub ready_events-requires-clause-small : goal.ready_events-requires-clause-small

@@ -4,7 +4,7 @@ use Rattle.std.proofs.lemmas.List.{take_at}
 use Rattle.event_graph.specs.declared.event.Parent.{Parent}
 use Rattle.weave_seq.specs.Chains.{latest, parent_at, parents_of, with_latest}
 use Rattle.weave_seq.proofs.Chains.{length-with_latest, one_more, parent_below}
-use Rattle.weave_seq.proofs.Lists.{get-map, get_some, read_is}
+use Rattle.event_graph.proofs.Lists.{get-map, get_some, read_is}
 use Rattle.weave_seq.proofs.children.Children.of.Goals as goal
 
 pub loop-child-preserved : goal.loop-child-preserved

@@ -1,11 +1,25 @@
 -- The least ready event.
 use Rattle.std.proofs.Common.{◌≡◌, ℕ, true, false, not, ◌&&◌, ◌⊎◌, inl, inr, List, [], ◌∷◌, Option, Some, None, sym, ◌∙◌, ap, subst, refl}
-use Rattle.std.proofs.lemmas.Bool.{and_from, and_parts, cond_both, false≢true, not-true, not_from_false}
+use Rattle.std.specs.Prelude.{slice_get}
+use Rattle.std.proofs.lemmas.Bool.{and_from, and_parts, cases_eq, cond_both, false≢true, not-true, not_from_false}
 use Rattle.event_graph.specs.declared.event.Event.{Event}
+use Rattle.event_graph.specs.Firing.{IsNext}
+use Rattle.event_graph.specs.Numbered.{IsNumbered}
 use Rattle.event_graph.specs.OneListWeave.{Timed, earlier, finish_in, is_before, is_fired, is_parent_fired, is_ready, least_ready, start_of}
-use Rattle.weave_seq.proofs.Entries.{AreParentsFired}
-use Rattle.weave_seq.proofs.Lists.{In}
-use Rattle.weave_seq.proofs.Order.{not_before_from, not_before_itself, not_before_trans}
+use Rattle.event_graph.proofs.FindFired.{AreParentsFired}
+use Rattle.event_graph.proofs.Lists.{In, contains_in, in_at, in_contains}
+use Rattle.event_graph.proofs.Order.{before_from_not, not_before_from, not_before_itself, not_before_trans}
+
+-- two events of one number are one
+pub same_event : (events : List Event) → IsNumbered events → (a b : Event) → In a events → In b events → a.number ≡ b.number → a ≡ b
+same_event events numbered a b ma mb e =
+    let ia : (i : ℕ) × (slice_get events i ≡ Some a) = in_at a events ma in
+    let ib : (i : ℕ) × (slice_get events i ≡ Some b) = in_at b events mb in
+    let na : a.number ≡ ia.0 = numbered.number ia.0 a ia.1 in
+    let nb : b.number ≡ ib.0 = numbered.number ib.0 b ib.1 in
+    let same : ia.0 ≡ ib.0 = sym na ∙ (e ∙ nb) in
+    let k : slice_get events ib.0 ≡ Some a = subst (λ i. slice_get events i ≡ Some a) same ia.1 in
+    cc
 
 pub ready_parts : (fired : List Timed) (e : Event) → is_ready fired e ≡ true → (is_fired fired e.number ≡ false) × AreParentsFired fired e
 ready_parts fired e h =
@@ -110,3 +124,17 @@ pub least_is : (fired : List Timed) (events : List Event) (e : Event) → In e e
     → ((y : Event) → In y events → is_ready fired y ≡ true → (y ≡ e) ⊎ (is_before e (start_of (finish_in fired) e) y (start_of (finish_in fired) y) ≡ true))
     → least_ready fired events ≡ Some (e, start_of (finish_in fired) e)
 least_is fired events e m t h = least_is_by fired events e m t h (least_ready fired events) refl
+
+-- the least ready event is the next
+pub next_from_least : (fired : List Timed) (events : List Event) → IsNumbered events → (x : Timed) → IsLeast fired events x.event x.start → IsNext fired events x
+next_from_least fired events numbered x l = record {
+  event = contains_in x.event events l.member;
+  ready = l.ready;
+  start = l.start_is;
+  first = λ y m ready.
+      let k : In y events = in_contains y events m in
+      elim (cases_eq y.number x.event.number) [
+        | inl same ↦ inl (same_event events numbered y x.event k l.member same)
+        | inr apart ↦ inr (before_from_not x.event x.start y (start_of (finish_in fired) y) (l.least y k ready) (λ q. apart (sym q)))
+      ];
+}

@@ -9,16 +9,16 @@ use Rattle.component.specs.declared.kind.Kind.{Kind}
 use Rattle.event_graph.specs.declared.event.Event.{Event}
 use Rattle.event_graph.specs.declared.event.Parent.{Parent}
 use Rattle.event_graph.specs.Numbered.{IsNumbered}
-use Rattle.event_graph.specs.OneListWeave.{Timed, Weave, after, finish_in, finish_of, is_before, is_fired, is_parent_fired, least_ready, round, start_of, timed_in, weave, woven}
-use Rattle.event_graph.specs.TimingSolution.{IsSolution, ServesInTurn, of_component}
-use Rattle.weave_seq.proofs.Entries.{AreParentsFired, Extends, IsOneEach, after_first, after_second, entry_from_in, extends_from, fired_in, is_fired_from_in, start_extends}
-use Rattle.weave_seq.proofs.Least.{least_is, ready_from, ready_parts}
-use Rattle.weave_seq.proofs.Lists.{In, contains_in, from_filter, from_map, get-map, in_at, in_cases, in_contains, in_filter, in_left, in_map, in_right, map_itself, map_map, pairs_from, pairs_front}
-use Rattle.weave_seq.proofs.Order.{not_before_itself, start_from_before}
-use Rattle.weave_seq.proofs.Progress.{AllFired, after_first_round, after_more, all_fired, event_below, first_below, holds, round_fires, second_below, stays}
-use Rattle.weave_seq.proofs.Rounds.{HoldsBetween, IsLawful, IsServed}
-use Rattle.weave_seq.proofs.Solves.{answer_at, woven-is}
-use Rattle.weave_seq.proofs.Turns.{left_by, turns_at, turns_grow}
+use Rattle.event_graph.specs.OneListWeave.{Timed, Weave, after, finish_in, finish_or_zero, is_before, is_fired, is_parent_fired, least_ready, round, start_of, timed_in, weave, woven}
+use Rattle.event_graph.specs.TimingSolution.{IsSolution, ServesInTurn, after_serving, of_component}
+use Rattle.event_graph.proofs.FindFired.{AreParentsFired, Extends, IsOneEach, after_first, after_second, find_from_in, extends_from, fired_in, is_fired_from_in, start_extends}
+use Rattle.event_graph.proofs.Least.{least_is, ready_from, ready_parts}
+use Rattle.event_graph.proofs.Lists.{In, contains_in, from_filter, from_map, get-map, in_at, in_cases, in_contains, in_filter, in_left, in_map, in_right, map_itself, map_map, pairs_from, pairs_front}
+use Rattle.event_graph.proofs.Order.{not_before_itself, start_from_before}
+use Rattle.event_graph.proofs.Progress.{AllFired, after_first_round, after_more, all_fired, event_below, first_below, holds, round_fires, second_below, stays}
+use Rattle.event_graph.proofs.Rounds.{HoldsBetween, IsLawful, IsServed}
+use Rattle.event_graph.proofs.Solves.{answer_at, woven-is}
+use Rattle.event_graph.proofs.Turns.{turns_at, turns_grow}
 
 abbrev Before : Timed → Timed → Type 0
 Before x y = IsTrue (is_before x.event x.start y.event y.start)
@@ -56,8 +56,8 @@ module _ {C : Type 0} (serves : C → Kind → Bool) (stepped : C → Kind → �
       let k : slice_get timed b.0 ≡ Some x = subst (λ i. slice_get timed i ≡ Some x) same a.1 in
       cc
 
-  entry_for : (e : Event) → In e events → (x : Timed) × (In x timed × (x.event ≡ e))
-  entry_for e m = from_map (λ (z : Timed). z.event) e timed (subst (λ es. In e es) (sym sol.events_are) m)
+  timed_for : (e : Event) → In e events → (x : Timed) × (In x timed × (x.event ≡ e))
+  timed_for e m = from_map (λ (z : Timed). z.event) e timed (subst (λ es. In e es) (sym sol.events_are) m)
 
   -- each finish is later than its start
   grows : (x : Timed) → In x sol.sorted → x.start < x.finish
@@ -106,9 +106,9 @@ module _ {C : Type 0} (serves : C → Kind → Bool) (stepped : C → Kind → �
     parent : (p : Parent) → p.number < x.event.number → finish_in timed p.number ≤ start_of (finish_in timed) x.event → is_fired w.fired p.number ≡ true
     parent p below late =
         let q : (q : Event) × (In q events × (q.number ≡ p.number)) = event_below events numbered x.event (member x (to_timed x now)) p.number below in
-        let y : (y : Timed) × (In y timed × (y.event ≡ q.0)) = entry_for q.0 q.1.0 in
+        let y : (y : Timed) × (In y timed × (y.event ≡ q.0)) = timed_for q.0 q.1.0 in
         let number : y.0.event.number ≡ p.number = ap (λ (e : Event). e.number) y.1.1 ∙ q.1.1 in
-        let finish : finish_in timed p.number ≡ y.0.finish = ap finish_of (entry_from_in timed one_each y.0 p.number y.1.0 number) in
+        let finish : finish_in timed p.number ≡ y.0.finish = ap finish_or_zero (find_from_in timed one_each y.0 p.number y.1.0 number) in
         elim (among y.0 y.1.0) [
           | inl m ↦ is_fired_from_in w.fired y.0 p.number m number
           | inr k ↦ elim k [
@@ -134,7 +134,7 @@ module _ {C : Type 0} (serves : C → Kind → Bool) (stepped : C → Kind → �
     least =
         least_is w.fired events x.event (member x (to_timed x now)) (ready_from w.fired x.event unfired parents)
         (λ y m ready.
-        let z : (z : Timed) × (In z timed × (z.event ≡ y)) = entry_for y m in
+        let z : (z : Timed) × (In z timed × (z.event ≡ y)) = timed_for y m in
         let parts : (is_fired w.fired y.number ≡ false) × AreParentsFired w.fired y = ready_parts w.fired y ready in
         elim (among z.0 z.1.0) [
           | inl old ↦ absurd (false≢true (sym parts.0 ∙ is_fired_from_in w.fired z.0 y.number old (ap (λ (e : Event). e.number) z.1.1)))
@@ -156,9 +156,9 @@ module _ {C : Type 0} (serves : C → Kind → Bool) (stepped : C → Kind → �
         let f : IsServed serves comps x.event = fits x.event (member x (to_timed x now)) in
         let g : IsServed serves w.comps x.event = h.are_served x.event (member x (to_timed x now)) in
         let s : x.start ≡ start_of (finish_in w.fired) x.event = start_is x (to_timed x now) parents in
-        let state : g.0 ≡ left_by stepped f.0 (of_component k w.fired) =
+        let state : g.0 ≡ after_serving stepped f.0 (of_component k w.fired) =
         (let a : slice_get w.comps k ≡ Some g.0 = g.1.0 in
-        let b : slice_get w.comps k ≡ Some (left_by stepped f.0 (of_component k w.fired)) = h.left k f.0 f.1.0 in
+        let b : slice_get w.comps k ≡ Some (after_serving stepped f.0 (of_component k w.fired)) = h.left k f.0 f.1.0 in
         cc)
         in
         let cut : of_component k sol.sorted ≡ of_component k w.fired ++ x ∷ of_component k rest =
@@ -166,7 +166,7 @@ module _ {C : Type 0} (serves : C → Kind → Bool) (stepped : C → Kind → �
         ∙ (filter-append (λ (t : Timed). t.event.component == k) w.fired (x ∷ rest)
         ∙ ap (λ zs. of_component k w.fired ++ zs) (cond-true (k == k) (x ∷ of_component k rest) (of_component k rest) (eq-eqb k k refl)))
         in
-        let turn : x.finish ≡ (stepped (left_by stepped f.0 (of_component k w.fired)) x.event.kind x.start).1 =
+        let turn : x.finish ≡ (stepped (after_serving stepped f.0 (of_component k w.fired)) x.event.kind x.start).1 =
         turns_at stepped f.0 (of_component k w.fired) x (of_component k rest) (subst (λ xs. ServesInTurn stepped f.0 xs) cut (sol.finishes k f.0 f.1.0))
         in
         let finish : (stepped g.0 x.event.kind (start_of (finish_in w.fired) x.event)).1 ≡ x.finish =
@@ -187,7 +187,7 @@ module _ {C : Type 0} (serves : C → Kind → Bool) (stepped : C → Kind → �
 
   all_sorted : AllFired sol.sorted events
   all_sorted e m =
-      let z : (z : Timed) × (In z timed × (z.event ≡ e)) = entry_for e m in
+      let z : (z : Timed) × (In z timed × (z.event ≡ e)) = timed_for e m in
       is_fired_from_in sol.sorted z.0 e.number (to_sorted z.0 z.1.0) (ap (λ (y : Event). y.number) z.1.1)
 
   fired_is_sorted : (weave stepped events comps).fired ≡ sol.sorted

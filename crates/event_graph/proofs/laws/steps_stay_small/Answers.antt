@@ -1,7 +1,7 @@
 -- By the laws of the components.
-use Rattle.weave_seq.proofs.Growth.{small}
-use Rattle.weave_seq.proofs.Theorem.{lawful_from, served_from}
-use Rattle.weave_seq.proofs.laws.steps_stay_small.Goals as goal
+use Rattle.event_graph.proofs.Growth.{small}
+use Rattle.event_graph.proofs.Theorem.{lawful_from, served_from}
+use Rattle.event_graph.proofs.laws.steps_stay_small.Goals as goal
 
 pub returns : goal.returns
 returns g c paced busy most delay base events comps numbered fits pace near begin room =

@@ -7,23 +7,23 @@ use Rattle.component.specs.declared.kind.Kind.{Kind}
 use Rattle.event_graph.specs.declared.event.Event.{Event}
 use Rattle.event_graph.specs.declared.event.Parent.{Parent}
 use Rattle.event_graph.specs.Numbered.{IsNumbered}
-use Rattle.event_graph.specs.OneListWeave.{AreSmallSteps, IsSmallStep, Timed, Weave, after, after_parent, entry_of, finish_in, finish_of, least_ready, round, start_of, weave}
+use Rattle.event_graph.specs.OneListWeave.{AreSmallSteps, IsSmallStep, Timed, Weave, after, after_parent, find_fired, finish_in, finish_or_zero, least_ready, round, start_of, weave}
 use Rattle.event_graph.specs.Near.{AreNear, IsNear}
-use Rattle.weave_seq.specs.Growth.{BeginBy, IsPaced}
-use Rattle.weave_seq.proofs.Entries.{entry_in}
-use Rattle.weave_seq.proofs.Least.{IsLeast, least_some}
-use Rattle.weave_seq.proofs.Lists.{In, get-set_other, get-set_same, in_at, in_push_cases}
-use Rattle.weave_seq.proofs.Progress.{after_first_round, after_more, all_fired, holds, none_from_all, round_fires, round_stays, stays}
-use Rattle.weave_seq.proofs.Rounds.{IsLawful, IsServed}
+use Rattle.event_graph.specs.Growth.{BeginBy, IsPaced}
+use Rattle.event_graph.proofs.FindFired.{found_in}
+use Rattle.event_graph.proofs.Least.{IsLeast, least_some}
+use Rattle.event_graph.proofs.Lists.{In, get-set_other, get-set_same, in_at, in_push_cases}
+use Rattle.event_graph.proofs.Progress.{after_first_round, after_more, all_fired, holds, none_from_all, round_fires, round_stays, stays}
+use Rattle.event_graph.proofs.Rounds.{IsLawful, IsServed}
 
-finish_below : (fired : List Timed) (top n : ℕ) → ((x : Timed) → In x fired → x.finish ≤ top) → (o : Option Timed) → entry_of fired n ≡ o → finish_of o ≤ top
+finish_below : (fired : List Timed) (top n : ℕ) → ((x : Timed) → In x fired → x.finish ≤ top) → (o : Option Timed) → find_fired fired n ≡ o → finish_or_zero o ≤ top
 finish_below fired top n h None is = omega arith
-finish_below fired top n h (Some x) is = h x (entry_in fired n x is).0
+finish_below fired top n h (Some x) is = h x (found_in fired n x is).0
 
 after_parent_below : (fired : List Timed) (top delay : ℕ) → ((x : Timed) → In x fired → x.finish ≤ top) → (o : Option Parent) → ((p : Parent) → o ≡ Some p → p.delay ≤ delay) → after_parent (finish_in fired) o ≤ top + delay
 after_parent_below fired top delay h None k = omega arith
 after_parent_below fired top delay h (Some p) k =
-    let f : finish_of (entry_of fired p.number) ≤ top = finish_below fired top p.number h (entry_of fired p.number) refl in
+    let f : finish_or_zero (find_fired fired p.number) ≤ top = finish_below fired top p.number h (find_fired fired p.number) refl in
     omega (arith, f, k p refl)
 
 start_below : (fired : List Timed) (base top delay : ℕ) → base ≤ top → ((x : Timed) → In x fired → x.finish ≤ top) → (e : Event) → IsNear base delay e → start_of (finish_in fired) e ≤ top + delay
@@ -65,12 +65,12 @@ module _ {C : Type 0} (serves : C → Kind → Bool) (stepped : C → Kind → �
       let f : IsServed serves (after stepped events comps n).comps r.0 = (holds serves stepped events comps lawful numbered fits n).are_served r.0 l.member in
       let g : (r.1 ≤ top + delay) × (greatest f.0 r.0.kind r.1 ≤ top + (delay + most)) = step_below n top b r is f.0 f.1.0 f.1.1 in
       let p : IsTrue (paced f.0) × (busy f.0 ≤ top) = b.comps_below r.0.component f.0 f.1.0 in
-      let entry : Timed = record { event = r.0; start = r.1; finish = (stepped f.0 r.0.kind r.1).1 } in
+      let next : Timed = record { event = r.0; start = r.1; finish = (stepped f.0 r.0.kind r.1).1 } in
       subst (λ v. IsBelow (top + (delay + most)) v) (sym (round_fires serves stepped events comps (after stepped events comps n) r f.0 is f.1.0))
       (record {
         base_below = omega (arith, b.base_below);
         finishes = λ x m.
-            elim (in_push_cases x (after stepped events comps n).fired entry m) [
+            elim (in_push_cases x (after stepped events comps n).fired next m) [
               | inl old ↦ omega (arith, b.finishes x old)
               | inr same ↦ subst (λ (z : Timed). z.finish ≤ top + (delay + most)) same (omega (arith, counts f.0 r.0.kind r.1 f.1.1, g.1))
             ];

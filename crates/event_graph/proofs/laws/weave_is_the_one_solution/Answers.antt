@@ -1,6 +1,6 @@
 -- By the laws of the components.
-use Rattle.weave_seq.proofs.Theorem.{lawful_from, one_solution}
-use Rattle.weave_seq.proofs.laws.weave_is_the_one_solution.Goals as goal
+use Rattle.event_graph.proofs.Theorem.{lawful_from, one_solution}
+use Rattle.event_graph.proofs.laws.weave_is_the_one_solution.Goals as goal
 
 pub returns : goal.returns
 returns g c =

@@ -1,7 +1,7 @@
 -- By the laws of the components.
-use Rattle.weave_seq.proofs.Theorem.{lawful_from}
-use Rattle.weave_seq.proofs.Timely.{all_timely}
-use Rattle.weave_seq.proofs.laws.events_take_their_time.Goals as goal
+use Rattle.event_graph.proofs.Theorem.{lawful_from}
+use Rattle.event_graph.proofs.Timely.{all_timely}
+use Rattle.event_graph.proofs.laws.events_take_their_time.Goals as goal
 
 pub returns : goal.returns
 returns g c events comps numbered fits small =

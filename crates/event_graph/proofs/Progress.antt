@@ -7,10 +7,10 @@ use Rattle.event_graph.specs.declared.event.Event.{Event}
 use Rattle.event_graph.specs.declared.event.Parent.{Parent}
 use Rattle.event_graph.specs.Numbered.{IsNumbered}
 use Rattle.event_graph.specs.OneListWeave.{Timed, Weave, after, fire, is_fired, is_parent_fired, least_ready, round, served, weave}
-use Rattle.weave_seq.proofs.Entries.{fired_in, is_fired_from_in}
-use Rattle.weave_seq.proofs.Least.{IsLeast, least_none, least_some, ready_from, ready_parts}
-use Rattle.weave_seq.proofs.Lists.{In, at_in, count, count_all, count_less, count_none, in_at, in_left, in_push}
-use Rattle.weave_seq.proofs.Rounds.{HoldsBetween, IsLawful, IsServed, holds_after, holds_at_first}
+use Rattle.event_graph.proofs.FindFired.{fired_in, is_fired_from_in}
+use Rattle.event_graph.proofs.Least.{IsLeast, least_none, least_some, ready_from, ready_parts}
+use Rattle.event_graph.proofs.Lists.{In, at_in, count, count_all, count_less, count_none, in_at, in_left, in_push}
+use Rattle.event_graph.proofs.Rounds.{HoldsBetween, IsLawful, IsServed, holds_after, holds_at_first}
 
 abbrev pub AllFired : List Timed → List Event → Type 0
 AllFired fired events = (e : Event) → In e events → is_fired fired e.number ≡ true
@@ -25,12 +25,12 @@ parent_fired : (fired : List Timed) (o : Option Parent) → ((p : Parent) → o 
 parent_fired fired None h = refl
 parent_fired fired (Some p) h = h p refl
 
-unfired_before : (x : Event) (fired : List Timed) (entry : Timed) → is_fired (fired ++ entry ∷ []) x.number ≡ false → is_fired fired x.number ≡ false
-unfired_before x fired entry f =
+unfired_before : (x : Event) (fired : List Timed) (next : Timed) → is_fired (fired ++ next ∷ []) x.number ≡ false → is_fired fired x.number ≡ false
+unfired_before x fired next f =
     elim (cases_Bool (is_fired fired x.number)) [
       | inl t ↦
           let r : (y : Timed) × (In y fired × (y.event.number ≡ x.number)) = fired_in fired x.number t in
-          absurd (false≢true (sym f ∙ is_fired_from_in (fired ++ entry ∷ []) r.0 x.number (in_left r.0 fired (entry ∷ []) r.1.0) r.1.1))
+          absurd (false≢true (sym f ∙ is_fired_from_in (fired ++ next ∷ []) r.0 x.number (in_left r.0 fired (next ∷ []) r.1.0) r.1.1))
       | inr k ↦ k
     ]
 
@@ -125,12 +125,12 @@ module _ {C : Type 0} (serves : C → Kind → Bool) (stepped : C → Kind → �
     fewer_by w h (Some r) is =
         let l : IsLeast w.fired events r.0 r.1 = least_some w.fired events r is in
         let f : IsServed serves w.comps r.0 = h.are_served r.0 l.member in
-        let entry : Timed = record { event = r.0; start = r.1; finish = (stepped f.0 r.0.kind r.1).1 } in
+        let next : Timed = record { event = r.0; start = r.1; finish = (stepped f.0 r.0.kind r.1).1 } in
         inr (subst (λ v. unfired v.fired + 1 ≤ unfired w.fired) (sym (round_fires w r f.0 is f.1.0))
-        (count_less (λ e. not (is_fired w.fired e.number)) (λ e. not (is_fired (w.fired ++ entry ∷ []) e.number)) events r.0 l.member
+        (count_less (λ e. not (is_fired w.fired e.number)) (λ e. not (is_fired (w.fired ++ next ∷ []) e.number)) events r.0 l.member
         (not_from_false _ (ready_parts w.fired r.0 l.ready).0)
-        (not_from_true _ (is_fired_from_in (w.fired ++ entry ∷ []) entry r.0.number (in_push w.fired entry) refl))
-        (λ x k. not_from_false _ (unfired_before x w.fired entry (not-true _ k)))))
+        (not_from_true _ (is_fired_from_in (w.fired ++ next ∷ []) next r.0.number (in_push w.fired next) refl))
+        (λ x k. not_from_false _ (unfired_before x w.fired next (not-true _ k)))))
 
     progress : (n : ℕ) → AllFired (after stepped events comps n).fired events ⊎ (unfired (after stepped events comps n).fired + n ≤ length events)
     progress zero = inr (omega (arith, count_all (λ e. not (is_fired (after stepped events comps 0).fired e.number)) events))

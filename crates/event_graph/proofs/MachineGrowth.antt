@@ -13,8 +13,8 @@ use Rattle.component.specs.declared.comp.Comp.{Comp}
 use Rattle.component.specs.declared.comp.Comp.TheVariants.{Bank as ABank, Controller as AController}
 use Rattle.component.specs.ComponentStep.{bank_latency, comp_greatest, comp_serves, comp_step, controller_latency, free_of}
 use Rattle.component.specs.Components.{AreComponents, IsBankOf, IsControllerOf}
-use Rattle.weave_seq.specs.Growth.{BeginBy, IsPaced}
-use Rattle.weave_seq.proofs.Lists.{get_within, read_is}
+use Rattle.event_graph.specs.Growth.{BeginBy, IsPaced}
+use Rattle.event_graph.proofs.Lists.{get_within, read_is}
 
 -- each time of the component is 2^17 cycles at most
 abbrev pub is_quick : Comp → Bool

@@ -3,12 +3,13 @@ use Rattle.std.proofs.Common.{◌≡◌, ℕ, Bool, List, map, length, Some, sym
 use Rattle.component.specs.declared.kind.Kind.{Kind}
 use Rattle.event_graph.specs.declared.event.Event.{Event}
 use Rattle.event_graph.specs.Numbered.{IsNumbered}
-use Rattle.event_graph.specs.OneListWeave.{Timed, entry_of, timed_in, timed_of, weave, woven}
+use Rattle.event_graph.specs.OneListWeave.{Timed, find_fired, timed_in, timed_of, weave, woven}
 use Rattle.event_graph.specs.TimingSolution.{IsSolution}
-use Rattle.weave_seq.proofs.Entries.{IsOneEach, entry_from_in, entry_in, extends_from, some_from_fired, start_extends}
-use Rattle.weave_seq.proofs.Lists.{In, contains_in, from_map, in_contains, in_map, map_itself, map_map}
-use Rattle.weave_seq.proofs.Progress.{all_fired, holds}
-use Rattle.weave_seq.proofs.Rounds.{HoldsBetween, IsLawful, IsServed, same_event}
+use Rattle.event_graph.proofs.FindFired.{IsOneEach, find_from_in, found_in, extends_from, some_from_fired, start_extends}
+use Rattle.event_graph.proofs.Least.{same_event}
+use Rattle.event_graph.proofs.Lists.{In, contains_in, from_map, in_contains, in_map, map_itself, map_map}
+use Rattle.event_graph.proofs.Progress.{all_fired, holds}
+use Rattle.event_graph.proofs.Rounds.{HoldsBetween, IsLawful, IsServed}
 
 module _ {C : Type 0} (serves : C → Kind → Bool) (stepped : C → Kind → ℕ → C × ℕ) (events : List Event) (comps : List C)
     (lawful : IsLawful serves stepped) (numbered : IsNumbered events) (fits : (e : Event) → In e events → IsServed serves comps e) where
@@ -19,14 +20,14 @@ module _ {C : Type 0} (serves : C → Kind → Bool) (stepped : C → Kind → �
   unfolding woven
   woven-is = refl
 
-  pub entry_at : (e : Event) → In e events → (x : Timed) × ((entry_of (weave stepped events comps).fired e.number ≡ Some x) × (In x (weave stepped events comps).fired × (x.event ≡ e)))
-  entry_at e m =
-      let r : (x : Timed) × (entry_of (weave stepped events comps).fired e.number ≡ Some x) = some_from_fired _ (all_fired serves stepped events comps lawful numbered fits e m) in
-      let k : In r.0 (weave stepped events comps).fired × (r.0.event.number ≡ e.number) = entry_in (weave stepped events comps).fired e.number r.0 r.1 in
+  pub timed_at : (e : Event) → In e events → (x : Timed) × ((find_fired (weave stepped events comps).fired e.number ≡ Some x) × (In x (weave stepped events comps).fired × (x.event ≡ e)))
+  timed_at e m =
+      let r : (x : Timed) × (find_fired (weave stepped events comps).fired e.number ≡ Some x) = some_from_fired _ (all_fired serves stepped events comps lawful numbered fits e m) in
+      let k : In r.0 (weave stepped events comps).fired × (r.0.event.number ≡ e.number) = found_in (weave stepped events comps).fired e.number r.0 r.1 in
       (r.0, (r.1, (k.0, same_event events numbered r.0.event e (held.members r.0 k.0) m k.1)))
 
   pub answer_at : (x : Timed) → In x (weave stepped events comps).fired → timed_in (weave stepped events comps).fired x.event ≡ x
-  answer_at x m = ap (λ o. timed_of x.event o) (entry_from_in (weave stepped events comps).fired held.one_each x x.event.number m refl)
+  answer_at x m = ap (λ o. timed_of x.event o) (find_from_in (weave stepped events comps).fired held.one_each x x.event.number m refl)
 
   in_woven : (x : Timed) → In x (weave stepped events comps).fired → In x (woven stepped events comps)
   in_woven x m =
@@ -37,7 +38,7 @@ module _ {C : Type 0} (serves : C → Kind → Bool) (stepped : C → Kind → �
   from_woven : (x : Timed) → In x (woven stepped events comps) → In x (weave stepped events comps).fired
   from_woven x m =
       let r : (e : Event) × (In e events × (timed_in (weave stepped events comps).fired e ≡ x)) = from_map (timed_in (weave stepped events comps).fired) x events (subst (λ xs. In x xs) woven-is m) in
-      let k : (y : Timed) × ((entry_of (weave stepped events comps).fired r.0.number ≡ Some y) × (In y (weave stepped events comps).fired × (y.event ≡ r.0))) = entry_at r.0 r.1.0 in
+      let k : (y : Timed) × ((find_fired (weave stepped events comps).fired r.0.number ≡ Some y) × (In y (weave stepped events comps).fired × (y.event ≡ r.0))) = timed_at r.0 r.1.0 in
       let same : k.0 ≡ x = ap (λ o. timed_of r.0 o) (sym k.1.0) ∙ r.1.1 in
       subst (λ z. In z (weave stepped events comps).fired) same k.1.1.0
 
@@ -46,7 +47,7 @@ module _ {C : Type 0} (serves : C → Kind → Bool) (stepped : C → Kind → �
 
   event_of_answer : (e : Event) → In e events → (timed_in (weave stepped events comps).fired e).event ≡ e
   event_of_answer e m =
-      let k : (y : Timed) × ((entry_of (weave stepped events comps).fired e.number ≡ Some y) × (In y (weave stepped events comps).fired × (y.event ≡ e))) = entry_at e m in
+      let k : (y : Timed) × ((find_fired (weave stepped events comps).fired e.number ≡ Some y) × (In y (weave stepped events comps).fired × (y.event ≡ e))) = timed_at e m in
       ap (λ o. (timed_of e o).event) k.1.0 ∙ k.1.1.1
 
   pub solves : IsSolution stepped events comps (woven stepped events comps)

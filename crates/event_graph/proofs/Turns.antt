@@ -1,27 +1,22 @@
 -- A component that serves one event after the other.
-use Rattle.std.proofs.Common.{◌≡◌, ◌+◌, ◌<◌, ◌≤◌, ℕ, Bool, List, [], ◌∷◌, ◌++◌, inl, inr, sym, subst, refl, arith}
+use Rattle.std.proofs.Common.{◌≡◌, ◌+◌, ◌<◌, ◌≤◌, ℕ, Bool, List, [], ◌∷◌, ◌++◌, inl, inr, sym, ◌∙◌, subst, refl, arith}
 use Rattle.std.specs.Prelude.{IsTrue}
 use Rattle.component.specs.declared.kind.Kind.{Kind}
 use Rattle.event_graph.specs.OneListWeave.{Timed}
-use Rattle.event_graph.specs.TimingSolution.{ServesInTurn}
-use Rattle.weave_seq.proofs.Lists.{In}
+use Rattle.event_graph.specs.TimingSolution.{ServesInTurn, after_serving}
+use Rattle.event_graph.proofs.Lists.{In}
 
 module _ {C : Type 0} (stepped : C → Kind → ℕ → C × ℕ) where
-  -- the component after it served these
-  abbrev pub left_by : C → List Timed → C
-  left_by c [] = c
-  left_by c (x ∷ xs) = left_by (stepped c x.event.kind x.start).0 xs
+  pub after_serving-push : (c : C) (xs : List Timed) (y : Timed) → after_serving stepped c (xs ++ y ∷ []) ≡ (stepped (after_serving stepped c xs) y.event.kind y.start).0
+  after_serving-push c [] y = refl
+  after_serving-push c (x ∷ xs) y = after_serving-push (stepped c x.event.kind x.start).0 xs y
 
-  pub left_by-push : (c : C) (xs : List Timed) (y : Timed) → left_by c (xs ++ y ∷ []) ≡ (stepped (left_by c xs) y.event.kind y.start).0
-  left_by-push c [] y = refl
-  left_by-push c (x ∷ xs) y = left_by-push (stepped c x.event.kind x.start).0 xs y
-
-  pub turns_push : (c : C) (xs : List Timed) (y : Timed) → ServesInTurn stepped c xs → y.finish ≡ (stepped (left_by c xs) y.event.kind y.start).1 → ServesInTurn stepped c (xs ++ y ∷ [])
+  pub turns_push : (c : C) (xs : List Timed) (y : Timed) → ServesInTurn stepped c xs → y.finish ≡ (stepped (after_serving stepped c xs) y.event.kind y.start).1 → ServesInTurn stepped c (xs ++ y ∷ [])
   turns_push c [] y h e = (e, tt)
   turns_push c (x ∷ xs) y h e = (h.0, turns_push (stepped c x.event.kind x.start).0 xs y h.1 e)
 
   -- the finish of one among others
-  pub turns_at : (c : C) (xs : List Timed) (y : Timed) (ys : List Timed) → ServesInTurn stepped c (xs ++ y ∷ ys) → y.finish ≡ (stepped (left_by c xs) y.event.kind y.start).1
+  pub turns_at : (c : C) (xs : List Timed) (y : Timed) (ys : List Timed) → ServesInTurn stepped c (xs ++ y ∷ ys) → y.finish ≡ (stepped (after_serving stepped c xs) y.event.kind y.start).1
   turns_at c [] y ys h = h.0
   turns_at c (x ∷ xs) y ys h = turns_at (stepped c x.event.kind x.start).0 xs y ys h.1
 
@@ -62,3 +57,15 @@ module _ {C : Type 0} (stepped : C → Kind → ℕ → C × ℕ) where
             in
             omega (arith, later, floor_stays c y.event.kind y.start x.event.kind (each y (inl refl)))
       ]
+
+  -- a component serves what it did, with the same floors
+  pub serving_keeps : (serves : C → Kind → Bool) (floor : C → Kind → ℕ)
+      → ((c : C) (kind : Kind) (start : ℕ) (other : Kind) → IsTrue (serves c kind) → serves (stepped c kind start).0 other ≡ serves c other)
+      → ((c : C) (kind : Kind) (start : ℕ) (other : Kind) → IsTrue (serves c kind) → floor (stepped c kind start).0 other ≡ floor c other)
+      → (c : C) (xs : List Timed) → ((x : Timed) → In x xs → IsTrue (serves c x.event.kind))
+      → ((kind : Kind) → serves (after_serving stepped c xs) kind ≡ serves c kind) × ((kind : Kind) → floor (after_serving stepped c xs) kind ≡ floor c kind)
+  serving_keeps serves floor stays floor_stays c [] each = (λ kind. refl, λ kind. refl)
+  serving_keeps serves floor stays floor_stays c (y ∷ ys) each =
+      let now : IsTrue (serves c y.event.kind) = each y (inl refl) in
+      let rest = serving_keeps serves floor stays floor_stays (stepped c y.event.kind y.start).0 ys (λ z k. subst IsTrue (sym (stays c y.event.kind y.start z.event.kind now)) (each z (inr k))) in
+      (λ kind. rest.0 kind ∙ stays c y.event.kind y.start kind now, λ kind. rest.1 kind ∙ floor_stays c y.event.kind y.start kind now)

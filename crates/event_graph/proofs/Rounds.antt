@@ -9,13 +9,13 @@ use Rattle.component.specs.declared.kind.Kind.{Kind}
 use Rattle.event_graph.specs.declared.event.Event.{Event}
 use Rattle.event_graph.specs.declared.event.Parent.{Parent}
 use Rattle.event_graph.specs.Numbered.{IsNumbered}
-use Rattle.event_graph.specs.OneListWeave.{Timed, Weave, finish_in, finish_of, is_before, is_fired, is_parent_fired, is_ready, served, start_of}
-use Rattle.event_graph.specs.TimingSolution.{IsInOrder, ServesInTurn, of_component}
-use Rattle.weave_seq.proofs.Entries.{AreParentsFired, Extends, IsOneEach, after_first, after_second, entry_from_in, extends_from, fired_extends, fired_in, is_fired_from_in, parent_extends, start_extends}
-use Rattle.weave_seq.proofs.Least.{IsLeast, ready_from, ready_parts}
-use Rattle.weave_seq.proofs.Lists.{In, get-set_other, get-set_same, in_at, in_get, in_left, in_push, in_push_cases}
-use Rattle.weave_seq.proofs.Order.{before_by_start, before_from_not, before_trans}
-use Rattle.weave_seq.proofs.Turns.{left_by, left_by-push, turns_push}
+use Rattle.event_graph.specs.OneListWeave.{Timed, Weave, finish_in, finish_or_zero, is_before, is_fired, is_parent_fired, is_ready, served, start_of}
+use Rattle.event_graph.specs.TimingSolution.{IsInOrder, ServesInTurn, after_serving, of_component}
+use Rattle.event_graph.proofs.FindFired.{AreParentsFired, Extends, IsOneEach, after_first, after_second, find_from_in, extends_from, fired_extends, fired_in, is_fired_from_in, parent_extends, start_extends}
+use Rattle.event_graph.proofs.Least.{IsLeast, ready_from, ready_parts}
+use Rattle.event_graph.proofs.Lists.{In, get-set_other, get-set_same, in_get, in_left, in_push, in_push_cases}
+use Rattle.event_graph.proofs.Order.{before_by_start, before_from_not, before_trans}
+use Rattle.event_graph.proofs.Turns.{after_serving-push, turns_push}
 
 -- a component serves what it did before a step, and finishes after it starts
 pub record IsLawful {C : Type 0} (serves : C → Kind → Bool) (stepped : C → Kind → ℕ → C × ℕ) : Type 0 where
@@ -25,17 +25,6 @@ pub record IsLawful {C : Type 0} (serves : C → Kind → Bool) (stepped : C →
 -- the event's component is there, and serves it
 abbrev pub IsServed : {C : Type 0} → (C → Kind → Bool) → List C → Event → Type 0
 IsServed {C} serves comps e = (c : C) × ((slice_get comps e.component ≡ Some c) × IsTrue (serves c e.kind))
-
--- two events of one number are one
-pub same_event : (events : List Event) → IsNumbered events → (a b : Event) → In a events → In b events → a.number ≡ b.number → a ≡ b
-same_event events numbered a b ma mb e =
-    let ia : (i : ℕ) × (slice_get events i ≡ Some a) = in_at a events ma in
-    let ib : (i : ℕ) × (slice_get events i ≡ Some b) = in_at b events mb in
-    let na : a.number ≡ ia.0 = numbered.number ia.0 a ia.1 in
-    let nb : b.number ≡ ib.0 = numbered.number ib.0 b ib.1 in
-    let same : ia.0 ≡ ib.0 = sym na ∙ (e ∙ nb) in
-    let k : slice_get events ib.0 ≡ Some a = subst (λ i. slice_get events i ≡ Some a) same ia.1 in
-    cc
 
 pub of_component_same : (k : ℕ) (xs : List Timed) (y : Timed) → y.event.component ≡ k → of_component k (xs ++ y ∷ []) ≡ of_component k xs ++ y ∷ []
 of_component_same k xs y same =
@@ -59,7 +48,7 @@ module _ {C : Type 0} (serves : C → Kind → Bool) (stepped : C → Kind → �
     pub later : (x : Timed) (y : Event) → In x w.fired → In y events → is_ready w.fired y ≡ true → is_before x.event x.start y (start_of (finish_in w.fired) y) ≡ true
     pub are_served : (e : Event) → In e events → IsServed serves w.comps e
     pub turns : (k : ℕ) (c : C) → slice_get comps k ≡ Some c → ServesInTurn stepped c (of_component k w.fired)
-    pub left : (k : ℕ) (c : C) → slice_get comps k ≡ Some c → slice_get w.comps k ≡ Some (left_by stepped c (of_component k w.fired))
+    pub left : (k : ℕ) (c : C) → slice_get comps k ≡ Some c → slice_get w.comps k ≡ Some (after_serving stepped c (of_component k w.fired))
 
   pub holds_at_first : ((e : Event) → In e events → IsServed serves comps e) → HoldsBetween (record { fired = []; comps = comps })
   holds_at_first fits = record {
@@ -77,11 +66,11 @@ module _ {C : Type 0} (serves : C → Kind → Bool) (stepped : C → Kind → �
   -- a round in which an event fires
   module _ (lawful : IsLawful serves stepped) (numbered : IsNumbered events) (w : Weave C) (e : Event) (s : ℕ) (c : C)
       (h : HoldsBetween w) (l : IsLeast w.fired events e s) (is : slice_get w.comps e.component ≡ Some c) where
-    abbrev entry : Timed
-    entry = record { event = e; start = s; finish = (stepped c e.kind s).1 }
+    abbrev next : Timed
+    next = record { event = e; start = s; finish = (stepped c e.kind s).1 }
 
     abbrev new : List Timed
-    new = w.fired ++ entry ∷ []
+    new = w.fired ++ next ∷ []
 
     unfired : is_fired w.fired e.number ≡ false
     unfired = (ready_parts w.fired e l.ready).0
@@ -91,19 +80,19 @@ module _ {C : Type 0} (serves : C → Kind → Bool) (stepped : C → Kind → �
 
     one_each : IsOneEach new
     one_each x y mx my q =
-        elim (in_push_cases x w.fired entry mx) [
-          | inl ox ↦ elim (in_push_cases y w.fired entry my) [
+        elim (in_push_cases x w.fired next mx) [
+          | inl ox ↦ elim (in_push_cases y w.fired next my) [
             | inl oy ↦ h.one_each x y ox oy q
             | inr ey ↦ absurd (not_among x ox (q ∙ ap (λ (z : Timed). z.event.number) (sym ey)))
           ]
-          | inr ex ↦ elim (in_push_cases y w.fired entry my) [
+          | inr ex ↦ elim (in_push_cases y w.fired next my) [
             | inl oy ↦ absurd (not_among y oy (sym q ∙ ap (λ (z : Timed). z.event.number) (sym ex)))
             | inr ey ↦ sym ex ∙ ey
           ]
         ]
 
     extends : Extends w.fired new
-    extends = extends_from w.fired new one_each (λ x m. in_left x w.fired (entry ∷ []) m)
+    extends = extends_from w.fired new one_each (λ x m. in_left x w.fired (next ∷ []) m)
 
     served_now : IsTrue (serves c e.kind)
     served_now =
@@ -112,7 +101,7 @@ module _ {C : Type 0} (serves : C → Kind → Bool) (stepped : C → Kind → �
         subst (λ z. IsTrue (serves z e.kind)) same r.1.1
 
     finish_now : finish_in new e.number ≡ (stepped c e.kind s).1
-    finish_now = ap finish_of (entry_from_in new one_each entry e.number (in_push w.fired entry) refl)
+    finish_now = ap finish_or_zero (find_from_in new one_each next e.number (in_push w.fired next) refl)
 
     before_now : (x : Timed) → In x w.fired → is_before x.event x.start e s ≡ true
     before_now x m = subst (λ n. is_before x.event x.start e n ≡ true) (sym l.start_is) (h.later x e m l.member l.ready)
@@ -122,7 +111,7 @@ module _ {C : Type 0} (serves : C → Kind → Bool) (stepped : C → Kind → �
     parent_cases None k = inl refl
     parent_cases (Some p) k =
         let r : (x : Timed) × (In x new × (x.event.number ≡ p.number)) = fired_in new p.number k in
-        elim (in_push_cases r.0 w.fired entry r.1.0) [
+        elim (in_push_cases r.0 w.fired next r.1.0) [
           | inl old ↦ inl (is_fired_from_in w.fired r.0 p.number old r.1.1)
           | inr same ↦ inr (p, (refl, sym r.1.1 ∙ ap (λ (z : Timed). z.event.number) (sym same)))
         ]
@@ -135,7 +124,7 @@ module _ {C : Type 0} (serves : C → Kind → Bool) (stepped : C → Kind → �
     after_now : (y : Event) → In y events → is_ready new y ≡ true → is_before e s y (start_of (finish_in new) y) ≡ true
     after_now y m k =
         let parts : (is_fired new y.number ≡ false) × AreParentsFired new y = ready_parts new y k in
-        let other : e.number ≡ y.number → ⊥ = λ q. false≢true (sym parts.0 ∙ is_fired_from_in new entry y.number (in_push w.fired entry) q) in
+        let other : e.number ≡ y.number → ⊥ = λ q. false≢true (sym parts.0 ∙ is_fired_from_in new next y.number (in_push w.fired next) q) in
         let late : finish_in new e.number ≤ start_of (finish_in new) y → is_before e s y (start_of (finish_in new) y) ≡ true =
         λ q. before_by_start e s y (start_of (finish_in new) y) (let g : s < (stepped c e.kind s).1 = lawful.grows c e.kind s served_now in omega (arith, g, q, finish_now)) in
         elim (parent_cases y.first parts.1.0) [
@@ -151,14 +140,14 @@ module _ {C : Type 0} (serves : C → Kind → Bool) (stepped : C → Kind → �
 
     later_now : (x : Timed) (y : Event) → In x new → In y events → is_ready new y ≡ true → is_before x.event x.start y (start_of (finish_in new) y) ≡ true
     later_now x y mx my k =
-        elim (in_push_cases x w.fired entry mx) [
+        elim (in_push_cases x w.fired next mx) [
           | inl old ↦ before_trans x.event x.start e s y (start_of (finish_in new) y) (before_now x old) (after_now y my k)
           | inr same ↦ subst (λ (z : Timed). is_before z.event z.start y (start_of (finish_in new) y) ≡ true) same (after_now y my k)
         ]
 
     starts_now : (x : Timed) → In x new → (x.start ≡ start_of (finish_in new) x.event) × AreParentsFired new x.event
     starts_now x mx =
-        elim (in_push_cases x w.fired entry mx) [
+        elim (in_push_cases x w.fired next mx) [
           | inl old ↦
               let p : AreParentsFired w.fired x.event = h.parents x old in
               (h.starts x old ∙ sym (start_extends w.fired new extends x.event p), (parent_extends w.fired new extends x.event.first p.0, parent_extends w.fired new extends x.event.second p.1))
@@ -186,9 +175,9 @@ module _ {C : Type 0} (serves : C → Kind → Bool) (stepped : C → Kind → �
         ]
 
     -- the state of the component that serves it
-    state_now : (k : ℕ) (c0 : C) → slice_get comps k ≡ Some c0 → e.component ≡ k → c ≡ left_by stepped c0 (of_component k w.fired)
+    state_now : (k : ℕ) (c0 : C) → slice_get comps k ≡ Some c0 → e.component ≡ k → c ≡ after_serving stepped c0 (of_component k w.fired)
     state_now k c0 q same =
-        let a : slice_get w.comps k ≡ Some (left_by stepped c0 (of_component k w.fired)) = h.left k c0 q in
+        let a : slice_get w.comps k ≡ Some (after_serving stepped c0 (of_component k w.fired)) = h.left k c0 q in
         let b : slice_get w.comps k ≡ Some c = subst (λ n. slice_get w.comps n ≡ Some c) same is in
         cc
 
@@ -196,31 +185,31 @@ module _ {C : Type 0} (serves : C → Kind → Bool) (stepped : C → Kind → �
     turns_now k c0 q =
         elim (cases_eq e.component k) [
           | inl same ↦
-              subst (λ xs. ServesInTurn stepped c0 xs) (sym (of_component_same k w.fired entry same))
-              (turns_push stepped c0 (of_component k w.fired) entry (h.turns k c0 q) (ap (λ z. (stepped z e.kind s).1) (state_now k c0 q same)))
-          | inr apart ↦ subst (λ xs. ServesInTurn stepped c0 xs) (sym (of_component_other k w.fired entry apart)) (h.turns k c0 q)
+              subst (λ xs. ServesInTurn stepped c0 xs) (sym (of_component_same k w.fired next same))
+              (turns_push stepped c0 (of_component k w.fired) next (h.turns k c0 q) (ap (λ z. (stepped z e.kind s).1) (state_now k c0 q same)))
+          | inr apart ↦ subst (λ xs. ServesInTurn stepped c0 xs) (sym (of_component_other k w.fired next apart)) (h.turns k c0 q)
         ]
 
-    left_now : (k : ℕ) (c0 : C) → slice_get comps k ≡ Some c0 → slice_get (set w.comps e.component (stepped c e.kind s).0) k ≡ Some (left_by stepped c0 (of_component k new))
+    left_now : (k : ℕ) (c0 : C) → slice_get comps k ≡ Some c0 → slice_get (set w.comps e.component (stepped c e.kind s).0) k ≡ Some (after_serving stepped c0 (of_component k new))
     left_now k c0 q =
         elim (cases_eq e.component k) [
           | inl same ↦
-              subst (λ xs. slice_get (set w.comps e.component (stepped c e.kind s).0) k ≡ Some (left_by stepped c0 xs)) (sym (of_component_same k w.fired entry same))
-              (subst (λ n. slice_get (set w.comps n (stepped c e.kind s).0) k ≡ Some (left_by stepped c0 (of_component k w.fired ++ entry ∷ []))) (sym same)
+              subst (λ xs. slice_get (set w.comps e.component (stepped c e.kind s).0) k ≡ Some (after_serving stepped c0 xs)) (sym (of_component_same k w.fired next same))
+              (subst (λ n. slice_get (set w.comps n (stepped c e.kind s).0) k ≡ Some (after_serving stepped c0 (of_component k w.fired ++ next ∷ []))) (sym same)
               (get-set_same w.comps k c (stepped c e.kind s).0 (subst (λ n. slice_get w.comps n ≡ Some c) same is)
-              ∙ ap (λ z. Some z) (ap (λ z. (stepped z e.kind s).0) (state_now k c0 q same) ∙ sym (left_by-push stepped c0 (of_component k w.fired) entry))))
+              ∙ ap (λ z. Some z) (ap (λ z. (stepped z e.kind s).0) (state_now k c0 q same) ∙ sym (after_serving-push stepped c0 (of_component k w.fired) next))))
           | inr apart ↦
-              subst (λ xs. slice_get (set w.comps e.component (stepped c e.kind s).0) k ≡ Some (left_by stepped c0 xs)) (sym (of_component_other k w.fired entry apart))
+              subst (λ xs. slice_get (set w.comps e.component (stepped c e.kind s).0) k ≡ Some (after_serving stepped c0 xs)) (sym (of_component_other k w.fired next apart))
               (get-set_other w.comps e.component k (stepped c e.kind s).0 apart ∙ h.left k c0 q)
         ]
 
     pub holds_after : HoldsBetween (served stepped w e s (Some c))
     holds_after = record {
-      members = λ x m. elim (in_push_cases x w.fired entry m) [ inl old ↦ h.members x old | inr same ↦ subst (λ (z : Timed). In z.event events) same l.member ];
+      members = λ x m. elim (in_push_cases x w.fired next m) [ inl old ↦ h.members x old | inr same ↦ subst (λ (z : Timed). In z.event events) same l.member ];
       one_each = one_each;
       starts = λ x m. (starts_now x m).0;
       parents = λ x m. (starts_now x m).1;
-      in_order = all_pairs_push (λ (x y : Timed). IsTrue (is_before x.event x.start y.event y.start)) w.fired entry h.in_order (λ k d a. before_now (get_or w.fired k d) (in_get w.fired k d a));
+      in_order = all_pairs_push (λ (x y : Timed). IsTrue (is_before x.event x.start y.event y.start)) w.fired next h.in_order (λ k d a. before_now (get_or w.fired k d) (in_get w.fired k d a));
       later = later_now;
       are_served = served_after;
       turns = turns_now;

@@ -7,15 +7,15 @@ use Rattle.component.specs.declared.kind.Kind.{Kind}
 use Rattle.event_graph.specs.declared.event.Event.{Event}
 use Rattle.event_graph.specs.Fits.{EventFits, GraphFits}
 use Rattle.event_graph.specs.Numbered.{IsNumbered}
-use Rattle.event_graph.specs.OneListWeave.{AreSmallSteps, Timed, entry_of, fired_of, timed_in, timed_of, weave, woven}
+use Rattle.event_graph.specs.OneListWeave.{AreSmallSteps, Timed, find_fired, fired_of, timed_in, timed_of, weave, woven}
 use Rattle.event_graph.specs.Timely.{AreTimely, IsTimely}
 use Rattle.event_graph.specs.TimingSolution.{of_component}
-use Rattle.weave_seq.proofs.Lists.{In, at_in, from_filter, get-map, in_at, in_filter}
-use Rattle.weave_seq.proofs.Rounds.{HoldsBetween, IsLawful, IsServed}
-use Rattle.weave_seq.proofs.Solves.{entry_at, held, woven-is}
-use Rattle.weave_seq.proofs.State.{entries}
-use Rattle.weave_seq.proofs.Theorem.{served_from}
-use Rattle.weave_seq.proofs.Turns.{turns_take}
+use Rattle.event_graph.proofs.Lists.{In, at_in, from_filter, get-map, in_at, in_filter}
+use Rattle.event_graph.proofs.Rounds.{HoldsBetween, IsLawful, IsServed}
+use Rattle.event_graph.proofs.Solves.{timed_at, held, woven-is}
+use Rattle.event_graph.proofs.SmallSteps.{times}
+use Rattle.event_graph.proofs.Theorem.{served_from}
+use Rattle.event_graph.proofs.Turns.{turns_take}
 
 module _ {C : Type 0} (serves : C → Kind → Bool) (floor : C → Kind → ℕ) (stepped : C → Kind → ℕ → C × ℕ) (greatest : C → Kind → ℕ → ℕ) (events : List Event) (comps : List C)
     (lawful : IsLawful serves stepped)
@@ -55,7 +55,7 @@ module _ {C : Type 0} (serves : C → Kind → Bool) (floor : C → Kind → ℕ
         number = refl;
         start = omega (arith, holds_at_end.starts x m);
         time = omega (arith, takes_its_floor x m f, f.floor_is);
-        small = (entries serves stepped greatest events comps lawful counts numbered served small (length events) x m).1;
+        small = (times serves stepped greatest events comps lawful counts numbered served small (length events) x m).1;
       }
 
   pub all_timely : AreTimely events (map fired_of (woven stepped events comps))
@@ -64,7 +64,7 @@ module _ {C : Type 0} (serves : C → Kind → Bool) (floor : C → Kind → ℕ
       record {
         count = length-map (woven stepped events comps) fired_of ∙ (ap length answers ∙ length-map events (timed_in fired));
         each = λ i e f at at'.
-            let k : (x : Timed) × ((entry_of fired e.number ≡ Some x) × (In x fired × (x.event ≡ e))) = entry_at serves stepped events comps lawful numbered served e (at_in e events i at) in
+            let k : (x : Timed) × ((find_fired fired e.number ≡ Some x) × (In x fired × (x.event ≡ e))) = timed_at serves stepped events comps lawful numbered served e (at_in e events i at) in
             let there : slice_get (map fired_of (woven stepped events comps)) i ≡ Some (fired_of (timed_in fired e)) =
             ap (λ xs. slice_get (map fired_of xs) i) answers ∙ get-map fired_of (timed_in fired e) (map (timed_in fired) events) i (get-map (timed_in fired) e events i at)
             in

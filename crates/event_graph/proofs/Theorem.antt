@@ -7,10 +7,10 @@ use Rattle.event_graph.specs.Fits.{EventFits, GraphFits}
 use Rattle.event_graph.specs.Numbered.{IsNumbered}
 use Rattle.event_graph.specs.OneListWeave.{Timed, woven}
 use Rattle.event_graph.specs.TimingSolution.{IsSolution}
-use Rattle.weave_seq.proofs.Lists.{In, in_at}
-use Rattle.weave_seq.proofs.Rounds.{IsLawful, IsServed}
-use Rattle.weave_seq.proofs.Solves.{solves}
-use Rattle.weave_seq.proofs.Unique.{is_woven}
+use Rattle.event_graph.proofs.Lists.{In, in_at}
+use Rattle.event_graph.proofs.Rounds.{IsLawful, IsServed}
+use Rattle.event_graph.proofs.Solves.{solves}
+use Rattle.event_graph.proofs.Unique.{is_woven}
 
 module _ {C : Type 0} (serves : C → Kind → Bool) (floor : C → Kind → ℕ) (stepped : C → Kind → ℕ → C × ℕ) where
   pub lawful_from : ((c : C) (kind : Kind) → IsTrue (serves c kind) → 1 ≤ floor c kind)

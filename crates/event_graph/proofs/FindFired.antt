@@ -1,12 +1,12 @@
--- The entries of a list by number, and the start rule over them.
+-- The fired event of a number, and the start rule over the fired events.
 use Rattle.std.proofs.Common.{◌≡◌, ◌≤◌, ◌+◌, ◌==◌, ℕ, true, false, cond, inl, inr, List, [], ◌∷◌, ◌++◌, Option, Some, None, is_some, sym, ◌∙◌, ap, refl, arith}
 use Rattle.std.proofs.lemmas.Bool.{cond-true, cond-false, cond_both, eqb-true, eq-eqb, ne_eqb}
 use Rattle.event_graph.specs.declared.event.Event.{Event}
 use Rattle.event_graph.specs.declared.event.Parent.{Parent}
-use Rattle.event_graph.specs.OneListWeave.{Timed, after_parent, entry_of, finish_in, finish_of, is_fired, is_parent_fired, start_of}
-use Rattle.weave_seq.proofs.Lists.{In}
+use Rattle.event_graph.specs.OneListWeave.{Timed, after_parent, find_fired, finish_in, finish_or_zero, is_fired, is_parent_fired, start_of}
+use Rattle.event_graph.proofs.Lists.{In}
 
--- no two entries have one number
+-- no two of them have one number
 abbrev pub IsOneEach : List Timed → Type 0
 IsOneEach xs = (x y : Timed) → In x xs → In y xs → x.event.number ≡ y.event.number → x ≡ y
 
@@ -14,12 +14,12 @@ pub some_from_fired : (o : Option Timed) → is_some o ≡ true → (x : Timed) 
 some_from_fired None h = absurd (cc)
 some_from_fired (Some x) h = (x, refl)
 
-pub entry_in : (xs : List Timed) (n : ℕ) (x : Timed) → entry_of xs n ≡ Some x → In x xs × (x.event.number ≡ n)
-entry_in [] n x h = absurd (cc)
-entry_in (y ∷ xs) n x h =
-    cond_both (y.event.number == n) (Some y) (entry_of xs n) (λ o. o ≡ Some x → In x (y ∷ xs) × (x.event.number ≡ n))
+pub found_in : (xs : List Timed) (n : ℕ) (x : Timed) → find_fired xs n ≡ Some x → In x xs × (x.event.number ≡ n)
+found_in [] n x h = absurd (cc)
+found_in (y ∷ xs) n x h =
+    cond_both (y.event.number == n) (Some y) (find_fired xs n) (λ o. o ≡ Some x → In x (y ∷ xs) × (x.event.number ≡ n))
     (λ t k. let e : y ≡ x = cc in (inl e, ap (λ (z : Timed). z.event.number) (sym e) ∙ eqb-true y.event.number n t))
-    (λ _ k. let r : In x xs × (x.event.number ≡ n) = entry_in xs n x k in (inr r.0, r.1))
+    (λ _ k. let r : In x xs × (x.event.number ≡ n) = found_in xs n x k in (inr r.0, r.1))
     h
 
 pub is_fired_from_in : (xs : List Timed) (x : Timed) (n : ℕ) → In x xs → x.event.number ≡ n → is_fired xs n ≡ true
@@ -28,32 +28,32 @@ is_fired_from_in (y ∷ xs) x n m e =
     elim m [
       | inl same ↦
           let t : (y.event.number == n) ≡ true = eq-eqb y.event.number n (ap (λ (z : Timed). z.event.number) same ∙ e) in
-          ap (λ o. is_some o) (cond-true (y.event.number == n) (Some y) (entry_of xs n) t)
+          ap (λ o. is_some o) (cond-true (y.event.number == n) (Some y) (find_fired xs n) t)
       | inr rest ↦
-          cond_both (y.event.number == n) (Some y) (entry_of xs n) (λ o. is_some o ≡ true) (λ _. refl) (λ _. is_fired_from_in xs x n rest e)
+          cond_both (y.event.number == n) (Some y) (find_fired xs n) (λ o. is_some o ≡ true) (λ _. refl) (λ _. is_fired_from_in xs x n rest e)
     ]
 
-pub entry_from_in : (xs : List Timed) → IsOneEach xs → (x : Timed) (n : ℕ) → In x xs → x.event.number ≡ n → entry_of xs n ≡ Some x
-entry_from_in xs one x n m e =
-    let r : (y : Timed) × (entry_of xs n ≡ Some y) = some_from_fired (entry_of xs n) (is_fired_from_in xs x n m e) in
-    let f : In r.0 xs × (r.0.event.number ≡ n) = entry_in xs n r.0 r.1 in
+pub find_from_in : (xs : List Timed) → IsOneEach xs → (x : Timed) (n : ℕ) → In x xs → x.event.number ≡ n → find_fired xs n ≡ Some x
+find_from_in xs one x n m e =
+    let r : (y : Timed) × (find_fired xs n ≡ Some y) = some_from_fired (find_fired xs n) (is_fired_from_in xs x n m e) in
+    let f : In r.0 xs × (r.0.event.number ≡ n) = found_in xs n r.0 r.1 in
     let same : r.0 ≡ x = one r.0 x f.0 m (f.1 ∙ sym e) in
     r.1 ∙ ap (λ z. Some z) same
 
 pub fired_in : (xs : List Timed) (n : ℕ) → is_fired xs n ≡ true → (x : Timed) × (In x xs × (x.event.number ≡ n))
 fired_in xs n h =
-    let r : (y : Timed) × (entry_of xs n ≡ Some y) = some_from_fired (entry_of xs n) h in
-    (r.0, entry_in xs n r.0 r.1)
+    let r : (y : Timed) × (find_fired xs n ≡ Some y) = some_from_fired (find_fired xs n) h in
+    (r.0, found_in xs n r.0 r.1)
 
--- ys has the entries of xs
+-- ys has what xs has
 abbrev pub Extends : List Timed → List Timed → Type 0
-Extends xs ys = (n : ℕ) → is_fired xs n ≡ true → entry_of ys n ≡ entry_of xs n
+Extends xs ys = (n : ℕ) → is_fired xs n ≡ true → find_fired ys n ≡ find_fired xs n
 
 pub extends_from : (xs ys : List Timed) → IsOneEach ys → ((x : Timed) → In x xs → In x ys) → Extends xs ys
 extends_from xs ys one sub n h =
-    let r : (y : Timed) × (entry_of xs n ≡ Some y) = some_from_fired (entry_of xs n) h in
-    let f : In r.0 xs × (r.0.event.number ≡ n) = entry_in xs n r.0 r.1 in
-    entry_from_in ys one r.0 n (sub r.0 f.0) f.1 ∙ sym r.1
+    let r : (y : Timed) × (find_fired xs n ≡ Some y) = some_from_fired (find_fired xs n) h in
+    let f : In r.0 xs × (r.0.event.number ≡ n) = found_in xs n r.0 r.1 in
+    find_from_in ys one r.0 n (sub r.0 f.0) f.1 ∙ sym r.1
 
 pub fired_extends : (xs ys : List Timed) → Extends xs ys → (n : ℕ) → is_fired xs n ≡ true → is_fired ys n ≡ true
 fired_extends xs ys ext n h = ap (λ o. is_some o) (ext n h) ∙ h
@@ -69,7 +69,7 @@ parent_extends xs ys ext (Some p) h = fired_extends xs ys ext p.number h
 
 pub after_parent_extends : (xs ys : List Timed) → Extends xs ys → (o : Option Parent) → is_parent_fired xs o ≡ true → after_parent (finish_in ys) o ≡ after_parent (finish_in xs) o
 after_parent_extends xs ys ext None h = refl
-after_parent_extends xs ys ext (Some p) h = ap (λ o. finish_of o + p.delay) (ext p.number h)
+after_parent_extends xs ys ext (Some p) h = ap (λ o. finish_or_zero o + p.delay) (ext p.number h)
 
 pub start_extends : (xs ys : List Timed) → Extends xs ys → (e : Event) → AreParentsFired xs e → start_of (finish_in ys) e ≡ start_of (finish_in xs) e
 start_extends xs ys ext e h =
@@ -89,16 +89,16 @@ after_second finish e p h =
     let a : after_parent finish e.second ≡ finish p.number + p.delay = ap (λ o. after_parent finish o) h in
     omega arith
 
--- one more entry
+-- one more that fired
 
-pub entry_push_other : (xs : List Timed) (y : Timed) (n : ℕ) → (y.event.number ≡ n → ⊥) → entry_of (xs ++ y ∷ []) n ≡ entry_of xs n
-entry_push_other [] y n ne = cond-false (y.event.number == n) (Some y) None (ne_eqb y.event.number n ne)
-entry_push_other (x ∷ xs) y n ne = ap (λ o. cond (x.event.number == n) (Some x) o) (entry_push_other xs y n ne)
+pub find_push_other : (xs : List Timed) (y : Timed) (n : ℕ) → (y.event.number ≡ n → ⊥) → find_fired (xs ++ y ∷ []) n ≡ find_fired xs n
+find_push_other [] y n ne = cond-false (y.event.number == n) (Some y) None (ne_eqb y.event.number n ne)
+find_push_other (x ∷ xs) y n ne = ap (λ o. cond (x.event.number == n) (Some x) o) (find_push_other xs y n ne)
 
-pub entry_push_new : (xs : List Timed) (y : Timed) (n : ℕ) → is_fired xs n ≡ false → y.event.number ≡ n → entry_of (xs ++ y ∷ []) n ≡ Some y
-entry_push_new [] y n f e = cond-true (y.event.number == n) (Some y) None (eq-eqb y.event.number n e)
-entry_push_new (x ∷ xs) y n f e =
-    cond_both (x.event.number == n) (Some x) (entry_of xs n) (λ o. is_some o ≡ false → cond (x.event.number == n) (Some x) (entry_of (xs ++ y ∷ []) n) ≡ Some y)
+pub find_push_new : (xs : List Timed) (y : Timed) (n : ℕ) → is_fired xs n ≡ false → y.event.number ≡ n → find_fired (xs ++ y ∷ []) n ≡ Some y
+find_push_new [] y n f e = cond-true (y.event.number == n) (Some y) None (eq-eqb y.event.number n e)
+find_push_new (x ∷ xs) y n f e =
+    cond_both (x.event.number == n) (Some x) (find_fired xs n) (λ o. is_some o ≡ false → cond (x.event.number == n) (Some x) (find_fired (xs ++ y ∷ []) n) ≡ Some y)
     (λ _ k. absurd (cc))
-    (λ t k. cond-false (x.event.number == n) (Some x) (entry_of (xs ++ y ∷ []) n) t ∙ entry_push_new xs y n k e)
+    (λ t k. cond-false (x.event.number == n) (Some x) (find_fired (xs ++ y ∷ []) n) t ∙ find_push_new xs y n k e)
     f

@@ -1,7 +1,7 @@
 -- The components are quick, and stay so.
 use Rattle.component.specs.ComponentStep.{free_of}
-use Rattle.weave_seq.proofs.MachineGrowth.{begin_quick, is_quick, quick_is_paced}
-use Rattle.weave_seq.proofs.laws.machine_steps_stay_small.Goals as goal
+use Rattle.event_graph.proofs.MachineGrowth.{begin_quick, is_quick, quick_is_paced}
+use Rattle.event_graph.proofs.laws.machine_steps_stay_small.Goals as goal
 
 pub returns : goal.returns
 returns c = λ m comps events base delay ok are free numbered fits near room.
