@@ -77,6 +77,15 @@ start_extends xs ys ext e h =
     let b : after_parent (finish_in ys) e.second ≡ after_parent (finish_in xs) e.second = after_parent_extends xs ys ext e.second h.1 in
     cc
 
+-- a start is no earlier where finishes are later
+
+after_parent_mono : (F G : ℕ → ℕ) → ((n : ℕ) → F n ≤ G n) → (o : Option Parent) → after_parent F o ≤ after_parent G o
+after_parent_mono F G h None = omega arith
+after_parent_mono F G h (Some p) = omega (arith, h p.number)
+
+pub start_mono : (F G : ℕ → ℕ) → ((n : ℕ) → F n ≤ G n) → (e : Event) → start_of F e ≤ start_of G e
+start_mono F G h e = omega (arith, after_parent_mono F G h e.first, after_parent_mono F G h e.second)
+
 -- the start is no earlier than a parent's finish
 
 pub after_first : (finish : ℕ → ℕ) (e : Event) (p : Parent) → e.first ≡ Some p → finish p.number ≤ start_of finish e

@@ -9,10 +9,11 @@ use Rattle.std.proofs.lemmas.List.Sorted.{IsPermutation-refl, IsPermutation-cons
 use Rattle.std.proofs.Math.Seq.{take-append_seam}
 use Rattle.component.specs.declared.kind.Kind.{Kind}
 use Rattle.event_graph.specs.declared.event.Event.{Event}
+use Rattle.event_graph.specs.Firing.{IsRound}
 use Rattle.event_graph.specs.Numbered.{IsNumbered}
-use Rattle.event_graph.specs.OneListWeave.{Timed, after, is_fired, least_ready, weave}
+use Rattle.event_graph.specs.OneListWeave.{Timed, Weave, after, is_fired, least_ready, served, weave}
 use Rattle.event_graph.proofs.FindFired.{find_push_other, is_fired_from_in}
-use Rattle.event_graph.proofs.Least.{IsLeast, least_some, ready_parts}
+use Rattle.event_graph.proofs.Least.{IsLeast, least_some, next_from_least, ready_parts}
 use Rattle.event_graph.proofs.Lists.{In, get_within, in_at, in_push}
 use Rattle.event_graph.proofs.Places.{slice_get_left, slice_get_right}
 use Rattle.event_graph.proofs.Progress.{AllFired, after_first_round, after_more, all_fired, all_fired_from_none, holds, round_fires, round_stays, stays}
@@ -212,3 +213,23 @@ module _ {C : Type 0} (serves : C → Kind → Bool) (stepped : C → Kind → �
       let same : f.next ≡ x = cc in
       subst (λ (z : Timed). IsLeast (fired_after n) events z.event z.start) same
       (subst (λ e. IsLeast (fired_after n) events e f.next.start) (sym f.event) (subst (λ s. IsLeast (fired_after n) events r.0.0 s) (sym f.start) f.least))
+
+  -- a round while an event is unfired
+  pub round_at : (n : ℕ) → n < length events → (x : Timed) × (c : C) × IsRound serves stepped events (after stepped events comps n) (after stepped events comps (suc n)) x c
+  round_at n l =
+      let count : length (fired_after n) ≡ n = counted n (omega (arith, l)) in
+      let r : (r : Event × ℕ) × (least_ready (fired_after n) events ≡ Some r) = some_ready n l count (least_ready (fired_after n) events) refl in
+      let m : IsLeast (fired_after n) events r.0.0 r.0.1 = least_some (fired_after n) events r.0 r.1 in
+      let f : IsServed serves (after stepped events comps n).comps r.0.0 = (holds serves stepped events comps lawful numbered fits n).are_served r.0.0 m.member in
+      let next : after stepped events comps (suc n) ≡ served stepped (after stepped events comps n) r.0.0 r.0.1 (Some f.0) =
+      after_more serves stepped events comps n ∙ round_fires serves stepped events comps (after stepped events comps n) r.0 f.0 r.1 f.1.0
+      in
+      let x : Timed = record { event = r.0.0; start = r.0.1; finish = (stepped f.0 r.0.0.kind r.0.1).1 } in
+      (x, f.0, record {
+        next = next_from_least (fired_after n) events numbered x m;
+        there = f.1.0;
+        served = f.1.1;
+        finish = refl;
+        fired = ap (λ v. v.fired) next;
+        comps = ap (λ v. v.comps) next;
+      })

@@ -1,15 +1,15 @@
--- The rounds of a weave whose steps are small: no finish is late, and what is ready starts early.
+-- The rounds of a weave whose steps are small: no finish and no start so far is late.
 use Rattle.std.proofs.Common.{◌≡◌, ◌<◌, ◌≤◌, ◌^◌, ℕ, zero, suc, Bool, true, List, [], ◌∷◌, length, inl, inr, Option, Some, None, sym, ◌∙◌, ap, subst, refl, arith}
 use Rattle.std.specs.Prelude.{IsTrue, IfSome, slice_get}
-use Rattle.std.proofs.lemmas.Bool.{cases_eq}
+use Rattle.std.proofs.lemmas.Bool.{cases_eq, cases_lt}
 use Rattle.component.specs.declared.kind.Kind.{Kind}
 use Rattle.event_graph.specs.declared.event.Event.{Event}
 use Rattle.event_graph.specs.Numbered.{IsNumbered}
-use Rattle.event_graph.specs.OneListWeave.{AreSmallSteps, IsSmallStep, Timed, Weave, after, finish_in, is_ready, least_ready, round, start_of, weave}
-use Rattle.event_graph.proofs.FindFired.{Extends, extends_from, fired_in, start_extends}
-use Rattle.event_graph.proofs.Least.{IsLeast, least_some, ready_parts, same_event}
+use Rattle.event_graph.specs.OneListWeave.{AreSmallSteps, IsSmallStep, Timed, Weave, after, finish_in, finish_or_zero, find_fired, least_ready, round, start_of, weave}
+use Rattle.event_graph.proofs.FindFired.{find_from_in, fired_in, found_in, start_mono}
+use Rattle.event_graph.proofs.Least.{IsLeast, least_some, same_event}
 use Rattle.event_graph.proofs.Lists.{In, in_left, in_push_cases}
-use Rattle.event_graph.proofs.Progress.{after_first_round, after_more, all_fired, holds, round_fires, round_stays}
+use Rattle.event_graph.proofs.Progress.{after_first_round, after_more, all_fired, holds, round_fires, round_stays, stays as all_done}
 use Rattle.event_graph.proofs.Rounds.{HoldsBetween, IsLawful, IsServed}
 
 module _ {C : Type 0} (serves : C → Kind → Bool) (stepped : C → Kind → ℕ → C × ℕ) (greatest : C → Kind → ℕ → ℕ) (events : List Event) (comps : List C)
@@ -66,22 +66,31 @@ module _ {C : Type 0} (serves : C → Kind → Bool) (stepped : C → Kind → �
             (kept_by m x (later n m (omega (arith, l, ne)) x h) (least_ready (after stepped events comps m).fired events) refl)
       ]
 
-  -- what is ready will start at a small cycle
-  pub ready_small : (n : ℕ) → n ≤ length events → (e : Event) → In e events → is_ready (after stepped events comps n).fired e ≡ true → start_of (finish_in (after stepped events comps n).fired) e ≤ 2 ^ 62
-  ready_small n l e m r =
-      let now : List Timed = (after stepped events comps n).fired in
+  by_the_end : (n : ℕ) (x : Timed) → In x (after stepped events comps n).fired → In x (weave stepped events comps).fired
+  by_the_end n x m =
+      elim (cases_lt n (length events)) [
+        | inl l ↦ later n (length events) (omega arith) x m
+        | inr l ↦ subst (λ (v : Weave C). In x v.fired) (all_done serves stepped events comps lawful numbered fits (length events) (all_fired serves stepped events comps lawful numbered fits) n l) m
+      ]
+
+  -- each event's start so far is no later than its start in the weave
+  earlier_finish : (n k : ℕ) → (o : Option Timed) → find_fired (after stepped events comps n).fired k ≡ o → finish_or_zero o ≤ finish_in (weave stepped events comps).fired k
+  earlier_finish n k None is = omega arith
+  earlier_finish n k (Some x) is =
+      let found : In x (after stepped events comps n).fired × (x.event.number ≡ k) = found_in (after stepped events comps n).fired k x is in
+      let same : find_fired (weave stepped events comps).fired k ≡ Some x = find_from_in (weave stepped events comps).fired (holds serves stepped events comps lawful numbered fits (length events)).one_each x k (by_the_end n x found.0) found.1 in
+      omega (arith, ap finish_or_zero same)
+
+  pub start_small : (n : ℕ) (e : Event) → In e events → start_of (finish_in (after stepped events comps n).fired) e ≤ 2 ^ 62
+  start_small n e m =
       let end : HoldsBetween serves stepped events comps (weave stepped events comps) = holds serves stepped events comps lawful numbered fits (length events) in
       let x : (x : Timed) × (In x (weave stepped events comps).fired × (x.event.number ≡ e.number)) =
       fired_in (weave stepped events comps).fired e.number (all_fired serves stepped events comps lawful numbered fits e m)
       in
       let same : x.0.event ≡ e = same_event events numbered x.0.event e (end.members x.0 x.1.0) m x.1.1 in
-      let ext : Extends (after stepped events comps n).fired (weave stepped events comps).fired =
-      extends_from (after stepped events comps n).fired (weave stepped events comps).fired end.one_each (λ z k. later n (length events) l z k)
-      in
-      let s : x.0.start ≡ start_of (finish_in (after stepped events comps n).fired) e =
-      end.starts x.0 x.1.0
-      ∙ (ap (λ z. start_of (finish_in (weave stepped events comps).fired) z) same
-      ∙ start_extends (after stepped events comps n).fired (weave stepped events comps).fired ext e (ready_parts (after stepped events comps n).fired e r).1)
-      in
+      let start : x.0.start ≡ start_of (finish_in (weave stepped events comps).fired) e = end.starts x.0 x.1.0 ∙ ap (λ z. start_of (finish_in (weave stepped events comps).fired) z) same in
       let small : (x.0.start < x.0.finish) × (x.0.finish ≤ 2 ^ 62) = times (length events) x.0 x.1.0 in
-      omega (arith, s, small.0, small.1)
+      let below : start_of (finish_in (after stepped events comps n).fired) e ≤ start_of (finish_in (weave stepped events comps).fired) e =
+      start_mono (finish_in (after stepped events comps n).fired) (finish_in (weave stepped events comps).fired) (λ k. earlier_finish n k (find_fired (after stepped events comps n).fired k) refl) e
+      in
+      omega (arith, below, start, small.0, small.1)

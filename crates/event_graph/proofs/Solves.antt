@@ -2,14 +2,22 @@
 use Rattle.std.proofs.Common.{◌≡◌, ℕ, Bool, List, map, length, Some, sym, ◌∙◌, ap, subst, refl}
 use Rattle.component.specs.declared.kind.Kind.{Kind}
 use Rattle.event_graph.specs.declared.event.Event.{Event}
+use Rattle.event_graph.specs.declared.fired.Fired.{Fired}
+use Rattle.event_graph.specs.Firing.{time_so_far}
 use Rattle.event_graph.specs.Numbered.{IsNumbered}
-use Rattle.event_graph.specs.OneListWeave.{Timed, find_fired, timed_in, timed_of, weave, woven}
+use Rattle.event_graph.specs.OneListWeave.{Timed, find_fired, finish_in, finish_or_zero, fired_of, start_of, timed_in, timed_of, weave, woven}
 use Rattle.event_graph.specs.TimingSolution.{IsSolution}
 use Rattle.event_graph.proofs.FindFired.{IsOneEach, find_from_in, found_in, extends_from, some_from_fired, start_extends}
 use Rattle.event_graph.proofs.Least.{same_event}
-use Rattle.event_graph.proofs.Lists.{In, contains_in, from_map, in_contains, in_map, map_itself, map_map}
+use Rattle.event_graph.proofs.Lists.{In, contains_in, from_map, in_contains, in_map, map_itself, map_map, map_same}
 use Rattle.event_graph.proofs.Progress.{all_fired, holds}
 use Rattle.event_graph.proofs.Rounds.{HoldsBetween, IsLawful, IsServed}
+
+abbrev times_of : ℕ → ℕ → ℕ → Fired
+times_of n s f = record { number = n; start = s; finish = f }
+
+same_times : (n m s t f g : ℕ) → n ≡ m → s ≡ t → f ≡ g → times_of n s f ≡ times_of m t g
+same_times n m s t f g a b c = cc
 
 module _ {C : Type 0} (serves : C → Kind → Bool) (stepped : C → Kind → ℕ → C × ℕ) (events : List Event) (comps : List C)
     (lawful : IsLawful serves stepped) (numbered : IsNumbered events) (fits : (e : Event) → In e events → IsServed serves comps e) where
@@ -49,6 +57,22 @@ module _ {C : Type 0} (serves : C → Kind → Bool) (stepped : C → Kind → �
   event_of_answer e m =
       let k : (y : Timed) × ((find_fired (weave stepped events comps).fired e.number ≡ Some y) × (In y (weave stepped events comps).fired × (y.event ≡ e))) = timed_at e m in
       ap (λ o. (timed_of e o).event) k.1.0 ∙ k.1.1.1
+
+  -- what is known of the events at the end is what the weave answers
+  pub known_at_the_end : map (time_so_far (weave stepped events comps).fired) events ≡ map fired_of (woven stepped events comps)
+  known_at_the_end =
+      map_same (time_so_far (weave stepped events comps).fired) (λ e. fired_of (timed_in (weave stepped events comps).fired e)) events
+      (λ e m.
+      let k : (x : Timed) × ((find_fired (weave stepped events comps).fired e.number ≡ Some x) × (In x (weave stepped events comps).fired × (x.event ≡ e))) = timed_at e m in
+      let answer : timed_in (weave stepped events comps).fired e ≡ k.0 = ap (λ o. timed_of e o) k.1.0 in
+      let finish : finish_in (weave stepped events comps).fired e.number ≡ k.0.finish = ap finish_or_zero k.1.0 in
+      let start : start_of (finish_in (weave stepped events comps).fired) e ≡ k.0.start =
+      ap (λ z. start_of (finish_in (weave stepped events comps).fired) z) (sym k.1.1.1) ∙ sym (held.starts k.0 k.1.1.0)
+      in
+      let number : e.number ≡ k.0.event.number = ap (λ (z : Event). z.number) (sym k.1.1.1) in
+      same_times e.number k.0.event.number (start_of (finish_in (weave stepped events comps).fired) e) k.0.start (finish_in (weave stepped events comps).fired e.number) k.0.finish number start finish
+      ∙ ap fired_of (sym answer))
+      ∙ (sym (map_map (timed_in (weave stepped events comps).fired) fired_of events) ∙ ap (λ xs. map fired_of xs) (sym woven-is))
 
   pub solves : IsSolution stepped events comps (woven stepped events comps)
   solves = record {

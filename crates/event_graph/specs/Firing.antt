@@ -1,8 +1,10 @@
--- The event that fires next.
-use Rattle.std.specs.Prelude.{◌≡◌, ◌⊎◌, IsTrue, List}
+-- How events fire: the next one, a round of the weave, and what is known of the events so far.
+use Rattle.std.specs.Prelude.{◌≡◌, ◌⊎◌, ◌++◌, ◌∷◌, [], ℕ, Bool, IsTrue, List, Some, slice_get, slice_set}
 use Rattle.std.specs.List.{Contains}
+use Rattle.component.specs.declared.kind.Kind.{Kind}
 use Rattle.event_graph.specs.declared.event.Event.{Event}
-use Rattle.event_graph.specs.OneListWeave.{Timed, finish_in, is_before, is_ready, start_of}
+use Rattle.event_graph.specs.declared.fired.Fired.{Fired}
+use Rattle.event_graph.specs.OneListWeave.{Timed, Weave, finish_in, is_before, is_parent_fired, is_ready, start_of}
 
 -- where these fired, x is ready, starts by the start rule, and comes before each other ready event
 pub record IsNext (fired : List Timed) (events : List Event) (x : Timed) : Type 0 where
@@ -10,3 +12,22 @@ pub record IsNext (fired : List Timed) (events : List Event) (x : Timed) : Type 
   pub ready : IsTrue (is_ready fired x.event)
   pub start : x.start ≡ start_of (finish_in fired) x.event
   pub first : (y : Event) → Contains events y → IsTrue (is_ready fired y) → (y ≡ x.event) ⊎ IsTrue (is_before x.event x.start y (start_of (finish_in fired) y))
+
+-- a round: x fires next, and its component c serves it
+pub record IsRound {C : Type 0} (serves : C → Kind → Bool) (stepped : C → Kind → ℕ → C × ℕ) (events : List Event) (before after : Weave C) (x : Timed) (c : C) : Type 0 where
+  pub next : IsNext before.fired events x
+  pub there : slice_get before.comps x.event.component ≡ Some c
+  pub served : IsTrue (serves c x.event.kind)
+  pub finish : x.finish ≡ (stepped c x.event.kind x.start).1
+  pub fired : after.fired ≡ before.fired ++ x ∷ []
+  pub comps : after.comps ≡ slice_set before.comps x.event.component (stepped c x.event.kind x.start).0
+
+-- the event's parents are among these, and give it its start
+pub record StartsByTheRules (fired : List Timed) (x : Timed) : Type 0 where
+  pub first : IsTrue (is_parent_fired fired x.event.first)
+  pub second : IsTrue (is_parent_fired fired x.event.second)
+  pub start : x.start ≡ start_of (finish_in fired) x.event
+
+-- an event as these leave it: no earlier than what fired allows, and its finish, which is 0 until it fires
+abbrev pub time_so_far : List Timed → Event → Fired
+time_so_far fired e = record { number = e.number; start = start_of (finish_in fired) e; finish = finish_in fired e.number }

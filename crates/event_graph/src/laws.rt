@@ -1,16 +1,17 @@
 //! Laws over the definitions alone, each the contract of a function that does nothing.
-ghost use Rattle.std.specs.Prelude.{◌≡◌, ◌+◌, ◌*◌, ◌^◌, ◌<◌, ◌≤◌, ◌↔◌, ℕ, Bool, List, All, Some, length, map, slice_get, sum_by, take, IsPermutation};
+ghost use Rattle.std.specs.Prelude.{◌≡◌, ◌+◌, ◌*◌, ◌^◌, ◌<◌, ◌≤◌, ◌↔◌, ℕ, suc, Bool, List, All, Some, length, map, slice_get, sum_by, take, IsPermutation};
+ghost use Rattle.std.specs.List.{Contains};
 ghost use Rattle.std.specs.Option.{option_map};
 ghost use Rattle.zs_num.specs.declared.entry.Entry.{Entry};
 ghost use Rattle.event_graph.specs.declared.event.Event.{Event};
 ghost use Rattle.event_graph.specs.EventGraph.{all_events};
-ghost use Rattle.event_graph.specs.Firing.{IsNext};
+ghost use Rattle.event_graph.specs.Firing.{IsNext, IsRound, StartsByTheRules, time_so_far};
 ghost use Rattle.event_graph.specs.Fits.{GraphFits};
 ghost use Rattle.event_graph.specs.Growth.{BeginBy, IsPaced};
 ghost use Rattle.event_graph.specs.Laws.{MachineComponentsStay, MachineStepsStaySmall, PlainAccessesHaveFewEvents, PlainGraphsFit, PlainTellsComponents};
 ghost use Rattle.event_graph.specs.Near.{AreNear};
 ghost use Rattle.event_graph.specs.Numbered.{IsNumbered};
-ghost use Rattle.event_graph.specs.OneListWeave.{AreSmallSteps, Timed, after, fired_of, weave, woven};
+ghost use Rattle.event_graph.specs.OneListWeave.{AreSmallSteps, Timed, after, finish_in, fired_of, start_of, weave, woven};
 ghost use Rattle.event_graph.specs.Timely.{AreTimely};
 ghost use Rattle.event_graph.specs.TimingSolution.{IsInOrder, IsSolution, ServesInTurn, after_serving, of_component};
 ghost use Rattle.event_graph.specs.Told.{IsTrueOf};
@@ -89,6 +90,27 @@ pub fn the_least_ready_event_fires<C: Component>()
         IsNext (take index (weave C.stepped events comps).fired) events x }
 {}
 
+/// While an event is unfired, a round fires the next one, which its component serves.
+pub fn each_round_fires_the_next_event<C: Component>()
+    ensures { (events : List Event) (comps : List C) (rounds : ℕ) →
+        IsNumbered events → GraphFits C.serves C.floor events comps → rounds < length events →
+        (x : Timed) × (c : C) × IsRound C.serves C.stepped events (after C.stepped events comps rounds) (after C.stepped events comps (suc rounds)) x c }
+{}
+
+/// Each event that fired did so after its parents, and started by the start rule.
+pub fn fired_events_start_by_the_rules<C: Component>()
+    ensures { (events : List Event) (comps : List C) (rounds : ℕ) →
+        IsNumbered events → GraphFits C.serves C.floor events comps →
+        All (StartsByTheRules (after C.stepped events comps rounds).fired) (after C.stepped events comps rounds).fired }
+{}
+
+/// What is known of the events once all fired is what the weave answers.
+pub fn times_so_far_become_the_weaves<C: Component>()
+    ensures { (events : List Event) (comps : List C) →
+        IsNumbered events → GraphFits C.serves C.floor events comps →
+        map (time_so_far (weave C.stepped events comps).fired) events ≡ map fired_of (woven C.stepped events comps) }
+{}
+
 /// After each round a component is what its own events left, served in the order in which they fired.
 pub fn components_serve_their_own_events<C: Component>()
     ensures { (events : List Event) (comps : List C) (rounds number : ℕ) →
@@ -135,6 +157,13 @@ pub fn events_take_their_time<C: Component>()
     ensures { (events : List Event) (comps : List C) →
         IsNumbered events → GraphFits C.serves C.floor events comps → AreSmallSteps C.stepped C.greatest events comps →
         AreTimely events (map fired_of (woven C.stepped events comps)) }
+{}
+
+/// No event's start so far passes 2^62.
+pub fn starts_so_far_stay_small<C: Component>()
+    ensures { (events : List Event) (comps : List C) (rounds : ℕ) →
+        IsNumbered events → GraphFits C.serves C.floor events comps → AreSmallSteps C.stepped C.greatest events comps →
+        All (λ e. start_of (finish_in (after C.stepped events comps rounds).fired) e ≤ 2 ^ 62) events }
 {}
 
 /// The components of a machine stay its components in a weave.
