@@ -6,13 +6,13 @@ use Rattle.std.proofs.lemmas.List.{length-take-le, map-append}
 use Rattle.std.proofs.lemmas.Option.{slice_get_within, slice_get-map}
 use Rattle.zs_num.specs.declared.entry.Entry.{Entry}
 use Rattle.event_graph.specs.declared.event.Event.{Event}
-use Rattle.event_graph.specs.declared.make.Critical.{Critical}
+use Rattle.event_graph.specs.declared.builder.Critical.{Critical}
 use Rattle.event_graph.specs.declared.piece.Piece.{Piece}
 use Rattle.event_graph.specs.Critical.{last_critical}
 use Rattle.event_graph.specs.Expansion.{ParentsComeBefore}
 use Rattle.event_graph.specs.EventGraph.{event_at, parent_of, zero_load_start, zero_load_finish, inner_parent}
 use Rattle.event_graph.specs.NextEvent.{critical_of, parent_among, next_event}
-use Rattle.event_graph.proofs.Places.{slice_get_right, slice_get_take, slice_get_enumerate, take_one_more, enumerate_one_more}
+use Rattle.event_graph.proofs.Indices.{slice_get_right, slice_get_take, slice_get_enumerate, take_one_more, enumerate_one_more}
 
 -- a map over a map
 fused : {A B C : Type 0} (f : B → C) (g : A → B) (h : A → C) → ((x : A) → f (g x) ≡ h x) → (o : Option A) → option_map f (option_map g o) ≡ option_map h o

@@ -17,7 +17,7 @@ use Rattle.event_graph.specs.Numbered.{IsNumbered}
 use Rattle.event_graph.specs.Critical.{is_critical_of, last_critical}
 use Rattle.event_graph.specs.Expansion.{ParentsComeBefore}
 use Rattle.event_graph.specs.EventGraph.{event_at, access_events, all_events, parent_of, zero_load_start, zero_load_finish, earlier_parent, inner_parent}
-use Rattle.event_graph.proofs.Places.{slice_get_left, slice_get_right, slice_get_enumerate}
+use Rattle.event_graph.proofs.Indices.{slice_get_left, slice_get_right, slice_get_enumerate}
 
 -- what a map made of an option
 pub mapped_some : {A B : Type 0} (f : A → B) (o : Option A) (y : B) → option_map f o ≡ Some y → (x : A) × (o ≡ Some x) × (y ≡ f x)

@@ -44,9 +44,9 @@ module _ {C : Type 0} (serves : C → Kind → Bool) (stepped : C → Kind → �
       → (c : C) → slice_get (after stepped events comps n).comps r.0.component ≡ Some c → IsTrue (serves c r.0.kind) → (r.1 ≤ top + delay) × (greatest c r.0.kind r.1 ≤ top + (delay + most))
   step_below n top b r is c at s =
       let l : IsLeast (after stepped events comps n).fired events r.0 r.1 = least_some (after stepped events comps n).fired events r is in
-      let place : (i : ℕ) × (slice_get events i ≡ Some r.0) = in_at r.0 events l.member in
+      let found : (i : ℕ) × (slice_get events i ≡ Some r.0) = in_at r.0 events l.member in
       let start : r.1 ≤ top + delay =
-      subst (λ z. z ≤ top + delay) (sym l.start_is) (start_below (after stepped events comps n).fired base top delay b.base_below b.finishes r.0 (near place.0 r.0 place.1))
+      subst (λ z. z ≤ top + delay) (sym l.start_is) (start_below (after stepped events comps n).fired base top delay b.base_below b.finishes r.0 (near found.0 r.0 found.1))
       in
       let p : IsTrue (paced c) × (busy c ≤ top) = b.comps_below r.0.component c at in
       (start, omega (arith, start, p.1, pace.sum c r.0.kind r.1 p.0 s))

@@ -2,10 +2,11 @@
 use Rattle.std.proofs.Common.{◌≡◌, ◌<◌, ℕ, true, List, [], ◌∷◌, ◌++◌, length, length-set, get_or, set, Option, None, Some, ap, ◌∙◌, sym, arith, inl, inr, get_or-set_same, get_or-set_other}
 use Rattle.std.specs.Option.{option_map}
 use Rattle.std.proofs.lemmas.Bool.{cond-true, cond-false, eq-eqb, ne_eqb, and_from, and_right, cases_eq}
-use Rattle.event_graph.specs.declared.make.Critical.{Critical}
+use Rattle.event_graph.specs.declared.builder.Critical.{Critical}
 use Rattle.event_graph.specs.declared.event.Event.{Event}
-use Rattle.event_graph.specs.Critical.{is_critical_of, last_critical, last_critical-push}
+use Rattle.event_graph.specs.Critical.{is_critical_of, last_critical}
 use Rattle.event_graph.specs.NextEvent.{critical_of, TellsLast}
+use Rattle.event_graph.proofs.CriticalSteps.{last_critical-push}
 
 pub kept_of_pushed : (last : List (Option Critical)) (events : List Event) (e : Event) → e.core < length last → TellsLast last events → e.critical ≡ true
     → TellsLast (set last e.core (Some (critical_of e))) (events ++ e ∷ [])

@@ -1,10 +1,12 @@
 mod AccessSteps
 mod AllEvents
+mod CriticalSteps
 mod Example
 pub mod FindFired
 mod Fitting
 mod FromEntries
 pub mod Growth
+mod Indices
 pub mod Kept
 mod LastKept
 pub mod Least
@@ -12,7 +14,6 @@ pub mod Lists
 mod MachineGrowth
 mod Once
 pub mod Order
-mod Places
 mod PlainCounts
 mod PlainFits
 pub mod Progress

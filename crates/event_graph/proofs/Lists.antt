@@ -1,4 +1,4 @@
--- Membership by recursion, and what it has to do with places, `map`, `++` and `filter`.
+-- Membership by recursion, and what it has to do with indices, `map`, `++` and `filter`.
 use Rattle.std.proofs.Common.{◌≡◌, ◌+◌, ◌<◌, ◌≤◌, ℕ, zero, suc, Bool, true, false, cond, List, [], ◌∷◌, ◌++◌, map, length, set, ◌⊎◌, Some, get_or, sym, ◌∙◌, ap, subst, refl, inl, inr, arith}
 use Rattle.std.proofs.lemmas.Bool.{cond-true, cond-false, cond_both}
 use Rattle.std.specs.List.{AllPairs, Contains, filter, slice_get}
@@ -57,7 +57,7 @@ map_itself f (x ∷ xs) h =
     let b : map f xs ≡ xs = map_itself f xs (λ z m. h z (inr m)) in
     cc
 
--- places
+-- indices
 
 pub in_at : {X : Type 0} (x : X) (xs : List X) → In x xs → (i : ℕ) × (slice_get xs i ≡ Some x)
 in_at x [] h = absurd h
@@ -190,7 +190,7 @@ count_less p q (y ∷ xs) e m a b h =
           (λ f. cond_both (p y) (count p xs + 1) (count p xs) (λ k. count q xs + 1 ≤ k) (λ _. omega arith) (λ _. omega arith))
     ]
 
--- what a read at a place gives
+-- what a read at an index gives
 pub read_is : {X : Type 0} (xs : List X) (i : ℕ) (d x : X) → slice_get xs i ≡ Some x → get_or xs i d ≡ x
 read_is [] i d x h = absurd (cc)
 read_is (y ∷ xs) zero d x h = cc

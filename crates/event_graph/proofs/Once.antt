@@ -15,7 +15,7 @@ use Rattle.event_graph.specs.OneListWeave.{Timed, Weave, after, is_fired, least_
 use Rattle.event_graph.proofs.FindFired.{find_push_other, is_fired_from_in}
 use Rattle.event_graph.proofs.Least.{IsLeast, least_some, next_from_least, ready_parts}
 use Rattle.event_graph.proofs.Lists.{In, get_within, in_at, in_push}
-use Rattle.event_graph.proofs.Places.{slice_get_left, slice_get_right}
+use Rattle.event_graph.proofs.Indices.{slice_get_left, slice_get_right}
 use Rattle.event_graph.proofs.Progress.{AllFired, after_first_round, after_more, all_fired, all_fired_from_none, holds, round_fires, round_stays, stays}
 use Rattle.event_graph.proofs.Rounds.{IsLawful, IsServed}
 
@@ -166,7 +166,7 @@ module _ {C : Type 0} (serves : C → Kind → Bool) (stepped : C → Kind → �
       let f : Fires n r.0 = fires n r.0 r.1 in
       omega (arith, ap length f.fired, length-append (fired_after n) (f.next ∷ []), count)
 
-  -- what fired stays at its place
+  -- what fired keeps its index
   grows_by : (n : ℕ) (o : Option (Event × ℕ)) → least_ready (fired_after n) events ≡ o → (rest : List Timed) × (fired_after (suc n) ≡ fired_after n ++ rest)
   grows_by n None is = ([], fires_none n is ∙ sym (append-nil (fired_after n)))
   grows_by n (Some r) is = let f : Fires n r = fires n r is in (f.next ∷ [], f.fired)
@@ -197,7 +197,7 @@ module _ {C : Type 0} (serves : C → Kind → Bool) (stepped : C → Kind → �
             ∙ sym (take_all n (weave stepped events comps).fired (omega (arith, counted (length events) (omega arith), l)))
       ]
 
-  -- what stands at a place of the weave was the least ready event
+  -- what fires at an index of the weave was the least ready event
   pub fires_at : (n : ℕ) (x : Timed) → slice_get (weave stepped events comps).fired n ≡ Some x → IsLeast (fired_after n) events x.event x.start
   fires_at n x at =
       let l : n < length events = omega (arith, get_within (weave stepped events comps).fired n x at, counted (length events) (omega arith)) in

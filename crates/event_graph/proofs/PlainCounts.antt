@@ -10,19 +10,19 @@ use Rattle.zs_num.specs.declared.entry.Outcome.{Outcome}
 use Rattle.zs_num.specs.declared.entry.Outcome.TheVariants.{Hit, Upgrade, L2 as FoundInL2, Miss}
 use Rattle.event_graph.specs.Timing.{pieces_by, pieces_of, bank_of, controller_of}
 
-module _ (l1 : L1) (l2 : L2) (all : Controllers) where
-  few_by : (bank controller : ℕ) (o : Outcome) → length (pieces_by l1 l2 all bank controller o) ≤ 4
+module _ (l1 : L1) (l2 : L2) (controllers : Controllers) where
+  few_by : (bank controller : ℕ) (o : Outcome) → length (pieces_by l1 l2 controllers bank controller o) ≤ 4
   few_by bank controller Hit = omega arith
   few_by bank controller (Upgrade others) = omega arith
   few_by bank controller (FoundInL2 others) = omega arith
   few_by bank controller (Miss false) = omega arith
   few_by bank controller (Miss true) = omega arith
 
-  few_of : (e : Entry) → length (pieces_of l1 l2 all e) ≤ 4
-  few_of e = few_by (bank_of l2 e) (controller_of l2 all e) e.outcome
+  few_of : (e : Entry) → length (pieces_of l1 l2 controllers e) ≤ 4
+  few_of e = few_by (bank_of l2 e) (controller_of l2 controllers e) e.outcome
 
-  pub plain_few : (entries : List Entry) → sum_by (λ e. length (pieces_of l1 l2 all e)) entries ≤ 4 * length entries
+  pub plain_few : (entries : List Entry) → sum_by (λ e. length (pieces_of l1 l2 controllers e)) entries ≤ 4 * length entries
   plain_few entries =
-      let each : All (λ (e : Entry). length (pieces_of l1 l2 all e) ≤ 4) entries = λ k d below. few_of (get_or entries k d) in
-      let within : sum_by (λ e. length (pieces_of l1 l2 all e)) entries ≤ length entries * 4 = sum_by-le (λ (e : Entry). length (pieces_of l1 l2 all e)) 4 entries each in
+      let each : All (λ (e : Entry). length (pieces_of l1 l2 controllers e) ≤ 4) entries = λ k d below. few_of (get_or entries k d) in
+      let within : sum_by (λ e. length (pieces_of l1 l2 controllers e)) entries ≤ length entries * 4 = sum_by-le (λ (e : Entry). length (pieces_of l1 l2 controllers e)) 4 entries each in
       omega arith

@@ -45,14 +45,14 @@ module _ {C : Type 0} (serves : C → Kind → Bool) (stepped : C → Kind → �
   member : (x : Timed) → In x timed → In x.event events
   member x m = subst (λ es. In x.event es) sol.events_are (in_map (λ (z : Timed). z.event) x timed m)
 
-  place : (x : Timed) (i : ℕ) → slice_get timed i ≡ Some x → x.event.number ≡ i
-  place x i h = numbered.number i x.event (subst (λ es. slice_get es i ≡ Some x.event) sol.events_are (get-map (λ (z : Timed). z.event) x timed i h))
+  numbered_at : (x : Timed) (i : ℕ) → slice_get timed i ≡ Some x → x.event.number ≡ i
+  numbered_at x i h = numbered.number i x.event (subst (λ es. slice_get es i ≡ Some x.event) sol.events_are (get-map (λ (z : Timed). z.event) x timed i h))
 
   one_each : IsOneEach timed
   one_each x y mx my q =
       let a : (i : ℕ) × (slice_get timed i ≡ Some x) = in_at x timed mx in
       let b : (i : ℕ) × (slice_get timed i ≡ Some y) = in_at y timed my in
-      let same : a.0 ≡ b.0 = sym (place x a.0 a.1) ∙ (q ∙ place y b.0 b.1) in
+      let same : a.0 ≡ b.0 = sym (numbered_at x a.0 a.1) ∙ (q ∙ numbered_at y b.0 b.1) in
       let k : slice_get timed b.0 ≡ Some x = subst (λ i. slice_get timed i ≡ Some x) same a.1 in
       cc
 

@@ -32,8 +32,8 @@ PlainGraphsFit = (m : Machine) (comps : List Comp) (entries : List Entry) → Is
 
 -- an access has four events at most
 abbrev pub PlainAccessesHaveFewEvents : Type 0
-PlainAccessesHaveFewEvents = (l1 : L1) (l2 : L2) (all : Controllers) (entries : List Entry)
-    → sum_by (λ e. length (pieces_of l1 l2 all e)) entries ≤ 4 * length entries
+PlainAccessesHaveFewEvents = (l1 : L1) (l2 : L2) (controllers : Controllers) (entries : List Entry)
+    → sum_by (λ e. length (pieces_of l1 l2 controllers e)) entries ≤ 4 * length entries
 
 -- the components of a machine are its components after a weave, too
 abbrev pub MachineComponentsStay : Type 0

@@ -3,7 +3,7 @@ use Rattle.std.specs.Prelude.{◌≡◌, ◌+◌, ◌<◌, ℕ, Bool, ◌==◌, 
 use Rattle.std.specs.List.{slice_index_or, slice_get}
 use Rattle.std.specs.Option.{option_map, option_and_then}
 use Rattle.zs_num.specs.declared.entry.Entry.{Entry}
-use Rattle.event_graph.specs.declared.make.Critical.{Critical}
+use Rattle.event_graph.specs.declared.builder.Critical.{Critical}
 use Rattle.event_graph.specs.declared.event.Event.{Event}
 use Rattle.event_graph.specs.declared.event.Parent.{Parent}
 use Rattle.event_graph.specs.declared.piece.Piece.{Piece}

@@ -13,14 +13,14 @@ use Rattle.event_graph.specs.declared.piece.Piece.{Piece}
 use Rattle.event_graph.specs.Expansion.{ParentsComeBefore, OnlyFirstStartsAlone, ParentsFinishBefore, EndsAt, AreTold}
 use Rattle.event_graph.specs.Timing.{time_by, pieces_by, pieces_of, bank_of, controller_of, look_up, read, write, fill, is_bank, is_controller, floor_told}
 
-module _ (l1 : L1) (l2 : L2) (all : Controllers) (ok1 : IsL1 l2.banks l1) (ok2 : IsL2 l2) (ok : IsControllers all) where
-  pub plain_time_counts : (o : Outcome) → 1 ≤ time_by l1 l2 all o
-  plain_time_counts Hit = ok1.latency.0
-  plain_time_counts (Upgrade o) = omega (arith, ok1.latency.0)
-  plain_time_counts (FoundInL2 o) = omega (arith, ok1.latency.0)
-  plain_time_counts (Miss d) = omega (arith, ok1.latency.0)
+module _ (l1 : L1) (l2 : L2) (controllers : Controllers) (ok1 : IsL1 l2.banks l1) (ok2 : IsL2 l2) (ok : IsControllers controllers) where
+  pub plain_time_at_least_one : (o : Outcome) → 1 ≤ time_by l1 l2 controllers o
+  plain_time_at_least_one Hit = ok1.latency.0
+  plain_time_at_least_one (Upgrade o) = omega (arith, ok1.latency.0)
+  plain_time_at_least_one (FoundInL2 o) = omega (arith, ok1.latency.0)
+  plain_time_at_least_one (Miss d) = omega (arith, ok1.latency.0)
 
-  pub plain_time_small : (o : Outcome) → time_by l1 l2 all o ≤ 2 ^ 20
+  pub plain_time_small : (o : Outcome) → time_by l1 l2 controllers o ≤ 2 ^ 20
   plain_time_small Hit = omega arith
   plain_time_small (Upgrade true) = omega arith
   plain_time_small (Upgrade false) = omega arith
@@ -30,8 +30,8 @@ module _ (l1 : L1) (l2 : L2) (all : Controllers) (ok1 : IsL1 l2.banks l1) (ok2 :
   plain_time_small (Miss false) = omega arith
 
 -- by outcome and place
-module _ (l1 : L1) (l2 : L2) (all : Controllers) (bank controller : ℕ) where
-  first_before : (o : Outcome) (k : ℕ) (p : Piece) (i : ℕ) → slice_get (pieces_by l1 l2 all bank controller o) k ≡ Some p → p.first ≡ Some i → i < k
+module _ (l1 : L1) (l2 : L2) (controllers : Controllers) (bank controller : ℕ) where
+  first_before : (o : Outcome) (k : ℕ) (p : Piece) (i : ℕ) → slice_get (pieces_by l1 l2 controllers bank controller o) k ≡ Some p → p.first ≡ Some i → i < k
   first_before Hit k p i is parent = cc
   first_before (Upgrade o) zero p i is parent = first_of (cc, grind arith)
   first_before (Upgrade o) (suc k) p i is parent = cc
@@ -47,7 +47,7 @@ module _ (l1 : L1) (l2 : L2) (all : Controllers) (bank controller : ℕ) where
   first_before (Miss true) (suc (suc (suc zero))) p i is parent = first_of (cc, grind arith)
   first_before (Miss true) (suc (suc (suc (suc k)))) p i is parent = cc
 
-  second_before : (o : Outcome) (k : ℕ) (p : Piece) (i : ℕ) → slice_get (pieces_by l1 l2 all bank controller o) k ≡ Some p → p.second ≡ Some i → i < k
+  second_before : (o : Outcome) (k : ℕ) (p : Piece) (i : ℕ) → slice_get (pieces_by l1 l2 controllers bank controller o) k ≡ Some p → p.second ≡ Some i → i < k
   second_before Hit k p i is parent = cc
   second_before (Upgrade o) zero p i is parent = first_of (cc, grind arith)
   second_before (Upgrade o) (suc k) p i is parent = cc
@@ -63,17 +63,17 @@ module _ (l1 : L1) (l2 : L2) (all : Controllers) (bank controller : ℕ) where
   second_before (Miss true) (suc (suc (suc zero))) p i is parent = first_of (cc, grind arith)
   second_before (Miss true) (suc (suc (suc (suc k)))) p i is parent = cc
 
-  pub plain_parents_come_before : (o : Outcome) → ParentsComeBefore (pieces_by l1 l2 all bank controller o)
+  pub plain_parents_come_before : (o : Outcome) → ParentsComeBefore (pieces_by l1 l2 controllers bank controller o)
   plain_parents_come_before o = record { first = first_before o; second = second_before o }
 
-  alone : (o : Outcome) (p : Piece) → slice_get (pieces_by l1 l2 all bank controller o) 0 ≡ Some p → (p.first ≡ None) × (p.second ≡ None)
+  alone : (o : Outcome) (p : Piece) → slice_get (pieces_by l1 l2 controllers bank controller o) 0 ≡ Some p → (p.first ≡ None) × (p.second ≡ None)
   alone Hit p is = (cc, cc)
   alone (Upgrade o) p is = (cc, cc)
   alone (FoundInL2 o) p is = (cc, cc)
   alone (Miss false) p is = (cc, cc)
   alone (Miss true) p is = (cc, cc)
 
-  waits : (o : Outcome) (k : ℕ) (p : Piece) → 0 < k → slice_get (pieces_by l1 l2 all bank controller o) k ≡ Some p → IsSome p.first ⊎ IsSome p.second
+  waits : (o : Outcome) (k : ℕ) (p : Piece) → 0 < k → slice_get (pieces_by l1 l2 controllers bank controller o) k ≡ Some p → IsSome p.first ⊎ IsSome p.second
   waits Hit k p later is = cc
   waits (Upgrade o) zero p later is = absurd (omega arith)
   waits (Upgrade o) (suc k) p later is = cc
@@ -89,10 +89,10 @@ module _ (l1 : L1) (l2 : L2) (all : Controllers) (bank controller : ℕ) where
   waits (Miss true) (suc (suc (suc zero))) p later is = inl (let here : p.first ≡ Some 1 = cc in rw here refl)
   waits (Miss true) (suc (suc (suc (suc k)))) p later is = cc
 
-  pub plain_only_first_starts_alone : (o : Outcome) → OnlyFirstStartsAlone (pieces_by l1 l2 all bank controller o)
+  pub plain_only_first_starts_alone : (o : Outcome) → OnlyFirstStartsAlone (pieces_by l1 l2 controllers bank controller o)
   plain_only_first_starts_alone o = record { alone = alone o; waits = waits o }
 
-  first_finish : (o : Outcome) (k : ℕ) (p : Piece) (i : ℕ) (q : Piece) → slice_get (pieces_by l1 l2 all bank controller o) k ≡ Some p → p.first ≡ Some i → slice_get (pieces_by l1 l2 all bank controller o) i ≡ Some q → q.offset + q.time ≤ p.offset
+  first_finish : (o : Outcome) (k : ℕ) (p : Piece) (i : ℕ) (q : Piece) → slice_get (pieces_by l1 l2 controllers bank controller o) k ≡ Some p → p.first ≡ Some i → slice_get (pieces_by l1 l2 controllers bank controller o) i ≡ Some q → q.offset + q.time ≤ p.offset
   first_finish Hit k p i q is parent at' = cc
   first_finish (Upgrade o) zero p i q is parent at' = cc
   first_finish (Upgrade o) (suc k) p i q is parent at' = cc
@@ -115,7 +115,7 @@ module _ (l1 : L1) (l2 : L2) (all : Controllers) (bank controller : ℕ) where
   first_finish (Miss true) (suc (suc (suc zero))) p (suc (suc i)) q is parent at' = cc
   first_finish (Miss true) (suc (suc (suc (suc k)))) p i q is parent at' = cc
 
-  second_finish : (o : Outcome) (k : ℕ) (p : Piece) (i : ℕ) (q : Piece) → slice_get (pieces_by l1 l2 all bank controller o) k ≡ Some p → p.second ≡ Some i → slice_get (pieces_by l1 l2 all bank controller o) i ≡ Some q → q.offset + q.time ≤ p.offset
+  second_finish : (o : Outcome) (k : ℕ) (p : Piece) (i : ℕ) (q : Piece) → slice_get (pieces_by l1 l2 controllers bank controller o) k ≡ Some p → p.second ≡ Some i → slice_get (pieces_by l1 l2 controllers bank controller o) i ≡ Some q → q.offset + q.time ≤ p.offset
   second_finish Hit k p i q is parent at' = cc
   second_finish (Upgrade o) zero p i q is parent at' = cc
   second_finish (Upgrade o) (suc k) p i q is parent at' = cc
@@ -134,17 +134,17 @@ module _ (l1 : L1) (l2 : L2) (all : Controllers) (bank controller : ℕ) where
   second_finish (Miss true) (suc (suc (suc zero))) p (suc (suc (suc i))) q is parent at' = cc
   second_finish (Miss true) (suc (suc (suc (suc k)))) p i q is parent at' = cc
 
-  pub plain_parents_finish_before : (o : Outcome) → ParentsFinishBefore (pieces_by l1 l2 all bank controller o)
+  pub plain_parents_finish_before : (o : Outcome) → ParentsFinishBefore (pieces_by l1 l2 controllers bank controller o)
   plain_parents_finish_before o = record { first = first_finish o; second = second_finish o }
 
-  last_ends : (o : Outcome) (p : Piece) → slice_get (pieces_by l1 l2 all bank controller o) (length (pieces_by l1 l2 all bank controller o) - 1) ≡ Some p → p.offset + p.time ≡ time_by l1 l2 all o
+  last_ends : (o : Outcome) (p : Piece) → slice_get (pieces_by l1 l2 controllers bank controller o) (length (pieces_by l1 l2 controllers bank controller o) - 1) ≡ Some p → p.offset + p.time ≡ time_by l1 l2 controllers o
   last_ends Hit p is = first_of (cc, grind arith)
   last_ends (Upgrade o) p is = first_of (cc, grind arith)
   last_ends (FoundInL2 o) p is = first_of (cc, grind arith)
   last_ends (Miss false) p is = first_of (cc, grind arith)
   last_ends (Miss true) p is = first_of (cc, grind arith)
 
-  each_ends : (o : Outcome) (k : ℕ) (p : Piece) → slice_get (pieces_by l1 l2 all bank controller o) k ≡ Some p → p.offset + p.time ≤ time_by l1 l2 all o
+  each_ends : (o : Outcome) (k : ℕ) (p : Piece) → slice_get (pieces_by l1 l2 controllers bank controller o) k ≡ Some p → p.offset + p.time ≤ time_by l1 l2 controllers o
   each_ends Hit k p is = cc
   each_ends (Upgrade o) zero p is = first_of (cc, grind arith)
   each_ends (Upgrade o) (suc k) p is = cc
@@ -160,47 +160,47 @@ module _ (l1 : L1) (l2 : L2) (all : Controllers) (bank controller : ℕ) where
   each_ends (Miss true) (suc (suc (suc zero))) p is = first_of (cc, grind arith)
   each_ends (Miss true) (suc (suc (suc (suc k)))) p is = cc
 
-  pub plain_ends_with_access : (o : Outcome) → EndsAt (pieces_by l1 l2 all bank controller o) (time_by l1 l2 all o)
+  pub plain_ends_with_access : (o : Outcome) → EndsAt (pieces_by l1 l2 controllers bank controller o) (time_by l1 l2 controllers o)
   plain_ends_with_access o = record { last = last_ends o; each = each_ends o }
 
-module _ (l1 : L1) (l2 : L2) (all : Controllers) (bank controller : ℕ) (a_bank : is_bank l2 bank ≡ true) (a_controller : is_controller l2 all controller ≡ true) where
-  told_at : (q p : Piece) → Some q ≡ Some p → floor_told l2 all q.component q.kind ≡ Some q.time → floor_told l2 all p.component p.kind ≡ Some p.time
+module _ (l1 : L1) (l2 : L2) (controllers : Controllers) (bank controller : ℕ) (a_bank : is_bank l2 bank ≡ true) (a_controller : is_controller l2 controllers controller ≡ true) where
+  told_at : (q p : Piece) → Some q ≡ Some p → floor_told l2 controllers q.component q.kind ≡ Some q.time → floor_told l2 controllers p.component p.kind ≡ Some p.time
   told_at q p is told =
-      let P : Piece → Type 0 = λ r. floor_told l2 all r.component r.kind ≡ Some r.time in
+      let P : Piece → Type 0 = λ r. floor_told l2 controllers r.component r.kind ≡ Some r.time in
       let same : q ≡ p = cc in
       subst P same told
 
-  told_by : (o : Outcome) (k : ℕ) (p : Piece) → slice_get (pieces_by l1 l2 all bank controller o) k ≡ Some p → floor_told l2 all p.component p.kind ≡ Some p.time
+  told_by : (o : Outcome) (k : ℕ) (p : Piece) → slice_get (pieces_by l1 l2 controllers bank controller o) k ≡ Some p → floor_told l2 controllers p.component p.kind ≡ Some p.time
   told_by Hit k p is = cc
-  told_by (Upgrade true) zero p is = told_at (look_up l1 l2 all bank controller true) p is (rw a_bank refl)
+  told_by (Upgrade true) zero p is = told_at (look_up l1 l2 controllers bank controller true) p is (rw a_bank refl)
   told_by (Upgrade true) (suc k) p is = cc
-  told_by (Upgrade false) zero p is = told_at (look_up l1 l2 all bank controller false) p is (rw a_bank refl)
+  told_by (Upgrade false) zero p is = told_at (look_up l1 l2 controllers bank controller false) p is (rw a_bank refl)
   told_by (Upgrade false) (suc k) p is = cc
-  told_by (FoundInL2 true) zero p is = told_at (look_up l1 l2 all bank controller true) p is (rw a_bank refl)
+  told_by (FoundInL2 true) zero p is = told_at (look_up l1 l2 controllers bank controller true) p is (rw a_bank refl)
   told_by (FoundInL2 true) (suc k) p is = cc
-  told_by (FoundInL2 false) zero p is = told_at (look_up l1 l2 all bank controller false) p is (rw a_bank refl)
+  told_by (FoundInL2 false) zero p is = told_at (look_up l1 l2 controllers bank controller false) p is (rw a_bank refl)
   told_by (FoundInL2 false) (suc k) p is = cc
-  told_by (Miss false) zero p is = told_at (look_up l1 l2 all bank controller false) p is (rw a_bank refl)
-  told_by (Miss false) (suc zero) p is = told_at (read l1 l2 all bank controller) p is (rw a_controller refl)
-  told_by (Miss false) (suc (suc zero)) p is = told_at (fill l1 l2 all bank controller false) p is (rw a_bank refl)
+  told_by (Miss false) zero p is = told_at (look_up l1 l2 controllers bank controller false) p is (rw a_bank refl)
+  told_by (Miss false) (suc zero) p is = told_at (read l1 l2 controllers bank controller) p is (rw a_controller refl)
+  told_by (Miss false) (suc (suc zero)) p is = told_at (fill l1 l2 controllers bank controller false) p is (rw a_bank refl)
   told_by (Miss false) (suc (suc (suc k))) p is = cc
-  told_by (Miss true) zero p is = told_at (look_up l1 l2 all bank controller false) p is (rw a_bank refl)
-  told_by (Miss true) (suc zero) p is = told_at (read l1 l2 all bank controller) p is (rw a_controller refl)
-  told_by (Miss true) (suc (suc zero)) p is = told_at (write l1 l2 all bank controller) p is (rw a_controller refl)
-  told_by (Miss true) (suc (suc (suc zero))) p is = told_at (fill l1 l2 all bank controller true) p is (rw a_bank refl)
+  told_by (Miss true) zero p is = told_at (look_up l1 l2 controllers bank controller false) p is (rw a_bank refl)
+  told_by (Miss true) (suc zero) p is = told_at (read l1 l2 controllers bank controller) p is (rw a_controller refl)
+  told_by (Miss true) (suc (suc zero)) p is = told_at (write l1 l2 controllers bank controller) p is (rw a_controller refl)
+  told_by (Miss true) (suc (suc (suc zero))) p is = told_at (fill l1 l2 controllers bank controller true) p is (rw a_bank refl)
   told_by (Miss true) (suc (suc (suc (suc k)))) p is = cc
 
 -- a bank is a bank, and its controller is a controller
-module _ (l2 : L2) (all : Controllers) (ok2 : IsL2 l2) (ok : IsControllers all) (e : Entry) where
+module _ (l2 : L2) (controllers : Controllers) (ok2 : IsL2 l2) (ok : IsControllers controllers) (e : Entry) where
   bank_is_there : is_bank l2 (bank_of l2 e) ≡ true
   bank_is_there = lt-ltb _ _ (omega (arith, ok2.banks.0))
 
-  controller_is_there : is_controller l2 all (controller_of l2 all e) ≡ true
+  controller_is_there : is_controller l2 controllers (controller_of l2 controllers e) ≡ true
   controller_is_there =
-      let from : l2.banks ≤ controller_of l2 all e = omega arith in
-      let below : controller_of l2 all e < l2.banks + all.count = omega (arith, ok.count.0) in
+      let from : l2.banks ≤ controller_of l2 controllers e = omega arith in
+      let below : controller_of l2 controllers e < l2.banks + controllers.count = omega (arith, ok.count.0) in
       and_from _ _ (le-leb _ _ from) (lt-ltb _ _ below)
 
-pub plain_floors_told : (l1 : L1) (l2 : L2) (all : Controllers) → IsL2 l2 → IsControllers all → (e : Entry) → AreTold (floor_told l2 all) (pieces_of l1 l2 all e)
-plain_floors_told l1 l2 all ok2 ok e =
-    told_by l1 l2 all (bank_of l2 e) (controller_of l2 all e) (bank_is_there l2 all ok2 ok e) (controller_is_there l2 all ok2 ok e) e.outcome
+pub plain_floors_told : (l1 : L1) (l2 : L2) (controllers : Controllers) → IsL2 l2 → IsControllers controllers → (e : Entry) → AreTold (floor_told l2 controllers) (pieces_of l1 l2 controllers e)
+plain_floors_told l1 l2 controllers ok2 ok e =
+    told_by l1 l2 controllers (bank_of l2 e) (controller_of l2 controllers e) (bank_is_there l2 controllers ok2 ok e) (controller_is_there l2 controllers ok2 ok e) e.outcome

@@ -17,14 +17,14 @@ look_up_time l2 others = (if others then l2.latency + l2.remote else l2.latency)
 
 -- what a miss waits for memory; dirty: a line is written back beside the read
 abbrev pub memory_time : Controllers → (dirty : Bool) → ℕ
-memory_time all dirty = (if dirty then max all.read all.write else all.read)
+memory_time controllers dirty = (if dirty then max controllers.read controllers.write else controllers.read)
 
 -- the zero-load time of an access, by its outcome
 abbrev pub time_by : L1 → L2 → Controllers → Outcome → ℕ
-time_by l1 l2 all Hit = l1.latency
-time_by l1 l2 all (Upgrade others) = l1.latency + look_up_time l2 others
-time_by l1 l2 all (FoundInL2 others) = l1.latency + look_up_time l2 others
-time_by l1 l2 all (Miss dirty) = l1.latency + l2.latency + memory_time all dirty + l2.fill
+time_by l1 l2 controllers Hit = l1.latency
+time_by l1 l2 controllers (Upgrade others) = l1.latency + look_up_time l2 others
+time_by l1 l2 controllers (FoundInL2 others) = l1.latency + look_up_time l2 others
+time_by l1 l2 controllers (Miss dirty) = l1.latency + l2.latency + memory_time controllers dirty + l2.fill
 
 -- the line of 64 bytes that an access is in, the bank that has the line, and the bank's controller:
 -- bank b is component b, and controller m is component banks + m
@@ -35,11 +35,11 @@ abbrev pub bank_of : L2 → Entry → ℕ
 bank_of l2 e = line_of e % l2.banks
 
 abbrev pub controller_of : L2 → Controllers → Entry → ℕ
-controller_of l2 all e = l2.banks + bank_of l2 e % all.count
+controller_of l2 controllers e = l2.banks + bank_of l2 e % controllers.count
 
 -- the events: a look-up; on a miss a read, and beside it a write where a line is written back; and
 -- then a fill, which waits for both
-module _ (l1 : L1) (l2 : L2) (all : Controllers) (bank controller : ℕ) where
+module _ (l1 : L1) (l2 : L2) (controllers : Controllers) (bank controller : ℕ) where
   abbrev pub look_up : (others : Bool) → Piece
   look_up others = record {
     component = bank;
@@ -55,7 +55,7 @@ module _ (l1 : L1) (l2 : L2) (all : Controllers) (bank controller : ℕ) where
     component = controller;
     kind = Read;
     offset = l1.latency + l2.latency;
-    time = all.read;
+    time = controllers.read;
     first = Some 0;
     second = None;
   }
@@ -65,7 +65,7 @@ module _ (l1 : L1) (l2 : L2) (all : Controllers) (bank controller : ℕ) where
     component = controller;
     kind = Write;
     offset = l1.latency + l2.latency;
-    time = all.write;
+    time = controllers.write;
     first = Some 0;
     second = None;
   }
@@ -74,7 +74,7 @@ module _ (l1 : L1) (l2 : L2) (all : Controllers) (bank controller : ℕ) where
   fill dirty = record {
     component = bank;
     kind = Fill;
-    offset = l1.latency + l2.latency + memory_time all dirty;
+    offset = l1.latency + l2.latency + memory_time controllers dirty;
     time = l2.fill;
     first = Some 1;
     second = (if dirty then Some 2 else None);
@@ -88,19 +88,19 @@ module _ (l1 : L1) (l2 : L2) (all : Controllers) (bank controller : ℕ) where
   pieces_by (Miss true) = look_up false ∷ read ∷ write ∷ fill true ∷ []
 
 abbrev pub pieces_of : L1 → L2 → Controllers → Entry → List Piece
-pieces_of l1 l2 all e = pieces_by l1 l2 all (bank_of l2 e) (controller_of l2 all e) e.outcome
+pieces_of l1 l2 controllers e = pieces_by l1 l2 controllers (bank_of l2 e) (controller_of l2 controllers e) e.outcome
 
 -- whether a component is a bank, or a controller
 abbrev pub is_bank : L2 → (component : ℕ) → Bool
 is_bank l2 component = nat_lt component l2.banks
 
 abbrev pub is_controller : L2 → Controllers → (component : ℕ) → Bool
-is_controller l2 all component = nat_le l2.banks component && nat_lt component (l2.banks + all.count)
+is_controller l2 controllers component = nat_le l2.banks component && nat_lt component (l2.banks + controllers.count)
 
 -- the floor with which a component serves a kind, if it is there and serves it
 abbrev pub floor_told : L2 → Controllers → (component : ℕ) → Kind → Option ℕ
-floor_told l2 all component Lookup = (if is_bank l2 component then Some (look_up_time l2 false) else None)
-floor_told l2 all component Remote = (if is_bank l2 component then Some (look_up_time l2 true) else None)
-floor_told l2 all component Fill = (if is_bank l2 component then Some l2.fill else None)
-floor_told l2 all component Read = (if is_controller l2 all component then Some all.read else None)
-floor_told l2 all component Write = (if is_controller l2 all component then Some all.write else None)
+floor_told l2 controllers component Lookup = (if is_bank l2 component then Some (look_up_time l2 false) else None)
+floor_told l2 controllers component Remote = (if is_bank l2 component then Some (look_up_time l2 true) else None)
+floor_told l2 controllers component Fill = (if is_bank l2 component then Some l2.fill else None)
+floor_told l2 controllers component Read = (if is_controller l2 controllers component then Some controllers.read else None)
+floor_told l2 controllers component Write = (if is_controller l2 controllers component then Some controllers.write else None)

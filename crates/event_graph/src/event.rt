@@ -11,7 +11,8 @@ pub struct Parent {
     pub delay: u64,
 }
 
-/// A recorded event. Events are numbered from 0 in each interval; a parent has a smaller number.
+/// A recorded event. Events are numbered from 0 in each interval; a parent has a smaller number. There
+/// are millions of them in an interval, so the small fields lie side by side.
 #[derive(Clone, Copy, Debug, PartialEq, Eq)]
 pub struct Event {
     pub number: u32,
@@ -20,11 +21,13 @@ pub struct Event {
     /// The component that serves it.
     pub component: u16,
     pub kind: Kind,
+    /// Whether it is the last event of its access.
+    pub critical: bool,
     /// Its start and its finish in the bound phase, at zero load.
     pub min_start: Cycle,
     pub min_finish: Cycle,
-    /// Whether it is the last event of its access.
-    pub critical: bool,
     pub first: Option<Parent>,
     pub second: Option<Parent>,
 }
+
+const _: () = prove!(size_of::<Event>() == 80);

@@ -34,7 +34,7 @@ pub trait Expand {
         ensures { result ≡ time self.now e.now };
 
     /// An access takes a cycle at least, and not long.
-    ghost time_counts: { (x : Self) (e : Entry) → 1 ≤ time x e };
+    ghost time_at_least_one: { (x : Self) (e : Entry) → 1 ≤ time x e };
 
     ghost time_small: { (x : Self) (e : Entry) → time x e ≤ 2 ^ 20 };
 

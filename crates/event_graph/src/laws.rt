@@ -1,9 +1,10 @@
 //! Laws over the definitions alone, each the contract of a function that does nothing.
-ghost use Rattle.std.specs.Prelude.{◌≡◌, ◌+◌, ◌*◌, ◌^◌, ◌<◌, ◌≤◌, ◌↔◌, ℕ, suc, Bool, List, All, Some, length, map, slice_get, sum_by, take, IsPermutation};
+ghost use Rattle.std.specs.Prelude.{◌≡◌, ◌+◌, ◌*◌, ◌^◌, ◌<◌, ◌≤◌, ◌↔◌, ℕ, suc, Bool, List, All, Some, if◌then◌else◌, length, map, slice_get, slice_index_or, sum_by, take, IsPermutation};
 ghost use Rattle.std.specs.List.{Contains};
 ghost use Rattle.std.specs.Option.{option_map};
 ghost use Rattle.zs_num.specs.declared.entry.Entry.{Entry};
 ghost use Rattle.event_graph.specs.declared.event.Event.{Event};
+ghost use Rattle.event_graph.specs.Critical.{is_critical_of, last_critical};
 ghost use Rattle.event_graph.specs.EventGraph.{all_events};
 ghost use Rattle.event_graph.specs.Firing.{IsNext, IsRound, StartsByTheRules, time_so_far};
 ghost use Rattle.event_graph.specs.Fits.{GraphFits};
@@ -59,6 +60,13 @@ pub fn plain_accesses_have_few_events()
 /// Each event of a graph that fits components is on one of them.
 pub fn fitting_events_are_there<C: Component>()
     ensures { (events : List Event) (comps : List C) → GraphFits C.serves C.floor events comps → All (λ e. e.component < length comps) events }
+{}
+
+/// With one event more, a core's last critical event is that one, or the one that it was.
+pub fn the_last_critical_event_moves_on()
+    ensures { (core : ℕ) (events : List Event) (index : ℕ) (e : Event) → index < length events →
+        (last_critical core (take (index + 1) events)
+            ≡ (if is_critical_of core (slice_index_or events index e) then Some (slice_index_or events index e) else last_critical core (take index events))) }
 {}
 
 /// The weave fires each event exactly once.

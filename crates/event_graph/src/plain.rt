@@ -123,7 +123,7 @@ impl Plain {
 
 impl Expand for Plain {
     ghost use Rattle.event_graph.specs.Timing.{pieces_of, time_by, floor_told};
-    ghost use Rattle.event_graph.specs.PlainLaws.{plain_time_counts, plain_time_small, plain_parents_come_before, plain_only_first_starts_alone, plain_parents_finish_before, plain_ends_with_access, plain_floors_told};
+    ghost use Rattle.event_graph.specs.PlainLaws.{plain_time_at_least_one, plain_time_small, plain_parents_come_before, plain_only_first_starts_alone, plain_parents_finish_before, plain_ends_with_access, plain_floors_told};
     ghost use Rattle.event_graph.specs.Timing.{bank_of, controller_of};
 
     ghost pieces = { λ x e. pieces_of x.l1 x.l2 x.controllers e };
@@ -170,7 +170,7 @@ impl Expand for Plain {
         }
     }
 
-    ghost time_counts = { λ x e. plain_time_counts x.l1 x.l2 x.controllers x.l1_in_range x.l2_in_range x.controllers_in_range e.outcome };
+    ghost time_at_least_one = { λ x e. plain_time_at_least_one x.l1 x.l2 x.controllers x.l1_in_range x.l2_in_range x.controllers_in_range e.outcome };
 
     ghost time_small = { λ x e. plain_time_small x.l1 x.l2 x.controllers x.l1_in_range x.l2_in_range x.controllers_in_range e.outcome };
 

@@ -10,7 +10,7 @@ use Rattle.event_graph.specs.declared.fired.Fired.{Fired}
 use Rattle.event_graph.specs.Critical.{last_critical}
 use Rattle.event_graph.specs.Numbered.{IsNumbered}
 use Rattle.event_graph.specs.Timely.{IsTimely, AreTimely}
-use Rattle.feedback.specs.FeedbackDelay.{IsWoven, finish_of, delay_of, feedback_delays}
+use Rattle.feedback.specs.FeedbackDelay.{IsWoven, fired_finish, delay_of, feedback_delays}
 
 module _ (events : List Event) (fired : List Fired) (timely : AreTimely events fired) where
   -- the event that was fired as this one
@@ -38,10 +38,10 @@ module _ (events : List Event) (fired : List Fired) (timely : AreTimely events f
   finish_by number (Some f) is = (event_of number f is).2.small
 
   -- a delay is no more than a finish
-  delay_by : (last : Option Event) → option_map_or (λ e. finish_of fired e.number - e.min_finish) last 0 ≤ 2 ^ 62
+  delay_by : (last : Option Event) → option_map_or (λ e. fired_finish fired e.number - e.min_finish) last 0 ≤ 2 ^ 62
   delay_by None = omega arith
   delay_by (Some e) =
-      let small : finish_of fired e.number ≤ 2 ^ 62 = finish_by e.number (slice_get fired e.number) refl in
+      let small : fired_finish fired e.number ≤ 2 ^ 62 = finish_by e.number (slice_get fired e.number) refl in
       omega arith
 
   pub delays_small : (cores : ℕ) → All (λ d. d ≤ 2 ^ 62) (feedback_delays events fired cores)

@@ -13,14 +13,14 @@ pub record IsWoven (events : List Event) (fired : List Fired) : Type 0 where
   pub finish : (i : ℕ) (e : Event) (f : Fired) → slice_get events i ≡ Some e → slice_get fired i ≡ Some f → e.min_finish ≤ f.finish
 
 -- the finish that the weave found for the event of this number
-abbrev pub finish_of : List Fired → (number : ℕ) → ℕ
-finish_of fired number = option_map_or (λ f. f.finish) (slice_get fired number) 0
+abbrev pub fired_finish : List Fired → (number : ℕ) → ℕ
+fired_finish fired number = option_map_or (λ f. f.finish) (slice_get fired number) 0
 
 -- a core's delay: the finish of its last critical event minus that event's zero-load finish, and 0
 -- where it has none
 abbrev pub delay_of : List Event → List Fired → (core : ℕ) → ℕ
 delay_of events fired core =
-    option_map_or (λ e. finish_of fired e.number - e.min_finish) (last_critical core events) 0
+    option_map_or (λ e. fired_finish fired e.number - e.min_finish) (last_critical core events) 0
 
 abbrev pub feedback_delays : List Event → List Fired → (cores : ℕ) → List ℕ
 feedback_delays events fired cores = map (delay_of events fired) (range_with_len 0 cores)

@@ -1,11 +1,11 @@
 //! What the weave found later than the bound phase did, by core: the delays by which clocks grow.
 #![tactic(auto)]
 
-mod feed;
+mod core_delays;
 pub mod laws;
 mod list;
 
-pub use feed::delays;
+pub use core_delays::delays;
 pub use list::Delays;
 
 #[cfg(test)]

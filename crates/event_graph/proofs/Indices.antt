@@ -1,4 +1,4 @@
--- What stands at a place of a list that is joined, cut, numbered or mapped.
+-- What stands at an index of a list that is joined, cut, numbered or mapped.
 use Rattle.std.proofs.Common.{◌≡◌, ◌+◌, ◌<◌, ℕ, zero, suc, List, [], ◌∷◌, ◌++◌, length, take, Some, refl, ap, ◌∙◌, sym, arith, zero-add, add-zero, suc-add}
 use Rattle.std.specs.List.{slice_get, enumerate_from}
 use Rattle.std.specs.Option.{option_map}
@@ -25,7 +25,7 @@ slice_get_enumerate {X} n (x ∷ xs) (suc k) =
     let e : (n + 1) + k ≡ n + suc k = omega arith in
     slice_get_enumerate (n + 1) xs k ∙ ap (λ (m : ℕ). option_map (λ (y : X). (m, y)) (slice_get xs k)) e
 
--- one place more
+-- one element more
 pub take_one_more : {X : Type 0} (xs : List X) (k : ℕ) (x : X) → slice_get xs k ≡ Some x → take (k + 1) xs ≡ take k xs ++ x ∷ []
 take_one_more [] k x is = cc
 take_one_more (y ∷ xs) zero x is = let same : y ≡ x = cc in ap (λ z. z ∷ []) same

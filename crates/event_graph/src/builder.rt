@@ -134,6 +134,14 @@ fn add_access<X: Expand>(
     Ok(())
 }
 
+/// How many events the accesses are made of.
+fn count_events<X: Expand>(x: &X, entries: &[Entry]) -> usize
+    requires { sum_by (λ e. length (X.pieces x.now e)) entries.now < 2 ^ 32 }
+    ensures { result ≡ sum_by (λ e. length (X.pieces x.now e)) entries.now }
+{
+    entries.iter().map(|e| usize::from(x.count(e))).sum()
+}
+
 /// The events of all accesses of an interval, numbered in the order of the entries and then in the
 /// order of the places. Entries in recorded order give the events of the interval.
 pub fn build<X: Expand>(
@@ -147,11 +155,11 @@ pub fn build<X: Expand>(
     requires few { sum_by (λ e. length (X.pieces x.now e)) entries.now < 2 ^ 32 }
     ensures { IfOk result (λ g. g ≡ all_events (X.pieces x.now) entries.now) }
 {
-    let mut last = Vec::new(alloc);
+    let mut last = Vec::with_capacity(alloc, usize::from(cores))?;
     for _core in 0..cores {
         last.push(None)?;
     }
-    let mut events = Vec::new(alloc);
+    let mut events = Vec::with_capacity(alloc, count_events(x, entries.as_slice()))?;
     for entry in entries.as_slice() {
         add_access(&mut events, &mut last, x, entry)?;
     }

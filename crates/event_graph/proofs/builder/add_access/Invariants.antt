@@ -1,7 +1,7 @@
 use Rattle.std.proofs.Common.{◌≡◌, ◌++◌, ◌+◌, vec_len}
 use Rattle.event_graph.specs.NextEvent.{TellsLast}
 use Rattle.event_graph.proofs.AccessSteps.{events_below}
-use Rattle.event_graph.proofs.make.add_access.Given as goal
+use Rattle.event_graph.proofs.builder.add_access.Given as goal
 
 abbrev pub invariant-loop-place : goal.invariant-loop-place
 invariant-loop-place g l =

@@ -4,7 +4,7 @@ use Rattle.std.proofs.lemmas.Option.{slice_get_read, get_or_from_slice_get}
 use Rattle.event_graph.specs.Critical.{last_critical}
 use Rattle.event_graph.specs.NextEvent.{critical_of}
 use Rattle.event_graph.proofs.AccessSteps.{place_done}
-use Rattle.event_graph.proofs.make.add_access.Goals as goal
+use Rattle.event_graph.proofs.builder.add_access.Goals as goal
 
 pub loop-place-preserved : goal.loop-place-preserved
 loop-place-preserved g c =

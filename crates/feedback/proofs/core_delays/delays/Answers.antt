@@ -5,8 +5,8 @@ use Rattle.event_graph.specs.declared.event.Event.{Event}
 use Rattle.event_graph.specs.declared.fired.Fired.{Fired}
 use Rattle.feedback.specs.FeedbackDelay.{delay_of}
 use Rattle.feedback.proofs.Steps.{kept_by_all, written}
-use Rattle.feedback.proofs.feed.delays.Goals as goal
-use Rattle.feedback.proofs.feed.delays.Goals.{then-awaited, else-awaited}
+use Rattle.feedback.proofs.core_delays.delays.Goals as goal
+use Rattle.feedback.proofs.core_delays.delays.Goals.{then-awaited, else-awaited}
 
 pub loop-i-preserved : goal.loop-i-preserved
 loop-i-preserved c =
@@ -16,11 +16,11 @@ loop-i-preserved c =
       | then-awaited w ↦
           let critical = rw events at w.if-awaited.true in
           let there : c.loop-i.i < length c.args.fired.now = omega (arith, c.requires.woven.count, below) in
-          let all = written c.args.g.now c.args.fired.now c.loop-i.i _ below c.loop-i.list.items c.args.cores _ c.events-event-items.ensures.numbered there c.loop-i.invariant.0 critical c.loop-i.invariant.1 in
+          let all = written c.the_last_critical_event_moves_on.ensures c.args.g.now c.args.fired.now c.loop-i.i _ below c.loop-i.list.items c.args.cores _ c.events-event-items.ensures.numbered there c.loop-i.invariant.0 critical c.loop-i.invariant.1 in
           rw (w.list-is, w.from-then-awaited.ensures, events, c.as_slice-finishes.ensures) (length-set _ _ _ ∙ c.loop-i.invariant.0, all)
       | else-awaited w ↦
           let critical = rw events at w.if-awaited.false in
-          let same = kept_by_all c.args.g.now c.args.fired.now c.loop-i.i _ below critical in
+          let same = kept_by_all c.the_last_critical_event_moves_on.ensures c.args.g.now c.args.fired.now c.loop-i.i _ below critical in
           rw w.list-is (c.loop-i.invariant.0, λ core h. c.loop-i.invariant.1 core h ∙ sym (same core))
     ]
 

@@ -1,7 +1,7 @@
 use Rattle.std.proofs.Common.{◌≡◌, ◌<◌, ℕ, None, length, vec_len, get_or, take}
 use Rattle.event_graph.specs.EventGraph.{all_events}
 use Rattle.event_graph.specs.NextEvent.{TellsLast}
-use Rattle.event_graph.proofs.make.build.Given as goal
+use Rattle.event_graph.proofs.builder.build.Given as goal
 
 abbrev pub invariant-loop-core : goal.invariant-loop-core
 invariant-loop-core g l =

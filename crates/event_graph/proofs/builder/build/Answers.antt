@@ -1,6 +1,6 @@
 use Rattle.std.proofs.Common.{take}
 use Rattle.event_graph.proofs.AllEvents.{all_numbered, few_at}
-use Rattle.event_graph.proofs.make.build.Goals as goal
+use Rattle.event_graph.proofs.builder.build.Goals as goal
 
 pub add_access-requires-clause-few : goal.add_access-requires-clause-few
 add_access-requires-clause-few g c =

@@ -1,6 +1,6 @@
 use Rattle.std.proofs.Common.{◌<◌, length, arith}
 use Rattle.event_graph.proofs.LastKept.{kept_of_pushed}
-use Rattle.event_graph.proofs.make.push_event.Goals as goal
+use Rattle.event_graph.proofs.builder.push_event.Goals as goal
 
 pub returns-then-event-clause-told : goal.returns-then-event-clause-told
 returns-then-event-clause-told c =

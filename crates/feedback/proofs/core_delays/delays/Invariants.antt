@@ -1,6 +1,6 @@
 use Rattle.std.proofs.Common.{◌≡◌, ◌<◌, ℕ, length, get_or, take}
 use Rattle.feedback.specs.FeedbackDelay.{delay_of}
-use Rattle.feedback.proofs.feed.delays.Given as goal
+use Rattle.feedback.proofs.core_delays.delays.Given as goal
 
 abbrev pub invariant-loop-i : goal.invariant-loop-i
 invariant-loop-i l =

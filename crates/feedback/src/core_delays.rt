@@ -3,7 +3,7 @@ ghost use Rattle.std.specs.Prelude.{◌≡◌, ◌<◌, IfOk, All};
 ghost use Rattle.feedback.specs.FeedbackDelay.{IsWoven, feedback_delays};
 
 use crate::Delays;
-use event_graph::{FiredList, Graph};
+use event_graph::{FiredList, Graph, laws};
 use std::alloc::Global;
 use zs_num::NoMemory;
 
@@ -14,6 +14,7 @@ pub fn delays(alloc: Global, g: &Graph, fired: &FiredList, cores: u16) -> Result
     requires cores { All (λ e. e.core < cores) g.now }
     ensures { IfOk result (λ d. d ≡ feedback_delays g.now fired.now cores) }
 {
+    laws::the_last_critical_event_moves_on();
     let mut list = vec![in alloc; 0; usize::from(cores)]?;
     let finishes = fired.as_slice();
     for (i, event) in g.events().iter().enumerate() {
