@@ -1,8 +1,8 @@
 -- After every round the graph fits the components, each of which served its own events.
-use Rattle.std.proofs.Common.{◌≡◌, ◌+◌, ◌==◌, ℕ, Bool, true, List, length, inl, inr, Some, sym, ◌∙◌, ap, subst, refl, arith, length-set}
+use Rattle.std.proofs.Common.{◌≡◌, ◌+◌, ◌<◌, ◌==◌, ℕ, Bool, true, List, length, inl, inr, Some, sym, ◌∙◌, ap, subst, refl, arith, length-set}
 use Rattle.std.specs.Prelude.{IsTrue, slice_get}
 use Rattle.std.specs.Option.{option_map}
-use Rattle.std.proofs.lemmas.Bool.{eqb-true}
+use Rattle.std.proofs.lemmas.Bool.{eq-eqb, eqb-true}
 use Rattle.std.proofs.lemmas.Option.{slice_get_past, slice_get_cases}
 use Rattle.component.specs.declared.kind.Kind.{Kind}
 use Rattle.event_graph.specs.declared.event.Event.{Event}
@@ -11,11 +11,11 @@ use Rattle.event_graph.specs.Numbered.{IsNumbered}
 use Rattle.event_graph.specs.OneListWeave.{Timed, after}
 use Rattle.event_graph.specs.TimingSolution.{after_serving, of_component}
 use Rattle.event_graph.proofs.Kept.{after_keeps}
-use Rattle.event_graph.proofs.Lists.{In, from_filter}
+use Rattle.event_graph.proofs.Lists.{In, from_filter, in_filter}
 use Rattle.event_graph.proofs.Progress.{holds}
 use Rattle.event_graph.proofs.Rounds.{HoldsBetween, IsLawful, IsServed}
 use Rattle.event_graph.proofs.Theorem.{served_from}
-use Rattle.event_graph.proofs.Turns.{serving_keeps}
+use Rattle.event_graph.proofs.Turns.{serving_keeps, turns_grow}
 
 module _ {C : Type 0} (serves : C → Kind → Bool) (floor : C → Kind → ℕ) (stepped : C → Kind → ℕ → C × ℕ) (lawful : IsLawful serves stepped)
     (floor_stays : (c : C) (kind : Kind) (start : ℕ) (other : Kind) → IsTrue (serves c kind) → floor (stepped c kind start).0 other ≡ floor c other)
@@ -54,3 +54,10 @@ module _ {C : Type 0} (serves : C → Kind → Bool) (floor : C → Kind → ℕ
         served = subst IsTrue (sym (k.0 e.kind)) f.served;
         floor_is = ap (λ m. e.min_start + m) (k.1 e.kind) ∙ f.floor_is;
       }
+
+  pub finishes_later : (x : Timed) → In x (after stepped events comps n).fired → x.start < x.finish
+  finishes_later x m =
+      let f : IsServed serves comps x.event = served_from serves floor stepped events comps fits x.event (between.members x m) in
+      turns_grow stepped serves lawful.stays lawful.grows f.0 (of_component x.event.component (after stepped events comps n).fired)
+      (serves_each x.event.component f.0 f.1.0) (between.turns x.event.component f.0 f.1.0) x
+      (in_filter (λ (t : Timed). t.event.component == x.event.component) x (after stepped events comps n).fired m (eq-eqb x.event.component x.event.component refl))

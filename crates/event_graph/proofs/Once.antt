@@ -224,12 +224,15 @@ module _ {C : Type 0} (serves : C → Kind → Bool) (stepped : C → Kind → �
       let next : after stepped events comps (suc n) ≡ served stepped (after stepped events comps n) r.0.0 r.0.1 (Some f.0) =
       after_more serves stepped events comps n ∙ round_fires serves stepped events comps (after stepped events comps n) r.0 f.0 r.1 f.1.0
       in
-      let x : Timed = record { event = r.0.0; start = r.0.1; finish = (stepped f.0 r.0.0.kind r.0.1).1 } in
-      (x, f.0, record {
-        next = next_from_least (fired_after n) events numbered x m;
-        there = f.1.0;
-        served = f.1.1;
-        finish = refl;
-        fired = ap (λ v. v.fired) next;
-        comps = ap (λ v. v.comps) next;
-      })
+      let x : Timed = record { event = r.0.0; start = r.0.1; finish = (stepped f.0 r.0.0.kind r.0.1).1 } in (
+        x,
+        f.0,
+        record {
+          next = next_from_least (fired_after n) events numbered x m;
+          there = f.1.0;
+          served = f.1.1;
+          finish = refl;
+          fired = ap (λ v. v.fired) next;
+          comps = ap (λ v. v.comps) next;
+        },
+      )

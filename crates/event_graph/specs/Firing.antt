@@ -1,5 +1,5 @@
 -- How events fire: the next one, a round of the weave, and what is known of the events so far.
-use Rattle.std.specs.Prelude.{◌≡◌, ◌⊎◌, ◌++◌, ◌∷◌, [], ℕ, Bool, IsTrue, List, Some, slice_get, slice_set}
+use Rattle.std.specs.Prelude.{◌≡◌, ◌<◌, ◌⊎◌, ◌++◌, ◌∷◌, [], ℕ, Bool, IsTrue, List, Some, slice_get, slice_set}
 use Rattle.std.specs.List.{Contains}
 use Rattle.component.specs.declared.kind.Kind.{Kind}
 use Rattle.event_graph.specs.declared.event.Event.{Event}
@@ -22,11 +22,13 @@ pub record IsRound {C : Type 0} (serves : C → Kind → Bool) (stepped : C → 
   pub fired : after.fired ≡ before.fired ++ x ∷ []
   pub comps : after.comps ≡ slice_set before.comps x.event.component (stepped c x.event.kind x.start).0
 
--- the event's parents are among these, and give it its start
-pub record StartsByTheRules (fired : List Timed) (x : Timed) : Type 0 where
+-- an event of the graph, whose parents are among these and give it its start, and which takes time
+pub record FiredByTheRules (events : List Event) (fired : List Timed) (x : Timed) : Type 0 where
+  pub event : Contains events x.event
   pub first : IsTrue (is_parent_fired fired x.event.first)
   pub second : IsTrue (is_parent_fired fired x.event.second)
   pub start : x.start ≡ start_of (finish_in fired) x.event
+  pub later : x.start < x.finish
 
 -- an event as these leave it: no earlier than what fired allows, and its finish, which is 0 until it fires
 abbrev pub time_so_far : List Timed → Event → Fired

@@ -6,7 +6,7 @@ ghost use Rattle.zs_num.specs.declared.entry.Entry.{Entry};
 ghost use Rattle.event_graph.specs.declared.event.Event.{Event};
 ghost use Rattle.event_graph.specs.Critical.{is_critical_of, last_critical};
 ghost use Rattle.event_graph.specs.EventGraph.{all_events};
-ghost use Rattle.event_graph.specs.Firing.{IsNext, IsRound, StartsByTheRules, time_so_far};
+ghost use Rattle.event_graph.specs.Firing.{FiredByTheRules, IsNext, IsRound, time_so_far};
 ghost use Rattle.event_graph.specs.Fits.{GraphFits};
 ghost use Rattle.event_graph.specs.Growth.{BeginBy, IsPaced};
 ghost use Rattle.event_graph.specs.Laws.{MachineComponentsStay, MachineStepsStaySmall, PlainAccessesHaveFewEvents, PlainGraphsFit, PlainTellsComponents};
@@ -66,7 +66,7 @@ pub fn fitting_events_are_there<C: Component>()
 pub fn the_last_critical_event_moves_on()
     ensures { (core : ℕ) (events : List Event) (index : ℕ) (e : Event) → index < length events →
         (last_critical core (take (index + 1) events)
-            ≡ (if is_critical_of core (slice_index_or events index e) then Some (slice_index_or events index e) else last_critical core (take index events))) }
+        ≡ (if is_critical_of core (slice_index_or events index e) then Some (slice_index_or events index e) else last_critical core (take index events))) }
 {}
 
 /// The weave fires each event exactly once.
@@ -105,11 +105,11 @@ pub fn each_round_fires_the_next_event<C: Component>()
         (x : Timed) × (c : C) × IsRound C.serves C.stepped events (after C.stepped events comps rounds) (after C.stepped events comps (suc rounds)) x c }
 {}
 
-/// Each event that fired did so after its parents, and started by the start rule.
-pub fn fired_events_start_by_the_rules<C: Component>()
+/// Each event that fired did so after its parents, started by the start rule, and took time.
+pub fn events_fire_by_the_rules<C: Component>()
     ensures { (events : List Event) (comps : List C) (rounds : ℕ) →
         IsNumbered events → GraphFits C.serves C.floor events comps →
-        All (StartsByTheRules (after C.stepped events comps rounds).fired) (after C.stepped events comps rounds).fired }
+        All (FiredByTheRules events (after C.stepped events comps rounds).fired) (after C.stepped events comps rounds).fired }
 {}
 
 /// What is known of the events once all fired is what the weave answers.
@@ -124,7 +124,7 @@ pub fn components_serve_their_own_events<C: Component>()
     ensures { (events : List Event) (comps : List C) (rounds number : ℕ) →
         IsNumbered events → GraphFits C.serves C.floor events comps →
         (slice_get (after C.stepped events comps rounds).comps number
-            ≡ option_map (λ c. after_serving C.stepped c (of_component number (after C.stepped events comps rounds).fired)) (slice_get comps number)) }
+        ≡ option_map (λ c. after_serving C.stepped c (of_component number (after C.stepped events comps rounds).fired)) (slice_get comps number)) }
 {}
 
 /// The finish of each event is what its component computed when it served the event, after the events

@@ -1,15 +1,31 @@
 -- One more child in the chains.
-use Rattle.std.proofs.Common.{◌≡◌, ◌<◌, ◌≤◌, ◌+◌, ℕ, List, [], ◌∷◌, ◌++◌, length, get_or, set, inl, inr, Option, Some, None, sym, ◌∙◌, ap, subst, refl, arith, length-set}
-use Rattle.std.specs.Prelude.{slice_get, slice_index}
+use Rattle.std.proofs.Common.{◌≡◌, ◌<◌, ◌≤◌, ◌+◌, ℕ, List, [], ◌∷◌, ◌++◌, length, get_or, set, replicate, inl, inr, Option, Some, None, sym, ◌∙◌, ap, subst, refl, arith, length-set}
+use Rattle.std.specs.Prelude.{slice_index}
 use Rattle.std.proofs.lemmas.Bool.{cases_eq, cases_lt}
-use Rattle.std.proofs.lemmas.List.{get_or-set_other, get_or-set_same, get_or_append_left, get_or_past, get_or_push, length-map, length_push}
+use Rattle.std.proofs.lemmas.List.{get_or-replicate, get_or-set_other, get_or-set_same, get_or_append_left, get_or_past, get_or_push, length-map, length-replicate, length_push}
 use Rattle.event_graph.specs.declared.event.Event.{Event}
 use Rattle.event_graph.specs.declared.event.Parent.{Parent}
-use Rattle.event_graph.specs.Numbered.{IsNumbered}
-use Rattle.weave_seq.specs.declared.children.Place.{Place}
-use Rattle.weave_seq.specs.declared.children.Place.TheVariants.{First, Second}
-use Rattle.weave_seq.specs.Chains.{AreChains, IsParent, latest, parent_at, parents_of, with_latest}
-use Rattle.event_graph.proofs.Lists.{get-map, get_some, read_is}
+use Rattle.weave_seq.specs.declared.children.Slot.{Slot}
+use Rattle.weave_seq.specs.Chains.{AreChains, IsParent, latest, parent_in, parents_in, with_latest}
+
+zeros : (n i : ℕ) → slice_index (replicate n 0) i ≡ 0
+zeros n i = elim (cases_lt i n) [ inl l ↦ get_or-replicate n i 0 0 l | inr l ↦ get_or_past (replicate n 0) i 0 (omega (arith, l, length-replicate {A = ℕ} n 0)) ]
+
+-- before the first child
+pub no_chains : (slot : Slot) (events : List Event) (last before : List ℕ) → last ≡ replicate (length events) 0 → before ≡ [] → AreChains (parents_in slot events) last before 0
+no_chains slot events last before a b =
+    let none : (n : ℕ) → slice_index last n ≡ 0 = λ n. ap (λ xs. slice_index xs n) a ∙ zeros (length events) n in
+    let none' : (n : ℕ) → slice_index before n ≡ 0 = λ n. ap (λ xs. slice_index xs n) b in
+    record {
+      last_size = ap length a ∙ (length-replicate (length events) 0 ∙ sym (length-map events (parent_in slot)));
+      before_size = ap length b;
+      last_below = λ n some. absurd (omega (arith, some, none n));
+      last_covers = λ c p l k. absurd (omega (arith, l));
+      last_is = λ n c some is. absurd (omega (arith, some, is, none n));
+      before_below = λ d some. absurd (omega (arith, some, none' d));
+      before_covers = λ c d p q l m k j e. absurd (omega (arith, m));
+      before_is = λ d c q k some is. absurd (omega (arith, some, is, none' d));
+    }
 
 push_size : (before : List ℕ) (upto x : ℕ) → length before ≡ upto → length (before ++ x ∷ []) ≡ upto + 1
 push_size before upto x h = length_push before x ∙ ap (λ n. n + 1) h
@@ -23,13 +39,15 @@ push_new before upto x h = get_or_push before x 0 upto h
 push_past : (before : List ℕ) (upto x d : ℕ) → length before ≡ upto → upto < d → slice_index (before ++ x ∷ []) d ≡ 0
 push_past before upto x d h l = get_or_past (before ++ x ∷ []) d 0 (omega (arith, push_size before upto x h, l))
 
-push_below : (before : List ℕ) (upto x : ℕ) → length before ≡ upto → x ≤ upto → ((d : ℕ) → slice_index before d ≤ d) → (d : ℕ) → slice_index (before ++ x ∷ []) d ≤ d
-push_below before upto x h small all d =
+push_below : (before : List ℕ) (upto x : ℕ) → length before ≡ upto → (0 < x → x < upto) → ((d : ℕ) → 0 < slice_index before d → slice_index before d < d) → (d : ℕ) → 0 < slice_index (before ++ x ∷ []) d → slice_index (before ++ x ∷ []) d < d
+push_below before upto x h small all d some =
     elim (cases_lt d upto) [
-      | inl l ↦ omega (arith, push_old before upto x d h l, all d)
+      | inl l ↦ omega (arith, push_old before upto x d h l, some, all d (omega (arith, some, push_old before upto x d h l)))
       | inr l ↦ elim (cases_eq d upto) [
-        | inl e ↦ subst (λ z. slice_index (before ++ x ∷ []) z ≤ z) (sym e) (omega (arith, push_new before upto x h, small))
-        | inr ne ↦ omega (arith, push_past before upto x d h (omega arith))
+        | inl e ↦
+            let is : slice_index (before ++ x ∷ []) d ≡ x = ap (λ n. slice_index (before ++ x ∷ []) n) e ∙ push_new before upto x h in
+            omega (arith, is, some, e, small (omega (arith, is, some)))
+        | inr ne ↦ absurd (omega (arith, some, push_past before upto x d h (omega (arith, l, ne))))
       ]
     ]
 
@@ -38,79 +56,81 @@ module _ (parents : List (Option Parent)) (last before : List ℕ) (upto : ℕ) 
   none_more is = record {
     last_size = h.last_size;
     before_size = push_size before upto 0 h.before_size;
-    last_below = λ n. omega (arith, h.last_below n);
+    last_below = λ n some. omega (arith, h.last_below n some);
     last_covers = λ c p l k.
         elim (cases_eq c upto) [
           | inl e ↦ absurd (let q : get_or parents upto None ≡ Some p = subst (λ z. get_or parents z None ≡ Some p) e k in cc)
           | inr ne ↦ h.last_covers c p (omega (arith, l, ne)) k
         ];
     last_is = h.last_is;
-    before_below = push_below before upto 0 h.before_size (omega arith) h.before_below;
+    before_below = push_below before upto 0 h.before_size (λ z. absurd (omega (arith, z))) h.before_below;
     before_covers = λ c d p q a b k m e.
         elim (cases_eq d upto) [
           | inl same ↦ absurd (let z : get_or parents upto None ≡ Some q = subst (λ z. get_or parents z None ≡ Some q) same m in cc)
           | inr ne ↦ omega (arith, push_old before upto 0 d h.before_size (omega (arith, b, ne)), h.before_covers c d p q a (omega (arith, b, ne)) k m e)
         ];
-    before_is = λ d c q m e.
+    before_is = λ d c q m some e.
         elim (cases_lt d upto) [
-          | inl l ↦ h.before_is d c q m (sym (push_old before upto 0 d h.before_size l) ∙ e)
+          | inl l ↦ h.before_is d c q m some (sym (push_old before upto 0 d h.before_size l) ∙ e)
           | inr l ↦ elim (cases_eq d upto) [
             | inl same ↦ absurd (let z : get_or parents upto None ≡ Some q = subst (λ z. get_or parents z None ≡ Some q) same m in cc)
-            | inr ne ↦ absurd (omega (arith, e, push_past before upto 0 d h.before_size (omega (arith, l, ne))))
+            | inr ne ↦ absurd (omega (arith, e, some, push_past before upto 0 d h.before_size (omega (arith, l, ne))))
           ]
         ];
   }
 
-  some_more : (r : Parent) → get_or parents upto None ≡ Some r → r.number < length parents → AreChains parents (set last r.number (upto + 1)) (before ++ slice_index last r.number ∷ []) (upto + 1)
+  some_more : (r : Parent) → get_or parents upto None ≡ Some r → r.number < length parents → AreChains parents (set last r.number upto) (before ++ slice_index last r.number ∷ []) (upto + 1)
   some_more r is within =
       let room : r.number < length last = omega (arith, within, h.last_size) in
       let at_upto : (p : Parent) (c : ℕ) → c ≡ upto → IsParent parents c p → p ≡ r =
       λ p c same k. (let z : get_or parents upto None ≡ Some p = subst (λ z. get_or parents z None ≡ Some p) same k in cc)
       in
+      let set_is : (n : ℕ) → n ≡ r.number → slice_index (set last r.number upto) n ≡ upto =
+      λ n same. ap (λ z. slice_index (set last r.number upto) z) same ∙ get_or-set_same last r.number upto 0 room
+      in
       record {
-        last_size = length-set last r.number (upto + 1) ∙ h.last_size;
+        last_size = length-set last r.number upto ∙ h.last_size;
         before_size = push_size before upto (slice_index last r.number) h.before_size;
-        last_below = λ n.
+        last_below = λ n some.
             elim (cases_eq n r.number) [
-              | inl e ↦ subst (λ z. slice_index (set last r.number (upto + 1)) z ≤ upto + 1) (sym e) (omega (arith, get_or-set_same last r.number (upto + 1) 0 room))
-              | inr ne ↦ omega (arith, get_or-set_other last r.number n (upto + 1) 0 ne, h.last_below n)
+              | inl e ↦ omega (arith, set_is n e)
+              | inr ne ↦ omega (arith, get_or-set_other last r.number n upto 0 ne, some, h.last_below n (omega (arith, get_or-set_other last r.number n upto 0 ne, some)))
             ];
         last_covers = λ c p l k.
             elim (cases_eq p.number r.number) [
-              | inl e ↦ subst (λ z. c < slice_index (set last r.number (upto + 1)) z) (sym e) (omega (arith, get_or-set_same last r.number (upto + 1) 0 room, l))
+              | inl e ↦ omega (arith, set_is p.number e, l)
               | inr ne ↦
                   let apart : c ≡ upto → ⊥ = λ same. ne (ap (λ (y : Parent). y.number) (at_upto p c same k)) in
-                  omega (arith, get_or-set_other last r.number p.number (upto + 1) 0 ne, h.last_covers c p (omega (arith, l, apart)) k)
+                  omega (arith, get_or-set_other last r.number p.number upto 0 ne, h.last_covers c p (omega (arith, l, apart)) k)
             ];
-        last_is = λ n c e.
+        last_is = λ n c some e.
             elim (cases_eq n r.number) [
               | inl same ↦
-                  let set_is : slice_index (set last r.number (upto + 1)) n ≡ upto + 1 = subst (λ z. slice_index (set last r.number (upto + 1)) z ≡ upto + 1) (sym same) (get_or-set_same last r.number (upto + 1) 0 room) in
-                  let here : upto ≡ c = omega (arith, e, set_is) in
+                  let here : upto ≡ c = sym (set_is n same) ∙ e in
                   (r, (subst (λ z. get_or parents z None ≡ Some r) here is, sym same))
-              | inr ne ↦ h.last_is n c (sym (get_or-set_other last r.number n (upto + 1) 0 ne) ∙ e)
+              | inr ne ↦ h.last_is n c some (sym (get_or-set_other last r.number n upto 0 ne) ∙ e)
             ];
         before_below = push_below before upto (slice_index last r.number) h.before_size (h.last_below r.number) h.before_below;
         before_covers = λ c d p q a b k m e.
             elim (cases_eq d upto) [
               | inl same ↦
                   let n : p.number ≡ r.number = e ∙ ap (λ (y : Parent). y.number) (at_upto q d same m) in
-                  let covers : c < slice_index last p.number = h.last_covers c p (omega (arith, a, same)) k in
-                  let covers' : c < slice_index last r.number = subst (λ z. c < slice_index last z) n covers in
-                  subst (λ z. c < slice_index (before ++ slice_index last r.number ∷ []) z) (sym same) (omega (arith, push_new before upto (slice_index last r.number) h.before_size, covers'))
+                  let covers : c ≤ slice_index last p.number = h.last_covers c p (omega (arith, a, same)) k in
+                  let covers' : c ≤ slice_index last r.number = subst (λ z. c ≤ slice_index last z) n covers in
+                  subst (λ z. c ≤ slice_index (before ++ slice_index last r.number ∷ []) z) (sym same) (omega (arith, push_new before upto (slice_index last r.number) h.before_size, covers'))
               | inr ne ↦ omega (arith, push_old before upto (slice_index last r.number) d h.before_size (omega (arith, b, ne)), h.before_covers c d p q a (omega (arith, b, ne)) k m e)
             ];
-        before_is = λ d c q m e.
+        before_is = λ d c q m some e.
             elim (cases_lt d upto) [
-              | inl l ↦ h.before_is d c q m (sym (push_old before upto (slice_index last r.number) d h.before_size l) ∙ e)
+              | inl l ↦ h.before_is d c q m some (sym (push_old before upto (slice_index last r.number) d h.before_size l) ∙ e)
               | inr l ↦ elim (cases_eq d upto) [
                 | inl same ↦
                     let at : slice_index (before ++ slice_index last r.number ∷ []) d ≡ slice_index last r.number =
                     subst (λ z. slice_index (before ++ slice_index last r.number ∷ []) z ≡ slice_index last r.number) (sym same) (push_new before upto (slice_index last r.number) h.before_size)
                     in
-                    let f : (p : Parent) × (IsParent parents c p × (p.number ≡ r.number)) = h.last_is r.number c (sym at ∙ e) in
+                    let f : (p : Parent) × (IsParent parents c p × (p.number ≡ r.number)) = h.last_is r.number c some (sym at ∙ e) in
                     (f.0, (f.1.0, f.1.1 ∙ ap (λ (y : Parent). y.number) (sym (at_upto q d same m))))
-                | inr ne ↦ absurd (omega (arith, e, push_past before upto (slice_index last r.number) d h.before_size (omega (arith, l, ne))))
+                | inr ne ↦ absurd (omega (arith, e, some, push_past before upto (slice_index last r.number) d h.before_size (omega (arith, l, ne))))
               ]
             ];
       }
@@ -123,26 +143,3 @@ module _ (parents : List (Option Parent)) (last before : List ℕ) (upto : ℕ) 
       → last' ≡ with_latest last o upto → before' ≡ before ++ latest last o ∷ [] → AreChains parents last' before' (upto + 1)
   one_more last' before' o is within a b =
       subst (λ xs. AreChains parents xs before' (upto + 1)) (sym a) (subst (λ xs. AreChains parents (with_latest last o upto) xs (upto + 1)) (sym b) (more o is within))
-
-pub length-with_latest : (last : List ℕ) (o : Option Parent) (child : ℕ) → length (with_latest last o child) ≡ length last
-length-with_latest last None child = refl
-length-with_latest last (Some p) child = length-set last p.number (child + 1)
-
-at_place : (place : Place) (e : Event) (i : ℕ) (events : List Event) (p : Parent) → IsNumbered events → slice_get events i ≡ Some e → parent_at place e ≡ Some p → p.number < i
-at_place First e i events p numbered at is = numbered.first i e p at is
-at_place Second e i events p numbered at is = numbered.second i e p at is
-
--- an event's parent is one of the events
-pub parent_below : (events : List Event) → IsNumbered events → (place : Place) (c : ℕ) (p : Parent) → IsParent (parents_of place events) c p → p.number < length (parents_of place events)
-parent_below events numbered place c p h =
-    elim (cases_lt c (length events)) [
-      | inl l ↦
-          let e : (e : Event) × (slice_get events c ≡ Some e) = get_some events c l in
-          let k : parent_at place e.0 ≡ Some p =
-          sym (read_is (parents_of place events) c None (parent_at place e.0) (get-map (parent_at place) e.0 events c e.1)) ∙ h
-          in
-          omega (arith, at_place place e.0 c events p numbered e.1 k, l, length-map events (parent_at place))
-      | inr l ↦
-          let none : get_or (parents_of place events) c None ≡ None = get_or_past (parents_of place events) c None (omega (arith, l, length-map events (parent_at place))) in
-          absurd (cc)
-    ]

@@ -1,4 +1,9 @@
+mod Begins
 mod Chains
+mod Earliest
+mod ReadyKeys
+mod Round
 mod RoundStep
-mod State
-mod Tournament
+mod StateSteps
+mod TellSteps
+mod Telling

@@ -1,3 +1,4 @@
 pub mod Chains
-pub mod Times
-pub mod Tournament
+pub mod Known
+pub mod Order
+pub mod SoFar

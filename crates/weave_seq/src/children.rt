@@ -1,46 +1,76 @@
 // The children of each event.
-use crate::link::{link, parent};
-use event_graph::Event;
+ghost use Rattle.std.specs.Prelude.{◌≡◌, ◌<◌, ◌++◌, ◌∷◌, [], length, replicate, IfOk, IfSome, OnOk};
+ghost use Rattle.weave_seq.specs.Chains.{latest, parent_in, with_latest};
+
+use event_graph::{Event, Parent};
 use std::alloc::Global;
 use zs_num::NoMemory;
 
 /// Which of an event's two parents.
 #[derive(Clone, Copy, Debug, PartialEq, Eq)]
-pub(crate) enum Place {
+pub(crate) enum Slot {
     First,
     Second,
 }
 
-/// For each event those that have it as their parent in this place: the last of them, and for each of
-/// them the one before. A number is kept as one more than it is, and 0 is none.
+/// For each event those that have it as their parent in this slot: the last of them, and for each of
+/// them the one before. 0 is none, since event 0 has no parents.
 #[derive(Drop)]
 pub(crate) struct Children {
-    pub(crate) place: Place,
-    pub(crate) last: Vec<usize>,
-    pub(crate) before: Vec<usize>,
+    pub(crate) slot: Slot,
+    pub(crate) last: Vec<u32>,
+    pub(crate) before: Vec<u32>,
 }
 
 impl Children {
-    ghost use Rattle.std.specs.Prelude.{◌≡◌, ◌≤◌, ◌^◌, length, IfOk};
-    ghost use Rattle.event_graph.specs.Numbered.{IsNumbered};
-    ghost use Rattle.weave_seq.specs.Chains.{AreChains, parents_of};
-
-    /// The children of these events.
-    pub(crate) fn of(alloc: Global, events: &[Event], place: Place) -> Result<Self, NoMemory>
-        requires numbered { IsNumbered events.now }
-        requires few { length events.now ≤ 2 ^ 32 }
-        ensures place { IfOk result (λ it. it.place ≡ place) }
-        ensures chains { IfOk result (λ it. AreChains (parents_of place events.now) it.last.items it.before.items (length events.now)) }
+    /// No children yet of so many events.
+    pub(crate) fn none(alloc: Global, slot: Slot, events: usize) -> Result<Self, NoMemory>
+        ensures slot { IfOk result (λ it. it.slot ≡ slot) }
+        ensures last { IfOk result (λ it. it.last.items ≡ replicate events 0) }
+        ensures before { IfOk result (λ it. it.before.items ≡ []) }
     {
-        let mut last = vec![in alloc; 0; events.len()]?;
-        let mut before = Vec::with_capacity(alloc, events.len())?;
-        for (child, event) in events.iter().enumerate() {
-            before.push(link(&mut last, parent(event, place), child))?;
-        }
         Ok(Children {
-            place,
-            last,
-            before,
+            slot,
+            last: vec![in alloc; 0; events]?,
+            before: Vec::with_capacity(alloc, events)?,
         })
+    }
+
+    /// Makes the next event the last child of its parent.
+    pub(crate) fn add(&mut self, event: &Event) -> Result<(), NoMemory>
+        requires { IfSome (parent_in self.old.slot event.now) (λ p. p.number < length self.old.last.items) }
+        ensures slot { self.new.slot ≡ self.old.slot }
+        ensures last { OnOk result (self.new.last.items ≡ with_latest self.old.last.items (parent_in self.old.slot event.now) event.now.number) }
+        ensures before { OnOk result (self.new.before.items ≡ self.old.before.items ++ latest self.old.last.items (parent_in self.old.slot event.now) ∷ []) }
+    {
+        let earlier = link(&mut self.last, parent(event, self.slot), event.number);
+        self.before.push(earlier)?;
+        Ok(())
+    }
+}
+
+/// The event's parent in this slot.
+pub(crate) fn parent(event: &Event, slot: Slot) -> Option<Parent>
+    ensures { result ≡ parent_in slot event.now }
+{
+    match slot {
+        Slot::First => event.first,
+        Slot::Second => event.second,
+    }
+}
+
+/// Makes the child the last of its parent, and answers the one that was.
+fn link(last: &mut [u32], parent: Option<Parent>, child: u32) -> u32
+    requires { IfSome parent (λ p. p.number < length last.old) }
+    ensures earlier { result ≡ latest last.old parent }
+    ensures after { last.new ≡ with_latest last.old parent child }
+{
+    match parent {
+        Some(p) => {
+            let earlier = last[p.number as usize];
+            last[p.number as usize] = child;
+            earlier
+        }
+        None => 0,
     }
 }

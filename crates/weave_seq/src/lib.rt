@@ -1,14 +1,13 @@
 //! The weave on one list.
 #![tactic(auto)]
 
+mod begin;
 mod children;
-mod link;
-mod queue;
-mod refresh;
-mod start;
+mod ready;
+mod state;
+mod tell;
 #[cfg(test)]
 mod tests;
-mod times;
 mod weave;
 
 pub use weave::weave_seq;

@@ -14,7 +14,8 @@ use std::process::Abort;
 use std::test::Fail;
 use zs_num::{Cycle, NoMemory};
 
-const LIMIT: u64 = 1 << 20;
+/// The greatest cycle, delay and number of events of these weaves.
+const LIMIT: u64 = 1 << 22;
 
 /// Serves every kind, one event after the other.
 #[derive(Drop)]
@@ -68,23 +69,23 @@ impl Component for Server {
 }
 
 /// Whether the parent has a smaller number and a small delay.
-fn is_parent_fine(parent: Option<Parent>, place: usize) -> bool
-    ensures below { IsTrue result → (p : Parent) → parent ≡ Some p → p.number < place }
+fn is_parent_fine(parent: Option<Parent>, index: usize) -> bool
+    ensures below { IsTrue result → (p : Parent) → parent ≡ Some p → p.number < index }
     ensures near { IsTrue result → (p : Parent) → parent ≡ Some p → p.delay ≤ LIMIT }
 {
     match parent {
-        Some(p) => (p.number as usize) < place && p.delay <= LIMIT,
+        Some(p) => (p.number as usize) < index && p.delay <= LIMIT,
         None => true,
     }
 }
 
-/// Whether the event may stand in this place of a graph on these components.
-fn is_fine<C: Component>(event: &Event, place: usize, comps: &[C]) -> bool
+/// Whether the event may stand at this index of a graph on these components.
+fn is_fine<C: Component>(event: &Event, index: usize, comps: &[C]) -> bool
     ensures fits { IsTrue result → EventFits C.serves C.floor comps.now event.now }
-    ensures number { IsTrue result → event.now.number ≡ place }
+    ensures number { IsTrue result → event.now.number ≡ index }
     ensures near { IsTrue result → IsNear LIMIT LIMIT event.now }
-    ensures first { IsTrue result → (p : Parent) → event.now.first ≡ Some p → p.number < place }
-    ensures second { IsTrue result → (p : Parent) → event.now.second ≡ Some p → p.number < place }
+    ensures first { IsTrue result → (p : Parent) → event.now.first ≡ Some p → p.number < index }
+    ensures second { IsTrue result → (p : Parent) → event.now.second ≡ Some p → p.number < index }
 {
     let component = event.component as usize;
     if component >= comps.len() || !comps[component].serves(event.kind) {
@@ -93,9 +94,9 @@ fn is_fine<C: Component>(event: &Event, place: usize, comps: &[C]) -> bool
     event.min_start <= LIMIT
         && event.min_start < event.min_finish
         && event.min_finish - event.min_start == comps[component].floor(event.kind)
-        && event.number as usize == place
-        && is_parent_fine(event.first, place)
-        && is_parent_fine(event.second, place)
+        && event.number as usize == index
+        && is_parent_fine(event.first, index)
+        && is_parent_fine(event.second, index)
 }
 
 /// Whether the events make a graph that fits the components.
@@ -104,8 +105,8 @@ fn is_graph<C: Component>(events: &[Event], comps: &[C]) -> bool
     ensures fits { IsTrue result → GraphFits C.serves C.floor events.now comps.now }
     ensures near { IsTrue result → AreNear LIMIT LIMIT events.now }
 {
-    for (place, event) in events.iter().enumerate() {
-        if !is_fine(event, place, comps) {
+    for (index, event) in events.iter().enumerate() {
+        if !is_fine(event, index, comps) {
             return false;
         }
     }
@@ -247,15 +248,20 @@ fn at_a_tie_the_lesser_number_is_served_first(rt: HostRuntime) -> Result<(), Fai
     Ok(())
 }
 
+/// 64 chains of look-ups on one component, which serves one of them every four cycles.
 #[test]
-fn a_hundred_thousand_events_on_one_component_are_woven(rt: HostRuntime) -> Result<(), Fail> {
+fn more_than_a_million_events_are_woven(rt: HostRuntime) -> Result<(), Fail> {
     let alloc = rt.alloc();
-    let mut events = Vec::with_capacity(alloc, 100_000)?;
-    for number in 0..100_000u32 {
-        events.push(event(number, 0, Kind::Lookup, (0, 10), None))?;
+    let mut events = Vec::with_capacity(alloc, 1_056_000)?;
+    for number in 0..1_056_000u32 {
+        events.push(event(number, 0, Kind::Lookup, (0, 10), number.checked_sub(64)))?;
     }
     let (fired, _comps) = woven(alloc, events, servers(alloc, 4, 4)?)?.ok_or("no graph")?;
-    let last = fired.as_slice().last().ok_or("nothing fired")?;
-    assert_eq!(rt; (last.start, last.finish), (0, 400_006));
+    assert_eq!(rt; fired.as_slice().len(), 1_056_000);
+    for f in fired.as_slice() {
+        let finish = u64::from(f.number) * 4 + 10;
+        let start = if f.number < 64 { 0 } else { finish - 256 };
+        assert_eq!(rt; (f.start, f.finish), (start, finish));
+    }
     Ok(())
 }

@@ -1,17 +1,17 @@
 // The one-list weave by a queue of the ready events.
-ghost use Rattle.std.specs.Prelude.{◌≡◌, ◌<◌, ◌≤◌, ◌^◌, ℕ, [], length, map, IfOk, OnErr, OnOk};
+ghost use Rattle.std.specs.Prelude.{◌≡◌, [], length, map, IfOk, OnErr, OnOk};
 ghost use Rattle.event_graph.specs.Fits.{GraphFits};
 ghost use Rattle.event_graph.specs.Numbered.{IsNumbered};
-ghost use Rattle.event_graph.specs.OneListWeave.{AreSmallSteps, comps_after, fired_of, woven};
-ghost use Rattle.weave_seq.specs.Chains.{AreChains, parents_of};
-ghost use Rattle.weave_seq.specs.Times.{IsRight, times_of};
+ghost use Rattle.event_graph.specs.OneListWeave.{AreSmallSteps, comps_after, finish_in, fired_of, woven};
+ghost use Rattle.weave_seq.specs.Chains.{AreChains, parents_in};
+ghost use Rattle.weave_seq.specs.Known.{known_to_all};
 
-use crate::children::{Children, Place};
-use crate::queue::{NEVER, Queue};
-use crate::refresh::refresh_children;
-use crate::start::{count, ready_events, unfired};
+use crate::begin::{Beginning, begin};
+use crate::children::{Children, Slot};
+use crate::state::State;
+use crate::tell::tell_children;
 use component::{Component, Comps};
-use event_graph::{Event, Fired, FiredList, Graph};
+use event_graph::{Event, Fired, FiredList, Graph, laws};
 use std::alloc::Global;
 use zs_num::NoMemory;
 
@@ -30,60 +30,51 @@ pub fn weave_seq<C: Component>(
     ensures unchanged { OnErr result (comps.new ≡ comps.old) }
 {
     let events = g.events();
-    // Their numbers have 32 bits, so there are no more than 2^32 events.
-    let _count = count(events);
-    let first = Children::of(alloc, events, Place::First)?;
-    let second = Children::of(alloc, events, Place::Second)?;
-    let mut times = unfired(alloc, events)?;
-    let mut queue = ready_events(alloc, &times, events)?;
-    fire_all(
-        events,
-        &first,
-        &second,
-        &mut times,
-        &mut queue,
-        comps.as_mut_slice(),
-    );
-    Ok(FiredList::of(times))
+    let Beginning {
+        first,
+        second,
+        mut state,
+    } = begin(alloc, events)?;
+    fire_all(&mut state, events, &first, &second, comps.as_mut_slice());
+    Ok(FiredList::of(state.into_times()))
 }
 
-/// Fires the least ready event until each event fired: the queue has the start of each that is ready.
+/// Fires the first of the ready events until each event has fired. No memory is taken.
 fn fire_all<C: Component>(
+    state: &mut State,
     events: &[Event],
     first: &Children,
     second: &Children,
-    times: &mut [Fired],
-    queue: &mut Queue,
     comps: &mut [C],
 )
     requires numbered { IsNumbered events.now }
     requires fits { GraphFits C.serves C.floor events.now comps.old }
     requires small { AreSmallSteps C.stepped C.greatest events.now comps.old }
-    requires first { AreChains (parents_of first.now.place events.now) first.now.last.items first.now.before.items (length events.now) }
-    requires second { AreChains (parents_of second.now.place events.now) second.now.last.items second.now.before.items (length events.now) }
-    requires first_place { first.now.place ≡ Place.First }
-    requires second_place { second.now.place ≡ Place.Second }
-    requires unfired { times.old ≡ times_of events.now [] }
-    requires queue_size { length queue.old ≡ length events.now }
-    requires queue { (i : ℕ) → i < length events.now → IsRight events.now times.old queue.old i }
-    ensures times { times.new ≡ map fired_of (woven C.stepped events.now comps.old) }
+    requires first { AreChains (parents_in first.now.slot events.now) first.now.last.items first.now.before.items (length events.now) }
+    requires second { AreChains (parents_in second.now.slot events.now) second.now.last.items second.now.before.items (length events.now) }
+    requires first_slot { first.now.slot ≡ Slot.First }
+    requires second_slot { second.now.slot ≡ Slot.Second }
+    requires unfired { state.old ≡ known_to_all (finish_in []) events.now }
+    ensures times { state.new.times ≡ map fired_of (woven C.stepped events.now comps.old) }
     ensures comps { comps.new ≡ comps_after C.stepped events.now comps.old }
 {
+    laws::each_round_fires_the_next_event::<C>();
+    laws::events_fire_by_the_rules::<C>();
+    laws::starts_so_far_stay_small::<C>();
+    laws::times_so_far_become_the_weaves::<C>();
     for _ in 0..events.len() {
-        let key = queue.first();
-        if key.start == NEVER {
-            continue;
-        }
-        let number = key.number as usize;
-        let event = events[number];
+        let Some(key) = state.take_first() else {
+            unreachable!()
+        };
+        let event = events[key.number as usize];
         let finish = comps[event.component as usize].step(event.kind, key.start);
-        times[number] = Fired {
+        let fired = Fired {
             number: key.number,
             start: key.start,
             finish,
         };
-        queue.set(number, NEVER);
-        refresh_children(queue, times, events, first, number);
-        refresh_children(queue, times, events, second, number);
+        state.keep(fired);
+        tell_children(state, events, first, fired);
+        tell_children(state, events, second, fired);
     }
 }

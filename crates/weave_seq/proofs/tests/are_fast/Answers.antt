@@ -14,7 +14,7 @@ loop-server-preserved c = λ i s l at.
           let here : get_or c.args.servers.now c.loop-server.server-index none ≡ s =
           read_is c.args.servers.now c.loop-server.server-index none s (subst (λ n. slice_get c.args.servers.now n ≡ Some s) same at)
           in (
-            le-leb s.occupancy 1048576 (omega (arith, ap (λ (z : Server). z.occupancy) here, c.if-server-gt-LIMIT.false)),
+            le-leb s.occupancy 4194304 (omega (arith, ap (λ (z : Server). z.occupancy) here, c.if-server-gt-LIMIT.false)),
             omega (arith, ap (λ (z : Server). z.free) here, c.if-server-gt-LIMIT-2.false),
           )
       | inr ne ↦ c.loop-server.invariant i s (omega (arith, l, ne)) at

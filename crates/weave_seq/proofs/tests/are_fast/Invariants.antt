@@ -5,4 +5,4 @@ use Rattle.weave_seq.specs.declared.tests.Server.{Server}
 use Rattle.weave_seq.proofs.tests.are_fast.Given as goal
 
 abbrev pub invariant-loop-server : goal.invariant-loop-server
-invariant-loop-server l = (i : ℕ) (c : Server) → i < l.server-index → slice_get l.servers i ≡ Some c → IsTrue (nat_le c.occupancy 1048576) × (c.free ≤ 1048576)
+invariant-loop-server l = (i : ℕ) (c : Server) → i < l.server-index → slice_get l.servers i ≡ Some c → IsTrue (nat_le c.occupancy 4194304) × (c.free ≤ 4194304)

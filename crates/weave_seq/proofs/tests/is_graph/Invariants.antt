@@ -7,11 +7,11 @@ use Rattle.event_graph.specs.Fits.{EventFits}
 use Rattle.event_graph.specs.Near.{IsNear}
 use Rattle.weave_seq.proofs.tests.is_graph.Given as goal
 
-abbrev pub invariant-loop-place : goal.invariant-loop-place
-invariant-loop-place g l = record {
-  number : (i : ℕ) (e : Event) → i < l.place → slice_get l.events i ≡ Some e → e.number ≡ i;
-  first : (i : ℕ) (e : Event) (p : Parent) → i < l.place → slice_get l.events i ≡ Some e → e.first ≡ Some p → p.number < i;
-  second : (i : ℕ) (e : Event) (p : Parent) → i < l.place → slice_get l.events i ≡ Some e → e.second ≡ Some p → p.number < i;
-  fits : (i : ℕ) (e : Event) → i < l.place → slice_get l.events i ≡ Some e → EventFits g.C.Component.serves g.C.Component.floor l.comps e;
-  near : (i : ℕ) (e : Event) → i < l.place → slice_get l.events i ≡ Some e → IsNear 1048576 1048576 e;
+abbrev pub invariant-loop-index : goal.invariant-loop-index
+invariant-loop-index g l = record {
+  number : (i : ℕ) (e : Event) → i < l.index → slice_get l.events i ≡ Some e → e.number ≡ i;
+  first : (i : ℕ) (e : Event) (p : Parent) → i < l.index → slice_get l.events i ≡ Some e → e.first ≡ Some p → p.number < i;
+  second : (i : ℕ) (e : Event) (p : Parent) → i < l.index → slice_get l.events i ≡ Some e → e.second ≡ Some p → p.number < i;
+  fits : (i : ℕ) (e : Event) → i < l.index → slice_get l.events i ≡ Some e → EventFits g.C.Component.serves g.C.Component.floor l.comps e;
+  near : (i : ℕ) (e : Event) → i < l.index → slice_get l.events i ≡ Some e → IsNear 4194304 4194304 e;
 }

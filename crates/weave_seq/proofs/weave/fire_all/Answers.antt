@@ -1,91 +1,106 @@
--- Each round of the program is one of the weave.
-use Rattle.std.proofs.Common.{◌≡◌, ◌⊎◌, ◌<◌, length, get_or, set, map, sym, ◌∙◌, ap, subst, arith, rules, add-one, length-set}
+-- One round is one of the weave's.
+use Rattle.std.proofs.Common.{◌≡◌, ◌<◌, ◌≤◌, ◌+◌, ◌^◌, ℕ, length, map, set, get_or, Some, sym, ◌∙◌, ap, subst, refl, arith, rules, add-one, length-set, true, false}
 use Rattle.std.specs.Prelude.{slice_index}
-use Rattle.std.proofs.lemmas.List.{length-map}
-use Rattle.event_graph.specs.OneListWeave.{after, fired_of, timed_in, weave}
-use Rattle.weave_seq.specs.Chains.{IsParent, parents_of}
-use Rattle.weave_seq.specs.Times.{IsRight, StartSmall, times_of}
-use Rattle.event_graph.proofs.Lists.{map_map}
-use Rattle.event_graph.proofs.Progress.{after_first_round}
-use Rattle.weave_seq.proofs.RoundStep.{all_right, component_within, finish_counts, is_small, next, no_event, serves_it, small_next, stays, times_next, within}
-use Rattle.event_graph.proofs.Solves.{woven-is}
-use Rattle.event_graph.proofs.Theorem.{lawful_from, served_from}
+use Rattle.std.proofs.lemmas.List.{get_or-set_same, length-map}
+use Rattle.event_graph.specs.declared.event.Event.{Event}
+use Rattle.event_graph.specs.Firing.{time_so_far}
+use Rattle.event_graph.specs.OneListWeave.{after, finish_in}
+use Rattle.weave_seq.specs.declared.children.Slot.TheVariants.{First, Second}
+use Rattle.weave_seq.specs.Known.{finish_at, known_to_all, known_waits, told_to, without}
+use Rattle.weave_seq.specs.SoFar.{SoFar}
+use Rattle.weave_seq.proofs.Round.{after_it, bounded, component_within, comps_next, finish_here, is_small, known_next, no_event, one_is_ready, serves_it, size, unfired, untold, within}
+use Rattle.weave_seq.proofs.RoundStep.{finishes_stay, time_parts}
+use Rattle.weave_seq.proofs.Telling.{so_far}
 use Rattle.weave_seq.proofs.weave.fire_all.Goals as goal
 
 pub loop-init : goal.loop-init
-loop-init g c =
-    let first = after_first_round g.C.Component.serves g.C.Component.stepped c.args.events.now c.args.comps.now in
-    record {
-      times = c.requires.unfired ∙ ap (λ v. times_of c.args.events.now v.fired) (sym first);
-      comps = ap (λ v. v.comps) (sym first);
-      queue_size = c.requires.queue_size;
-      queue = c.requires.queue;
-    }
+unfolding after
+loop-init g c = record { state = c.requires.unfired; comps = refl }
 
-pub loop-preserved-then-key : goal.loop-preserved-then-key
-loop-preserved-then-key g c =
-    let same = ap (λ k. after g.C.Component.stepped c.args.events.now c.args.comps.now k) (add-one c.loop.counter) ∙ stays g.C.Component.serves g.C.Component.stepped g.C.Component.greatest c.args.events.now c.args.comps.now (lawful_from g.C.Component.serves g.C.Component.floor g.C.Component.stepped g.met.C.Component.floor_at_least_one g.met.C.Component.floor_holds g.met.C.Component.serves_stays) g.met.C.Component.finish_within_greatest c.requires.numbered (served_from g.C.Component.serves g.C.Component.floor g.C.Component.stepped c.args.events.now c.args.comps.now c.requires.fits) c.requires.small c.loop.counter (omega (arith, c.loop-test.true)) c.loop.times c.loop.invariant.times c.loop.queue c.loop.invariant.queue_size c.loop.invariant.queue c.first-key.result c.first-key.ensures c.if-key.true in
-    record {
-      times = c.loop.invariant.times ∙ ap (λ v. times_of c.args.events.now v.fired) (sym same);
-      comps = c.loop.invariant.comps ∙ ap (λ v. v.comps) (sym same);
-      queue_size = c.loop.invariant.queue_size;
-      queue = c.loop.invariant.queue;
-    }
+pub unreachable-requires : goal.unreachable-requires
+unreachable-requires g c = one_is_ready g.C.Component.serves g.C.Component.floor g.C.Component.stepped g.C.Component.greatest c.each_round_fires_the_next_event.ensures c.events_fire_by_the_rules.ensures c.starts_so_far_stay_small.ensures c.args.events.now c.args.comps.now c.requires.numbered c.requires.fits c.requires.small c.loop.counter (omega (arith, c.loop-test.true)) c.loop.state c.loop.invariant.state c.in_default.ensures.none
+
+pub bounds-events-key : goal.bounds-events-key
+bounds-events-key g c = within g.C.Component.serves g.C.Component.floor g.C.Component.stepped g.C.Component.greatest c.each_round_fires_the_next_event.ensures c.events_fire_by_the_rules.ensures c.starts_so_far_stay_small.ensures c.args.events.now c.args.comps.now c.requires.numbered c.requires.fits c.requires.small c.loop.counter (omega (arith, c.loop-test.true)) c.loop.state c.loop.invariant.state c.in-Some.key c.in-Some.ensures.first
 
 pub offset_bounds-comps-event : goal.offset_bounds-comps-event
 offset_bounds-comps-event g c =
-    let within : (get_or c.args.events.now c.first-key.result.number no_event).component < length c.loop.comps = omega (arith, component_within g.C.Component.serves g.C.Component.stepped g.C.Component.greatest c.args.events.now c.args.comps.now (lawful_from g.C.Component.serves g.C.Component.floor g.C.Component.stepped g.met.C.Component.floor_at_least_one g.met.C.Component.floor_holds g.met.C.Component.serves_stays) g.met.C.Component.finish_within_greatest c.requires.numbered (served_from g.C.Component.serves g.C.Component.floor g.C.Component.stepped c.args.events.now c.args.comps.now c.requires.fits) c.requires.small c.loop.counter (omega (arith, c.loop-test.true)) c.loop.times c.loop.invariant.times c.loop.queue c.loop.invariant.queue_size c.loop.invariant.queue c.first-key.result c.first-key.ensures c.if-key.false, ap length c.loop.invariant.comps) in
+    let within_comps : (get_or c.args.events.now c.in-Some.key.number no_event).component < length c.loop.comps = component_within g.C.Component.serves g.C.Component.floor g.C.Component.stepped g.C.Component.greatest c.each_round_fires_the_next_event.ensures c.events_fire_by_the_rules.ensures c.starts_so_far_stay_small.ensures c.args.events.now c.args.comps.now c.requires.numbered c.requires.fits c.requires.small c.loop.counter (omega (arith, c.loop-test.true)) c.loop.state c.loop.invariant.state c.in-Some.key c.in-Some.ensures.first c.loop.comps c.loop.invariant.comps in
     search rules
 
 pub bounds-comps-event : goal.bounds-comps-event
-bounds-comps-event g c = omega (arith, component_within g.C.Component.serves g.C.Component.stepped g.C.Component.greatest c.args.events.now c.args.comps.now (lawful_from g.C.Component.serves g.C.Component.floor g.C.Component.stepped g.met.C.Component.floor_at_least_one g.met.C.Component.floor_holds g.met.C.Component.serves_stays) g.met.C.Component.finish_within_greatest c.requires.numbered (served_from g.C.Component.serves g.C.Component.floor g.C.Component.stepped c.args.events.now c.args.comps.now c.requires.fits) c.requires.small c.loop.counter (omega (arith, c.loop-test.true)) c.loop.times c.loop.invariant.times c.loop.queue c.loop.invariant.queue_size c.loop.invariant.queue c.first-key.result c.first-key.ensures c.if-key.false, ap length c.loop.invariant.comps)
+bounds-comps-event g c = component_within g.C.Component.serves g.C.Component.floor g.C.Component.stepped g.C.Component.greatest c.each_round_fires_the_next_event.ensures c.events_fire_by_the_rules.ensures c.starts_so_far_stay_small.ensures c.args.events.now c.args.comps.now c.requires.numbered c.requires.fits c.requires.small c.loop.counter (omega (arith, c.loop-test.true)) c.loop.state c.loop.invariant.state c.in-Some.key c.in-Some.ensures.first c.loop.comps c.loop.invariant.comps
 
 pub step-finish-requires-clause-serves : goal.step-finish-requires-clause-serves
-step-finish-requires-clause-serves g c = serves_it g.C.Component.serves g.C.Component.stepped g.C.Component.greatest c.args.events.now c.args.comps.now (lawful_from g.C.Component.serves g.C.Component.floor g.C.Component.stepped g.met.C.Component.floor_at_least_one g.met.C.Component.floor_holds g.met.C.Component.serves_stays) g.met.C.Component.finish_within_greatest c.requires.numbered (served_from g.C.Component.serves g.C.Component.floor g.C.Component.stepped c.args.events.now c.args.comps.now c.requires.fits) c.requires.small c.loop.counter (omega (arith, c.loop-test.true)) c.loop.times c.loop.invariant.times c.loop.queue c.loop.invariant.queue_size c.loop.invariant.queue c.first-key.result c.first-key.ensures c.if-key.false c.loop.comps c.loop.invariant.comps c.index-comps-event.result
+step-finish-requires-clause-serves g c = serves_it g.C.Component.serves g.C.Component.floor g.C.Component.stepped g.C.Component.greatest c.each_round_fires_the_next_event.ensures c.events_fire_by_the_rules.ensures c.starts_so_far_stay_small.ensures c.args.events.now c.args.comps.now c.requires.numbered c.requires.fits c.requires.small c.loop.counter (omega (arith, c.loop-test.true)) c.loop.state c.loop.invariant.state c.in-Some.key c.in-Some.ensures.first c.loop.comps c.loop.invariant.comps c.index-comps-event.result
 
 pub step-finish-requires-clause-small : goal.step-finish-requires-clause-small
-step-finish-requires-clause-small g c = is_small g.C.Component.serves g.C.Component.stepped g.C.Component.greatest c.args.events.now c.args.comps.now (lawful_from g.C.Component.serves g.C.Component.floor g.C.Component.stepped g.met.C.Component.floor_at_least_one g.met.C.Component.floor_holds g.met.C.Component.serves_stays) g.met.C.Component.finish_within_greatest c.requires.numbered (served_from g.C.Component.serves g.C.Component.floor g.C.Component.stepped c.args.events.now c.args.comps.now c.requires.fits) c.requires.small c.loop.counter (omega (arith, c.loop-test.true)) c.loop.times c.loop.invariant.times c.loop.queue c.loop.invariant.queue_size c.loop.invariant.queue c.first-key.result c.first-key.ensures c.if-key.false c.loop.comps c.loop.invariant.comps c.index-comps-event.result
+step-finish-requires-clause-small g c = is_small g.C.Component.serves g.C.Component.floor g.C.Component.stepped g.C.Component.greatest c.each_round_fires_the_next_event.ensures c.events_fire_by_the_rules.ensures c.starts_so_far_stay_small.ensures c.args.events.now c.args.comps.now c.requires.numbered c.requires.fits c.requires.small c.loop.counter (omega (arith, c.loop-test.true)) c.loop.state c.loop.invariant.state c.in-Some.key c.in-Some.ensures.first c.loop.comps c.loop.invariant.comps c.index-comps-event.result
 
-pub refresh_children-requires-clause-small : goal.refresh_children-requires-clause-small
-refresh_children-requires-clause-small g c =
-    subst (λ n. StartSmall c.args.events.now (set c.loop.times c.first-key.result.number (record { number = c.first-key.result.number; start = c.first-key.result.start; finish = n })))
-    (sym (ap (λ p. p.1) c.step-finish.ensures)) (small_next g.C.Component.serves g.C.Component.stepped g.C.Component.greatest c.args.events.now c.args.comps.now (lawful_from g.C.Component.serves g.C.Component.floor g.C.Component.stepped g.met.C.Component.floor_at_least_one g.met.C.Component.floor_holds g.met.C.Component.serves_stays) g.met.C.Component.finish_within_greatest c.requires.numbered (served_from g.C.Component.serves g.C.Component.floor g.C.Component.stepped c.args.events.now c.args.comps.now c.requires.fits) c.requires.small c.loop.counter (omega (arith, c.loop-test.true)) c.loop.times c.loop.invariant.times c.loop.queue c.loop.invariant.queue_size c.loop.invariant.queue c.first-key.result c.first-key.ensures c.if-key.false c.loop.comps c.loop.invariant.comps c.index-comps-event.result)
+pub keep-requires-clause-within : goal.keep-requires-clause-within
+keep-requires-clause-within g c =
+    omega (arith, within g.C.Component.serves g.C.Component.floor g.C.Component.stepped g.C.Component.greatest c.each_round_fires_the_next_event.ensures c.events_fire_by_the_rules.ensures c.starts_so_far_stay_small.ensures c.args.events.now c.args.comps.now c.requires.numbered c.requires.fits c.requires.small c.loop.counter (omega (arith, c.loop-test.true)) c.loop.state c.loop.invariant.state c.in-Some.key c.in-Some.ensures.first, ap (λ (v : SoFar). length v.times) c.in-Some.ensures.taken, ap (λ (v : SoFar). length v.times) c.loop.invariant.state, length-map c.args.events.now (time_so_far (after g.C.Component.stepped c.args.events.now c.args.comps.now c.loop.counter).fired))
 
-pub refresh_children-requires-in-loop-clause-small : goal.refresh_children-requires-in-loop-clause-small
-refresh_children-requires-in-loop-clause-small g c =
-    subst (λ n. StartSmall c.args.events.now (set c.loop.times c.first-key.result.number (record { number = c.first-key.result.number; start = c.first-key.result.start; finish = n })))
-    (sym (ap (λ p. p.1) c.step-finish.ensures)) (small_next g.C.Component.serves g.C.Component.stepped g.C.Component.greatest c.args.events.now c.args.comps.now (lawful_from g.C.Component.serves g.C.Component.floor g.C.Component.stepped g.met.C.Component.floor_at_least_one g.met.C.Component.floor_holds g.met.C.Component.serves_stays) g.met.C.Component.finish_within_greatest c.requires.numbered (served_from g.C.Component.serves g.C.Component.floor g.C.Component.stepped c.args.events.now c.args.comps.now c.requires.fits) c.requires.small c.loop.counter (omega (arith, c.loop-test.true)) c.loop.times c.loop.invariant.times c.loop.queue c.loop.invariant.queue_size c.loop.invariant.queue c.first-key.result c.first-key.ensures c.if-key.false c.loop.comps c.loop.invariant.comps c.index-comps-event.result)
+pub keep-requires-clause-taken : goal.keep-requires-clause-taken
+keep-requires-clause-taken g c =
+    let n : c.in-Some.key.number < length c.loop.state.waits =
+    omega (arith, within g.C.Component.serves g.C.Component.floor g.C.Component.stepped g.C.Component.greatest c.each_round_fires_the_next_event.ensures c.events_fire_by_the_rules.ensures c.starts_so_far_stay_small.ensures c.args.events.now c.args.comps.now c.requires.numbered c.requires.fits c.requires.small c.loop.counter (omega (arith, c.loop-test.true)) c.loop.state c.loop.invariant.state c.in-Some.key c.in-Some.ensures.first, ap (λ (v : SoFar). length v.waits) c.loop.invariant.state, length-map c.args.events.now (known_waits (finish_in (after g.C.Component.stepped c.args.events.now c.args.comps.now c.loop.counter).fired) (finish_in (after g.C.Component.stepped c.args.events.now c.args.comps.now c.loop.counter).fired) (finish_in (after g.C.Component.stepped c.args.events.now c.args.comps.now c.loop.counter).fired)))
+    in
+    ap (λ (v : SoFar). slice_index v.waits c.in-Some.key.number) c.in-Some.ensures.taken ∙ get_or-set_same c.loop.state.waits c.in-Some.key.number 255 0 n
+
+pub tell_children-requires-clause-within : goal.tell_children-requires-clause-within
+tell_children-requires-clause-within g c = within g.C.Component.serves g.C.Component.floor g.C.Component.stepped g.C.Component.greatest c.each_round_fires_the_next_event.ensures c.events_fire_by_the_rules.ensures c.starts_so_far_stay_small.ensures c.args.events.now c.args.comps.now c.requires.numbered c.requires.fits c.requires.small c.loop.counter (omega (arith, c.loop-test.true)) c.loop.state c.loop.invariant.state c.in-Some.key c.in-Some.ensures.first
+
+pub tell_children-requires-clause-finish : goal.tell_children-requires-clause-finish
+tell_children-requires-clause-finish g c = finish_here g.C.Component.serves g.C.Component.floor g.C.Component.stepped g.C.Component.greatest c.each_round_fires_the_next_event.ensures c.events_fire_by_the_rules.ensures c.starts_so_far_stay_small.ensures c.args.events.now c.args.comps.now c.requires.numbered c.requires.fits c.requires.small c.loop.counter (omega (arith, c.loop-test.true)) c.loop.state c.loop.invariant.state c.in-Some.key c.in-Some.ensures.first c.loop.comps c.loop.invariant.comps c.index-comps-event.result c.step-finish.result (ap (λ p. p.1) c.step-finish.ensures) c.keep.new.self (c.keep.ensures ∙ ap (λ (v : SoFar). so_far (set v.times c.in-Some.key.number (time_parts c.in-Some.key.number c.in-Some.key.start c.step-finish.result)) v.waits) c.in-Some.ensures.taken)
+
+pub tell_children-requires-clause-after : goal.tell_children-requires-clause-after
+tell_children-requires-clause-after g c = after_it g.C.Component.serves g.C.Component.floor g.C.Component.stepped g.C.Component.greatest c.each_round_fires_the_next_event.ensures c.events_fire_by_the_rules.ensures c.starts_so_far_stay_small.ensures c.args.events.now c.args.comps.now c.requires.numbered c.requires.fits c.requires.small c.loop.counter (omega (arith, c.loop-test.true)) c.loop.state c.loop.invariant.state c.in-Some.key c.in-Some.ensures.first c.loop.comps c.loop.invariant.comps c.index-comps-event.result c.step-finish.result (ap (λ p. p.1) c.step-finish.ensures) c.keep.new.self (c.keep.ensures ∙ ap (λ (v : SoFar). so_far (set v.times c.in-Some.key.number (time_parts c.in-Some.key.number c.in-Some.key.start c.step-finish.result)) v.waits) c.in-Some.ensures.taken)
+
+pub tell_children-requires-clause-untold : goal.tell_children-requires-clause-untold
+tell_children-requires-clause-untold g c =
+    untold g.C.Component.serves g.C.Component.floor g.C.Component.stepped g.C.Component.greatest c.each_round_fires_the_next_event.ensures c.events_fire_by_the_rules.ensures c.starts_so_far_stay_small.ensures c.args.events.now c.args.comps.now c.requires.numbered c.requires.fits c.requires.small c.loop.counter (omega (arith, c.loop-test.true)) c.loop.state c.loop.invariant.state c.in-Some.key c.in-Some.ensures.first c.loop.comps c.loop.invariant.comps c.index-comps-event.result c.step-finish.result (ap (λ p. p.1) c.step-finish.ensures) c.keep.new.self (c.keep.ensures ∙ ap (λ (v : SoFar). so_far (set v.times c.in-Some.key.number (time_parts c.in-Some.key.number c.in-Some.key.start c.step-finish.result)) v.waits) c.in-Some.ensures.taken) ∙ ap (λ k. told_to k false c.in-Some.key.number (finish_at c.keep.new.self.times) c.args.events.now) (sym c.requires.first_slot)
+
+pub tell_children-requires-clause-unfired : goal.tell_children-requires-clause-unfired
+tell_children-requires-clause-unfired g c = unfired g.C.Component.serves g.C.Component.floor g.C.Component.stepped g.C.Component.greatest c.each_round_fires_the_next_event.ensures c.events_fire_by_the_rules.ensures c.starts_so_far_stay_small.ensures c.args.events.now c.args.comps.now c.requires.numbered c.requires.fits c.requires.small c.loop.counter (omega (arith, c.loop-test.true)) c.loop.state c.loop.invariant.state c.in-Some.key c.in-Some.ensures.first c.loop.comps c.loop.invariant.comps c.index-comps-event.result c.step-finish.result (ap (λ p. p.1) c.step-finish.ensures) c.keep.new.self (c.keep.ensures ∙ ap (λ (v : SoFar). so_far (set v.times c.in-Some.key.number (time_parts c.in-Some.key.number c.in-Some.key.start c.step-finish.result)) v.waits) c.in-Some.ensures.taken) c.args.first.now.slot
+
+pub tell_children-requires-clause-small : goal.tell_children-requires-clause-small
+tell_children-requires-clause-small g c = bounded g.C.Component.serves g.C.Component.floor g.C.Component.stepped g.C.Component.greatest c.each_round_fires_the_next_event.ensures c.events_fire_by_the_rules.ensures c.starts_so_far_stay_small.ensures c.args.events.now c.args.comps.now c.requires.numbered c.requires.fits c.requires.small c.loop.counter (omega (arith, c.loop-test.true)) c.loop.state c.loop.invariant.state c.in-Some.key c.in-Some.ensures.first c.loop.comps c.loop.invariant.comps c.index-comps-event.result c.step-finish.result (ap (λ p. p.1) c.step-finish.ensures) c.keep.new.self (c.keep.ensures ∙ ap (λ (v : SoFar). so_far (set v.times c.in-Some.key.number (time_parts c.in-Some.key.number c.in-Some.key.start c.step-finish.result)) v.waits) c.in-Some.ensures.taken) c.args.first.now.slot
+
+pub tell_children-requires-in-loop-clause-within : goal.tell_children-requires-in-loop-clause-within
+tell_children-requires-in-loop-clause-within g c = within g.C.Component.serves g.C.Component.floor g.C.Component.stepped g.C.Component.greatest c.each_round_fires_the_next_event.ensures c.events_fire_by_the_rules.ensures c.starts_so_far_stay_small.ensures c.args.events.now c.args.comps.now c.requires.numbered c.requires.fits c.requires.small c.loop.counter (omega (arith, c.loop-test.true)) c.loop.state c.loop.invariant.state c.in-Some.key c.in-Some.ensures.first
+
+pub tell_children-requires-in-loop-clause-finish : goal.tell_children-requires-in-loop-clause-finish
+tell_children-requires-in-loop-clause-finish g c = ap (λ f. f c.in-Some.key.number) (finishes_stay c.args.events.now c.requires.numbered (finish_at c.keep.new.self.times) (without c.in-Some.key.number (finish_at c.keep.new.self.times)) c.keep.new.self.times c.tell_children.new.state (size g.C.Component.serves g.C.Component.floor g.C.Component.stepped g.C.Component.greatest c.each_round_fires_the_next_event.ensures c.events_fire_by_the_rules.ensures c.starts_so_far_stay_small.ensures c.args.events.now c.args.comps.now c.requires.numbered c.requires.fits c.requires.small c.loop.counter (omega (arith, c.loop-test.true)) c.loop.state c.loop.invariant.state c.in-Some.key c.in-Some.ensures.first c.loop.comps c.loop.invariant.comps c.index-comps-event.result c.step-finish.result (ap (λ p. p.1) c.step-finish.ensures) c.keep.new.self (c.keep.ensures ∙ ap (λ (v : SoFar). so_far (set v.times c.in-Some.key.number (time_parts c.in-Some.key.number c.in-Some.key.start c.step-finish.result)) v.waits) c.in-Some.ensures.taken)) (c.tell_children.ensures ∙ ap (λ k. told_to k true c.in-Some.key.number (finish_at c.keep.new.self.times) c.args.events.now) c.requires.first_slot)) ∙ finish_here g.C.Component.serves g.C.Component.floor g.C.Component.stepped g.C.Component.greatest c.each_round_fires_the_next_event.ensures c.events_fire_by_the_rules.ensures c.starts_so_far_stay_small.ensures c.args.events.now c.args.comps.now c.requires.numbered c.requires.fits c.requires.small c.loop.counter (omega (arith, c.loop-test.true)) c.loop.state c.loop.invariant.state c.in-Some.key c.in-Some.ensures.first c.loop.comps c.loop.invariant.comps c.index-comps-event.result c.step-finish.result (ap (λ p. p.1) c.step-finish.ensures) c.keep.new.self (c.keep.ensures ∙ ap (λ (v : SoFar). so_far (set v.times c.in-Some.key.number (time_parts c.in-Some.key.number c.in-Some.key.start c.step-finish.result)) v.waits) c.in-Some.ensures.taken)
+
+pub tell_children-requires-in-loop-clause-after : goal.tell_children-requires-in-loop-clause-after
+tell_children-requires-in-loop-clause-after g c = after_it g.C.Component.serves g.C.Component.floor g.C.Component.stepped g.C.Component.greatest c.each_round_fires_the_next_event.ensures c.events_fire_by_the_rules.ensures c.starts_so_far_stay_small.ensures c.args.events.now c.args.comps.now c.requires.numbered c.requires.fits c.requires.small c.loop.counter (omega (arith, c.loop-test.true)) c.loop.state c.loop.invariant.state c.in-Some.key c.in-Some.ensures.first c.loop.comps c.loop.invariant.comps c.index-comps-event.result c.step-finish.result (ap (λ p. p.1) c.step-finish.ensures) c.keep.new.self (c.keep.ensures ∙ ap (λ (v : SoFar). so_far (set v.times c.in-Some.key.number (time_parts c.in-Some.key.number c.in-Some.key.start c.step-finish.result)) v.waits) c.in-Some.ensures.taken)
+
+pub tell_children-requires-in-loop-clause-untold : goal.tell_children-requires-in-loop-clause-untold
+tell_children-requires-in-loop-clause-untold g c =
+    (c.tell_children.ensures ∙ ap (λ k. told_to k true c.in-Some.key.number (finish_at c.keep.new.self.times) c.args.events.now) c.requires.first_slot)
+    ∙ (ap (λ f. told_to Second false c.in-Some.key.number f c.args.events.now) (sym (finishes_stay c.args.events.now c.requires.numbered (finish_at c.keep.new.self.times) (without c.in-Some.key.number (finish_at c.keep.new.self.times)) c.keep.new.self.times c.tell_children.new.state (size g.C.Component.serves g.C.Component.floor g.C.Component.stepped g.C.Component.greatest c.each_round_fires_the_next_event.ensures c.events_fire_by_the_rules.ensures c.starts_so_far_stay_small.ensures c.args.events.now c.args.comps.now c.requires.numbered c.requires.fits c.requires.small c.loop.counter (omega (arith, c.loop-test.true)) c.loop.state c.loop.invariant.state c.in-Some.key c.in-Some.ensures.first c.loop.comps c.loop.invariant.comps c.index-comps-event.result c.step-finish.result (ap (λ p. p.1) c.step-finish.ensures) c.keep.new.self (c.keep.ensures ∙ ap (λ (v : SoFar). so_far (set v.times c.in-Some.key.number (time_parts c.in-Some.key.number c.in-Some.key.start c.step-finish.result)) v.waits) c.in-Some.ensures.taken)) (c.tell_children.ensures ∙ ap (λ k. told_to k true c.in-Some.key.number (finish_at c.keep.new.self.times) c.args.events.now) c.requires.first_slot))) ∙ ap (λ k. told_to k false c.in-Some.key.number (finish_at c.tell_children.new.state.times) c.args.events.now) (sym c.requires.second_slot))
+
+pub tell_children-requires-in-loop-clause-unfired : goal.tell_children-requires-in-loop-clause-unfired
+tell_children-requires-in-loop-clause-unfired g c = λ j e p there parent n. ap (λ f. f j) (finishes_stay c.args.events.now c.requires.numbered (finish_at c.keep.new.self.times) (without c.in-Some.key.number (finish_at c.keep.new.self.times)) c.keep.new.self.times c.tell_children.new.state (size g.C.Component.serves g.C.Component.floor g.C.Component.stepped g.C.Component.greatest c.each_round_fires_the_next_event.ensures c.events_fire_by_the_rules.ensures c.starts_so_far_stay_small.ensures c.args.events.now c.args.comps.now c.requires.numbered c.requires.fits c.requires.small c.loop.counter (omega (arith, c.loop-test.true)) c.loop.state c.loop.invariant.state c.in-Some.key c.in-Some.ensures.first c.loop.comps c.loop.invariant.comps c.index-comps-event.result c.step-finish.result (ap (λ p. p.1) c.step-finish.ensures) c.keep.new.self (c.keep.ensures ∙ ap (λ (v : SoFar). so_far (set v.times c.in-Some.key.number (time_parts c.in-Some.key.number c.in-Some.key.start c.step-finish.result)) v.waits) c.in-Some.ensures.taken)) (c.tell_children.ensures ∙ ap (λ k. told_to k true c.in-Some.key.number (finish_at c.keep.new.self.times) c.args.events.now) c.requires.first_slot)) ∙ unfired g.C.Component.serves g.C.Component.floor g.C.Component.stepped g.C.Component.greatest c.each_round_fires_the_next_event.ensures c.events_fire_by_the_rules.ensures c.starts_so_far_stay_small.ensures c.args.events.now c.args.comps.now c.requires.numbered c.requires.fits c.requires.small c.loop.counter (omega (arith, c.loop-test.true)) c.loop.state c.loop.invariant.state c.in-Some.key c.in-Some.ensures.first c.loop.comps c.loop.invariant.comps c.index-comps-event.result c.step-finish.result (ap (λ p. p.1) c.step-finish.ensures) c.keep.new.self (c.keep.ensures ∙ ap (λ (v : SoFar). so_far (set v.times c.in-Some.key.number (time_parts c.in-Some.key.number c.in-Some.key.start c.step-finish.result)) v.waits) c.in-Some.ensures.taken) c.args.second.now.slot j e p there parent n
+
+pub tell_children-requires-in-loop-clause-small : goal.tell_children-requires-in-loop-clause-small
+tell_children-requires-in-loop-clause-small g c = bounded g.C.Component.serves g.C.Component.floor g.C.Component.stepped g.C.Component.greatest c.each_round_fires_the_next_event.ensures c.events_fire_by_the_rules.ensures c.starts_so_far_stay_small.ensures c.args.events.now c.args.comps.now c.requires.numbered c.requires.fits c.requires.small c.loop.counter (omega (arith, c.loop-test.true)) c.loop.state c.loop.invariant.state c.in-Some.key c.in-Some.ensures.first c.loop.comps c.loop.invariant.comps c.index-comps-event.result c.step-finish.result (ap (λ p. p.1) c.step-finish.ensures) c.keep.new.self (c.keep.ensures ∙ ap (λ (v : SoFar). so_far (set v.times c.in-Some.key.number (time_parts c.in-Some.key.number c.in-Some.key.start c.step-finish.result)) v.waits) c.in-Some.ensures.taken) c.args.second.now.slot
 
 pub loop-preserved : goal.loop-preserved
 loop-preserved g c =
-    let finish = ap (λ p. p.1) c.step-finish.ensures in
     let one = add-one c.loop.counter in
+    let all_told : c.tell_children-in-loop.new.state ≡ known_to_all (finish_at c.keep.new.self.times) c.args.events.now =
+    c.tell_children-in-loop.ensures
+    ∙ (ap (λ k. told_to k true c.in-Some.key.number (finish_at c.tell_children.new.state.times) c.args.events.now) c.requires.second_slot ∙ ap (λ f. known_to_all f c.args.events.now) (finishes_stay c.args.events.now c.requires.numbered (finish_at c.keep.new.self.times) (without c.in-Some.key.number (finish_at c.keep.new.self.times)) c.keep.new.self.times c.tell_children.new.state (size g.C.Component.serves g.C.Component.floor g.C.Component.stepped g.C.Component.greatest c.each_round_fires_the_next_event.ensures c.events_fire_by_the_rules.ensures c.starts_so_far_stay_small.ensures c.args.events.now c.args.comps.now c.requires.numbered c.requires.fits c.requires.small c.loop.counter (omega (arith, c.loop-test.true)) c.loop.state c.loop.invariant.state c.in-Some.key c.in-Some.ensures.first c.loop.comps c.loop.invariant.comps c.index-comps-event.result c.step-finish.result (ap (λ p. p.1) c.step-finish.ensures) c.keep.new.self (c.keep.ensures ∙ ap (λ (v : SoFar). so_far (set v.times c.in-Some.key.number (time_parts c.in-Some.key.number c.in-Some.key.start c.step-finish.result)) v.waits) c.in-Some.ensures.taken)) (c.tell_children.ensures ∙ ap (λ k. told_to k true c.in-Some.key.number (finish_at c.keep.new.self.times) c.args.events.now) c.requires.first_slot)))
+    in
     record {
-      times =
-          ap (λ n. set c.loop.times c.first-key.result.number (record { number = c.first-key.result.number; start = c.first-key.result.start; finish = n })) finish
-          ∙ (times_next g.C.Component.serves g.C.Component.stepped g.C.Component.greatest c.args.events.now c.args.comps.now (lawful_from g.C.Component.serves g.C.Component.floor g.C.Component.stepped g.met.C.Component.floor_at_least_one g.met.C.Component.floor_holds g.met.C.Component.serves_stays) g.met.C.Component.finish_within_greatest c.requires.numbered (served_from g.C.Component.serves g.C.Component.floor g.C.Component.stepped c.args.events.now c.args.comps.now c.requires.fits) c.requires.small c.loop.counter (omega (arith, c.loop-test.true)) c.loop.times c.loop.invariant.times c.loop.queue c.loop.invariant.queue_size c.loop.invariant.queue c.first-key.result c.first-key.ensures c.if-key.false c.loop.comps c.loop.invariant.comps c.index-comps-event.result ∙ ap (λ k. times_of c.args.events.now (after g.C.Component.stepped c.args.events.now c.args.comps.now k).fired) (sym one));
-      comps =
-          ap (λ cs. set cs (get_or c.args.events.now c.first-key.result.number no_event).component c.step-finish.new.self) c.loop.invariant.comps
-          ∙ (ap (λ z. set (after g.C.Component.stepped c.args.events.now c.args.comps.now c.loop.counter).comps (get_or c.args.events.now c.first-key.result.number no_event).component z) (ap (λ p. p.0) c.step-finish.ensures)
-          ∙ (ap (λ v. v.comps) (sym (next g.C.Component.serves g.C.Component.stepped g.C.Component.greatest c.args.events.now c.args.comps.now (lawful_from g.C.Component.serves g.C.Component.floor g.C.Component.stepped g.met.C.Component.floor_at_least_one g.met.C.Component.floor_holds g.met.C.Component.serves_stays) g.met.C.Component.finish_within_greatest c.requires.numbered (served_from g.C.Component.serves g.C.Component.floor g.C.Component.stepped c.args.events.now c.args.comps.now c.requires.fits) c.requires.small c.loop.counter (omega (arith, c.loop-test.true)) c.loop.times c.loop.invariant.times c.loop.queue c.loop.invariant.queue_size c.loop.invariant.queue c.first-key.result c.first-key.ensures c.if-key.false c.loop.comps c.loop.invariant.comps c.index-comps-event.result)) ∙ ap (λ k. (after g.C.Component.stepped c.args.events.now c.args.comps.now k).comps) (sym one)));
-      queue_size =
-          c.refresh_children-in-loop.ensures.size
-          ∙ (c.refresh_children.ensures.size ∙ (ap length c.set.ensures ∙ (length-set c.loop.queue c.first-key.result.number 18446744073709551615 ∙ c.loop.invariant.queue_size)));
-      queue = all_right c.args.events.now c.requires.numbered c.loop.times c.loop.queue c.loop.invariant.queue_size
-          (ap length c.loop.invariant.times ∙ length-map c.args.events.now (λ e. fired_of (timed_in (after g.C.Component.stepped c.args.events.now c.args.comps.now c.loop.counter).fired e)))
-          c.loop.invariant.queue c.first-key.result.number (within g.C.Component.serves g.C.Component.stepped g.C.Component.greatest c.args.events.now c.args.comps.now (lawful_from g.C.Component.serves g.C.Component.floor g.C.Component.stepped g.met.C.Component.floor_at_least_one g.met.C.Component.floor_holds g.met.C.Component.serves_stays) g.met.C.Component.finish_within_greatest c.requires.numbered (served_from g.C.Component.serves g.C.Component.floor g.C.Component.stepped c.args.events.now c.args.comps.now c.requires.fits) c.requires.small c.loop.counter (omega (arith, c.loop-test.true)) c.loop.times c.loop.invariant.times c.loop.queue c.loop.invariant.queue_size c.loop.invariant.queue c.first-key.result c.first-key.ensures c.if-key.false) (record { number = c.first-key.result.number; start = c.first-key.result.start; finish = c.step-finish.result })
-          (omega (arith, finish, finish_counts g.C.Component.serves g.C.Component.stepped g.C.Component.greatest c.args.events.now c.args.comps.now (lawful_from g.C.Component.serves g.C.Component.floor g.C.Component.stepped g.met.C.Component.floor_at_least_one g.met.C.Component.floor_holds g.met.C.Component.serves_stays) g.met.C.Component.finish_within_greatest c.requires.numbered (served_from g.C.Component.serves g.C.Component.floor g.C.Component.stepped c.args.events.now c.args.comps.now c.requires.fits) c.requires.small c.loop.counter (omega (arith, c.loop-test.true)) c.loop.times c.loop.invariant.times c.loop.queue c.loop.invariant.queue_size c.loop.invariant.queue c.first-key.result c.first-key.ensures c.if-key.false c.loop.comps c.loop.invariant.comps c.index-comps-event.result))
-          c.refresh_children.new.queue c.refresh_children-in-loop.new.queue
-          (λ d p l k n. c.refresh_children.ensures.children d p l (subst (λ place. IsParent (parents_of place c.args.events.now) d p) (sym c.requires.first_place) k) n)
-          (λ d l. subst (λ q. (slice_index c.refresh_children.new.queue d ≡ slice_index q d) ⊎ IsRight c.args.events.now (set c.loop.times c.first-key.result.number (record { number = c.first-key.result.number; start = c.first-key.result.start; finish = c.step-finish.result })) c.refresh_children.new.queue d) c.set.ensures (c.refresh_children.ensures.others d l))
-          (λ d p l k n. c.refresh_children-in-loop.ensures.children d p l (subst (λ place. IsParent (parents_of place c.args.events.now) d p) (sym c.requires.second_place) k) n)
-          c.refresh_children-in-loop.ensures.others;
+      state = known_next g.C.Component.serves g.C.Component.floor g.C.Component.stepped g.C.Component.greatest c.each_round_fires_the_next_event.ensures c.events_fire_by_the_rules.ensures c.starts_so_far_stay_small.ensures c.args.events.now c.args.comps.now c.requires.numbered c.requires.fits c.requires.small c.loop.counter (omega (arith, c.loop-test.true)) c.loop.state c.loop.invariant.state c.in-Some.key c.in-Some.ensures.first c.loop.comps c.loop.invariant.comps c.index-comps-event.result c.step-finish.result (ap (λ p. p.1) c.step-finish.ensures) c.keep.new.self (c.keep.ensures ∙ ap (λ (v : SoFar). so_far (set v.times c.in-Some.key.number (time_parts c.in-Some.key.number c.in-Some.key.start c.step-finish.result)) v.waits) c.in-Some.ensures.taken) c.tell_children-in-loop.new.state all_told ∙ ap (λ k. known_to_all (finish_in (after g.C.Component.stepped c.args.events.now c.args.comps.now k).fired) c.args.events.now) (sym one);
+      comps = comps_next g.C.Component.serves g.C.Component.floor g.C.Component.stepped g.C.Component.greatest c.each_round_fires_the_next_event.ensures c.events_fire_by_the_rules.ensures c.starts_so_far_stay_small.ensures c.args.events.now c.args.comps.now c.requires.numbered c.requires.fits c.requires.small c.loop.counter (omega (arith, c.loop-test.true)) c.loop.state c.loop.invariant.state c.in-Some.key c.in-Some.ensures.first c.loop.comps c.loop.invariant.comps c.index-comps-event.result c.step-finish.new.self (ap (λ p. p.0) c.step-finish.ensures) ∙ ap (λ k. (after g.C.Component.stepped c.args.events.now c.args.comps.now k).comps) (sym one);
     }
 
 pub returns-clause-times : goal.returns-clause-times
 returns-clause-times g c =
     let last : c.loop.counter ≡ length c.args.events.now = omega (arith, c.loop-test.false) in
-    c.loop.invariant.times
-    ∙ (ap (λ k. times_of c.args.events.now (after g.C.Component.stepped c.args.events.now c.args.comps.now k).fired) last
-    ∙ (sym (map_map (timed_in (weave g.C.Component.stepped c.args.events.now c.args.comps.now).fired) fired_of c.args.events.now)
-    ∙ ap (λ xs. map fired_of xs) (sym (woven-is g.C.Component.serves g.C.Component.stepped c.args.events.now c.args.comps.now (lawful_from g.C.Component.serves g.C.Component.floor g.C.Component.stepped g.met.C.Component.floor_at_least_one g.met.C.Component.floor_holds g.met.C.Component.serves_stays) c.requires.numbered (served_from g.C.Component.serves g.C.Component.floor g.C.Component.stepped c.args.events.now c.args.comps.now c.requires.fits)))))
+    ap (λ (v : SoFar). v.times) c.loop.invariant.state
+    ∙ (ap (λ k. map (time_so_far (after g.C.Component.stepped c.args.events.now c.args.comps.now k).fired) c.args.events.now) last ∙ c.times_so_far_become_the_weaves.ensures c.args.events.now c.args.comps.now c.requires.numbered c.requires.fits)
