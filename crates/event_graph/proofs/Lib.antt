@@ -5,22 +5,22 @@ mod Example
 pub mod FindFired
 mod Fitting
 mod FromEntries
-pub mod Growth
+mod Growth
 mod Indices
-pub mod Kept
+mod Kept
 mod LastKept
 pub mod Least
 pub mod Lists
 mod MachineGrowth
 mod Once
-pub mod Order
+mod Order
 mod PlainCounts
 mod PlainFits
-pub mod Progress
-pub mod Rounds
-pub mod SmallSteps
-pub mod Solves
-pub mod Theorem
+mod Progress
+mod Rounds
+mod SmallSteps
+mod Solves
+mod Theorem
 mod Timely
 mod ToldFits
 mod Turns
