@@ -11,7 +11,7 @@ use Rattle.component.specs.declared.kind.Kind.{Kind}
 use Rattle.event_graph.specs.declared.event.Event.{Event}
 use Rattle.event_graph.specs.Firing.{IsRound}
 use Rattle.event_graph.specs.Numbered.{IsNumbered}
-use Rattle.event_graph.specs.OneListWeave.{Timed, Weave, after, is_fired, least_ready, served, weave}
+use Rattle.event_graph.specs.OneListWeave.{Timed, after, is_fired, least_ready, served, weave}
 use Rattle.event_graph.proofs.FindFired.{find_push_other, is_fired_from_in}
 use Rattle.event_graph.proofs.Least.{IsLeast, least_some, next_from_least, ready_parts}
 use Rattle.event_graph.proofs.Lists.{In, get_within, in_at, in_push}
