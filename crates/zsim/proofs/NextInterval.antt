@@ -25,7 +25,7 @@ use Rattle.event_graph.specs.OneListWeave.{comps_after}
 use Rattle.event_graph.specs.Timing.{time_by}
 use Rattle.stats.specs.Counts.{Counts, Interval, added, comp_total, core_total, counts_of, Fits, total_accesses, total_events}
 use Rattle.stats.specs.Laws.{CountersAreSums, SumsFit, WasRun}
-use Rattle.zsim.specs.declared.limits.TheConstants.{ACCESS_LIMIT, CYCLE_LIMIT, ROOM_BEYOND}
+use Rattle.zsim.specs.Limits.{access_limit, cycle_limit, room_beyond}
 use Rattle.zsim.specs.declared.progress.Progress.{Progress}
 use Rattle.zsim.specs.declared.results.Ending.TheVariants.{Halted, Limit}
 use Rattle.zsim.specs.declared.why.Why.{Why}
@@ -50,12 +50,12 @@ not_more most n test = grind (arith, nat_tests)
 not_same : (a b : ℕ) → (a == b) ≡ false → a ≢ b
 not_same a b test same = grind (arith, nat_tests)
 
-none_late : (comps : List Comp) → list_any (λ c. nat_lt CYCLE_LIMIT (free_of c)) comps ≡ false → All (λ c. free_of c ≤ 2 ^ 56) comps
+none_late : (comps : List Comp) → list_any (λ c. nat_lt cycle_limit (free_of c)) comps ≡ false → All (λ c. free_of c ≤ 2 ^ 56) comps
 none_late [] none k d below = absurd (omega arith)
 none_late (c ∷ cs) none zero d below =
-    not_more CYCLE_LIMIT (free_of c) (or_parts (nat_lt CYCLE_LIMIT (free_of c)) (list_any (λ c. nat_lt CYCLE_LIMIT (free_of c)) cs) none).0
+    not_more cycle_limit (free_of c) (or_parts (nat_lt cycle_limit (free_of c)) (list_any (λ c. nat_lt cycle_limit (free_of c)) cs) none).0
 none_late (c ∷ cs) none (suc k) d below =
-    none_late cs (or_parts (nat_lt CYCLE_LIMIT (free_of c)) (list_any (λ c. nat_lt CYCLE_LIMIT (free_of c)) cs) none).1 k d (omega arith)
+    none_late cs (or_parts (nat_lt cycle_limit (free_of c)) (list_any (λ c. nat_lt cycle_limit (free_of c)) cs) none).1 k d (omega arith)
 
 -- what holds where no limit is reached
 pub record IsBelowLimits (machine : Machine) (intervals accesses clock : ℕ) (comps : List Comp) : Type 0 where
@@ -68,17 +68,17 @@ below_limits : (machine : Machine) (intervals accesses clock : ℕ) (comps : Lis
 unfolding at_limit
 below_limits machine intervals accesses clock comps below =
     let most = accesses + access_room machine in
-    let late = list_any (λ c. nat_lt CYCLE_LIMIT (free_of c)) comps in
-    let three = or_parts (intervals == machine.intervals || nat_lt ACCESS_LIMIT most || nat_lt CYCLE_LIMIT clock) late below in
-    let two = or_parts (intervals == machine.intervals || nat_lt ACCESS_LIMIT most) (nat_lt CYCLE_LIMIT clock) three.0 in
-    let one = or_parts (intervals == machine.intervals) (nat_lt ACCESS_LIMIT most) two.0 in
+    let late = list_any (λ c. nat_lt cycle_limit (free_of c)) comps in
+    let three = or_parts (intervals == machine.intervals || nat_lt access_limit most || nat_lt cycle_limit clock) late below in
+    let two = or_parts (intervals == machine.intervals || nat_lt access_limit most) (nat_lt cycle_limit clock) three.0 in
+    let one = or_parts (intervals == machine.intervals) (nat_lt access_limit most) two.0 in
     let intervals_test : (intervals == machine.intervals) ≡ false = one.0 in
-    let accesses_test : nat_lt ACCESS_LIMIT most ≡ false = one.1 in
-    let clock_test : nat_lt CYCLE_LIMIT clock ≡ false = two.1 in
+    let accesses_test : nat_lt access_limit most ≡ false = one.1 in
+    let clock_test : nat_lt cycle_limit clock ≡ false = two.1 in
     record {
       intervals_left = not_same intervals machine.intervals intervals_test;
-      accesses_left = not_more ACCESS_LIMIT most accesses_test;
-      clock_left = not_more CYCLE_LIMIT clock clock_test;
+      accesses_left = not_more access_limit most accesses_test;
+      clock_left = not_more cycle_limit clock clock_test;
       free_left = none_late comps three.1;
     }
 
@@ -124,10 +124,10 @@ module _ (machine : Machine) (image : MemoryImage) (end : ℕ) (s : RunState) (p
       }
 
 -- with one core, an interval more stays within the accesses of a run
-room : (machine : Machine) (accesses : ℕ) → machine.cores ≡ 1 → accesses + access_room machine ≤ 2 ^ 26 → accesses + (machine.interval + ROOM_BEYOND) ≤ 2 ^ 26
+room : (machine : Machine) (accesses : ℕ) → machine.cores ≡ 1 → accesses + access_room machine ≤ 2 ^ 26 → accesses + (machine.interval + room_beyond) ≤ 2 ^ 26
 room machine accesses one left =
-    let bounds : ℕ → Type 0 = λ cores. accesses + cores * (machine.interval + ROOM_BEYOND) ≤ 2 ^ 26 in
-    let with_one : accesses + 1 * (machine.interval + ROOM_BEYOND) ≤ 2 ^ 26 = subst bounds one left in
+    let bounds : ℕ → Type 0 = λ cores. accesses + cores * (machine.interval + room_beyond) ≤ 2 ^ 26 in
+    let with_one : accesses + 1 * (machine.interval + room_beyond) ≤ 2 ^ 26 = subst bounds one left in
     omega (arith, with_one)
 
 -- an interval that was run, and what it adds to the sums
@@ -139,7 +139,7 @@ module _ (machine : Machine) (ok : IsMachine machine) (one : machine.cores ≡ 1
   more_events : total_events (s.intervals ++ i ∷ []) ≡ total_events s.intervals + length i.events
   more_events = sum_by_push (λ (j : Interval). length j.events) s.intervals i
 
-  left : total_accesses s.intervals + (machine.interval + ROOM_BEYOND) ≤ 2 ^ 26
+  left : total_accesses s.intervals + (machine.interval + room_beyond) ≤ 2 ^ 26
   left = room machine (total_accesses s.intervals) one (goes_on machine s g.on).1.accesses_left
 
   pub accesses_stay : total_accesses (s.intervals ++ i ∷ []) ≤ 2 ^ 26

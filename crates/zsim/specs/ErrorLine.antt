@@ -22,15 +22,15 @@ elf_details (bad.SegmentPastMemory index) = codes "10 " ++ decimal index
 elf_details (bad.Overlap first second) = codes "11 " ++ (decimal first ++ (codes " " ++ decimal second))
 elf_details bad.Entry = codes "12"
 
-abbrev pub line_of : Status → List ℕ
-line_of status.Ran = []
-line_of status.Limit = codes "zsim: stopped at the limit\n"
-line_of status.Usage = codes "zsim: usage: zsim run MACHINE EXE [--workers N] [--record NAME] [--brief] or zsim replay MACHINE EXE --schedule NAME [--brief]\n"
-line_of status.ReadFault = codes "zsim: cannot read\n"
-line_of status.WriteFault = codes "zsim: cannot write\n"
-line_of (status.BadElf bad) = codes "zsim: elf " ++ elf_details bad ++ codes "\n"
-line_of (status.TooLong Exe) = codes "zsim: too long: executable\n"
-line_of status.NoMemory = codes "zsim: out of memory\n"
+abbrev pub error_line : Status → List ℕ
+error_line status.Ran = []
+error_line status.Limit = codes "zsim: stopped at the limit\n"
+error_line status.Usage = codes "zsim: usage: zsim run MACHINE EXE [--workers N] [--record NAME] [--brief] or zsim replay MACHINE EXE --schedule NAME [--brief]\n"
+error_line status.ReadFault = codes "zsim: cannot read\n"
+error_line status.WriteFault = codes "zsim: cannot write\n"
+error_line (status.BadElf bad) = codes "zsim: elf " ++ elf_details bad ++ codes "\n"
+error_line (status.TooLong Exe) = codes "zsim: too long: executable\n"
+error_line status.NoMemory = codes "zsim: out of memory\n"
 
 -- the number with which the program ends
 abbrev pub status_number : Status → ℕ

@@ -6,10 +6,14 @@ pub mod Asked
 pub mod ReferenceMachine
 pub mod Results
 pub mod Schedule
+pub mod Limits
 pub mod ReferenceRun
 pub mod IntervalWeave
 pub mod Progress
 pub mod ReportText
 pub mod ErrorLine
+pub mod Seen
+pub mod Setup
 pub mod Ended
+pub mod Steps
 pub mod Laws

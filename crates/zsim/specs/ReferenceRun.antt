@@ -15,7 +15,7 @@ use Rattle.event_graph.specs.Timing.{pieces_of, time_by}
 use Rattle.feedback.specs.FeedbackDelay.{feedback_delays}
 use Rattle.stats.specs.declared.counts.CoreCount.{CoreCount}
 use Rattle.stats.specs.Counts.{Interval, core_total, counts_of, total_accesses}
-use Rattle.zsim.specs.declared.limits.TheConstants.{ACCESS_LIMIT, CYCLE_LIMIT, ROOM_BEYOND}
+use Rattle.zsim.specs.Limits.{access_limit, cycle_limit, room_beyond}
 use Rattle.zsim.specs.declared.results.CoreResult.{CoreResult}
 use Rattle.zsim.specs.declared.results.Ending.{Ending}
 use Rattle.zsim.specs.declared.results.Ending.TheVariants.{Halted, Limit}
@@ -70,16 +70,16 @@ after_interval machine image s turns =
 -- The room for the accesses of an interval: for each core one a cycle, and those of an instruction that accesses memory
 -- many times and begins in the last cycle. There is no such instruction yet.
 abbrev pub access_room : Machine → ℕ
-access_room machine = machine.cores * (machine.interval + ROOM_BEYOND)
+access_room machine = machine.cores * (machine.interval + room_beyond)
 
 -- Whether one of the limits is reached: of intervals; of accesses, with the room for one more interval's; of cycles, by
 -- the clock or by a component.
 unfoldable pub at_limit : Machine → (intervals accesses clock : ℕ) → List Comp → Bool
 at_limit machine intervals accesses clock comps =
     intervals == machine.intervals
-    || nat_lt ACCESS_LIMIT (accesses + access_room machine)
-    || nat_lt CYCLE_LIMIT clock
-    || list_any (λ c. nat_lt CYCLE_LIMIT (free_of c)) comps
+    || nat_lt access_limit (accesses + access_room machine)
+    || nat_lt cycle_limit clock
+    || list_any (λ c. nat_lt cycle_limit (free_of c)) comps
 
 -- how a run ends that has come so far, or None where it goes on
 abbrev pub ending_at : Machine → (intervals accesses : ℕ) → TimedCore → List Comp → Option Ending

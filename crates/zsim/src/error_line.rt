@@ -1,14 +1,14 @@
 // The line on standard error for each status.
 ghost use Rattle.std.specs.Prelude.{◌≡◌, ◌++◌, codes, IfOk, OnOk, string_bytes};
-ghost use Rattle.zsim.specs.ErrorLine.{elf_details, line_of};
+ghost use Rattle.zsim.specs.ErrorLine.{elf_details, error_line};
 
 use crate::{Status, Which};
 use elf_load::BadElf;
 use std::alloc::{AllocError, Global};
 
 /// The line for a status, with its newline.
-pub fn line_for(alloc: Global, status: Status) -> Result<String, AllocError>
-    ensures { IfOk result (λ line. string_bytes line ≡ line_of status) }
+pub fn error_line(alloc: Global, status: Status) -> Result<String, AllocError>
+    ensures { IfOk result (λ line. string_bytes line ≡ error_line status) }
 {
     match status {
         Status::Ran => Ok(String::new(alloc)),

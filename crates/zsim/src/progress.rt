@@ -7,6 +7,7 @@ ghost use Rattle.component.specs.ComponentStep.{free_of};
 ghost use Rattle.component.specs.Components.{AreFresh};
 ghost use Rattle.stats.specs.declared.counts.CoreCount.{CoreCount};
 ghost use Rattle.zsim.specs.ReferenceRun.{RunState, access_room, at_limit, core_result, ending_at, first_state, results_of};
+ghost use Rattle.zsim.specs.Limits.{cycle_limit};
 ghost use Rattle.zsim.specs.Progress.{GoesOn, StandsFor, HasRoom, LeadsTo};
 ghost use Rattle.zsim.specs.IntervalWeave.{IsPlainOf};
 
@@ -172,7 +173,7 @@ fn access_room(machine: &Machine) -> u64
 
 // Whether a component is busy for too long for another interval.
 fn is_one_late(comps: &[Comp]) -> bool
-    ensures { result ≡ list_any (λ c. nat_lt CYCLE_LIMIT (free_of c)) comps.now }
+    ensures { result ≡ list_any (λ c. nat_lt cycle_limit (free_of c)) comps.now }
 {
     comps.iter().any(|c| c.free() > CYCLE_LIMIT)
 }

@@ -1,15 +1,15 @@
 // The call that does all that the program does.
-ghost use Rattle.std.specs.Prelude.{◌≡◌, ◌≢◌, ◌≤◌, ◌+◌, ◌↔◌, ℕ, length, [], List, None, Some, IsSome, IfOk, IfErr, IsTrue, map, string_bytes, OnErr};
-ghost use Rattle.zs_host.specs.Faults.{Rose};
+ghost use Rattle.std.specs.Prelude.{◌≡◌, ◌⊎◌, ℕ, [], List, None, Some, IfOk, map, string_bytes, OnErr};
 ghost use Rattle.machine_desc.specs.Plain.{plain_machine};
-ghost use Rattle.machine_desc.specs.declared.plain.TheConstants.{PLAIN};
-ghost use Rattle.zsim.specs.CommandLine.{command_of};
-ghost use Rattle.zsim.specs.ErrorLine.{line_of};
+ghost use Rattle.zsim.specs.Ended.{status_at, Gives, IsOutcome, Says};
 ghost use Rattle.zsim.specs.ReferenceRun.{IsLegalSoFar, IsRunOf};
-ghost use Rattle.zsim.specs.Ended.{checked, status_at, Answers, FailedToRead, Gained, GainedPrefix, HasCause, IsEmpty, IsFull, KeepsExe, KeepsMachine, Leaves, Reports, RunsAs, Says, WasRead};
+ghost use Rattle.zsim.specs.Results.{Results};
+ghost use Rattle.zsim.specs.Seen.{files_seen, sink_seen};
+ghost use Rattle.zsim.specs.Setup.{loaded_on};
+ghost use Rattle.zsim.specs.Steps.{Answers, IsEmpty, RunsAs};
 
 use crate::command_line::command;
-use crate::error_line::line_for;
+use crate::error_line::error_line;
 use crate::limits::EXE_LIMIT;
 use crate::machine::plain;
 use crate::put::put_all;
@@ -31,36 +31,17 @@ pub fn zsim<F: Files, O: Sink, E: Sink, G: Gate>(
     err: &mut E,
     _gate: &G,
 ) -> Ended
-    // Usage comes exactly where the words are no command.
-    ensures usage { (result.status ≡ Status.Usage) ↔ (command_of (map string_bytes words.now) ≡ None) }
-
-    // What was read is kept, and nothing where nothing was read.
-    ensures kept { KeepsExe result.status (command_of (map string_bytes words.now)) (WasRead F.tells (F.contents files.old) result.kept.exe) result.kept.exe }
-    ensures kept_machine { KeepsMachine result.status result.kept.machine }
-    ensures kept_sched_file { result.kept.sched_file ≡ [] }
-    ensures kept_cores { result.kept.schedule.cores ≡ 1 }
-    ensures kept_order { result.kept.exe ≢ [] → result.kept.machine ≡ PLAIN.now }
-    ensures kept_length { length result.kept.exe ≤ EXE_LIMIT + 1 }
-
-    // Each status has its cause, in the order of the steps.
-    ensures untouched { result.status ≡ Status.Usage → files.new ≡ files.old }
-    ensures refusals { HasCause result.status (command_of (map string_bytes words.now)) (FailedToRead F.faults F.latest files.old files.new) result.kept.exe (Rose (O.faults out.old) (O.faults out.new)) }
-
-    // The report is that of the one-thread machine under the kept schedule.
-    ensures report { Reports result.status result.kept.exe result.kept.schedule.lists (Gained O.tells (O.bytes out.old) (O.bytes out.new)) }
-
-    // No name changes.
-    ensures files { IsTrue F.tells → (name : List ℕ) → F.contents files.new name ≡ F.contents files.old name }
-
-    // Where the report is not whole, the output is unchanged or gained a prefix of it.
-    ensures prefix { Leaves result.status result.kept.exe result.kept.schedule.lists (out.new ≡ out.old) (GainedPrefix O.tells (O.bytes out.old) (O.bytes out.new)) }
+    // What the status and what was kept tell of the words, the files and standard output.
+    ensures outcome { IsOutcome (record { words = map string_bytes words.now; files = files_seen F.tells F.contents F.faults F.latest files.old files.new; out = sink_seen O.tells O.bytes O.faults out.old out.new }) result.status result.kept }
 
     // Standard error gained the line of the status.
-    ensures error_line { Says result.said (line_of result.status) (Gained E.tells (E.bytes err.old) (E.bytes err.new)) (GainedPrefix E.tells (E.bytes err.old) (E.bytes err.new)) (Rose (E.faults err.old) (E.faults err.new)) }
-    ensures silent { result.status ≡ Status.Ran → (result.said ≡ Said.All) × (err.new ≡ err.old) }
+    ensures error_line { Says result.said result.status (sink_seen E.tells E.bytes E.faults err.old err.new) }
 
-    // Where no file and no output failed, the executable alone decides.
-    ensures complete { IsSome (command_of (map string_bytes words.now)) → ¬ Rose (F.faults files.old) (F.faults files.new) → ¬ Rose (O.faults out.old) (O.faults out.new) → IsFull result.status (checked result.kept.exe) }
+    // Files are not touched where the words are no command, standard output until a run has come to
+    // its end, and standard error where the status is Ran.
+    ensures untouched_files { result.status ≡ Status.Usage → files.new ≡ files.old }
+    ensures untouched_output { (out.new ≡ out.old) ⊎ ((r : Results) × Gives (map string_bytes words.now) result.kept r) }
+    ensures silent { result.status ≡ Status.Ran → (result.said ≡ Said.All) × (err.new ≡ err.old) }
 {
     let mut kept = Kept {
         machine: Bytes::of(Vec::new(alloc)),
@@ -82,18 +63,9 @@ fn conduct<F: Files, O: Sink>(
     kept: &mut Kept,
 ) -> Status
     requires { IsEmpty kept.old }
-    ensures usage { (result ≡ Status.Usage) ↔ (command_of (map string_bytes words.now) ≡ None) }
-    ensures kept { KeepsExe result (command_of (map string_bytes words.now)) (WasRead F.tells (F.contents files.old) kept.new.exe) kept.new.exe }
-    ensures kept_machine { KeepsMachine result kept.new.machine }
-    ensures kept_sched_file { kept.new.sched_file ≡ [] }
-    ensures kept_cores { kept.new.schedule.cores ≡ kept.old.schedule.cores }
-    ensures kept_order { kept.new.exe ≢ [] → kept.new.machine ≡ PLAIN.now }
-    ensures kept_length { length kept.new.exe ≤ EXE_LIMIT + 1 }
-    ensures untouched { result ≡ Status.Usage → files.new ≡ files.old }
-    ensures refusals { HasCause result (command_of (map string_bytes words.now)) (FailedToRead F.faults F.latest files.old files.new) kept.new.exe (Rose (O.faults out.old) (O.faults out.new)) }
-    ensures report { Reports result kept.new.exe kept.new.schedule.lists (Gained O.tells (O.bytes out.old) (O.bytes out.new)) }
-    ensures files { IsTrue F.tells → (name : List ℕ) → F.contents files.new name ≡ F.contents files.old name }
-    ensures prefix { Leaves result kept.new.exe kept.new.schedule.lists (out.new ≡ out.old) (GainedPrefix O.tells (O.bytes out.old) (O.bytes out.new)) }
+    ensures outcome { IsOutcome (record { words = map string_bytes words.now; files = files_seen F.tells F.contents F.faults F.latest files.old files.new; out = sink_seen O.tells O.bytes O.faults out.old out.new }) result kept.new }
+    ensures untouched_files { result ≡ Status.Usage → files.new ≡ files.old }
+    ensures untouched_output { (out.new ≡ out.old) ⊎ ((r : Results) × Gives (map string_bytes words.now) kept.new r) }
 {
     let Some(name) = command(words) else {
         return Status::Usage;
@@ -117,10 +89,10 @@ fn conduct<F: Files, O: Sink>(
 }
 
 // The checks of an executable: its length, and then those of its file format.
-#[tactic(auto, unfolding(crate::specs::Ended::checked))]
+#[tactic(auto, unfolding(crate::specs::Setup::loaded_on))]
 fn check(alloc: Global, machine: &Machine, exe: &[u8]) -> Result<Image, Status>
     requires { machine.now ≡ plain_machine }
-    ensures answer { Answers result (checked exe.now) }
+    ensures answer { Answers machine.now result (loaded_on machine.now exe.now) }
     ensures memory { IfOk result (λ image. (image.base ≡ machine.now.memory.base) × (image.size ≡ machine.now.memory.size)) }
 {
     if exe.len() > EXE_LIMIT {
@@ -147,7 +119,8 @@ fn run_and_report<O: Sink>(
     requires empty { schedule.old.lists ≡ [] }
     requires cores_known { schedule.old.cores ≡ 1 }
     ensures cores { schedule.new.cores ≡ schedule.old.cores }
-    ensures run { RunsAs result image.now schedule.new.lists (Gained O.tells (O.bytes out.old) (O.bytes out.new)) (GainedPrefix O.tells (O.bytes out.old) (O.bytes out.new)) (out.new ≡ out.old) (Rose (O.faults out.old) (O.faults out.new)) }
+    ensures run { RunsAs result plain_machine image.now schedule.new.lists (sink_seen O.tells O.bytes O.faults out.old out.new) }
+    ensures untouched { (out.new ≡ out.old) ⊎ ((r : Results) × IsRunOf plain_machine image.now schedule.new.lists r) }
 {
     let results = match run_plain(alloc, machine, image, schedule) {
         Ok(results) => results,
@@ -195,13 +168,13 @@ fn status_of(ending: Ending) -> Status
 
 // Says on standard error how the call ended.
 fn say<E: Sink>(alloc: Global, err: &mut E, status: Status) -> Said
-    ensures line { Says result (line_of status) (Gained E.tells (E.bytes err.old) (E.bytes err.new)) (GainedPrefix E.tells (E.bytes err.old) (E.bytes err.new)) (Rose (E.faults err.old) (E.faults err.new)) }
+    ensures line { Says result status (sink_seen E.tells E.bytes E.faults err.old err.new) }
     ensures silent { status ≡ Status.Ran → (result ≡ Said.All) × (err.new ≡ err.old) }
 {
     if status == Status::Ran {
         return Said::All;
     }
-    let line = match line_for(alloc, status) {
+    let line = match error_line(alloc, status) {
         Ok(line) => line,
         Err(AllocError) => return Said::NoMemory,
     };

@@ -1,0 +1,48 @@
+-- What the private steps of a call promise to the call. It serves their contracts alone: no clause of a public function
+-- cites it.
+use Rattle.std.specs.Prelude.{◌≡◌, ◌⊎◌, ℕ, List, [], Result, Ok, Err}
+use Rattle.elf_load.specs.MemoryImage.{MemoryImage}
+use Rattle.machine_desc.specs.declared.machine.Machine.{Machine}
+use Rattle.zsim.specs.declared.ended.Kept.{Kept}
+use Rattle.zsim.specs.declared.ended.Status.{Status}
+use Rattle.zsim.specs.declared.ended.Status.TheVariants as status
+use Rattle.zsim.specs.Ended.{status_at}
+use Rattle.zsim.specs.ReferenceRun.{IsLegalSoFar, IsRunOf}
+use Rattle.zsim.specs.ReportText.{report_text}
+use Rattle.zsim.specs.Results.{Results}
+use Rattle.zsim.specs.Seen.{SinkSeen, Gained, GainedNothing, GainedPrefix, NoPutFailed, PutFailed}
+use Rattle.zsim.specs.Setup.{Setup}
+
+-- what is kept before the first step; the schedule is for one core
+pub record IsEmpty (kept : Kept) : Type 0 where
+  pub machine : kept.machine ≡ []
+  pub exe : kept.exe ≡ []
+  pub sched_file : kept.sched_file ≡ []
+  pub lists : kept.schedule.lists ≡ []
+  pub cores : kept.schedule.cores ≡ 1
+
+-- The checks of an executable answered the image of this setup, or the refusal, unless memory ran out.
+abbrev pub Answers : Machine → Result MemoryImage Status → Result Setup Status → Type 0
+Answers machine (Ok image) setup = setup ≡ Ok (record { machine = machine; image = image })
+Answers machine (Err status.NoMemory) setup = Unit {0}
+Answers machine (Err (status.BadElf bad)) setup = setup ≡ Err (status.BadElf bad)
+Answers machine (Err (status.TooLong which)) setup = setup ≡ Err (status.TooLong which)
+Answers machine (Err _) setup = ⊥
+
+-- the run of an image was reported whole
+abbrev pub RanWhole : Status → Machine → MemoryImage → (lists : List (List ℕ)) → (out : SinkSeen) → Type 0
+RanWhole s machine image lists out =
+    (r : Results) × IsRunOf machine image lists r × (s ≡ status_at r.ending) × Gained out (report_text r)
+
+-- a prefix of its report was put
+abbrev pub RanCut : Machine → MemoryImage → (lists : List (List ℕ)) → (out : SinkSeen) → Type 0
+RanCut machine image lists out = (r : Results) × IsRunOf machine image lists r × GainedPrefix out (report_text r)
+
+-- what each status says of the run of an image
+abbrev pub RunsAs : Status → Machine → MemoryImage → (lists : List (List ℕ)) → (out : SinkSeen) → Type 0
+RunsAs status.Ran machine image lists out = RanWhole status.Ran machine image lists out × NoPutFailed out
+RunsAs status.Limit machine image lists out = RanWhole status.Limit machine image lists out × NoPutFailed out
+RunsAs status.WriteFault machine image lists out = RanCut machine image lists out × PutFailed out
+RunsAs status.NoMemory machine image lists out =
+    ((IsLegalSoFar machine image lists × GainedNothing out) ⊎ RanCut machine image lists out) × NoPutFailed out
+RunsAs _ machine image lists out = ⊥
