@@ -1,11 +1,11 @@
 // Files in memory, some of whose calls fail: for tests.
-ghost use Rattle.std.specs.Prelude.{◌≡◌, ◌≢◌, ◌≤◌, ◌⊎◌, ℕ, List, true, length, take, IsTrue, IfOk, OnOk, OnErr, IsErr, IsErrOf};
+ghost use Rattle.std.specs.Prelude.{◌≡◌, ◌≢◌, ◌≤◌, ◌⊎◌, ℕ, List, true, length, take, IsTrue, IfOk, OnOk, OnErr, IsErrOf};
 ghost use Rattle.std.specs.Option.{option_map, option_copied};
 ghost use Rattle.zs_host.specs.declared.fault.Operation.TheVariants.{Read, Write};
 ghost use Rattle.zs_host.specs.Counting.{one_more};
-ghost use Rattle.zs_host.specs.Faults.{FileFaults};
+ghost use Rattle.zs_host.specs.Faults.{FileFaults, Rose};
 ghost use Rattle.zs_host.specs.Files.{HoldsOrCut};
-ghost use Rattle.zs_host.specs.MemFiles.{held_by, failing_calls, call_count, fault_count, latest_fault, next_fails};
+ghost use Rattle.zs_host.specs.MemFiles.{held_by, failing_calls, call_count, calls_after, fault_count, latest_fault, next_fails};
 
 use crate::fault_log::FaultLog;
 use crate::{Fault, FileFail, Files, Operation};
@@ -13,8 +13,8 @@ use std::alloc::Global;
 use std::collections::BTreeMap;
 use zs_num::{Bytes, NoMemory};
 
-/// Files in memory. Reads and writes are counted together from 0, and those whose number is one of
-/// `fail` fail and leave what the names hold.
+/// Files in memory. Reads and writes are counted together from 0, but for those that find no memory,
+/// and those whose number is one of `fail` are Failed and leave what the names hold.
 #[derive(Drop)]
 pub struct MemFiles {
     held: BTreeMap<String, Bytes>,
@@ -81,18 +81,37 @@ impl MemFiles {
         self.faults.latest.as_ref()
     }
 
-    // Counts a call, and tells whether it is one that fails.
-    fn begin(&mut self) -> bool
-        ensures fails { result ≡ next_fails self.old }
+    // Whether the next call is one that fails.
+    fn next_fails(&self) -> bool
+        ensures { result ≡ next_fails self.now }
+    {
+        self.fail.contains(&self.calls)
+    }
+
+    // Counts a call.
+    fn count(&mut self)
         ensures names { (n : List ℕ) → held_by self.new n ≡ held_by self.old n }
         ensures failing { failing_calls self.new ≡ failing_calls self.old }
         ensures calls { call_count self.new ≡ one_more (call_count self.old) }
         ensures faults { fault_count self.new ≡ fault_count self.old }
         ensures latest { latest_fault self.new ≡ latest_fault self.old }
     {
-        let fails = self.fail.contains(&self.calls);
         self.calls = self.calls.saturating_add(1);
-        fails
+    }
+
+    // Counts a call that fails. The name was copied before.
+    fn fail(&mut self, operation: Operation, name: Bytes) -> FileFail
+        ensures answer { result ≡ FileFail.Failed }
+        ensures names { (n : List ℕ) → held_by self.new n ≡ held_by self.old n }
+        ensures failing { failing_calls self.new ≡ failing_calls self.old }
+        ensures calls { call_count self.new ≡ one_more (call_count self.old) }
+        ensures rose { Rose (fault_count self.old) (fault_count self.new) }
+        ensures raised { fault_count self.new ≡ one_more (fault_count self.old) }
+        ensures latest { latest_fault self.new ≡ Some (record { operation = operation; name = name }) }
+    {
+        self.count();
+        self.faults.add(operation, name);
+        FileFail::Failed
     }
 }
 
@@ -112,21 +131,19 @@ impl Files for MemFiles {
         ensures faults { FileFaults result (fault_count self.old) (fault_count self.new) (latest_fault self.old) (latest_fault self.new) (record { operation = Read; name = name.now }) }
 
         ensures raised { IsErrOf result FileFail.Failed → fault_count self.new ≡ one_more (fault_count self.old) }
-        ensures fails { IsTrue (next_fails self.old) → IsErr result }
+        ensures fails { IsTrue (next_fails self.old) → IsErrOf result FileFail.Failed ⊎ IsErrOf result FileFail.NoMemory }
         ensures failed { IsErrOf result FileFail.Failed → IsTrue (next_fails self.old) ⊎ (held_by self.old name.now ≡ None) }
-        ensures counted { call_count self.new ≡ one_more (call_count self.old) }
+        ensures counted { call_count self.new ≡ calls_after result (call_count self.old) }
         ensures failing { failing_calls self.new ≡ failing_calls self.old }
     {
-        let fails = self.begin();
         let copy = Bytes::from_slice(alloc, name.as_bytes())?;
-        let held = if fails { None } else { self.get(name) };
-        match held {
-            Some(bytes) => Ok(first_bytes(alloc, bytes, most)?),
-            None => {
-                self.faults.add(Operation::Read, copy);
-                Err(FileFail::Failed)
-            }
-        }
+        let held = if self.next_fails() { None } else { self.get(name) };
+        let Some(bytes) = held else {
+            return Err(self.fail(Operation::Read, copy));
+        };
+        let first = first_bytes(alloc, bytes, most)?;
+        self.count();
+        Ok(first)
     }
 
     fn write(&mut self, alloc: Global, name: &str, bytes: &[u8]) -> Result<(), FileFail>
@@ -137,18 +154,17 @@ impl Files for MemFiles {
 
         ensures unchanged { OnErr result (held_by self.new name.now ≡ held_by self.old name.now) }
         ensures raised { IsErrOf result FileFail.Failed → fault_count self.new ≡ one_more (fault_count self.old) }
-        ensures fails { IsTrue (next_fails self.old) → IsErr result }
+        ensures fails { IsTrue (next_fails self.old) → IsErrOf result FileFail.Failed ⊎ IsErrOf result FileFail.NoMemory }
         ensures failed { IsErrOf result FileFail.Failed → IsTrue (next_fails self.old) }
-        ensures counted { call_count self.new ≡ one_more (call_count self.old) }
+        ensures counted { call_count self.new ≡ calls_after result (call_count self.old) }
         ensures failing { failing_calls self.new ≡ failing_calls self.old }
     {
-        let fails = self.begin();
         let copy = Bytes::from_slice(alloc, name.as_bytes())?;
-        if fails {
-            self.faults.add(Operation::Write, copy);
-            return Err(FileFail::Failed);
+        if self.next_fails() {
+            return Err(self.fail(Operation::Write, copy));
         }
         self.set(alloc, name, bytes)?;
+        self.count();
         Ok(())
     }
 }

@@ -1,5 +1,5 @@
 // A sink in memory that takes a few bytes at a time, and some of whose calls fail: for tests.
-ghost use Rattle.std.specs.Prelude.{◌≡◌, ◌≤◌, ◌<◌, ◌++◌, [], min, max, true, length, take, IsTrue, IfOk, OnErr, IsErr, IsErrOf};
+ghost use Rattle.std.specs.Prelude.{◌≡◌, ◌≤◌, ◌<◌, ◌++◌, [], min, max, true, length, take, IsTrue, IfOk, OnErr, IsErrOf};
 ghost use Rattle.zs_host.specs.Counting.{one_more};
 ghost use Rattle.zs_host.specs.Faults.{SinkFaults};
 ghost use Rattle.zs_host.specs.MemSink.{bytes_taken, most_a_put, failing_puts, put_count, sink_faults, next_fails};
@@ -70,7 +70,7 @@ impl Sink for MemSink {
 
         ensures taken { IfOk result (λ n. n ≡ min (length piece.now) (most_a_put self.old)) }
         ensures raised { IsErrOf result SinkFail.Failed → sink_faults self.new ≡ one_more (sink_faults self.old) }
-        ensures fails { IsTrue (next_fails self.old) → 0 < length piece.now → IsErr result }
+        ensures fails { IsTrue (next_fails self.old) → 0 < length piece.now → IsErrOf result SinkFail.Failed }
         ensures failed { IsErrOf result SinkFail.Failed → IsTrue (next_fails self.old) }
         ensures counted { put_count self.new ≡ one_more (put_count self.old) }
         ensures most { most_a_put self.new ≡ most_a_put self.old }

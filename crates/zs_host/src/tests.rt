@@ -1,11 +1,15 @@
 // The objects in memory and the adapters to the system, each on its happy path and where a call fails.
+ghost use Rattle.std.specs.Prelude.{◌≤◌, length, IfOk};
+
+use crate::real_files::read_first;
 use crate::{
     Fault, FileFail, Files, Gate, MemFiles, MemSink, OpenGate, Operation, Point, RealErr,
     RealFiles, RealOut, RealSink, Sink, SinkFail,
 };
-use std::cell::Cell;
+use std::alloc::Global;
+use std::cell::{Cell, RefCell};
 use std::fmt::Display;
-use std::io::{Error, ErrorKind, Print};
+use std::io::{Error, ErrorKind, Print, Read};
 use std::process::Abort;
 use std::test::Fail;
 use std::{fs, io};
@@ -145,14 +149,36 @@ fn standard_output_and_error_take_a_piece(rt: HostRuntime) -> Result<(), Fail> {
     Ok(())
 }
 
-// A stream whose first write is interrupted, whose second takes two bytes, whose third takes none,
-// whose fourth finds no reader, and whose fifth finds no memory.
+// A stream that keeps what it takes. Its first write is interrupted, its second takes half, its third
+// takes none, its fourth finds no reader, its fifth no memory, and the others take all.
 #[derive(Drop)]
-struct Failing {
+struct Flaky {
     writes: Cell<u32>,
+    taken: RefCell<Vec<u8>>,
 }
 
-impl Print for Failing {
+impl Flaky {
+    fn new(alloc: Global) -> Self {
+        Flaky {
+            writes: Cell::new(0),
+            taken: RefCell::new(Vec::new(alloc)),
+        }
+    }
+
+    // Takes the first bytes, and answers how many.
+    fn take(&self, bytes: &[u8], count: usize) -> io::Result<usize>
+        ensures { IfOk result (λ n. n ≤ length bytes.now) }
+    {
+        let count = count.min(bytes.len());
+        match self.taken.try_borrow_mut() {
+            Ok(mut taken) => taken.extend_from_slice(&bytes[..count])?,
+            Err(_) => return Err(Error::from(ErrorKind::Other)),
+        }
+        Ok(count)
+    }
+}
+
+impl Print for Flaky {
     fn print<D: Display + Drop>(&self, _value: D) -> io::Result<()> {
         Err(Error::from(ErrorKind::Unsupported))
     }
@@ -170,27 +196,93 @@ impl Print for Failing {
         self.writes.set(number.saturating_add(1));
         match number {
             0 => Err(Error::from(ErrorKind::Interrupted)),
-            1 => Ok(bytes.len().min(2)),
+            1 => self.take(bytes, bytes.len() / 2),
             2 => Ok(0),
             3 => Err(Error::from(ErrorKind::BrokenPipe)),
-            _ => Err(Error::from(ErrorKind::OutOfMemory)),
+            4 => Err(Error::from(ErrorKind::OutOfMemory)),
+            _ => self.take(bytes, bytes.len()),
         }
     }
 }
 
 #[test]
-fn a_stream_that_fails_is_tried_again_only_after_an_interruption(
-    rt: HostRuntime,
-) -> Result<(), Fail> {
+fn a_stream_is_tried_again_only_after_an_interruption(rt: HostRuntime) -> Result<(), Fail> {
     let alloc = rt.alloc();
-    let mut sink = RealSink::new(Failing {
-        writes: Cell::new(0),
-    });
-    assert_eq!(rt; sink.put(alloc, b"abc")?, 2);
-    assert_eq!(rt; sink.put(alloc, b"c").err(), Some(SinkFail::Failed));
-    assert_eq!(rt; sink.put(alloc, b"c").err(), Some(SinkFail::Failed));
-    assert_eq!(rt; sink.put(alloc, b"c").err(), Some(SinkFail::NoMemory));
+    let mut sink = RealSink::new(Flaky::new(alloc));
+    assert_eq!(rt; sink.put(alloc, b"abcdef")?, 3);
+    assert_taken(&rt, &sink, b"abc");
+    assert_eq!(rt; sink.put(alloc, b"def").err(), Some(SinkFail::Failed));
+    assert_eq!(rt; sink.put(alloc, b"def").err(), Some(SinkFail::Failed));
+    assert_eq!(rt; sink.put(alloc, b"def").err(), Some(SinkFail::NoMemory));
+    assert_taken(&rt, &sink, b"abc");
+    assert_eq!(rt; sink.put(alloc, b"def")?, 3);
+    assert_eq!(rt; sink.put(alloc, b"")?, 0);
+    assert_taken(&rt, &sink, b"abcdef");
     assert_eq!(rt; sink.fault_count(), 2);
+    Ok(())
+}
+
+// The stream took these bytes, in this order, and no others.
+fn assert_taken(rt: &impl Abort, sink: &RealSink<Flaky>, want: &[u8]) {
+    match sink.stream().taken.try_borrow() {
+        Ok(taken) => assert_eq!(rt; taken.as_slice(), want),
+        Err(_) => panic!(rt; "the bytes are held"),
+    }
+}
+
+// A reader whose first call is interrupted, and which then gives two bytes a call.
+#[derive(Drop)]
+struct Interrupted<'a> {
+    calls: u32,
+    rest: &'a [u8],
+}
+
+impl<'a> Read for Interrupted<'a> {
+    fn read(&mut self, buf: &mut [u8]) -> io::Result<usize> {
+        self.calls = self.calls.saturating_add(1);
+        if self.calls == 1 {
+            return Err(Error::from(ErrorKind::Interrupted));
+        }
+        let count = buf.len().min(self.rest.len()).min(2);
+        buf[..count].copy_from_slice(&self.rest[..count]);
+        self.rest = &self.rest[count..];
+        Ok(count)
+    }
+}
+
+#[test]
+fn a_read_that_was_interrupted_goes_on(rt: HostRuntime) -> Result<(), Fail> {
+    let alloc = rt.alloc();
+    for (most, want, calls) in [(100, "abcde", 5), (5, "abcde", 4), (3, "abc", 3)] {
+        let mut reader = Interrupted {
+            calls: 0,
+            rest: b"abcde",
+        };
+        let bytes = read_first(&mut reader, alloc, most)?;
+        assert_eq!(rt; bytes.as_slice(), want.as_bytes(), "up to {most}");
+        assert_eq!(rt; reader.calls, calls, "up to {most}");
+    }
+    Ok(())
+}
+
+// Byte k is k modulo 251, so that no chunk begins as another.
+#[test]
+fn a_file_of_several_chunks_is_written_and_read_again(rt: HostRuntime) -> Result<(), Fail> {
+    let alloc = rt.alloc();
+    let name = "several_chunks.tmp";
+    let mut bytes = Vec::new(alloc);
+    for number in 0..20_000u32 {
+        bytes.push((number % 251) as u8)?;
+    }
+    let mut files = RealFiles::new(rt);
+    files.write(alloc, name, &bytes)?;
+    let whole = files.read(alloc, name, 20_001)?;
+    assert!(rt; whole.as_slice() == bytes.as_slice());
+    let first = files.read(alloc, name, 10_000)?;
+    assert_eq!(rt; first.as_slice().len(), 10_000);
+    assert!(rt; bytes.as_slice().starts_with(first.as_slice()));
+    assert_eq!(rt; files.fault_count(), 0);
+    fs::remove_file(&rt, name)?;
     Ok(())
 }
 
