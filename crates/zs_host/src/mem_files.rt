@@ -137,7 +137,11 @@ impl Files for MemFiles {
         ensures failing { failing_calls self.new ≡ failing_calls self.old }
     {
         let copy = Bytes::from_slice(alloc, name.as_bytes())?;
-        let held = if self.next_fails() { None } else { self.get(name) };
+        let held = if self.next_fails() {
+            None
+        } else {
+            self.get(name)
+        };
         let Some(bytes) = held else {
             return Err(self.fail(Operation::Read, copy));
         };

@@ -218,12 +218,15 @@ rest_of_run machine image is (suc n) s idle left =
 pub schedule_there : (machine : Machine) (image : MemoryImage) → IsMachine machine → (comps : List Comp) → AreFresh machine comps
     → (lists : List (List ℕ)) × (results : Results) × IsRunOf machine image lists results
 schedule_there machine image is comps fresh =
-    let run = rest_of_run machine image is machine.intervals (first_state machine image comps) refl (omega arith) in
-    (run.lists, results_of machine run.last run.ending, record {
-      comps = comps;
-      fresh = fresh;
-      gives = ap (option_and_then (results_before machine)) run.reached ∙ ap (option_map (results_of machine run.last)) run.ends;
-    })
+    let run = rest_of_run machine image is machine.intervals (first_state machine image comps) refl (omega arith) in (
+      run.lists,
+      results_of machine run.last run.ending,
+      record {
+        comps = comps;
+        fresh = fresh;
+        gives = ap (option_and_then (results_before machine)) run.reached ∙ ap (option_map (results_of machine run.last)) run.ends;
+      },
+    )
 
 -- one schedule leads from here to the end of the run
 let_pass : (test : Bool) (next : Option RunState) (rest : RunState → Option RunState) (last : RunState) → (if test then option_and_then rest next else None) ≡ Some last
