@@ -37,8 +37,7 @@ impl FaultLog {
         self.latest = Some(Fault { operation, name });
     }
 
-    /// The answer to a call of the system that did not succeed. It is a fault, unless memory was
-    /// wanting.
+    /// The answer to a call of the system that did not succeed. It is a fault, unless memory ran out.
     pub(crate) fn answer(&mut self, error: io::Error, operation: Operation, name: Bytes) -> FileFail
         ensures memory { (result ≡ FileFail.NoMemory) ↔ (error_kind error ≡ ErrorKind.OutOfMemory) }
         ensures faults { FileFaults {T = ℕ} (Err result) self.old.count self.new.count self.old.latest self.new.latest (record { operation = operation; name = name }) }

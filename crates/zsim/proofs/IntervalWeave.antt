@@ -36,7 +36,7 @@ module _ (machine : Machine) (ok : IsMachine machine) (plain : Plain) (is : IsPl
       made
       ∙ ap (λ l1. all_events (pieces_of l1 plain.l2 plain.controllers) entries) is.l1
       ∙ ap (λ l2. all_events (pieces_of machine.l1 l2 plain.controllers) entries) is.l2
-      ∙ ap (λ all. all_events (pieces_of machine.l1 machine.l2 all) entries) is.controllers
+      ∙ ap (λ controllers. all_events (pieces_of machine.l1 machine.l2 controllers) entries) is.controllers
 
   pub fits : PlainGraphsFit → GraphFits comp_serves comp_latency graph comps
   fits law = subst (λ g. GraphFits comp_serves comp_latency g comps) (sym same_events) (law machine comps entries ok are)

@@ -225,10 +225,10 @@ pub same_phase : (machine : Machine) (plain : Plain) (image : MemoryImage) (end 
     → bound_phase (time_of machine) image (end_of machine s) (begun s) turns ≡ Some b
 same_phase machine plain image end s p is g turns b bounded =
     let phase : (Entry → ℕ) → ℕ → TimedCore → MemoryBytes → Option BoundState = λ time e core memory. bound_phase time image e (record { core = core; memory = memory; entries = [] }) turns in
-    let times : L1 → L2 → Controllers → Entry → ℕ = λ l1 l2 all e. time_by l1 l2 all e.outcome in
+    let times : L1 → L2 → Controllers → Entry → ℕ = λ l1 l2 controllers e. time_by l1 l2 controllers e.outcome in
     ap (λ l1. phase (times l1 machine.l2 machine.controllers) (end_of machine s) s.core s.memory) (sym is.l1)
     ∙ ap (λ l2. phase (times plain.l1 l2 machine.controllers) (end_of machine s) s.core s.memory) (sym is.l2)
-    ∙ ap (λ all. phase (times plain.l1 plain.l2 all) (end_of machine s) s.core s.memory) (sym is.controllers)
+    ∙ ap (λ controllers. phase (times plain.l1 plain.l2 controllers) (end_of machine s) s.core s.memory) (sym is.controllers)
     ∙ ap (λ e. phase (times plain.l1 plain.l2 plain.controllers) e s.core s.memory) (sym g.ends)
     ∙ ap (λ core. phase (times plain.l1 plain.l2 plain.controllers) end core s.memory) (sym g.come.core)
     ∙ ap (λ memory. phase (times plain.l1 plain.l2 plain.controllers) end p.core memory) (sym g.come.memory)

@@ -27,10 +27,10 @@ pub record CameToRun (seen : Seen) (k : Kept) (machine : Machine) (image : Memor
   pub no_fault : NoFileFailed seen.files
   pub names : SameNames seen.files
   pub command : IsSome (command_of seen.words)
-  pub setup : setup_of (command_of seen.words) k ≡ Ok (record { machine = machine; image = image })
+  pub setup : setup_of seen.words k ≡ Ok (record { machine = machine; image = image })
 
 module _ (seen : Seen) (k : Kept) (machine : Machine) (image : MemoryImage) (come : CameToRun seen k machine image) where
-  asked : IsOk (setup_of (command_of seen.words) k)
+  asked : IsOk (setup_of seen.words k)
   asked = ap is_ok come.setup
 
   gives : (r : Results) → IsRunOf machine image k.schedule.lists r → Gives seen.words k r

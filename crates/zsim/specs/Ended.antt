@@ -50,25 +50,25 @@ pub record NothingFailed (seen : Seen) : Type 0 where
 
 -- The cause of each status. A fault that was counted is always told: no other status comes where one was.
 abbrev pub HasCause : Status → Seen → Kept → Type 0
-HasCause status.Usage seen kept = (setup_of (command_of seen.words) kept ≡ Err status.Usage) × NothingFailed seen
+HasCause status.Usage seen kept = (setup_of seen.words kept ≡ Err status.Usage) × NothingFailed seen
 HasCause status.ReadFault seen kept = IsSomeAnd (command_of seen.words) (FailedToRead seen.files) × NoPutFailed seen.out
-HasCause (status.TooLong which) seen kept = (setup_of (command_of seen.words) kept ≡ Err (status.TooLong which)) × NothingFailed seen
-HasCause (status.BadElf bad) seen kept = (setup_of (command_of seen.words) kept ≡ Err (status.BadElf bad)) × NothingFailed seen
-HasCause status.WriteFault seen kept = IsOk (setup_of (command_of seen.words) kept) × NoFileFailed seen.files × PutFailed seen.out
-HasCause status.Ran seen kept = IsOk (setup_of (command_of seen.words) kept) × NothingFailed seen
-HasCause status.Limit seen kept = IsOk (setup_of (command_of seen.words) kept) × NothingFailed seen
+HasCause (status.TooLong which) seen kept = (setup_of seen.words kept ≡ Err (status.TooLong which)) × NothingFailed seen
+HasCause (status.BadElf bad) seen kept = (setup_of seen.words kept ≡ Err (status.BadElf bad)) × NothingFailed seen
+HasCause status.WriteFault seen kept = IsOk (setup_of seen.words kept) × NoFileFailed seen.files × PutFailed seen.out
+HasCause status.Ran seen kept = IsOk (setup_of seen.words kept) × NothingFailed seen
+HasCause status.Limit seen kept = IsOk (setup_of seen.words kept) × NothingFailed seen
 HasCause status.NoMemory seen kept = IsSome (command_of seen.words) × NothingFailed seen
 
 -- what the run of the kept inputs gives under the kept schedule
 pub record Gives (words : List (List ℕ)) (kept : Kept) (results : Results) : Type 0 where
   pub setup : Setup
-  pub is : setup_of (command_of words) kept ≡ Ok setup
+  pub is : setup_of words kept ≡ Ok setup
   pub run : IsRunOf setup.machine setup.image kept.schedule.lists results
 
 -- the kept schedule is legal for the run of the kept inputs as far as it goes
 pub record IsStopped (words : List (List ℕ)) (kept : Kept) : Type 0 where
   pub setup : Setup
-  pub is : setup_of (command_of words) kept ≡ Ok setup
+  pub is : setup_of words kept ≡ Ok setup
   pub run : IsLegalSoFar setup.machine setup.image kept.schedule.lists
 
 -- the status of a run that was reported whole
@@ -104,7 +104,7 @@ Leaves (status.TooLong which) seen kept = (kept.schedule.lists ≡ []) × Gained
 -- Where nothing failed, the inputs decide: the whole report of their run or their refusal, unless memory ran out.
 abbrev pub IsDecided : Status → Seen → Kept → Type 0
 IsDecided s seen kept =
-    (s ≡ status.NoMemory) ⊎ MatchResult (setup_of (command_of seen.words) kept) (λ setup. IsReported s seen kept) (λ refusal. s ≡ refusal)
+    (s ≡ status.NoMemory) ⊎ MatchResult (setup_of seen.words kept) (λ setup. IsReported s seen kept) (λ refusal. s ≡ refusal)
 
 -- What a status and what was kept tell of the call. Nothing of it reads standard error, which has no say in the status.
 pub record IsOutcome (seen : Seen) (s : Status) (k : Kept) : Type 0 where

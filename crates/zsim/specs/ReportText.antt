@@ -17,13 +17,13 @@ abbrev pub hexadecimal : (digits number : ℕ) → List ℕ
 hexadecimal zero n = []
 hexadecimal (suc digits) n = hexadecimal digits (n / 16) ++ hex_digit (n % 16) ∷ []
 
--- a byte that is printed as itself: from space to tilde, without the double quote and the backslash
-abbrev pub is_plain : ℕ → Bool
-is_plain b = nat_le 0x20 b && nat_le b 0x7E && not (b == 0x22) && not (b == 0x5C)
+-- a byte that prints as itself: from space to tilde, without the double quote and the backslash
+abbrev pub is_printable : ℕ → Bool
+is_printable b = nat_le 0x20 b && nat_le b 0x7E && not (b == 0x22) && not (b == 0x5C)
 
 -- a byte as it is printed
 unfoldable pub printed_byte : ℕ → List ℕ
-printed_byte b = if is_plain b then b ∷ [] else codes "\\x" ++ hexadecimal 2 b
+printed_byte b = if is_printable b then b ∷ [] else codes "\\x" ++ hexadecimal 2 b
 
 -- bytes as they are printed, one after the other
 abbrev pub printed : List ℕ → List ℕ

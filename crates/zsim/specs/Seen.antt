@@ -64,7 +64,7 @@ pub record NoFileFailed (files : FilesSeen) : Type 0 where
   pub faults : files.faults_after ≡ files.faults_before
   pub latest : files.latest_after ≡ files.latest_before
 
--- a call on the files failed
+-- a call on the files failed: their count rose, or it stands at its last value
 abbrev pub FileFailed : FilesSeen → Type 0
 FileFailed files = Rose files.faults_before files.faults_after
 
@@ -82,6 +82,7 @@ pub record WasRead (files : FilesSeen) (name : List ℕ) (limit : ℕ) (bytes : 
 abbrev pub NoPutFailed : SinkSeen → Type 0
 NoPutFailed sink = sink.faults_after ≡ sink.faults_before
 
+-- a put failed: the count rose, or it stands at its last value
 abbrev pub PutFailed : SinkSeen → Type 0
 PutFailed sink = Rose sink.faults_before sink.faults_after
 

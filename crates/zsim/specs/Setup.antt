@@ -10,6 +10,7 @@ use Rattle.zsim.specs.declared.ended.Kept.{Kept}
 use Rattle.zsim.specs.declared.ended.Status.{Status}
 use Rattle.zsim.specs.declared.ended.Status.TheVariants as status
 use Rattle.zsim.specs.declared.ended.Which.TheVariants.{Exe}
+use Rattle.zsim.specs.CommandLine.{command_of}
 use Rattle.zsim.specs.Limits.{exe_limit}
 
 -- a machine, and what is in its memory first
@@ -27,7 +28,10 @@ unfoldable pub loaded_on : Machine → (exe : List ℕ) → Result Setup Status
 loaded_on machine exe =
     if nat_lt exe_limit (length exe) then Err (status.TooLong Exe) else with_image machine (image_of exe machine.memory.base machine.memory.size)
 
--- what a command with these kept bytes is to run, or the first refusal
-abbrev pub setup_of : (command : Option (List ℕ)) → Kept → Result Setup Status
-setup_of None kept = Err status.Usage
-setup_of (Some name) kept = loaded_on plain_machine kept.exe
+abbrev pub setup_by : (command : Option (List ℕ)) → Kept → Result Setup Status
+setup_by None kept = Err status.Usage
+setup_by (Some name) kept = loaded_on plain_machine kept.exe
+
+-- what a call with these words is to run, by what it kept, or the first refusal
+abbrev pub setup_of : (words : List (List ℕ)) → Kept → Result Setup Status
+setup_of words kept = setup_by (command_of words) kept

@@ -62,7 +62,7 @@ fn write_summary(
     write_labelled(text, &fields)
 }
 
-// How many instructions all cores carried out.
+// How many instructions all cores executed.
 fn all_instructions(cores: &[CoreResult]) -> u128
     ensures { result ≡ all_instructions cores.now }
 {

@@ -1,18 +1,20 @@
 // Runs on machines that the command line cannot name yet.
 ghost use Rattle.std.specs.Prelude.{◌≡◌, ◌<◌, ◌≤◌, ◌^◌, All, IfOk, length};
 
-use crate::Schedule;
+use crate::error_line::error_line;
 use crate::machine::plain;
-use crate::results::Ending;
+use crate::results::{CoreResult, Ending, RunResults};
 use crate::running::run;
 use crate::weaving::weave_interval;
+use crate::why::Why;
+use crate::{Schedule, Status, report};
 use component::components;
-use elf_load::load;
+use elf_load::{BadElf, load};
 use event_graph::{Fired, Plain};
-use stats::CompCount;
+use stats::{CompCount, CoreCount};
 use std::alloc::Global;
 use std::test::Fail;
-use zs_num::{Entries, Entry, NoMemory, Outcome, Request};
+use zs_num::{Bytes, Entries, Entry, NoMemory, Outcome, Request};
 
 // An executable of eight words, by the ELF-64 object file format, up to its code at byte 120.
 static FRONT: [u8; 120] = [
@@ -187,5 +189,89 @@ fn two_misses_at_one_bank_wait_for_each_other(rt: HostRuntime) -> Result<(), Fai
         free.push(comp.free())?;
     }
     assert_eq!(rt; free.as_slice(), [136, 52].as_slice());
+    Ok(())
+}
+
+// Each interval is a cycle here, and there are more of them than numbers of 16 bits.
+#[test]
+fn a_long_run_keeps_a_list_for_each_interval(rt: HostRuntime) -> Result<(), Fail> {
+    let alloc = rt.alloc();
+    let file = file_of(alloc, &FOREVER)?;
+    let mut machine = plain(alloc)?;
+    machine.interval = 1;
+    machine.intervals = 70_000;
+    let image = load(alloc, &file, machine.memory.base, machine.memory.size)?;
+    let mut schedule = Schedule::new(alloc, 1);
+    let results = run(alloc, &machine, &image, &mut schedule)?;
+    assert_eq!(rt; results.ending, Ending::Limit);
+    assert_eq!(rt; results.intervals, 70_000);
+    assert_eq!(rt; schedule.intervals(), 70_000);
+    Ok(())
+}
+
+// The most of each number, with a console of 64 KiB that no byte of prints as itself.
+fn largest_core(alloc: Global) -> Result<CoreResult, NoMemory> {
+    Ok(CoreResult {
+        instructions: u64::MAX,
+        cycles: u64::MAX,
+        count: CoreCount {
+            delay: u128::MAX,
+            loads: u64::MAX,
+            stores: u64::MAX,
+            atomics: u64::MAX,
+            hits: u64::MAX,
+            upgrades: u64::MAX,
+            l2hits: u64::MAX,
+            misses: u64::MAX,
+        },
+        halted: Some(Why::Misaligned { target: u64::MAX }),
+        console: Bytes::of(vec![in alloc; 0; 65_536]?),
+    })
+}
+
+// 64 cores, 64 banks and 16 controllers. The length is that of the text in docs/report.md.
+#[test]
+fn the_largest_report_is_written_whole(rt: HostRuntime) -> Result<(), Fail> {
+    let alloc = rt.alloc();
+    let mut cores = Vec::new(alloc);
+    for _ in 0..64 {
+        cores.push(largest_core(alloc)?)?;
+    }
+    let component = CompCount {
+        events: u64::MAX,
+        waited: u128::MAX,
+        free: u64::MAX,
+    };
+    let results = RunResults {
+        ending: Ending::Halted,
+        intervals: 1 << 20,
+        accesses: 1 << 26,
+        events: 1 << 28,
+        cores,
+        banks: vec![in alloc; component; 64]?,
+        controllers: vec![in alloc; component; 16]?,
+    };
+    let text = report::text(alloc, &results)?;
+    let first = "zsim report 1\ncores 64\nintervals 1048576\ninstructions 1180591620717411303360\ncycles 18446744073709551615\naccesses 67108864\nevents 268435456\n";
+    let last = "controller 15 events 18446744073709551615 waited 340282366920938463463374607431768211455 free 18446744073709551615\n";
+    assert_eq!(rt; text.as_slice().len(), 16809812);
+    assert!(rt; text.as_slice().starts_with(first.as_bytes()));
+    assert!(rt; text.as_slice().ends_with(last.as_bytes()));
+    Ok(())
+}
+
+#[test]
+fn the_longest_error_lines_are_written_whole(rt: HostRuntime) -> Result<(), Fail> {
+    let alloc = rt.alloc();
+    let overlap = BadElf::Overlap {
+        first: 126,
+        second: 127,
+    };
+    let line = error_line(alloc, Status::BadElf(overlap))?;
+    assert_eq!(rt; line.as_str(), "zsim: elf 11 126 127\n");
+    let usage = error_line(alloc, Status::Usage)?;
+    assert_eq!(rt; usage.as_str(),
+        "zsim: usage: zsim run MACHINE EXE [--workers N] [--record NAME] [--brief] or zsim replay MACHINE EXE --schedule NAME [--brief]\n"
+    );
     Ok(())
 }
