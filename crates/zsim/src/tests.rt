@@ -252,8 +252,10 @@ fn the_largest_report_is_written_whole(rt: HostRuntime) -> Result<(), Fail> {
         controllers: vec![in alloc; component; 16]?,
     };
     let text = report::text(alloc, &results)?;
-    let first = "zsim report 1\ncores 64\nintervals 1048576\ninstructions 1180591620717411303360\ncycles 18446744073709551615\naccesses 67108864\nevents 268435456\n";
-    let last = "controller 15 events 18446744073709551615 waited 340282366920938463463374607431768211455 free 18446744073709551615\n";
+    let first =
+        "zsim report 1\ncores 64\nintervals 1048576\ninstructions 1180591620717411303360\ncycles 18446744073709551615\naccesses 67108864\nevents 268435456\n";
+    let last =
+        "controller 15 events 18446744073709551615 waited 340282366920938463463374607431768211455 free 18446744073709551615\n";
     assert_eq!(rt; text.as_slice().len(), 16809812);
     assert!(rt; text.as_slice().starts_with(first.as_bytes()));
     assert!(rt; text.as_slice().ends_with(last.as_bytes()));
@@ -270,7 +272,8 @@ fn the_longest_error_lines_are_written_whole(rt: HostRuntime) -> Result<(), Fail
     let line = error_line(alloc, Status::BadElf(overlap))?;
     assert_eq!(rt; line.as_str(), "zsim: elf 11 126 127\n");
     let usage = error_line(alloc, Status::Usage)?;
-    assert_eq!(rt; usage.as_str(),
+    assert_eq!(rt;
+        usage.as_str(),
         "zsim: usage: zsim run MACHINE EXE [--workers N] [--record NAME] [--brief] or zsim replay MACHINE EXE --schedule NAME [--brief]\n"
     );
     Ok(())

@@ -1,4 +1,4 @@
-// Calls the top call on words and one file, and looks at what it answered and wrote.
+// Calls the top call on words and files, and looks at what it answered and wrote.
 use std::alloc::{AllocError, Global};
 use std::process::Abort;
 use zs_host::{MemFiles, MemSink, OpenGate};
@@ -13,18 +13,26 @@ pub struct Called {
     pub err: MemSink,
 }
 
-/// Calls on these words, over files in which `A` holds `exe`.
+/// Calls on `run plain A`, over files in which `A` holds `exe`.
 pub fn call(
     alloc: Global,
-    words: &[&str],
     exe: &[u8],
     mut out: MemSink,
     mut err: MemSink,
 ) -> Result<Called, NoMemory> {
     let mut files = MemFiles::new(alloc, &[])?;
     files.set(alloc, "A", exe)?;
-    let words = owned(alloc, words)?;
+    let words = owned(alloc, &["run", "plain", "A"])?;
     let ended = zsim(alloc, &words, &mut files, &mut out, &mut err, &OpenGate);
+    Ok(Called { ended, out, err })
+}
+
+/// Calls on these words, over these files and sinks that take all.
+pub fn call_with(alloc: Global, words: &[&str], files: &mut MemFiles) -> Result<Called, NoMemory> {
+    let mut out = MemSink::new(alloc, usize::MAX, &[])?;
+    let mut err = MemSink::new(alloc, usize::MAX, &[])?;
+    let words = owned(alloc, words)?;
+    let ended = zsim(alloc, &words, files, &mut out, &mut err, &OpenGate);
     Ok(Called { ended, out, err })
 }
 
@@ -32,27 +40,16 @@ pub fn call(
 pub fn run(alloc: Global, exe: &[u8]) -> Result<Called, NoMemory> {
     let out = MemSink::new(alloc, usize::MAX, &[])?;
     let err = MemSink::new(alloc, usize::MAX, &[])?;
-    call(alloc, &["run", "plain", "A"], exe, out, err)
+    call(alloc, exe, out, err)
 }
 
-/// The words, each on its own.
-pub fn owned(alloc: Global, words: &[&str]) -> Result<Vec<String>, AllocError> {
+// The words, each on its own.
+fn owned(alloc: Global, words: &[&str]) -> Result<Vec<String>, AllocError> {
     let mut all = Vec::new(alloc);
     for word in words {
         all.push(String::from_str(alloc, word)?)?;
     }
     Ok(all)
-}
-
-/// The call's report has this part once.
-pub fn assert_reported_once(rt: &impl Abort, called: &Called, part: &str) {
-    assert!(rt; !part.is_empty());
-    let parts = called.out.bytes().windows(part.len());
-    assert_eq!(rt;
-        parts.filter(|bytes| *bytes == part.as_bytes()).count(),
-        1,
-        "{part}"
-    );
 }
 
 /// The call ended so, with this on standard output and this on standard error.

@@ -1,17 +1,31 @@
-//! Tests of the top call, over files and sinks in memory.
+//! Runs the cases of the file `cases`, the examples among them, as the program does, and writes what they
+//! answer; the stored output has what they must answer. The tests are of what needs more than words and
+//! an executable.
 #![tactic(auto)]
 
-#[cfg(test)]
-mod accesses;
-#[cfg(test)]
+mod cases;
 mod executables;
 #[cfg(test)]
 mod harness;
+#[cfg(test)]
+mod kept;
 #[cfg(test)]
 mod memory;
 #[cfg(test)]
 mod refusals;
 #[cfg(test)]
-mod reports;
-#[cfg(test)]
 mod sinks;
+
+use std::io::Print;
+use std::process::ExitCode;
+use zs_host::RealFiles;
+
+fn main(rt: HostRuntime) -> ExitCode {
+    let alloc = rt.alloc();
+    let stdout = rt.stdout();
+    let mut files = RealFiles::new(rt);
+    match cases::answers(alloc, &mut files) {
+        Some(out) if stdout.write_all(out.bytes()).is_ok() => ExitCode::SUCCESS,
+        _ => ExitCode::FAILURE,
+    }
+}

@@ -1,5 +1,5 @@
-// Want of memory. With ample memory these runs end as they should; where an allocation is refused,
-// which the gate does not try, each of them answers NoMemory instead, and no other answer.
+// Runs that may run out of memory. With ample memory they end as they should; where an allocation is
+// refused, which the gate does not try, each of them answers NoMemory instead, and no other answer.
 use crate::executables::{SEVEN, STORE_AND_LOAD, executable};
 use crate::harness::{Called, run};
 use std::alloc::Global;
@@ -28,12 +28,12 @@ fn run_words(alloc: Global, words: &[u32]) -> Result<Called, NoMemory> {
     run(alloc, &exe)
 }
 
-// The call ended so, or for want of memory, with what belongs to that on both streams.
+// The call ended so, or out of memory, with what belongs to that on both streams.
 fn assert_answered(rt: &impl Abort, called: &Called, status: Status, line: &str) {
-    let wants_memory = called.ended.status == Status::NoMemory;
-    assert!(rt; wants_memory || called.ended.status == status);
-    assert_eq!(rt; called.out.bytes().is_empty(), wants_memory);
-    let line = if wants_memory {
+    let out_of_memory = called.ended.status == Status::NoMemory;
+    assert!(rt; out_of_memory || called.ended.status == status);
+    assert_eq!(rt; called.out.bytes().is_empty(), out_of_memory);
+    let line = if out_of_memory {
         "zsim: out of memory\n"
     } else {
         line

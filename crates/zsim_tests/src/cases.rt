@@ -1,0 +1,121 @@
+// Cases from a file. Each line is one, and its first word says what the others are: the words of the
+// command line; the name of an example; the instructions of an executable, or all its bytes, in
+// hexadecimal digits; or bytes of the executable that exits with seven that become others. A line with
+// `#` is for the reader.
+use crate::executables::{SEVEN, executable};
+use std::alloc::Global;
+use zs_host::{Files, MemFiles, MemSink, OpenGate, Sink};
+use zsim::zsim;
+
+// The most bytes of the file of cases.
+const MOST: usize = 1 << 20;
+
+/// What all cases of the file `cases` answer, in their order. None where memory runs out or a line is no
+/// case.
+pub fn answers<F: Files>(alloc: Global, files: &mut F) -> Option<MemSink> {
+    let mut out = MemSink::new(alloc, usize::MAX, &[]).ok()?;
+    let bytes = files.read(alloc, "cases", MOST).ok()?;
+    let text = str::from_utf8(bytes.as_slice()).ok()?;
+    for line in text.lines() {
+        write_case(alloc, line, files, &mut out)?;
+    }
+    Some(out)
+}
+
+// Writes what a case answers. The examples are in these files.
+fn write_case<F: Files>(alloc: Global, line: &str, files: &mut F, out: &mut MemSink) -> Option<()> {
+    let (kind, rest) = line.split_once(' ').unwrap_or((line, ""));
+    match kind {
+        "#" => write_line(alloc, line, out),
+        "example" => write_example(alloc, rest, files, out),
+        "words" => write_call(alloc, rest, &executable(alloc, &SEVEN).ok()?, out),
+        "code" => write_run(
+            alloc,
+            &executable(alloc, &numbers_of(alloc, rest)?).ok()?,
+            out,
+        ),
+        "file" => write_run(alloc, &bytes_of(alloc, rest)?, out),
+        "spoil" => write_run(alloc, &spoiled(alloc, rest)?, out),
+        _ => None,
+    }
+}
+
+// Writes what `run plain NAME` answers, over these files.
+fn write_example<F: Files>(
+    alloc: Global,
+    name: &str,
+    files: &mut F,
+    out: &mut MemSink,
+) -> Option<()> {
+    let mut words = words_of(alloc, "run plain")?;
+    words.push(String::from_str(alloc, name).ok()?).ok()?;
+    write_answer(alloc, &words, files, out)
+}
+
+// Writes what `run plain A` answers, where A holds this executable.
+fn write_run(alloc: Global, exe: &[u8], out: &mut MemSink) -> Option<()> {
+    write_call(alloc, "run plain A", exe, out)
+}
+
+// Writes what these words answer, where A holds this executable.
+fn write_call(alloc: Global, words: &str, exe: &[u8], out: &mut MemSink) -> Option<()> {
+    let words = words_of(alloc, words)?;
+    let mut files = MemFiles::new(alloc, &[]).ok()?;
+    files.set(alloc, "A", exe).ok()?;
+    write_answer(alloc, &words, &mut files, out)
+}
+
+// Writes what a call puts on both streams, and its status.
+fn write_answer<F: Files>(
+    alloc: Global,
+    words: &[String],
+    files: &mut F,
+    out: &mut MemSink,
+) -> Option<()> {
+    let mut err = MemSink::new(alloc, usize::MAX, &[]).ok()?;
+    let ended = zsim(alloc, words, files, out, &mut err, &OpenGate);
+    out.put(alloc, err.bytes()).ok()?;
+    let status = format!(in alloc; "status {}", ended.status.number()).ok()?;
+    write_line(alloc, &status, out)
+}
+
+fn write_line(alloc: Global, line: &str, out: &mut MemSink) -> Option<()> {
+    out.put(alloc, line.as_bytes()).ok()?;
+    out.put(alloc, b"\n").ok()?;
+    Some(())
+}
+
+fn words_of(alloc: Global, text: &str) -> Option<Vec<String>> {
+    let mut words = Vec::new(alloc);
+    for word in text.split_whitespace() {
+        words.push(String::from_str(alloc, word).ok()?).ok()?;
+    }
+    Some(words)
+}
+
+// The numbers of a line, each in hexadecimal digits.
+fn numbers_of(alloc: Global, text: &str) -> Option<Vec<u32>> {
+    let mut numbers = Vec::new(alloc);
+    for word in text.split_whitespace() {
+        numbers.push(u32::from_str_radix(word, 16).ok()?).ok()?;
+    }
+    Some(numbers)
+}
+
+fn bytes_of(alloc: Global, text: &str) -> Option<Vec<u8>> {
+    let mut bytes = Vec::new(alloc);
+    for number in &numbers_of(alloc, text)? {
+        bytes.push((number % 256) as u8).ok()?;
+    }
+    Some(bytes)
+}
+
+// The executable that exits with seven, with other bytes. The last two digits of a number are what the
+// byte at the index of the digits before them becomes.
+fn spoiled(alloc: Global, text: &str) -> Option<Vec<u8>> {
+    let mut bytes = executable(alloc, &SEVEN).ok()?;
+    for number in &numbers_of(alloc, text)? {
+        *bytes.get_mut((number / 256) as usize)? = (number % 256) as u8;
+    }
+    Some(bytes)
+}

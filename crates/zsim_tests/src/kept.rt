@@ -1,0 +1,64 @@
+// What is kept of a run: the machine's text, the executable and the schedule.
+use crate::executables::{SEVEN, executable};
+use crate::harness::run;
+use std::test::Fail;
+use zsim::{Said, Status};
+
+// addi x6, x0, 200; ld x5, -8(x2); addi x6, x6, -1; bne x6, x0, -8; addi x17, x0, 93; ecall
+static TWO_HUNDRED_LOADS: [u32; 6] = [
+    0x0C80_0313,
+    0xFF81_3283,
+    0xFFF3_0313,
+    0xFE03_1CE3,
+    0x05D0_0893,
+    0x0000_0073,
+];
+
+#[test]
+fn the_machine_and_the_executable_are_kept(rt: HostRuntime) -> Result<(), Fail> {
+    let alloc = rt.alloc();
+    let exe = executable(alloc, &SEVEN)?;
+    assert_eq!(rt; exe.len(), 132);
+    let called = run(alloc, &exe)?;
+    assert_eq!(rt; called.ended.status, Status::Ran);
+    assert_eq!(rt; called.ended.said, Said::All);
+    let kept = &called.ended.kept;
+    assert_eq!(rt; kept.exe.as_slice(), exe.as_slice());
+    assert_eq!(rt; kept.machine.as_slice().len(), 339);
+    assert!(rt; kept.sched_file.as_slice().is_empty());
+    assert_eq!(rt; kept.schedule.cores(), 1);
+    assert_eq!(rt; kept.schedule.intervals(), 1);
+    Ok(())
+}
+
+// Load k, from 0, is at cycle 2 + 116 k: 87 loads in the first interval, 86 in the second and 27 in
+// the third.
+#[test]
+fn the_schedule_has_a_turn_for_each_load(rt: HostRuntime) -> Result<(), Fail> {
+    let alloc = rt.alloc();
+    let called = run(alloc, &executable(alloc, &TWO_HUNDRED_LOADS)?)?;
+    let schedule = &called.ended.kept.schedule;
+    assert_eq!(rt; schedule.intervals(), 3);
+    assert_eq!(rt; schedule.list(0).len(), 87);
+    assert_eq!(rt; schedule.list(1).len(), 86);
+    assert_eq!(rt; schedule.list(2), [0; 27].as_slice());
+    Ok(())
+}
+
+// 10,000 instructions fill an interval to its end, and the next instruction is in the second.
+#[test]
+fn a_program_goes_on_in_the_next_interval(rt: HostRuntime) -> Result<(), Fail> {
+    let alloc = rt.alloc();
+    let mut words = vec![in alloc; 0x0010_8093; 9_998]?; // addi x1, x1, 1
+    words.push(0x05D0_0893)?; // addi x17, x0, 93
+    words.push(0x0000_0073)?; // ecall
+    let called = run(alloc, &executable(alloc, &words)?)?;
+    let summary = "zsim report 1\ncores 1\nintervals 1\ninstructions 10000\ncycles 10000\n";
+    assert!(rt; called.out.bytes().starts_with(summary.as_bytes()));
+    words.insert(0, 0x0010_8093)?;
+    let called = run(alloc, &executable(alloc, &words)?)?;
+    let summary = "zsim report 1\ncores 1\nintervals 2\ninstructions 10001\ncycles 10001\n";
+    assert!(rt; called.out.bytes().starts_with(summary.as_bytes()));
+    assert_eq!(rt; called.ended.kept.schedule.intervals(), 2);
+    Ok(())
+}
