@@ -1,5 +1,5 @@
 -- What a core asks of memory.
-use Rattle.std.specs.Prelude.{ℕ, ◌/◌}
+use Rattle.std.specs.Prelude.{◌≡◌, ◌⊎◌, ℕ, ◌+◌, ◌%◌, ◌≤◌}
 use Rattle.zs_num.specs.declared.request.Request.{Request}
 use Rattle.zs_num.specs.declared.request.Request.TheVariants.{Load, Store, Lr, Sc, Amo}
 
@@ -19,10 +19,24 @@ width_of (Lr addr width) = width
 width_of (Sc addr width value paired) = width
 width_of (Amo op addr width value) = width
 
--- how many bytes a cache line has
-abbrev pub line_bytes : ℕ
-line_bytes = 64
+-- an atomic access is of a word or a doubleword, and lies at a multiple of its width
+abbrev pub IsAtomic : (addr width : ℕ) → Type 0
+IsAtomic addr width = ((width ≡ 4) ⊎ (width ≡ 8)) × (addr % width ≡ 0)
 
--- the number of the line in which it lies
-abbrev pub line_of : Request → ℕ
-line_of request = addr_of request / line_bytes
+-- a load and a store may lie anywhere
+abbrev pub IsAligned : Request → Type 0
+IsAligned (Load addr width) = Unit {0}
+IsAligned (Store addr width value) = Unit {0}
+IsAligned (Lr addr width) = IsAtomic addr width
+IsAligned (Sc addr width value paired) = IsAtomic addr width
+IsAligned (Amo op addr width value) = IsAtomic addr width
+
+-- What a memory of so many bytes from a base on can be asked: an access of 1 to 8 of its bytes, all in one line of 64
+-- bytes, and aligned if it is atomic.
+pub record IsServable (base size : ℕ) (request : Request) : Type 0 where
+  pub some : 1 ≤ width_of request
+  pub few : width_of request ≤ 8
+  pub begins : base ≤ addr_of request
+  pub ends : addr_of request + width_of request ≤ base + size
+  pub in_line : addr_of request % 64 + width_of request ≤ 64
+  pub aligned : IsAligned request

@@ -1,0 +1,2 @@
+pub mod AfterWrite
+pub mod Accesses

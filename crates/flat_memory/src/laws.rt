@@ -1,0 +1,22 @@
+//! Laws over the definitions alone, each the contract of a function that does nothing.
+ghost use Rattle.flat_memory.specs.Laws.{OtherBytesStay, PairStores, StoreBetweenEndsPair, StoredIsLoaded};
+
+/// A load of what a store stored gives the number's low bytes.
+pub fn stored_is_loaded()
+    ensures { StoredIsLoaded }
+{}
+
+/// A store changes no other byte.
+pub fn other_bytes_stay()
+    ensures { OtherBytesStay }
+{}
+
+/// A store-conditional right after a load-reserved of the same bytes stores.
+pub fn a_pair_stores()
+    ensures { PairStores }
+{}
+
+/// A store-conditional does not store where another core stored to the line since the load-reserved.
+pub fn a_store_between_ends_a_pair()
+    ensures { StoreBetweenEndsPair }
+{}

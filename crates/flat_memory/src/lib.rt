@@ -1,0 +1,12 @@
+//! The memory of a machine as one list of bytes, with a reservation for each core.
+#![tactic(auto)]
+
+pub mod laws;
+mod memory;
+mod numbers;
+mod reservation;
+#[cfg(test)]
+mod tests;
+
+pub use memory::FlatMemory;
+pub use reservation::Reservation;
