@@ -1,0 +1,2 @@
+pub mod ByteLoads
+pub mod SignExtension

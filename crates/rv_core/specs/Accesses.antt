@@ -1,0 +1,90 @@
+-- The accesses of an instruction: which bytes each one reads or writes, and what number their replies make. Memory is
+-- little-endian (RISC-V Unprivileged ISA manual, "Load and Store Instructions").
+use Rattle.std.specs.Prelude.{◌≡◌, ℕ, zero, suc, ◌+◌, ◌-◌, ◌*◌, ◌/◌, ◌%◌, ◌^◌, ◌≤◌, nat_le, nat_lt, Bool, ◌&&◌, ◌⊎◌, if◌then◌else◌, List, [], ◌∷◌}
+use Rattle.zs_num.specs.Request.{addr_of, width_of}
+use Rattle.zs_num.specs.declared.request.Request.{Request}
+use Rattle.zs_num.specs.declared.request.Request.TheVariants.{Load, Store, Lr, Sc, Amo}
+use Rattle.rv_core.specs.declared.memory_range.MemoryRange.{MemoryRange}
+use Rattle.rv_core.specs.declared.progress.Reply.{Reply}
+
+-- the number that the lowest bytes of a number make
+abbrev pub low_bytes : (width number : ℕ) → ℕ
+low_bytes width number = number % 2 ^ (8 * width)
+
+-- the number without its lowest bytes
+abbrev pub high_bytes : (width number : ℕ) → ℕ
+high_bytes width number = number / 2 ^ (8 * width)
+
+-- so many bytes from an address on lie in memory
+abbrev pub is_in_memory : MemoryRange → (addr width : ℕ) → Bool
+is_in_memory memory addr width = nat_le memory.base addr && nat_le (addr + width) (memory.base + memory.size)
+
+-- so many bytes from an address on lie in one line of 64 bytes
+abbrev pub is_in_line : (addr width : ℕ) → Bool
+is_in_line addr width = nat_le (addr % 64 + width) 64
+
+-- how many bytes there are from an address on to the end of its line
+abbrev pub left_in_line : (addr : ℕ) → ℕ
+left_in_line addr = 64 - addr % 64
+
+-- A load of so many bytes is one access, or two where it crosses a line, the lower line first.
+unfoldable pub load_requests : (addr width : ℕ) → List Request
+load_requests addr width =
+    if is_in_line addr width
+    then Load addr width ∷ []
+    else Load addr (left_in_line addr) ∷ Load (addr + left_in_line addr) (width - left_in_line addr) ∷ []
+
+-- A store of the lowest bytes of a number likewise: the lower line gets the lower bytes.
+unfoldable pub store_requests : (addr width value : ℕ) → List Request
+store_requests addr width value =
+    if is_in_line addr width
+    then Store addr width (low_bytes width value) ∷ []
+    else
+    Store addr (left_in_line addr) (low_bytes (left_in_line addr) value)
+    ∷ Store (addr + left_in_line addr) (width - left_in_line addr) (low_bytes (width - left_in_line addr) (high_bytes (left_in_line addr) value))
+    ∷ []
+
+-- a load of each of so many bytes, from the lowest address on
+abbrev pub byte_loads : (addr count : ℕ) → List Request
+byte_loads addr zero = []
+byte_loads addr (suc count) = Load addr 1 ∷ byte_loads (addr + 1) count
+
+-- a reply to an access: of the number the lowest bytes count, as many as the access has
+abbrev pub reply_to : Request → (number : ℕ) → Reply
+reply_to request number = record { width = width_of request; number = low_bytes (width_of request) number }
+
+-- the number that replies make together, the lowest bytes first
+abbrev pub joined : List Reply → ℕ
+joined [] = 0
+joined (reply ∷ replies) = reply.number + 2 ^ (8 * reply.width) * joined replies
+
+-- The number of so many bytes, sign-extended to 64 bits: where its highest bit is set, all bits above are.
+unfoldable pub sign_extended : (width number : ℕ) → ℕ
+sign_extended width number =
+    if nat_lt number (2 ^ (8 * width - 1)) then number else (number + (2 ^ 64 - 2 ^ (8 * width))) % 2 ^ 64
+
+-- an atomic is of a word or a doubleword, and lies at a multiple of its width
+abbrev pub IsAtomic : (addr width : ℕ) → Type 0
+IsAtomic addr width = ((width ≡ 4) ⊎ (width ≡ 8)) × (addr % width ≡ 0)
+
+-- a load and a store may lie anywhere
+abbrev pub IsAligned : Request → Type 0
+IsAligned (Load addr width) = Unit {0}
+IsAligned (Store addr width value) = Unit {0}
+IsAligned (Lr addr width) = IsAtomic addr width
+IsAligned (Sc addr width value paired) = IsAtomic addr width
+IsAligned (Amo op addr width value) = IsAtomic addr width
+
+-- An access that memory can serve: of 1 to 8 bytes of memory in one line, and aligned if it is an atomic.
+pub record IsServed (memory : MemoryRange) (request : Request) : Type 0 where
+  pub some : 1 ≤ width_of request
+  pub few : width_of request ≤ 8
+  pub begins : memory.base ≤ addr_of request
+  pub ends : addr_of request + width_of request ≤ memory.base + memory.size
+  pub in_line : addr_of request % 64 + width_of request ≤ 64
+  pub aligned : IsAligned request
+
+-- accesses that memory can serve
+abbrev pub AreServed : MemoryRange → List Request → Type 0
+AreServed memory [] = Unit {0}
+AreServed memory (request ∷ requests) = IsServed memory request × AreServed memory requests

@@ -1,0 +1,10 @@
+pub mod CoreState
+pub mod Pairing
+pub mod Accesses
+pub mod Fetch
+pub mod Effect
+pub mod Families
+pub mod Step
+pub mod Progress
+pub mod Sound
+pub mod Laws

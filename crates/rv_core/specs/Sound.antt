@@ -1,0 +1,26 @@
+-- What every core keeps.
+use Rattle.std.specs.Prelude.{◌≡◌, ◌+◌, ◌^◌, ◌≤◌, ◌<◌, List, ◌∷◌, length, slice_index, IfSome}
+use Rattle.zs_num.specs.declared.request.Request.{Request}
+use Rattle.rv_core.specs.Accesses.{AreServed}
+use Rattle.rv_core.specs.CoreState.{CoreState, Ending, ToRegister, ToConsole, ToNothing, InProgress}
+use Rattle.rv_core.specs.Pairing.{ArePairedRight}
+
+-- the accesses that are left of an instruction in progress
+abbrev pub left_of : InProgress → List Request
+left_of now = now.next ∷ now.later
+
+-- a number of 1 to 8 bytes goes to a register that is there
+abbrev pub EndsInRegister : Ending → Type 0
+EndsInRegister (ToRegister destination) = (destination.rd < 32) × (1 ≤ destination.width) × (destination.width ≤ 8)
+EndsInRegister (ToConsole count) = Unit {0}
+EndsInRegister ToNothing = Unit {0}
+
+-- There are 32 registers, and x0 is 0; memory ends at 2^48 at most; the accesses that are left of an instruction can all be
+-- served, and say of the pairing what it is.
+pub record IsSound (core : CoreState) : Type 0 where
+  pub registers : length core.registers ≡ 32
+  pub zero : slice_index core.registers 0 ≡ 0
+  pub reach : core.memory.base + core.memory.size ≤ 2 ^ 48
+  pub served : IfSome core.instruction (λ now. AreServed core.memory (left_of now))
+  pub paired : IfSome core.instruction (λ now. ArePairedRight core.pairing (left_of now))
+  pub ending : IfSome core.instruction (λ now. EndsInRegister now.ending)

@@ -1,0 +1,95 @@
+-- What a core does when it is asked for its next step, and when an access has its reply.
+use Rattle.std.specs.Prelude.{ℕ, ◌%◌, Bool, ◌&&◌, if◌then◌else◌, List, [], ◌∷◌, ◌++◌, replicate, slice_set, Option, Some, None, is_none}
+use Rattle.elf_load.specs.MemoryImage.{MemoryImage}
+use Rattle.rv_core.specs.declared.ask.Ask.{Ask}
+use Rattle.rv_core.specs.declared.ask.Ask.TheVariants as ask
+use Rattle.rv_core.specs.declared.memory_range.MemoryRange.{MemoryRange}
+use Rattle.rv_core.specs.declared.program.Fetched.{Fetched}
+use Rattle.rv_core.specs.declared.program.Fetched.TheVariants.{Outside, NoInstruction, Instruction}
+use Rattle.rv_core.specs.declared.progress.Reply.{Reply}
+use Rattle.rv_core.specs.declared.why.Why.{Why}
+use Rattle.rv_core.specs.declared.why.Why.TheVariants.{Exit, Illegal, Misaligned, AtomicAlign, Fetch, Access, Break}
+use Rattle.rv_core.specs.Accesses.{reply_to}
+use Rattle.rv_core.specs.CoreState.{CoreState, Ending, ToRegister, ToConsole, ToNothing, InProgress}
+use Rattle.rv_core.specs.Effect.{effect, goes_through, halts}
+use Rattle.rv_core.specs.Fetch.{fetched_at}
+use Rattle.rv_core.specs.Pairing.{pairing_after}
+
+-- the registers at the start: sp is x2, the core's number is in a0 (x10) and the number of cores in a1 (x11)
+abbrev pub start_registers : (number cores sp : ℕ) → List ℕ
+start_registers number cores sp = slice_set (slice_set (slice_set (replicate 32 0) 2 sp) 10 number) 11 cores
+
+-- the core of this number at the start
+unfoldable pub initial_core : (number cores entry sp : ℕ) → MemoryRange → CoreState
+initial_core number cores entry sp memory = record {
+  registers = start_registers number cores sp;
+  pc = entry;
+  memory = memory;
+  pairing = None;
+  instruction = None;
+  halted = None;
+}
+
+-- whether the core comes to its next instruction: it has not halted, and none is in progress
+abbrev pub is_free : CoreState → Bool
+is_free core = is_none core.halted && is_none core.instruction
+
+-- the core after the instruction that stands at pc, or halted where there is none
+abbrev pub after_fetch : Fetched → CoreState → CoreState
+after_fetch Outside core = halts (Fetch core.pc) core
+after_fetch (NoInstruction word) core = halts (Illegal word) core
+after_fetch (Instruction inst) core = effect inst.name inst core
+
+-- the core after its next instruction, or up to the instruction's first access
+abbrev pub executed : MemoryImage → CoreState → CoreState
+executed image core = after_fetch (fetched_at image core.pc) core
+
+-- the core when it was asked: an instruction in progress waits for its reply, and a halted core stays as it is
+abbrev pub advanced : MemoryImage → CoreState → CoreState
+advanced image core = if is_free core then executed image core else core
+
+-- what a core asks for
+abbrev pub asked_by : (instruction : Option InProgress) → Ask
+asked_by None = ask.Local
+asked_by (Some instruction) = ask.Access instruction.next
+
+abbrev pub asked : (halted : Option Why) → (instruction : Option InProgress) → Ask
+asked None instruction = asked_by instruction
+asked (Some why) instruction = ask.Halted why
+
+-- the replies so far and one more: only those that go to a register are kept
+abbrev pub replies_with : Ending → List Reply → Reply → List Reply
+replies_with (ToRegister destination) replies reply = replies ++ reply ∷ []
+replies_with (ToConsole count) replies reply = replies
+replies_with ToNothing replies reply = replies
+
+-- the next access of the instruction in progress had this reply
+abbrev pub after_reply : Option InProgress → (reply : ℕ) → CoreState → CoreState
+after_reply None reply core = core
+after_reply (Some now) reply core =
+    goes_through now.later (replies_with now.ending now.replies (reply_to now.next reply)) now.ending
+    (record core { pairing = pairing_after core.pairing now.next; instruction = None })
+
+unfoldable pub answered : (reply : ℕ) → CoreState → CoreState
+answered reply core = after_reply core.instruction reply core
+
+-- the byte of a reply that goes to the console: that of an access of a write call
+abbrev pub byte_of : Ending → (reply : ℕ) → Option ℕ
+byte_of (ToConsole count) reply = Some (reply % 256)
+byte_of (ToRegister destination) reply = None
+byte_of ToNothing reply = None
+
+abbrev pub console_byte : Option InProgress → (reply : ℕ) → Option ℕ
+console_byte None reply = None
+console_byte (Some now) reply = byte_of now.ending reply
+
+-- an instruction is counted and costs a cycle, unless the core halted by a fault
+abbrev pub cost : Option Why → ℕ
+cost None = 1
+cost (Some (Exit number)) = 1
+cost (Some (Illegal word)) = 0
+cost (Some (Misaligned target)) = 0
+cost (Some (AtomicAlign addr)) = 0
+cost (Some (Fetch addr)) = 0
+cost (Some (Access addr)) = 0
+cost (Some Break) = 0

@@ -1,0 +1,167 @@
+// Load-reserved, store-conditional and atomic read-modify-writes.
+ghost use Rattle.std.specs.Prelude.{◌≡◌, ◌<◌, ◌≤◌, ◌+◌, ◌%◌, ◌==◌, ◌⊎◌, IsTrue, [], ◌∷◌};
+ghost use Rattle.zs_num.specs.Request.{addr_of, width_of};
+ghost use Rattle.rv_core.specs.Effect.{atomic, effect, load_reserved, store_conditional, updates};
+ghost use Rattle.rv_core.specs.Families.{is_doubleword_atomic, is_word_atomic};
+ghost use Rattle.rv_core.specs.Pairing.{IsPairedRight};
+ghost use Rattle.rv_core.specs.CoreState.{ToRegister};
+ghost use Rattle.rv_core.specs.Step.{is_free};
+
+use crate::progress::Destination;
+use crate::replies::low_bytes;
+use crate::{Core, Why};
+use rv_decode::{Inst, Name};
+use zs_num::{AmoOp, Request};
+
+impl Core {
+    /// Atomics on words.
+    #[inline(always)]
+    #[tactic(auto, unfolding(crate::specs::Effect::effect))]
+    pub(crate) fn word_atomic(&mut self, inst: Inst) -> bool
+        requires name { IsTrue (is_word_atomic inst.name) }
+        requires free { IsTrue (is_free self.old) }
+        requires rd { inst.rd < 32 }
+        requires rs1 { inst.rs1 < 32 }
+        requires rs2 { inst.rs2 < 32 }
+        ensures value { self.new ≡ effect inst.name inst self.old }
+        ensures free { result ≡ is_free self.new }
+    {
+        match inst.name {
+            Name::LrW => self.load_reserved(4, inst),
+            Name::ScW => self.store_conditional(4, inst),
+            Name::AmoswapW => self.update(AmoOp::Swap, 4, inst),
+            Name::AmoaddW => self.update(AmoOp::Add, 4, inst),
+            Name::AmoxorW => self.update(AmoOp::Xor, 4, inst),
+            Name::AmoandW => self.update(AmoOp::And, 4, inst),
+            Name::AmoorW => self.update(AmoOp::Or, 4, inst),
+            Name::AmominW => self.update(AmoOp::Min, 4, inst),
+            Name::AmomaxW => self.update(AmoOp::Max, 4, inst),
+            Name::AmominuW => self.update(AmoOp::Minu, 4, inst),
+            Name::AmomaxuW => self.update(AmoOp::Maxu, 4, inst),
+            _ => unreachable!(),
+        }
+    }
+
+    /// Atomics on doublewords.
+    #[inline(always)]
+    #[tactic(auto, unfolding(crate::specs::Effect::effect))]
+    pub(crate) fn doubleword_atomic(&mut self, inst: Inst) -> bool
+        requires name { IsTrue (is_doubleword_atomic inst.name) }
+        requires free { IsTrue (is_free self.old) }
+        requires rd { inst.rd < 32 }
+        requires rs1 { inst.rs1 < 32 }
+        requires rs2 { inst.rs2 < 32 }
+        ensures value { self.new ≡ effect inst.name inst self.old }
+        ensures free { result ≡ is_free self.new }
+    {
+        match inst.name {
+            Name::LrD => self.load_reserved(8, inst),
+            Name::ScD => self.store_conditional(8, inst),
+            Name::AmoswapD => self.update(AmoOp::Swap, 8, inst),
+            Name::AmoaddD => self.update(AmoOp::Add, 8, inst),
+            Name::AmoxorD => self.update(AmoOp::Xor, 8, inst),
+            Name::AmoandD => self.update(AmoOp::And, 8, inst),
+            Name::AmoorD => self.update(AmoOp::Or, 8, inst),
+            Name::AmominD => self.update(AmoOp::Min, 8, inst),
+            Name::AmomaxD => self.update(AmoOp::Max, 8, inst),
+            Name::AmominuD => self.update(AmoOp::Minu, 8, inst),
+            Name::AmomaxuD => self.update(AmoOp::Maxu, 8, inst),
+            _ => unreachable!(),
+        }
+    }
+
+    // A load-reserved of so many bytes.
+    fn load_reserved(&mut self, width: u8, inst: Inst) -> bool
+        requires free { IsTrue (is_free self.old) }
+        requires width { (width ≡ 4) ⊎ (width ≡ 8) }
+        requires rd { inst.rd < 32 }
+        requires rs1 { inst.rs1 < 32 }
+        ensures value { self.new ≡ load_reserved width inst self.old }
+        ensures free { result ≡ is_free self.new }
+    {
+        let addr = self.reg(inst.rs1);
+        self.ask_atomic(Request::Lr { addr, width }, number_to(inst.rd, width, true))
+    }
+
+    // A store-conditional of so many bytes.
+    fn store_conditional(&mut self, width: u8, inst: Inst) -> bool
+        requires free { IsTrue (is_free self.old) }
+        requires width { (width ≡ 4) ⊎ (width ≡ 8) }
+        requires rd { inst.rd < 32 }
+        requires rs1 { inst.rs1 < 32 }
+        requires rs2 { inst.rs2 < 32 }
+        ensures value { self.new ≡ store_conditional width inst self.old }
+        ensures free { result ≡ is_free self.new }
+    {
+        let addr = self.reg(inst.rs1);
+        let request = Request::Sc {
+            addr,
+            width,
+            value: low_bytes(width, self.reg(inst.rs2)),
+            paired: self.is_paired(addr, width),
+        };
+        self.ask_atomic(request, number_to(inst.rd, width, false))
+    }
+
+    // An atomic read-modify-write of so many bytes.
+    fn update(&mut self, op: AmoOp, width: u8, inst: Inst) -> bool
+        requires free { IsTrue (is_free self.old) }
+        requires width { (width ≡ 4) ⊎ (width ≡ 8) }
+        requires rd { inst.rd < 32 }
+        requires rs1 { inst.rs1 < 32 }
+        requires rs2 { inst.rs2 < 32 }
+        ensures value { self.new ≡ updates op width inst self.old }
+        ensures free { result ≡ is_free self.new }
+    {
+        let request = Request::Amo {
+            op,
+            addr: self.reg(inst.rs1),
+            width,
+            value: low_bytes(width, self.reg(inst.rs2)),
+        };
+        self.ask_atomic(request, number_to(inst.rd, width, true))
+    }
+
+    // Asks for the access of an atomic, unless it is not aligned or not in memory.
+    #[tactic(auto, unfolding(crate::specs::Effect::accesses, crate::specs::Effect::atomic))]
+    fn ask_atomic(&mut self, request: Request, destination: Destination) -> bool
+        requires free { IsTrue (is_free self.old) }
+        requires width { (width_of request ≡ 4) ⊎ (width_of request ≡ 8) }
+        requires rd { destination.rd < 32 }
+        requires same_width { destination.width ≡ width_of request }
+        requires paired { IsPairedRight self.old.pairing request }
+        ensures value { self.new ≡ atomic (addr_of request) (width_of request) request (ToRegister destination) self.old }
+        ensures free { result ≡ is_free self.new }
+    {
+        let addr = request.addr();
+        let width = request.width();
+        if !is_aligned(addr, width) {
+            self.stop(Why::AtomicAlign { addr })
+        } else if self.has(addr, u64::from(width)) {
+            self.begin(request, Some(destination));
+            false
+        } else {
+            self.stop(Why::Access { addr })
+        }
+    }
+}
+
+// A register that gets a number of so many bytes.
+fn number_to(rd: u8, width: u8, signed: bool) -> Destination
+    ensures { result ≡ record { rd = rd; width = width; signed = signed } }
+{
+    Destination { rd, width, signed }
+}
+
+// Whether an address is a multiple of a width.
+fn is_aligned(addr: u64, width: u8) -> bool
+    requires { (width ≡ 4) ⊎ (width ≡ 8) }
+    ensures value { result ≡ (addr % width == 0) }
+    ensures in_line { IsTrue result → addr % 64 + width ≤ 64 }
+{
+    if width == 4 {
+        addr % 4 == 0
+    } else {
+        addr % 8 == 0
+    }
+}

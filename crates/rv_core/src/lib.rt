@@ -1,0 +1,23 @@
+//! One core as its program sees it: it executes RV64I with the extensions M and A (RISC-V Unprivileged
+//! ISA manual), asks for accesses and takes their replies.
+#![tactic(auto)]
+
+mod arithmetic;
+mod ask;
+mod atomics;
+mod calls;
+mod control;
+mod loads_stores;
+mod memory_range;
+mod pairing;
+mod program;
+mod progress;
+mod replies;
+mod state;
+mod step;
+mod why;
+
+pub use ask::Ask;
+pub use program::{Fetched, Program};
+pub use state::Core;
+pub use why::Why;

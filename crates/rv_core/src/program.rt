@@ -1,0 +1,53 @@
+// What a core reads its instructions from.
+ghost use Rattle.std.specs.Prelude.{◌≡◌, ◌<◌};
+ghost use Rattle.elf_load.specs.MemoryImage.{MemoryImage};
+ghost use Rattle.rv_decode.specs.InstructionTable.{decoded};
+ghost use Rattle.rv_core.specs.Fetch.{fetched_at, of_decoded, HasRegisters};
+
+use elf_load::Image;
+use rv_decode::{Inst, decode};
+
+/// What a program has at an address.
+#[derive(Clone, Copy, Debug, PartialEq, Eq)]
+pub enum Fetched {
+    /// The four bytes are not in one executable segment.
+    Outside,
+    /// They are a word that is no instruction.
+    NoInstruction { word: u32 },
+    Instruction(Inst),
+}
+
+/// A program in memory, as it was loaded. Stores do not change it.
+pub trait Program {
+    ghost image: { Self → MemoryImage };
+
+    /// What the program has at an address. `near` is any number: the program keeps in it where it
+    /// looks first.
+    fn fetch(&self, near: &mut usize, pc: u64) -> Fetched
+        ensures value { result ≡ fetched_at (image self.now) pc }
+        ensures registers { HasRegisters result };
+}
+
+impl Program for Image {
+    ghost image = { λ i. i };
+
+    #[inline(always)]
+    #[tactic(auto, unfolding(crate::specs::Fetch::fetched_at))]
+    fn fetch(&self, near: &mut usize, pc: u64) -> Fetched {
+        match self.word_near(near, pc) {
+            Some(word) => of_word(word),
+            None => Fetched::Outside,
+        }
+    }
+}
+
+// The instruction that a word is, if it is one.
+fn of_word(word: u32) -> Fetched
+    ensures value { result ≡ of_decoded word (decoded word) }
+    ensures registers { HasRegisters result }
+{
+    match decode(word) {
+        Some(inst) => Fetched::Instruction(inst),
+        None => Fetched::NoInstruction { word },
+    }
+}

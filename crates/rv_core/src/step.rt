@@ -1,0 +1,154 @@
+// A step of a core: its next instruction, up to its first access if it has one.
+ghost use Rattle.std.specs.Prelude.{◌≡◌, ◌<◌, false, IsTrue};
+ghost use Rattle.rv_core.specs.Effect.{effect, goes_on, halts};
+ghost use Rattle.rv_core.specs.Step.{advanced, asked, executed, is_free};
+
+use crate::{Ask, Core, Fetched, Program, Why};
+use rv_decode::{Inst, Name};
+
+impl Core {
+    /// Executes the next instruction, up to its first access if it has one. Where an instruction is
+    /// in progress, or the core has halted, it asks again for what it asked.
+    pub fn next<P: Program>(&mut self, program: &P) -> Ask
+        ensures value { self.new ≡ advanced (P.image program.now) self.old }
+        ensures ask { result ≡ asked self.new.halted self.new.instruction }
+    {
+        if self.is_free() {
+            self.step(program);
+        }
+        self.ask()
+    }
+
+    // What the core asks for.
+    fn ask(&self) -> Ask
+        ensures { result ≡ asked self.now.halted self.now.instruction }
+    {
+        match (self.halted(), self.request()) {
+            (Some(why), _) => Ask::Halted(why),
+            (None, Some(request)) => Ask::Access(request),
+            (None, None) => Ask::Local,
+        }
+    }
+
+    /// Executes the next instruction, up to its first access if it has one. It answers whether the
+    /// core comes to a next instruction: it has not halted, and has no access to make.
+    #[inline(always)]
+    pub fn step<P: Program>(&mut self, program: &P) -> bool
+        requires { IsTrue (is_free self.old) }
+        ensures value { self.new ≡ executed (P.image program.now) self.old }
+        ensures free { result ≡ is_free self.new }
+    {
+        match self.fetch(program) {
+            Fetched::Instruction(inst) => self.execute(inst),
+            Fetched::NoInstruction { word } => self.stop(Why::Illegal { word }),
+            Fetched::Outside => self.stop(Why::Fetch { addr: self.pc() }),
+        }
+    }
+
+    // Executes an instruction.
+    #[inline(always)]
+    fn execute(&mut self, inst: Inst) -> bool
+        requires free { IsTrue (is_free self.old) }
+        requires rd { inst.rd < 32 }
+        requires rs1 { inst.rs1 < 32 }
+        requires rs2 { inst.rs2 < 32 }
+        ensures value { self.new ≡ effect inst.name inst self.old }
+        ensures free { result ≡ is_free self.new }
+    {
+        match inst.name {
+            Name::Lui | Name::Auipc => self.upper(inst),
+            Name::Jal | Name::Jalr => self.jump(inst),
+            Name::Beq | Name::Bne | Name::Blt | Name::Bge | Name::Bltu | Name::Bgeu => self.branch(
+                inst,
+            ),
+            Name::Lb | Name::Lh | Name::Lw | Name::Ld | Name::Lbu | Name::Lhu | Name::Lwu =>
+                self.load(inst),
+            Name::Sb | Name::Sh | Name::Sw | Name::Sd => self.store(inst),
+            Name::Addi
+            | Name::Slti
+            | Name::Sltiu
+            | Name::Xori
+            | Name::Ori
+            | Name::Andi
+            | Name::Slli
+            | Name::Srli
+            | Name::Srai
+            | Name::Addiw
+            | Name::Slliw
+            | Name::Srliw
+            | Name::Sraiw => self.compute_with_immediate(inst),
+            Name::Add
+            | Name::Sub
+            | Name::Sll
+            | Name::Slt
+            | Name::Sltu
+            | Name::Xor
+            | Name::Srl
+            | Name::Sra
+            | Name::Or
+            | Name::And
+            | Name::Addw
+            | Name::Subw
+            | Name::Sllw
+            | Name::Srlw
+            | Name::Sraw => self.compute(inst),
+            Name::Mul
+            | Name::Mulh
+            | Name::Mulhsu
+            | Name::Mulhu
+            | Name::Div
+            | Name::Divu
+            | Name::Rem
+            | Name::Remu
+            | Name::Mulw
+            | Name::Divw
+            | Name::Divuw
+            | Name::Remw
+            | Name::Remuw => self.multiply(inst),
+            Name::Fence | Name::Ecall | Name::Ebreak => self.system(inst),
+            Name::LrW
+            | Name::ScW
+            | Name::AmoswapW
+            | Name::AmoaddW
+            | Name::AmoxorW
+            | Name::AmoandW
+            | Name::AmoorW
+            | Name::AmominW
+            | Name::AmomaxW
+            | Name::AmominuW
+            | Name::AmomaxuW => self.word_atomic(inst),
+            Name::LrD
+            | Name::ScD
+            | Name::AmoswapD
+            | Name::AmoaddD
+            | Name::AmoxorD
+            | Name::AmoandD
+            | Name::AmoorD
+            | Name::AmominD
+            | Name::AmomaxD
+            | Name::AmominuD
+            | Name::AmomaxuD => self.doubleword_atomic(inst),
+        }
+    }
+
+    // Halts, and answers that the core comes to no next instruction.
+    pub(crate) fn stop(&mut self, why: Why) -> bool
+        ensures value { self.new ≡ halts why self.old }
+        ensures free { result ≡ false }
+    {
+        self.halt(why);
+        false
+    }
+
+    // Writes a register, and answers that the core comes to its next instruction.
+    #[inline(always)]
+    pub(crate) fn write(&mut self, rd: u8, value: u64) -> bool
+        requires free { IsTrue (is_free self.old) }
+        requires rd { rd < 32 }
+        ensures value { self.new ≡ goes_on self.old rd value }
+        ensures free { result ≡ is_free self.new }
+    {
+        self.go_on(rd, value);
+        true
+    }
+}
