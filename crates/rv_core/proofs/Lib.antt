@@ -1,2 +1,5 @@
 pub mod ByteLoads
 pub mod SignExtension
+pub mod Kept
+pub mod Reached
+pub mod Bytes

@@ -1,7 +1,10 @@
 -- What every core keeps.
 use Rattle.std.specs.Prelude.{◌≡◌, ◌+◌, ◌^◌, ◌≤◌, ◌<◌, List, ◌∷◌, length, slice_index, IfSome}
 use Rattle.zs_num.specs.declared.request.Request.{Request}
-use Rattle.rv_core.specs.Accesses.{AreServed}
+use Rattle.rv_core.specs.declared.ask.Ask.{Ask}
+use Rattle.rv_core.specs.declared.ask.Ask.TheVariants.{Local, Access, Halted}
+use Rattle.rv_core.specs.declared.memory_range.MemoryRange.{MemoryRange}
+use Rattle.rv_core.specs.Accesses.{AreServed, IsServed}
 use Rattle.rv_core.specs.CoreState.{CoreState, Ending, ToRegister, ToConsole, ToNothing, InProgress}
 use Rattle.rv_core.specs.Pairing.{ArePairedRight}
 
@@ -24,3 +27,9 @@ pub record IsSound (core : CoreState) : Type 0 where
   pub served : IfSome core.instruction (λ now. AreServed core.memory (left_of now))
   pub paired : IfSome core.instruction (λ now. ArePairedRight core.pairing (left_of now))
   pub ending : IfSome core.instruction (λ now. EndsInRegister now.ending)
+
+-- an access that is asked for can be served
+abbrev pub IsServedAsk : MemoryRange → Ask → Type 0
+IsServedAsk memory Local = Unit {0}
+IsServedAsk memory (Access request) = IsServed memory request
+IsServedAsk memory (Halted why) = Unit {0}

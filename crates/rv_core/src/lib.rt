@@ -7,6 +7,8 @@ mod ask;
 mod atomics;
 mod calls;
 mod control;
+mod decoded_program;
+pub mod laws;
 mod loads_stores;
 mod memory_range;
 mod pairing;
@@ -18,6 +20,10 @@ mod step;
 mod why;
 
 pub use ask::Ask;
+pub use decoded_program::DecodedProgram;
 pub use program::{Fetched, Program};
 pub use state::Core;
 pub use why::Why;
+
+#[cfg(test)]
+mod tests;

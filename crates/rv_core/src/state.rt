@@ -131,6 +131,7 @@ impl Core {
         ensures value { result ≡ fetched_at (P.image program.now) self.old.pc }
         ensures registers { HasRegisters result }
         ensures same { self.new ≡ self.old }
+        ensures sound { IsSound self.old }
     {
         program.fetch(&mut self.near, self.pc)
     }
@@ -237,11 +238,23 @@ impl Core {
     /// last, the instruction ends, and the core comes to the next one. Of a reply the lowest bytes
     /// count, as many as the access has. The answer is the byte that goes to the console, where the
     /// access belongs to a write call.
-    #[tactic(auto, unfolding(crate::specs::Step::answered))]
+    #[inline(always)]
     pub fn answer(&mut self, reply: u64) -> Option<u8>
         requires { IsSome self.old.instruction }
         ensures value { self.new ≡ answered reply self.old }
         ensures byte { result ≡ console_byte self.old.instruction reply }
+        ensures sound { IsSound self.new }
+        ensures memory { self.new.memory ≡ self.old.memory }
+    {
+        self.take(reply)
+    }
+
+    #[tactic(auto, unfolding(crate::specs::Step::answered))]
+    fn take(&mut self, reply: u64) -> Option<u8>
+        requires { IsSome self.old.instruction }
+        ensures value { self.new ≡ answered reply self.old }
+        ensures byte { result ≡ console_byte self.old.instruction reply }
+        ensures sound { IsSound self.old }
     {
         match self.progress {
             Progress::Idle => unreachable!(),

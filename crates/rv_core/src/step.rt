@@ -1,6 +1,7 @@
 // A step of a core: its next instruction, up to its first access if it has one.
 ghost use Rattle.std.specs.Prelude.{◌≡◌, ◌<◌, false, IsTrue};
 ghost use Rattle.rv_core.specs.Effect.{effect, goes_on, halts};
+ghost use Rattle.rv_core.specs.Sound.{IsServedAsk, IsSound};
 ghost use Rattle.rv_core.specs.Step.{advanced, asked, executed, is_free};
 
 use crate::{Ask, Core, Fetched, Program, Why};
@@ -12,6 +13,9 @@ impl Core {
     pub fn next<P: Program>(&mut self, program: &P) -> Ask
         ensures value { self.new ≡ advanced (P.image program.now) self.old }
         ensures ask { result ≡ asked self.new.halted self.new.instruction }
+        ensures served { IsServedAsk self.new.memory result }
+        ensures sound { IsSound self.new }
+        ensures memory { self.new.memory ≡ self.old.memory }
     {
         if self.is_free() {
             self.step(program);
@@ -21,7 +25,9 @@ impl Core {
 
     // What the core asks for.
     fn ask(&self) -> Ask
-        ensures { result ≡ asked self.now.halted self.now.instruction }
+        ensures value { result ≡ asked self.now.halted self.now.instruction }
+        ensures served { IsServedAsk self.now.memory result }
+        ensures sound { IsSound self.now }
     {
         match (self.halted(), self.request()) {
             (Some(why), _) => Ask::Halted(why),
@@ -37,6 +43,19 @@ impl Core {
         requires { IsTrue (is_free self.old) }
         ensures value { self.new ≡ executed (P.image program.now) self.old }
         ensures free { result ≡ is_free self.new }
+        ensures sound { IsSound self.new }
+        ensures memory { self.new.memory ≡ self.old.memory }
+    {
+        rv_decode::laws::ranges();
+        self.fetch_and_execute(program)
+    }
+
+    #[inline(always)]
+    fn fetch_and_execute<P: Program>(&mut self, program: &P) -> bool
+        requires { IsTrue (is_free self.old) }
+        ensures value { self.new ≡ executed (P.image program.now) self.old }
+        ensures free { result ≡ is_free self.new }
+        ensures sound { IsSound self.old }
     {
         match self.fetch(program) {
             Fetched::Instruction(inst) => self.execute(inst),

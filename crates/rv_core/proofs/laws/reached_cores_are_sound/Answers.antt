@@ -1,0 +1,5 @@
+use Rattle.rv_core.proofs.Reached.{reached-sound}
+use Rattle.rv_core.proofs.laws.reached_cores_are_sound.Goals as goal
+
+pub returns : goal.returns
+returns c core reached = reached-sound c.ranges-2.ensures.registers reached

@@ -1,0 +1,5 @@
+use Rattle.rv_core.proofs.Reached.{reached-sound}
+use Rattle.rv_core.proofs.laws.x0_reads_as_zero.Goals as goal
+
+pub returns : goal.returns
+returns c core reached = (reached-sound c.ranges-2.ensures.registers reached).zero

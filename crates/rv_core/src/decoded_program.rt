@@ -1,0 +1,157 @@
+// A program whose words are decoded once.
+ghost use Rattle.std.specs.Prelude.{◌≡◌, ◌+◌, ◌*◌, ◌^◌, ◌≤◌, All, IfOk, IfSome};
+ghost use Rattle.rv_core.specs.Fetch.{fetched_at, HasRegisters, IsKnown};
+
+use crate::{Fetched, Program};
+use elf_load::{Image, Segment};
+use std::alloc::Global;
+use std::marker::Model;
+use zs_num::NoMemory;
+
+/// The words that are decoded at most, over all segments. Each takes 32 bytes.
+const MOST_WORDS: usize = 1 << 20;
+
+/// The bytes of a word.
+const WORD: u64 = 4;
+
+/// What the program has at an address.
+#[derive(Clone, Copy, Debug)]
+pub struct Slot {
+    pub pc: u64,
+    pub fetched: Fetched,
+}
+
+/// The words of one segment: so many slots, from a place on, are of the addresses from the first on.
+#[derive(Clone, Copy, Debug)]
+struct Span {
+    first: u64,
+    place: usize,
+    count: usize,
+}
+
+impl Span {
+    // Whether an address is one of them.
+    fn has(&self, pc: u64) -> bool {
+        pc.wrapping_sub(self.first) / WORD < self.count as u64
+    }
+
+    // What leads from a word's number in all addresses to its slot.
+    fn near(&self) -> usize {
+        self.place.wrapping_sub((self.first / WORD) as usize)
+    }
+}
+
+/// An executable in memory and its instructions, decoded once for a whole run. What it does not hold
+/// decoded it decodes each time: words past the first 2^20, and those past the bytes of the file.
+#[derive(Drop)]
+pub struct DecodedProgram<'a> {
+    image: &'a Image,
+    slots: Vec<Slot>,
+    spans: Vec<Span>,
+}
+
+impl<'a> Model for DecodedProgram<'a> {
+    ghost use Rattle.std.specs.Prelude.{All};
+    ghost use Rattle.elf_load.specs.MemoryImage.{MemoryImage};
+    ghost use Rattle.rv_core.specs.Fetch.{IsKnown};
+
+    ghost Value = { MemoryImage };
+
+    ghost view = { λ p. p.image.now };
+
+    ghost invariant = { λ p. All (IsKnown p.image.now) p.slots.items };
+}
+
+impl<'a> DecodedProgram<'a> {
+    /// Decodes a program.
+    pub fn of(alloc: Global, image: &'a Image) -> Result<Self, NoMemory>
+        ensures { IfOk result (λ program. program ≡ image.now) }
+    {
+        let mut program = DecodedProgram {
+            image,
+            slots: Vec::new(alloc),
+            spans: Vec::new(alloc),
+        };
+        for segment in image.segments() {
+            program.add(segment)?;
+        }
+        Ok(program)
+    }
+
+    // Decodes the words of a segment, as far as there is room.
+    fn add(&mut self, segment: &Segment) -> Result<(), NoMemory>
+        ensures { self.new ≡ self.old }
+    {
+        if !segment.exec {
+            return Ok(());
+        }
+        // The first address of the segment that is a multiple of 4, as those of instructions are.
+        let skipped = (WORD - segment.vaddr % WORD) % WORD;
+        let first = segment.vaddr.wrapping_add(skipped);
+        let bytes = segment.bytes.as_slice().len();
+        let words = bytes.saturating_sub(skipped as usize) / WORD as usize;
+        let place = self.slots.len();
+        let count = words.min(MOST_WORDS.saturating_sub(place));
+        self.slots.reserve(count)?;
+        self.spans.push(Span {
+            first,
+            place,
+            count,
+        })?;
+        for k in 0..count as u64 {
+            self.decode(first.wrapping_add(WORD * k))?;
+        }
+        Ok(())
+    }
+
+    // Decodes the word at an address.
+    fn decode(&mut self, pc: u64) -> Result<(), NoMemory>
+        ensures { self.new ≡ self.old }
+    {
+        let fetched = self.image.fetch(&mut 0, pc);
+        self.slots.push(Slot { pc, fetched })?;
+        Ok(())
+    }
+
+    // The slot of an address, if `near` leads to it.
+    #[inline(always)]
+    fn slot_at(&self, near: usize, pc: u64) -> Option<Fetched>
+        ensures value { IfSome result (λ fetched. fetched ≡ fetched_at self.now pc) }
+        ensures registers { IfSome result HasRegisters }
+    {
+        let place = (pc / WORD).wrapping_add(near as u64);
+        match self.slots.get(place as usize) {
+            Some(slot) if slot.pc == pc => Some(slot.fetched),
+            _ => None,
+        }
+    }
+
+    // Looks an address up in every segment.
+    #[cold]
+    fn look(&self, near: &mut usize, pc: u64) -> Fetched
+        ensures value { result ≡ fetched_at self.now pc }
+        ensures registers { HasRegisters result }
+    {
+        for span in &self.spans {
+            if span.has(pc) {
+                *near = span.near();
+            }
+        }
+        match self.slot_at(*near, pc) {
+            Some(fetched) => fetched,
+            None => self.image.fetch(&mut 0, pc),
+        }
+    }
+}
+
+impl Program for DecodedProgram<'_> {
+    ghost image = { λ p. p };
+
+    #[inline(always)]
+    fn fetch(&self, near: &mut usize, pc: u64) -> Fetched {
+        match self.slot_at(*near, pc) {
+            Some(fetched) => fetched,
+            None => self.look(near, pc),
+        }
+    }
+}

@@ -1,0 +1,73 @@
+//! Laws over whole instructions and whole runs of a core, in the words of the RISC-V Unprivileged ISA
+//! manual. Each is the contract of a function that does nothing.
+ghost use Rattle.std.specs.Prelude.{◌≡◌, ◌<◌, ℕ, List, All, Some, length};
+ghost use Rattle.std.specs.List.{flat_map};
+ghost use Rattle.elf_load.specs.MemoryImage.{MemoryImage};
+ghost use Rattle.zs_num.specs.declared.request.Request.{Request};
+ghost use Rattle.rv_core.specs.Accesses.{joined, load_requests, store_requests};
+ghost use Rattle.rv_core.specs.CoreState.{CoreState, InProgress};
+ghost use Rattle.rv_core.specs.Effect.{register};
+ghost use Rattle.rv_core.specs.Laws.{addresses, addresses_of, bytes_of, bytes_stored, number_of, replies_loaded, Asks, IsReached};
+ghost use Rattle.rv_core.specs.Pairing.{pairing_after, pairing_after_all, ArePairedRight, IsPairedRight};
+ghost use Rattle.rv_core.specs.Sound.{IsSound};
+ghost use Rattle.rv_core.specs.Step.{advanced, answered};
+
+/// x0 reads as zero for ever ("Programmers' Model for Base Integer ISA"), whatever program runs and
+/// whatever its accesses reply.
+pub fn x0_reads_as_zero()
+    ensures { (core : CoreState) → IsReached core → register core 0 ≡ 0 }
+{
+    rv_decode::laws::ranges();
+}
+
+/// A core that is reached is sound: all that it asks for can be served.
+pub fn reached_cores_are_sound()
+    ensures { (core : CoreState) → IsReached core → IsSound core }
+{
+    rv_decode::laws::ranges();
+}
+
+/// A step and a reply leave a sound core sound, and its memory where it is. A step leaves its pairing,
+/// and a reply gives it the one that the access leaves.
+pub fn cores_stay_sound()
+    ensures advanced { (image : MemoryImage) (core : CoreState) → IsSound core → IsSound (advanced image core) }
+    ensures advanced_memory { (image : MemoryImage) (core : CoreState) → IsSound core → (advanced image core).memory ≡ core.memory }
+    ensures advanced_pairing { (image : MemoryImage) (core : CoreState) → IsSound core → (advanced image core).pairing ≡ core.pairing }
+    ensures answered { (reply : ℕ) (core : CoreState) → IsSound core → IsSound (answered reply core) }
+    ensures answered_memory { (reply : ℕ) (core : CoreState) → IsSound core → (answered reply core).memory ≡ core.memory }
+    ensures answered_pairing { (reply : ℕ) (core : CoreState) (now : InProgress) → IsSound core → core.instruction ≡ Some now
+        → (answered reply core).pairing ≡ pairing_after core.pairing now.next }
+{
+    rv_decode::laws::ranges();
+}
+
+/// Every access that a core asks for says of the pairing what it is, and so does every list of them:
+/// where a store-conditional is paired, the core's latest load-reserved was at its address and width,
+/// and no store-conditional came since; and where it is not, that is not so.
+pub fn accesses_are_paired_right()
+    ensures next { (core : CoreState) (now : InProgress) → IsSound core → core.instruction ≡ Some now
+        → IsPairedRight core.pairing now.next }
+    ensures lists { (core last : CoreState) (requests : List Request) → IsSound core → Asks core requests last
+        → ArePairedRight core.pairing requests }
+    ensures pairing { (core last : CoreState) (requests : List Request) → IsSound core → Asks core requests last
+        → last.pairing ≡ pairing_after_all core.pairing requests }
+{
+    rv_decode::laws::ranges();
+}
+
+/// The accesses of a load or a store have the bytes of the whole, in order, wherever it crosses a
+/// line.
+pub fn accesses_cover_the_whole()
+    ensures loads { (addr width : ℕ) → addresses_of (load_requests addr width) ≡ addresses addr width }
+    ensures stores { (addr width value : ℕ)
+        → addresses_of (store_requests addr width value) ≡ addresses addr width }
+{}
+
+/// The bytes that the accesses of a store write are those of its number, the lowest first, and the
+/// number that the accesses of a load give is that of its bytes.
+pub fn accesses_are_little_endian()
+    ensures stores { (addr width value : ℕ)
+        → flat_map bytes_stored (store_requests addr width value) ≡ bytes_of width value }
+    ensures loads { (addr width : ℕ) (bytes : List ℕ) → length bytes ≡ width → All (λ b. b < 256) bytes
+        → joined (replies_loaded (load_requests addr width) bytes) ≡ number_of bytes }
+{}
