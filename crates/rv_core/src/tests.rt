@@ -347,15 +347,12 @@ fn write(rt: &impl Abort, alloc: Global, call: [u32; 4]) -> Result<(u64, u64), F
     let [number, file, addr, count] = call;
     let image = image(alloc, &[number, file, addr, count, ECALL, EXIT, ECALL])?;
     let mut core = core();
-    let mut bytes = 0;
-    for _ in 0..2000 {
-        match core.next(&image) {
-            Ask::Local => {}
+    for bytes in 0..300 {
+        match first_ask(&mut core, &image) {
             Ask::Access(Request::Load { addr, width }) => {
                 assert_eq!(rt; (addr, width), (BASE + bytes, 1));
                 let letter = b"hey"[(bytes % 3) as usize];
                 assert_eq!(rt; reply(rt, &mut core, u64::from(letter)), Some(letter));
-                bytes += 1;
             }
             Ask::Halted(Why::Exit(a0)) => return Ok((a0, bytes)),
             _ => return Err("another halt".into()),
