@@ -3,7 +3,6 @@ pub mod Pairing
 pub mod Accesses
 pub mod Fetch
 pub mod Effect
-pub mod Families
 pub mod Step
 pub mod Progress
 pub mod Sound

@@ -1,8 +1,7 @@
 // Load-reserved, store-conditional and atomic read-modify-writes.
 ghost use Rattle.std.specs.Prelude.{◌≡◌, ◌<◌, ◌≤◌, ◌+◌, ◌%◌, ◌==◌, ◌⊎◌, IsTrue, [], ◌∷◌};
 ghost use Rattle.zs_num.specs.Request.{addr_of, width_of};
-ghost use Rattle.rv_core.specs.Effect.{atomic, effect, load_reserved, store_conditional, updates};
-ghost use Rattle.rv_core.specs.Families.{is_doubleword_atomic, is_word_atomic};
+ghost use Rattle.rv_core.specs.Effect.{atomic, load_reserved, store_conditional, updates};
 ghost use Rattle.rv_core.specs.Pairing.{IsPairedRight};
 ghost use Rattle.rv_core.specs.CoreState.{ToRegister};
 ghost use Rattle.rv_core.specs.Step.{is_free};
@@ -10,68 +9,12 @@ ghost use Rattle.rv_core.specs.Step.{is_free};
 use crate::progress::Destination;
 use crate::replies::low_bytes;
 use crate::{Core, Why};
-use rv_decode::{Inst, Name};
+use rv_decode::Inst;
 use zs_num::{AmoOp, Request};
 
 impl Core {
-    /// Atomics on words.
-    #[inline(always)]
-    #[tactic(auto, unfolding(crate::specs::Effect::effect))]
-    pub(crate) fn word_atomic(&mut self, inst: Inst) -> bool
-        requires name { IsTrue (is_word_atomic inst.name) }
-        requires free { IsTrue (is_free self.old) }
-        requires rd { inst.rd < 32 }
-        requires rs1 { inst.rs1 < 32 }
-        requires rs2 { inst.rs2 < 32 }
-        ensures value { self.new ≡ effect inst.name inst self.old }
-        ensures free { result ≡ is_free self.new }
-    {
-        match inst.name {
-            Name::LrW => self.load_reserved(4, inst),
-            Name::ScW => self.store_conditional(4, inst),
-            Name::AmoswapW => self.update(AmoOp::Swap, 4, inst),
-            Name::AmoaddW => self.update(AmoOp::Add, 4, inst),
-            Name::AmoxorW => self.update(AmoOp::Xor, 4, inst),
-            Name::AmoandW => self.update(AmoOp::And, 4, inst),
-            Name::AmoorW => self.update(AmoOp::Or, 4, inst),
-            Name::AmominW => self.update(AmoOp::Min, 4, inst),
-            Name::AmomaxW => self.update(AmoOp::Max, 4, inst),
-            Name::AmominuW => self.update(AmoOp::Minu, 4, inst),
-            Name::AmomaxuW => self.update(AmoOp::Maxu, 4, inst),
-            _ => unreachable!(),
-        }
-    }
-
-    /// Atomics on doublewords.
-    #[inline(always)]
-    #[tactic(auto, unfolding(crate::specs::Effect::effect))]
-    pub(crate) fn doubleword_atomic(&mut self, inst: Inst) -> bool
-        requires name { IsTrue (is_doubleword_atomic inst.name) }
-        requires free { IsTrue (is_free self.old) }
-        requires rd { inst.rd < 32 }
-        requires rs1 { inst.rs1 < 32 }
-        requires rs2 { inst.rs2 < 32 }
-        ensures value { self.new ≡ effect inst.name inst self.old }
-        ensures free { result ≡ is_free self.new }
-    {
-        match inst.name {
-            Name::LrD => self.load_reserved(8, inst),
-            Name::ScD => self.store_conditional(8, inst),
-            Name::AmoswapD => self.update(AmoOp::Swap, 8, inst),
-            Name::AmoaddD => self.update(AmoOp::Add, 8, inst),
-            Name::AmoxorD => self.update(AmoOp::Xor, 8, inst),
-            Name::AmoandD => self.update(AmoOp::And, 8, inst),
-            Name::AmoorD => self.update(AmoOp::Or, 8, inst),
-            Name::AmominD => self.update(AmoOp::Min, 8, inst),
-            Name::AmomaxD => self.update(AmoOp::Max, 8, inst),
-            Name::AmominuD => self.update(AmoOp::Minu, 8, inst),
-            Name::AmomaxuD => self.update(AmoOp::Maxu, 8, inst),
-            _ => unreachable!(),
-        }
-    }
-
-    // A load-reserved of so many bytes.
-    fn load_reserved(&mut self, width: u8, inst: Inst) -> bool
+    /// A load-reserved of so many bytes.
+    pub(crate) fn load_reserved(&mut self, width: u8, inst: Inst) -> bool
         requires free { IsTrue (is_free self.old) }
         requires width { (width ≡ 4) ⊎ (width ≡ 8) }
         requires rd { inst.rd < 32 }
@@ -83,8 +26,8 @@ impl Core {
         self.ask_atomic(Request::Lr { addr, width }, number_to(inst.rd, width, true))
     }
 
-    // A store-conditional of so many bytes.
-    fn store_conditional(&mut self, width: u8, inst: Inst) -> bool
+    /// A store-conditional of so many bytes.
+    pub(crate) fn store_conditional(&mut self, width: u8, inst: Inst) -> bool
         requires free { IsTrue (is_free self.old) }
         requires width { (width ≡ 4) ⊎ (width ≡ 8) }
         requires rd { inst.rd < 32 }
@@ -103,8 +46,8 @@ impl Core {
         self.ask_atomic(request, number_to(inst.rd, width, false))
     }
 
-    // An atomic read-modify-write of so many bytes.
-    fn update(&mut self, op: AmoOp, width: u8, inst: Inst) -> bool
+    /// An atomic read-modify-write of so many bytes.
+    pub(crate) fn update(&mut self, op: AmoOp, width: u8, inst: Inst) -> bool
         requires free { IsTrue (is_free self.old) }
         requires width { (width ≡ 4) ⊎ (width ≡ 8) }
         requires rd { inst.rd < 32 }

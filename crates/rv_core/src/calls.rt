@@ -1,11 +1,9 @@
-// FENCE, the calls of the environment, and EBREAK.
-ghost use Rattle.std.specs.Prelude.{◌≡◌, ◌<◌, IsTrue};
-ghost use Rattle.rv_core.specs.Effect.{calls, effect, writes};
-ghost use Rattle.rv_core.specs.Families.{is_system};
+// The calls of the environment.
+ghost use Rattle.std.specs.Prelude.{◌≡◌, IsTrue};
+ghost use Rattle.rv_core.specs.Effect.{calls, writes};
 ghost use Rattle.rv_core.specs.Step.{is_free};
 
 use crate::{Core, Why};
-use rv_decode::{Inst, Name};
 
 const A0: u8 = 10;
 
@@ -37,29 +35,9 @@ const EFAULT: u64 = 0u64.wrapping_sub(14);
 const ENOSYS: u64 = 0u64.wrapping_sub(38);
 
 impl Core {
-    /// FENCE, ECALL and EBREAK.
-    #[inline(always)]
-    #[tactic(auto, unfolding(crate::specs::Effect::effect))]
-    pub(crate) fn system(&mut self, inst: Inst) -> bool
-        requires name { IsTrue (is_system inst.name) }
-        requires free { IsTrue (is_free self.old) }
-        requires rd { inst.rd < 32 }
-        requires rs1 { inst.rs1 < 32 }
-        requires rs2 { inst.rs2 < 32 }
-        ensures value { self.new ≡ effect inst.name inst self.old }
-        ensures free { result ≡ is_free self.new }
-    {
-        match inst.name {
-            Name::Fence => self.write(0, 0),
-            Name::Ecall => self.call(),
-            Name::Ebreak => self.stop(Why::Break),
-            _ => unreachable!(),
-        }
-    }
-
-    // A call of the environment by its number in a7.
+    /// A call of the environment by its number in a7.
     #[tactic(auto, unfolding(crate::specs::Effect::calls))]
-    fn call(&mut self) -> bool
+    pub(crate) fn call(&mut self) -> bool
         requires { IsTrue (is_free self.old) }
         ensures value { self.new ≡ calls self.old }
         ensures free { result ≡ is_free self.new }

@@ -1,8 +1,7 @@
 // The instructions that transfer control: jumps and branches.
 ghost use Rattle.std.specs.Prelude.{◌≡◌, ◌<◌, IsTrue};
 ghost use Rattle.rv_alu.specs.Branch.{is_branch};
-ghost use Rattle.rv_core.specs.Effect.{branches, effect, jumps};
-ghost use Rattle.rv_core.specs.Families.{is_jump};
+ghost use Rattle.rv_core.specs.Effect.{address, branches, even, jumps, relative};
 ghost use Rattle.rv_core.specs.Step.{is_free};
 
 use crate::{Core, Why};
@@ -10,56 +9,34 @@ use rv_alu::taken;
 use rv_decode::{Inst, Name};
 
 impl Core {
-    /// JAL and JALR, which clears the lowest bit of its target.
+    /// JAL.
     #[inline(always)]
-    #[tactic(auto, unfolding(crate::specs::Effect::effect))]
     pub(crate) fn jump(&mut self, inst: Inst) -> bool
-        requires name { IsTrue (is_jump inst.name) }
         requires free { IsTrue (is_free self.old) }
         requires rd { inst.rd < 32 }
-        requires rs1 { inst.rs1 < 32 }
-        requires rs2 { inst.rs2 < 32 }
-        ensures value { self.new ≡ effect inst.name inst self.old }
+        ensures value { self.new ≡ jumps inst.rd (relative inst self.old) self.old }
         ensures free { result ≡ is_free self.new }
     {
-        let immediate = inst.imm.cast_unsigned();
-        match inst.name {
-            Name::Jal => self.jump_to(inst.rd, self.pc().wrapping_add(immediate)),
-            Name::Jalr => {
-                let target = self.reg(inst.rs1).wrapping_add(immediate);
-                self.jump_to(inst.rd, target - target % 2)
-            }
-            _ => unreachable!(),
-        }
+        self.jump_to(inst.rd, self.pc().wrapping_add(inst.imm.cast_unsigned()))
     }
 
-    /// Conditional branches.
+    /// JALR, which clears the lowest bit of its target.
     #[inline(always)]
-    #[tactic(auto, unfolding(crate::specs::Effect::effect))]
-    pub(crate) fn branch(&mut self, inst: Inst) -> bool
-        requires name { IsTrue (is_branch inst.name) }
+    pub(crate) fn jump_by_register(&mut self, inst: Inst) -> bool
         requires free { IsTrue (is_free self.old) }
         requires rd { inst.rd < 32 }
         requires rs1 { inst.rs1 < 32 }
-        requires rs2 { inst.rs2 < 32 }
-        ensures value { self.new ≡ effect inst.name inst self.old }
+        ensures value { self.new ≡ jumps inst.rd (even (address inst self.old)) self.old }
         ensures free { result ≡ is_free self.new }
     {
-        match inst.name {
-            Name::Beq => self.branch_by(Name::Beq, inst),
-            Name::Bne => self.branch_by(Name::Bne, inst),
-            Name::Blt => self.branch_by(Name::Blt, inst),
-            Name::Bge => self.branch_by(Name::Bge, inst),
-            Name::Bltu => self.branch_by(Name::Bltu, inst),
-            Name::Bgeu => self.branch_by(Name::Bgeu, inst),
-            _ => unreachable!(),
-        }
+        let target = self.reg(inst.rs1).wrapping_add(inst.imm.cast_unsigned());
+        self.jump_to(inst.rd, target - target % 2)
     }
 
-    // The branch of this name. Where it is not taken, its target is not looked at.
+    /// The branch of this name. Where it is not taken, its target is not looked at.
     #[inline(always)]
     #[tactic(auto, unfolding(crate::specs::Effect::branches))]
-    fn branch_by(&mut self, name: Name, inst: Inst) -> bool
+    pub(crate) fn branch(&mut self, name: Name, inst: Inst) -> bool
         requires name { IsTrue (is_branch name) }
         requires free { IsTrue (is_free self.old) }
         requires rd { inst.rd < 32 }

@@ -4,6 +4,7 @@ ghost use Rattle.rv_core.specs.Fetch.{fetched_at, HasRegisters, IsKnown};
 
 use crate::{Fetched, Program};
 use elf_load::{Image, Segment};
+use rv_decode::Inst;
 use std::alloc::Global;
 use std::marker::Model;
 use zs_num::NoMemory;
@@ -113,7 +114,7 @@ impl<'a> DecodedProgram<'a> {
         Ok(())
     }
 
-    // The slot of an address, if `near` leads to it.
+    // What the slot of an address holds, if `near` leads to it.
     #[inline(always)]
     fn slot_at(&self, near: usize, pc: u64) -> Option<Fetched>
         ensures value { IfSome result (λ fetched. fetched ≡ fetched_at self.now pc) }
@@ -125,13 +126,20 @@ impl<'a> DecodedProgram<'a> {
             _ => None,
         }
     }
+}
 
-    // Looks an address up in every segment.
-    #[cold]
-    fn look(&self, near: &mut usize, pc: u64) -> Fetched
-        ensures value { result ≡ fetched_at self.now pc }
-        ensures registers { HasRegisters result }
-    {
+impl Program for DecodedProgram<'_> {
+    ghost image = { λ p. p };
+
+    #[inline(always)]
+    fn decoded_at(&self, near: usize, pc: u64) -> Option<Inst> {
+        match self.slot_at(near, pc) {
+            Some(Fetched::Instruction(inst)) => Some(inst),
+            _ => None,
+        }
+    }
+
+    fn fetch(&self, near: &mut usize, pc: u64) -> Fetched {
         for span in &self.spans {
             if span.has(pc) {
                 *near = span.near();
@@ -140,18 +148,6 @@ impl<'a> DecodedProgram<'a> {
         match self.slot_at(*near, pc) {
             Some(fetched) => fetched,
             None => self.image.fetch(&mut 0, pc),
-        }
-    }
-}
-
-impl Program for DecodedProgram<'_> {
-    ghost image = { λ p. p };
-
-    #[inline(always)]
-    fn fetch(&self, near: &mut usize, pc: u64) -> Fetched {
-        match self.slot_at(*near, pc) {
-            Some(fetched) => fetched,
-            None => self.look(near, pc),
         }
     }
 }

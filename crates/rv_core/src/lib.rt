@@ -8,6 +8,7 @@ mod atomics;
 mod calls;
 mod control;
 mod decoded_program;
+mod execute;
 pub mod laws;
 mod loads_stores;
 mod memory_range;

@@ -1,68 +1,22 @@
 // Loads and stores.
 ghost use Rattle.std.specs.Prelude.{◌≡◌, ◌<◌, ◌≤◌, IsTrue};
 ghost use Rattle.rv_core.specs.Accesses.{is_in_line, left_in_line, low_bytes};
-ghost use Rattle.rv_core.specs.Effect.{effect, loads, stores};
-ghost use Rattle.rv_core.specs.Families.{is_load, is_store};
+ghost use Rattle.rv_core.specs.Effect.{loads, stores};
 ghost use Rattle.rv_core.specs.Step.{is_free};
 
 use crate::progress::Destination;
 use crate::replies::{high_bytes, low_bytes};
 use crate::{Core, Why};
-use rv_decode::{Inst, Name};
+use rv_decode::Inst;
 use zs_num::Request;
 
 /// The bytes of a line of the caches.
 const LINE: u64 = 64;
 
 impl Core {
-    /// Loads.
-    #[inline(always)]
-    #[tactic(auto, unfolding(crate::specs::Effect::effect))]
-    pub(crate) fn load(&mut self, inst: Inst) -> bool
-        requires name { IsTrue (is_load inst.name) }
-        requires free { IsTrue (is_free self.old) }
-        requires rd { inst.rd < 32 }
-        requires rs1 { inst.rs1 < 32 }
-        requires rs2 { inst.rs2 < 32 }
-        ensures value { self.new ≡ effect inst.name inst self.old }
-        ensures free { result ≡ is_free self.new }
-    {
-        match inst.name {
-            Name::Lb => self.load_bytes(1, true, inst),
-            Name::Lh => self.load_bytes(2, true, inst),
-            Name::Lw => self.load_bytes(4, true, inst),
-            Name::Ld => self.load_bytes(8, true, inst),
-            Name::Lbu => self.load_bytes(1, false, inst),
-            Name::Lhu => self.load_bytes(2, false, inst),
-            Name::Lwu => self.load_bytes(4, false, inst),
-            _ => unreachable!(),
-        }
-    }
-
-    /// Stores.
-    #[inline(always)]
-    #[tactic(auto, unfolding(crate::specs::Effect::effect))]
-    pub(crate) fn store(&mut self, inst: Inst) -> bool
-        requires name { IsTrue (is_store inst.name) }
-        requires free { IsTrue (is_free self.old) }
-        requires rd { inst.rd < 32 }
-        requires rs1 { inst.rs1 < 32 }
-        requires rs2 { inst.rs2 < 32 }
-        ensures value { self.new ≡ effect inst.name inst self.old }
-        ensures free { result ≡ is_free self.new }
-    {
-        match inst.name {
-            Name::Sb => self.store_bytes(1, inst),
-            Name::Sh => self.store_bytes(2, inst),
-            Name::Sw => self.store_bytes(4, inst),
-            Name::Sd => self.store_bytes(8, inst),
-            _ => unreachable!(),
-        }
-    }
-
-    // A load of so many bytes: one access, or two where it crosses a line.
+    /// A load of so many bytes: one access, or two where it crosses a line.
     #[tactic(auto, unfolding(crate::specs::Accesses::load_requests, crate::specs::Effect::accesses))]
-    fn load_bytes(&mut self, width: u8, signed: bool, inst: Inst) -> bool
+    pub(crate) fn load(&mut self, width: u8, signed: bool, inst: Inst) -> bool
         requires free { IsTrue (is_free self.old) }
         requires some { 1 ≤ width }
         requires few { width ≤ 8 }
@@ -94,10 +48,10 @@ impl Core {
         false
     }
 
-    // A store of the lowest bytes of rs2: one access, or two where it crosses a line, of which the
-    // lower line gets the lower bytes.
+    /// A store of the lowest bytes of rs2: one access, or two where it crosses a line, of which the
+    /// lower line gets the lower bytes.
     #[tactic(auto, unfolding(crate::specs::Accesses::store_requests, crate::specs::Effect::accesses))]
-    fn store_bytes(&mut self, width: u8, inst: Inst) -> bool
+    pub(crate) fn store(&mut self, width: u8, inst: Inst) -> bool
         requires free { IsTrue (is_free self.old) }
         requires some { 1 ≤ width }
         requires few { width ≤ 8 }
@@ -112,22 +66,22 @@ impl Core {
             return self.stop(Why::Access { addr });
         }
         if is_in_line(addr, width) {
-            self.begin(store(addr, width, value), None);
+            self.begin(store_of(addr, width, value), None);
         } else {
             let lower = left_in_line(addr);
-            let upper = store(
+            let upper = store_of(
                 addr + u64::from(lower),
                 width - lower,
                 high_bytes(lower, value),
             );
-            self.begin_crossing(store(addr, lower, value), upper, None);
+            self.begin_crossing(store_of(addr, lower, value), upper, None);
         }
         false
     }
 }
 
 // An access that stores the lowest bytes of a number.
-fn store(addr: u64, width: u8, value: u64) -> Request
+fn store_of(addr: u64, width: u8, value: u64) -> Request
     requires { width ≤ 8 }
     ensures { result ≡ Request.Store addr width (low_bytes width value) }
 {

@@ -1,5 +1,5 @@
 // What a core reads its instructions from.
-ghost use Rattle.std.specs.Prelude.{◌≡◌, ◌<◌};
+ghost use Rattle.std.specs.Prelude.{◌≡◌, IfSome};
 ghost use Rattle.elf_load.specs.MemoryImage.{MemoryImage};
 ghost use Rattle.rv_decode.specs.InstructionTable.{decoded};
 ghost use Rattle.rv_core.specs.Fetch.{fetched_at, of_decoded, HasRegisters};
@@ -21,6 +21,11 @@ pub enum Fetched {
 pub trait Program {
     ghost image: { Self → MemoryImage };
 
+    /// The instruction at an address, if it is decoded already. `near` is what `fetch` keeps.
+    fn decoded_at(&self, near: usize, pc: u64) -> Option<Inst>
+        ensures value { IfSome result (λ inst. fetched_at (image self.now) pc ≡ Fetched.Instruction inst) }
+        ensures registers { IfSome result (λ inst. HasRegisters (Fetched.Instruction inst)) };
+
     /// What the program has at an address. `near` is any number: the program keeps in it where it
     /// looks first.
     fn fetch(&self, near: &mut usize, pc: u64) -> Fetched
@@ -30,6 +35,11 @@ pub trait Program {
 
 impl Program for Image {
     ghost image = { λ i. i };
+
+    #[inline(always)]
+    fn decoded_at(&self, _near: usize, _pc: u64) -> Option<Inst> {
+        None
+    }
 
     #[inline(always)]
     #[tactic(auto, unfolding(crate::specs::Fetch::fetched_at))]

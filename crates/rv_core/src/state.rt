@@ -15,6 +15,7 @@ use crate::pairing::{Pairing, is_paired, pairing_after};
 use crate::progress::{Destination, Progress, Reply};
 use crate::replies::{received, reply_to};
 use crate::{Fetched, Program, Why};
+use rv_decode::Inst;
 use std::marker::Model;
 use zs_num::Request;
 
@@ -123,6 +124,16 @@ impl Core {
         ensures { result ≡ is_some self.now.instruction }
     {
         !matches!(self.progress, Progress::Idle)
+    }
+
+    /// The instruction at pc, if the program has it decoded already.
+    #[inline(always)]
+    pub(crate) fn decoded<P: Program>(&self, program: &P) -> Option<Inst>
+        ensures value { IfSome result (λ inst. fetched_at (P.image program.now) self.now.pc ≡ Fetched.Instruction inst) }
+        ensures registers { IfSome result (λ inst. HasRegisters (Fetched.Instruction inst)) }
+        ensures sound { IsSound self.now }
+    {
+        program.decoded_at(self.near, self.pc)
     }
 
     /// What the program has at pc.

@@ -1,11 +1,10 @@
 // A step of a core: its next instruction, up to its first access if it has one.
 ghost use Rattle.std.specs.Prelude.{◌≡◌, ◌<◌, false, IsTrue};
-ghost use Rattle.rv_core.specs.Effect.{effect, goes_on, halts};
+ghost use Rattle.rv_core.specs.Effect.{goes_on, halts};
 ghost use Rattle.rv_core.specs.Sound.{IsServedAsk, IsSound};
 ghost use Rattle.rv_core.specs.Step.{advanced, asked, executed, is_free};
 
 use crate::{Ask, Core, Fetched, Program, Why};
-use rv_decode::{Inst, Name};
 
 impl Core {
     /// Executes the next instruction, up to its first access if it has one. Where an instruction is
@@ -57,96 +56,24 @@ impl Core {
         ensures free { result ≡ is_free self.new }
         ensures sound { IsSound self.old }
     {
+        match self.decoded(program) {
+            Some(inst) => self.execute(inst),
+            None => self.decode_and_execute(program),
+        }
+    }
+
+    // The same where the instruction is not at hand.
+    #[cold]
+    #[inline(never)]
+    fn decode_and_execute<P: Program>(&mut self, program: &P) -> bool
+        requires { IsTrue (is_free self.old) }
+        ensures value { self.new ≡ executed (P.image program.now) self.old }
+        ensures free { result ≡ is_free self.new }
+    {
         match self.fetch(program) {
             Fetched::Instruction(inst) => self.execute(inst),
             Fetched::NoInstruction { word } => self.stop(Why::Illegal { word }),
             Fetched::Outside => self.stop(Why::Fetch { addr: self.pc() }),
-        }
-    }
-
-    // Executes an instruction.
-    #[inline(always)]
-    fn execute(&mut self, inst: Inst) -> bool
-        requires free { IsTrue (is_free self.old) }
-        requires rd { inst.rd < 32 }
-        requires rs1 { inst.rs1 < 32 }
-        requires rs2 { inst.rs2 < 32 }
-        ensures value { self.new ≡ effect inst.name inst self.old }
-        ensures free { result ≡ is_free self.new }
-    {
-        match inst.name {
-            Name::Lui | Name::Auipc => self.upper(inst),
-            Name::Jal | Name::Jalr => self.jump(inst),
-            Name::Beq | Name::Bne | Name::Blt | Name::Bge | Name::Bltu | Name::Bgeu => self.branch(
-                inst,
-            ),
-            Name::Lb | Name::Lh | Name::Lw | Name::Ld | Name::Lbu | Name::Lhu | Name::Lwu =>
-                self.load(inst),
-            Name::Sb | Name::Sh | Name::Sw | Name::Sd => self.store(inst),
-            Name::Addi
-            | Name::Slti
-            | Name::Sltiu
-            | Name::Xori
-            | Name::Ori
-            | Name::Andi
-            | Name::Slli
-            | Name::Srli
-            | Name::Srai
-            | Name::Addiw
-            | Name::Slliw
-            | Name::Srliw
-            | Name::Sraiw => self.compute_with_immediate(inst),
-            Name::Add
-            | Name::Sub
-            | Name::Sll
-            | Name::Slt
-            | Name::Sltu
-            | Name::Xor
-            | Name::Srl
-            | Name::Sra
-            | Name::Or
-            | Name::And
-            | Name::Addw
-            | Name::Subw
-            | Name::Sllw
-            | Name::Srlw
-            | Name::Sraw => self.compute(inst),
-            Name::Mul
-            | Name::Mulh
-            | Name::Mulhsu
-            | Name::Mulhu
-            | Name::Div
-            | Name::Divu
-            | Name::Rem
-            | Name::Remu
-            | Name::Mulw
-            | Name::Divw
-            | Name::Divuw
-            | Name::Remw
-            | Name::Remuw => self.multiply(inst),
-            Name::Fence | Name::Ecall | Name::Ebreak => self.system(inst),
-            Name::LrW
-            | Name::ScW
-            | Name::AmoswapW
-            | Name::AmoaddW
-            | Name::AmoxorW
-            | Name::AmoandW
-            | Name::AmoorW
-            | Name::AmominW
-            | Name::AmomaxW
-            | Name::AmominuW
-            | Name::AmomaxuW => self.word_atomic(inst),
-            Name::LrD
-            | Name::ScD
-            | Name::AmoswapD
-            | Name::AmoaddD
-            | Name::AmoxorD
-            | Name::AmoandD
-            | Name::AmoorD
-            | Name::AmominD
-            | Name::AmomaxD
-            | Name::AmominuD
-            | Name::AmomaxuD => self.doubleword_atomic(inst),
         }
     }
 
