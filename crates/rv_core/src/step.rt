@@ -1,10 +1,12 @@
 // A step of a core: its next instruction, up to its first access if it has one.
-ghost use Rattle.std.specs.Prelude.{◌≡◌, ◌<◌, false, IsTrue};
+ghost use Rattle.std.specs.Prelude.{◌≡◌, ◌<◌, false, IfNone, IfSome, IsTrue, OnSome};
 ghost use Rattle.rv_core.specs.Effect.{goes_on, halts};
+ghost use Rattle.rv_core.specs.Fetch.{fetched_at, HasRegisters};
 ghost use Rattle.rv_core.specs.Sound.{IsServedAsk, IsSound};
 ghost use Rattle.rv_core.specs.Step.{advanced, asked, executed, is_free};
 
 use crate::{Ask, Core, Fetched, Program, Why};
+use rv_decode::Inst;
 
 impl Core {
     /// Executes the next instruction, up to its first access if it has one. Where an instruction is
@@ -56,25 +58,33 @@ impl Core {
         ensures free { result ≡ is_free self.new }
         ensures sound { IsSound self.old }
     {
-        match self.decoded(program) {
-            Some(inst) => self.execute(inst),
-            None => self.decode_and_execute(program),
-        }
+        let inst = match self.decoded(program) {
+            Some(inst) => inst,
+            None => match self.decode(program) {
+                Some(inst) => inst,
+                None => return false,
+            },
+        };
+        self.execute(inst)
     }
 
-    // The same where the instruction is not at hand.
+    // The instruction at pc, where the program does not have it decoded. Where there is none, the core
+    // halts.
     #[cold]
     #[inline(never)]
-    fn decode_and_execute<P: Program>(&mut self, program: &P) -> bool
-        requires { IsTrue (is_free self.old) }
-        ensures value { self.new ≡ executed (P.image program.now) self.old }
-        ensures free { result ≡ is_free self.new }
+    fn decode<P: Program>(&mut self, program: &P) -> Option<Inst>
+        ensures found { IfSome result (λ inst. fetched_at (P.image program.now) self.old.pc ≡ Fetched.Instruction inst) }
+        ensures registers { IfSome result (λ inst. HasRegisters (Fetched.Instruction inst)) }
+        ensures same { OnSome result (self.new ≡ self.old) }
+        ensures halts { IfNone result (self.new ≡ executed (P.image program.now) self.old) }
+        ensures stops { IfNone result (is_free self.new ≡ false) }
     {
         match self.fetch(program) {
-            Fetched::Instruction(inst) => self.execute(inst),
-            Fetched::NoInstruction { word } => self.stop(Why::Illegal { word }),
-            Fetched::Outside => self.stop(Why::Fetch { addr: self.pc() }),
+            Fetched::Instruction(inst) => return Some(inst),
+            Fetched::NoInstruction { word } => self.halt(Why::Illegal { word }),
+            Fetched::Outside => self.halt(Why::Fetch { addr: self.pc() }),
         }
+        None
     }
 
     // Halts, and answers that the core comes to no next instruction.
