@@ -1,5 +1,5 @@
 -- Loads of one byte after the other.
-use Rattle.std.proofs.Common.{◌≡◌, ◌<◌, ◌≤◌, ◌+◌, ◌-◌, ℕ, zero, suc, [], ◌∷◌, Option, Some, arith, lit≤, sym, ap}
+use Rattle.std.proofs.Common.{◌≡◌, ◌<◌, ◌≤◌, ◌+◌, ◌-◌, ℕ, zero, suc, [], ◌∷◌, length, Option, Some, arith, lit≤, refl, sym, ap}
 use Rattle.zs_num.specs.declared.request.Request.TheVariants.{Load}
 use Rattle.rv_core.specs.declared.memory_range.MemoryRange.{MemoryRange}
 use Rattle.rv_core.specs.declared.pairing.Pairing.{Pairing}
@@ -24,6 +24,10 @@ loads_served memory addr zero begins ends = tt
 loads_served memory addr (suc count) begins ends =
     (load_served memory addr begins (omega arith), loads_served memory (addr + 1) count (omega arith) (omega arith))
 
+pub loads_length : (addr count : ℕ) → length (byte_loads addr count) ≡ count
+loads_length addr zero = refl
+loads_length addr (suc count) = ap suc (loads_length (addr + 1) count)
+
 pub loads_paired : (pairing : Option Pairing) (addr count : ℕ) → ArePairedRight pairing (byte_loads addr count)
 loads_paired pairing addr zero = tt
 loads_paired pairing addr (suc count) = (tt, loads_paired pairing (addr + 1) count)
@@ -38,12 +42,13 @@ abbrev writing : CoreState → (addr later count : ℕ) → CoreState
 writing core addr later count =
     record core { instruction = Some (record { next = Load addr 1; later = byte_loads (addr + 1) later; replies = []; ending = ToConsole count }) }
 
-pub writing_sound : (core : CoreState) (addr later count : ℕ) → IsSound core → core.memory.base ≤ addr → addr + 1 + later ≤ core.memory.base + core.memory.size → IsSound (writing core addr later count)
-writing_sound core addr later count sound begins ends = record {
+pub writing_sound : (core : CoreState) (addr later count : ℕ) → IsSound core → core.memory.base ≤ addr → addr + 1 + later ≤ core.memory.base + core.memory.size → later < 256 → IsSound (writing core addr later count)
+writing_sound core addr later count sound begins ends few = record {
   registers = sound.registers;
   zero = sound.zero;
   reach = sound.reach;
   served = (load_served core.memory addr begins (omega arith), loads_served core.memory (addr + 1) later (omega arith) (omega arith));
   paired = (tt, loads_paired core.pairing (addr + 1) later);
   ending = tt;
+  few = rw (loads_length (addr + 1) later) few;
 }

@@ -1,9 +1,10 @@
 -- Every core that is reached is sound.
 use Rattle.std.proofs.Common.{◌≡◌, ◌≢◌, ◌<◌, ◌≤◌, ◌+◌, ◌-◌, ◌%◌, ◌^◌, ◌==◌, ℕ, zero, suc, Bool, true, false, nat_le, ◌&&◌, List, [], ◌∷◌, length, Option, inl, inr, arith, rules, lit≤, refl, subst, ◌∙◌, ◌⊎◌, min}
 use Rattle.std.specs.Prelude.{slice_index, if◌then◌else◌, ◌||◌}
+use Rattle.std.proofs.Math.Nat.{min-le_right}
 use Rattle.std.proofs.lemmas.Bool.{and_parts, eqb-true, leb-false, leb-true}
 use Rattle.std.proofs.lemmas.List.{get_or-set_other, length-set}
-use Rattle.zs_num.specs.Request.{addr_of, width_of}
+use Rattle.zs_num.specs.Request.{addr_of, width_of, IsAligned, IsAtomic}
 use Rattle.zs_num.specs.declared.request.Request.{Request}
 use Rattle.rv_decode.specs.declared.inst.Inst.{Inst}
 use Rattle.rv_decode.specs.declared.name.Name.{Name}
@@ -14,12 +15,12 @@ use Rattle.rv_core.specs.declared.progress.Destination.{Destination}
 use Rattle.rv_core.specs.declared.progress.Reply.{Reply}
 use Rattle.rv_core.specs.declared.why.Why.{Why}
 use Rattle.rv_core.specs.declared.why.Why.TheVariants.{Exit}
-use Rattle.rv_core.specs.Accesses.{byte_loads, is_in_line, is_in_memory, load_requests, store_requests, AreServed, IsAligned, IsAtomic}
+use Rattle.rv_core.specs.Accesses.{byte_loads, is_in_line, is_in_memory, load_requests, store_requests, AreServed}
 use Rattle.rv_core.specs.CoreState.{CoreState, Ending, ToRegister, ToConsole, ToNothing}
 use Rattle.rv_core.specs.Effect.{accesses, address, atomic, branches, calls, effect, ended, following, goes_through, goes_to, halts, jumps, loads, register, relative, stores, writes, written}
 use Rattle.rv_core.specs.Pairing.{ArePairedRight, IsPairedRight}
 use Rattle.rv_core.specs.Sound.{EndsInRegister, IsSound}
-use Rattle.rv_core.proofs.ByteLoads.{loads_paired, loads_served}
+use Rattle.rv_core.proofs.ByteLoads.{loads_length, loads_paired, loads_served}
 
 -- a core stays sound, and keeps its memory and its pairing
 pub record Keeps (before after : CoreState) : Type 0 where
@@ -49,6 +50,7 @@ goes_to-keeps core rd value target s = record {
     served = s.served;
     paired = s.paired;
     ending = s.ending;
+    few = s.few;
   };
   memory = refl;
   pairing = refl;
@@ -56,7 +58,7 @@ goes_to-keeps core rd value target s = record {
 
 pub halts-keeps : (why : Why) (core : CoreState) → IsSound core → Keeps core (halts why core)
 halts-keeps why core s = record {
-  sound = record { registers = s.registers; zero = s.zero; reach = s.reach; served = s.served; paired = s.paired; ending = s.ending };
+  sound = record { registers = s.registers; zero = s.zero; reach = s.reach; served = s.served; paired = s.paired; ending = s.ending; few = s.few };
   memory = refl;
   pairing = refl;
 }
@@ -82,20 +84,20 @@ ended-keeps (ToConsole count) replies core s = goes_to-keeps core 10 count (foll
 ended-keeps ToNothing replies core s = goes_to-keeps core 0 0 (following core) s
 
 pub goes_through-keeps : (requests : List Request) (replies : List Reply) (ending : Ending) (core : CoreState) → IsSound core
-    → AreServed core.memory requests → ArePairedRight core.pairing requests → EndsInRegister ending → Keeps core (goes_through requests replies ending core)
-goes_through-keeps [] replies ending core s served paired ends = ended-keeps ending replies core s
-goes_through-keeps (request ∷ requests) replies ending core s served paired ends = record {
-  sound = record { registers = s.registers; zero = s.zero; reach = s.reach; served = served; paired = paired; ending = ends };
+    → AreServed core.memory requests → ArePairedRight core.pairing requests → EndsInRegister ending → length requests ≤ 256 → Keeps core (goes_through requests replies ending core)
+goes_through-keeps [] replies ending core s served paired ends few = ended-keeps ending replies core s
+goes_through-keeps (request ∷ requests) replies ending core s served paired ends few = record {
+  sound = record { registers = s.registers; zero = s.zero; reach = s.reach; served = served; paired = paired; ending = ends; few = few };
   memory = refl;
   pairing = refl;
 }
 
 accesses-keeps : (addr width : ℕ) (requests : List Request) (ending : Ending) (core : CoreState) → IsSound core
-    → (is_in_memory core.memory addr width ≡ true → AreServed core.memory requests) → ArePairedRight core.pairing requests → EndsInRegister ending
+    → (is_in_memory core.memory addr width ≡ true → AreServed core.memory requests) → ArePairedRight core.pairing requests → EndsInRegister ending → length requests ≤ 256
     → Keeps core (accesses addr width requests ending core)
 unfolding accesses
-accesses-keeps addr width requests ending core s served paired ends =
-    cond-keeps core _ _ (is_in_memory core.memory addr width) (λ inside. goes_through-keeps requests [] ending core s (served inside) paired ends) (halts-keeps _ core s)
+accesses-keeps addr width requests ending core s served paired ends few =
+    cond-keeps core _ _ (is_in_memory core.memory addr width) (λ inside. goes_through-keeps requests [] ending core s (served inside) paired ends few) (halts-keeps _ core s)
 
 -- what it means that bytes are in memory
 record Inside (memory : MemoryRange) (addr width : ℕ) : Type 0 where
@@ -146,19 +148,32 @@ stores-paired : (pairing : Option Pairing) (addr width value : ℕ) → ArePaire
 unfolding store_requests
 stores-paired pairing addr width value = paired-cond pairing (is_in_line addr width) _ _ (tt, tt) (tt, (tt, tt))
 
+-- at most two accesses
+few-cond : (test : Bool) (ones others : List Request) → length ones ≤ 256 → length others ≤ 256 → length (if test then ones else others) ≤ 256
+few-cond true ones others holds fails = holds
+few-cond false ones others holds fails = fails
+
+loads-few : (addr width : ℕ) → length (load_requests addr width) ≤ 256
+unfolding load_requests
+loads-few addr width = few-cond (is_in_line addr width) _ _ (lit≤ tt) (lit≤ tt)
+
+stores-few : (addr width value : ℕ) → length (store_requests addr width value) ≤ 256
+unfolding store_requests
+stores-few addr width value = few-cond (is_in_line addr width) _ _ (lit≤ tt) (lit≤ tt)
+
 -- ---- the families
 
 load-keeps : (width : ℕ) (signed : Bool) (i : Inst) (core : CoreState) → 1 ≤ width → width ≤ 8 → i.rd < 32 → IsSound core → Keeps core (loads width signed i core)
 load-keeps width signed i core some few rd s =
     accesses-keeps (address i core) width _ _ core s
     (λ e. loads-served core.memory (address i core) width some few (inside_of core.memory (address i core) width e))
-    (loads-paired core.pairing (address i core) width) (rd, some, few)
+    (loads-paired core.pairing (address i core) width) (rd, some, few) (loads-few (address i core) width)
 
 store-keeps : (width : ℕ) (i : Inst) (core : CoreState) → 1 ≤ width → width ≤ 8 → IsSound core → Keeps core (stores width i core)
 store-keeps width i core some few s =
     accesses-keeps (address i core) width _ _ core s
     (λ e. stores-served core.memory (address i core) width (register core i.rs2) some few (inside_of core.memory (address i core) width e))
-    (stores-paired core.pairing (address i core) width (register core i.rs2)) tt
+    (stores-paired core.pairing (address i core) width (register core i.rs2)) tt (stores-few (address i core) width (register core i.rs2))
 
 -- an aligned atomic lies in one line
 aligned-in_line : (addr width : ℕ) → (width ≡ 4) ⊎ (width ≡ 8) → addr % width ≡ 0 → addr % 64 + width ≤ 64
@@ -187,7 +202,7 @@ atomic-keeps addr width request destination core s same_addr same_width kind ali
       },
       tt,
     ))
-    (paired, tt) (rd, rw size some, rw size few))
+    (paired, tt) (rd, rw size some, rw size few) (lit≤ tt))
     (halts-keeps _ core s)
 
 writes-keeps : (core : CoreState) → IsSound core → Keeps core (writes core)
@@ -198,7 +213,8 @@ writes-keeps core s =
     cond-keeps core _ _ (count == 0) (λ none. goes_to-keeps core 10 0 (following core) s)
     (cond-keeps core _ _ (is_in_memory core.memory addr count)
     (λ e. let inside = inside_of core.memory addr count e in
-    goes_through-keeps (byte_loads addr count) [] (ToConsole count) core s (loads_served core.memory addr count inside.begins inside.ends) (loads_paired core.pairing addr count) tt)
+    let few : length (byte_loads addr count) ≤ 256 = rw (loads_length addr count) (min-le_right (register core 12) 256) in
+    goes_through-keeps (byte_loads addr count) [] (ToConsole count) core s (loads_served core.memory addr count inside.begins inside.ends) (loads_paired core.pairing addr count) tt few)
     (goes_to-keeps core 10 _ (following core) s))
 
 calls-keeps : (core : CoreState) → IsSound core → Keeps core (calls core)

@@ -1,5 +1,5 @@
 -- Every core that is reached is sound, and what it asks for is paired right.
-use Rattle.std.proofs.Common.{◌≡◌, ◌<◌, ◌≤◌, ◌+◌, ◌^◌, ℕ, List, Option, Some, None, refl, ap, subst, ◌∙◌}
+use Rattle.std.proofs.Common.{◌≡◌, ◌<◌, ◌≤◌, ◌+◌, ◌^◌, ℕ, List, length, arith, Option, Some, None, refl, ap, subst, ◌∙◌}
 use Rattle.std.specs.Prelude.{IfSome}
 use Rattle.elf_load.specs.MemoryImage.{MemoryImage, fetched}
 use Rattle.zs_num.specs.declared.request.Request.{Request}
@@ -20,7 +20,7 @@ use Rattle.rv_core.proofs.Kept.{cond-keeps, effect-keeps, goes_through-keeps, ha
 
 pub initial-sound : (number cores entry sp : ℕ) (memory : MemoryRange) → memory.base + memory.size ≤ 2 ^ 48 → IsSound (initial_core number cores entry sp memory)
 unfolding initial_core
-initial-sound number cores entry sp memory reach = record { registers = refl; zero = refl; reach = reach; served = tt; paired = tt; ending = tt }
+initial-sound number cores entry sp memory reach = record { registers = refl; zero = refl; reach = reach; served = tt; paired = tt; ending = tt; few = tt }
 
 -- the fields of decoded instructions name registers that are there
 module _ (ranges : (word : ℕ) (i : Inst) → decoded word ≡ Some i → (i.rd < 32) × (i.rs1 < 32) × (i.rs2 < 32)) where
@@ -50,7 +50,7 @@ module _ (ranges : (word : ℕ) (i : Inst) → decoded word ≡ Some i → (i.rd
 
 -- the next access of an instruction is done
 idle-sound : (now : InProgress) (core : CoreState) → IsSound core → IsSound (record core { pairing = pairing_after core.pairing now.next; instruction = None })
-idle-sound now core s = record { registers = s.registers; zero = s.zero; reach = s.reach; served = tt; paired = tt; ending = tt }
+idle-sound now core s = record { registers = s.registers; zero = s.zero; reach = s.reach; served = tt; paired = tt; ending = tt; few = tt }
 
 -- of a sound core with this instruction in progress
 after_reply-keeps : (now : InProgress) (reply : ℕ) (core : CoreState) → core.instruction ≡ Some now → IsSound core
@@ -59,7 +59,8 @@ after_reply-keeps now reply core e s =
     let served : AreServed core.memory (left_of now) = subst (λ (o : Option InProgress). IfSome o (λ now. AreServed core.memory (left_of now))) e s.served in
     let paired : ArePairedRight core.pairing (left_of now) = subst (λ (o : Option InProgress). IfSome o (λ now. ArePairedRight core.pairing (left_of now))) e s.paired in
     let ending : EndsInRegister now.ending = subst (λ (o : Option InProgress). IfSome o (λ now. EndsInRegister now.ending)) e s.ending in
-    goes_through-keeps now.later (replies_with now.ending now.replies (reply_to now.next reply)) now.ending _ (idle-sound now core s) served.1 paired.1 ending
+    let few : length now.later < 256 = subst (λ (o : Option InProgress). IfSome o (λ now. length now.later < 256)) e s.few in
+    goes_through-keeps now.later (replies_with now.ending now.replies (reply_to now.next reply)) now.ending _ (idle-sound now core s) served.1 paired.1 ending (omega (arith, few))
 
 pub next-paired : (core : CoreState) (now : InProgress) → IsSound core → core.instruction ≡ Some now → IsPairedRight core.pairing now.next
 next-paired core now s e =

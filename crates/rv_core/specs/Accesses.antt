@@ -1,9 +1,9 @@
 -- The accesses of an instruction: which bytes each one reads or writes, and what number their replies make. Memory is
 -- little-endian (RISC-V Unprivileged ISA manual, "Load and Store Instructions").
-use Rattle.std.specs.Prelude.{◌≡◌, ℕ, zero, suc, ◌+◌, ◌-◌, ◌*◌, ◌/◌, ◌%◌, ◌^◌, ◌≤◌, nat_le, nat_lt, Bool, ◌&&◌, ◌⊎◌, if◌then◌else◌, List, [], ◌∷◌}
-use Rattle.zs_num.specs.Request.{addr_of, width_of}
+use Rattle.std.specs.Prelude.{ℕ, zero, suc, ◌+◌, ◌-◌, ◌*◌, ◌/◌, ◌%◌, ◌^◌, nat_le, nat_lt, Bool, ◌&&◌, if◌then◌else◌, List, [], ◌∷◌}
+use Rattle.zs_num.specs.Request.{width_of, IsServable}
 use Rattle.zs_num.specs.declared.request.Request.{Request}
-use Rattle.zs_num.specs.declared.request.Request.TheVariants.{Load, Store, Lr, Sc, Amo}
+use Rattle.zs_num.specs.declared.request.Request.TheVariants.{Load, Store}
 use Rattle.rv_core.specs.declared.memory_range.MemoryRange.{MemoryRange}
 use Rattle.rv_core.specs.declared.progress.Reply.{Reply}
 
@@ -63,26 +63,9 @@ unfoldable pub sign_extended : (width number : ℕ) → ℕ
 sign_extended width number =
     if nat_lt number (2 ^ (8 * width - 1)) then number else (number + (2 ^ 64 - 2 ^ (8 * width))) % 2 ^ 64
 
--- an atomic is of a word or a doubleword, and lies at a multiple of its width
-abbrev pub IsAtomic : (addr width : ℕ) → Type 0
-IsAtomic addr width = ((width ≡ 4) ⊎ (width ≡ 8)) × (addr % width ≡ 0)
-
--- a load and a store may lie anywhere
-abbrev pub IsAligned : Request → Type 0
-IsAligned (Load addr width) = Unit {0}
-IsAligned (Store addr width value) = Unit {0}
-IsAligned (Lr addr width) = IsAtomic addr width
-IsAligned (Sc addr width value paired) = IsAtomic addr width
-IsAligned (Amo op addr width value) = IsAtomic addr width
-
--- An access that memory can serve: of 1 to 8 bytes of memory in one line, and aligned if it is an atomic.
-pub record IsServed (memory : MemoryRange) (request : Request) : Type 0 where
-  pub some : 1 ≤ width_of request
-  pub few : width_of request ≤ 8
-  pub begins : memory.base ≤ addr_of request
-  pub ends : addr_of request + width_of request ≤ memory.base + memory.size
-  pub in_line : addr_of request % 64 + width_of request ≤ 64
-  pub aligned : IsAligned request
+-- an access that memory can serve
+abbrev pub IsServed : MemoryRange → Request → Type 0
+IsServed memory request = IsServable memory.base memory.size request
 
 -- accesses that memory can serve
 abbrev pub AreServed : MemoryRange → List Request → Type 0

@@ -29,9 +29,9 @@ IsNarrow None = Unit {0}
 IsNarrow (Some reply) = reply.width < 8
 
 -- What the record keeps beside: an access to a lower line is narrower than a register, and the bytes of a write call that
--- are left lie in memory.
+-- are left lie in memory and are 256 at most.
 abbrev pub IsBounded : MemoryRange → Progress → Type 0
 IsBounded memory Idle = Unit {0}
 IsBounded memory (Lower next upper destination) = width_of next < 8
 IsBounded memory (Last next lower destination) = IsNarrow lower
-IsBounded memory (Write addr later count) = (memory.base ≤ addr) × (addr + 1 + later ≤ memory.base + memory.size)
+IsBounded memory (Write addr later count) = (memory.base ≤ addr) × (addr + 1 + later ≤ memory.base + memory.size) × (later < 256)

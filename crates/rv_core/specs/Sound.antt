@@ -19,7 +19,7 @@ EndsInRegister (ToConsole count) = Unit {0}
 EndsInRegister ToNothing = Unit {0}
 
 -- There are 32 registers, and x0 is 0; memory ends at 2^48 at most; the accesses that are left of an instruction can all be
--- served, and say of the pairing what it is.
+-- served, and say of the pairing what it is, and there are 256 of them at most.
 pub record IsSound (core : CoreState) : Type 0 where
   pub registers : length core.registers ≡ 32
   pub zero : slice_index core.registers 0 ≡ 0
@@ -27,6 +27,7 @@ pub record IsSound (core : CoreState) : Type 0 where
   pub served : IfSome core.instruction (λ now. AreServed core.memory (left_of now))
   pub paired : IfSome core.instruction (λ now. ArePairedRight core.pairing (left_of now))
   pub ending : IfSome core.instruction (λ now. EndsInRegister now.ending)
+  pub few : IfSome core.instruction (λ now. length now.later < 256)
 
 -- an access that is asked for can be served
 abbrev pub IsServedAsk : MemoryRange → Ask → Type 0

@@ -236,6 +236,7 @@ impl Core {
         requires some { 0 < count }
         requires begins { self.old.memory.base ≤ addr }
         requires ends { addr + count ≤ self.old.memory.base + self.old.memory.size }
+        requires few { count ≤ 256 }
         ensures { self.new ≡ goes_through (byte_loads addr count) [] (ToConsole count) self.old }
     {
         self.progress = Progress::Write {
@@ -318,6 +319,7 @@ impl Core {
     fn wrote(&mut self, addr: u64, left: u64, count: u64)
         requires begins { self.old.memory.base ≤ addr }
         requires ends { addr + left ≤ self.old.memory.base + self.old.memory.size }
+        requires few { left ≤ 256 }
         ensures { self.new ≡ goes_through (byte_loads addr left) [] (ToConsole count) self.old }
     {
         if left == 0 {

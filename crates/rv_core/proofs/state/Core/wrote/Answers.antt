@@ -10,4 +10,5 @@ invariant_of-self c =
     let some : 0 < c.args.left = omega arith in
     let begins : c.self.inside.memory.base ≤ c.args.addr = omega (arith, base, c.requires.begins) in
     let ends : c.args.addr + 1 + (c.args.left - 1) ≤ c.self.inside.memory.base + c.self.inside.memory.size = omega (arith, base, size, c.requires.ends) in
-    (writing_sound _ c.args.addr (c.args.left - 1) c.args.count c.self.invariant.0 begins ends, (begins, ends))
+    let few : c.args.left - 1 < 256 = omega (arith, c.requires.few, some) in
+    (writing_sound _ c.args.addr (c.args.left - 1) c.args.count c.self.invariant.0 begins ends few, (begins, ends, few))
