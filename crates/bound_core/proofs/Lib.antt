@@ -1,0 +1,5 @@
+pub mod Accesses
+pub mod Instructions
+pub mod Lists
+pub mod Phase
+pub mod Turns

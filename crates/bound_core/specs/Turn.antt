@@ -1,0 +1,55 @@
+-- What the turns of one core leave.
+use Rattle.std.specs.Prelude.{◌≡◌, ◌≤◌, ◌⊎◌, ℕ, List, [], ◌∷◌, length, All, Option, Some, None, IsSome}
+use Rattle.zs_num.specs.declared.entry.Entry.{Entry}
+use Rattle.zs_num.specs.declared.request.Request.{Request}
+use Rattle.elf_load.specs.MemoryImage.{MemoryImage}
+use Rattle.bound_core.specs.declared.turned.Turned.{Turned}
+use Rattle.bound_core.specs.declared.turned.Turned.TheVariants.{Took, Ended}
+use Rattle.bound_core.specs.Port.{Gains}
+use Rattle.bound_core.specs.Timed.{TimedCore, after_access, asks, latest, most_accesses, ran_to}
+
+-- of the entry of a turn that took one
+abbrev pub IfTook : Turned → (Entry → Type 0) → Type 0
+IfTook (Took e) P = P e
+IfTook Ended P = Unit {0}
+
+-- the core has halted, or come to the interval's end with no instruction in progress
+pub record IsOver (end : ℕ) (c : TimedCore) : Type 0 where
+  pub idle : c.core.instruction ≡ None
+  pub over : IsSome c.core.halted ⊎ (end ≤ c.clock)
+
+-- The core has no access before it ends its interval, and the port is as it was.
+pub record EndsInterval {Port : Type 0} (image : MemoryImage) (end : ℕ) (port port_after : Port) (before after : TimedCore) : Type 0 where
+  pub asked : asks (ran_to image end before) ≡ None
+  pub left : after ≡ ran_to image end before
+  pub same : port_after ≡ port
+
+-- `time` is how long an access takes where nothing else runs. The interval ends at `end`. `gives` says which entry, and
+-- which port after it, may come of a request that starts then.
+module _ {Port : Type 0} (time : Entry → ℕ) (image : MemoryImage) (end : ℕ) (gives : Port → (start : ℕ) → Request → Entry → Port → Type 0) where
+  -- A turn took this entry: of the access that the core has after its local instructions, as the port gave it.
+  pub record TakesTurn (port port_after : Port) (before after : TimedCore) (e : Entry) : Type 0 where
+    pub request : Request
+    pub asked : asks (ran_to image end before) ≡ Some request
+    pub given : gives port (ran_to image end before).clock request e port_after
+    pub left : after ≡ after_access time e (ran_to image end before)
+
+  abbrev pub TurnsAs : (port port_after : Port) (before after : TimedCore) → Turned → Type 0
+  TurnsAs port port_after before after (Took e) = TakesTurn port port_after before after e
+  TurnsAs port port_after before after Ended = EndsInterval image end port port_after before after
+
+  -- turns that took these entries, one after the other, and then the end of the interval
+  abbrev pub TurnsToEnd : List Entry → (port port_after : Port) (before after : TimedCore) → Type 0
+  TurnsToEnd [] port port_after before after = EndsInterval image end port port_after before after
+  TurnsToEnd (e ∷ entries) port port_after before after =
+      (next : Port) × ((core : TimedCore) × (TakesTurn port next before core e × TurnsToEnd entries next port_after core after))
+
+  -- What the core of this number does up to the end of its interval: its turns, and the entries that they took. `told_of`
+  -- are the entries that the port answered so far, where it tells them.
+  pub record RunsToEnd (told_of : Port → Option (List Entry)) (number : ℕ) (port port_after : Port) (before after : TimedCore) : Type 0 where
+    pub entries : List Entry
+    pub turns : TurnsToEnd entries port port_after before after
+    pub cores : All (λ e. e.core ≡ number) entries
+    pub starts : All (λ e. e.start ≤ latest end before) entries
+    pub few : length entries ≤ most_accesses end before
+    pub told : Gains (told_of port) entries (told_of port_after)

@@ -1,0 +1,271 @@
+// One core in an interval.
+ghost use Rattle.std.specs.Prelude.{◌≡◌, ◌+◌, ◌-◌, ◌≤◌, ◌<◌, ◌^◌, max, false, ◌∷◌, [], Some, None, IfOk, OnOk, IsTrue, if◌then◌else◌};
+ghost use Rattle.zs_num.specs.Request.{IsServable};
+ghost use Rattle.machine_desc.specs.Machine.{IsMachine};
+ghost use Rattle.rv_core.specs.Sound.{IsSound};
+ghost use Rattle.rv_core.specs.Step.{cost, is_free};
+ghost use Rattle.bound_core.specs.Port.{Gains};
+ghost use Rattle.bound_core.specs.Timed.{after_access, after_instruction, asks, delayed, first_core, goes_on_alone, latest, most_accesses, ran_to};
+ghost use Rattle.bound_core.specs.Turn.{IfTook, IsOver, TurnsAs};
+
+use crate::{Port, Turned};
+use elf_load::Image;
+use event_graph::Expand;
+use machine_desc::Machine;
+use rv_core::{Core, Program, Why};
+use std::alloc::Global;
+use std::marker::Model;
+use zs_num::{Cycle, Entry, NoMemory, Request};
+
+/// What a core can write in an interval, beside a byte for each cycle.
+const BESIDE_CYCLES: u64 = 258;
+
+/// A core in time: its state, its clock in cycles, and the bytes that it wrote on its console.
+#[derive(Drop)]
+pub struct BoundCore {
+    core: Core,
+    number: u16,
+    clock: Cycle,
+    instructions: u64,
+    console: Vec<u8>,
+}
+
+impl Model for BoundCore {
+    ghost use Rattle.std.specs.Prelude.{◌≤◌, ◌-◌, vec_len, vec_capacity};
+    ghost use Rattle.bound_core.specs.Timed.{NumberedCore};
+
+    ghost Value = { NumberedCore };
+
+    ghost view = { λ b. record { number = b.number; timed = record { core = b.core; clock = b.clock; instructions = b.instructions; console = b.console.items }; spare = vec_capacity b.console - vec_len b.console } };
+
+    ghost invariant = { λ b. b.instructions ≤ b.clock };
+}
+
+impl BoundCore {
+    /// The core of this number at the start.
+    pub fn new(
+        alloc: Global,
+        machine: &Machine,
+        image: &Image,
+        number: u16,
+    ) -> Result<Self, NoMemory>
+        requires machine { IsMachine machine.now }
+        requires number { number < machine.now.cores }
+        ensures timed { IfOk result (λ b. b.timed ≡ first_core machine.now image.now number) }
+        ensures number { IfOk result (λ b. b.number ≡ number) }
+    {
+        let memory = &machine.memory;
+        let sp = memory.base + memory.size - u64::from(number) * memory.stack;
+        let core = Core::new(
+            number,
+            machine.cores,
+            image.entry(),
+            sp,
+            memory.base,
+            memory.size,
+        );
+        Ok(BoundCore {
+            core,
+            number,
+            clock: 0,
+            instructions: 0,
+            console: Vec::new(alloc),
+        })
+    }
+
+    /// Makes room on the console for what the core can write in an interval of so many cycles.
+    pub fn reserve(&mut self, interval: u64) -> Result<(), NoMemory>
+        requires { interval ≤ 10000 }
+        ensures room { OnOk result (interval + 258 ≤ self.new.spare) }
+        ensures spare { self.old.spare ≤ self.new.spare }
+        ensures timed { self.new.timed ≡ self.old.timed }
+        ensures number { self.new.number ≡ self.old.number }
+    {
+        self.console.reserve((interval + BESIDE_CYCLES) as usize)?;
+        Ok(())
+    }
+
+    /// The clock, in cycles.
+    pub fn clock(&self) -> Cycle
+        ensures { result ≡ self.now.timed.clock }
+    {
+        self.clock
+    }
+
+    /// The core waited so many cycles.
+    pub fn delay(&mut self, by: u64)
+        requires { self.old.timed.clock + by < 2 ^ 64 }
+        ensures timed { self.new.timed ≡ delayed by self.old.timed }
+        ensures number { self.new.number ≡ self.old.number }
+        ensures spare { self.new.spare ≡ self.old.spare }
+    {
+        self.clock += by;
+    }
+
+    /// How many instructions were counted: those that did not halt the core by a fault.
+    pub fn instructions(&self) -> u64
+        ensures value { result ≡ self.now.timed.instructions }
+        ensures few { result ≤ self.now.timed.clock }
+    {
+        self.instructions
+    }
+
+    /// The bytes that it wrote.
+    pub fn console(&self) -> &[u8]
+        ensures { result.now ≡ self.now.timed.console }
+    {
+        &self.console
+    }
+
+    /// Why it halted, or None where it did not.
+    pub fn halted(&self) -> Option<Why>
+        ensures { result ≡ self.now.timed.core.halted }
+    {
+        self.core.halted()
+    }
+
+    /// What its program sees.
+    pub fn core(&self) -> &Core
+        ensures value { result.now ≡ self.now.timed.core }
+        ensures sound { IsSound self.now.timed.core }
+    {
+        self.keeps_sound();
+        &self.core
+    }
+
+    // All that the core asks for can be served.
+    #[inline(always)]
+    fn keeps_sound(&self)
+        ensures { IsSound self.now.timed.core }
+    {
+        let _request = self.core.request();
+    }
+
+    /// A turn in the interval that ends at cycle `end`: local instructions, and then one access
+    /// through the port. Ended exactly where the core halted, or its clock reached the end with no
+    /// instruction in progress.
+    #[inline]
+    pub fn turn<P: Program, X: Expand, Q: Port>(
+        &mut self,
+        program: &P,
+        x: &X,
+        end: Cycle,
+        port: &mut Q,
+    ) -> Turned
+        requires core { Q.core port.old ≡ self.old.number }
+        requires base { Q.base port.old ≡ self.old.timed.core.memory.base }
+        requires size { Q.size port.old ≡ self.old.timed.core.memory.size }
+        requires room { 1 ≤ Q.room port.old }
+        requires spare { 1 ≤ self.old.spare }
+        requires clock { self.old.timed.clock ≤ 2 ^ 61 }
+        requires end { end ≤ 2 ^ 61 }
+        ensures turn { TurnsAs (X.time x.now) (P.image program.now) end Q.gives port.old port.new self.old.timed self.new.timed result }
+        ensures over { result ≡ Turned.Ended → IsOver end self.new.timed }
+        ensures core { IfTook result (λ e. e.core ≡ self.old.number) }
+        ensures start { IfTook result (λ e. e.start ≡ (ran_to (P.image program.now) end self.old.timed).clock) }
+        ensures request { IfTook result (λ e. asks (ran_to (P.image program.now) end self.old.timed) ≡ Some e.request) }
+        ensures starts { IfTook result (λ e. e.start ≤ max self.old.timed.clock end) }
+        ensures fewer { IfTook result (λ e. most_accesses end self.new.timed < most_accesses end self.old.timed) }
+        ensures few { most_accesses end self.old.timed ≤ end - self.old.timed.clock + 256 }
+        ensures begun { self.old.timed.clock ≤ self.new.timed.clock }
+        ensures within { self.new.timed.clock ≤ max self.old.timed.clock end + 2 ^ 20 }
+        ensures latest { latest end self.new.timed ≤ latest end self.old.timed }
+        ensures number { self.new.number ≡ self.old.number }
+        ensures memory { self.new.timed.core.memory ≡ self.old.timed.core.memory }
+        ensures spare { self.old.spare ≤ self.new.spare + 1 }
+        ensures port_core { Q.core port.new ≡ Q.core port.old }
+        ensures port_base { Q.base port.new ≡ Q.base port.old }
+        ensures port_size { Q.size port.new ≡ Q.size port.old }
+        ensures port_room { Q.room port.old ≤ Q.room port.new + 1 }
+        ensures port_told { IfTook result (λ e. Gains (Q.told port.old) (e ∷ []) (Q.told port.new)) }
+    {
+        self.run_local(program, end);
+        match self.core.request() {
+            Some(request) => Turned::Took(self.access(x, port, request)),
+            None => Turned::Ended,
+        }
+    }
+
+    // Makes the access that the core waits for.
+    #[tactic(auto, unfolding(crate::specs::Timed::after_access))]
+    fn access<X: Expand, Q: Port>(&mut self, x: &X, port: &mut Q, request: Request) -> Entry
+        requires asked { asks self.old.timed ≡ Some request }
+        requires core { Q.core port.old ≡ self.old.number }
+        requires base { Q.base port.old ≡ self.old.timed.core.memory.base }
+        requires size { Q.size port.old ≡ self.old.timed.core.memory.size }
+        requires room { 1 ≤ Q.room port.old }
+        requires spare { 1 ≤ self.old.spare }
+        requires clock { self.old.timed.clock ≤ 2 ^ 62 }
+        requires servable { IsServable (Q.base port.old) (Q.size port.old) request }
+        ensures given { Q.gives port.old self.old.timed.clock request result port.new }
+        ensures left { self.new.timed ≡ after_access (X.time x.now) result self.old.timed }
+        ensures core { result.core ≡ self.old.number }
+        ensures start { result.start ≡ self.old.timed.clock }
+        ensures request { result.request ≡ request }
+        ensures later { self.old.timed.clock < self.new.timed.clock }
+        ensures within { self.new.timed.clock ≤ self.old.timed.clock + 2 ^ 20 }
+        ensures number { self.new.number ≡ self.old.number }
+        ensures memory { self.new.timed.core.memory ≡ self.old.timed.core.memory }
+        ensures sound { IsSound self.new.timed.core }
+        ensures spare { self.old.spare ≤ self.new.spare + 1 }
+        ensures port_core { Q.core port.new ≡ Q.core port.old }
+        ensures port_base { Q.base port.new ≡ Q.base port.old }
+        ensures port_size { Q.size port.new ≡ Q.size port.old }
+        ensures port_room { Q.room port.old ≤ Q.room port.new + 1 }
+        ensures port_told { Gains (Q.told port.old) (result ∷ []) (Q.told port.new) }
+    {
+        let entry = port.access(self.clock, request);
+        if let Some(byte) = self.core.answer(entry.reply) {
+            self.console.push_reserved(byte);
+        }
+        self.clock += x.time(&entry);
+        entry
+    }
+
+    // Executes its local instructions: up to an access, a halt or the end of the interval.
+    #[inline(always)]
+    fn run_local<P: Program>(&mut self, program: &P, end: Cycle)
+        ensures value { self.new.timed ≡ ran_to (P.image program.now) end self.old.timed }
+        ensures stopped { goes_on_alone end self.new.timed ≡ false }
+        ensures late { end ≤ self.old.timed.clock → self.new.timed ≡ self.old.timed }
+        ensures begun { self.old.timed.clock ≤ self.new.timed.clock }
+        ensures within { self.new.timed.clock ≤ max self.old.timed.clock end }
+        ensures number { self.new.number ≡ self.old.number }
+        ensures memory { self.new.timed.core.memory ≡ self.old.timed.core.memory }
+        ensures spare { self.new.spare ≡ self.old.spare }
+    {
+        let mut goes_on = self.core.is_free();
+        while goes_on && self.clock < end {
+            goes_on = self.step(program);
+        }
+    }
+
+    // Executes one instruction, up to its first access if it has one. It answers whether the core comes
+    // to a next instruction.
+    #[inline(always)]
+    #[tactic(auto, unfolding(crate::specs::Timed::after_instruction))]
+    fn step<P: Program>(&mut self, program: &P) -> bool
+        requires free { IsTrue (is_free self.old.timed.core) }
+        requires clock { self.old.timed.clock < 2 ^ 64 - 1 }
+        ensures value { self.new.timed ≡ after_instruction (P.image program.now) self.old.timed }
+        ensures free { result ≡ is_free self.new.timed.core }
+        ensures number { self.new.number ≡ self.old.number }
+        ensures memory { self.new.timed.core.memory ≡ self.old.timed.core.memory }
+        ensures spare { self.new.spare ≡ self.old.spare }
+    {
+        let goes_on = self.core.step(program);
+        if goes_on || is_counted(self.core.halted()) {
+            self.clock += 1;
+            self.instructions += 1;
+        }
+        goes_on
+    }
+}
+
+// Whether the instruction that left a core halted for this reason, or not halted, is counted.
+#[inline]
+fn is_counted(halted: Option<Why>) -> bool
+    ensures { cost halted ≡ (if result then 1 else 0) }
+{
+    matches!(halted, None | Some(Why::Exit(_)))
+}

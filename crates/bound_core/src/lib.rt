@@ -1,0 +1,11 @@
+//! One core in an interval: its local instructions, and its accesses through a port.
+#![tactic(auto)]
+
+mod bounded;
+pub mod laws;
+mod port;
+mod turned;
+
+pub use bounded::BoundCore;
+pub use port::Port;
+pub use turned::Turned;

@@ -1,0 +1,42 @@
+// What serves the accesses of a core.
+ghost use Rattle.std.specs.Prelude.{◌≡◌, ◌+◌, ◌≤◌, ℕ, List, [], ◌∷◌, Option};
+ghost use Rattle.zs_num.specs.declared.entry.Entry.{Entry};
+ghost use Rattle.zs_num.specs.declared.request.Request.{Request};
+ghost use Rattle.zs_num.specs.Request.{IsServable};
+ghost use Rattle.bound_core.specs.Port.{Gains};
+
+use zs_num::{Cycle, Entry, Request};
+
+/// What serves the accesses of a core, one after the other.
+pub trait Port {
+    /// The number of the core.
+    ghost core: { Self → ℕ };
+
+    /// The first address of memory, and its size in bytes.
+    ghost base: { Self → ℕ };
+
+    ghost size: { Self → ℕ };
+
+    /// For how many accesses there is room at least.
+    ghost room: { Self → ℕ };
+
+    /// Which entry, and which port after it, may come of a request that starts then.
+    ghost gives: { Self → (start : ℕ) → Request → Entry → Self → Type 0 };
+
+    /// The entries that it answered, in order, where it tells them.
+    ghost told: { Self → Option (List Entry) };
+
+    /// Serves an access that starts then.
+    fn access(&mut self, start: Cycle, request: Request) -> Entry
+        requires room { 1 ≤ room self.old }
+        requires servable { IsServable (base self.old) (size self.old) request }
+        ensures gives { gives self.old start request result self.new }
+        ensures core { result.core ≡ core self.old }
+        ensures start { result.start ≡ start }
+        ensures request { result.request ≡ request }
+        ensures same_core { core self.new ≡ core self.old }
+        ensures same_base { base self.new ≡ base self.old }
+        ensures same_size { size self.new ≡ size self.old }
+        ensures room { room self.old ≤ room self.new + 1 }
+        ensures told { Gains (told self.old) (result ∷ []) (told self.new) };
+}
