@@ -106,3 +106,7 @@ clock_within end c = omega arith
 pub latest_small : (end : ℕ) (c : TimedCore) → left_of_instruction c.core.instruction ≤ 256 → latest end c ≤ max c.clock end + 2 ^ 28
 unfolding latest
 latest_small end c few = omega (arith, few)
+
+pub end_within : (end : ℕ) (c : TimedCore) → end ≤ latest end c
+unfolding latest
+end_within end c = omega arith

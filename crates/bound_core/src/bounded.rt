@@ -6,7 +6,7 @@ ghost use Rattle.rv_core.specs.Sound.{IsSound};
 ghost use Rattle.rv_core.specs.Step.{cost, is_free};
 ghost use Rattle.bound_core.specs.Port.{Gains};
 ghost use Rattle.bound_core.specs.Timed.{after_access, after_instruction, asks, delayed, first_core, goes_on_alone, latest, most_accesses, ran_to};
-ghost use Rattle.bound_core.specs.Turn.{IfTook, IsOver, TurnsAs};
+ghost use Rattle.bound_core.specs.Turn.{IfTook, IsOver, RunsToEnd, TurnsAs};
 
 use crate::{Port, Turned};
 use elf_load::Image;
@@ -173,6 +173,7 @@ impl BoundCore {
         ensures number { self.new.number ≡ self.old.number }
         ensures memory { self.new.timed.core.memory ≡ self.old.timed.core.memory }
         ensures spare { self.old.spare ≤ self.new.spare + 1 }
+        ensures same_spare { result ≡ Turned.Ended → self.new.spare ≡ self.old.spare }
         ensures port_core { Q.core port.new ≡ Q.core port.old }
         ensures port_base { Q.base port.new ≡ Q.base port.old }
         ensures port_size { Q.size port.new ≡ Q.size port.old }
@@ -184,6 +185,38 @@ impl BoundCore {
             Some(request) => Turned::Took(self.access(x, port, request)),
             None => Turned::Ended,
         }
+    }
+
+    /// Runs to the end of the interval: turns until Ended. The accesses go through the port, which tells
+    /// their entries where it keeps a list of them.
+    pub fn run_one<P: Program, X: Expand, Q: Port>(
+        &mut self,
+        program: &P,
+        x: &X,
+        end: Cycle,
+        port: &mut Q,
+    )
+        requires core { Q.core port.old ≡ self.old.number }
+        requires base { Q.base port.old ≡ self.old.timed.core.memory.base }
+        requires size { Q.size port.old ≡ self.old.timed.core.memory.size }
+        requires room { end - self.old.timed.clock + 258 ≤ Q.room port.old }
+        requires spare { end - self.old.timed.clock + 258 ≤ self.old.spare }
+        requires clock { self.old.timed.clock ≤ 2 ^ 60 }
+        requires end { end ≤ 2 ^ 60 }
+        ensures turns { RunsToEnd (X.time x.now) (P.image program.now) end Q.gives Q.told self.old.number port.old port.new self.old.timed self.new.timed }
+        ensures over { IsOver end self.new.timed }
+        ensures begun { self.old.timed.clock ≤ self.new.timed.clock }
+        ensures latest { latest end self.new.timed ≤ latest end self.old.timed }
+        ensures number { self.new.number ≡ self.old.number }
+        ensures memory { self.new.timed.core.memory ≡ self.old.timed.core.memory }
+        ensures spare { self.old.spare ≤ self.new.spare + most_accesses end self.old.timed }
+        ensures port_core { Q.core port.new ≡ Q.core port.old }
+        ensures port_base { Q.base port.new ≡ Q.base port.old }
+        ensures port_size { Q.size port.new ≡ Q.size port.old }
+        ensures port_room { Q.room port.old ≤ Q.room port.new + most_accesses end self.old.timed }
+    {
+        self.keeps_sound();
+        while let Turned::Took(_entry) = self.turn(program, x, end, port) {}
     }
 
     // Makes the access that the core waits for.

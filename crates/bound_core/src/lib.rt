@@ -4,6 +4,8 @@
 mod bounded;
 pub mod laws;
 mod port;
+#[cfg(test)]
+mod tests;
 mod turned;
 
 pub use bounded::BoundCore;

@@ -1,0 +1,29 @@
+-- the turns so far, and room for those that are left
+use Rattle.std.proofs.Common.{◌≡◌, ◌≤◌, ◌+◌}
+use Rattle.bound_core.specs.Timed.{latest, most_accesses}
+use Rattle.bound_core.proofs.Turns.{HasTaken}
+use Rattle.bound_core.proofs.bounded.BoundCore.run_one.Given as goal
+
+abbrev pub invariant-loop-entry : goal.invariant-loop-entry
+invariant-loop-entry g l =
+    let first = l.initial.self in
+    record {
+      taken : HasTaken (g.X.Expand.time l.x) (g.P.Program.image l.program) l.end g.Q.Port.gives g.Q.Port.told first.number l.initial.port l.port first.timed l.self.timed;
+      core : g.Q.Port.core l.port ≡ l.self.number;
+      base : g.Q.Port.base l.port ≡ l.self.timed.core.memory.base;
+      size : g.Q.Port.size l.port ≡ l.self.timed.core.memory.size;
+      room : most_accesses l.end l.self.timed + 1 ≤ g.Q.Port.room l.port;
+      spare : most_accesses l.end l.self.timed + 1 ≤ l.self.spare;
+      begun : first.timed.clock ≤ l.self.timed.clock;
+      latest : latest l.end l.self.timed ≤ latest l.end first.timed;
+      number : l.self.number ≡ first.number;
+      memory : l.self.timed.core.memory ≡ first.timed.core.memory;
+      spare_left : first.spare + most_accesses l.end l.self.timed ≤ l.self.spare + most_accesses l.end first.timed;
+      port_core : g.Q.Port.core l.port ≡ g.Q.Port.core l.initial.port;
+      port_base : g.Q.Port.base l.port ≡ g.Q.Port.base l.initial.port;
+      port_size : g.Q.Port.size l.port ≡ g.Q.Port.size l.initial.port;
+      room_left : g.Q.Port.room l.initial.port + most_accesses l.end l.self.timed ≤ g.Q.Port.room l.port + most_accesses l.end first.timed;
+    }
+
+abbrev pub decreases-loop-entry : goal.decreases-loop-entry
+decreases-loop-entry g l = most_accesses l.end l.self.timed

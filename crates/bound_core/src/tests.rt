@@ -1,0 +1,212 @@
+//! Small programs on one core, with numbers from the RISC-V Unprivileged ISA manual and its table of
+//! opcodes. Memory is a flat list of bytes, and each access finds its line in memory.
+ghost use Rattle.std.specs.Prelude.{◌≡◌, ◌-◌, ◌<◌, length, vec_capacity, vec_len, IfOk, Some};
+ghost use Rattle.machine_desc.specs.Machine.{IsMachine};
+ghost use Rattle.flat_memory.specs.FlatMemory.{after, reply_of};
+
+use crate::{BoundCore, Port, Turned};
+use elf_load::{Image, load};
+use event_graph::Plain;
+use flat_memory::FlatMemory;
+use machine_desc::{Machine, PLAIN, read};
+use rv_core::Why;
+use std::alloc::Global;
+use std::test::Fail;
+use zs_num::{Cycle, Entry, NoMemory, Outcome, Request};
+
+const BASE: u64 = 0x1_0000;
+
+/// The time of an access that finds its line in memory on the built-in machine: the look-up in the
+/// core's own cache, that in the shared cache, the read of memory and the fill.
+const MISS: u64 = 1 + 10 + 100 + 2;
+
+/// An ELF header and the header of one segment that may be executed, without its lengths: the file's
+/// bytes from 120 on are at 0x10000.
+static HEADERS: [u8; 88] = [
+    0x7f, 0x45, 0x4c, 0x46, 0x02, 0x01, 0x01, 0x00, 0x00, 0x00, 0x00, 0x00, 0x00, 0x00, 0x00, 0x00,
+    0x02, 0x00, 0xf3, 0x00, 0x01, 0x00, 0x00, 0x00, 0x00, 0x00, 0x01, 0x00, 0x00, 0x00, 0x00, 0x00,
+    0x40, 0x00, 0x00, 0x00, 0x00, 0x00, 0x00, 0x00, 0x00, 0x00, 0x00, 0x00, 0x00, 0x00, 0x00, 0x00,
+    0x00, 0x00, 0x00, 0x00, 0x40, 0x00, 0x38, 0x00, 0x01, 0x00, 0x00, 0x00, 0x00, 0x00, 0x00, 0x00,
+    0x01, 0x00, 0x00, 0x00, 0x05, 0x00, 0x00, 0x00, 0x78, 0x00, 0x00, 0x00, 0x00, 0x00, 0x00, 0x00,
+    0x00, 0x00, 0x01, 0x00, 0x00, 0x00, 0x00, 0x00,
+];
+
+// auipc x11, 0; addi x11, x11, 36; addi x10, x0, 1; addi x12, x0, 3; addi x17, x0, 64; ecall;
+// addi x10, x0, 0; addi x17, x0, 93; ecall; and then "hi\n"
+static WRITE: [u32; 10] = [
+    0x0000_0597,
+    0x0245_8593,
+    0x0010_0513,
+    0x0030_0613,
+    0x0400_0893,
+    0x0000_0073,
+    0x0000_0513,
+    0x05d0_0893,
+    0x0000_0073,
+    0x000a_6968,
+];
+
+// auipc x5, 0; ld x6, 60(x5); addi x10, x6, 0; addi x17, x0, 93; ecall; and at 60 the doubleword, which
+// crosses a line of 64 bytes
+static CROSSING: [u32; 17] = [
+    0x0000_0297,
+    0x03c2_b303,
+    0x0003_0513,
+    0x05d0_0893,
+    0x0000_0073,
+    0,
+    0,
+    0,
+    0,
+    0,
+    0,
+    0,
+    0,
+    0,
+    0,
+    0x4433_2211,
+    0x8877_6655,
+];
+
+// The built-in machine.
+fn machine(alloc: Global) -> Result<Machine, NoMemory>
+    ensures { IfOk result IsMachine }
+{
+    match read(alloc, PLAIN.as_bytes()) {
+        Ok(machine) => Ok(machine),
+        Err(_) => Err(NoMemory),
+    }
+}
+
+// A file of these words.
+fn file(alloc: Global, words: &[u32]) -> Result<Vec<u8>, NoMemory> {
+    let bytes = 4 * words.len() as u64;
+    let mut file = Vec::from_slice(alloc, &HEADERS)?;
+    for number in [BASE, bytes, bytes, 1] {
+        file.extend_from_slice(&number.to_le_bytes())?;
+    }
+    for word in words {
+        file.extend_from_slice(&word.to_le_bytes())?;
+    }
+    Ok(file)
+}
+
+// The image of a program of these words in the machine's memory.
+fn image(alloc: Global, machine: &Machine, words: &[u32]) -> Result<Image, NoMemory>
+    requires { IsMachine machine.now }
+    ensures base { IfOk result (λ image. image.base ≡ machine.now.memory.base) }
+    ensures size { IfOk result (λ image. image.size ≡ machine.now.memory.size) }
+{
+    let file = file(alloc, words)?;
+    match load(alloc, &file, machine.memory.base, machine.memory.size) {
+        Ok(image) => Ok(image),
+        Err(_) => Err(NoMemory),
+    }
+}
+
+/// A port of one core over a flat memory. It keeps the entries that it answered.
+#[derive(Drop)]
+struct FlatPort {
+    memory: FlatMemory,
+    core: u16,
+    entries: Vec<Entry>,
+    ghost is_there: { core < length memory.reservations },
+}
+
+impl Port for FlatPort {
+    ghost core = { λ p. p.core };
+
+    ghost base = { λ p. p.memory.base };
+
+    ghost size = { λ p. length p.memory.bytes };
+
+    ghost room = { λ p. vec_capacity p.entries - vec_len p.entries };
+
+    ghost gives = { λ p start request e q. (e.reply ≡ reply_of p.memory p.core request) × (q.memory ≡ after p.memory p.core request) };
+
+    ghost told = { λ p. Some p.entries.items };
+
+    fn access(&mut self, start: Cycle, request: Request) -> Entry {
+        let entry = Entry {
+            core: self.core,
+            stamp: self.entries.len() as u64,
+            start,
+            request,
+            reply: self.memory.serve(self.core, request),
+            outcome: Outcome::Miss {
+                dirty_victim: false,
+            },
+        };
+        self.entries.push_reserved(entry);
+        entry
+    }
+}
+
+// Where each access of the port began, and what it was answered.
+fn served(alloc: Global, port: &FlatPort) -> Result<Vec<(u64, u64)>, NoMemory> {
+    let mut found = Vec::new(alloc);
+    for entry in &port.entries {
+        found.push((entry.start, entry.reply))?;
+    }
+    Ok(found)
+}
+
+#[test]
+fn a_write_call_writes_byte_by_byte(rt: HostRuntime) -> Result<(), Fail> {
+    let alloc = rt.alloc();
+    let machine = machine(alloc)?;
+    let times = Plain::of(&machine);
+    let program = image(alloc, &machine, &WRITE)?;
+    let mut core = BoundCore::new(alloc, &machine, &program, 0)?;
+    let mut port = FlatPort {
+        memory: FlatMemory::loaded(alloc, &program, 1)?,
+        core: 0,
+        entries: Vec::with_capacity(alloc, 1000 + 258)?,
+    };
+    core.reserve(1000)?;
+    core.run_one(&program, &times, 1000, &mut port);
+    // Five instructions and the call come before the first byte.
+    let wanted = [
+        (6, 0x68),
+        (6 + MISS, 0x69),
+        (6 + 2 * MISS, 0x0a),
+    ];
+    assert_eq!(rt; served(alloc, &port)?.as_slice(), &wanted);
+    assert_eq!(rt; core.console(), b"hi\n");
+    assert_eq!(rt; core.halted(), Some(Why::Exit(0)));
+    assert_eq!(rt; core.clock(), 6 + 3 * MISS + 3);
+    assert_eq!(rt; core.instructions(), 9);
+    Ok(())
+}
+
+#[test]
+fn a_load_that_crosses_a_line_goes_on_past_the_end(rt: HostRuntime) -> Result<(), Fail> {
+    let alloc = rt.alloc();
+    let machine = machine(alloc)?;
+    let times = Plain::of(&machine);
+    let program = image(alloc, &machine, &CROSSING)?;
+    let mut core = BoundCore::new(alloc, &machine, &program, 0)?;
+    let mut port = FlatPort {
+        memory: FlatMemory::loaded(alloc, &program, 1)?,
+        core: 0,
+        entries: Vec::with_capacity(alloc, 1000)?,
+    };
+    core.reserve(1000)?;
+    // The interval ends where the load begins its first access.
+    let first = core.turn(&program, &times, 2, &mut port);
+    assert!(rt; matches!(first, Turned::Took(_)));
+    assert_eq!(rt; core.clock(), 2 + MISS);
+    assert!(rt; core.core().in_progress());
+    let second = core.turn(&program, &times, 2, &mut port);
+    assert!(rt; matches!(second, Turned::Took(_)));
+    assert_eq!(rt; core.turn(&program, &times, 2, &mut port), Turned::Ended);
+    let wanted = [(2, 0x4433_2211), (2 + MISS, 0x8877_6655)];
+    assert_eq!(rt; served(alloc, &port)?.as_slice(), &wanted);
+    assert_eq!(rt; core.clock(), 2 + 2 * MISS);
+    core.delay(10);
+    assert_eq!(rt; core.turn(&program, &times, 500, &mut port), Turned::Ended);
+    assert_eq!(rt; core.halted(), Some(Why::Exit(0x8877_6655_4433_2211)));
+    assert_eq!(rt; core.clock(), 2 + 2 * MISS + 10 + 3);
+    assert_eq!(rt; core.instructions(), 5);
+    Ok(())
+}
