@@ -24,7 +24,7 @@ halted_by end c None e some = cc
 halted_by end c (Some why) e some = rw e refl
 
 over_stops : (end : ℕ) (c : TimedCore) → IsOver end c → goes_on_alone end c ≡ false
-over_stops end c over = elim over.over [ | inl halted ↦ halted_by end c c.core.halted refl halted | inr late ↦ late_stops end c late ]
+over_stops end c over = elim over.over [ inl halted ↦ halted_by end c c.core.halted refl halted | inr late ↦ late_stops end c late ]
 
 module _ {World : Type 0} (serve : World → (core start : ℕ) → Request → Entry × World) (time : Entry → ℕ) (image : MemoryImage) (end : ℕ) where
   -- ---- a core whose local instructions are behind it
@@ -81,19 +81,19 @@ module _ {World : Type 0} (serve : World → (core start : ℕ) → Request → 
   local_alone s number c place numbers here =
       let ran : slice_get (map (ran_to image end) s.cores) number ≡ Some (ran_to image end c) = rw (slice_get-map (ran_to image end) s.cores number, here) refl in
       let same : at_end image end (with_core s number (ran_to image end c)) ≡ at_end image end s =
-          rw (map-set (ran_to image end) s.cores number (ran_to image end c), ran_again image end c, set_same (map (ran_to image end) s.cores) number (ran_to image end c) ran) refl in
+      rw (map-set (ran_to image end) s.cores number (ran_to image end c), ran_again image end c, set_same (map (ran_to image end) s.cores) number (ran_to image end c) ran) refl in
       same_end_same_phase numbers place (with_core s number (ran_to image end c)) s same
 
   -- ---- where all are over
 
   over_runs : (cores : List TimedCore) → All (IsOver end) cores → map (ran_to image end) cores ≡ cores
   over_runs [] over = refl
-  over_runs (c ∷ cores) over = 
+  over_runs (c ∷ cores) over =
       rw (ran_stays image end c (over_stops end c (all_head (IsOver end) c cores over)), over_runs cores (all_tail (IsOver end) c cores over)) refl
 
   over_done : (cores : List TimedCore) → All (IsOver end) cores → list_all (λ c. is_none (asks (ran_to image end c))) cores ≡ true
   over_done [] over = refl
-  over_done (c ∷ cores) over = 
+  over_done (c ∷ cores) over =
       let here : IsOver end c = all_head (IsOver end) c cores over in
       rw (ran_stays image end c (over_stops end c here), here.idle, over_done cores (all_tail (IsOver end) c cores over)) refl
 
@@ -108,7 +108,7 @@ module _ {Port World : Type 0} (gives : Port → (start : ℕ) → Request → E
       → turn serve time image end s e.core ≡ Some (moved s e.core after (world port_after) (e ∷ []))
   turn_is s port port_after before after e here same t =
       let answer : serve s.world e.core (ran_to image end before).clock t.request ≡ (e, world port_after) =
-          ap (λ w. serve w e.core (ran_to image end before).clock t.request) same ∙ sym (answers port port_after (ran_to image end before).clock t.request e t.given) in
+      ap (λ w. serve w e.core (ran_to image end before).clock t.request) same ∙ sym (answers port port_after (ran_to image end before).clock t.request e t.given) in
       rw (here, t.asked, answer, t.left) refl
 
   pub turn_scheduled : (s : BoundState World) (port port_after : Port) (before after : TimedCore) (e : Entry)
@@ -140,7 +140,7 @@ module _ {Port World : Type 0} (gives : Port → (start : ℕ) → Request → E
       let rest = turns_scheduled entries left number next port_after core after there refl (all_tail (λ (x : Entry). x.core ≡ number) e entries own) turns.1.1.1 (place + 1) numbers in
       let count : place + 1 + length entries ≡ place + suc (length entries) = omega arith in
       let all : moved left number after (world port_after) entries ≡ moved s number after (world port_after) (e ∷ entries) =
-          rw (set_again s.cores number core after, append_assoc s.entries (e ∷ []) entries) refl in
+      rw (set_again s.cores number core after, append_assoc s.entries (e ∷ []) entries) refl in
       one ∙ ap (bound_from serve time image end (place + 1) (map (λ (x : Entry). x.core) entries ++ numbers)) renamed ∙ rest
       ∙ ap (λ p. bound_from serve time image end p numbers (moved left number after (world port_after) entries)) count
       ∙ ap (bound_from serve time image end (place + suc (length entries)) numbers) all

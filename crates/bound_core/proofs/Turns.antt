@@ -27,8 +27,8 @@ asks_none (Some now) asked = cc
 pub few_before : (end : ℕ) (before ran : TimedCore) → (end ≤ before.clock → ran ≡ before) → IsSound ran.core → most_accesses end before ≤ end - before.clock + 256
 few_before end before ran late sound =
     most_few end before (λ past.
-      let same : left_of_instruction ran.core.instruction ≡ left_of_instruction before.core.instruction = ap (λ (c : TimedCore). left_of_instruction c.core.instruction) (late past) in
-      omega (arith, same, left_few ran.core sound))
+    let same : left_of_instruction ran.core.instruction ≡ left_of_instruction before.core.instruction = ap (λ (c : TimedCore). left_of_instruction c.core.instruction) (late past) in
+    omega (arith, same, left_few ran.core sound))
 
 after_core : (time : Entry → ℕ) (e : Entry) (c : TimedCore) → (after_access time e c).core ≡ answered e.reply c.core
 unfolding after_access

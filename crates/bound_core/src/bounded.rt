@@ -43,6 +43,7 @@ impl Model for BoundCore {
 
 impl BoundCore {
     /// The core of this number at the start.
+    #[tactic(auto, unfolding(rv_core::specs::Step::initial_core))]
     pub fn new(
         alloc: Global,
         machine: &Machine,
@@ -53,6 +54,8 @@ impl BoundCore {
         requires number { number < machine.now.cores }
         ensures timed { IfOk result (λ b. b.timed ≡ first_core machine.now image.now number) }
         ensures number { IfOk result (λ b. b.number ≡ number) }
+        ensures base { IfOk result (λ b. b.timed.core.memory.base ≡ machine.now.memory.base) }
+        ensures size { IfOk result (λ b. b.timed.core.memory.size ≡ machine.now.memory.size) }
     {
         let memory = &machine.memory;
         let sp = memory.base + memory.size - u64::from(number) * memory.stack;
@@ -205,7 +208,9 @@ impl BoundCore {
         requires end { end ≤ 2 ^ 60 }
         ensures turns { RunsToEnd (X.time x.now) (P.image program.now) end Q.gives Q.told self.old.number port.old port.new self.old.timed self.new.timed }
         ensures over { IsOver end self.new.timed }
+        ensures few { most_accesses end self.old.timed ≤ end - self.old.timed.clock + 256 }
         ensures begun { self.old.timed.clock ≤ self.new.timed.clock }
+        ensures within { self.new.timed.clock ≤ max self.old.timed.clock end + 2 ^ 28 }
         ensures latest { latest end self.new.timed ≤ latest end self.old.timed }
         ensures number { self.new.number ≡ self.old.number }
         ensures memory { self.new.timed.core.memory ≡ self.old.timed.core.memory }

@@ -15,7 +15,7 @@ loop-goes_on-smaller g c =
     let early : core.clock < c.args.end = omega (arith, c.if-self-end.true, inside) in
     let clock : c.step-goes_on.new.self.timed.clock ≡ (after_instruction image core).clock = ap (λ (t : TimedCore). t.clock) next in
     let still : going c.step-goes_on.result ≡ going (is_free (after_instruction image core).core) =
-        ap going (c.step-goes_on.ensures.free ∙ ap (λ (t : TimedCore). is_free t.core) next) in
+    ap going (c.step-goes_on.ensures.free ∙ ap (λ (t : TimedCore). is_free t.core) next) in
     let was : going c.loop-goes_on.goes_on ≡ 1 = ap going on in
     omega (arith, clock, still, was, nearer image c.args.end core free early)
 

@@ -69,3 +69,15 @@ returns-clause-turns g c =
 pub returns-clause-spare : goal.returns-clause-spare
 returns-clause-spare g c =
     omega (arith, c.loop-entry.invariant.spare_left, c.in_default.ensures.same_spare refl)
+
+pub returns-clause-few : goal.returns-clause-few
+returns-clause-few g c =
+    let core = c.args.self.now.timed in
+    most_few c.args.end core (λ late. left_few core.core c.keeps_sound.ensures)
+
+pub returns-clause-within : goal.returns-clause-within
+returns-clause-within g c =
+    let end = c.args.end in
+    let first = c.args.self.now.timed in
+    let small : latest end first ≤ max first.clock end + 2 ^ 28 = latest_small end first (left_few first.core c.keeps_sound.ensures) in
+    omega (arith, clock_within end c.turn.new.self.timed, c.in_default.ensures.latest, c.loop-entry.invariant.latest, small)
