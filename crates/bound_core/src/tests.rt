@@ -1,6 +1,6 @@
 //! Small programs on one core, with numbers from the RISC-V Unprivileged ISA manual and its table of
 //! opcodes. Memory is a flat list of bytes, and each access finds its line in memory.
-ghost use Rattle.std.specs.Prelude.{◌≡◌, ◌-◌, ◌<◌, length, vec_capacity, vec_len, IfOk, Some};
+ghost use Rattle.std.specs.Prelude.{◌≡◌, ◌-◌, ◌<◌, ◌≤◌, length, vec_capacity, vec_len, IfOk, Some};
 ghost use Rattle.machine_desc.specs.Machine.{IsMachine};
 ghost use Rattle.flat_memory.specs.FlatMemory.{after, reply_of};
 
@@ -9,7 +9,7 @@ use elf_load::{Image, load};
 use event_graph::Plain;
 use flat_memory::FlatMemory;
 use machine_desc::{Machine, PLAIN, read};
-use rv_core::Why;
+use rv_core::{DecodedProgram, Why};
 use std::alloc::Global;
 use std::test::Fail;
 use zs_num::{Cycle, Entry, NoMemory, Outcome, Request};
@@ -151,28 +151,39 @@ fn served(alloc: Global, port: &FlatPort) -> Result<Vec<(u64, u64)>, NoMemory> {
     Ok(found)
 }
 
+// A core at its start, and a port to its memory. Both have room for an interval of 1,000 cycles.
+fn fresh(alloc: Global, machine: &Machine, image: &Image) -> Result<(BoundCore, FlatPort), NoMemory>
+    requires machine { IsMachine machine.now }
+    requires base { image.now.base ≡ machine.now.memory.base }
+    requires size { image.now.size ≡ machine.now.memory.size }
+    ensures core { IfOk result (λ r. r.1.core ≡ r.0.number) }
+    ensures base { IfOk result (λ r. r.1.memory.base ≡ r.0.timed.core.memory.base) }
+    ensures size { IfOk result (λ r. length r.1.memory.bytes ≡ r.0.timed.core.memory.size) }
+    ensures room { IfOk result (λ r. 1258 ≤ vec_capacity r.1.entries - vec_len r.1.entries) }
+    ensures spare { IfOk result (λ r. 1258 ≤ r.0.spare) }
+    ensures clock { IfOk result (λ r. r.0.timed.clock ≡ 0) }
+{
+    let mut core = BoundCore::new(alloc, machine, image, 0)?;
+    core.reserve(1000)?;
+    let port = FlatPort {
+        memory: FlatMemory::loaded(alloc, image, 1)?,
+        core: 0,
+        entries: Vec::with_capacity(alloc, 1258)?,
+    };
+    Ok((core, port))
+}
+
 #[test]
 fn a_write_call_writes_byte_by_byte(rt: HostRuntime) -> Result<(), Fail> {
     let alloc = rt.alloc();
     let machine = machine(alloc)?;
-    let times = Plain::of(&machine);
-    let program = image(alloc, &machine, &WRITE)?;
-    let mut core = BoundCore::new(alloc, &machine, &program, 0)?;
-    let mut port = FlatPort {
-        memory: FlatMemory::loaded(alloc, &program, 1)?,
-        core: 0,
-        entries: Vec::with_capacity(alloc, 1000 + 258)?,
-    };
-    core.reserve(1000)?;
-    core.run_one(&program, &times, 1000, &mut port);
+    let image = image(alloc, &machine, &WRITE)?;
+    let (mut core, mut port) = fresh(alloc, &machine, &image)?;
+    core.run_one(&image, &Plain::of(&machine), 1000, &mut port);
     // Five instructions and the call come before the first byte.
-    let wanted = [
-        (6, 0x68),
-        (6 + MISS, 0x69),
-        (6 + 2 * MISS, 0x0a),
-    ];
-    assert_eq!(rt; served(alloc, &port)?.as_slice(), &wanted);
-    assert_eq!(rt; core.console(), b"hi\n");
+    let wanted = [(6, 0x68), (6 + MISS, 0x69), (6 + 2 * MISS, 0x0a)];
+    assert_eq!(rt; served(alloc, &port)?.as_slice(), wanted.as_slice());
+    assert_eq!(rt; core.console(), b"hi\n".as_slice());
     assert_eq!(rt; core.halted(), Some(Why::Exit(0)));
     assert_eq!(rt; core.clock(), 6 + 3 * MISS + 3);
     assert_eq!(rt; core.instructions(), 9);
@@ -183,28 +194,22 @@ fn a_write_call_writes_byte_by_byte(rt: HostRuntime) -> Result<(), Fail> {
 fn a_load_that_crosses_a_line_goes_on_past_the_end(rt: HostRuntime) -> Result<(), Fail> {
     let alloc = rt.alloc();
     let machine = machine(alloc)?;
+    let image = image(alloc, &machine, &CROSSING)?;
+    let program = DecodedProgram::of(alloc, &image)?;
     let times = Plain::of(&machine);
-    let program = image(alloc, &machine, &CROSSING)?;
-    let mut core = BoundCore::new(alloc, &machine, &program, 0)?;
-    let mut port = FlatPort {
-        memory: FlatMemory::loaded(alloc, &program, 1)?,
-        core: 0,
-        entries: Vec::with_capacity(alloc, 1000)?,
-    };
-    core.reserve(1000)?;
+    let (mut core, mut port) = fresh(alloc, &machine, &image)?;
     // The interval ends where the load begins its first access.
     let first = core.turn(&program, &times, 2, &mut port);
     assert!(rt; matches!(first, Turned::Took(_)));
     assert_eq!(rt; core.clock(), 2 + MISS);
     assert!(rt; core.core().in_progress());
-    let second = core.turn(&program, &times, 2, &mut port);
-    assert!(rt; matches!(second, Turned::Took(_)));
-    assert_eq!(rt; core.turn(&program, &times, 2, &mut port), Turned::Ended);
-    let wanted = [(2, 0x4433_2211), (2 + MISS, 0x8877_6655)];
-    assert_eq!(rt; served(alloc, &port)?.as_slice(), &wanted);
+    core.run_one(&program, &times, 2, &mut port);
     assert_eq!(rt; core.clock(), 2 + 2 * MISS);
     core.delay(10);
-    assert_eq!(rt; core.turn(&program, &times, 500, &mut port), Turned::Ended);
+    let last = core.turn(&program, &times, 500, &mut port);
+    assert_eq!(rt; last, Turned::Ended);
+    let wanted = [(2, 0x4433_2211), (2 + MISS, 0x8877_6655)];
+    assert_eq!(rt; served(alloc, &port)?.as_slice(), wanted.as_slice());
     assert_eq!(rt; core.halted(), Some(Why::Exit(0x8877_6655_4433_2211)));
     assert_eq!(rt; core.clock(), 2 + 2 * MISS + 10 + 3);
     assert_eq!(rt; core.instructions(), 5);
