@@ -1,5 +1,5 @@
 -- How many accesses a core has left, and how late it can get.
-use Rattle.std.proofs.Common.{◌≡◌, ◌⊎◌, inl, inr, ℕ, suc, ◌+◌, ◌-◌, ◌*◌, ◌^◌, ◌<◌, ◌≤◌, max, nat_lt, true, false, List, [], ◌∷◌, length, Option, Some, None, refl, ap, ◌∙◌, arith, rules, lit≤, subst}
+use Rattle.std.proofs.Common.{◌≡◌, inl, inr, ℕ, ◌+◌, ◌-◌, ◌^◌, ◌<◌, ◌≤◌, max, nat_lt, true, false, List, [], ◌∷◌, length, Option, Some, None, refl, arith, rules, lit≤}
 use Rattle.std.specs.Prelude.{IfSome}
 use Rattle.std.proofs.lemmas.Bool.{cases_lt}
 use Rattle.zs_num.specs.declared.request.Request.{Request}

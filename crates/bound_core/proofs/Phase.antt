@@ -1,19 +1,18 @@
 -- The turns of one core in the bound phase of the machine of one thread.
-use Rattle.std.proofs.Common.{◌≡◌, ◌⊎◌, inl, inr, ℕ, zero, suc, ◌+◌, ◌<◌, ◌≤◌, ◌&&◌, nat_lt, Bool, true, false, List, [], ◌∷◌, ◌++◌, length, map, All, Option, Some, None, refl, sym, ◌∙◌, ap, arith, rules}
-use Rattle.std.specs.Prelude.{is_none, slice_get, slice_set, if◌then◌else◌, Ok, Err, IsSome}
+use Rattle.std.proofs.Common.{◌≡◌, inl, inr, ℕ, suc, ◌+◌, true, false, List, [], ◌∷◌, ◌++◌, length, map, All, Option, Some, None, refl, sym, ◌∙◌, ap, arith}
+use Rattle.std.specs.Prelude.{is_none, slice_get, Ok, IsSome}
 use Rattle.std.specs.List.{list_all}
 use Rattle.std.specs.Option.{option_and_then, option_map}
 use Rattle.std.proofs.lemmas.List.{append-nil, append_assoc, map-set}
-use Rattle.std.proofs.lemmas.List.Folds.{list_all-map}
-use Rattle.std.proofs.lemmas.Option.{slice_get-map, slice_get_within}
+use Rattle.std.proofs.lemmas.Option.{slice_get-map}
 use Rattle.zs_num.specs.declared.entry.Entry.{Entry}
 use Rattle.zs_num.specs.declared.request.Request.{Request}
 use Rattle.elf_load.specs.MemoryImage.{MemoryImage}
 use Rattle.rv_core.specs.declared.why.Why.{Why}
 use Rattle.bound_core.specs.Laws.{moved, with_core, AnswersAsWorld}
-use Rattle.bound_core.specs.ReferenceMachine.{BoundState, access_served, and_then, are_done, at_end, bound_from, legal_at, turn, turn_at}
-use Rattle.bound_core.specs.Timed.{TimedCore, after_access, asks, goes_on_alone, next_request, ran_to}
-use Rattle.bound_core.specs.Turn.{EndsInterval, IsOver, TakesTurn, TurnsToEnd}
+use Rattle.bound_core.specs.ReferenceMachine.{BoundState, access_served, and_then, at_end, bound_from, legal_at, turn, turn_at}
+use Rattle.bound_core.specs.Timed.{TimedCore, after_access, asks, goes_on_alone, ran_to}
+use Rattle.bound_core.specs.Turn.{IsOver, TakesTurn, TurnsToEnd}
 use Rattle.bound_core.proofs.Lists.{all_head, all_tail, get_set, map_again, set_again, set_same}
 use Rattle.bound_core.proofs.Instructions.{late_stops, ran_again, ran_stays}
 

@@ -1,12 +1,12 @@
 -- How the turns of a core lie in the bound phase of the machine of one thread.
-use Rattle.std.specs.Prelude.{◌≡◌, ℕ, ◌+◌, ◌-◌, ◌≤◌, List, [], ◌∷◌, ◌++◌, length, map, slice_get, slice_set, Option, Some, None, All, Ok}
+use Rattle.std.specs.Prelude.{◌≡◌, ℕ, ◌+◌, ◌-◌, ◌≤◌, List, [], ◌∷◌, ◌++◌, length, map, slice_get, slice_set, Some, All, Ok}
 use Rattle.zs_num.specs.declared.entry.Entry.{Entry}
 use Rattle.zs_num.specs.declared.request.Request.{Request}
 use Rattle.elf_load.specs.MemoryImage.{MemoryImage}
 use Rattle.rv_core.specs.Sound.{IsSound}
 use Rattle.bound_core.specs.ReferenceMachine.{BoundState, bound_from}
 use Rattle.bound_core.specs.Timed.{TimedCore, most_accesses, ran_to}
-use Rattle.bound_core.specs.Turn.{EndsInterval, IsOver, TakesTurn, TurnsToEnd}
+use Rattle.bound_core.specs.Turn.{IsOver, TakesTurn, TurnsToEnd}
 
 -- the core of this number stands there, the world is this one, and there are these entries more
 abbrev pub moved : {World : Type 0} → BoundState World → (number : ℕ) → TimedCore → World → List Entry → BoundState World

@@ -1,5 +1,5 @@
 -- A core in time: its state, its clock, and what it does by itself up to its next access.
-use Rattle.std.specs.Prelude.{ℕ, zero, suc, ◌+◌, ◌-◌, ◌*◌, ◌^◌, max, nat_lt, Bool, ◌&&◌, if◌then◌else◌, List, [], ◌∷◌, ◌++◌, length, option_to_list, Option, Some, None}
+use Rattle.std.specs.Prelude.{ℕ, zero, suc, ◌+◌, ◌-◌, ◌*◌, ◌^◌, max, nat_lt, Bool, ◌&&◌, if◌then◌else◌, List, [], ◌++◌, length, option_to_list, Option, Some, None}
 use Rattle.std.specs.Option.{option_map}
 use Rattle.zs_num.specs.declared.entry.Entry.{Entry}
 use Rattle.zs_num.specs.declared.request.Request.{Request}

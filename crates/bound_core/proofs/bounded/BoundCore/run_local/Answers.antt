@@ -1,6 +1,6 @@
-use Rattle.std.proofs.Common.{◌≡◌, ◌<◌, ◌≤◌, ◌+◌, ◌-◌, ◌*◌, max, ◌∙◌, ap, sym, arith, true}
+use Rattle.std.proofs.Common.{◌≡◌, ◌<◌, ◌≤◌, ◌+◌, ◌∙◌, ap, sym, arith, true}
 use Rattle.rv_core.specs.Step.{is_free}
-use Rattle.bound_core.specs.Timed.{NumberedCore, TimedCore, after_instruction, goes_on_alone, ran_to}
+use Rattle.bound_core.specs.Timed.{NumberedCore, TimedCore, after_instruction, ran_to}
 use Rattle.bound_core.proofs.Instructions.{cycle_at_most, going, goes_on_by, nearer, same_end}
 use Rattle.bound_core.proofs.bounded.BoundCore.run_local.Goals as goal
 
