@@ -1,0 +1,45 @@
+-- The ways of a cache set: lines with what is kept of each, the most recently used first.
+use Rattle.std.specs.Prelude.{ℕ, ◌-◌, ◌≤◌, List, ◌∷◌, length, take, nat_eq, slice_get, Option}
+use Rattle.std.specs.List.{IsDistinct}
+use Rattle.std.specs.Map.{keys_of, lookup, remove_entry, set_value}
+use Rattle.std.specs.Option.{option_map_or}
+use Rattle.cache_set.specs.declared.set.Way.{Way}
+
+-- how many ways a set has, and its lines with their marks
+pub record WaySet : Type 0 where
+  pub ways : ℕ
+  pub list : List (ℕ × ℕ)
+
+-- no line stands in a set twice, and it has no more lines than ways
+pub record IsWaySet (set : WaySet) : Type 0 where
+  pub distinct : IsDistinct nat_eq (keys_of set.list)
+  pub within : length set.list ≤ set.ways
+  pub ways : (1 ≤ set.ways) × (set.ways ≤ 32)
+
+module _ {X : Type 0} where
+  -- what is kept of a line, where it is there
+  abbrev pub kept_of : (line : ℕ) → List (ℕ × X) → Option X
+  kept_of line list = lookup (nat_eq line) list
+
+  -- the other lines
+  abbrev pub without : (line : ℕ) → List (ℕ × X) → List (ℕ × X)
+  without line list = remove_entry (nat_eq line) list
+
+  -- a line that is there comes to the front
+  abbrev pub used : (line : ℕ) → List (ℕ × X) → List (ℕ × X)
+  used line list = option_map_or (λ kept. (line, kept) ∷ without line list) (kept_of line list) list
+
+  -- a line that is not there comes to the front, and the last one of a full set leaves
+  abbrev pub filled : (ways line : ℕ) → X → List (ℕ × X) → List (ℕ × X)
+  filled ways line kept list = take ways ((line, kept) ∷ list)
+
+  -- what is kept of a line changes in its place
+  abbrev pub changed : (line : ℕ) → X → List (ℕ × X) → List (ℕ × X)
+  changed line kept list = set_value (nat_eq line) list kept
+
+  -- the line in the last place, which is taken where the set is full
+  abbrev pub last_of_full : (ways : ℕ) → List (ℕ × X) → Option (ℕ × X)
+  last_of_full ways list = slice_get list (ways - 1)
+
+abbrev pub way_of : ℕ × ℕ → Way
+way_of w = record { line = w.0; mark = w.1 }

@@ -1,0 +1,11 @@
+//! One set of a set-associative cache with replacement of the least recently used line, and the
+//! states of a line in a core's cache.
+#![tactic(auto)]
+
+mod letter;
+mod set;
+#[cfg(test)]
+mod tests;
+
+pub use letter::Letter;
+pub use set::{Set, Way};
