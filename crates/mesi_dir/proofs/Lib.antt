@@ -1,0 +1,5 @@
+pub mod Calls
+pub mod CoreSets
+pub mod Maps
+pub mod Places
+pub mod Rows

@@ -1,0 +1,3 @@
+pub mod CoreSets
+pub mod LineMap
+pub mod Rows
