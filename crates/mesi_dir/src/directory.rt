@@ -59,7 +59,8 @@ impl Directory {
 
     /// The core that may write a line.
     pub fn owner(&self, line: u64) -> Option<u16>
-        ensures { result ≡ owner_of self.now line }
+        ensures owner { result ≡ owner_of self.now line }
+        ensures is_map { IsLineMap self.now }
     {
         self.row(line).owner
     }
@@ -67,7 +68,8 @@ impl Directory {
     /// Whether another core than this one has a line.
     pub fn any_other(&self, line: u64, core: u16) -> bool
         requires { core < self.now.cores }
-        ensures { IsTrue result ↔ HasOther self.now line core }
+        ensures value { IsTrue result ↔ HasOther self.now line core }
+        ensures is_map { IsLineMap self.now }
     {
         let mut others = self.row(line).sharers;
         others.remove(core);

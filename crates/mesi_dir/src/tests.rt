@@ -17,17 +17,13 @@ fn a_line_has_its_sharers_and_at_most_one_owner(rt: HostRuntime) -> Result<(), F
 }
 
 #[test]
-fn a_line_that_no_core_has_leaves_room_for_another(rt: HostRuntime) -> Result<(), Fail> {
+fn a_line_that_is_cleared_has_no_sharer(rt: HostRuntime) -> Result<(), Fail> {
     let mut directory = Directory::new(rt.alloc(), 1, 256)?;
+    directory.grant(7, 64, true);
     directory.grant(7, 255, false);
-    directory.grant(7, 64, false);
+    assert_eq!(rt; directory.owner(7), None);
+    assert!(rt; directory.holds(7, 64) && directory.holds(7, 255) && !directory.holds(7, 0));
     directory.clear(7);
-    assert!(rt; !directory.holds(7, 255) && !directory.holds(7, 64));
-    directory.grant(8, 64, true);
-    assert!(rt; directory.holds(8, 64) && !directory.any_other(8, 64));
-    directory.drop_core(8, 64);
-    assert_eq!(rt; directory.owner(8), None);
-    directory.grant(9, 0, false);
-    assert!(rt; directory.holds(9, 0) && !directory.holds(8, 64));
+    assert!(rt; !directory.holds(7, 64) && !directory.any_other(7, 64));
     Ok(())
 }
