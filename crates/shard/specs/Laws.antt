@@ -1,0 +1,74 @@
+-- Laws of the definitions.
+use Rattle.std.specs.Prelude.{◌≡◌, ℕ, ◌<◌, ◌↔◌, List, [], ◌∷◌, All, length, Option, IsTrue}
+use Rattle.zs_num.specs.declared.entry.Entry.{Entry}
+use Rattle.zs_num.specs.declared.request.Request.{Request}
+use Rattle.flat_memory.specs.declared.reservation.Reservation.{Reservation}
+use Rattle.flat_memory.specs.FlatMemory as flat
+use Rattle.zs_num.specs.declared.entry.Outcome.TheVariants.{Hit}
+use Rattle.shard.specs.Coherence.{Caches, after_accesses, allows, empty_caches, is_write, letter_at, outcome_of}
+use Rattle.shard.specs.Lines.{line_of}
+use Rattle.shard.specs.Marks.{ArePairedRight, MarkedMemory, marked_after, marked_reply, pairings_after}
+use Rattle.shard.specs.Served.{CanServe, HasCore, ShardState, after}
+use Rattle.shard.specs.StandsFor.{AreCoherent, flat_for}
+
+-- ---- what an access leaves of a shard
+
+abbrev pub NumberStays : Type 0
+NumberStays = (shard : ShardState) (entry : Entry) → (after shard entry).number ≡ shard.number
+
+abbrev pub LastIsStamp : Type 0
+LastIsStamp = (shard : ShardState) (entry : Entry) → (after shard entry).last ≡ entry.stamp
+
+-- what could be asked can be asked again
+abbrev pub StillServes : Type 0
+StillServes = (shard : ShardState) (entry : Entry) (request : Request) → CanServe shard request → CanServe (after shard entry) request
+
+abbrev pub CoresStay : Type 0
+CoresStay = (shard : ShardState) (entry : Entry) (core : ℕ) → HasCore shard core → HasCore (after shard entry) core
+
+-- ---- the caches of a machine
+
+-- an access hits exactly where the core has the line with a letter that allows it
+abbrev pub HitsAreAllowed : Type 0
+HitsAreAllowed = (c : Caches) (core : ℕ) (request : Request) → (outcome_of c core request ≡ Hit) ↔ IsTrue (allows (is_write request) (letter_at c core (line_of request)))
+
+-- Whatever is accessed, from empty caches on: no set has more lines than ways or a line twice, a core that has a line in M
+-- or E is the only one that has it, and each line of an L1 stands in the L2.
+abbrev pub CachesStayCoherent : Type 0
+CachesStayCoherent = (cores shards l1_sets l1_ways l2_sets l2_ways : ℕ) (accesses : List (ℕ × Request))
+    → 0 < l1_sets → 0 < l1_ways → 0 < l2_sets → 0 < l2_ways → All (λ access. access.0 < cores) accesses
+    → AreCoherent (after_accesses (empty_caches cores shards l1_sets l1_ways l2_sets l2_ways) accesses)
+
+-- ---- marks and reservations
+
+-- the replies to a list of accesses of cores, and the memory after it, with marks and flat
+abbrev pub marked_replies : MarkedMemory → List (ℕ × Request) → List ℕ
+marked_replies memory [] = []
+marked_replies memory (access ∷ accesses) =
+    marked_reply memory access.0 access.1 ∷ marked_replies (marked_after memory access.0 access.1) accesses
+
+abbrev pub marked_after_all : MarkedMemory → List (ℕ × Request) → MarkedMemory
+marked_after_all memory [] = memory
+marked_after_all memory (access ∷ accesses) = marked_after_all (marked_after memory access.0 access.1) accesses
+
+abbrev pub flat_replies : flat.MemoryState → List (ℕ × Request) → List ℕ
+flat_replies memory [] = []
+flat_replies memory (access ∷ accesses) =
+    flat.reply_of memory access.0 access.1 ∷ flat_replies (flat.after memory access.0 access.1) accesses
+
+abbrev pub flat_after_all : flat.MemoryState → List (ℕ × Request) → flat.MemoryState
+flat_after_all memory [] = memory
+flat_after_all memory (access ∷ accesses) = flat_after_all (flat.after memory access.0 access.1) accesses
+
+abbrev pub pairings_after_all : (pairings : List (Option Reservation)) → List (ℕ × Request) → List (Option Reservation)
+pairings_after_all pairings [] = pairings
+pairings_after_all pairings (access ∷ accesses) = pairings_after_all (pairings_after pairings access.0 access.1) accesses
+
+-- Marks in each shard are as good as one reservation for each core: over every list of accesses that is paired right, they
+-- give the replies and leave the memory that flat memory gives and leaves.
+abbrev pub MarksAreReservations : Type 0
+MarksAreReservations = (memory : MarkedMemory) (pairings : List (Option Reservation)) (accesses : List (ℕ × Request))
+    → 0 < length memory.marks → All (λ marks. length marks ≡ length pairings) memory.marks → All (λ access. access.0 < length pairings) accesses
+    → ArePairedRight pairings accesses
+    → (marked_replies memory accesses ≡ flat_replies (flat_for memory pairings) accesses)
+    × (flat_for (marked_after_all memory accesses) (pairings_after_all pairings accesses) ≡ flat_after_all (flat_for memory pairings) accesses)

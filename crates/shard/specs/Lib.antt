@@ -1,0 +1,6 @@
+pub mod Coherence
+pub mod Laws
+pub mod Lines
+pub mod Marks
+pub mod Served
+pub mod StandsFor

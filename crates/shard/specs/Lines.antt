@@ -1,0 +1,31 @@
+-- Where a line lies. Lines have 64 bytes and are dealt to the shards in turn, and in each shard to its sets in turn. So the
+-- shard of a line is its number modulo the shards, and with as many sets in each shard the set of a line among all sets is
+-- its number modulo these.
+use Rattle.std.specs.Prelude.{ℕ, ◌/◌, ◌%◌, List, [], length, slice_index_or, slice_set}
+use Rattle.zs_num.specs.Request.{addr_of}
+use Rattle.zs_num.specs.declared.request.Request.{Request}
+
+-- the line of an address
+abbrev pub line_at : (addr : ℕ) → ℕ
+line_at addr = addr / 64
+
+-- the line of an access
+abbrev pub line_of : Request → ℕ
+line_of request = line_at (addr_of request)
+
+-- the shard of a line
+abbrev pub shard_of : (shards line : ℕ) → ℕ
+shard_of shards line = line % shards
+
+module _ {X : Type 0} where
+  -- the number of a line's set among the sets of its shard
+  abbrev pub set_number : (shards line : ℕ) → (sets : List (List X)) → ℕ
+  set_number shards line sets = line / shards % length sets
+
+  -- the set of a line
+  abbrev pub set_of : (shards line : ℕ) → (sets : List (List X)) → List X
+  set_of shards line sets = slice_index_or sets (set_number shards line sets) []
+
+  -- the sets after a change of this line's
+  abbrev pub in_set_of : (shards line : ℕ) → (List X → List X) → (sets : List (List X)) → List (List X)
+  in_set_of shards line change sets = slice_set sets (set_number shards line sets) (change (set_of shards line sets))

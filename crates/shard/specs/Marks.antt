@@ -1,0 +1,100 @@
+-- Memory whose reservations are kept by the shards. A shard keeps a mark for each core: the bytes of the core's latest
+-- load-reserved there, unless that has ended there since. A store-conditional says by itself whether the core's latest
+-- load-reserved anywhere was of the same bytes, with no store-conditional since: then the two are paired.
+use Rattle.std.specs.Prelude.{◌≡◌, ℕ, ◌-◌, ◌==◌, Bool, false, ◌&&◌, if◌then◌else◌, List, [], ◌∷◌, length, slice_index_or, slice_set, Option, Some, None}
+use Rattle.zs_num.specs.Request.{addr_of}
+use Rattle.zs_num.specs.declared.request.Request.{Request}
+use Rattle.zs_num.specs.declared.request.Request.TheVariants.{Load, Store, Lr, Sc, Amo}
+use Rattle.rv_alu.specs.Atomic.{new_number}
+use Rattle.flat_memory.specs.declared.reservation.Reservation.{Reservation}
+use Rattle.flat_memory.specs.FlatMemory.{after_write, is_reservation, number_in, with_number}
+use Rattle.shard.specs.Lines.{line_at, shard_of}
+
+-- ---- one shard: its marks by core, and its bytes, of which the access is to those from a place on
+
+-- a store-conditional stores where it is paired and the core has marked the bytes
+abbrev pub does_store : (marks : List (Option Reservation)) → (core addr width : ℕ) → (paired : Bool) → Bool
+does_store marks core addr width paired = paired && is_reservation (slice_index_or marks core None) addr width
+
+unfoldable pub reply_from : (bytes : List ℕ) → (place : ℕ) → (marks : List (Option Reservation)) → (core : ℕ) → Request → ℕ
+reply_from bytes place marks core (Load addr width) = number_in bytes place width
+reply_from bytes place marks core (Store addr width value) = 0
+reply_from bytes place marks core (Lr addr width) = number_in bytes place width
+reply_from bytes place marks core (Sc addr width value paired) = if does_store marks core addr width paired then 0 else 1
+reply_from bytes place marks core (Amo op addr width value) = number_in bytes place width
+
+unfoldable pub bytes_after : (bytes : List ℕ) → (place : ℕ) → (marks : List (Option Reservation)) → (core : ℕ) → Request → List ℕ
+bytes_after bytes place marks core (Load addr width) = bytes
+bytes_after bytes place marks core (Store addr width value) = with_number bytes place width value
+bytes_after bytes place marks core (Lr addr width) = bytes
+bytes_after bytes place marks core (Sc addr width value paired) =
+    if does_store marks core addr width paired then with_number bytes place width value else bytes
+bytes_after bytes place marks core (Amo op addr width value) =
+    with_number bytes place width (new_number op width (number_in bytes place width) value)
+
+unfoldable pub marks_after : (marks : List (Option Reservation)) → (core : ℕ) → Request → List (Option Reservation)
+marks_after marks core (Load addr width) = marks
+marks_after marks core (Store addr width value) = after_write core addr marks
+marks_after marks core (Lr addr width) = slice_set marks core (Some (record { addr = addr; width = width }))
+marks_after marks core (Sc addr width value paired) =
+    slice_set (if does_store marks core addr width paired then after_write core addr marks else marks) core None
+marks_after marks core (Amo op addr width value) = after_write core addr marks
+
+-- ---- all shards
+
+pub record MarkedMemory : Type 0 where
+  -- the address of the first byte
+  pub base : ℕ
+  -- all bytes from there on
+  pub bytes : List ℕ
+  -- by shard, its marks
+  pub marks : List (List (Option Reservation))
+
+-- the number of the shard of an access
+abbrev pub shard_for : MarkedMemory → Request → ℕ
+shard_for memory request = shard_of (length memory.marks) (line_at (addr_of request))
+
+-- the marks of its shard
+abbrev pub marks_for : MarkedMemory → Request → List (Option Reservation)
+marks_for memory request = slice_index_or memory.marks (shard_for memory request) []
+
+-- what an access of a core is answered
+abbrev pub marked_reply : MarkedMemory → (core : ℕ) → Request → ℕ
+marked_reply memory core request =
+    reply_from memory.bytes (addr_of request - memory.base) (marks_for memory request) core request
+
+-- the memory after it
+abbrev pub marked_after : MarkedMemory → (core : ℕ) → Request → MarkedMemory
+marked_after memory core request = record memory {
+  bytes = bytes_after memory.bytes (addr_of request - memory.base) (marks_for memory request) core request;
+  marks = slice_set memory.marks (shard_for memory request) (marks_after (marks_for memory request) core request);
+}
+
+-- ---- pairings, by core: the bytes of its latest load-reserved, unless it made a store-conditional since
+
+abbrev pub pairing_of : (pairings : List (Option Reservation)) → (core : ℕ) → Option Reservation
+pairing_of pairings core = slice_index_or pairings core None
+
+abbrev pub pairing_after : Option Reservation → Request → Option Reservation
+pairing_after pairing (Load addr width) = pairing
+pairing_after pairing (Store addr width value) = pairing
+pairing_after pairing (Lr addr width) = Some (record { addr = addr; width = width })
+pairing_after pairing (Sc addr width value paired) = None
+pairing_after pairing (Amo op addr width value) = pairing
+
+abbrev pub pairings_after : (pairings : List (Option Reservation)) → (core : ℕ) → Request → List (Option Reservation)
+pairings_after pairings core request = slice_set pairings core (pairing_after (pairing_of pairings core) request)
+
+-- a store-conditional says of its core's pairing whether it is of the same bytes
+abbrev pub IsPairedRight : Option Reservation → Request → Type 0
+IsPairedRight pairing (Load addr width) = Unit {0}
+IsPairedRight pairing (Store addr width value) = Unit {0}
+IsPairedRight pairing (Lr addr width) = Unit {0}
+IsPairedRight pairing (Sc addr width value paired) = paired ≡ is_reservation pairing addr width
+IsPairedRight pairing (Amo op addr width value) = Unit {0}
+
+-- each access of a list does, of the pairings that those before it leave
+abbrev pub ArePairedRight : (pairings : List (Option Reservation)) → List (ℕ × Request) → Type 0
+ArePairedRight pairings [] = Unit {0}
+ArePairedRight pairings (access ∷ accesses) =
+    IsPairedRight (pairing_of pairings access.0) access.1 × ArePairedRight (pairings_after pairings access.0 access.1) accesses

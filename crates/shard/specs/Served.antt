@@ -1,0 +1,83 @@
+-- A shard, and what it does with an access. All is said by functions of the shard and the recorded entry, so that a list of
+-- entries is at once the list of requests, of replies and of stamps.
+use Rattle.std.specs.Prelude.{◌≡◌, ℕ, ◌+◌, ◌-◌, ◌*◌, ◌/◌, ◌%◌, ◌<◌, List, length, replicate, Option, None}
+use Rattle.std.specs.List.{flat_map, range_with_len}
+use Rattle.zs_num.specs.Request.{addr_of, IsServable}
+use Rattle.zs_num.specs.declared.entry.Entry.{Entry}
+use Rattle.zs_num.specs.declared.entry.Outcome.{Outcome}
+use Rattle.zs_num.specs.declared.request.Request.{Request}
+use Rattle.elf_load.specs.MemoryImage.{MemoryImage, bytes_from}
+use Rattle.machine_desc.specs.declared.machine.Machine.{Machine}
+use Rattle.flat_memory.specs.declared.reservation.Reservation.{Reservation}
+use Rattle.shard.specs.Coherence.{Caches, after_access, empty_caches, outcome_of}
+use Rattle.shard.specs.Lines.{line_at, line_of, shard_of}
+use Rattle.shard.specs.Marks.{bytes_after, marks_after, reply_from}
+
+pub record ShardState : Type 0 where
+  pub number : ℕ
+  -- where memory lies, in bytes
+  pub base : ℕ
+  pub size : ℕ
+  -- the lists of the sets with this shard's lines
+  pub caches : Caches
+  -- the bytes of the shard's lines, in order of their numbers
+  pub bytes : List ℕ
+  -- by core, the mark of its latest load-reserved here
+  pub marks : List (Option Reservation)
+  -- the stamp of the latest access
+  pub last : ℕ
+
+-- how many of a shard's lines lie below memory: as many in each shard
+abbrev pub lines_below : (shards base : ℕ) → ℕ
+lines_below shards base = line_at base / shards
+
+-- where a byte of the shard stands among its bytes
+abbrev pub place_of : (shards base addr : ℕ) → ℕ
+place_of shards base addr = 64 * (line_at addr / shards - lines_below shards base) + addr % 64
+
+-- what a shard can be asked: an access to a line of its own that memory can serve
+unfoldable pub CanServe : ShardState → Request → Type 0
+CanServe shard request = IsServable shard.base shard.size request × (shard_of shard.caches.shards (line_of request) ≡ shard.number)
+
+-- a core that the shard knows
+abbrev pub HasCore : ShardState → (core : ℕ) → Type 0
+HasCore shard core = core < length shard.marks
+
+unfoldable pub reply_of : ShardState → Entry → ℕ
+reply_of shard entry =
+    reply_from shard.bytes (place_of shard.caches.shards shard.base (addr_of entry.request)) shard.marks entry.core entry.request
+
+unfoldable pub met_by : ShardState → Entry → Outcome
+met_by shard entry = outcome_of shard.caches entry.core entry.request
+
+-- the shard after the access of an entry
+unfoldable pub after : ShardState → Entry → ShardState
+after shard entry = record shard {
+  caches = after_access shard.caches entry.core entry.request;
+  bytes = bytes_after shard.bytes (place_of shard.caches.shards shard.base (addr_of entry.request)) shard.marks entry.core entry.request;
+  marks = marks_after shard.marks entry.core entry.request;
+  last = entry.stamp;
+}
+
+-- ---- before the first access
+
+-- how many lines each shard keeps, so that it keeps those of its own that memory has
+abbrev pub lines_kept : (shards base size : ℕ) → ℕ
+lines_kept shards base size = line_at (base + size - 1) / shards - lines_below shards base + 1
+
+-- the bytes of a shard's lines
+unfoldable pub first_bytes : (shards number : ℕ) → MemoryImage → List ℕ
+first_bytes shards number image =
+    flat_map (λ line. bytes_from image.segments (64 * (line * shards + number)) 64)
+    (range_with_len (lines_below shards image.base) (lines_kept shards image.base image.size))
+
+abbrev pub new_shard : Machine → (number : ℕ) → MemoryImage → ShardState
+new_shard m number image = record {
+  number = number;
+  base = image.base;
+  size = image.size;
+  caches = empty_caches m.cores m.l2.banks (m.l1.sets / m.l2.banks) m.l1.ways (m.l2.sets / m.l2.banks) m.l2.ways;
+  bytes = first_bytes m.l2.banks number image;
+  marks = replicate m.cores None;
+  last = 0;
+}

@@ -1,0 +1,75 @@
+-- What shards stand for together: one memory, and the cache lists of one machine.
+use Rattle.std.specs.Prelude.{◌≡◌, ◌≢◌, ℕ, ◌+◌, ◌-◌, ◌<◌, ◌≤◌, Bool, true, ◌&&◌, ◌==◌, if◌then◌else◌, IsTrue, IsSome, List, [], length, map, nat_eq, slice_index, slice_index_or, slice_get, Option, Some, None}
+use Rattle.std.specs.List.{All, IsDistinct, range_with_len}
+use Rattle.std.specs.Map.{keys_of}
+use Rattle.cache_set.specs.declared.letter.Letter.{Letter}
+use Rattle.cache_set.specs.declared.letter.Letter.TheVariants.{I}
+use Rattle.flat_memory.specs.declared.reservation.Reservation.{Reservation}
+use Rattle.flat_memory.specs.FlatMemory.{MemoryState, is_reservation}
+use Rattle.shard.specs.Coherence.{Caches, dirty_at, is_alone, is_held, letter_at}
+use Rattle.shard.specs.Lines.{line_at, set_of, shard_of}
+use Rattle.shard.specs.Marks.{MarkedMemory, pairing_of}
+use Rattle.shard.specs.Served.{ShardState, place_of}
+
+-- ---- caches that accesses can leave
+
+-- a set has no line twice, and no more lines than ways
+pub record IsSet {X : Type 0} (ways : ℕ) (set : List (ℕ × X)) : Type 0 where
+  pub distinct : IsDistinct nat_eq (keys_of set)
+  pub within : length set ≤ ways
+
+pub record AreCoherent (c : Caches) : Type 0 where
+  pub l1_sets : All (λ sets. All (λ set. IsSet c.l1_ways set) sets) c.l1
+  pub l2_sets : All (λ set. IsSet c.l2_ways set) c.l2
+  -- a core whose letter for a line is M or E is the only one that has it
+  pub single : (core other line : ℕ) → other ≢ core → IsTrue (is_alone (letter_at c core line)) → letter_at c other line ≡ I
+  -- each line of an L1 stands in the L2
+  pub inclusive : (core line : ℕ) → IsTrue (is_held (letter_at c core line)) → IsSome (dirty_at c line)
+
+-- ---- shards
+
+-- a list of shards in order of their numbers, all of one machine
+pub record AreShards (shards : List ShardState) (memory_base memory_size : ℕ) : Type 0 where
+  pub number : (i : ℕ) (s : ShardState) → slice_get shards i ≡ Some s → s.number ≡ i
+  pub count : (i : ℕ) (s : ShardState) → slice_get shards i ≡ Some s → s.caches.shards ≡ length shards
+  pub base : (i : ℕ) (s : ShardState) → slice_get shards i ≡ Some s → s.base ≡ memory_base
+  pub size : (i : ℕ) (s : ShardState) → slice_get shards i ≡ Some s → s.size ≡ memory_size
+
+-- a shard keeps a line
+abbrev pub Keeps : (shards : List ShardState) → (line : ℕ) → ShardState → Type 0
+Keeps shards line s = slice_get shards (shard_of (length shards) line) ≡ Some s
+
+-- The shards stand for a memory with marks and for the cache lists of one machine: each byte, each mark and each list is
+-- the one in the shard of its line or set.
+pub record StandFor (shards : List ShardState) (memory : MarkedMemory) (c : Caches) : Type 0 where
+  pub are : AreShards shards memory.base (length memory.bytes)
+  pub bytes : (addr : ℕ) (s : ShardState) → memory.base ≤ addr → addr < memory.base + length memory.bytes → Keeps shards (line_at addr) s
+      → slice_index memory.bytes (addr - memory.base) ≡ slice_index s.bytes (place_of (length shards) memory.base addr)
+  pub marks : memory.marks ≡ map (λ s. s.marks) shards
+  pub whole : c.shards ≡ 1
+  pub l1 : (core line : ℕ) (s : ShardState) → Keeps shards line s
+      → set_of 1 line (slice_index_or c.l1 core []) ≡ set_of (length shards) line (slice_index_or s.caches.l1 core [])
+  pub l2 : (line : ℕ) (s : ShardState) → Keeps shards line s → set_of 1 line c.l2 ≡ set_of (length shards) line s.caches.l2
+  pub l1_ways : (i : ℕ) (s : ShardState) → slice_get shards i ≡ Some s → s.caches.l1_ways ≡ c.l1_ways
+  pub l2_ways : (i : ℕ) (s : ShardState) → slice_get shards i ≡ Some s → s.caches.l2_ways ≡ c.l2_ways
+  pub coherent : AreCoherent c
+
+-- ---- one reservation for each core
+
+-- a core's mark in the shard of an address
+abbrev pub mark_at : MarkedMemory → (core addr : ℕ) → Option Reservation
+mark_at memory core addr = slice_index_or (slice_index_or memory.marks (shard_of (length memory.marks) (line_at addr)) []) core None
+
+-- what a core with a pairing has reserved: these bytes, where they are marked in their shard
+abbrev pub reserved_by : MarkedMemory → (core : ℕ) → (pairing : Option Reservation) → Option Reservation
+reserved_by memory core None = None
+reserved_by memory core (Some pairing) =
+    if is_reservation (mark_at memory core pairing.addr) pairing.addr pairing.width then Some pairing else None
+
+-- The flat memory for which the bytes and marks stand, where the cores have these pairings.
+abbrev pub flat_for : MarkedMemory → (pairings : List (Option Reservation)) → MemoryState
+flat_for memory pairings = record {
+  base = memory.base;
+  bytes = memory.bytes;
+  reservations = map (λ core. reserved_by memory core (pairing_of pairings core)) (range_with_len 0 (length pairings));
+}

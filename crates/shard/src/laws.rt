@@ -1,0 +1,35 @@
+//! Laws over the definitions alone, each the contract of a function that does nothing.
+ghost use Rattle.shard.specs.Laws.{CoresStay, HitsAreAllowed, LastIsStamp, MarksAreReservations, NumberStays, StillServes};
+
+/// An access leaves a shard its number.
+pub fn number_stays()
+    ensures { NumberStays }
+{}
+
+/// The last stamp of a shard is that of its latest access.
+pub fn last_is_stamp()
+    ensures { LastIsStamp }
+{}
+
+/// What a shard could be asked it can be asked after an access.
+pub fn still_serves()
+    ensures { StillServes }
+{}
+
+/// A core that a shard knows it knows after an access.
+pub fn cores_stay()
+    ensures { CoresStay }
+{}
+
+/// An access hits exactly where the core has the line with a letter that allows it: any letter to
+/// read, M or E to write.
+pub fn hits_are_allowed()
+    ensures { HitsAreAllowed }
+{}
+
+/// Marks in each shard are as good as one reservation for each core: over every list of accesses of
+/// cores in which each store-conditional says rightly whether it is paired, they give the replies
+/// and leave the memory that flat memory gives and leaves.
+pub fn marks()
+    ensures { MarksAreReservations }
+{}
