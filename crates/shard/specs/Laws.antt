@@ -9,7 +9,7 @@ use Rattle.shard.specs.Coherence.{Caches, after_accesses, allows, empty_caches, 
 use Rattle.shard.specs.Lines.{line_of}
 use Rattle.shard.specs.Marks.{ArePairedRight, MarkedMemory, marked_after, marked_reply, pairings_after}
 use Rattle.shard.specs.Served.{CanServe, HasCore, ShardState, after}
-use Rattle.shard.specs.StandsFor.{AreCoherent, flat_for}
+use Rattle.shard.specs.StandsFor.{HaveSets, flat_for}
 
 -- ---- what an access leaves of a shard
 
@@ -32,12 +32,10 @@ CoresStay = (shard : ShardState) (entry : Entry) (core : ℕ) → HasCore shard 
 abbrev pub HitsAreAllowed : Type 0
 HitsAreAllowed = (c : Caches) (core : ℕ) (request : Request) → (outcome_of c core request ≡ Hit) ↔ IsTrue (allows (is_write request) (letter_at c core (line_of request)))
 
--- Whatever is accessed, from empty caches on: no set has more lines than ways or a line twice, a core that has a line in M
--- or E is the only one that has it, and each line of an L1 stands in the L2.
-abbrev pub CachesStayCoherent : Type 0
-CachesStayCoherent = (cores shards l1_sets l1_ways l2_sets l2_ways : ℕ) (accesses : List (ℕ × Request))
-    → 0 < l1_sets → 0 < l1_ways → 0 < l2_sets → 0 < l2_ways → All (λ access. access.0 < cores) accesses
-    → AreCoherent (after_accesses (empty_caches cores shards l1_sets l1_ways l2_sets l2_ways) accesses)
+-- whatever is accessed, from empty caches on, no set has a line twice or more lines than ways
+abbrev pub SetsStaySound : Type 0
+SetsStaySound = (cores shards l1_sets l1_ways l2_sets l2_ways : ℕ) (accesses : List (ℕ × Request))
+    → HaveSets (after_accesses (empty_caches cores shards l1_sets l1_ways l2_sets l2_ways) accesses)
 
 -- ---- marks and reservations
 

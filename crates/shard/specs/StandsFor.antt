@@ -18,9 +18,12 @@ pub record IsSet {X : Type 0} (ways : ℕ) (set : List (ℕ × X)) : Type 0 wher
   pub distinct : IsDistinct nat_eq (keys_of set)
   pub within : length set ≤ ways
 
+pub record HaveSets (c : Caches) : Type 0 where
+  pub l1 : All (λ sets. All (λ set. IsSet c.l1_ways set) sets) c.l1
+  pub l2 : All (λ set. IsSet c.l2_ways set) c.l2
+
 pub record AreCoherent (c : Caches) : Type 0 where
-  pub l1_sets : All (λ sets. All (λ set. IsSet c.l1_ways set) sets) c.l1
-  pub l2_sets : All (λ set. IsSet c.l2_ways set) c.l2
+  pub sets : HaveSets c
   -- a core whose letter for a line is M or E is the only one that has it
   pub single : (core other line : ℕ) → other ≢ core → IsTrue (is_alone (letter_at c core line)) → letter_at c other line ≡ I
   -- each line of an L1 stands in the L2

@@ -1,5 +1,5 @@
 //! Laws over the definitions alone, each the contract of a function that does nothing.
-ghost use Rattle.shard.specs.Laws.{CoresStay, HitsAreAllowed, LastIsStamp, MarksAreReservations, NumberStays, StillServes};
+ghost use Rattle.shard.specs.Laws.{CoresStay, HitsAreAllowed, LastIsStamp, MarksAreReservations, NumberStays, SetsStaySound, StillServes};
 
 /// An access leaves a shard its number.
 pub fn number_stays()
@@ -32,4 +32,9 @@ pub fn hits_are_allowed()
 /// and leave the memory that flat memory gives and leaves.
 pub fn marks()
     ensures { MarksAreReservations }
+{}
+
+/// Whatever is accessed, from empty caches on, no set has a line twice or more lines than ways.
+pub fn sets_stay_sound()
+    ensures { SetsStaySound }
 {}
