@@ -1,22 +1,20 @@
 -- No access leaves a set with a line twice or with more lines than ways.
-use Rattle.std.proofs.Common.{◌≡◌, ◌≢◌, ℕ, zero, suc, ◌+◌, ◌/◌, ◌%◌, ◌<◌, ◌≤◌, Bool, true, false, cond, eqb, List, [], ◌∷◌, length, get_or, map, set, take, replicate, Option, Some, None, is_some, refl, sym, ap, ◌∙◌, subst, arith, inl, inr}
-use Rattle.std.specs.List.{All, IsDistinct, enumerate_from, remove}
-use Rattle.std.specs.Map.{keys_of, lookup}
+use Rattle.std.proofs.Common.{◌≡◌, ℕ, zero, suc, ◌+◌, Bool, true, false, cond, eqb, List, [], ◌∷◌, length, get_or, map, set, take, replicate, Option, Some, None, is_some, refl, ◌∙◌, subst, arith, inl, inr}
+use Rattle.std.specs.List.{All, IsDistinct, enumerate_from}
+use Rattle.std.specs.Map.{keys_of}
 use Rattle.std.specs.Option.{option_map_or}
-use Rattle.std.specs.Prelude.{IsSome, nat_eq, ◌⊎◌}
+use Rattle.std.specs.Prelude.{IsSome, nat_eq}
 use Rattle.std.proofs.lemmas.Bool.{cases_eq, cases_lt, eq-eqb}
 use Rattle.std.proofs.lemmas.List.{get_or-map, get_or-set_same, get_or-set_other, get_or_past, length-map, length-set, length-take}
 use Rattle.std.proofs.lemmas.List.Elements.{All-head, All-map, All-nil, All-cons, All-replicate, All-set, All-tail, All-weaker}
 use Rattle.std.proofs.lemmas.List.FromFn.{get_or-enumerate_from, length-enumerate_from}
 use Rattle.std.proofs.lemmas.Map.{keys-set_value, length-set_value, lookup-none, NonePasses, none_passes_from_lookup}
 use Rattle.std.proofs.lemmas.Map.Keys.{IsDistinct-cons}
-use Rattle.zs_num.specs.declared.entry.Outcome.{Outcome}
-use Rattle.zs_num.specs.declared.entry.Outcome.TheVariants.{Hit, Upgrade, L2, Miss}
 use Rattle.zs_num.specs.declared.request.Request.{Request}
 use Rattle.cache_set.specs.declared.letter.Letter.{Letter}
 use Rattle.cache_set.specs.declared.letter.Letter.TheVariants.{M, E, S, I}
 use Rattle.cache_set.specs.Ways.{kept_of, without, used, filled, changed}
-use Rattle.cache_set.proofs.Sets.{Lacks, lacks-absent, lacks-take, distinct-without, lacks-others, length-without, length-without_some}
+use Rattle.cache_set.proofs.Sets.{lacks-absent, lacks-take, distinct-without, lacks-others, length-without, length-without_some}
 use Rattle.shard.specs.Coherence.{Caches, letter_in, letter_at, dirty_at, outcome_by, outcome_of, is_write, is_alone, is_dirty_victim, some_other, is_held, is_modified, own_after, own_victim, on_l2, on_others, on_own, l2_victim, room_made, written_back, after_access, after_accesses, empty_caches, recalled, marked_dirty, fetched, looked_up, other_after, others_changed, kept_first, taken_in, with_letter}
 use Rattle.shard.specs.Lines.{line_of, set_of, in_set_of, set_number}
 use Rattle.shard.specs.StandsFor.{HaveSets, IsSet}

@@ -1,5 +1,5 @@
 -- What an access does not change: the number of shards, the ways, and for how many cores marks are kept.
-use Rattle.std.proofs.Common.{◌≡◌, ℕ, ◌+◌, Bool, true, false, cond, List, [], ◌∷◌, length, map, set, Option, Some, None, refl, sym, ap, ◌∙◌, arith}
+use Rattle.std.proofs.Common.{◌≡◌, ℕ, Bool, true, false, cond, List, length, set, Option, Some, None, refl, ◌∙◌}
 use Rattle.std.specs.List.{enumerate_from}
 use Rattle.std.proofs.lemmas.List.{length-map, length-set}
 use Rattle.std.proofs.lemmas.List.FromFn.{length-enumerate_from}
@@ -10,8 +10,8 @@ use Rattle.zs_num.specs.declared.request.Request.TheVariants.{Load, Store, Lr, S
 use Rattle.cache_set.specs.declared.letter.Letter.{Letter}
 use Rattle.cache_set.specs.declared.letter.Letter.TheVariants.{M, E, S, I}
 use Rattle.flat_memory.specs.declared.reservation.Reservation.{Reservation}
-use Rattle.flat_memory.specs.FlatMemory.{after_write, unless_written}
-use Rattle.shard.specs.Coherence.{Caches, letter_at, dirty_at, outcome_of, is_write, some_other, is_held, is_modified, own_after, own_victim, on_l2, on_others, on_own, l2_victim, room_made, written_back, after_access, recalled, marked_dirty, fetched, looked_up, other_after, others_changed, kept_first, taken_in}
+use Rattle.flat_memory.specs.FlatMemory.{after_write}
+use Rattle.shard.specs.Coherence.{Caches, letter_at, outcome_of, is_write, some_other, is_held, is_modified, own_after, own_victim, on_l2, on_others, on_own, l2_victim, room_made, written_back, after_access, recalled, marked_dirty, fetched, looked_up, other_after, others_changed, kept_first, taken_in}
 use Rattle.shard.specs.Lines.{line_of}
 use Rattle.shard.specs.Marks.{marks_after, does_store}
 

@@ -1,7 +1,7 @@
 -- Memory whose reservations are kept by the shards. A shard keeps a mark for each core: the bytes of the core's latest
 -- load-reserved there, unless that has ended there since. A store-conditional says by itself whether the core's latest
 -- load-reserved anywhere was of the same bytes, with no store-conditional since: then the two are paired.
-use Rattle.std.specs.Prelude.{◌≡◌, ℕ, ◌-◌, ◌==◌, Bool, false, ◌&&◌, if◌then◌else◌, List, [], ◌∷◌, length, slice_index_or, slice_set, Option, Some, None}
+use Rattle.std.specs.Prelude.{◌≡◌, ℕ, ◌-◌, Bool, ◌&&◌, if◌then◌else◌, List, [], ◌∷◌, length, slice_index_or, slice_set, Option, Some, None}
 use Rattle.zs_num.specs.Request.{addr_of}
 use Rattle.zs_num.specs.declared.request.Request.{Request}
 use Rattle.zs_num.specs.declared.request.Request.TheVariants.{Load, Store, Lr, Sc, Amo}
