@@ -1,5 +1,5 @@
 -- What shards stand for together: one memory, and the cache lists of one machine.
-use Rattle.std.specs.Prelude.{◌≡◌, ◌≢◌, ℕ, ◌+◌, ◌-◌, ◌<◌, ◌≤◌, if◌then◌else◌, IsTrue, IsSome, List, [], length, map, nat_eq, slice_index, slice_index_or, slice_get, Option, Some, None}
+use Rattle.std.specs.Prelude.{◌≡◌, ◌≢◌, ℕ, ◌+◌, ◌-◌, ◌*◌, ◌<◌, ◌≤◌, if◌then◌else◌, IsTrue, IsSome, List, [], length, map, nat_eq, slice_index, slice_index_or, slice_get, Option, Some, None}
 use Rattle.std.specs.List.{All, IsDistinct, range_with_len}
 use Rattle.std.specs.Map.{keys_of}
 use Rattle.cache_set.specs.declared.letter.Letter.TheVariants.{I}
@@ -52,6 +52,11 @@ pub record StandFor (shards : List ShardState) (memory : MarkedMemory) (c : Cach
   pub l1 : (core line : ℕ) (s : ShardState) → Keeps shards line s
       → set_of 1 line (slice_index_or c.l1 core []) ≡ set_of (length shards) line (slice_index_or s.caches.l1 core [])
   pub l2 : (line : ℕ) (s : ShardState) → Keeps shards line s → set_of 1 line c.l2 ≡ set_of (length shards) line s.caches.l2
+  -- each shard has its part of the sets, and knows all cores
+  pub l1_sets : (i core : ℕ) (s : ShardState) → slice_get shards i ≡ Some s
+      → length (slice_index_or c.l1 core []) ≡ length shards * length (slice_index_or s.caches.l1 core [])
+  pub l2_sets : (i : ℕ) (s : ShardState) → slice_get shards i ≡ Some s → length c.l2 ≡ length shards * length s.caches.l2
+  pub cores : (i : ℕ) (s : ShardState) → slice_get shards i ≡ Some s → (length s.caches.l1 ≡ length c.l1) × (length s.marks ≡ length c.l1)
   pub l1_ways : (i : ℕ) (s : ShardState) → slice_get shards i ≡ Some s → s.caches.l1_ways ≡ c.l1_ways
   pub l2_ways : (i : ℕ) (s : ShardState) → slice_get shards i ≡ Some s → s.caches.l2_ways ≡ c.l2_ways
   pub coherent : AreCoherent c
