@@ -1,0 +1,2 @@
+pub mod SortedKeys
+pub mod Heap
