@@ -1,0 +1,30 @@
+-- How a division is kept.
+use Rattle.std.specs.Prelude.{◌≡◌, ℕ, List, [], ◌∷◌, ◌++◌, Vec, length, map}
+use Rattle.std.specs.List.{slice_index_or, slice_set}
+use Rattle.std.specs.declared.alloc.Global.{Global}
+use Rattle.domain_map.specs.declared.parts.Parts.TheInside.{Inside}
+use Rattle.event_graph.specs.declared.event.Event.{Event}
+use Rattle.domain_map.specs.Domains.{Division, HasDomains, domain_of}
+
+-- the lists of a list of lists
+abbrev pub lists_of : List (Vec ℕ Global) → List (List ℕ)
+lists_of lists = map (λ list. list.items) lists
+
+abbrev pub division_of : Inside → Division
+division_of p = record { places = p.places.items; events = lists_of p.lists.items; crossings = p.crossings.items }
+
+-- the count is that of the domains, and each component's domain is there
+pub record IsWhole (p : Inside) : Type 0 where
+  pub count : length (lists_of p.lists.items) ≡ p.count
+  pub there : HasDomains (division_of p)
+
+-- the list of a domain
+abbrev pub list_at : List (List ℕ) → (domain : ℕ) → List ℕ
+list_at lists domain = slice_index_or lists domain []
+
+-- with a number behind those of a domain, and with an event behind those of its own
+abbrev pub with_number : List (List ℕ) → (domain number : ℕ) → List (List ℕ)
+with_number lists domain number = slice_set lists domain (list_at lists domain ++ number ∷ [])
+
+abbrev pub with_event : List ℕ → List (List ℕ) → Event → List (List ℕ)
+with_event places lists e = with_number lists (domain_of places e) e.number

@@ -1,0 +1,13 @@
+//! The domains of the weave: which events each fires, and which events wait across their borders.
+#![tactic(auto)]
+
+mod crossing;
+mod make;
+mod parts;
+
+pub use crossing::Crossing;
+pub use make::split;
+pub use parts::Parts;
+
+#[cfg(test)]
+mod tests;

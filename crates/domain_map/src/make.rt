@@ -1,0 +1,148 @@
+// How a graph's events are split into domains.
+ghost use Rattle.std.specs.Prelude.{◌≡◌, ◌+◌, ◌<◌, ◌^◌, ◌++◌, [], IfOk, OnOk, IfSome, All, length, vec_len};
+ghost use Rattle.machine_desc.specs.Machine.{IsMachine};
+ghost use Rattle.event_graph.specs.Numbered.{IsNumbered};
+ghost use Rattle.domain_map.specs.Domains.{Divides, IsSplit, crossing_from, crossings_into, domain_of as the_domain_of, domain_of_number as the_domain_of_number};
+ghost use Rattle.domain_map.specs.Inside.{lists_of, with_event, with_number};
+
+use crate::{Crossing, Parts};
+use event_graph::{Event, Graph, Parent};
+use machine_desc::Machine;
+use std::alloc::Global;
+use zs_num::NoMemory;
+
+/// The events of a graph by the domains of a machine.
+pub fn split(alloc: Global, g: &Graph, m: &Machine) -> Result<Parts, NoMemory>
+    requires machine { IsMachine m.now }
+    requires components { All (λ e. e.component < m.now.l2.banks + m.now.controllers.count) g.now }
+    requires few { length g.now < 2 ^ 31 }
+    ensures { IfOk result (IsSplit g.now m.now) }
+{
+    divide(alloc, g.events(), places_of(alloc, m)?, m.domains.count)
+}
+
+/// The domain of each component, by number.
+fn places_of(alloc: Global, m: &Machine) -> Result<Vec<u16>, NoMemory>
+    requires { IsMachine m.now }
+    ensures listed { IfOk result (λ places. places.items ≡ m.now.domains.banks ++ m.now.domains.controllers) }
+    ensures count { IfOk result (λ places. length places.items ≡ m.now.l2.banks + m.now.controllers.count) }
+    ensures below { IfOk result (λ places. All (λ domain. domain < m.now.domains.count) places.items) }
+{
+    let mut places = Vec::from_slice(alloc, m.domains.banks.as_slice())?;
+    places.extend_from_slice(m.domains.controllers.as_slice())?;
+    Ok(places)
+}
+
+/// The events by the domains of their components.
+fn divide(alloc: Global, events: &[Event], places: Vec<u16>, count: u16) -> Result<Parts, NoMemory>
+    requires numbered { IsNumbered events.now }
+    requires components { All (λ e. e.component < length places.items) events.now }
+    requires below { All (λ domain. domain < count) places.items }
+    ensures places { IfOk result (λ p. p.places ≡ places.items) }
+    ensures domains { IfOk result (λ p. length p.events ≡ count) }
+    ensures divides { IfOk result (Divides events.now) }
+{
+    let mut lists = empty_lists(alloc, count)?;
+    let mut crossings = Vec::new(alloc);
+    for event in events {
+        add_event(&mut lists, &mut crossings, &places, events, event)?;
+    }
+    Ok(Parts {
+        places,
+        count,
+        lists,
+        crossings,
+    })
+}
+
+/// No event in any domain.
+fn empty_lists(alloc: Global, count: u16) -> Result<Vec<Vec<u32>>, NoMemory>
+    ensures count { IfOk result (λ lists. length (lists_of lists.items) ≡ count) }
+    ensures empty { IfOk result (λ lists. All (λ list. list ≡ []) (lists_of lists.items)) }
+{
+    let mut lists = Vec::with_capacity(alloc, usize::from(count))?;
+    for _domain in 0..count {
+        lists.push(Vec::new(alloc))?;
+    }
+    Ok(lists)
+}
+
+/// Puts an event behind those of its domain, and the crossings into it behind the others.
+fn add_event(
+    lists: &mut Vec<Vec<u32>>,
+    crossings: &mut Vec<Crossing>,
+    places: &[u16],
+    events: &[Event],
+    event: &Event,
+) -> Result<(), NoMemory>
+    requires below { All (λ domain. domain < vec_len lists.old) places.now }
+    requires components { All (λ e. e.component < length places.now) events.now }
+    requires component { event.now.component < length places.now }
+    requires first { IfSome event.now.first (λ p. p.number < length events.now) }
+    requires second { IfSome event.now.second (λ p. p.number < length events.now) }
+    ensures event { OnOk result (lists_of lists.new.items ≡ with_event places.now (lists_of lists.old.items) event.now) }
+    ensures crossings { OnOk result (crossings.new.items ≡ crossings.old.items ++ crossings_into places.now events.now event.now) }
+{
+    push_number(lists, domain_of(places, event), event.number)?;
+    push_crossing(crossings, places, events, event, event.first)?;
+    push_crossing(crossings, places, events, event, event.second)?;
+    Ok(())
+}
+
+/// Puts a number behind those of its domain.
+fn push_number(lists: &mut Vec<Vec<u32>>, domain: u16, number: u32) -> Result<(), NoMemory>
+    requires { domain < vec_len lists.old }
+    ensures pushed { OnOk result (lists_of lists.new.items ≡ with_number (lists_of lists.old.items) domain number) }
+{
+    let list = &mut lists[usize::from(domain)];
+    list.push(number)?;
+    Ok(())
+}
+
+/// The domain of an event.
+fn domain_of(places: &[u16], event: &Event) -> u16
+    requires { event.now.component < length places.now }
+    ensures { result ≡ the_domain_of places.now event.now }
+{
+    places[usize::from(event.component)]
+}
+
+/// The domain of the event of a number.
+fn domain_of_number(places: &[u16], events: &[Event], number: u32) -> u16
+    requires places { All (λ e. e.component < length places.now) events.now }
+    requires there { number < length events.now }
+    ensures { result ≡ the_domain_of_number places.now events.now number }
+{
+    domain_of(places, &events[number as usize])
+}
+
+/// Puts the crossing from an event's parent to it behind the others, where there is one.
+#[tactic(auto, using(std::proofs::lemmas::Bool::Decides::nat_tests))]
+fn push_crossing(
+    crossings: &mut Vec<Crossing>,
+    places: &[u16],
+    events: &[Event],
+    event: &Event,
+    parent: Option<Parent>,
+) -> Result<(), NoMemory>
+    requires places { All (λ e. e.component < length places.now) events.now }
+    requires place { event.now.component < length places.now }
+    requires parent { IfSome parent (λ p. p.number < length events.now) }
+    ensures { OnOk result (crossings.new.items ≡ crossings.old.items ++ crossing_from places.now events.now event.now parent) }
+{
+    let Some(parent) = parent else {
+        return Ok(());
+    };
+    let source = domain_of_number(places, events, parent.number);
+    let target = domain_of(places, event);
+    if source != target {
+        crossings.push(Crossing {
+            parent: parent.number,
+            child: event.number,
+            source,
+            target,
+            delay: parent.delay,
+        })?;
+    }
+    Ok(())
+}
