@@ -1,0 +1,108 @@
+-- What the calls of a domain promise: each is a step of the machine, and the events that a domain fires are the first of its
+-- events in every solution of the timing rules for which its words and its floor are sound.
+use Rattle.std.specs.Prelude.{◌≡◌, ◌+◌, ◌≤◌, ◌<◌, ◌⊎◌, ◌==◌, ℕ, Bool, true, false, List, [], ◌∷◌, ◌++◌, length, map, take, Option, Some, None, slice_get, slice_index_or, slice_set}
+use Rattle.std.specs.List.{filter, enumerate_from}
+use Rattle.std.specs.Option.{option_map}
+use Rattle.zs_num.specs.declared.time.Key.{Key}
+use Rattle.zs_num.specs.declared.time.Word.{Word}
+use Rattle.zs_num.specs.declared.time.Word.TheVariants.{Bound, Exact}
+use Rattle.component.specs.declared.kind.Kind.{Kind}
+use Rattle.event_graph.specs.declared.event.Event.{Event}
+use Rattle.event_graph.specs.declared.fired.Fired.{Fired}
+use Rattle.event_graph.specs.Fits.{GraphFits}
+use Rattle.event_graph.specs.OneListWeave.{Timed, fired_of, is_fired}
+use Rattle.event_graph.specs.TimingSolution.{IsSolution, after_serving, of_component}
+use Rattle.domain_map.specs.declared.crossing.Crossing.{Crossing}
+use Rattle.domain_map.specs.Domains.{Division, Divides, domain_at, domain_of}
+use Rattle.weave_core.specs.declared.next.Next.{Next}
+use Rattle.weave_core.specs.declared.next.Next.TheVariants.{Done, Fire, Blocked}
+use Rattle.weave_core.specs.DomainMachine.{DomainState, arrival_of, bound_of, cycle_of, fresh_domain, is_clear, is_exact, is_unresolved, latency_at, next_in, with_floor, word_at}
+use Rattle.weave_core.specs.Interleavings.{is_front, of_domain}
+use Rattle.weave_core.specs.Soundness.{AreSoundWords, IsSoundFloor}
+
+-- a crossing into a domain: its number, and the least time that its parent takes
+pub record Incoming : Type 0 where
+  pub number : ℕ
+  pub crossing : Crossing
+  pub latency : ℕ
+
+-- What a domain keeps of a graph, with what it knows and did, and its components in order of their numbers.
+pub record DomainValue (C : Type 0) : Type 0 where
+  pub domain : ℕ
+  pub events : List Event
+  pub incoming : List Incoming
+  pub outgoing : List (ℕ × Crossing)
+  pub own : DomainState
+  pub comps : List C
+
+-- those of the components that are in a domain, in order of their numbers
+abbrev pub comps_in : {C : Type 0} → (places : List ℕ) → (domain : ℕ) → List C → List C
+comps_in {C} places domain comps =
+    map (λ (at : ℕ × C). at.1) (filter (λ (at : ℕ × C). domain_at places at.0 == domain) (enumerate_from 0 comps))
+
+-- it is this domain of this graph, as it was divided
+pub record IsDomainOf {C : Type 0} (events : List Event) (p : Division) (domain : ℕ) (v : DomainValue C) : Type 0 where
+  pub divides : Divides events p
+  pub domain_is : v.domain ≡ domain
+  pub events_are : v.events ≡ filter (λ e. domain_of p.places e == domain) events
+  pub incoming : v.incoming
+      ≡ map (λ at. record { number = at.0; crossing = at.1; latency = latency_at events at.1.parent })
+      (filter (λ (at : ℕ × Crossing). at.1.target == domain) (enumerate_from 0 p.crossings))
+  pub outgoing : v.outgoing ≡ filter (λ (at : ℕ × Crossing). at.1.source == domain) (enumerate_from 0 p.crossings)
+
+-- the components of a domain, at their numbers among all components, which the graph fits
+pub record IsFitted {C : Type 0} (serves : C → Kind → Bool) (floor : C → Kind → ℕ) (events : List Event) (p : Division) (domain : ℕ) (comps all : List C) : Type 0 where
+  pub count : length p.places ≡ length all
+  pub fits : GraphFits serves floor events all
+  pub comps_are : comps ≡ comps_in p.places domain all
+
+module _ (events : List Event) (p : Division) (domain : ℕ) where
+  -- every event of the domain is fired
+  abbrev pub AllFired : DomainState → Type 0
+  AllFired own = (i : ℕ) (e : Event) → slice_get events i ≡ Some e → domain_of p.places e ≡ domain → is_fired own.fired e.number ≡ true
+
+  -- of the unresolved crossings into the domain, the one with the least arrival, and at a tie the least number
+  pub record IsLeastArrival (own : DomainState) (number : ℕ) (x : Crossing) : Type 0 where
+    pub there : slice_get p.crossings number ≡ Some x
+    pub unresolved : is_unresolved events p domain own number x ≡ true
+    pub least : (other : ℕ) (y : Crossing) → slice_get p.crossings other ≡ Some y → is_unresolved events p domain own other y ≡ true
+        → (arrival_of events p own number x < arrival_of events p own other y)
+        ⊎ ((arrival_of events p own number x ≡ arrival_of events p own other y) × (number ≤ other))
+
+  -- what a domain may answer: exactly one of these
+  pub record MayFire (own : DomainState) (key : Key) : Type 0 where
+    pub event : Event
+    pub next : next_in events p domain own ≡ Some (event, key.start)
+    pub number : event.number ≡ key.number
+    pub clear : is_clear events p domain own key.start ≡ true
+
+  pub record IsBlockedBy (own : DomainState) (number bound : ℕ) : Type 0 where
+    pub crossing : Crossing
+    pub is_least : IsLeastArrival own number crossing
+    pub bound_is : bound ≡ bound_of events p own number crossing
+    pub unfinished : AllFired own → ⊥
+    pub late : (next_in events p domain own ≡ None)
+        ⊎ ((e : Event) × (start : ℕ) × (next_in events p domain own ≡ Some (e, start)) × (arrival_of events p own number crossing ≤ start))
+
+  abbrev pub IsAnswer : DomainState → Next → Type 0
+  IsAnswer own Done = AllFired own
+  IsAnswer own (Fire key) = MayFire own key
+  IsAnswer own (Blocked crossing bound) = IsBlockedBy own crossing bound
+
+  -- the word doesn't fall: a bound that isn't below the one known, or a finish that isn't below the bound of the crossing
+  abbrev pub IsNoFall : DomainState → (number : ℕ) → Crossing → (was word : Word) → Type 0
+  IsNoFall own number x (Bound a) (Bound b) = a ≤ b
+  IsNoFall own number x (Exact f) (Bound b) = ⊥
+  IsNoFall own number x (Bound a) (Exact f) = bound_of events p own number x ≤ f
+  IsNoFall own number x (Exact g) (Exact f) = f ≡ g
+
+-- after a look
+abbrev pub with_known : DomainState → (number : ℕ) → Word → DomainState
+with_known own number word = record own { known = slice_set own.known number word }
+
+-- Where the words that the domain knows and its floor are sound for a solution, it fired the first of its events in that
+-- solution, at their cycles, and its components are what these leave.
+pub record Follows {C : Type 0} (stepped : C → Kind → ℕ → C × ℕ) (events : List Event) (p : Division) (all : List C) (timed : List Timed) (solution : IsSolution stepped events all timed) (v : DomainValue C) : Type 0 where
+  pub fired : AreSoundWords timed p v.own.known → IsSoundFloor timed p v.domain v.own → is_front v.own.fired (of_domain p.places v.domain solution.sorted)
+  pub comps_are : AreSoundWords timed p v.own.known → IsSoundFloor timed p v.domain v.own
+      → v.comps ≡ comps_in p.places v.domain (map (λ (at : ℕ × C). after_serving stepped at.1 (of_component at.0 v.own.fired)) (enumerate_from 0 all))

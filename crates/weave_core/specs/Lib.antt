@@ -1,0 +1,4 @@
+pub mod DomainCalls
+pub mod DomainMachine
+pub mod Interleavings
+pub mod Soundness

@@ -1,0 +1,6 @@
+//! One domain of the weave, apart from the threads that run it.
+#![tactic(auto)]
+
+mod next;
+
+pub use next::Next;
