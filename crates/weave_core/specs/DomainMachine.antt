@@ -1,6 +1,6 @@
 -- The domains of the weave as a machine that takes one step at a time. A domain fires its own events, and learns of the
 -- others only by the words of the crossings into it. The steps may come in any order.
-use Rattle.std.specs.Prelude.{◌+◌, ◌-◌, ◌==◌, ◌&&◌, ◌||◌, ℕ, Bool, true, false, not, max, min, nat_le, nat_lt, if◌then◌else◌, List, [], ◌∷◌, ◌++◌, length, map, replicate, Option, Some, None, is_some, slice_get}
+use Rattle.std.specs.Prelude.{◌+◌, ◌-◌, ◌==◌, ◌&&◌, ◌||◌, ℕ, Bool, true, false, not, max, min, nat_le, nat_lt, if◌then◌else◌, List, [], ◌∷◌, ◌++◌, map, Option, Some, None, is_some, slice_get}
 use Rattle.std.specs.List.{filter, find, enumerate_from, list_all, slice_index_or, slice_set}
 use Rattle.std.specs.Option.{option_map, option_map_or, option_to_list}
 use Rattle.zs_num.specs.declared.time.Word.{Word}

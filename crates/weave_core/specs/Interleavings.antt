@@ -57,8 +57,8 @@ abbrev pub Progress : {C : Type 0} (serves : C → Kind → Bool) (floor : C →
 Progress {C} serves floor stepped =
     (events : List Event) (p : Division) (comps : List C) (steps : List Step) (x : Timed) → IsDivided serves floor events p comps
     → let s : MachineState C = after_steps events p stepped (at_rest p comps) steps in
-      let next : MachineState C = take_step events p stepped s barrier in
-      is_allowed events p stepped s barrier ≡ true
-      → IsFirstUnfired stepped events p comps s x
-      → (is_allowed events p stepped next (fire (domain_of p.places x.event)) ≡ true)
-      × (next_in events p (domain_of p.places x.event) (state_of next (domain_of p.places x.event)) ≡ Some (x.event, x.start))
+    let next : MachineState C = take_step events p stepped s barrier in
+    is_allowed events p stepped s barrier ≡ true
+    → IsFirstUnfired stepped events p comps s x
+    → (is_allowed events p stepped next (fire (domain_of p.places x.event)) ≡ true)
+    × (next_in events p (domain_of p.places x.event) (state_of next (domain_of p.places x.event)) ≡ Some (x.event, x.start))

@@ -1,0 +1,15 @@
+mod Lists
+mod Fronts
+mod LeastBy
+mod Crossings
+mod First
+mod Firing
+mod Knowledge
+mod Updates
+mod Steps
+mod Fires
+mod Barriers
+mod Whole
+mod AfterBarrier
+mod FromLaws
+mod Examples

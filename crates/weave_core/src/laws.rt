@@ -1,0 +1,33 @@
+//! Laws over the definitions alone, each the contract of a function that does nothing.
+ghost use Rattle.weave_core.specs.Interleavings.{Interleavings, Progress};
+
+use component::Component;
+
+/// After every list of steps each domain has fired the first events of the one-list weave in that
+/// domain, at the weave's cycles; its components are what these events leave; and every word and
+/// floor is sound.
+pub fn interleavings<C: Component>()
+    ensures { Interleavings C.serves C.floor C.stepped }
+{
+    event_graph::laws::each_event_fires_once::<C>();
+    event_graph::laws::events_fire_in_order::<C>();
+    event_graph::laws::the_least_ready_event_fires::<C>();
+    event_graph::laws::each_round_fires_the_next_event::<C>();
+    event_graph::laws::rounds_fire_the_first_events::<C>();
+    event_graph::laws::components_serve_their_own_events::<C>();
+    event_graph::laws::graphs_keep_fitting::<C>();
+}
+
+/// After a barrier, the domain that has the first unfired event of the one-list weave may fire, and
+/// what it fires is that event.
+pub fn progress<C: Component>()
+    ensures { Progress C.serves C.floor C.stepped }
+{
+    event_graph::laws::each_event_fires_once::<C>();
+    event_graph::laws::events_fire_in_order::<C>();
+    event_graph::laws::the_least_ready_event_fires::<C>();
+    event_graph::laws::each_round_fires_the_next_event::<C>();
+    event_graph::laws::rounds_fire_the_first_events::<C>();
+    event_graph::laws::components_serve_their_own_events::<C>();
+    event_graph::laws::graphs_keep_fitting::<C>();
+}
