@@ -44,7 +44,7 @@ module _ {C : Type 0} (stepped : C → Kind → ℕ → C × ℕ) (events : List
       ]
 
   -- between the cut and its next event a domain has no events
-  gap_domain : (domain cut k : ℕ) (own : DomainState) (fired_is : own.fired ≡ of_domain p.places domain (take cut all))
+  pub gap_domain : (domain cut k : ℕ) (own : DomainState) (fired_is : own.fired ≡ of_domain p.places domain (take cut all))
       (known : AreSoundWords all p own.known) (floor : IsSoundFloor all p domain own) (x : Timed)
       → IsFirst (is_pending events p all o div domain cut own fired_is known floor) all k x
       → (j : ℕ) (y : Timed) → cut ≤ j → j < k → slice_get all j ≡ Some y → eqb (domain_of p.places y.event) domain ≡ false
@@ -56,7 +56,7 @@ module _ {C : Type 0} (stepped : C → Kind → ℕ → C × ℕ) (events : List
             ∙ pending_test events p all o div domain cut own fired_is known floor j y (test_eq (domain_of p.places y.event) domain passes_it) a))
       ]
 
-  gap_component : (domain cut k number : ℕ) → domain_at p.places number ≡ domain
+  pub gap_component : (domain cut k number : ℕ) → domain_at p.places number ≡ domain
       → ((j : ℕ) (y : Timed) → cut ≤ j → j < k → slice_get all j ≡ Some y → eqb (domain_of p.places y.event) domain ≡ false)
       → (j : ℕ) (y : Timed) → cut ≤ j → j < k → slice_get all j ≡ Some y → eqb y.event.component number ≡ false
   gap_component domain cut k number d none j y a b h =

@@ -10,30 +10,18 @@ use Rattle.event_graph.specs.declared.event.Event.{Event}
 use Rattle.event_graph.specs.Firing.{IsNext, IsRound}
 use Rattle.event_graph.specs.Fits.{EventFits, GraphFits}
 use Rattle.event_graph.specs.Numbered.{IsNumbered}
-use Rattle.event_graph.specs.OneListWeave.{Timed, after, is_before, is_fired, is_parent_fired, weave}
-use Rattle.event_graph.specs.TimingSolution.{IsInOrder, after_serving, of_component}
+use Rattle.event_graph.specs.OneListWeave.{Timed, after, is_before, is_fired, is_parent_fired, weave, woven}
+use Rattle.event_graph.specs.TimingSolution.{IsInOrder, IsSolution, after_serving, of_component}
 use Rattle.domain_map.specs.Domains.{Division, domain_of}
-use Rattle.weave_core.specs.DomainMachine.{Step, after_steps, at_rest, barrier, fire, is_allowed, latency_of, next_in, state_of, take_step}
+use Rattle.weave_core.specs.DomainMachine.{DomainState, Step, after_steps, at_rest, barrier, fire, is_allowed, is_clear, latency_of, next_in, state_of, take_step}
 use Rattle.weave_core.specs.Interleavings.{FollowsTheWeave, IsDivided, IsFirstUnfired}
-use Rattle.weave_core.proofs.Lists.{both, get_below, not_true}
+use Rattle.weave_core.proofs.Lists.{both, get_below, not_true, contained, contains, last_same}
 use Rattle.weave_core.proofs.Firing.{IsOrder}
 use Rattle.weave_core.proofs.Fires.{IsServed}
 use Rattle.weave_core.proofs.Whole.{domain_there, follows, from_rest}
+use Rattle.weave_core.specs.SoundDomain.{IsNextEntry, IsSoundDomain}
 use Rattle.weave_core.proofs.AfterBarrier.{may_fire_first}
-
-contained : {X : Type 0} (xs : List X) (x : X) → Contains xs x → (i : ℕ) × (slice_get xs i ≡ Some x)
-contained xs x h = (h.0, slice_get-get_or xs h.0 x h.1 ∙ ap (λ z. Some z) h.2)
-
-contains : {X : Type 0} (xs : List X) (i : ℕ) (x : X) → slice_get xs i ≡ Some x → Contains xs x
-contains xs i x h = (i, get_below xs i x h, get_or_from_slice_get xs i x x h)
-
-last_at : {X : Type 0} (zs : List X) (z : X) → slice_get (zs ++ z ∷ []) (length zs) ≡ Some z
-last_at [] z = refl
-last_at (w ∷ zs) z = last_at zs z
-
-last_same : {X : Type 0} (xs : List X) (x y : X) → xs ++ x ∷ [] ≡ xs ++ y ∷ [] → x ≡ y
-last_same {X} xs x y h =
-    same_Some x y (sym (last_at xs x) ∙ (ap (λ (zs : List X). slice_get zs (length xs)) h ∙ last_at xs y))
+use Rattle.weave_core.proofs.SoundDomains.{sound_follow}
 
 module _ {C : Type 0} (serves : C → Kind → Bool) (floor : C → Kind → ℕ) (stepped : C → Kind → ℕ → C × ℕ)
     (floor_counts : (c : C) (kind : Kind) → IsTrue (serves c kind) → 1 ≤ floor c kind)
@@ -165,3 +153,9 @@ module _ {C : Type 0} (serves : C → Kind → Bool) (floor : C → Kind → ℕ
     goes_on steps x allowed first =
         may_fire_first stepped events p comps (weave stepped events comps).fired order_of d.divides here (after_steps events p stepped (at_rest p comps) steps)
         (from_rest stepped events p comps (weave stepped events comps).fired order_of d.divides served_of here steps) allowed first.index x first.there first.unfired first.before
+
+    pub sound_next : (timed : List Timed) (solution : IsSolution stepped events comps timed) → timed ≡ woven stepped events comps → (domain : ℕ) (own : DomainState) (next : Event × ℕ)
+        → IsSoundDomain stepped events p comps timed solution domain own → next_in events p domain own ≡ Some next → is_clear events p domain own next.1 ≡ true
+        → (x : Timed) × IsNextEntry stepped events p comps timed solution domain own next x
+    sound_next timed solution is domain own next s n clear =
+        sound_follow stepped events p comps order_of d.divides served_of here in_order timed solution is domain own next s n clear

@@ -11,5 +11,7 @@ mod Fires
 mod Barriers
 mod Whole
 mod AfterBarrier
+mod Solutions
+mod SoundDomains
 mod FromLaws
 mod Examples

@@ -1,8 +1,8 @@
 -- Membership in lists, by recursion, and what the machine's definitions do with lists.
 use Rattle.std.proofs.Common.{◌≡◌, ◌+◌, ◌<◌, ◌≤◌, ℕ, zero, suc, Bool, true, false, not, ◌&&◌, ◌||◌, cond, min, List, [], ◌∷◌, ◌++◌, map, length, take, ◌⊎◌, Option, Some, None, is_some, slice_get, sym, ◌∙◌, ap, subst, refl, inl, inr, arith}
 use Rattle.std.proofs.lemmas.Bool.{false≢true}
-use Rattle.std.proofs.lemmas.Option.{same_Some, none-some}
-use Rattle.std.specs.List.{filter, find, enumerate_from, list_all, flat_map}
+use Rattle.std.proofs.lemmas.Option.{same_Some, none-some, slice_get-get_or, get_or_from_slice_get}
+use Rattle.std.specs.List.{Contains, filter, find, enumerate_from, list_all, flat_map}
 use Rattle.std.specs.Option.{option_map_or}
 use Rattle.weave_core.specs.DomainMachine.{least}
 
@@ -243,3 +243,19 @@ from_flat_map f (z ∷ xs) y h =
 pub finding_option : {X : Type 0} (o : Option X) (test : X → Bool) → option_map_or test o false ≡ true → (x : X) × ((o ≡ Some x) × (test x ≡ true))
 finding_option None test h = absurd (false≢true h)
 finding_option (Some x) test h = (x, (refl, h))
+
+-- membership as std has it
+
+pub contained : {X : Type 0} (xs : List X) (x : X) → Contains xs x → (i : ℕ) × (slice_get xs i ≡ Some x)
+contained xs x h = (h.0, slice_get-get_or xs h.0 x h.1 ∙ ap (λ z. Some z) h.2)
+
+pub contains : {X : Type 0} (xs : List X) (i : ℕ) (x : X) → slice_get xs i ≡ Some x → Contains xs x
+contains xs i x h = (i, get_below xs i x h, get_or_from_slice_get xs i x x h)
+
+pub last_at : {X : Type 0} (zs : List X) (z : X) → slice_get (zs ++ z ∷ []) (length zs) ≡ Some z
+last_at [] z = refl
+last_at (w ∷ zs) z = last_at zs z
+
+pub last_same : {X : Type 0} (xs : List X) (x y : X) → xs ++ x ∷ [] ≡ xs ++ y ∷ [] → x ≡ y
+last_same {X} xs x y h =
+    same_Some x y (sym (last_at xs x) ∙ (ap (λ (zs : List X). slice_get zs (length xs)) h ∙ last_at xs y))

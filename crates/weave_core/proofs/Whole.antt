@@ -13,7 +13,7 @@ use Rattle.domain_map.specs.declared.crossing.Crossing.{Crossing}
 use Rattle.domain_map.specs.Domains.{Division, Divides, domain_at, domain_of}
 use Rattle.weave_core.specs.DomainMachine.{DomainState, MachineState, Step, after_steps, at_rest, effect_of, fresh_domain, is_allowed, is_exact, look, raise, fire, publish, barrier, state_of, take_step, word_at}
 use Rattle.weave_core.specs.Soundness.{IsSoundWord}
-use Rattle.weave_core.specs.Interleavings.{FollowsTheWeave, is_front, of_domain}
+use Rattle.weave_core.specs.Interleavings.{FollowsTheWeave, IsFront, of_domain}
 use Rattle.weave_core.proofs.Fronts.{filter_front}
 use Rattle.weave_core.proofs.Firing.{IsOrder}
 use Rattle.weave_core.proofs.Knowledge.{eq_test, test_eq}
@@ -94,13 +94,13 @@ module _ {C : Type 0} (stepped : C → Kind → ℕ → C × ℕ) (events : List
   pub from_rest : (steps : List Step) → Holds stepped events p comps all o div (after_steps events p stepped (at_rest p comps) steps)
   from_rest steps = all_steps (at_rest p comps) steps begins
 
-  pub fronts : (s : MachineState C) → Holds stepped events p comps all o div s → (domain : ℕ) → is_front (state_of s domain).fired (of_domain p.places domain all)
+  pub fronts : (s : MachineState C) → Holds stepped events p comps all o div s → (domain : ℕ) → IsFront (state_of s domain).fired (of_domain p.places domain all)
   fronts s h domain =
       subst (λ (xs : List Timed). xs ≡ take (length xs) (of_domain p.places domain all)) (sym (h.domains domain).fired)
       (filter_front (λ (x : Timed). eqb (domain_of p.places x.event) domain) all (h.cut domain))
 
   -- a component's events are its domain's
-  narrowed : (number : ℕ) (xs : List Timed) → of_component number xs ≡ of_component number (of_domain p.places (domain_at p.places number) xs)
+  pub narrowed : (number : ℕ) (xs : List Timed) → of_component number xs ≡ of_component number (of_domain p.places (domain_at p.places number) xs)
   narrowed number [] = refl
   narrowed number (x ∷ xs) =
       by_tests (eqb x.event.component number) refl (eqb (domain_of p.places x.event) (domain_at p.places number)) refl (narrowed number xs)

@@ -15,7 +15,7 @@ use Rattle.domain_map.specs.Domains.{Division, Divides, domain_at, domain_of}
 use Rattle.weave_core.specs.declared.next.Next.{Next}
 use Rattle.weave_core.specs.declared.next.Next.TheVariants.{Done, Fire, Blocked}
 use Rattle.weave_core.specs.DomainMachine.{DomainState, arrival_of, bound_of, is_clear, is_unresolved, latency_at, next_in}
-use Rattle.weave_core.specs.Interleavings.{is_front, of_domain}
+use Rattle.weave_core.specs.Interleavings.{IsFront, of_domain}
 use Rattle.weave_core.specs.Soundness.{AreSoundWords, IsSoundFloor}
 
 -- a crossing into a domain: its number, and the least time that its parent takes
@@ -101,6 +101,6 @@ with_known own number word = record own { known = slice_set own.known number wor
 -- Where the words that the domain knows and its floor are sound for a solution, it fired the first of its events in that
 -- solution, at their cycles, and its components are what these leave.
 pub record Follows {C : Type 0} (stepped : C → Kind → ℕ → C × ℕ) (events : List Event) (p : Division) (all : List C) (timed : List Timed) (solution : IsSolution stepped events all timed) (v : DomainValue C) : Type 0 where
-  pub fired : AreSoundWords timed p v.own.known → IsSoundFloor timed p v.domain v.own → is_front v.own.fired (of_domain p.places v.domain solution.sorted)
+  pub fired : AreSoundWords timed p v.own.known → IsSoundFloor timed p v.domain v.own → IsFront v.own.fired (of_domain p.places v.domain solution.sorted)
   pub comps_are : AreSoundWords timed p v.own.known → IsSoundFloor timed p v.domain v.own
       → v.comps ≡ comps_in p.places v.domain (map (λ (at : ℕ × C). after_serving stepped at.1 (of_component at.0 v.own.fired)) (enumerate_from 0 all))

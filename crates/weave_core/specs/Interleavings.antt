@@ -17,14 +17,14 @@ abbrev pub of_domain : (places : List ℕ) → (domain : ℕ) → List Timed →
 of_domain places domain xs = filter (λ x. domain_of places x.event == domain) xs
 
 -- the first so many
-abbrev pub is_front : List Timed → List Timed → Type 0
-is_front front xs = front ≡ take (length front) xs
+abbrev pub IsFront : List Timed → List Timed → Type 0
+IsFront front xs = front ≡ take (length front) xs
 
 module _ {C : Type 0} (stepped : C → Kind → ℕ → C × ℕ) where
   -- Each domain has fired the first events of the one-list weave in that domain, at the weave's cycles; its components are
   -- what these events leave; and all words and floors are sound for the weave.
   pub record FollowsTheWeave (events : List Event) (p : Division) (comps : List C) (s : MachineState C) : Type 0 where
-    pub fired : (domain : ℕ) → is_front (state_of s domain).fired (of_domain p.places domain (weave stepped events comps).fired)
+    pub fired : (domain : ℕ) → IsFront (state_of s domain).fired (of_domain p.places domain (weave stepped events comps).fired)
     pub comps_are : (number : ℕ) → slice_get s.comps number
         ≡ option_map (λ c. after_serving stepped c (of_component number (state_of s (domain_at p.places number)).fired)) (slice_get comps number)
     pub words : AreSoundWords (weave stepped events comps).fired p s.words

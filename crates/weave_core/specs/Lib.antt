@@ -1,4 +1,5 @@
 pub mod DomainCalls
 pub mod DomainMachine
 pub mod Interleavings
+pub mod SoundDomain
 pub mod Soundness
