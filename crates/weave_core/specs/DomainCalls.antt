@@ -1,12 +1,14 @@
 -- What the calls of a domain promise: each is a step of the machine, and the events that a domain fires are the first of its
 -- events in every solution of the timing rules for which its words and its floor are sound.
-use Rattle.std.specs.Prelude.{◌≡◌, ◌≤◌, ◌<◌, ◌⊎◌, ◌==◌, ℕ, Bool, true, List, length, map, Some, None, slice_get, slice_set}
+use Rattle.std.specs.Prelude.{◌≡◌, ◌≤◌, ◌<◌, ◌⊎◌, ◌==◌, ℕ, Bool, true, List, [], ◌∷◌, ◌++◌, length, map, take, Option, Some, None, slice_get, slice_set}
 use Rattle.std.specs.List.{filter, enumerate_from}
+use Rattle.std.specs.Option.{option_map}
 use Rattle.zs_num.specs.declared.time.Key.{Key}
 use Rattle.zs_num.specs.declared.time.Word.{Word}
 use Rattle.zs_num.specs.declared.time.Word.TheVariants.{Bound, Exact}
 use Rattle.component.specs.declared.kind.Kind.{Kind}
 use Rattle.event_graph.specs.declared.event.Event.{Event}
+use Rattle.event_graph.specs.declared.fired.Fired.{Fired}
 use Rattle.event_graph.specs.Fits.{GraphFits}
 use Rattle.event_graph.specs.OneListWeave.{Timed, is_fired}
 use Rattle.event_graph.specs.TimingSolution.{IsSolution, after_serving, of_component}
@@ -94,9 +96,36 @@ module _ (events : List Event) (p : Division) (domain : ℕ) where
   IsNoFall own number x (Bound a) (Exact f) = bound_of events p own number x ≤ f
   IsNoFall own number x (Exact g) (Exact f) = f ≡ g
 
+  -- the least ready key
+  abbrev pub earliest_of : DomainState → Option Key
+  earliest_of own = option_map (λ next. record { start = next.1; number = next.0.number }) (next_in events p domain own)
+
+-- a domain that has fired nothing and knows nothing
+abbrev pub at_first : Division → DomainState
+at_first p = record { fired = []; known = map (λ x. Bound 0) p.crossings; floor = 0 }
+
 -- after a look
 abbrev pub with_known : DomainState → (number : ℕ) → Word → DomainState
 with_known own number word = record own { known = slice_set own.known number word }
+
+-- the place of a component among those of its domain
+abbrev pub place_in : (places : List ℕ) → (domain component : ℕ) → ℕ
+place_in places domain component = length (filter (λ d. d == domain) (take component places))
+
+-- a fire: the least ready event fires, its component serves it, and nothing else changes
+pub record IsFire {C : Type 0} (stepped : C → Kind → ℕ → C × ℕ) (events : List Event) (p : Division) (old new : DomainValue C) (result : Fired) : Type 0 where
+  pub event : Event
+  pub start : ℕ
+  pub next : next_in events p old.domain old.own ≡ Some (event, start)
+  pub component : C
+  pub there : slice_get old.comps (place_in p.places old.domain event.component) ≡ Some component
+  pub result_is : result ≡ record { number = event.number; start = start; finish = (stepped component event.kind start).1 }
+  pub new_is : new ≡ record old {
+    own = record old.own {
+      fired = old.own.fired ++ (record { event = event; start = start; finish = (stepped component event.kind start).1 }) ∷ [];
+    };
+    comps = slice_set old.comps (place_in p.places old.domain event.component) (stepped component event.kind start).0;
+  }
 
 -- Where the words that the domain knows and its floor are sound for a solution, it fired the first of its events in that
 -- solution, at their cycles, and its components are what these leave.
