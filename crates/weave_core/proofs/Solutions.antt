@@ -1,15 +1,15 @@
 -- Every solution of the timing rules has the weave's events in the weave's order, with the weave's cycles.
-use Rattle.std.proofs.Common.{◌≡◌, ◌+◌, ◌<◌, ◌≤◌, ◌↔◌, ℕ, zero, suc, Bool, true, false, cond, eqb, List, [], ◌∷◌, ◌++◌, length, map, get_or, take, ◌⊎◌, Option, Some, None, is_some, slice_get, sym, ◌∙◌, ap, subst, refl, inl, inr, arith}
+use Rattle.std.proofs.Common.{◌≡◌, ◌↔◌, ℕ, suc, true, List, [], ◌∷◌, map, Option, Some, None, is_some, slice_get, sym, ◌∙◌, ap, subst, refl, inl, inr, arith}
 use Rattle.std.proofs.lemmas.Bool.{false≢true}
 use Rattle.std.proofs.lemmas.Bool.Decides.{nat_tests}
-use Rattle.std.proofs.lemmas.Option.{same_Some, none-some, get_or_from_slice_get}
-use Rattle.std.specs.List.{Contains, filter}
+use Rattle.std.proofs.lemmas.Option.{get_or_from_slice_get}
+use Rattle.std.specs.List.{Contains}
 use Rattle.zs_num.specs.declared.time.Word.{Word}
 use Rattle.zs_num.specs.declared.time.Word.TheVariants.{Bound, Exact}
 use Rattle.component.specs.declared.kind.Kind.{Kind}
 use Rattle.event_graph.specs.declared.event.Event.{Event}
-use Rattle.event_graph.specs.OneListWeave.{Timed, find_fired, finish_in, finish_or_zero, is_before, is_fired, timed_in, timed_of, weave, woven}
-use Rattle.event_graph.specs.TimingSolution.{IsInOrder, IsSolution}
+use Rattle.event_graph.specs.OneListWeave.{Timed, find_fired, finish_in, finish_or_zero, is_before, timed_in, timed_of, weave, woven}
+use Rattle.event_graph.specs.TimingSolution.{IsInOrder}
 use Rattle.domain_map.specs.declared.crossing.Crossing.{Crossing}
 use Rattle.domain_map.specs.Domains.{Division}
 use Rattle.weave_core.specs.DomainMachine.{DomainState}

@@ -1,22 +1,19 @@
 -- A domain that is sound for a solution fires its next event in that solution.
-use Rattle.std.proofs.Common.{◌≡◌, ◌+◌, ◌<◌, ◌≤◌, ℕ, zero, suc, Bool, true, false, cond, eqb, List, [], ◌∷◌, ◌++◌, length, take, ◌⊎◌, Option, Some, None, slice_get, sym, ◌∙◌, ap, subst, refl, inl, inr, arith}
-use Rattle.std.proofs.lemmas.Bool.{false≢true, cases_lt}
-use Rattle.std.proofs.lemmas.Option.{same_Some, none-some}
+use Rattle.std.proofs.Common.{◌≡◌, ◌+◌, ◌<◌, ◌≤◌, ℕ, zero, suc, Bool, true, false, cond, eqb, List, [], ◌∷◌, ◌++◌, length, take, Some, slice_get, sym, ◌∙◌, ap, refl}
 use Rattle.std.specs.List.{filter}
 use Rattle.component.specs.declared.kind.Kind.{Kind}
 use Rattle.event_graph.specs.declared.event.Event.{Event}
 use Rattle.event_graph.specs.OneListWeave.{Timed, weave, woven}
 use Rattle.event_graph.specs.TimingSolution.{IsInOrder, IsSolution, after_serving, of_component}
-use Rattle.domain_map.specs.Domains.{Division, Divides, domain_at, domain_of}
+use Rattle.domain_map.specs.Domains.{Division, Divides, domain_of}
 use Rattle.weave_core.specs.DomainMachine.{DomainState, is_clear, next_in}
-use Rattle.weave_core.specs.Interleavings.{IsFront, of_domain}
+use Rattle.weave_core.specs.Interleavings.{of_domain}
 use Rattle.weave_core.specs.SoundDomain.{IsNextEntry, IsSoundDomain}
 use Rattle.weave_core.specs.Soundness.{AreSoundWords, IsSoundFloor}
 use Rattle.weave_core.proofs.Lists.{get_take, last_at}
 use Rattle.weave_core.proofs.Fronts.{filter_front, front_kept, front_next}
-use Rattle.weave_core.proofs.First.{IsFirst}
 use Rattle.weave_core.proofs.Firing.{IsOrder}
-use Rattle.weave_core.proofs.Knowledge.{IsNextHere, eq_test, is_pending, may_fire, pending_is}
+use Rattle.weave_core.proofs.Knowledge.{IsNextHere, eq_test, may_fire, pending_is}
 use Rattle.weave_core.proofs.Fires.{IsServed, gap_component, gap_domain}
 use Rattle.weave_core.proofs.Solutions.{floor_alike, order_alike, words_alike}
 use Rattle.weave_core.proofs.Whole.{narrowed}

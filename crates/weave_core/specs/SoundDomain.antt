@@ -4,7 +4,7 @@ use Rattle.component.specs.declared.kind.Kind.{Kind}
 use Rattle.event_graph.specs.declared.event.Event.{Event}
 use Rattle.event_graph.specs.OneListWeave.{Timed}
 use Rattle.event_graph.specs.TimingSolution.{IsSolution, after_serving, of_component}
-use Rattle.domain_map.specs.Domains.{Division, domain_at}
+use Rattle.domain_map.specs.Domains.{Division}
 use Rattle.weave_core.specs.DomainMachine.{DomainState, is_clear, next_in}
 use Rattle.weave_core.specs.Interleavings.{IsDivided, IsFront, of_domain}
 use Rattle.weave_core.specs.Soundness.{AreSoundWords, IsSoundFloor}
