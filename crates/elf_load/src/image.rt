@@ -32,7 +32,7 @@ impl Model for Image {
 
 impl Image {
     /// An image of these segments, which it takes over.
-    pub fn of(base: u64, size: u64, entry: u64, segments: Vec<Segment>) -> Self
+    pub fn make(base: u64, size: u64, entry: u64, segments: Vec<Segment>) -> Self
         requires { IsSound (record {
           base = base;
           size = size;

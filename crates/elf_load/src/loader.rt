@@ -30,7 +30,7 @@ pub fn load(alloc: Global, file: &[u8], base: u64, size: u64) -> Result<Image, L
         return Err(LoadFail::Bad(fault));
     }
     let segments = segments(alloc, file, &headers)?;
-    Ok(Image::of(base, size, header.entry, segments))
+    Ok(Image::make(base, size, header.entry, segments))
 }
 
 // The segments to load, in the order of their headers.

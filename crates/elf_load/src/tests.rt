@@ -444,7 +444,7 @@ fn alone(alloc: Global) -> Result<Vec<Segment>, NoMemory>
 #[test]
 fn an_image_of_segments(rt: HostRuntime) -> Result<(), Fail> {
     let segments = alone(rt.alloc())?;
-    let image = Image::of(BASE, SIZE, BASE + 4, segments);
+    let image = Image::make(BASE, SIZE, BASE + 4, segments);
     assert_eq!(rt;
         (image.base(), image.size(), image.entry()),
         (0x10000, 0x10_0000, 0x10004)

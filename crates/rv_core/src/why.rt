@@ -5,7 +5,7 @@
 pub enum Why {
     /// The program ended with this number.
     Exit(u64),
-    /// The word at pc is no instruction, or one that is not carried out yet.
+    /// The word at pc is no instruction.
     Illegal { word: u32 },
     /// A jump to an address that is not a multiple of 4.
     Misaligned { target: u64 },

@@ -1,5 +1,5 @@
 -- What a core asks of memory.
-use Rattle.std.specs.Prelude.{◌≡◌, ◌⊎◌, ℕ, ◌+◌, ◌%◌, ◌≤◌}
+use Rattle.std.specs.Prelude.{◌≡◌, ◌⊎◌, ℕ, ◌+◌, ◌/◌, ◌%◌, ◌≤◌}
 use Rattle.zs_num.specs.declared.request.Request.{Request}
 use Rattle.zs_num.specs.declared.request.Request.TheVariants.{Load, Store, Lr, Sc, Amo}
 
@@ -18,6 +18,14 @@ width_of (Store addr width value) = width
 width_of (Lr addr width) = width
 width_of (Sc addr width value paired) = width
 width_of (Amo op addr width value) = width
+
+-- how many bytes a cache line has
+abbrev pub line_bytes : ℕ
+line_bytes = 64
+
+-- the number of the line in which it lies
+abbrev pub line_of : Request → ℕ
+line_of request = addr_of request / line_bytes
 
 -- an atomic access is of a word or a doubleword, and lies at a multiple of its width
 abbrev pub IsAtomic : (addr width : ℕ) → Type 0

@@ -26,8 +26,8 @@ segments-requires c =
     let same : c.deref-2.result.now ≡ c.deref.result.now = c.deref-2.ensures.value ∙ sym c.deref.ensures.value in
     rw same (passes _ _ _ _ _ c.in_default-segment_fault.ensures).in_file
 
-pub of-requires : goal.of-requires
-of-requires c =
+pub make-requires : goal.make-requires
+make-requires c =
     let same : c.deref-2.result.now ≡ c.deref.result.now = c.deref-2.ensures.value ∙ sym c.deref.ensures.value in
     let items : c.in_ok-segments.segments.items ≡ segments_of c.args.file.now c.deref.result.now = c.in_ok-segments.ensures ∙ ap (segments_of c.args.file.now) same in
     let few = few_in_table _ _ c.deref.result.now _ (c.deref.ensures.value ∙ c.in_ok-headers.ensures) c.in_default.ensures.table in
@@ -38,7 +38,7 @@ returns-clause-answer c =
     let same : c.deref-2.result.now ≡ c.deref.result.now = c.deref-2.ensures.value ∙ sym c.deref.ensures.value in
     let items : c.in_ok-segments.segments.items ≡ segments_of c.args.file.now c.deref.result.now = c.in_ok-segments.ensures ∙ ap (segments_of c.args.file.now) same in
     let image : List Segment → MemoryImage = λ s. record { base = c.args.base; size = c.args.size; entry = c.read-header.result.entry; segments = s } in
-    let made : c.of.result ≡ image (segments_of c.args.file.now c.deref.result.now) = c.of.ensures ∙ ap image items in
+    let made : c.make.result ≡ image (segments_of c.args.file.now c.deref.result.now) = c.make.ensures ∙ ap image items in
     accepted _ _ _ c.read-header.result (omega arith) c.read-header.ensures c.in_default.ensures.value c.deref.result.now
     (c.deref.ensures.value ∙ c.in_ok-headers.ensures) c.in_default-segment_fault.ensures
     ∙ ap Ok (sym made)

@@ -2,6 +2,6 @@ use Rattle.std.proofs.Common.{lit<, lit≤, refl}
 use Rattle.elf_load.proofs.Meanings.{sound_alone}
 use Rattle.elf_load.proofs.tests.an_image_of_segments.Goals as goal
 
-pub of-image-requires : goal.of-image-requires
-of-image-requires g c =
+pub make-image-requires : goal.make-image-requires
+make-image-requires g c =
     rw c.in_ok-segments.ensures (sound_alone _ _ _ _ (lit≤ tt) (lit< tt) (lit≤ tt) (lit≤ tt) (lit≤ tt) refl refl (lit≤ tt) (lit≤ tt))

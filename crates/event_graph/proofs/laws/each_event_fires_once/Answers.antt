@@ -5,6 +5,6 @@ use Rattle.event_graph.proofs.laws.each_event_fires_once.Goals as goal
 
 pub returns : goal.returns
 returns g c = λ events comps numbered fits.
-    let lawful = lawful_from g.C.Component.serves g.C.Component.floor g.C.Component.stepped g.met.C.Component.floor_counts g.met.C.Component.floor_holds g.met.C.Component.serves_stays in
+    let lawful = lawful_from g.C.Component.serves g.C.Component.floor g.C.Component.stepped g.met.C.Component.floor_at_least_one g.met.C.Component.floor_holds g.met.C.Component.serves_stays in
     let served = served_from g.C.Component.serves g.C.Component.floor g.C.Component.stepped events comps fits in
     each_once g.C.Component.serves g.C.Component.stepped events comps lawful numbered served

@@ -9,7 +9,7 @@ use Rattle.event_graph.proofs.laws.events_fire_by_the_rules.Goals as goal
 
 pub returns : goal.returns
 returns g c = λ events comps rounds numbered fits i d l.
-    let lawful = lawful_from g.C.Component.serves g.C.Component.floor g.C.Component.stepped g.met.C.Component.floor_counts g.met.C.Component.floor_holds g.met.C.Component.serves_stays in
+    let lawful = lawful_from g.C.Component.serves g.C.Component.floor g.C.Component.stepped g.met.C.Component.floor_at_least_one g.met.C.Component.floor_holds g.met.C.Component.serves_stays in
     let served = served_from g.C.Component.serves g.C.Component.floor g.C.Component.stepped events comps fits in
     let fired = (after g.C.Component.stepped events comps rounds).fired in
     let x : Timed = get_or fired i d in

@@ -4,7 +4,7 @@ use Rattle.weave_core.proofs.laws.progress.Goals as goal
 
 pub returns : goal.returns
 returns g c = λ events p comps steps x d allowed first.
-    goes_on g.C.Component.serves g.C.Component.floor g.C.Component.stepped g.met.C.Component.floor_counts g.met.C.Component.floor_holds events comps d.numbered
+    goes_on g.C.Component.serves g.C.Component.floor g.C.Component.stepped g.met.C.Component.floor_at_least_one g.met.C.Component.floor_holds events comps d.numbered
     (c.each_event_fires_once.ensures events comps d.numbered d.fits)
     (c.events_fire_in_order.ensures events comps d.numbered d.fits)
     (λ index x h. c.the_least_ready_event_fires.ensures events comps index x d.numbered d.fits h)
