@@ -1,8 +1,10 @@
-pub mod Instructions
+pub mod BoundPhase
 pub mod IntervalWeave
 pub mod NextInterval
 pub mod OneSchedule
 pub mod Outcome
 pub mod Pieces
+pub mod PortKept
+pub mod RecordedOrder
 pub mod RunEnds
 pub mod RunSoFar

@@ -1,12 +1,13 @@
 -- A run of one core has one legal schedule.
-use Rattle.std.proofs.Common.{◌≡◌, ◌≢◌, ℕ, zero, suc, ◌+◌, ◌-◌, ◌==◌, ◌<◌, ◌≤◌, Bool, true, false, if◌then◌else◌, List, [], ◌∷◌, ◌++◌, length, Option, Some, None, refl, sym, ◌∙◌, ap, arith}
+use Rattle.std.proofs.Common.{◌≡◌, ℕ, zero, suc, ◌+◌, ◌-◌, ◌≤◌, Bool, true, false, if◌then◌else◌, List, [], ◌∷◌, ◌++◌, length, map, Option, Some, None, Result, Ok, Err, inl, inr, refl, sym, ◌∙◌, ap, arith, subst}
 use Rattle.std.specs.Prelude.{is_none}
-use Rattle.std.specs.Option.{option_and_then, option_map}
-use Rattle.std.proofs.lemmas.Bool.{eqb-true}
+use Rattle.std.specs.List.{range_with_len}
+use Rattle.std.proofs.lemmas.Bool.{cases_lt}
 use Rattle.std.proofs.lemmas.List.{length-append}
 use Rattle.zs_num.specs.declared.entry.Entry.{Entry}
 use Rattle.zs_num.specs.declared.entry.Outcome.{Outcome}
 use Rattle.zs_num.specs.declared.entry.Outcome.TheVariants.{Hit, Upgrade, L2 as FoundInL2, Miss}
+use Rattle.zs_num.specs.declared.request.Request.{Request}
 use Rattle.elf_load.specs.MemoryImage.{MemoryImage}
 use Rattle.machine_desc.specs.declared.machine.Machine.{Machine}
 use Rattle.machine_desc.specs.declared.machine.L1.{L1}
@@ -16,62 +17,22 @@ use Rattle.machine_desc.specs.Machine.{IsMachine}
 use Rattle.component.specs.declared.comp.Comp.{Comp}
 use Rattle.component.specs.Components.{AreFresh}
 use Rattle.event_graph.specs.Timing.{time_by}
-use Rattle.zsim.specs.declared.pending.Pending.{Pending}
+use Rattle.rv_core.specs.CoreState.{InProgress}
+use Rattle.bound_core.specs.ReferenceMachine.{BoundState, access_served, bound_from}
+use Rattle.bound_core.specs.Timed.{TimedCore, after_access, after_instruction, after_instructions, asks, goes_on_alone, first_core, left_of_instruction, next_request, ran_to}
+use Rattle.bound_core.proofs.Accesses.{left_answered}
+use Rattle.bound_core.proofs.Instructions.{cycle_at_most, late_stops, ran_stays}
 use Rattle.zsim.specs.declared.results.Ending.{Ending}
-use Rattle.zsim.specs.CoreState.{TimedCore}
-use Rattle.zsim.specs.Effect.{answered, cost}
-use Rattle.zsim.specs.ReferenceMachine.{BoundState, access_served, after_instruction, after_instructions, after_local_instructions, bound_phase, is_running, ran_to, recorded_access, turn}
-use Rattle.zsim.specs.ReferenceRun.{IsRunOf, RunState, after_interval, after_intervals, after_weave, begun, end_of, ending_before, first_state, reference_run, results_before, results_of, time_of, woven_interval}
+use Rattle.zsim.specs.FlatWorld.{FlatWorld, serve}
+use Rattle.zsim.specs.Progress.{one_core}
+use Rattle.zsim.specs.RecordedOrder.{no_stamps, recorded_order}
+use Rattle.zsim.specs.ReferenceRun.{Illegal, IsRunOf, RunState, after_interval, after_intervals, after_weave, all_delayed, and_then, begun, end_of, ending_before, first_state, next_place, reference_run, results_at, results_of, time_of, woven_after, woven_interval}
 use Rattle.zsim.specs.Results.{Results}
 use Rattle.zsim.proofs.NextInterval.{goes_on}
 
--- a turn that was let pass is of core 0, and the rest goes on from where it leads
-passed : (test : Bool) (next : Option BoundState) (rest : BoundState → Option BoundState) (b : BoundState) → (if test then option_and_then rest next else None) ≡ Some b
-    → (test ≡ true) × (t : BoundState) × (next ≡ Some t) × (rest t ≡ Some b)
-passed true None rest b e = cc
-passed true (Some t) rest b e = (refl, t, refl, e)
-passed false next rest b e = cc
-
--- an interval that ends here leaves the core without an access
-ended : (pending : Option Pending) (s b : BoundState) → (if is_none pending then Some s else None) ≡ Some b → (pending ≡ None) × (s ≡ b)
-ended None s b e = (refl, cc)
-ended (Some p) s b e = cc
-
-none_mapped : {A B : Type 0} (f : A → B) (o : Option A) (b : B) → o ≡ None → option_map f o ≡ Some b → ⊥
-none_mapped f None b none e = cc
-none_mapped f (Some a) b none e = cc
-
-module _ (time : Entry → ℕ) (image : MemoryImage) (end : ℕ) where
-  -- the access that the core waits for, after its local instructions
-  asked : BoundState → Option Pending
-  asked s = (ran_to image end s.core).core.pending
-
-  -- one list of turns is legal for an interval
-  pub one_list : (s : BoundState) (turns others : List ℕ) (b d : BoundState) → bound_phase time image end s turns ≡ Some b → bound_phase time image end s others ≡ Some d → turns ≡ others
-  one_list s [] [] b d e f = refl
-  one_list s [] (core ∷ cores) b d e f =
-      let stays = ended (ran_to image end s.core).core.pending (after_local_instructions time image end s) b e in
-      let goes = passed (core == 0) (turn time image end s) (λ t. bound_phase time image end t cores) d f in
-      absurd (none_mapped (access_served time (after_local_instructions time image end s)) (ran_to image end s.core).core.pending goes.1 stays.0 goes.2)
-  one_list s (core ∷ cores) [] b d e f =
-      let stays = ended (ran_to image end s.core).core.pending (after_local_instructions time image end s) d f in
-      let goes = passed (core == 0) (turn time image end s) (λ t. bound_phase time image end t cores) b e in
-      absurd (none_mapped (access_served time (after_local_instructions time image end s)) (ran_to image end s.core).core.pending goes.1 stays.0 goes.2)
-  one_list s (core ∷ cores) (other ∷ rest) b d e f =
-      let goes = passed (core == 0) (turn time image end s) (λ t. bound_phase time image end t cores) b e in
-      let leads = passed (other == 0) (turn time image end s) (λ t. bound_phase time image end t rest) d f in
-      let first : core ≡ 0 = eqb-true core 0 goes.0 in
-      let second : other ≡ 0 = eqb-true other 0 leads.0 in
-      let same : goes.1 ≡ leads.1 = cc in
-      let from : bound_phase time image end goes.1 rest ≡ Some d = ap (λ t. bound_phase time image end t rest) same ∙ leads.3 in
-      let tails : cores ≡ rest = one_list goes.1 cores rest b d goes.3 from in
-      cc
+-- ---- the list of an interval
 
 -- time does not go back, and an access takes a cycle at least
-later : (image : MemoryImage) (c : TimedCore) → c.clock ≤ (after_instruction image c).clock
-unfolding after_instruction
-later image c = omega arith
-
 later_if : (running : Bool) (c d : TimedCore) → c.clock ≤ d.clock → c.clock ≤ (if running then d else c).clock
 later_if true c d after = after
 later_if false c d after = omega arith
@@ -80,70 +41,134 @@ later_on : (n : ℕ) (image : MemoryImage) (end : ℕ) (c : TimedCore) → c.clo
 later_on zero image end c = omega arith
 later_on (suc n) image end c =
     let next = after_instruction image c in
-    later_if (is_running end c) c (after_instructions n image end next) (omega (arith, later image c, later_on n image end next))
+    later_if (goes_on_alone end c) c (after_instructions n image end next) (omega (arith, (cycle_at_most image c).0, later_on n image end next))
 
-served_clock : (time : Entry → ℕ) (s : BoundState) (p : Pending) → (access_served time s p).core.clock ≡ s.core.clock + time (recorded_access s p.request)
-unfolding access_served
-served_clock time s p = refl
+access_clock : (time : Entry → ℕ) (e : Entry) (c : TimedCore) → (after_access time e c).clock ≡ c.clock + time e
+unfolding after_access
+access_clock time e c = refl
 
-served_idle : (time : Entry → ℕ) (s : BoundState) (p : Pending) → (access_served time s p).core.core.pending ≡ None
-unfolding access_served answered
-served_idle time s p = refl
+some_left : (instruction : Option InProgress) (request : Request) → next_request instruction ≡ Some request → 1 ≤ left_of_instruction instruction
+some_left None request e = cc
+some_left (Some now) request e = omega arith
 
--- a core at the end of its interval stays as it is
-at_end : (image : MemoryImage) (end : ℕ) (c : TimedCore) → end ≤ c.clock → ran_to image end c ≡ c
-at_end image end c come =
-    let none : end - c.clock ≡ 0 = omega (arith, come) in
-    ap (λ n. after_instructions n image end c) none
+access_left : (time : Entry → ℕ) (e : Entry) (c : TimedCore) (request : Request) → asks c ≡ Some request
+    → left_of_instruction (after_access time e c).core.instruction + 1 ≤ left_of_instruction c.core.instruction
+unfolding after_access
+access_left time e c request asked = left_answered e.reply c.core (some_left c.core.instruction request asked)
+
+module _ (time : Entry → ℕ) (image : MemoryImage) (end : ℕ) where
+  abbrev phase : (place : ℕ) → List ℕ → BoundState FlatWorld → Result (BoundState FlatWorld) ℕ
+  phase = bound_from serve time image end
+
+  -- after the turn of a core that asks for this
+  abbrev after_turn : TimedCore → FlatWorld → List Entry → Request → BoundState FlatWorld
+  after_turn c w es request = let ran = ran_to image end c in
+      access_served serve time image end (one_core c w es) 0 ran (serve w 0 ran.clock request)
+
+  turned : (place : ℕ) (numbers : List ℕ) (c : TimedCore) (w : FlatWorld) (es : List Entry) (request : Request) → asks (ran_to image end c) ≡ Some request
+      → phase place (0 ∷ numbers) (one_core c w es) ≡ phase (place + 1) numbers (after_turn c w es request)
+  turned place numbers c w es request asked = rw asked refl
+
+  stuck : (place number : ℕ) (numbers : List ℕ) (c : TimedCore) (w : FlatWorld) (es : List Entry) → asks (ran_to image end c) ≡ None
+      → phase place (number ∷ numbers) (one_core c w es) ≡ Err place
+  stuck place zero numbers c w es asked = rw asked refl
+  stuck place (suc number) numbers c w es asked = refl
+
+  other_core : (place number : ℕ) (numbers : List ℕ) (c : TimedCore) (w : FlatWorld) (es : List Entry)
+      → phase place (suc number ∷ numbers) (one_core c w es) ≡ Err place
+  other_core place number numbers c w es = refl
+
+  ends_here : (place : ℕ) (c : TimedCore) (w : FlatWorld) (es : List Entry) → asks (ran_to image end c) ≡ None
+      → phase place [] (one_core c w es) ≡ Ok (one_core (ran_to image end c) w es)
+  ends_here place c w es asked = rw asked refl
+
+  too_short : (place : ℕ) (c : TimedCore) (w : FlatWorld) (es : List Entry) (request : Request) → asks (ran_to image end c) ≡ Some request
+      → phase place [] (one_core c w es) ≡ Err place
+  too_short place c w es request asked = rw asked refl
+
+  no_error : (r : Result (BoundState FlatWorld) ℕ) (place : ℕ) (b : BoundState FlatWorld) → r ≡ Err place → r ≡ Ok b → ⊥
+  no_error (Ok x) place b e f = cc
+  no_error (Err p) place b e f = cc
+
+  -- one list of turns is legal for an interval
+  one_list_by : (asked : Option Request) (place : ℕ) (c : TimedCore) (w : FlatWorld) (es : List Entry) → asks (ran_to image end c) ≡ asked
+      → (turns others : List ℕ) (b d : BoundState FlatWorld) → phase place turns (one_core c w es) ≡ Ok b → phase place others (one_core c w es) ≡ Ok d → turns ≡ others
+  one_list_by asked place c w es is [] [] b d e f = refl
+  one_list_by None place c w es is [] (n ∷ ns) b d e f = absurd (no_error _ place d (stuck place n ns c w es is) f)
+  one_list_by None place c w es is (n ∷ ns) others b d e f = absurd (no_error _ place b (stuck place n ns c w es is) e)
+  one_list_by (Some request) place c w es is [] (n ∷ ns) b d e f = absurd (no_error _ place b (too_short place c w es request is) e)
+  one_list_by (Some request) place c w es is (n ∷ ns) [] b d e f = absurd (no_error _ place d (too_short place c w es request is) f)
+  one_list_by (Some request) place c w es is (suc n ∷ ns) (m ∷ ms) b d e f = absurd (no_error _ place b (other_core place n ns c w es) e)
+  one_list_by (Some request) place c w es is (zero ∷ ns) (suc m ∷ ms) b d e f = absurd (no_error _ place d (other_core place m ms c w es) f)
+  one_list_by (Some request) place c w es is (zero ∷ ns) (zero ∷ ms) b d e f =
+      let ran = ran_to image end c in
+      let answer = serve w 0 ran.clock request in
+      let next = after_access time answer.0 ran in
+      let rest : ns ≡ ms = one_list_by (asks (ran_to image end next)) (place + 1) next answer.1 (es ++ answer.0 ∷ []) refl ns ms b d
+      (sym (turned place ns c w es request is) ∙ e) (sym (turned place ms c w es request is) ∙ f) in
+      ap (λ (list : List ℕ). 0 ∷ list) rest
+
+  pub one_list : (c : TimedCore) (w : FlatWorld) (es : List Entry) (turns others : List ℕ) (b d : BoundState FlatWorld)
+      → phase 0 turns (one_core c w es) ≡ Ok b → phase 0 others (one_core c w es) ≡ Ok d → turns ≡ others
+  one_list c w es = one_list_by (asks (ran_to image end c)) 0 c w es refl
 
 -- turns that end an interval, and where they lead
-pub record Turns (time : Entry → ℕ) (image : MemoryImage) (end : ℕ) (s : BoundState) : Type 0 where
+pub record Turns (time : Entry → ℕ) (image : MemoryImage) (end place : ℕ) (c : TimedCore) (w : FlatWorld) (es : List Entry) : Type 0 where
   pub turns : List ℕ
-  pub after : BoundState
-  pub legal : bound_phase time image end s turns ≡ Some after
-  pub idle : after.core.core.pending ≡ None
+  pub core : TimedCore
+  pub world : FlatWorld
+  pub entries : List Entry
+  pub legal : bound_from serve time image end place turns (one_core c w es) ≡ Ok (one_core core world entries)
 
 module _ (time : Entry → ℕ) (some : (e : Entry) → 1 ≤ time e) (image : MemoryImage) (end : ℕ) where
-  ends : (s : BoundState) (p : Option Pending) → (ran_to image end s.core).core.pending ≡ p → p ≡ None → Turns time image end s
-  ends s p is none = record {
+  -- A turn, if there is one, and the turns after it: the clock is later, and where the end of the interval was reached
+  -- before, fewer accesses are left.
+  turn_or_end : (place : ℕ) (c : TimedCore) (w : FlatWorld) (es : List Entry)
+      → ((d : TimedCore) (v : FlatWorld) (fs : List Entry) → c.clock + 1 ≤ d.clock → (end ≤ c.clock → left_of_instruction d.core.instruction + 1 ≤ left_of_instruction c.core.instruction) → Turns time image end (place + 1) d v fs)
+      → (asked : Option Request) → asks (ran_to image end c) ≡ asked → Turns time image end place c w es
+  turn_or_end place c w es further None is = record {
     turns = [];
-    after = after_local_instructions time image end s;
-    legal = rw (is, none) refl;
-    idle = is ∙ none;
+    core = ran_to image end c;
+    world = w;
+    entries = es;
+    legal = ends_here time image end place c w es is;
   }
+  turn_or_end place c w es further (Some request) is =
+      let ran = ran_to image end c in
+      let answer = serve w 0 ran.clock request in
+      let next = after_access time answer.0 ran in
+      let clock = access_clock time answer.0 ran in
+      let takes = some answer.0 in
+      let from : c.clock ≤ ran.clock = later_on (suc (end - c.clock)) image end c in
+      let fewer = access_left time answer.0 ran request is in
+      let left_past : end ≤ c.clock → left_of_instruction next.core.instruction + 1 ≤ left_of_instruction c.core.instruction = λ late.
+      let same : ran ≡ c = ran_stays image end c (late_stops end c late) in
+      subst (λ (d : TimedCore). left_of_instruction next.core.instruction + 1 ≤ left_of_instruction d.core.instruction) same fewer
+      in
+      let rest = further next answer.1 (es ++ answer.0 ∷ []) (omega (arith, clock, takes, from)) left_past in
+      record {
+        turns = 0 ∷ rest.turns;
+        core = rest.core;
+        world = rest.world;
+        entries = rest.entries;
+        legal = turned time image end place rest.turns c w es request is ∙ rest.legal;
+      }
 
-  goes_further : (s : BoundState) (p : Pending) → (ran_to image end s.core).core.pending ≡ Some p → Turns time image end (access_served time (after_local_instructions time image end s) p) → Turns time image end s
-  goes_further s p is rest = record {
-    turns = 0 ∷ rest.turns;
-    after = rest.after;
-    legal = rw is rest.legal;
-    idle = rest.idle;
-  }
-
-  -- a core that waits for no access and is at the end of the interval asks for none
-  asks_before : (s : BoundState) → s.core.core.pending ≡ None → (p : Pending) → (ran_to image end s.core).core.pending ≡ Some p → ¬ (end ≤ s.core.clock)
-  asks_before s idle p is come =
-      let nothing : None ≡ Some p = sym idle ∙ ap (λ (c : TimedCore). c.core.pending) (sym (at_end image end s.core come)) ∙ is in
-      cc
-
-  turn_or_end : (s : BoundState) → s.core.core.pending ≡ None → ((t : BoundState) → t.core.core.pending ≡ None → suc (end - t.core.clock) ≤ end - s.core.clock → Turns time image end t)
-      → (p : Option Pending) → (ran_to image end s.core).core.pending ≡ p → Turns time image end s
-  turn_or_end s idle further None is = ends s None is refl
-  turn_or_end s idle further (Some p) is =
-      let local = after_local_instructions time image end s in
-      let served = access_served time local p in
-      let clock = served_clock time local p in
-      let least = some (recorded_access local p.request) in
-      let from = later_on (end - s.core.clock) image end s.core in
-      let before = asks_before s idle p is in
-      goes_further s p is (further served (served_idle time local p) (omega (arith, clock, least, from, before)))
+  -- past the end of the interval: the accesses of the instruction in progress
+  turns_past : (m place : ℕ) (c : TimedCore) (w : FlatWorld) (es : List Entry) → end ≤ c.clock → left_of_instruction c.core.instruction ≤ m → Turns time image end place c w es
+  turns_past zero place c w es late few =
+      turn_or_end place c w es (λ d v fs clock left. absurd (omega (arith, few, left late))) (asks (ran_to image end c)) refl
+  turns_past (suc m) place c w es late few =
+      turn_or_end place c w es (λ d v fs clock left. turns_past m (place + 1) d v fs (omega (arith, late, clock)) (omega (arith, few, left late))) (asks (ran_to image end c)) refl
 
   -- there are turns that end an interval: each access brings the core nearer to its end
-  pub turns_there : (n : ℕ) (s : BoundState) → s.core.core.pending ≡ None → end - s.core.clock ≤ n → Turns time image end s
-  turns_there zero s idle left =
-      turn_or_end s idle (λ t free nearer. absurd (omega (arith, left, nearer))) (ran_to image end s.core).core.pending refl
-  turns_there (suc n) s idle left =
-      turn_or_end s idle (λ t free nearer. turns_there n t free (omega (arith, left, nearer))) (ran_to image end s.core).core.pending refl
+  pub turns_there : (n place : ℕ) (c : TimedCore) (w : FlatWorld) (es : List Entry) → end - c.clock ≤ n → Turns time image end place c w es
+  turns_there zero place c w es near = turns_past (left_of_instruction c.core.instruction) place c w es (omega (arith, near)) (omega arith)
+  turns_there (suc n) place c w es near =
+      elim (cases_lt c.clock end) [
+        | inl early ↦ turn_or_end place c w es (λ d v fs clock left. turns_there n (place + 1) d v fs (omega (arith, near, clock, early))) (asks (ran_to image end c)) refl
+        | inr late ↦ turns_past (left_of_instruction c.core.instruction) place c w es late (omega arith)
+      ]
 
 -- an access takes as long as a look-up in the core's own cache, at least
 least_time : (l1 : L1) (l2 : L2) (controllers : Controllers) (o : Outcome) → l1.latency ≤ time_by l1 l2 controllers o
@@ -156,32 +181,48 @@ takes_a_cycle : (machine : Machine) → IsMachine machine → (e : Entry) → 1 
 takes_a_cycle machine is e =
     omega (arith, is.l1.latency.0, least_time machine.l1 machine.l2 machine.controllers e.outcome)
 
--- the core waits for no access between two intervals
-abbrev IsIdle : RunState → Type 0
-IsIdle s = s.core.core.pending ≡ None
+-- ---- the schedule of a run
+
+-- a run of one core
+abbrev IsOneCore : RunState → Type 0
+IsOneCore s = (c : TimedCore) × (s.cores ≡ c ∷ [])
+
+abbrev world_at : Machine → RunState → FlatWorld
+world_at machine s = record { memory = s.memory; stamps = no_stamps machine }
+
+-- the bound phase of an interval
+abbrev phase_at : Machine → MemoryImage → RunState → List ℕ → BoundState FlatWorld → Result (BoundState FlatWorld) ℕ
+phase_at machine image s turns b = bound_from serve (time_of machine) image (end_of machine s) 0 turns b
+
+begun_one : (machine : Machine) (s : RunState) (c : TimedCore) → s.cores ≡ c ∷ [] → begun machine s ≡ one_core c (world_at machine s) []
+begun_one machine s c one = ap (λ (cores : List TimedCore). let b : BoundState FlatWorld = record { cores = cores; world = world_at machine s; entries = [] } in b) one
 
 -- a list of turns, and the run after the interval that it leads through
 record NextInterval (machine : Machine) (image : MemoryImage) (s : RunState) : Type 0 where
   turns : List ℕ
   state : RunState
-  after : after_interval machine image s turns ≡ Some state
-  idle : IsIdle state
+  after : after_interval machine image s turns ≡ Ok state
+  one : IsOneCore state
   longer : length state.intervals ≡ length s.intervals + 1
 
-weave_keeps : (machine : Machine) (s : RunState) (b : BoundState) → b.core.core.pending ≡ None → IsIdle (after_weave machine s b) × (length (after_weave machine s b).intervals ≡ length s.intervals + 1)
+weave_keeps : (machine : Machine) (s : RunState) (c : TimedCore) (w : FlatWorld) (es : List Entry)
+    → IsOneCore (after_weave machine s (one_core c w es)) × (length (after_weave machine s (one_core c w es)).intervals ≡ length s.intervals + 1)
 unfolding after_weave
-weave_keeps machine s b idle = (idle, length-append s.intervals (woven_interval machine s.comps b.entries ∷ []))
+weave_keeps machine s c w es = ((_, refl), length-append s.intervals (woven_interval machine s.comps (recorded_order es) ∷ []))
 
-next_interval : (machine : Machine) (image : MemoryImage) → IsMachine machine → (s : RunState) → IsIdle s → NextInterval machine image s
-next_interval machine image is s idle =
+next_interval : (machine : Machine) (image : MemoryImage) → IsMachine machine → (s : RunState) → IsOneCore s → NextInterval machine image s
+next_interval machine image is s one =
     let end = end_of machine s in
-    let found = turns_there (time_of machine) (takes_a_cycle machine is) image end (end - s.core.clock) (begun s) idle (omega arith) in
-    let kept = weave_keeps machine s found.after found.idle in
+    let found = turns_there (time_of machine) (takes_a_cycle machine is) image end (end - one.0.clock) 0 one.0 (world_at machine s) [] (omega arith) in
+    let kept = weave_keeps machine s found.core found.world found.entries in
+    let legal : phase_at machine image s found.turns (begun machine s) ≡ Ok (one_core found.core found.world found.entries) =
+    ap (phase_at machine image s found.turns) (begun_one machine s one.0 one.1) ∙ found.legal
+    in
     record {
       turns = found.turns;
-      state = after_weave machine s found.after;
-      after = ap (option_map (after_weave machine s)) found.legal;
-      idle = kept.0;
+      state = after_weave machine s (one_core found.core found.world found.entries);
+      after = ap (woven_after machine s) legal;
+      one = kept.0;
       longer = kept.1;
     }
 
@@ -189,7 +230,7 @@ next_interval machine image is s idle =
 record RestOfRun (machine : Machine) (image : MemoryImage) (s : RunState) : Type 0 where
   lists : List (List ℕ)
   last : RunState
-  reached : after_intervals machine image s lists ≡ Some last
+  reached : after_intervals machine image s lists ≡ Ok last
   ending : Ending
   ends : ending_before machine last ≡ Some ending
 
@@ -207,84 +248,113 @@ rest_or_end machine image s goes None is = goes is
 rest_or_end machine image s goes (Some ending) is = record { lists = []; last = s; reached = refl; ending = ending; ends = is }
 
 -- a run ends, by the limit of intervals at the latest
-rest_of_run : (machine : Machine) (image : MemoryImage) → IsMachine machine → (n : ℕ) (s : RunState) → IsIdle s → length s.intervals + n ≡ machine.intervals → RestOfRun machine image s
-rest_of_run machine image is zero s idle left =
-    rest_or_end machine image s (λ on. absurd ((goes_on machine s on).1.intervals_left (omega (arith, left)))) (ending_before machine s) refl
-rest_of_run machine image is (suc n) s idle left =
-    let next = next_interval machine image is s idle in
-    rest_or_end machine image s (λ on. with_interval machine image s on next (rest_of_run machine image is n next.state next.idle (omega (arith, left, next.longer)))) (ending_before machine s) refl
+rest_of_run : (machine : Machine) (image : MemoryImage) → IsMachine machine → (n : ℕ) (s : RunState) → IsOneCore s → length s.intervals + n ≡ machine.intervals → RestOfRun machine image s
+rest_of_run machine image is zero s one left =
+    rest_or_end machine image s (λ on. absurd ((goes_on machine s one.0 one.1 on).1.intervals_left (omega (arith, left)))) (ending_before machine s) refl
+rest_of_run machine image is (suc n) s one left =
+    let next = next_interval machine image is s one in
+    rest_or_end machine image s (λ on. with_interval machine image s on next (rest_of_run machine image is n next.state next.one (omega (arith, left, next.longer)))) (ending_before machine s) refl
+
+first_one : (machine : Machine) (image : MemoryImage) (comps : List Comp) → machine.cores ≡ 1 → IsOneCore (first_state machine image comps)
+first_one machine image comps one =
+    (_, ap (λ (n : ℕ). map (first_core machine image) (range_with_len 0 n)) one)
 
 -- the run has a legal schedule
-pub schedule_there : (machine : Machine) (image : MemoryImage) → IsMachine machine → (comps : List Comp) → AreFresh machine comps
+pub schedule_there : (machine : Machine) (image : MemoryImage) → IsMachine machine → machine.cores ≡ 1 → (comps : List Comp) → AreFresh machine comps
     → (lists : List (List ℕ)) × (results : Results) × IsRunOf machine image lists results
-schedule_there machine image is comps fresh =
-    let run = rest_of_run machine image is machine.intervals (first_state machine image comps) refl (omega arith) in (
+schedule_there machine image is one comps fresh =
+    let run = rest_of_run machine image is machine.intervals (first_state machine image comps) (first_one machine image comps one) (omega arith) in (
       run.lists,
       results_of machine run.last run.ending,
       record {
         comps = comps;
         fresh = fresh;
-        gives = ap (option_and_then (results_before machine)) run.reached ∙ ap (option_map (results_of machine run.last)) run.ends;
+        gives = ap (and_then (λ (s : RunState). results_at machine s (ending_before machine s))) run.reached ∙ ap (results_at machine run.last) run.ends;
       },
     )
 
 -- one schedule leads from here to the end of the run
-let_pass : (test : Bool) (next : Option RunState) (rest : RunState → Option RunState) (last : RunState) → (if test then option_and_then rest next else None) ≡ Some last
-    → (test ≡ true) × (t : RunState) × (next ≡ Some t) × (rest t ≡ Some last)
-let_pass true None rest last e = cc
-let_pass true (Some t) rest last e = (refl, t, refl, e)
-let_pass false next rest last e = cc
+let_pass : (test : Bool) (next : Result RunState Illegal) (rest : RunState → Result RunState Illegal) (stop : Illegal) (last : RunState) → (if test then and_then rest next else Err stop) ≡ Ok last
+    → (test ≡ true) × (t : RunState) × (next ≡ Ok t) × (rest t ≡ Ok last)
+let_pass true (Err illegal) rest stop last e = cc
+let_pass true (Ok t) rest stop last e = (refl, t, refl, e)
+let_pass false next rest stop last e = cc
 
-from_bound : (f : BoundState → RunState) (o : Option BoundState) (t : RunState) → option_map f o ≡ Some t → (b : BoundState) × (o ≡ Some b)
-from_bound f None t e = cc
-from_bound f (Some b) t e = (b, refl)
+from_bound : (machine : Machine) (s : RunState) (o : Result (BoundState FlatWorld) ℕ) (t : RunState) → woven_after machine s o ≡ Ok t → (b : BoundState FlatWorld) × (o ≡ Ok b) × (after_weave machine s b ≡ t)
+from_bound machine s (Err place) t e = cc
+from_bound machine s (Ok b) t e = (b, refl, cc)
 
 stops : (ending : Option Ending) (how : Ending) → ending ≡ Some how → is_none ending ≡ true → ⊥
 stops None how e none = cc
 stops (Some other) how e none = cc
 
+keeps_one : (image : MemoryImage) (time : Entry → ℕ) (end place : ℕ) (turns : List ℕ) (c : TimedCore) (w : FlatWorld) (es : List Entry) (asked : Option Request) → asks (ran_to image end c) ≡ asked
+    → (b : BoundState FlatWorld) → bound_from serve time image end place turns (one_core c w es) ≡ Ok b → (d : TimedCore) × (b.cores ≡ d ∷ [])
+keeps_one image time end place [] c w es None is b e =
+    let same : Ok (one_core (ran_to image end c) w es) ≡ Ok b = sym (ends_here time image end place c w es is) ∙ e in
+    let at : one_core (ran_to image end c) w es ≡ b = cc in
+    (ran_to image end c, ap (λ (x : BoundState FlatWorld). x.cores) (sym at))
+keeps_one image time end place [] c w es (Some request) is b e = absurd (no_error time image end _ place b (too_short time image end place c w es request is) e)
+keeps_one image time end place (n ∷ ns) c w es None is b e = absurd (no_error time image end _ place b (stuck time image end place n ns c w es is) e)
+keeps_one image time end place (suc n ∷ ns) c w es (Some request) is b e = absurd (no_error time image end _ place b (other_core time image end place n ns c w es) e)
+keeps_one image time end place (zero ∷ ns) c w es (Some request) is b e =
+    let ran = ran_to image end c in
+    let answer = serve w 0 ran.clock request in
+    let next = after_access time answer.0 ran in
+    keeps_one image time end (place + 1) ns next answer.1 (es ++ answer.0 ∷ []) (asks (ran_to image end next)) refl b (sym (turned time image end place ns c w es request is) ∙ e)
+
+weave_one : (machine : Machine) (s : RunState) (b : BoundState FlatWorld) (d : TimedCore) → b.cores ≡ d ∷ [] → IsOneCore (after_weave machine s b)
+unfolding after_weave
+weave_one machine s b d one = (_, ap (all_delayed (woven_interval machine s.comps (recorded_order b.entries)).delays) one)
+
 module _ (machine : Machine) (image : MemoryImage) where
-  one_schedule : (s : RunState) (lists others : List (List ℕ)) (last end : RunState) (ending other : Ending)
-      → after_intervals machine image s lists ≡ Some last → ending_before machine last ≡ Some ending
-      → after_intervals machine image s others ≡ Some end → ending_before machine end ≡ Some other → lists ≡ others
-  one_schedule s [] [] last end ending other e is f ends = refl
-  one_schedule s [] (turns ∷ rest) last end ending other e is f ends =
-      let goes = let_pass (is_none (ending_before machine s)) (after_interval machine image s turns) (λ t. after_intervals machine image t rest) end f in
+  one_schedule : (s : RunState) → IsOneCore s → (lists others : List (List ℕ)) (last end : RunState) (ending other : Ending)
+      → after_intervals machine image s lists ≡ Ok last → ending_before machine last ≡ Some ending
+      → after_intervals machine image s others ≡ Ok end → ending_before machine end ≡ Some other → lists ≡ others
+  one_schedule s one [] [] last end ending other e is f ends = refl
+  one_schedule s one [] (turns ∷ rest) last end ending other e is f ends =
+      let goes = let_pass (is_none (ending_before machine s)) (after_interval machine image s turns) (λ t. after_intervals machine image t rest) (next_place s) end f in
       let same : s ≡ last = cc in
       absurd (stops (ending_before machine s) ending (ap (ending_before machine) same ∙ is) goes.0)
-  one_schedule s (turns ∷ rest) [] last end ending other e is f ends =
-      let goes = let_pass (is_none (ending_before machine s)) (after_interval machine image s turns) (λ t. after_intervals machine image t rest) last e in
+  one_schedule s one (turns ∷ rest) [] last end ending other e is f ends =
+      let goes = let_pass (is_none (ending_before machine s)) (after_interval machine image s turns) (λ t. after_intervals machine image t rest) (next_place s) last e in
       let same : s ≡ end = cc in
       absurd (stops (ending_before machine s) other (ap (ending_before machine) same ∙ ends) goes.0)
-  one_schedule s (turns ∷ rest) (turns_too ∷ rest_too) last end ending other e is f ends =
-      let goes = let_pass (is_none (ending_before machine s)) (after_interval machine image s turns) (λ t. after_intervals machine image t rest) last e in
-      let leads = let_pass (is_none (ending_before machine s)) (after_interval machine image s turns_too) (λ t. after_intervals machine image t rest_too) end f in
-      let phase = bound_phase (time_of machine) image (end_of machine s) (begun s) in
-      let first = from_bound (after_weave machine s) (phase turns) goes.1 goes.2 in
-      let second = from_bound (after_weave machine s) (phase turns_too) leads.1 leads.2 in
-      let head : turns ≡ turns_too = one_list (time_of machine) image (end_of machine s) (begun s) turns turns_too first.0 second.0 first.1 second.1 in
-      let next : Some goes.1 ≡ Some leads.1 = sym goes.2 ∙ ap (after_interval machine image s) head ∙ leads.2 in
+  one_schedule s one (turns ∷ rest) (turns_too ∷ rest_too) last end ending other e is f ends =
+      let goes = let_pass (is_none (ending_before machine s)) (after_interval machine image s turns) (λ t. after_intervals machine image t rest) (next_place s) last e in
+      let leads = let_pass (is_none (ending_before machine s)) (after_interval machine image s turns_too) (λ t. after_intervals machine image t rest_too) (next_place s) end f in
+      let stop = end_of machine s in
+      let time = time_of machine in
+      let begins = begun_one machine s one.0 one.1 in
+      let first = from_bound machine s (phase_at machine image s turns (begun machine s)) goes.1 goes.2 in
+      let second = from_bound machine s (phase_at machine image s turns_too (begun machine s)) leads.1 leads.2 in
+      let from_one = ap (phase_at machine image s turns) (sym begins) ∙ first.1 in
+      let from_other = ap (phase_at machine image s turns_too) (sym begins) ∙ second.1 in
+      let head : turns ≡ turns_too = one_list time image stop one.0 (world_at machine s) [] turns turns_too first.0 second.0 from_one from_other in
+      let kept = keeps_one image time stop 0 turns one.0 (world_at machine s) [] (asks (ran_to image stop one.0)) refl first.0 from_one in
+      let next_one : IsOneCore goes.1 = subst IsOneCore first.2 (weave_one machine s first.0 kept.0 kept.1) in
+      let next : Ok goes.1 ≡ Ok leads.1 = sym goes.2 ∙ ap (after_interval machine image s) head ∙ leads.2 in
       let same : goes.1 ≡ leads.1 = cc in
-      let from : after_intervals machine image goes.1 rest_too ≡ Some end = ap (λ t. after_intervals machine image t rest_too) same ∙ leads.3 in
-      let tails : rest ≡ rest_too = one_schedule goes.1 rest rest_too last end ending other goes.3 is from ends in
+      let from : after_intervals machine image goes.1 rest_too ≡ Ok end = ap (λ t. after_intervals machine image t rest_too) same ∙ leads.3 in
+      let tails : rest ≡ rest_too = one_schedule goes.1 next_one rest rest_too last end ending other goes.3 is from ends in
       cc
 
-  ending_of : (last : RunState) (results : Results) (o : Option Ending) → ending_before machine last ≡ o → option_map (results_of machine last) o ≡ Some results → (ending : Ending) × (ending_before machine last ≡ Some ending)
+  ending_of : (last : RunState) (results : Results) (o : Option Ending) → ending_before machine last ≡ o → results_at machine last o ≡ Ok results → (ending : Ending) × (ending_before machine last ≡ Some ending)
   ending_of last results None is e = cc
   ending_of last results (Some ending) is e = (ending, is)
 
   -- a run that gives results ends
-  whole : (o : Option RunState) (results : Results) → option_and_then (results_before machine) o ≡ Some results → (last : RunState) × (ending : Ending) × (o ≡ Some last) × (ending_before machine last ≡ Some ending)
-  whole None results e = cc
-  whole (Some last) results e =
+  whole : (o : Result RunState Illegal) (results : Results) → and_then (λ s. results_at machine s (ending_before machine s)) o ≡ Ok results → (last : RunState) × (ending : Ending) × (o ≡ Ok last) × (ending_before machine last ≡ Some ending)
+  whole (Err illegal) results e = cc
+  whole (Ok last) results e =
       let ends = ending_of last results (ending_before machine last) refl e in
       (last, ends.0, refl, ends.1)
 
   -- the run has no other legal schedule
-  pub schedule_is_one : (comps : List Comp) (lists others : List (List ℕ)) (results other_results : Results)
-      → reference_run machine image comps lists ≡ Some results → reference_run machine image comps others ≡ Some other_results → lists ≡ others
-  schedule_is_one comps lists others results other_results e f =
+  pub schedule_is_one : (comps : List Comp) (lists others : List (List ℕ)) (results other_results : Results) → machine.cores ≡ 1
+      → reference_run machine image comps lists ≡ Ok results → reference_run machine image comps others ≡ Ok other_results → lists ≡ others
+  schedule_is_one comps lists others results other_results cores e f =
       let first = first_state machine image comps in
       let one = whole (after_intervals machine image first lists) results e in
       let two = whole (after_intervals machine image first others) other_results f in
-      one_schedule first lists others one.0 two.0 one.1 two.1 one.2 one.3 two.2 two.3
+      one_schedule first (first_one machine image comps cores) lists others one.0 two.0 one.1 two.1 one.2 one.3 two.2 two.3

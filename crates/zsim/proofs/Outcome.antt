@@ -1,6 +1,6 @@
 -- The outcome of a call that came to the run of an image.
-use Rattle.std.proofs.Common.{◌≡◌, ◌≢◌, ◌⊎◌, ◌↔◌, ℕ, List, [], Option, Some, None, Result, Ok, Err, refl, inl, inr, ap}
-use Rattle.std.specs.Prelude.{IsSome, IsOk, MatchResult, is_ok}
+use Rattle.std.proofs.Common.{◌≡◌, ◌≢◌, ◌⊎◌, ◌↔◌, ℕ, List, [], Option, Some, None, Ok, refl, inl, inr, ap}
+use Rattle.std.specs.Prelude.{IsSome, IsOk, is_ok}
 use Rattle.machine_desc.specs.declared.machine.Machine.{Machine}
 use Rattle.elf_load.specs.MemoryImage.{MemoryImage}
 use Rattle.zsim.specs.declared.ended.Kept.{Kept}
@@ -10,8 +10,8 @@ use Rattle.zsim.specs.CommandLine.{command_of}
 use Rattle.zsim.specs.Ended.{Gives, HasCause, IsCut, IsDecided, IsOutcome, IsReported, IsStopped, Keeps, KeepsInputs, Leaves, Reports}
 use Rattle.zsim.specs.Results.{Results}
 use Rattle.zsim.specs.ReferenceRun.{IsLegalSoFar, IsRunOf}
-use Rattle.zsim.specs.Seen.{Seen, FileFailed, GainedNothing, NoFileFailed, PutFailed, SameNames}
-use Rattle.zsim.specs.Setup.{Setup, setup_of}
+use Rattle.zsim.specs.Seen.{Seen, FileFailed, NoFileFailed, PutFailed, SameNames}
+use Rattle.zsim.specs.Setup.{setup_of}
 use Rattle.zsim.specs.Steps.{RanCut, RanWhole, RunsAs}
 
 -- a call with a command does not answer Usage

@@ -1,7 +1,6 @@
 -- A run from its start up to now.
 use Rattle.std.proofs.Common.{◌≡◌, ◌≢◌, ◌<◌, ◌≤◌, ℕ, ◌+◌, ◌*◌, List, [], ◌∷◌, ◌++◌, length, Bool, true, false, if◌then◌else◌, Option, Some, None, Result, Ok, Err, refl, sym, ◌∙◌, ap, arith}
 use Rattle.std.specs.Prelude.{OnErr, is_none}
-use Rattle.std.specs.Option.{option_and_then, option_map}
 use Rattle.std.proofs.lemmas.List.{length-append}
 use Rattle.elf_load.specs.MemoryImage.{MemoryImage}
 use Rattle.machine_desc.specs.declared.machine.Machine.{Machine}
@@ -10,9 +9,9 @@ use Rattle.component.specs.Components.{AreFresh}
 use Rattle.stats.specs.Counts.{Counts, Interval, counts_of, total_accesses}
 use Rattle.zsim.specs.declared.progress.Progress.{Progress}
 use Rattle.zsim.specs.declared.results.Ending.{Ending}
-use Rattle.zsim.specs.CoreState.{TimedCore}
+use Rattle.bound_core.specs.Timed.{TimedCore}
 use Rattle.zsim.specs.Progress.{GoesOn, StandsFor, LeadsTo}
-use Rattle.zsim.specs.ReferenceRun.{RunState, after_interval, after_intervals, ending_at, ending_before, first_state, IsLegalSoFar, reference_run, results_before, results_of}
+use Rattle.zsim.specs.ReferenceRun.{RunState, after_interval, after_intervals, ending_at, ending_before, first_state, IsLegalSoFar, and_then, reference_run, results_at, results_of, Illegal, next_place}
 use Rattle.zsim.proofs.NextInterval.{goes_on}
 
 -- the code has come to where the run is after the intervals of this schedule
@@ -20,40 +19,40 @@ pub record HasRun (machine : Machine) (image : MemoryImage) (lists : List (List 
   pub comps : List Comp
   pub fresh : AreFresh machine comps
   pub state : RunState
-  pub reached : after_intervals machine image (first_state machine image comps) lists ≡ Some state
+  pub reached : after_intervals machine image (first_state machine image comps) lists ≡ Ok state
   pub as_long : length state.intervals ≡ length lists
-  pub come : StandsFor machine image state p
+  pub come : StandsFor machine state p
 
 pub counted_accesses : (cores : ℕ) (comps : List Comp) (intervals : List Interval) → (counts_of cores comps intervals).accesses ≡ total_accesses intervals
 unfolding counts_of
 counted_accesses cores comps intervals = refl
 
 -- the accesses that the code has counted
-pub accesses_are : (machine : Machine) (image : MemoryImage) (s : RunState) (p : Progress) → StandsFor machine image s p → p.counters.accesses ≡ total_accesses s.intervals
-accesses_are machine image s p come = ap (λ (c : Counts). c.accesses) come.counters ∙ counted_accesses machine.cores s.comps s.intervals
+pub accesses_are : (machine : Machine) (s : RunState) (p : Progress) → StandsFor machine s p → p.counters.accesses ≡ total_accesses s.intervals
+accesses_are machine s p come = ap (λ (c : Counts). c.accesses) come.counters ∙ counted_accesses machine.cores s.comps s.intervals
 
 -- how the run ends, by what the code has
-pub same_ending : (machine : Machine) (image : MemoryImage) (s : RunState) (p : Progress) → StandsFor machine image s p → (k : ℕ) → length s.intervals ≡ k
-    → ending_at machine k p.counters.accesses p.core p.comps ≡ ending_before machine s
-same_ending machine image s p come k as_long =
-    ap (λ (n : ℕ). ending_at machine n p.counters.accesses p.core p.comps) (sym as_long)
-    ∙ ap (λ (n : ℕ). ending_at machine (length s.intervals) n p.core p.comps) (accesses_are machine image s p come)
-    ∙ ap (λ (c : TimedCore). ending_at machine (length s.intervals) (total_accesses s.intervals) c p.comps) come.core
-    ∙ ap (λ (comps : List Comp). ending_at machine (length s.intervals) (total_accesses s.intervals) s.core comps) come.comps
+pub same_ending : (machine : Machine) (s : RunState) (p : Progress) → StandsFor machine s p → (k : ℕ) → length s.intervals ≡ k
+    → ending_at machine k p.counters.accesses (p.core.timed ∷ []) p.comps ≡ ending_before machine s
+same_ending machine s p come k as_long =
+    ap (λ (n : ℕ). ending_at machine n p.counters.accesses (p.core.timed ∷ []) p.comps) (sym as_long)
+    ∙ ap (λ (n : ℕ). ending_at machine (length s.intervals) n (p.core.timed ∷ []) p.comps) (accesses_are machine s p come)
+    ∙ ap (λ (cores : List TimedCore). ending_at machine (length s.intervals) (total_accesses s.intervals) cores p.comps) (sym come.cores)
+    ∙ ap (λ (comps : List Comp). ending_at machine (length s.intervals) (total_accesses s.intervals) s.cores comps) come.comps
 
 -- the run goes on with an interval that ends then
-pub goes_to : (machine : Machine) (image : MemoryImage) (s : RunState) (p : Progress) → StandsFor machine image s p → (k end : ℕ) → length s.intervals ≡ k → end ≡ (k + 1) * machine.interval
-    → ending_at machine k p.counters.accesses p.core p.comps ≡ None → GoesOn machine image end s p
-goes_to machine image s p come k end as_long ends on = record {
+pub goes_to : (machine : Machine) (s : RunState) (p : Progress) → StandsFor machine s p → (k end : ℕ) → length s.intervals ≡ k → end ≡ (k + 1) * machine.interval
+    → ending_at machine k p.counters.accesses (p.core.timed ∷ []) p.comps ≡ None → GoesOn machine end s p
+goes_to machine s p come k end as_long ends on = record {
   come = come;
-  on = sym (same_ending machine image s p come k as_long) ∙ on;
+  on = sym (same_ending machine s p come k as_long) ∙ on;
   ends = ends ∙ ap (λ (n : ℕ). (n + 1) * machine.interval) (sym as_long);
 }
 
 -- what a test let pass, where the result is there
-passed : (test : Bool) (rest : Option RunState) (t : RunState) → (if test then rest else None) ≡ Some t → (test ≡ true) × (rest ≡ Some t)
-passed true rest t e = (refl, e)
-passed false rest t e = cc
+passed : (test : Bool) (rest : Result RunState Illegal) (stop : Illegal) (t : RunState) → (if test then rest else Err stop) ≡ Ok t → (test ≡ true) × (rest ≡ Ok t)
+passed true rest stop t e = (refl, e)
+passed false rest stop t e = cc
 
 none_is : (ending : Option Ending) → ending ≡ None → is_none ending ≡ true
 none_is None e = refl
@@ -61,18 +60,18 @@ none_is (Some how) e = cc
 
 -- one more interval, with the run at t after those before
 one_interval : (machine : Machine) (image : MemoryImage) (s : RunState) (lists : List (List ℕ)) (t u : RunState) (turns : List ℕ)
-    → after_intervals machine image s lists ≡ Some t → ending_before machine t ≡ None → after_interval machine image t turns ≡ Some u → after_intervals machine image s (lists ++ turns ∷ []) ≡ Some u
+    → after_intervals machine image s lists ≡ Ok t → ending_before machine t ≡ None → after_interval machine image t turns ≡ Ok u → after_intervals machine image s (lists ++ turns ∷ []) ≡ Ok u
 one_interval machine image s [] t u turns at on after =
     let same : s ≡ t = cc in
     let goes : is_none (ending_before machine s) ≡ true = none_is (ending_before machine s) (ap (ending_before machine) same ∙ on) in
-    let leads : after_interval machine image s turns ≡ Some u = ap (λ (r : RunState). after_interval machine image r turns) same ∙ after in
+    let leads : after_interval machine image s turns ≡ Ok u = ap (λ (r : RunState). after_interval machine image r turns) same ∙ after in
     rw (goes, leads) refl
 one_interval machine image s (first ∷ lists) t u turns at on after =
-    let parts = passed (is_none (ending_before machine s)) (option_and_then (λ r. after_intervals machine image r lists) (after_interval machine image s first)) t at in
-    let rest : (o : Option RunState) → option_and_then (λ r. after_intervals machine image r lists) o ≡ Some t → option_and_then (λ r. after_intervals machine image r (lists ++ turns ∷ [])) o ≡ Some u =
-    λ o. elim o as (λ v. option_and_then (λ r. after_intervals machine image r lists) v ≡ Some t → option_and_then (λ r. after_intervals machine image r (lists ++ turns ∷ [])) v ≡ Some u) [
-      | None ↦ λ e. cc
-      | Some r ↦ λ e. one_interval machine image r lists t u turns e on after
+    let parts = passed (is_none (ending_before machine s)) (and_then (λ r. after_intervals machine image r lists) (after_interval machine image s first)) (next_place s) t at in
+    let rest : (o : Result RunState Illegal) → and_then (λ r. after_intervals machine image r lists) o ≡ Ok t → and_then (λ r. after_intervals machine image r (lists ++ turns ∷ [])) o ≡ Ok u =
+    λ o. elim o as (λ v. and_then (λ r. after_intervals machine image r lists) v ≡ Ok t → and_then (λ r. after_intervals machine image r (lists ++ turns ∷ [])) v ≡ Ok u) [
+      | Err illegal ↦ λ e. cc
+      | Ok r ↦ λ e. one_interval machine image r lists t u turns e on after
     ]
     in
     rw parts.0 (rest (after_interval machine image s first) parts.1)
@@ -91,9 +90,9 @@ further machine image lists p q h turns on leads = record {
 
 -- what the run gives where it ends
 pub ends_with : (machine : Machine) (image : MemoryImage) (lists : List (List ℕ)) (p : Progress) (h : HasRun machine image lists p) (ending : Ending) → ending_before machine h.state ≡ Some ending
-    → reference_run machine image h.comps lists ≡ Some (results_of machine h.state ending)
+    → reference_run machine image h.comps lists ≡ Ok (results_of machine h.state ending)
 ends_with machine image lists p h ending ends =
-    ap (option_and_then (results_before machine)) h.reached ∙ ap (option_map (results_of machine h.state)) ends
+    ap (and_then (λ (s : RunState). results_at machine s (ending_before machine s))) h.reached ∙ ap (results_at machine h.state) ends
 
 -- a fact, where there is an error and where there is none
 pub on_err : {T E : Type 0} (P : Type 0) (r : Result T E) → P → OnErr r P
@@ -114,10 +113,10 @@ nothing_run machine image lists none comps fresh = record {
 
 -- a run that goes on, and what the code needs of it
 module _ (machine : Machine) (image : MemoryImage) (lists : List (List ℕ)) (p : Progress) (h : HasRun machine image lists p) (k end : ℕ) (count : length lists ≡ k) (ends : end ≡ k * machine.interval) where
-  pub goes : ending_at machine k p.counters.accesses p.core p.comps ≡ None → GoesOn machine image (end + machine.interval) h.state p
-  goes on = goes_to machine image h.state p h.come k (end + machine.interval) (h.as_long ∙ count) (omega (arith, ends)) on
+  pub goes : ending_at machine k p.counters.accesses (p.core.timed ∷ []) p.comps ≡ None → GoesOn machine (end + machine.interval) h.state p
+  goes on = goes_to machine h.state p h.come k (end + machine.interval) (h.as_long ∙ count) (omega (arith, ends)) on
 
-  pub below_limit : (on : ending_at machine k p.counters.accesses p.core p.comps ≡ None) → k ≤ machine.intervals → k < machine.intervals
+  pub below_limit : (on : ending_at machine k p.counters.accesses (p.core.timed ∷ []) p.comps ≡ None) → k ≤ machine.intervals → k < machine.intervals
   below_limit on within =
-      let left : length h.state.intervals ≢ machine.intervals = (goes_on machine h.state (goes on).on).1.intervals_left in
+      let left : length h.state.intervals ≢ machine.intervals = (goes_on machine h.state p.core.timed h.come.cores (goes on).on).1.intervals_left in
       omega (arith, left, h.as_long, count)

@@ -1,5 +1,5 @@
 -- What the answer of a call tells: each status with its cause, what was kept, and what was written.
-use Rattle.std.specs.Prelude.{◌≡◌, ◌⊎◌, ◌↔◌, ℕ, List, [], Option, None, IsSome, IsSomeAnd, IsOk, Ok, Err, MatchResult}
+use Rattle.std.specs.Prelude.{◌≡◌, ◌⊎◌, ◌↔◌, ℕ, List, [], None, IsSome, IsSomeAnd, IsOk, Ok, Err, MatchResult}
 use Rattle.machine_desc.specs.declared.plain.TheConstants.{PLAIN}
 use Rattle.zsim.specs.declared.ended.Kept.{Kept}
 use Rattle.zsim.specs.declared.ended.Said.{Said}

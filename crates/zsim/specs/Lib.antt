@@ -1,12 +1,10 @@
 pub mod CommandLine
-pub mod CoreState
-pub mod Effect
-pub mod FlatMemory
-pub mod Asked
-pub mod ReferenceMachine
 pub mod Results
 pub mod Schedule
 pub mod Limits
+pub mod RecordedOrder
+pub mod FlatWorld
+pub mod Port
 pub mod ReferenceRun
 pub mod IntervalWeave
 pub mod Progress

@@ -1,8 +1,7 @@
 -- The run of the machine of one thread under a schedule, which has a list of turns for each interval. An interval is its
 -- bound phase, the weave of the events that were recorded in it, and the feedback of what the core waited.
-use Rattle.std.specs.Prelude.{◌≡◌, ℕ, ◌+◌, ◌*◌, ◌==◌, nat_lt, Bool, ◌||◌, if◌then◌else◌, List, [], ◌∷◌, ◌++◌, length, map, take, drop, slice_index, Option, Some, None, is_none}
-use Rattle.std.specs.List.{list_any}
-use Rattle.std.specs.Option.{option_and_then, option_map}
+use Rattle.std.specs.Prelude.{◌≡◌, ℕ, ◌+◌, ◌*◌, ◌==◌, nat_lt, Bool, ◌||◌, if◌then◌else◌, List, [], ◌∷◌, ◌++◌, length, map, take, drop, slice_index, Option, Some, None, is_none, is_some, Result, Ok, Err}
+use Rattle.std.specs.List.{enumerate_from, list_all, list_any, range_with_len}
 use Rattle.zs_num.specs.declared.entry.Entry.{Entry}
 use Rattle.elf_load.specs.MemoryImage.{MemoryImage}
 use Rattle.machine_desc.specs.declared.machine.Machine.{Machine}
@@ -19,15 +18,18 @@ use Rattle.zsim.specs.Limits.{access_limit, cycle_limit, room_beyond}
 use Rattle.zsim.specs.declared.results.CoreResult.{CoreResult}
 use Rattle.zsim.specs.declared.results.Ending.{Ending}
 use Rattle.zsim.specs.declared.results.Ending.TheVariants.{Halted, Limit}
-use Rattle.zsim.specs.CoreState.{TimedCore}
-use Rattle.zsim.specs.FlatMemory.{MemoryBytes, loaded}
-use Rattle.zsim.specs.ReferenceMachine.{BoundState, bound_phase, delayed, initial_core}
+use Rattle.bound_core.specs.ReferenceMachine.{BoundState, bound_phase}
+use Rattle.bound_core.specs.Timed.{TimedCore, delayed, first_core}
+use Rattle.flat_memory.specs.FlatMemory.{MemoryState, loaded}
+use Rattle.zsim.specs.FlatWorld.{FlatWorld, serve}
+use Rattle.zsim.specs.RecordedOrder.{no_stamps, recorded_order}
 use Rattle.zsim.specs.Results.{Results}
 
 -- a run between two intervals
 pub record RunState : Type 0 where
-  pub core : TimedCore
-  pub memory : MemoryBytes
+  -- in order of their numbers
+  pub cores : List TimedCore
+  pub memory : MemoryState
   -- the banks and controllers, in order of their numbers
   pub comps : List Comp
   -- the intervals that were run
@@ -45,66 +47,97 @@ woven_interval machine comps entries =
     let fired = map fired_of (woven comp_step events comps) in
     record { entries = entries; events = events; fired = fired; delays = feedback_delays events fired machine.cores }
 
--- after the weave and the feedback of an interval with this bound phase
-unfoldable pub after_weave : Machine → RunState → BoundState → RunState
-after_weave machine s b = let interval = woven_interval machine s.comps b.entries in record {
-  core = delayed (slice_index interval.delays 0) b.core;
-  memory = b.memory;
+-- each core waited for as long as the delay of its number
+abbrev pub all_delayed : List ℕ → List TimedCore → List TimedCore
+all_delayed delays cores = map (λ at. delayed (slice_index delays at.0) at.1) (enumerate_from 0 cores)
+
+-- After the weave and the feedback of an interval with this bound phase. The weave takes the accesses in recorded order,
+-- whatever the order of the turns.
+unfoldable pub after_weave : Machine → RunState → BoundState FlatWorld → RunState
+after_weave machine s b = let interval = woven_interval machine s.comps (recorded_order b.entries) in record {
+  cores = all_delayed interval.delays b.cores;
+  memory = b.world.memory;
   comps = comps_after comp_step interval.events s.comps;
   intervals = s.intervals ++ interval ∷ [];
 }
 
 -- the bound phase of the next interval begins without an access
-abbrev pub begun : RunState → BoundState
-begun s = record { core = s.core; memory = s.memory; entries = [] }
+abbrev pub begun : Machine → RunState → BoundState FlatWorld
+begun machine s = record { cores = s.cores; world = record { memory = s.memory; stamps = no_stamps machine }; entries = [] }
 
 -- interval k, from 0, ends at (k + 1) times its length
 abbrev pub end_of : Machine → RunState → ℕ
 end_of machine s = (length s.intervals + 1) * machine.interval
 
--- after one more interval under a list of turns; None where the list is not legal for it
-abbrev pub after_interval : Machine → MemoryImage → RunState → List ℕ → Option RunState
+-- a place of a schedule that is not legal
+pub record Illegal : Type 0 where
+  pub interval : ℕ
+  pub place : ℕ
+
+-- after the weave of a bound phase, or where its list is not legal
+abbrev pub woven_after : Machine → RunState → Result (BoundState FlatWorld) ℕ → Result RunState Illegal
+woven_after machine s (Ok b) = Ok (after_weave machine s b)
+woven_after machine s (Err place) = Err (record { interval = length s.intervals; place = place })
+
+-- after one more interval under a list of turns, or the first place of the list that is not legal for it
+abbrev pub after_interval : Machine → MemoryImage → RunState → List ℕ → Result RunState Illegal
 after_interval machine image s turns =
-    option_map (after_weave machine s) (bound_phase (time_of machine) image (end_of machine s) (begun s) turns)
+    woven_after machine s (bound_phase serve (time_of machine) image (end_of machine s) turns (begun machine s))
 
 -- The room for the accesses of an interval: for each core one a cycle, and those of an instruction that accesses memory
--- many times and begins in the last cycle. There is no such instruction yet.
+-- many times and begins in the last cycle.
 abbrev pub access_room : Machine → ℕ
 access_room machine = machine.cores * (machine.interval + room_beyond)
 
 -- Whether one of the limits is reached: of intervals; of accesses, with the room for one more interval's; of cycles, by
--- the clock or by a component.
-unfoldable pub at_limit : Machine → (intervals accesses clock : ℕ) → List Comp → Bool
-at_limit machine intervals accesses clock comps =
+-- a clock or by a component.
+unfoldable pub at_limit : Machine → (intervals accesses : ℕ) → List TimedCore → List Comp → Bool
+at_limit machine intervals accesses cores comps =
     intervals == machine.intervals
     || nat_lt access_limit (accesses + access_room machine)
-    || nat_lt cycle_limit clock
+    || list_any (λ c. nat_lt cycle_limit c.clock) cores
     || list_any (λ c. nat_lt cycle_limit (free_of c)) comps
 
 -- how a run ends that has come so far, or None where it goes on
-abbrev pub ending_at : Machine → (intervals accesses : ℕ) → TimedCore → List Comp → Option Ending
-ending_at machine intervals accesses core comps =
-    if is_none core.core.halted then (if at_limit machine intervals accesses core.clock comps then Some Limit else None) else Some Halted
+abbrev pub ending_at : Machine → (intervals accesses : ℕ) → List TimedCore → List Comp → Option Ending
+ending_at machine intervals accesses cores comps =
+    if list_all (λ c. is_some c.core.halted) cores then Some Halted
+    else if at_limit machine intervals accesses cores comps then Some Limit
+    else None
 
 -- how the run ends before its next interval
 abbrev pub ending_before : Machine → RunState → Option Ending
-ending_before machine s = ending_at machine (length s.intervals) (total_accesses s.intervals) s.core s.comps
+ending_before machine s = ending_at machine (length s.intervals) (total_accesses s.intervals) s.cores s.comps
 
--- The run after the intervals of a schedule. None where a list is not legal for its interval, or where the run ended
--- before.
-abbrev pub after_intervals : Machine → MemoryImage → RunState → List (List ℕ) → Option RunState
-after_intervals machine image s [] = Some s
+-- what follows, unless a place was not legal
+abbrev pub and_then : {A B : Type 0} → (A → Result B Illegal) → Result A Illegal → Result B Illegal
+and_then f (Ok x) = f x
+and_then f (Err illegal) = Err illegal
+
+-- the place with which the list of a run's next interval begins
+abbrev pub next_place : RunState → Illegal
+next_place s = record { interval = length s.intervals; place = 0 }
+
+-- The run after the intervals of a schedule, or the first place that is not legal: of a list that is not legal for its
+-- interval, or of one behind the end of the run.
+abbrev pub after_intervals : Machine → MemoryImage → RunState → List (List ℕ) → Result RunState Illegal
+after_intervals machine image s [] = Ok s
 after_intervals machine image s (turns ∷ lists) =
     if is_none (ending_before machine s)
-    then option_and_then (λ t. after_intervals machine image t lists) (after_interval machine image s turns)
-    else None
+    then and_then (λ t. after_intervals machine image t lists) (after_interval machine image s turns)
+    else Err (next_place s)
 
 -- a run before its first interval
 abbrev pub first_state : Machine → MemoryImage → List Comp → RunState
-first_state machine image comps = record { core = initial_core machine image 0; memory = loaded image; comps = comps; intervals = [] }
+first_state machine image comps = record {
+  cores = map (first_core machine image) (range_with_len 0 machine.cores);
+  memory = loaded image machine.cores;
+  comps = comps;
+  intervals = [];
+}
 
 abbrev pub core_result : TimedCore → CoreCount → CoreResult
-core_result c count = record { instructions = c.instructions; cycles = c.clock; count = count; halted = c.core.halted; console = [] }
+core_result c count = record { instructions = c.instructions; cycles = c.clock; count = count; halted = c.core.halted; console = c.console }
 
 -- what the run gives where it ends in this way
 abbrev pub results_of : Machine → RunState → Ending → Results
@@ -113,31 +146,32 @@ results_of machine s ending = let counts = counts_of machine.cores s.comps s.int
   intervals = length s.intervals;
   accesses = counts.accesses;
   events = counts.events;
-  cores = core_result s.core (core_total s.intervals 0) ∷ [];
+  cores = map (λ at. core_result at.1 (core_total s.intervals at.0)) (enumerate_from 0 s.cores);
   banks = take machine.l2.banks counts.comp_counts;
   controllers = drop machine.l2.banks counts.comp_counts;
 }
 
--- what the run gives where it ends before the next interval
-abbrev pub results_before : Machine → RunState → Option Results
-results_before machine s = option_map (results_of machine s) (ending_before machine s)
+-- what the run gives that ends so, or the place that is missing where it goes on
+abbrev pub results_at : Machine → RunState → Option Ending → Result Results Illegal
+results_at machine s (Some ending) = Ok (results_of machine s ending)
+results_at machine s None = Err (next_place s)
 
--- The run of an image under a schedule, from these components. None where the schedule is not legal for it: a list is not
--- legal for its interval, or there are not as many lists as intervals.
-abbrev pub reference_run : Machine → MemoryImage → List Comp → List (List ℕ) → Option Results
+-- The run of an image under a schedule, from these components, or the first place of the schedule that is not legal for
+-- it: of a list that is not legal for its interval, or where there are not as many lists as intervals.
+abbrev pub reference_run : Machine → MemoryImage → List Comp → List (List ℕ) → Result Results Illegal
 reference_run machine image comps lists =
-    option_and_then (results_before machine) (after_intervals machine image (first_state machine image comps) lists)
+    and_then (λ s. results_at machine s (ending_before machine s)) (after_intervals machine image (first_state machine image comps) lists)
 
 -- What the run of an image under a schedule gives, from the machine's components before their first event. There is one
 -- list of these (`fresh_components_are_there` and `fresh_components_are_one` of component's laws).
 pub record IsRunOf (machine : Machine) (image : MemoryImage) (lists : List (List ℕ)) (results : Results) : Type 0 where
   pub comps : List Comp
   pub fresh : AreFresh machine comps
-  pub gives : reference_run machine image comps lists ≡ Some results
+  pub gives : reference_run machine image comps lists ≡ Ok results
 
 -- the schedule has a legal list for each of the first intervals of a run, as many as it has lists; the run may go on
 pub record IsLegalSoFar (machine : Machine) (image : MemoryImage) (lists : List (List ℕ)) : Type 0 where
   pub comps : List Comp
   pub fresh : AreFresh machine comps
   pub state : RunState
-  pub reached : after_intervals machine image (first_state machine image comps) lists ≡ Some state
+  pub reached : after_intervals machine image (first_state machine image comps) lists ≡ Ok state

@@ -1,8 +1,8 @@
 -- The text of the report. Numbers are decimal, and each line ends with one newline.
 use Rattle.std.specs.Prelude.{ℕ, zero, suc, ◌+◌, ◌/◌, ◌%◌, max, ◌==◌, nat_lt, nat_le, Bool, not, ◌&&◌, if◌then◌else◌, List, [], ◌∷◌, ◌++◌, length, codes, Option, Some, None}
 use Rattle.std.specs.Fmt.{decimal}
-use Rattle.zsim.specs.declared.why.Why.{Why}
-use Rattle.zsim.specs.declared.why.Why.TheVariants.{Exit, Illegal, Misaligned, AtomicAlign, Fetch, Access, Break}
+use Rattle.rv_core.specs.declared.why.Why.{Why}
+use Rattle.rv_core.specs.declared.why.Why.TheVariants.{Exit, Illegal, Misaligned, AtomicAlign, Fetch, Access, Break}
 use Rattle.stats.specs.declared.counts.CoreCount.{CoreCount}
 use Rattle.zsim.specs.declared.results.CoreResult.{CoreResult}
 use Rattle.stats.specs.declared.counts.CompCount.{CompCount}

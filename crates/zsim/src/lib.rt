@@ -1,16 +1,14 @@
 //! The top call of the simulator: from the words of the command line to the report.
 #![tactic(auto)]
 
-mod bound_core;
 mod command_line;
 mod ended;
 mod error_line;
-mod interpreter;
+mod flat_port;
+mod flat_world;
 pub mod laws;
 mod limits;
 mod machine;
-mod memory;
-mod pending;
 mod progress;
 mod put;
 mod report;
@@ -21,7 +19,6 @@ mod schedule;
 mod tests;
 mod top;
 mod weaving;
-mod why;
 
 pub use ended::{Ended, Kept, Said, Status, Which};
 pub use schedule::Schedule;

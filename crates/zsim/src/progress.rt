@@ -1,5 +1,5 @@
 // A run between two intervals.
-ghost use Rattle.std.specs.Prelude.{◌≡◌, ◌+◌, ◌-◌, ◌*◌, ◌<◌, ◌≤◌, ◌^◌, [], ◌∷◌, All, IfOk, length, map, take, drop, nat_lt, slice_get, Some, if◌then◌else◌, is_none};
+ghost use Rattle.std.specs.Prelude.{◌≡◌, ◌+◌, ◌-◌, ◌*◌, ◌<◌, ◌≤◌, ◌^◌, [], ◌∷◌, All, IfOk, length, map, nat_lt, slice_get, Some};
 ghost use Rattle.std.specs.List.{list_any};
 ghost use Rattle.machine_desc.specs.Components.{component_count};
 ghost use Rattle.machine_desc.specs.Machine.{IsMachine};
@@ -8,27 +8,30 @@ ghost use Rattle.component.specs.Components.{AreFresh};
 ghost use Rattle.stats.specs.declared.counts.CoreCount.{CoreCount};
 ghost use Rattle.zsim.specs.ReferenceRun.{RunState, access_room, at_limit, core_result, ending_at, first_state, results_of};
 ghost use Rattle.zsim.specs.Limits.{cycle_limit};
-ghost use Rattle.zsim.specs.Progress.{GoesOn, StandsFor, HasRoom, LeadsTo};
+ghost use Rattle.zsim.specs.Progress.{GoesOn, StandsFor, HasRoom, IsBounded, LeadsTo};
 ghost use Rattle.zsim.specs.IntervalWeave.{IsPlainOf};
 
-use crate::bound_core::BoundCore;
+use crate::flat_port::FlatPort;
+use crate::flat_world::FlatWorld;
 use crate::limits::{ACCESS_LIMIT, CYCLE_LIMIT, ROOM_BEYOND};
-use crate::memory::FlatMemory;
 use crate::results::{CoreResult, Ending, RunResults};
 use crate::weaving::weave_interval;
+use bound_core::BoundCore;
 use component::{Comp, Comps, components};
 use elf_load::Image;
 use event_graph::Plain;
 use machine_desc::Machine;
+use rv_core::DecodedProgram;
 use stats::Counters;
 use std::alloc::Global;
 use zs_num::{Bytes, Cycle, Entries, Entry, NoMemory};
 
-/// A run between two intervals: its core, its memory, its components and what was counted.
+/// A run between two intervals: its core, the core's port to memory, its components and what was
+/// counted.
 #[derive(Drop)]
 pub struct Progress {
     core: BoundCore,
-    memory: FlatMemory,
+    port: FlatPort,
     comps: Comps<Comp>,
     counters: Counters,
 }
@@ -37,14 +40,15 @@ impl Progress {
     /// A run before its first interval.
     pub fn new(alloc: Global, machine: &Machine, image: &Image) -> Result<Self, NoMemory>
         requires machine { IsMachine machine.now }
+        requires cores { machine.now.cores ≡ 1 }
         requires base { image.now.base ≡ machine.now.memory.base }
         requires size { image.now.size ≡ machine.now.memory.size }
-        ensures { IfOk result (λ p. (comps : _) × AreFresh machine.now comps × StandsFor machine.now image.now (first_state machine.now image.now comps) p) }
+        ensures { IfOk result (λ p. (comps : _) × AreFresh machine.now comps × StandsFor machine.now (first_state machine.now image.now comps) p) }
     {
         stats::laws::nothing_is_counted_first();
         Ok(Progress {
-            core: BoundCore::new(machine, image, 0),
-            memory: FlatMemory::loaded(alloc, image)?,
+            core: BoundCore::new(alloc, machine, image, 0)?,
+            port: FlatPort::new(alloc, machine, image)?,
             comps: components(alloc, machine)?,
             counters: Counters::new(alloc, machine)?,
         })
@@ -54,7 +58,7 @@ impl Progress {
     pub fn ending(&self, machine: &Machine, k: u32) -> Option<Ending>
         requires machine { IsMachine machine.now }
         requires accesses { self.now.counters.accesses ≤ 2 ^ 26 }
-        ensures { result ≡ ending_at machine.now k self.now.counters.accesses self.now.core self.now.comps }
+        ensures { result ≡ ending_at machine.now k self.now.counters.accesses (self.now.core.timed ∷ []) self.now.comps }
     {
         if self.core.halted().is_some() {
             Some(Ending::Halted)
@@ -70,7 +74,7 @@ impl Progress {
     fn is_at_limit(&self, machine: &Machine, k: u32) -> bool
         requires machine { IsMachine machine.now }
         requires accesses { self.now.counters.accesses ≤ 2 ^ 26 }
-        ensures { result ≡ at_limit machine.now k self.now.counters.accesses self.now.core.clock self.now.comps }
+        ensures { result ≡ at_limit machine.now k self.now.counters.accesses (self.now.core.timed ∷ []) self.now.comps }
     {
         k == machine.intervals
             || self.counters.accesses() + access_room(machine) > ACCESS_LIMIT
@@ -79,33 +83,29 @@ impl Progress {
     }
 
     /// Runs the interval that ends at cycle `end`, at most 2^34. Answers its accesses, which go into
-    /// the empty list.
+    /// the buffer of the list.
     pub fn interval(
         &mut self,
         alloc: Global,
         machine: &Machine,
-        image: &Image,
+        program: &DecodedProgram<'_>,
         plain: &Plain,
         end: Cycle,
-        mut list: Vec<Entry>,
+        list: Vec<Entry>,
     ) -> Result<Entries, NoMemory>
         requires machine { IsMachine machine.now }
         requires cores { machine.now.cores ≡ 1 }
         requires plain { IsPlainOf machine.now plain.now }
         requires end { end ≤ 2 ^ 34 }
-        requires room { HasRoom machine.now image.now end self.old }
-        requires goes_on { (s : RunState) × GoesOn machine.now image.now end s self.old }
-        requires none { list.items ≡ [] }
-        ensures leads { IfOk result (λ entries. (s : RunState) → GoesOn machine.now image.now end s self.old → LeadsTo machine.now image.now s (map (λ e. e.core) entries) self.new) }
+        requires room { HasRoom machine.now end self.old }
+        requires goes_on { (s : RunState) × GoesOn machine.now end s self.old }
+        ensures leads { IfOk result (λ entries. (s : RunState) → GoesOn machine.now end s self.old → LeadsTo machine.now program.now s (map (λ e. e.core) entries) self.new) }
         ensures cores { IfOk result (λ entries. All (λ e. e.core < 1) entries) }
         ensures few { IfOk result (λ entries. length entries < 2 ^ 32) }
     {
         stats::laws::counters_are_sums();
         stats::laws::sums_fit();
-        list.reserve(machine.interval as usize)?;
-        self.core
-            .run_to(image, plain, end, &mut self.memory, &mut list);
-        let entries = Entries::of(list);
+        let entries = self.bound(alloc, machine, program, plain, end, list)?;
         let woven = weave_interval(alloc, machine, plain, &entries, &mut self.comps)?;
         self.core.delay(woven.delays.as_slice()[0]);
         self.counters.add(
@@ -116,6 +116,35 @@ impl Progress {
             &self.comps,
         );
         Ok(entries)
+    }
+
+    // The bound phase of an interval. Answers its accesses.
+    fn bound(
+        &mut self,
+        alloc: Global,
+        machine: &Machine,
+        program: &DecodedProgram<'_>,
+        plain: &Plain,
+        end: Cycle,
+        list: Vec<Entry>,
+    ) -> Result<Entries, NoMemory>
+        requires machine { IsMachine machine.now }
+        requires cores { machine.now.cores ≡ 1 }
+        requires plain { IsPlainOf machine.now plain.now }
+        requires end { end ≤ 2 ^ 34 }
+        requires room { HasRoom machine.now end self.old }
+        ensures bounded { IfOk result (IsBounded machine.now program.now end self.old self.new) }
+        ensures comps { self.new.comps ≡ self.old.comps }
+        ensures counters { self.new.counters ≡ self.old.counters }
+    {
+        bound_core::laws::accesses_are_few();
+        bound_core::laws::ends_where_all_are_over::<FlatWorld>();
+        bound_core::laws::turns_are_scheduled::<FlatPort, FlatWorld>();
+        self.core.reserve(machine.interval)?;
+        self.port.begin(alloc, machine, list)?;
+        let _sound = self.core.core();
+        self.core.run_one(program, plain, end, &mut self.port);
+        Ok(self.port.take_entries(alloc))
     }
 
     /// What the run gives where it ends before interval k.
@@ -130,7 +159,7 @@ impl Progress {
         requires cores { machine.now.cores ≡ 1 }
         requires comps { length self.now.counters.comp_counts ≡ component_count machine.now }
         requires count { length self.now.counters.core_counts ≡ 1 }
-        ensures { IfOk result (λ r. (s : RunState) (image : _) → StandsFor machine.now image s self.now → length s.intervals ≡ k → r ≡ results_of machine.now s ending) }
+        ensures { IfOk result (λ r. (s : RunState) → StandsFor machine.now s self.now → length s.intervals ≡ k → r ≡ results_of machine.now s ending) }
     {
         let counts = self.counters.comp_counts();
         let (banks, controllers) = counts.split_at(machine.l2.banks as usize);
@@ -145,10 +174,10 @@ impl Progress {
         })
     }
 
-    // What the run gives of its one core, which writes on no console yet.
+    // What the run gives of its one core.
     fn core_results(&self, alloc: Global) -> Result<Vec<CoreResult>, NoMemory>
         requires { length self.now.counters.core_counts ≡ 1 }
-        ensures { IfOk result (λ cores. (count : CoreCount) → slice_get self.now.counters.core_counts 0 ≡ Some count → cores.items ≡ core_result self.now.core count ∷ []) }
+        ensures { IfOk result (λ cores. (count : CoreCount) → slice_get self.now.counters.core_counts 0 ≡ Some count → cores.items ≡ core_result self.now.core.timed count ∷ []) }
     {
         let mut cores = Vec::new(alloc);
         cores.push(CoreResult {
@@ -156,7 +185,7 @@ impl Progress {
             cycles: self.core.clock(),
             count: self.counters.core(0),
             halted: self.core.halted(),
-            console: Bytes::of(Vec::new(alloc)),
+            console: Bytes::from_slice(alloc, self.core.console())?,
         })?;
         Ok(cores)
     }

@@ -3,7 +3,7 @@ ghost use Rattle.std.specs.Prelude.{◌≡◌, ◌<◌, ◌^◌, ◌++◌, IfOk,
 ghost use Rattle.zsim.specs.ReportText.{all_instructions, component_line, console_line, core_line, core_lines, count_text, greatest_clock, halt_text, hex_digit, hexadecimal, labelled, numbered, printed, printed_byte, report_text, summary};
 
 use crate::results::{CoreResult, RunResults};
-use crate::why::Why;
+use rv_core::Why;
 use stats::{CompCount, CoreCount};
 use std::alloc::{AllocError, Global};
 use zs_num::{Bytes, Cycle, NoMemory};

@@ -1,7 +1,5 @@
 // What a run gives: how it ended, and what is reported of each core and component.
-ghost use Rattle.std.specs.Prelude.{◌≡◌};
-
-use crate::why::Why;
+use rv_core::Why;
 use stats::{CompCount, CoreCount};
 use std::marker::Model;
 use zs_num::{Bytes, Cycle};

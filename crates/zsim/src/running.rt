@@ -1,5 +1,5 @@
 // The run of an executable: intervals until every core halted, or until a limit.
-ghost use Rattle.std.specs.Prelude.{◌≡◌, ◌<◌, ◌≤◌, ◌+◌, ◌*◌, ◌^◌, [], IfOk, OnErr};
+ghost use Rattle.std.specs.Prelude.{◌≡◌, [], IfOk, OnErr};
 ghost use Rattle.machine_desc.specs.Machine.{IsMachine};
 ghost use Rattle.zsim.specs.ReferenceRun.{IsLegalSoFar, IsRunOf};
 
@@ -10,6 +10,7 @@ use component::laws::fresh_components_are_there;
 use elf_load::Image;
 use event_graph::Plain;
 use machine_desc::Machine;
+use rv_core::DecodedProgram;
 use std::alloc::Global;
 use zs_num::NoMemory;
 
@@ -33,6 +34,7 @@ pub fn run(
 {
     fresh_components_are_there();
     let plain = Plain::of(machine);
+    let program = DecodedProgram::of(alloc, image)?;
     let mut progress = Progress::new(alloc, machine, image)?;
     let mut list = Vec::new(alloc);
     let mut k = 0;
@@ -43,9 +45,8 @@ pub fn run(
         }
         k += 1;
         end += machine.interval;
-        let entries = progress.interval(alloc, machine, image, &plain, end, list)?;
+        let entries = progress.interval(alloc, machine, &program, &plain, end, list)?;
         schedule.add(alloc, &entries)?;
         list = entries.into_list();
-        list.clear();
     }
 }

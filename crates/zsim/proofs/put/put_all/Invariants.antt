@@ -1,5 +1,5 @@
 -- the sink took the first bytes of the text, and nothing failed
-use Rattle.std.proofs.Common.{◌≡◌, ◌≤◌, ◌-◌, length, take}
+use Rattle.std.proofs.Common.{◌≤◌, ◌-◌, length, take}
 use Rattle.zsim.specs.Seen.{sink_seen, Gained, NoPutFailed}
 use Rattle.zsim.proofs.put.put_all.Given as goal
 

@@ -1,4 +1,4 @@
-use Rattle.std.proofs.Common.{◌≡◌, ℕ, ◌+◌, ◌-◌, ◌<◌, List, ◌++◌, ◌∷◌, [], length, map, Some, sym, ◌∙◌, ap, refl, subst, arith}
+use Rattle.std.proofs.Common.{◌≡◌, ℕ, ◌+◌, ◌-◌, ◌<◌, List, ◌++◌, ◌∷◌, [], length, map, Some, Ok, sym, ◌∙◌, ap, refl, subst, arith}
 use Rattle.std.proofs.lemmas.Result.{IfOk-weaker}
 use Rattle.std.proofs.lemmas.List.{length-append}
 use Rattle.zs_num.specs.declared.entry.Entry.{Entry}
@@ -11,11 +11,17 @@ use Rattle.zsim.proofs.NextInterval.{counts_come, has_room}
 use Rattle.zsim.proofs.RunSoFar.{HasRun, accesses_are, below_limit, ends_with, further, goes, legal_so_far, nothing_run, on_err, same_ending}
 use Rattle.zsim.proofs.running.run.Goals as goal
 
+pub returns-in_err-program-clause-err : goal.returns-in_err-program-clause-err
+returns-in_err-program-clause-err c =
+    let machine = c.args.machine.now in
+    let there = c.fresh_components_are_there.ensures machine c.requires.machine in
+    on_err (IsLegalSoFar machine c.args.image.now c.args.schedule.now.lists) c.from_residual.result (nothing_run machine c.args.image.now c.args.schedule.now.lists c.requires.empty there.0 there.1)
+
 pub returns-in_err-progress-clause-err : goal.returns-in_err-progress-clause-err
 returns-in_err-progress-clause-err c =
     let machine = c.args.machine.now in
     let there = c.fresh_components_are_there.ensures machine c.requires.machine in
-    on_err (IsLegalSoFar machine c.args.image.now c.args.schedule.now.lists) c.from_residual.result (nothing_run machine c.args.image.now c.args.schedule.now.lists c.requires.empty there.0 there.1)
+    on_err (IsLegalSoFar machine c.args.image.now c.args.schedule.now.lists) c.from_residual-in_err-progress.result (nothing_run machine c.args.image.now c.args.schedule.now.lists c.requires.empty there.0 there.1)
 
 pub loop-ending-init : goal.loop-ending-init
 loop-ending-init c =
@@ -23,7 +29,7 @@ loop-ending-init c =
     let image = c.args.image.now in
     let first = c.in_ok-progress.ensures in
     let none : length c.args.schedule.now.lists ≡ 0 = ap length c.requires.empty in
-    let accesses = accesses_are machine image (first_state machine image first.0) c.in_ok-progress.progress first.2 in
+    let accesses = accesses_are machine (first_state machine image first.0) c.in_ok-progress.progress first.2 in
     record {
       run = record {
         comps = first.0;
@@ -40,18 +46,17 @@ loop-ending-init c =
       within = omega arith;
       accesses = omega (arith, accesses);
       cores = refl;
-      empty = c.new-list.ensures.items;
     }
 
 pub results-requires-clause-comps : goal.results-requires-clause-comps
 results-requires-clause-comps c =
     let h = c.loop-ending.invariant.run in
-    (counts_come c.args.machine.now c.args.image.now h.state c.loop-ending.progress h.come).1
+    (counts_come c.args.machine.now h.state c.loop-ending.progress h.come).1
 
 pub results-requires-clause-count : goal.results-requires-clause-count
 results-requires-clause-count c =
     let h = c.loop-ending.invariant.run in
-    (counts_come c.args.machine.now c.args.image.now h.state c.loop-ending.progress h.come).0 ∙ c.requires.cores
+    (counts_come c.args.machine.now h.state c.loop-ending.progress h.come).0 ∙ c.requires.cores
 
 pub returns-in-Some-clause-ok : goal.returns-in-Some-clause-ok
 returns-in-Some-clause-ok c =
@@ -61,12 +66,12 @@ returns-in-Some-clause-ok c =
     let p = c.loop-ending.progress in
     let h = c.loop-ending.invariant.run in
     let long : length h.state.intervals ≡ c.loop-ending.k = h.as_long ∙ c.loop-ending.invariant.count in
-    let ends : ending_before machine h.state ≡ Some c.in-Some.ending = sym (same_ending machine image h.state p h.come c.loop-ending.k long) ∙ sym c.in-Some.ensures in
-    let is_run : (r : Results) → ((s : RunState) (i : MemoryImage) → StandsFor machine i s p → length s.intervals ≡ c.loop-ending.k → r ≡ results_of machine s c.in-Some.ending) → IsRunOf machine image lists r =
+    let ends : ending_before machine h.state ≡ Some c.in-Some.ending = sym (same_ending machine h.state p h.come c.loop-ending.k long) ∙ sym c.in-Some.ensures in
+    let is_run : (r : Results) → ((s : RunState) → StandsFor machine s p → length s.intervals ≡ c.loop-ending.k → r ≡ results_of machine s c.in-Some.ending) → IsRunOf machine image lists r =
     λ r are. record {
       comps = h.comps;
       fresh = h.fresh;
-      gives = ends_with machine image lists p h c.in-Some.ending ends ∙ ap Some (sym (are h.state image h.come long));
+      gives = ends_with machine image lists p h c.in-Some.ending ends ∙ ap Ok (sym (are h.state h.come long));
     }
     in
     IfOk-weaker c.results.result _ (IsRunOf machine image lists) is_run c.results.ensures
@@ -78,7 +83,7 @@ interval-requires-clause-room c =
     let image = c.args.image.now in
     let p = c.loop-ending.progress in
     let g = goes machine image c.loop-ending.schedule.lists p was.run c.loop-ending.k c.loop-ending.end was.count was.end (sym c.in_default.ensures) in
-    has_room machine image (c.loop-ending.end + machine.interval) was.run.state p g
+    has_room machine (c.loop-ending.end + machine.interval) was.run.state p g
 
 pub interval-requires-clause-goes_on : goal.interval-requires-clause-goes_on
 interval-requires-clause-goes_on c =
@@ -111,10 +116,11 @@ loop-ending-preserved c =
     let below = below_limit machine image lists p was.run c.loop-ending.k c.loop-ending.end was.count was.end on was.within in
     let g = goes machine image lists p was.run c.loop-ending.k c.loop-ending.end was.count was.end on in
     let turns : List ℕ = map (λ (e : Entry). e.core) c.in_ok-entries.entries in
-    let leads : LeadsTo machine image was.run.state turns c.interval.new.self = c.in_ok-entries.ensures.leads was.run.state g in
+    let program : LeadsTo machine c.in_ok-program.program was.run.state turns c.interval.new.self = c.in_ok-entries.ensures.leads was.run.state g in
+    let leads : LeadsTo machine image was.run.state turns c.interval.new.self = subst (λ (i : MemoryImage). LeadsTo machine i was.run.state turns c.interval.new.self) c.in_ok-program.ensures program in
     let added : c.add.new.self.lists ≡ lists ++ turns ∷ [] = c.in_ok-add.ensures.ok in
     let run : HasRun machine image (lists ++ turns ∷ []) c.interval.new.self = further machine image lists p c.interval.new.self was.run turns g.on leads in
-    let accesses = accesses_are machine image leads.state c.interval.new.self leads.come in
+    let accesses = accesses_are machine leads.state c.interval.new.self leads.come in
     record {
       run = subst (λ (all : List (List ℕ)). HasRun machine image all c.interval.new.self) (sym added) run;
       plain = was.plain;
@@ -122,7 +128,6 @@ loop-ending-preserved c =
       end = omega (arith, was.end);
       small = omega (arith, was.small, c.requires.machine.interval);
       within = omega (arith, below);
-      accesses = omega (arith, accesses, leads.come.between.accesses);
+      accesses = omega (arith, accesses, leads.come.counted.accesses);
       cores = c.in_ok-add.ensures.cores ∙ was.cores;
-      empty = c.clear.ensures.items;
     }

@@ -1,5 +1,5 @@
 -- the run has come to where the intervals of the schedule lead
-use Rattle.std.proofs.Common.{◌≡◌, ◌≤◌, ◌-◌, ◌*◌, ◌^◌, [], length}
+use Rattle.std.proofs.Common.{◌≡◌, ◌≤◌, ◌-◌, ◌*◌, ◌^◌, length}
 use Rattle.zsim.specs.IntervalWeave.{IsPlainOf}
 use Rattle.zsim.proofs.RunSoFar.{HasRun}
 use Rattle.zsim.proofs.running.run.Given as goal
@@ -14,7 +14,6 @@ invariant-loop-ending l = record {
   within : l.k ≤ l.machine.intervals;
   accesses : l.progress.counters.accesses ≤ 2 ^ 26;
   cores : l.schedule.cores ≡ l.initial.schedule.cores;
-  empty : l.list.items ≡ [];
 }
 
 abbrev pub decreases-loop-ending : goal.decreases-loop-ending
