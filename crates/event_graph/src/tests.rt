@@ -1,6 +1,7 @@
 // What no clause says: worked cycles, and that the calls succeed.
-ghost use Rattle.std.specs.Prelude.{◌≡◌, IfOk};
+ghost use Rattle.std.specs.Prelude.{◌≡◌, ◌<◌, ◌≤◌, ◌^◌, All, IfOk, length, sum_by};
 ghost use Rattle.machine_desc.specs.Machine.{IsMachine};
+ghost use Rattle.event_graph.specs.Timing.{pieces_of};
 
 use crate::{Event, Expand, Fired, FiredList, Graph, Kind, Parent, Plain, build};
 use machine_desc::{Controllers, Domains, L1, L2, Machine, Memory, Places};
@@ -149,6 +150,35 @@ fn a_core_goes_on_from_its_last_critical_event(rt: HostRuntime) -> Result<(), Fa
         })
     );
     assert_eq!(rt; events[5].min_finish, 229);
+    Ok(())
+}
+
+/// So many misses of core 0 at one cycle.
+fn misses(alloc: Global, x: &Plain, count: usize) -> Result<Entries, NoMemory>
+    requires { count ≤ 2 ^ 20 }
+    ensures cores { IfOk result (All (λ e. e.core < 2)) }
+    ensures starts { IfOk result (All (λ e. e.start < 2 ^ 62)) }
+    ensures few { IfOk result (λ entries. sum_by (λ e. length (pieces_of x.now.l1 x.now.l2 x.now.controllers e)) entries < 2 ^ 32) }
+{
+    crate::laws::plain_accesses_have_few_events();
+    let entries = vec![in alloc; load(0, 1, MISS); count]?;
+    Ok(Entries::of(entries))
+}
+
+#[test]
+fn a_graph_may_have_more_events_than_two_bytes_count(rt: HostRuntime) -> Result<(), Fail> {
+    let x = Plain::of(&plain(rt.alloc())?);
+    let entries = misses(rt.alloc(), &x, 22_000)?;
+    let graph = build(rt.alloc(), &x, &entries, 2)?;
+    let events = graph.events();
+    assert_eq!(rt; events.len(), 66_000);
+    let last = events[65_999];
+    assert_eq!(rt; last.number, 65_999);
+    let parent = Parent {
+        number: 65_998,
+        delay: 0,
+    };
+    assert_eq!(rt; last.first, Some(parent));
     Ok(())
 }
 
