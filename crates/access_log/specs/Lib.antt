@@ -1,0 +1,3 @@
+pub mod RecordedOrder
+pub mod Logs
+pub mod Schedule

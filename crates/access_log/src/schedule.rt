@@ -1,0 +1,72 @@
+// The schedule of a run: for each interval the numbers of the cores, in the order of their accesses.
+ghost use Rattle.std.specs.Prelude.{◌≡◌, ◌<◌, ◌+◌, ◌-◌, ◌^◌, [], ◌∷◌, ◌++◌, All, Some, length, map, slice_get, OnOk, OnErr};
+
+use std::alloc::Global;
+use std::marker::Model;
+use zs_num::{Entries, NoMemory};
+
+/// For each interval that was run, the numbers of the cores in the order of their accesses.
+#[derive(Debug, Drop)]
+pub struct Schedule {
+    cores: u16,
+    lists: Vec<Vec<u16>>,
+}
+
+impl Model for Schedule {
+    ghost use Rattle.std.specs.Prelude.{◌≤◌, ◌-◌, ◌^◌, ◌<◌, map, vec_len};
+    ghost use Rattle.access_log.specs.Schedule.{IntervalLists};
+
+    ghost Value = { IntervalLists };
+
+    ghost view = { λ s. record { cores = s.cores; lists = map (λ v. v.items) s.lists.items } };
+
+    ghost invariant = { λ s. vec_len s.lists < 2 ^ 32 };
+}
+
+impl Schedule {
+    /// A schedule without an interval, for so many cores.
+    pub fn new(alloc: Global, cores: u16) -> Self
+        ensures { result ≡ record { cores = cores; lists = [] } }
+    {
+        Schedule {
+            cores,
+            lists: Vec::new(alloc),
+        }
+    }
+
+    /// How many cores the machine has.
+    pub fn cores(&self) -> u16
+        ensures { result ≡ self.now.cores }
+    {
+        self.cores
+    }
+
+    /// How many intervals there are.
+    pub fn intervals(&self) -> u32
+        ensures { result ≡ length self.now.lists }
+    {
+        self.lists.len() as u32
+    }
+
+    /// The list of interval k.
+    pub fn list(&self, k: u32) -> &[u16]
+        requires { k < length self.now.lists }
+        ensures { slice_get self.now.lists k ≡ Some result.now }
+    {
+        &self.lists[k as usize]
+    }
+
+    /// Adds an interval: the cores of its accesses, which are in recorded order.
+    pub fn add(&mut self, alloc: Global, entries: &Entries) -> Result<(), NoMemory>
+        requires cores { All (λ e. e.core < self.old.cores) entries.now }
+        requires count { length entries.now < 2 ^ 32 }
+        requires room { length self.old.lists < 2 ^ 32 - 1 }
+        ensures cores { self.new.cores ≡ self.old.cores }
+        ensures ok { OnOk result (self.new.lists ≡ self.old.lists ++ map (λ e. e.core) entries.now ∷ []) }
+        ensures err { OnErr result (self.new ≡ self.old) }
+    {
+        let turns = entries.as_slice().iter().map(|e| e.core).collect(alloc)?;
+        self.lists.push(turns)?;
+        Ok(())
+    }
+}
