@@ -1,3 +1,2 @@
+pub mod History
 pub mod RecordedOrder
-pub mod Logs
-pub mod Schedule

@@ -1,14 +1,2 @@
-//! What a run keeps of its accesses: the log of each core in an interval, all logs in recorded order,
-//! and the schedule of the whole run.
+//! The order in which the accesses of an interval are recorded.
 #![tactic(auto)]
-
-mod core_log;
-mod merger;
-mod schedule;
-
-pub use core_log::CoreLog;
-pub use merger::{Merger, merge};
-pub use schedule::Schedule;
-
-#[cfg(test)]
-mod tests;

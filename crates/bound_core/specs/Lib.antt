@@ -1,5 +1,9 @@
+pub mod History
+pub mod HistoryLaws
 pub mod Laws
+pub mod MachineWorld
 pub mod Port
 pub mod ReferenceMachine
+pub mod ShardWorld
 pub mod Timed
 pub mod Turn

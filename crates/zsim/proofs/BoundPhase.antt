@@ -21,7 +21,7 @@ use Rattle.zsim.specs.FlatWorld.{FlatWorld, serve}
 use Rattle.zsim.specs.IntervalWeave.{IsPlainOf}
 use Rattle.zsim.specs.Port.{AreCounted, FlatPortState}
 use Rattle.zsim.specs.Progress.{HasRoom, IsBounded, IsConnected, one_core}
-use Rattle.zsim.specs.RecordedOrder.{no_stamps}
+use Rattle.access_log.specs.RecordedOrder.{no_stamps}
 use Rattle.zsim.specs.ReferenceRun.{time_of}
 use Rattle.zsim.proofs.RecordedOrder.{in_order}
 
@@ -80,7 +80,7 @@ starts_small end c entries idle small starts few = λ k d below.
 pub bounded_as : AccessesAreFew → TurnsAreScheduled gives (λ (p : FlatPortState). p.world) serve → (machine : Machine) (image : MemoryImage) (end : ℕ) → EndsWhereAllAreOver serve (time_of machine) image end
     → (p q : Progress) (ready last : FlatPortState) → end ≤ 2 ^ 34 → HasRoom machine end p
     → (core : NumberedCore) → core.timed ≡ p.core.timed → core.number ≡ p.core.number → IsSound core.timed.core
-    → ready.world ≡ record { memory = p.port.world.memory; stamps = no_stamps machine } → ready.entries ≡ []
+    → ready.world ≡ record { memory = p.port.world.memory; stamps = no_stamps machine.l2.banks machine.cores } → ready.entries ≡ []
     → RunsToEnd (time_of machine) image end gives told core.number ready last core.timed q.core.timed
     → IsOver end q.core.timed → latest end q.core.timed ≤ latest end core.timed
     → q.port.world.memory ≡ last.world.memory → IsConnected q → AreCounted 1 last.entries

@@ -31,7 +31,7 @@ use Rattle.zsim.specs.declared.progress.Progress.{Progress}
 use Rattle.zsim.specs.declared.results.Ending.TheVariants.{Halted, Limit}
 use Rattle.zsim.specs.FlatWorld.{FlatWorld, serve}
 use Rattle.zsim.specs.Port.{FlatPortState}
-use Rattle.zsim.specs.RecordedOrder.{no_stamps, recorded_order}
+use Rattle.access_log.specs.RecordedOrder.{no_stamps, recorded_order}
 use Rattle.zsim.specs.ReferenceRun.{RunState, access_room, after_weave, at_limit, begun, end_of, ending_at, ending_before, first_state, time_of, woven_after, woven_interval}
 use Rattle.zsim.specs.Progress.{GoesOn, StandsFor, IsBounded, IsCounted, HasRoom, LeadsTo, one_core}
 
@@ -188,7 +188,7 @@ same_phase : (machine : Machine) (image : MemoryImage) (end : ℕ) (s : RunState
     ≡ Ok (one_core q.core.timed (record { memory = q.port.world.memory; stamps = b.last_stamps }) entries)
 same_phase machine image end s p q entries g b =
     let turns : List ℕ = map (λ (e : Entry). e.core) entries in
-    let from : List TimedCore → MemoryState → BoundState FlatWorld = λ cores memory. record { cores = cores; world = record { memory = memory; stamps = no_stamps machine }; entries = [] } in
+    let from : List TimedCore → MemoryState → BoundState FlatWorld = λ cores memory. record { cores = cores; world = record { memory = memory; stamps = no_stamps machine.l2.banks machine.cores }; entries = [] } in
     ap (λ (stop : ℕ). bound_phase serve (time_of machine) image stop turns (begun machine s)) (sym g.ends)
     ∙ ap (λ (cores : List TimedCore). bound_phase serve (time_of machine) image end turns (from cores s.memory)) g.come.cores
     ∙ ap (λ (memory : MemoryState). bound_phase serve (time_of machine) image end turns (from (p.core.timed ∷ []) memory)) g.come.memory

@@ -25,7 +25,7 @@ use Rattle.bound_core.proofs.Instructions.{cycle_at_most, late_stops, ran_stays}
 use Rattle.zsim.specs.declared.results.Ending.{Ending}
 use Rattle.zsim.specs.FlatWorld.{FlatWorld, serve}
 use Rattle.zsim.specs.Progress.{one_core}
-use Rattle.zsim.specs.RecordedOrder.{no_stamps, recorded_order}
+use Rattle.access_log.specs.RecordedOrder.{no_stamps, recorded_order}
 use Rattle.zsim.specs.ReferenceRun.{Illegal, IsRunOf, RunState, after_interval, after_intervals, after_weave, all_delayed, and_then, begun, end_of, ending_before, first_state, next_place, reference_run, results_at, results_of, time_of, woven_after, woven_interval}
 use Rattle.zsim.specs.Results.{Results}
 use Rattle.zsim.proofs.NextInterval.{goes_on}
@@ -188,7 +188,7 @@ abbrev IsOneCore : RunState → Type 0
 IsOneCore s = (c : TimedCore) × (s.cores ≡ c ∷ [])
 
 abbrev world_at : Machine → RunState → FlatWorld
-world_at machine s = record { memory = s.memory; stamps = no_stamps machine }
+world_at machine s = record { memory = s.memory; stamps = no_stamps machine.l2.banks machine.cores }
 
 -- the bound phase of an interval
 abbrev phase_at : Machine → MemoryImage → RunState → List ℕ → BoundState FlatWorld → Result (BoundState FlatWorld) ℕ

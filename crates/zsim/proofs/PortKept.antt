@@ -7,7 +7,7 @@ use Rattle.std.proofs.lemmas.List.Elements.{All-set}
 use Rattle.zs_num.specs.declared.entry.Entry.{Entry}
 use Rattle.zsim.specs.FlatWorld.{FlatWorld}
 use Rattle.zsim.specs.Port.{IsPort}
-use Rattle.zsim.specs.RecordedOrder.{Stamps, next_stamp, stamped}
+use Rattle.access_log.specs.RecordedOrder.{Stamps, next_stamp, stamped}
 use Rattle.zsim.proofs.RecordedOrder.{counted_more}
 
 module _ (w : FlatWorld) (entries : List Entry) (port : IsPort w entries) (bank : ℕ) where

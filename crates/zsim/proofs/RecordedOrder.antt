@@ -3,7 +3,7 @@ use Rattle.std.proofs.Common.{◌≡◌, ℕ, ◌+◌, nat_lt, true, List, [], �
 use Rattle.std.proofs.lemmas.Bool.Decides.{nat_tests}
 use Rattle.zs_num.specs.declared.entry.Entry.{Entry}
 use Rattle.zsim.specs.Port.{AreCounted}
-use Rattle.zsim.specs.RecordedOrder.{comes_before, placed, recorded_order}
+use Rattle.access_log.specs.RecordedOrder.{comes_before, placed, recorded_order}
 
 -- an access that came later
 earlier : (first : ℕ) (a b : Entry) → a.stamp ≡ first → b.stamp ≡ first + 1 → nat_lt a.stamp b.stamp ≡ true

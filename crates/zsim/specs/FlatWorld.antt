@@ -5,7 +5,7 @@ use Rattle.zs_num.specs.declared.entry.Outcome.TheVariants.{Miss}
 use Rattle.zs_num.specs.declared.request.Request.{Request}
 use Rattle.zs_num.specs.Request.{line_of}
 use Rattle.flat_memory.specs.FlatMemory.{MemoryState, after, reply_of}
-use Rattle.zsim.specs.RecordedOrder.{Stamps, next_stamp, stamped}
+use Rattle.access_log.specs.RecordedOrder.{Stamps, next_stamp, stamped}
 
 pub record FlatWorld : Type 0 where
   pub memory : MemoryState

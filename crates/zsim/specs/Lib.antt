@@ -2,7 +2,6 @@ pub mod CommandLine
 pub mod Results
 pub mod Schedule
 pub mod Limits
-pub mod RecordedOrder
 pub mod FlatWorld
 pub mod Port
 pub mod ReferenceRun

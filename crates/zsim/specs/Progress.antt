@@ -14,7 +14,7 @@ use Rattle.stats.specs.Laws.{WasRun}
 use Rattle.zsim.specs.declared.progress.Progress.{Progress}
 use Rattle.zsim.specs.FlatWorld.{FlatWorld, serve}
 use Rattle.zsim.specs.Limits.{room_beyond}
-use Rattle.zsim.specs.RecordedOrder.{Stamps, no_stamps, recorded_order}
+use Rattle.access_log.specs.RecordedOrder.{Stamps, no_stamps, recorded_order}
 use Rattle.zsim.specs.ReferenceRun.{RunState, after_interval, end_of, ending_before, time_of}
 
 -- a bound phase of one core
@@ -66,7 +66,7 @@ pub record HasRoom (machine : Machine) (end : ℕ) (p : Progress) : Type 0 where
 -- these accesses.
 pub record IsBounded (machine : Machine) (image : MemoryImage) (end : ℕ) (before after : Progress) (entries : List Entry) : Type 0 where
   pub last_stamps : Stamps
-  pub phase : bound_phase serve (time_of machine) image end (map (λ e. e.core) entries) (one_core before.core.timed (record { memory = before.port.world.memory; stamps = no_stamps machine }) [])
+  pub phase : bound_phase serve (time_of machine) image end (map (λ e. e.core) entries) (one_core before.core.timed (record { memory = before.port.world.memory; stamps = no_stamps machine.l2.banks machine.cores }) [])
       ≡ Ok (one_core after.core.timed (record { memory = after.port.world.memory; stamps = last_stamps }) entries)
   pub in_order : recorded_order entries ≡ entries
   pub cores : All (λ e. e.core ≡ 0) entries

@@ -22,7 +22,7 @@ use Rattle.bound_core.specs.ReferenceMachine.{BoundState, bound_phase}
 use Rattle.bound_core.specs.Timed.{TimedCore, delayed, first_core}
 use Rattle.flat_memory.specs.FlatMemory.{MemoryState, loaded}
 use Rattle.zsim.specs.FlatWorld.{FlatWorld, serve}
-use Rattle.zsim.specs.RecordedOrder.{no_stamps, recorded_order}
+use Rattle.access_log.specs.RecordedOrder.{no_stamps, recorded_order}
 use Rattle.zsim.specs.Results.{Results}
 
 -- a run between two intervals
@@ -63,7 +63,7 @@ after_weave machine s b = let interval = woven_interval machine s.comps (recorde
 
 -- the bound phase of the next interval begins without an access
 abbrev pub begun : Machine → RunState → BoundState FlatWorld
-begun machine s = record { cores = s.cores; world = record { memory = s.memory; stamps = no_stamps machine }; entries = [] }
+begun machine s = record { cores = s.cores; world = record { memory = s.memory; stamps = no_stamps machine.l2.banks machine.cores }; entries = [] }
 
 -- interval k, from 0, ends at (k + 1) times its length
 abbrev pub end_of : Machine → RunState → ℕ

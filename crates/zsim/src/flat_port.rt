@@ -4,7 +4,7 @@ ghost use Rattle.machine_desc.specs.Machine.{IsMachine};
 ghost use Rattle.flat_memory.specs.FlatMemory.{loaded};
 ghost use Rattle.zsim.specs.FlatWorld.{serve};
 ghost use Rattle.zsim.specs.Port.{AreCounted};
-ghost use Rattle.zsim.specs.RecordedOrder.{no_stamps};
+ghost use Rattle.access_log.specs.RecordedOrder.{no_stamps};
 
 use crate::flat_world::FlatWorld;
 use crate::limits::ROOM_BEYOND;
@@ -59,7 +59,7 @@ impl FlatPort {
     ) -> Result<(), NoMemory>
         requires machine { IsMachine machine.now }
         requires cores { machine.now.cores ≡ 1 }
-        ensures world { OnOk result (self.new.world ≡ record { memory = self.old.world.memory; stamps = no_stamps machine.now }) }
+        ensures world { OnOk result (self.new.world ≡ record { memory = self.old.world.memory; stamps = no_stamps machine.now.l2.banks machine.now.cores }) }
         ensures none { OnOk result (self.new.entries ≡ []) }
         ensures memory { self.new.world.memory ≡ self.old.world.memory }
         ensures room { OnOk result (machine.now.interval + 258 ≤ self.new.room) }

@@ -4,7 +4,7 @@ ghost use Rattle.zs_num.specs.Request.{IsServable};
 ghost use Rattle.machine_desc.specs.Machine.{IsMachine};
 ghost use Rattle.flat_memory.specs.FlatMemory.{loaded};
 ghost use Rattle.zsim.specs.FlatWorld.{bank_of, serve};
-ghost use Rattle.zsim.specs.RecordedOrder.{next_stamp, no_stamps, stamped};
+ghost use Rattle.access_log.specs.RecordedOrder.{next_stamp, no_stamps, stamped};
 
 use elf_load::Image;
 use flat_memory::FlatMemory;
@@ -33,7 +33,7 @@ impl FlatWorld {
     /// Memory as an executable was loaded into it, before the first access.
     pub fn new(alloc: Global, machine: &Machine, image: &Image) -> Result<Self, NoMemory>
         requires machine { IsMachine machine.now }
-        ensures value { IfOk result (λ w. w ≡ record { memory = loaded image.now machine.now.cores; stamps = no_stamps machine.now }) }
+        ensures value { IfOk result (λ w. w ≡ record { memory = loaded image.now machine.now.cores; stamps = no_stamps machine.now.l2.banks machine.now.cores }) }
         ensures base { IfOk result (λ w. w.memory.base ≡ image.now.base) }
         ensures size { IfOk result (λ w. length w.memory.bytes ≡ image.now.size) }
         ensures reservations { IfOk result (λ w. length w.memory.reservations ≡ machine.now.cores) }
@@ -48,7 +48,7 @@ impl FlatWorld {
     /// As before the first access of an interval on this machine.
     pub fn begin(&mut self, alloc: Global, machine: &Machine) -> Result<(), NoMemory>
         requires machine { IsMachine machine.now }
-        ensures value { OnOk result (self.new ≡ record { memory = self.old.memory; stamps = no_stamps machine.now }) }
+        ensures value { OnOk result (self.new ≡ record { memory = self.old.memory; stamps = no_stamps machine.now.l2.banks machine.now.cores }) }
         ensures memory { self.new.memory ≡ self.old.memory }
         ensures err { OnErr result (self.new ≡ self.old) }
     {

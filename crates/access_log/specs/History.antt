@@ -1,0 +1,51 @@
+-- A history: the entries of the accesses of an interval, in an order in which the turns were taken. What one core did is
+-- told by its own entries, and what one bank did by those of the bank.
+use Rattle.std.specs.Prelude.{◌≡◌, ℕ, ◌==◌, ◌%◌, List, [], ◌∷◌, map}
+use Rattle.std.specs.List.{enumerate_from, filter}
+use Rattle.zs_num.specs.Request.{line_of}
+use Rattle.zs_num.specs.declared.entry.Entry.{Entry}
+use Rattle.zs_num.specs.declared.request.Request.{Request}
+use Rattle.access_log.specs.RecordedOrder.{Stamps, next_stamp, stamped}
+
+-- the bank that has the line of a request: lines go round the banks
+abbrev pub bank_of : (banks : ℕ) → Request → ℕ
+bank_of banks request = line_of request % banks
+
+abbrev pub core_of_entry : Entry → ℕ
+core_of_entry e = e.core
+
+abbrev pub bank_of_entry : (banks : ℕ) → Entry → ℕ
+bank_of_entry banks e = bank_of banks e.request
+
+-- ---- by core and by bank
+
+-- the entries that have this number, in order
+abbrev pub numbered : (number_of : Entry → ℕ) → (number : ℕ) → List Entry → List Entry
+numbered number_of number entries = filter (λ e. number_of e == number) entries
+
+abbrev pub of_core : (core : ℕ) → List Entry → List Entry
+of_core core entries = numbered core_of_entry core entries
+
+abbrev pub of_bank : (banks bank : ℕ) → List Entry → List Entry
+of_bank banks bank entries = numbered (bank_of_entry banks) bank entries
+
+-- what a thing comes to by these entries, one after the other
+abbrev pub after_entries : {X : Type 0} → (step : X → Entry → X) → X → List Entry → X
+after_entries step x [] = x
+after_entries step x (e ∷ entries) = after_entries step (step x e) entries
+
+-- what each of a list of things comes to by the entries that have its number
+abbrev pub each_after : {X : Type 0} → (step : X → Entry → X) → (number_of : Entry → ℕ) → List Entry → List X → List X
+each_after step number_of entries xs = map (λ at. after_entries step at.1 (numbered number_of at.0 entries)) (enumerate_from 0 xs)
+
+-- ---- stamps
+
+-- the stamps after an entry
+abbrev pub stamped_by : (banks : ℕ) → Stamps → Entry → Stamps
+stamped_by banks stamps e = stamped stamps (bank_of_entry banks e) e.core e.stamp
+
+-- each entry has the stamp that follows those before it in its bank and of its core
+abbrev pub AreStamped : (banks : ℕ) → Stamps → List Entry → Type 0
+AreStamped banks stamps [] = Unit {0}
+AreStamped banks stamps (e ∷ entries) =
+    (e.stamp ≡ next_stamp stamps (bank_of_entry banks e) e.core) × AreStamped banks (stamped_by banks stamps e) entries

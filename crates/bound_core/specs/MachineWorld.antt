@@ -1,0 +1,50 @@
+-- What serves the accesses of the machine of one thread: flat memory, the cache lists of the whole machine, and the stamps.
+use Rattle.std.specs.Prelude.{ℕ, length}
+use Rattle.zs_num.specs.declared.entry.Entry.{Entry}
+use Rattle.zs_num.specs.declared.request.Request.{Request}
+use Rattle.elf_load.specs.MemoryImage.{MemoryImage}
+use Rattle.machine_desc.specs.declared.machine.Machine.{Machine}
+use Rattle.flat_memory.specs.FlatMemory.{MemoryState, after, loaded, reply_of}
+use Rattle.shard.specs.Coherence.{Caches, after_access, empty_caches, outcome_of}
+use Rattle.access_log.specs.History.{bank_of}
+use Rattle.access_log.specs.RecordedOrder.{Stamps, next_stamp, no_stamps, stamped}
+
+pub record MachineWorld : Type 0 where
+  pub memory : MemoryState
+  -- those of one shard, which has all lines
+  pub caches : Caches
+  pub stamps : Stamps
+
+-- the bank of a request: there are as many as have a stamp
+abbrev pub bank_for : MachineWorld → Request → ℕ
+bank_for w request = bank_of (length w.stamps.banks) request
+
+-- the access of a core that starts then, as it is recorded
+abbrev pub recorded : MachineWorld → (core start : ℕ) → Request → Entry
+recorded w core start request = record {
+  core = core;
+  stamp = next_stamp w.stamps (bank_for w request) core;
+  start = start;
+  request = request;
+  reply = reply_of w.memory core request;
+  outcome = outcome_of w.caches core request;
+}
+
+-- the access, and the world after it
+unfoldable pub serve : MachineWorld → (core start : ℕ) → Request → Entry × MachineWorld
+serve w core start request = let e = recorded w core start request in (
+  e,
+  record {
+    memory = after w.memory core request;
+    caches = after_access w.caches core request;
+    stamps = stamped w.stamps (bank_for w request) core e.stamp;
+  },
+)
+
+-- before the first access of a run
+abbrev pub first_world : Machine → MemoryImage → MachineWorld
+first_world machine image = record {
+  memory = loaded image machine.cores;
+  caches = empty_caches machine.cores 1 machine.l1.sets machine.l1.ways machine.l2.sets machine.l2.ways;
+  stamps = no_stamps machine.l2.banks machine.cores;
+}

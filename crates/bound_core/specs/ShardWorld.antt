@@ -1,0 +1,49 @@
+-- What serves the accesses of cores to shards: each access goes to the shard of its line.
+use Rattle.std.specs.Prelude.{ℕ, ◌+◌, max, List, [], length, replicate, slice_index, slice_index_or, slice_set}
+use Rattle.zs_num.specs.declared.entry.Entry.{Entry}
+use Rattle.zs_num.specs.declared.entry.Outcome.TheVariants.{Hit}
+use Rattle.zs_num.specs.declared.request.Request.{Request}
+use Rattle.shard.specs.Coherence.{empty_caches}
+use Rattle.shard.specs.Served.{ShardState, after, met_by, reply_of}
+use Rattle.access_log.specs.History.{bank_of}
+
+pub record ShardWorld : Type 0 where
+  -- in order of their numbers
+  pub shards : List ShardState
+  -- the stamp of each core's latest access
+  pub stamps : List ℕ
+
+-- before the first access of an interval, where the last stamps of the shards are 0
+abbrev pub begun_world : (cores : ℕ) → List ShardState → ShardWorld
+begun_world cores shards = record { shards = shards; stamps = replicate cores 0 }
+
+-- a shard whose last stamp is 0
+abbrev pub restarted : ShardState → ShardState
+restarted shard = record shard { last = 0 }
+
+-- it stands where there is no shard
+abbrev pub no_shard : ShardState
+no_shard = record { number = 0; base = 0; size = 0; caches = empty_caches 0 0 0 0 0 0; bytes = []; marks = []; last = 0 }
+
+-- the shard of a request, and its number
+abbrev pub number_for : List ShardState → Request → ℕ
+number_for shards request = bank_of (length shards) request
+
+abbrev pub shard_for : List ShardState → Request → ShardState
+shard_for shards request = slice_index_or shards (number_for shards request) no_shard
+
+-- an access that has its stamp and is not served yet
+abbrev pub asked : (core stamp start : ℕ) → Request → Entry
+asked core stamp start request = record { core = core; stamp = stamp; start = start; request = request; reply = 0; outcome = Hit }
+
+-- the access of a core with this latest stamp that starts then, as the shard records it
+abbrev pub recorded : ShardState → (latest core start : ℕ) → Request → Entry
+recorded shard latest core start request = let e = asked core (max shard.last latest + 1) start request in
+    record e { reply = reply_of shard e; outcome = met_by shard e }
+
+-- the access, and the world after it
+unfoldable pub serve : ShardWorld → (core start : ℕ) → Request → Entry × ShardWorld
+serve w core start request =
+    let shard = shard_for w.shards request in
+    let e = recorded shard (slice_index w.stamps core) core start request in
+    (e, record { shards = slice_set w.shards (number_for w.shards request) (after shard e); stamps = slice_set w.stamps core e.stamp })
