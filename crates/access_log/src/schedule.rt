@@ -1,5 +1,6 @@
 // The schedule of a run: for each interval the numbers of the cores, in the order of their accesses.
-ghost use Rattle.std.specs.Prelude.{◌≡◌, ◌<◌, ◌+◌, ◌-◌, ◌^◌, [], ◌∷◌, ◌++◌, All, Some, length, map, slice_get, OnOk, OnErr};
+ghost use Rattle.access_log.specs.Schedule.{AreTurns};
+ghost use Rattle.std.specs.Prelude.{◌≡◌, ◌<◌, ◌+◌, ◌-◌, ◌^◌, [], ◌∷◌, ◌++◌, All, Some, length, map, slice_get, vec_len, OnOk, OnErr};
 
 use std::alloc::Global;
 use std::marker::Model;
@@ -13,14 +14,14 @@ pub struct Schedule {
 }
 
 impl Model for Schedule {
-    ghost use Rattle.std.specs.Prelude.{◌≤◌, ◌-◌, ◌^◌, ◌<◌, map, vec_len};
-    ghost use Rattle.access_log.specs.Schedule.{IntervalLists};
+    ghost use Rattle.std.specs.Prelude.{◌^◌, ◌<◌, map, vec_len};
+    ghost use Rattle.access_log.specs.Schedule.{AreTurns, IntervalLists};
 
     ghost Value = { IntervalLists };
 
     ghost view = { λ s. record { cores = s.cores; lists = map (λ v. v.items) s.lists.items } };
 
-    ghost invariant = { λ s. vec_len s.lists < 2 ^ 32 };
+    ghost invariant = { λ s. AreTurns (record { cores = s.cores; lists = map (λ v. v.items) s.lists.items }) };
 }
 
 impl Schedule {
@@ -43,7 +44,8 @@ impl Schedule {
 
     /// How many intervals there are.
     pub fn intervals(&self) -> u32
-        ensures { result ≡ length self.now.lists }
+        ensures value { result ≡ length self.now.lists }
+        ensures turns { AreTurns self.now }
     {
         self.lists.len() as u32
     }
@@ -56,6 +58,19 @@ impl Schedule {
         &self.lists[k as usize]
     }
 
+    /// Adds an interval with these turns.
+    pub fn push(&mut self, turns: Vec<u16>) -> Result<(), NoMemory>
+        requires cores { All (λ core. core < self.old.cores) turns.items }
+        requires count { vec_len turns < 2 ^ 32 }
+        requires room { length self.old.lists < 2 ^ 32 - 1 }
+        ensures cores { self.new.cores ≡ self.old.cores }
+        ensures ok { OnOk result (self.new.lists ≡ self.old.lists ++ turns.items ∷ []) }
+        ensures err { OnErr result (self.new ≡ self.old) }
+    {
+        self.lists.push(turns)?;
+        Ok(())
+    }
+
     /// Adds an interval: the cores of its accesses, which are in recorded order.
     pub fn add(&mut self, alloc: Global, entries: &Entries) -> Result<(), NoMemory>
         requires cores { All (λ e. e.core < self.old.cores) entries.now }
@@ -66,7 +81,6 @@ impl Schedule {
         ensures err { OnErr result (self.new ≡ self.old) }
     {
         let turns = entries.as_slice().iter().map(|e| e.core).collect(alloc)?;
-        self.lists.push(turns)?;
-        Ok(())
+        self.push(turns)
     }
 }

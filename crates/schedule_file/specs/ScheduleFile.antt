@@ -1,0 +1,81 @@
+-- The file of a schedule. Numbers have four bytes, the lowest first.
+use Rattle.std.specs.Prelude.{◌≡◌, ℕ, zero, suc, ◌+◌, ◌==◌, nat_le, if◌then◌else◌, List, [], ◌∷◌, ◌++◌, length, codes, take, drop, Option, Some, None, Result, Ok, Err}
+use Rattle.std.specs.List.{flat_map, position}
+use Rattle.std.specs.Str.{bytes_eq}
+use Rattle.byteorder.specs.Endian.{little_bytes, little_number}
+use Rattle.access_log.specs.Schedule.{IntervalLists}
+use Rattle.schedule_file.specs.declared.bad_schedule.BadSchedule.{BadSchedule}
+use Rattle.schedule_file.specs.declared.bad_schedule.BadSchedule.TheVariants as bad
+use Rattle.schedule_file.specs.declared.bad_schedule.ScheduleReadFail.{ScheduleReadFail}
+use Rattle.schedule_file.specs.declared.bad_schedule.ScheduleReadFail.TheVariants as fail
+
+abbrev pub magic : List ℕ
+magic = codes "ZSCH"
+
+-- ---- written
+
+-- how many turns an interval has, and the core of each
+abbrev pub list_bytes : List ℕ → List ℕ
+list_bytes turns = little_bytes 4 (length turns) ++ turns
+
+-- the magic, the version, how many cores there are, and how many intervals
+unfoldable pub header_bytes : IntervalLists → List ℕ
+header_bytes s = magic ++ (little_bytes 4 1 ++ (little_bytes 4 s.cores ++ little_bytes 4 (length s.lists)))
+
+-- the header, and the list of each interval
+abbrev pub file_of : IntervalLists → List ℕ
+file_of s = header_bytes s ++ flat_map list_bytes s.lists
+
+-- ---- read, from front to back
+
+-- so many bytes of a file from a place on, or that they do not lie wholly in it
+abbrev pub field_at : (bytes : List ℕ) → (at count : ℕ) → Result (List ℕ) BadSchedule
+field_at bytes at count = if nat_le (at + count) (length bytes) then Ok (take count (drop at bytes)) else Err (bad.Short at)
+
+-- what follows, unless something was wrong
+abbrev pub then_read : {A B : Type 0} → Result A BadSchedule → (A → Result B BadSchedule) → Result B BadSchedule
+then_read (Ok x) f = f x
+then_read (Err wrong) f = Err wrong
+
+-- the number at a place
+abbrev pub number_at : (bytes : List ℕ) → (at : ℕ) → Result ℕ BadSchedule
+number_at bytes at = then_read (field_at bytes at 4) (λ field. Ok (little_number 4 field))
+
+-- a list of turns, or the first place that names no core
+abbrev pub known_turns : (interval : ℕ) → (stranger : Option ℕ) → List ℕ → Result (List ℕ) BadSchedule
+known_turns interval None turns = Ok turns
+known_turns interval (Some place) turns = Err (bad.Core interval place)
+
+-- the list of an interval, which begins at a place
+unfoldable pub turns_at : (cores : ℕ) → (bytes : List ℕ) → (interval at : ℕ) → Result (List ℕ) BadSchedule
+turns_at cores bytes interval at =
+    then_read (number_at bytes at) (λ count.
+    then_read (field_at bytes (at + 4) count) (λ turns. known_turns interval (position (nat_le cores) turns) turns))
+
+-- so many lists from a place on, the first of which is of this interval, and then the end of the file
+abbrev pub lists_from : (cores : ℕ) → (bytes : List ℕ) → (count interval at : ℕ) → Result (List (List ℕ)) BadSchedule
+lists_from cores bytes zero interval at = if at == length bytes then Ok [] else Err (bad.After at)
+lists_from cores bytes (suc count) interval at =
+    then_read (turns_at cores bytes interval at) (λ turns.
+    then_read (lists_from cores bytes count (interval + 1) (at + (4 + length turns))) (λ lists. Ok (turns ∷ lists)))
+
+-- how many intervals the header tells, of a file for so many cores
+unfoldable pub count_of : (cores : ℕ) → (bytes : List ℕ) → Result ℕ BadSchedule
+count_of cores bytes =
+    then_read (field_at bytes 0 4) (λ found_magic. if bytes_eq found_magic magic then
+    then_read (number_at bytes 4) (λ version. if version == 1 then
+    then_read (number_at bytes 8) (λ found. if found == cores then number_at bytes 12 else Err (bad.Cores found))
+    else Err (bad.Version version))
+    else Err bad.Magic)
+
+-- what a file for so many cores says, or the first thing that is wrong with it
+unfoldable pub schedule_of : (cores : ℕ) → (bytes : List ℕ) → Result IntervalLists BadSchedule
+schedule_of cores bytes =
+    then_read (count_of cores bytes) (λ count.
+    then_read (lists_from cores bytes count 0 16) (λ lists. Ok (record { cores = cores; lists = lists })))
+
+-- the answer of a call that may also run out of memory, with what its result is seen as
+abbrev pub AnswersAs : {A B : Type 0} → (A → B) → Result A ScheduleReadFail → Result B BadSchedule → Type 0
+AnswersAs seen_as (Ok x) answer = answer ≡ Ok (seen_as x)
+AnswersAs seen_as (Err (fail.Bad wrong)) answer = answer ≡ Err wrong
+AnswersAs seen_as (Err fail.NoMemory) answer = Unit {0}

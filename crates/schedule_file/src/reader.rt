@@ -1,0 +1,123 @@
+// Reads a schedule from front to back.
+ghost use Rattle.std.specs.Prelude.{◌≡◌, ◌≤◌, ◌<◌, ◌+◌, ◌^◌, All, length, take, drop, vec_len, nat_le, IfOk, IfErr, IfSome, Ok, Err, None};
+ghost use Rattle.std.specs.List.{position};
+ghost use Rattle.schedule_file.specs.ScheduleFile.{field_at, number_at, schedule_of, turns_at, count_of, AnswersAs};
+
+use crate::{BadSchedule, MAGIC, ScheduleReadFail, VERSION};
+use access_log::Schedule;
+use byteorder::{ByteOrder, LittleEndian};
+use std::alloc::Global;
+use zs_num::NoMemory;
+
+// Where the lists of the intervals begin.
+const HEADER_LEN: usize = 16;
+
+/// The schedule of a file for a machine of so many cores, at most 64, or the first thing that is wrong
+/// with the file.
+#[tactic(auto, unfolding(crate::specs::ScheduleFile::schedule_of))]
+pub fn read(alloc: Global, bytes: &[u8], cores: u16) -> Result<Schedule, ScheduleReadFail>
+    requires { cores ≤ 64 }
+    ensures { AnswersAs (λ s. s) result (schedule_of cores bytes.now) }
+{
+    let count = intervals(bytes, cores)?;
+    let mut schedule = Schedule::new(alloc, cores);
+    let mut at = HEADER_LEN;
+    for interval in 0..count {
+        let turns = turns(alloc, bytes, cores, interval, at)?;
+        at += 4 + turns.len();
+        schedule.push(turns)?;
+    }
+    if at == bytes.len() {
+        Ok(schedule)
+    } else {
+        Err(BadSchedule::After { at: at as u64 }.into())
+    }
+}
+
+// How many intervals the header tells, of a schedule for so many cores.
+#[tactic(auto, unfolding(crate::specs::ScheduleFile::count_of))]
+fn intervals(bytes: &[u8], cores: u16) -> Result<u32, BadSchedule>
+    ensures value { result ≡ count_of cores bytes.now }
+    ensures within { IfOk result (λ count. 16 ≤ length bytes.now) }
+{
+    if field(bytes, 0, MAGIC.len())? != MAGIC.as_slice() {
+        return Err(BadSchedule::Magic);
+    }
+    let version = number(bytes, 4)?;
+    if version != VERSION {
+        return Err(BadSchedule::Version { found: version });
+    }
+    let found = number(bytes, 8)?;
+    if found != u32::from(cores) {
+        return Err(BadSchedule::Cores { found });
+    }
+    number(bytes, 12)
+}
+
+// The list of an interval, which begins at this byte.
+#[tactic(auto, unfolding(crate::specs::ScheduleFile::turns_at))]
+fn turns(
+    alloc: Global,
+    bytes: &[u8],
+    cores: u16,
+    interval: u32,
+    at: usize,
+) -> Result<Vec<u16>, ScheduleReadFail>
+    requires cores { cores ≤ 64 }
+    requires place { at ≤ length bytes.now }
+    ensures known { IfOk result (λ v. All (λ core. core < cores) v.items) }
+    ensures within { IfOk result (λ v. at + (4 + vec_len v) ≤ length bytes.now) }
+    ensures short { IfOk result (λ v. vec_len v < 2 ^ 32) }
+    ensures turns { AnswersAs (λ v. v.items) result (turns_at cores bytes.now interval at) }
+{
+    let count = number(bytes, at)? as usize;
+    let list = field(bytes, at + 4, count)?;
+    match stranger(list, cores) {
+        Some(place) => Err(BadSchedule::Core {
+            interval,
+            place: place as u32,
+        }
+        .into()),
+        None => Ok(widened(alloc, list)?),
+    }
+}
+
+// The first place of a list whose number is that of no core.
+fn stranger(list: &[u8], cores: u16) -> Option<usize>
+    ensures value { result ≡ position (nat_le cores) list.now }
+    ensures bound { IfSome result (λ place. place < length list.now) }
+    ensures none { result ≡ None → All (λ core. core < cores) list.now }
+{
+    list.iter().position(|core| cores <= u16::from(*core))
+}
+
+// The numbers of a list of bytes.
+fn widened(alloc: Global, list: &[u8]) -> Result<Vec<u16>, NoMemory>
+    ensures { IfOk result (λ wide. wide.items ≡ list.now) }
+{
+    let wide = list.iter().map(|core| u16::from(*core)).collect(alloc)?;
+    Ok(wide)
+}
+
+// The number at this byte.
+fn number(bytes: &[u8], at: usize) -> Result<u32, BadSchedule>
+    requires { at ≤ length bytes.now + 16 }
+    ensures value { result ≡ number_at bytes.now at }
+    ensures within { IfOk result (λ number. at + 4 ≤ length bytes.now) }
+{
+    Ok(LittleEndian::read_u32(field(bytes, at, 4)?))
+}
+
+// So many bytes from this one on.
+fn field(bytes: &[u8], at: usize, count: usize) -> Result<&[u8], BadSchedule>
+    requires place { at ≤ length bytes.now + 16 }
+    requires count { count < 2 ^ 32 }
+    ensures ok { IfOk result (λ field. field_at bytes.now at count ≡ Ok field.now) }
+    ensures err { IfErr result (λ wrong. field_at bytes.now at count ≡ Err wrong) }
+{
+    if at + count <= bytes.len() {
+        Ok(&bytes[at..at + count])
+    } else {
+        Err(BadSchedule::Short { at: at as u64 })
+    }
+}

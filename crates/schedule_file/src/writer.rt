@@ -1,0 +1,53 @@
+// Writes a schedule.
+ghost use Rattle.std.specs.Prelude.{◌≡◌, ◌≤◌, ◌<◌, ◌^◌, ◌++◌, All, length, IfOk, OnOk};
+ghost use Rattle.byteorder.specs.Endian.{little_bytes};
+ghost use Rattle.schedule_file.specs.ScheduleFile.{file_of, header_bytes, list_bytes};
+
+use crate::{MAGIC, VERSION};
+use access_log::Schedule;
+use std::alloc::Global;
+use zs_num::{Bytes, NoMemory};
+
+/// The file of a schedule of at most 64 cores.
+pub fn write(alloc: Global, s: &Schedule) -> Result<Bytes, NoMemory>
+    requires { s.now.cores ≤ 64 }
+    ensures { IfOk result (λ bytes. bytes ≡ file_of s.now) }
+{
+    let mut out = header(alloc, s)?;
+    for k in 0..s.intervals() {
+        put_list(&mut out, s.list(k))?;
+    }
+    Ok(Bytes::of(out))
+}
+
+// The magic, the version, how many cores there are, and how many intervals.
+#[tactic(auto, unfolding(crate::specs::ScheduleFile::header_bytes))]
+fn header(alloc: Global, s: &Schedule) -> Result<Vec<u8>, NoMemory>
+    ensures { IfOk result (λ out. out.items ≡ header_bytes s.now) }
+{
+    let mut out = Vec::from_slice(alloc, &MAGIC)?;
+    put_number(&mut out, VERSION)?;
+    put_number(&mut out, u32::from(s.cores()))?;
+    put_number(&mut out, s.intervals())?;
+    Ok(out)
+}
+
+fn put_number(out: &mut Vec<u8>, number: u32) -> Result<(), NoMemory>
+    ensures { OnOk result (out.new.items ≡ out.old.items ++ little_bytes 4 number) }
+{
+    out.extend_from_slice(&number.to_le_bytes())?;
+    Ok(())
+}
+
+// How many turns a list has, and the core of each in a byte.
+fn put_list(out: &mut Vec<u8>, turns: &[u16]) -> Result<(), NoMemory>
+    requires bytes { All (λ core. core < 256) turns.now }
+    requires count { length turns.now < 2 ^ 32 }
+    ensures { OnOk result (out.new.items ≡ out.old.items ++ list_bytes turns.now) }
+{
+    put_number(out, turns.len() as u32)?;
+    for core in turns {
+        out.push(*core as u8)?;
+    }
+    Ok(())
+}
