@@ -1,7 +1,7 @@
 -- A history: the entries of the accesses of an interval, in an order in which the turns were taken. What one core did is
 -- told by its own entries, and what one bank did by those of the bank.
 use Rattle.std.specs.Prelude.{◌≡◌, ℕ, ◌==◌, ◌%◌, List, [], ◌∷◌, map}
-use Rattle.std.specs.List.{enumerate_from, filter}
+use Rattle.std.specs.List.{enumerate_from, filter, fold}
 use Rattle.zs_num.specs.Request.{line_of}
 use Rattle.zs_num.specs.declared.entry.Entry.{Entry}
 use Rattle.zs_num.specs.declared.request.Request.{Request}
@@ -29,14 +29,9 @@ of_core core entries = numbered core_of_entry core entries
 abbrev pub of_bank : (banks bank : ℕ) → List Entry → List Entry
 of_bank banks bank entries = numbered (bank_of_entry banks) bank entries
 
--- what a thing comes to by these entries, one after the other
-abbrev pub after_entries : {X : Type 0} → (step : X → Entry → X) → X → List Entry → X
-after_entries step x [] = x
-after_entries step x (e ∷ entries) = after_entries step (step x e) entries
-
--- what each of a list of things comes to by the entries that have its number
+-- what each of a list of things comes to by the entries that have its number, one after the other
 abbrev pub each_after : {X : Type 0} → (step : X → Entry → X) → (number_of : Entry → ℕ) → List Entry → List X → List X
-each_after step number_of entries xs = map (λ at. after_entries step at.1 (numbered number_of at.0 entries)) (enumerate_from 0 xs)
+each_after step number_of entries xs = map (λ at. fold step at.1 (numbered number_of at.0 entries)) (enumerate_from 0 xs)
 
 -- ---- stamps
 
@@ -49,3 +44,10 @@ abbrev pub AreStamped : (banks : ℕ) → Stamps → List Entry → Type 0
 AreStamped banks stamps [] = Unit {0}
 AreStamped banks stamps (e ∷ entries) =
     (e.stamp ≡ next_stamp stamps (bank_of_entry banks e) e.core) × AreStamped banks (stamped_by banks stamps e) entries
+
+-- ---- another order
+
+-- the same entries of each core and of each bank, in the same order
+pub record HasSameFilters (banks : ℕ) (entries others : List Entry) : Type 0 where
+  pub core : (number : ℕ) → of_core number others ≡ of_core number entries
+  pub bank : (number : ℕ) → of_bank banks number others ≡ of_bank banks number entries

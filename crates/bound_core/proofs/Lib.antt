@@ -1,5 +1,10 @@
 pub mod Accesses
+pub mod Histories
+pub mod HistoryTurn
 pub mod Instructions
+pub mod IntervalHistory
 pub mod Lists
+pub mod Numbered
 pub mod Phase
+pub mod PhaseHistories
 pub mod Turns

@@ -16,11 +16,13 @@ module _ (time : Entry → ℕ) (image : MemoryImage) (end : ℕ) where
   HistoriesArePhases = (cores : List TimedCore) (shards : List ShardState) (entries : List Entry) → IsHistory time image end cores shards entries
       → bound_phase serve time image end (map (λ e. e.core) entries) (begun cores shards) ≡ Ok (after_history time image end cores shards entries)
 
-  -- A bound phase gives a history, and its schedule is that of the entries' cores.
+  -- Every bound phase is one of a history, and its schedule is that of the entries' cores.
   abbrev pub PhasesAreHistories : Type 0
   PhasesAreHistories = (cores : List TimedCore) (shards : List ShardState) (numbers : List ℕ) (s : BoundState ShardWorld)
       → 0 < length shards → All (λ shard. shard.last ≡ 0) shards → bound_phase serve time image end numbers (begun cores shards) ≡ Ok s
-      → IsHistory time image end cores shards s.entries × (numbers ≡ map (λ e. e.core) s.entries)
+      → IsHistory time image end cores shards s.entries
+      × (numbers ≡ map (λ e. e.core) s.entries)
+      × (s ≡ after_history time image end cores shards s.entries)
 
   -- The entries in recorded order are a history too, and leave the same cores and shards.
   abbrev pub RecordedOrderIsHistory : Type 0

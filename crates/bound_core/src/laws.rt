@@ -3,6 +3,7 @@ ghost use Rattle.std.specs.Prelude.{◌≡◌, ℕ};
 ghost use Rattle.zs_num.specs.declared.entry.Entry.{Entry};
 ghost use Rattle.zs_num.specs.declared.request.Request.{Request};
 ghost use Rattle.elf_load.specs.MemoryImage.{MemoryImage};
+ghost use Rattle.bound_core.specs.HistoryLaws.{HistoriesArePhases, PhasesAreHistories, RecordedOrderIsHistory};
 ghost use Rattle.bound_core.specs.Laws.{AccessesAreFew, EndsWhereAllAreOver, LocalInstructionsAreAlone, TurnIsScheduled, TurnsAreScheduled};
 
 use crate::Port;
@@ -33,3 +34,23 @@ pub fn turns_are_scheduled<Q: Port, World>()
     ensures to_end { (world : Q → World) (serve : World → (core start : ℕ) → Request → Entry × World)
         → TurnsAreScheduled Q.gives world serve }
 {}
+
+/// A history of an interval is a bound phase: whatever the order in which the cores took their turns at
+/// the shards, the schedule of the entries' cores is legal, and gives these entries, these cores and
+/// these shards.
+pub fn histories_are_phases()
+    ensures { (time : Entry → ℕ) (image : MemoryImage) (end : ℕ) → HistoriesArePhases time image end }
+{}
+
+/// The entries of every bound phase over shards are a history.
+pub fn phases_are_histories()
+    ensures { (time : Entry → ℕ) (image : MemoryImage) (end : ℕ) → PhasesAreHistories time image end }
+{}
+
+/// The entries of a history in recorded order are a history of the same cores and shards. So the turns
+/// in recorded order are legal, and leave what the turns left as they were taken.
+pub fn recorded_order_is_a_history()
+    ensures { (time : Entry → ℕ) (image : MemoryImage) (end : ℕ) → RecordedOrderIsHistory time image end }
+{
+    access_log::laws::recorded_order_keeps_the_stamps();
+}
