@@ -26,7 +26,7 @@ pub record IsReady (s : BoundState ShardWorld) : Type 0 where
   pub some : 0 < length s.world.shards
   pub stamps : length s.world.stamps ≡ length s.cores
 
-after_last : (shard : ShardState) (e : Entry) → (after shard e).last ≡ e.stamp
+pub after_last : (shard : ShardState) (e : Entry) → (after shard e).last ≡ e.stamp
 unfolding after
 after_last shard e = refl
 

@@ -1,10 +1,16 @@
 pub mod Accesses
+pub mod CoreKept
 pub mod Histories
 pub mod HistoryTurn
 pub mod Instructions
 pub mod IntervalHistory
 pub mod Lists
+pub mod MachineRuns
 pub mod Numbered
+pub mod Pairings
 pub mod Phase
 pub mod PhaseHistories
+pub mod ShardKept
+pub mod ShardsTurn
+pub mod Simulation
 pub mod Turns

@@ -1,9 +1,11 @@
 pub mod History
 pub mod HistoryLaws
 pub mod Laws
+pub mod MachineOfShards
 pub mod MachineWorld
 pub mod Port
 pub mod ReferenceMachine
 pub mod ShardWorld
+pub mod Simulation
 pub mod Timed
 pub mod Turn

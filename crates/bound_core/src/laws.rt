@@ -5,6 +5,7 @@ ghost use Rattle.zs_num.specs.declared.request.Request.{Request};
 ghost use Rattle.elf_load.specs.MemoryImage.{MemoryImage};
 ghost use Rattle.bound_core.specs.HistoryLaws.{HistoriesArePhases, PhasesAreHistories, RecordedOrderIsHistory};
 ghost use Rattle.bound_core.specs.Laws.{AccessesAreFew, EndsWhereAllAreOver, LocalInstructionsAreAlone, TurnIsScheduled, TurnsAreScheduled};
+ghost use Rattle.bound_core.specs.MachineOfShards.{HistoriesAreRunsOfTheMachine, ShardsDoAsTheMachine, ShardsStandForAMachine};
 
 use crate::Port;
 
@@ -53,4 +54,24 @@ pub fn recorded_order_is_a_history()
     ensures { (time : Entry → ℕ) (image : MemoryImage) (end : ℕ) → RecordedOrderIsHistory time image end }
 {
     access_log::laws::recorded_order_keeps_the_stamps();
+}
+
+/// Where cores and shards stand for a machine, every bound phase over the shards is that of the machine,
+/// and so is every place at which a schedule is not legal.
+pub fn shards_do_as_the_machine()
+    ensures { ShardsStandForAMachine → (time : Entry → ℕ) (image : MemoryImage) (end : ℕ) → ShardsDoAsTheMachine time image end }
+{
+    rv_core::laws::cores_stay_sound();
+    rv_core::laws::accesses_are_paired_right();
+    shard::laws::marks();
+}
+
+/// Whatever the order in which cores took their turns at the shards, in recorded order the entries are a
+/// run of the machine of one thread for which the cores and the shards stand.
+pub fn histories_are_runs_of_the_machine()
+    ensures { ShardsStandForAMachine → (time : Entry → ℕ) (image : MemoryImage) (end : ℕ) → HistoriesAreRunsOfTheMachine time image end }
+{
+    recorded_order_is_a_history();
+    histories_are_phases();
+    shards_do_as_the_machine();
 }

@@ -1,0 +1,61 @@
+-- What local instructions and replies leave of a core: it stays sound, and its memory where it is.
+use Rattle.std.proofs.Common.{◌≡◌, ℕ, zero, suc, ◌-◌, ◌&&◌, nat_lt, Bool, true, false, Option, Some, None, refl, sym, ◌∙◌, ap, subst, inl, inr}
+use Rattle.std.proofs.lemmas.Bool.{and_parts, cases_Bool}
+use Rattle.zs_num.specs.declared.entry.Entry.{Entry}
+use Rattle.zs_num.specs.declared.request.Request.{Request}
+use Rattle.elf_load.specs.MemoryImage.{MemoryImage}
+use Rattle.rv_core.specs.CoreState.{CoreState, InProgress}
+use Rattle.rv_core.specs.Pairing.{IsPairedRight, pairing_after}
+use Rattle.rv_core.specs.Sound.{IsSound}
+use Rattle.rv_core.specs.Step.{advanced, answered, executed, is_free}
+use Rattle.bound_core.specs.Timed.{TimedCore, after_access, after_instruction, after_instructions, asks, goes_on_alone, next_request, ran_to}
+
+-- the laws of a core
+pub record CoreLaws : Type 0 where
+  pub advanced_sound : (image : MemoryImage) (core : CoreState) → IsSound core → IsSound (advanced image core)
+  pub advanced_memory : (image : MemoryImage) (core : CoreState) → IsSound core → (advanced image core).memory ≡ core.memory
+  pub advanced_pairing : (image : MemoryImage) (core : CoreState) → IsSound core → (advanced image core).pairing ≡ core.pairing
+  pub answered_sound : (reply : ℕ) (core : CoreState) → IsSound core → IsSound (answered reply core)
+  pub answered_memory : (reply : ℕ) (core : CoreState) → IsSound core → (answered reply core).memory ≡ core.memory
+  pub answered_pairing : (reply : ℕ) (core : CoreState) (now : InProgress) → IsSound core → core.instruction ≡ Some now → (answered reply core).pairing ≡ pairing_after core.pairing now.next
+  pub paired_right : (core : CoreState) (now : InProgress) → IsSound core → core.instruction ≡ Some now → IsPairedRight core.pairing now.next
+
+-- the core stays sound, and its memory and its pairing stay
+pub record StaysSound (core after : CoreState) : Type 0 where
+  pub sound : IsSound after
+  pub memory : after.memory ≡ core.memory
+  pub pairing : after.pairing ≡ core.pairing
+
+then_stays : (a b c : CoreState) → StaysSound a b → StaysSound b c → StaysSound a c
+then_stays a b c one two = record { sound = two.sound; memory = two.memory ∙ one.memory; pairing = two.pairing ∙ one.pairing }
+
+-- what a core waits for
+pub waits_for : (instruction : Option InProgress) (request : Request) → next_request instruction ≡ Some request → (now : InProgress) × (instruction ≡ Some now) × (now.next ≡ request)
+waits_for None request asked = cc
+waits_for (Some now) request asked = (now, refl, cc)
+
+module _ (laws : CoreLaws) (image : MemoryImage) where
+  free_advances : (core : CoreState) → is_free core ≡ true → advanced image core ≡ executed image core
+  free_advances core free = rw free refl
+
+  instruction_stays : (c : TimedCore) → IsSound c.core → is_free c.core ≡ true → StaysSound c.core (after_instruction image c).core
+  unfolding after_instruction
+  instruction_stays c sound free =
+      subst (StaysSound c.core) (free_advances c.core free) (record {
+        sound = laws.advanced_sound image c.core sound;
+        memory = laws.advanced_memory image c.core sound;
+        pairing = laws.advanced_pairing image c.core sound;
+      })
+
+  instructions_stay : (n end : ℕ) (c : TimedCore) → IsSound c.core → StaysSound c.core (after_instructions n image end c).core
+  instructions_stay zero end c sound = record { sound = sound; memory = refl; pairing = refl }
+  instructions_stay (suc n) end c sound =
+      elim (cases_Bool (goes_on_alone end c)) as (λ _. StaysSound c.core (after_instructions (suc n) image end c).core) [
+        | inl on ↦
+            let one : StaysSound c.core (after_instruction image c).core = instruction_stays c sound (and_parts (is_free c.core) (nat_lt c.clock end) on).0 in
+            rw on (then_stays c.core (after_instruction image c).core (after_instructions n image end (after_instruction image c)).core one (instructions_stay n end (after_instruction image c) one.sound))
+        | inr off ↦ rw off (record { sound = sound; memory = refl; pairing = refl })
+      ]
+
+  pub ran_stays_sound : (end : ℕ) (c : TimedCore) → IsSound c.core → StaysSound c.core (ran_to image end c).core
+  ran_stays_sound end c sound = instructions_stay (suc (end - c.clock)) end c sound

@@ -1,0 +1,38 @@
+-- The pairings of cores, as the shards' marks speak of them.
+use Rattle.std.proofs.Common.{◌≡◌, ℕ, List, [], ◌∷◌, map, Option, Some, None, refl, sym, ◌∙◌, ap}
+use Rattle.std.specs.Prelude.{slice_get, slice_set}
+use Rattle.std.specs.Option.{option_map}
+use Rattle.std.proofs.lemmas.List.{map-set}
+use Rattle.std.proofs.lemmas.Option.{get_or_from_slice_get, slice_get-map}
+use Rattle.zs_num.specs.declared.request.Request.{Request}
+use Rattle.zs_num.specs.declared.request.Request.TheVariants.{Load, Store, Lr, Sc, Amo}
+use Rattle.rv_core.specs.declared.pairing.Pairing.{Pairing}
+use Rattle.rv_core.specs.Pairing as core
+use Rattle.flat_memory.specs.declared.reservation.Reservation.{Reservation}
+use Rattle.flat_memory.specs.FlatMemory.{is_reservation}
+use Rattle.shard.specs.Marks.{IsPairedRight, pairing_after, pairing_of}
+use Rattle.bound_core.specs.MachineOfShards.{bytes_of, pairings_of}
+use Rattle.bound_core.specs.Timed.{TimedCore}
+
+pub bytes_after : (pairing : Option Pairing) (request : Request) → bytes_of (core.pairing_after pairing request) ≡ pairing_after (bytes_of pairing) request
+bytes_after pairing (Load addr width) = refl
+bytes_after pairing (Store addr width value) = refl
+bytes_after pairing (Lr addr width) = refl
+bytes_after pairing (Sc addr width value paired) = refl
+bytes_after pairing (Amo op addr width value) = refl
+
+paired_as : (pairing : Option Pairing) (addr width : ℕ) → core.is_paired pairing addr width ≡ is_reservation (bytes_of pairing) addr width
+paired_as None addr width = refl
+paired_as (Some pairing) addr width = refl
+
+pub right_as : (pairing : Option Pairing) (request : Request) → core.IsPairedRight pairing request → IsPairedRight (bytes_of pairing) request
+right_as pairing (Load addr width) right = tt
+right_as pairing (Store addr width value) right = tt
+right_as pairing (Lr addr width) right = tt
+right_as pairing (Sc addr width value paired) right = right ∙ paired_as pairing addr width
+right_as pairing (Amo op addr width value) right = tt
+
+pub pairing_at : (cores : List TimedCore) (number : ℕ) (c : TimedCore) → slice_get cores number ≡ Some c → pairing_of (pairings_of cores) number ≡ bytes_of c.core.pairing
+pairing_at cores number c here =
+    get_or_from_slice_get (pairings_of cores) number (bytes_of c.core.pairing) None
+    (slice_get-map (λ (x : TimedCore). bytes_of x.core.pairing) cores number ∙ ap (option_map (λ (x : TimedCore). bytes_of x.core.pairing)) here)

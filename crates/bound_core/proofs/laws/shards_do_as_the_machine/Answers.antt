@@ -1,0 +1,16 @@
+use Rattle.bound_core.proofs.CoreKept.{CoreLaws}
+use Rattle.bound_core.proofs.ShardsTurn.{shards_do_as_machine}
+use Rattle.bound_core.proofs.laws.shards_do_as_the_machine.Goals as goal
+
+pub returns : goal.returns
+returns c step time image end s t related numbers place =
+    let laws : CoreLaws = record {
+      advanced_sound = c.cores_stay_sound.ensures.advanced;
+      advanced_memory = c.cores_stay_sound.ensures.advanced_memory;
+      advanced_pairing = c.cores_stay_sound.ensures.advanced_pairing;
+      answered_sound = c.cores_stay_sound.ensures.answered;
+      answered_memory = c.cores_stay_sound.ensures.answered_memory;
+      answered_pairing = c.cores_stay_sound.ensures.answered_pairing;
+      paired_right = c.accesses_are_paired_right.ensures.next;
+    } in
+    shards_do_as_machine laws step c.marks.ensures time image end s t related numbers place
