@@ -1,2 +1,3 @@
 pub mod AfterWrite
 pub mod Accesses
+pub mod Reservations

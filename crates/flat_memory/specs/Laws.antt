@@ -1,7 +1,10 @@
 -- What accesses make of each other.
-use Rattle.std.specs.Prelude.{◌≡◌, ◌≢◌, ◌⊎◌, ℕ, ◌+◌, ◌-◌, ◌/◌, ◌%◌, ◌^◌, ◌<◌, ◌≤◌, length, slice_index}
-use Rattle.zs_num.specs.declared.request.Request.TheVariants.{Load, Store, Lr, Sc}
-use Rattle.flat_memory.specs.FlatMemory.{MemoryState, after, reply_of}
+use Rattle.std.specs.Prelude.{◌≡◌, ◌≢◌, ◌⊎◌, ℕ, ◌+◌, ◌-◌, ◌/◌, ◌%◌, ◌^◌, ◌<◌, ◌≤◌, Bool, true, false, if◌then◌else◌, length, slice_index, slice_index_or, Option, None}
+use Rattle.zs_num.specs.Request.{addr_of}
+use Rattle.zs_num.specs.declared.request.Request.{Request}
+use Rattle.zs_num.specs.declared.request.Request.TheVariants.{Load, Store, Lr, Sc, Amo}
+use Rattle.flat_memory.specs.declared.reservation.Reservation.{Reservation}
+use Rattle.flat_memory.specs.FlatMemory.{MemoryState, after, is_reserved, reply_of, unless_written}
 
 -- so many bytes from an address on are in memory
 pub record IsThere (memory : MemoryState) (addr width : ℕ) : Type 0 where
@@ -29,3 +32,21 @@ abbrev pub StoreBetweenEndsPair : Type 0
 StoreBetweenEndsPair = (memory : MemoryState) (core other addr width value place size number : ℕ) (paired : _)
     → core < length memory.reservations → other ≢ core → place / 64 ≡ addr / 64
     → reply_of (after (after memory core (Lr addr width)) other (Store place size number)) core (Sc addr width value paired) ≡ 1
+
+-- what a core has reserved
+abbrev pub reservation_of : MemoryState → (core : ℕ) → Option Reservation
+reservation_of memory core = slice_index_or memory.reservations core None
+
+-- whether an access writes: a store and an atomic operation do, and a store-conditional where the core has reserved the bytes
+abbrev pub does_write : MemoryState → (core : ℕ) → Request → Bool
+does_write memory core (Load addr width) = false
+does_write memory core (Store addr width value) = true
+does_write memory core (Lr addr width) = false
+does_write memory core (Sc addr width value paired) = is_reserved memory core addr width
+does_write memory core (Amo op addr width value) = true
+
+-- what a core has reserved ends where another core writes to its line, and by nothing else that another core does
+abbrev pub OthersEndByWrites : Type 0
+OthersEndByWrites = (memory : MemoryState) (core other : ℕ) (request : Request) → other ≢ core
+    → reservation_of (after memory other request) core
+    ≡ (if does_write memory other request then unless_written false (addr_of request) (reservation_of memory core) else reservation_of memory core)

@@ -1,5 +1,5 @@
 //! Laws over the definitions alone, each the contract of a function that does nothing.
-ghost use Rattle.flat_memory.specs.Laws.{OtherBytesStay, PairStores, StoreBetweenEndsPair, StoredIsLoaded};
+ghost use Rattle.flat_memory.specs.Laws.{OtherBytesStay, OthersEndByWrites, PairStores, StoreBetweenEndsPair, StoredIsLoaded};
 
 /// A load of what a store stored gives the number's low bytes.
 pub fn stored_is_loaded()
@@ -19,4 +19,10 @@ pub fn a_pair_stores()
 /// A store-conditional does not store where another core stored to the line since the load-reserved.
 pub fn a_store_between_ends_a_pair()
     ensures { StoreBetweenEndsPair }
+{}
+
+/// What a core has reserved ends where another core writes to its line, and by nothing else that
+/// another core does.
+pub fn others_end_by_writes()
+    ensures { OthersEndByWrites }
 {}
