@@ -1,5 +1,4 @@
-pub mod History
-pub mod HistoryLaws
+pub mod InstructionLaws
 pub mod Laws
 pub mod MachineOfShards
 pub mod MachineWorld

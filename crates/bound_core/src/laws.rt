@@ -1,9 +1,10 @@
 //! Laws over the definitions alone, each the contract of a function that does nothing.
-ghost use Rattle.std.specs.Prelude.{◌≡◌, ℕ};
+ghost use Rattle.std.specs.Prelude.{◌≡◌, ℕ, List};
 ghost use Rattle.zs_num.specs.declared.entry.Entry.{Entry};
 ghost use Rattle.zs_num.specs.declared.request.Request.{Request};
 ghost use Rattle.elf_load.specs.MemoryImage.{MemoryImage};
-ghost use Rattle.bound_core.specs.HistoryLaws.{HistoriesArePhases, PhasesAreHistories, RecordedOrderIsHistory};
+ghost use Rattle.rv_decode.specs.declared.inst.Inst.{Inst};
+ghost use Rattle.bound_core.specs.InstructionLaws.{CoreInMemory, LoadsAreWhole, OtherBytesStay, PairStores, StoredIsLoaded, StoresAreWhole, WriteBetweenEndsPair};
 ghost use Rattle.bound_core.specs.Laws.{AccessesAreFew, EndsWhereAllAreOver, LocalInstructionsAreAlone, TurnIsScheduled, TurnsAreScheduled};
 ghost use Rattle.bound_core.specs.MachineOfShards.{HistoriesAreRunsOfTheMachine, ShardsDoAsTheMachine, ShardsStandForAMachine};
 
@@ -36,42 +37,46 @@ pub fn turns_are_scheduled<Q: Port, World>()
         → TurnsAreScheduled Q.gives world serve }
 {}
 
-/// A history of an interval is a bound phase: whatever the order in which the cores took their turns at
-/// the shards, the schedule of the entries' cores is legal, and gives these entries, these cores and
-/// these shards.
-pub fn histories_are_phases()
-    ensures { (time : Entry → ℕ) (image : MemoryImage) (end : ℕ) → HistoriesArePhases time image end }
-{}
-
-/// The entries of every bound phase over shards are a history.
-pub fn phases_are_histories()
-    ensures { (time : Entry → ℕ) (image : MemoryImage) (end : ℕ) → PhasesAreHistories time image end }
-{}
-
-/// The entries of a history in recorded order are a history of the same cores and shards. So the turns
-/// in recorded order are legal, and leave what the turns left as they were taken.
-pub fn recorded_order_is_a_history()
-    ensures { (time : Entry → ℕ) (image : MemoryImage) (end : ℕ) → RecordedOrderIsHistory time image end }
+/// A load or a store does what one access of all its bytes would, aligned or not, and wherever it
+/// crosses a line.
+pub fn loads_and_stores_are_whole()
+    ensures loads { LoadsAreWhole }
+    ensures stores { StoresAreWhole }
 {
-    access_log::laws::recorded_order_keeps_the_stamps();
+    rv_core::laws::accesses_are_little_endian();
 }
 
-/// Where cores and shards stand for a machine, every bound phase over the shards is that of the machine,
-/// and so is every place at which a schedule is not legal.
-pub fn shards_do_as_the_machine()
-    ensures { ShardsStandForAMachine → (time : Entry → ℕ) (image : MemoryImage) (end : ℕ) → ShardsDoAsTheMachine time image end }
+/// A load of what a store stored gives the stored bytes, sign-extended or zero-extended, for every
+/// width and address in memory.
+pub fn stored_is_loaded()
+    ensures { StoredIsLoaded }
 {
-    rv_core::laws::cores_stay_sound();
-    rv_core::laws::accesses_are_paired_right();
-    shard::laws::marks();
+    rv_core::laws::accesses_are_little_endian();
 }
 
-/// Whatever the order in which cores took their turns at the shards, in recorded order the entries are a
-/// run of the machine of one thread for which the cores and the shards stand.
-pub fn histories_are_runs_of_the_machine()
-    ensures { ShardsStandForAMachine → (time : Entry → ℕ) (image : MemoryImage) (end : ℕ) → HistoriesAreRunsOfTheMachine time image end }
+/// A store changes no other byte of memory.
+pub fn other_bytes_stay()
+    ensures { OtherBytesStay }
 {
-    recorded_order_is_a_history();
-    histories_are_phases();
-    shards_do_as_the_machine();
+    rv_core::laws::accesses_are_little_endian();
+    flat_memory::laws::other_bytes_stay();
+}
+
+/// A store-conditional of the bytes of the latest load-reserved, with nothing between on this core,
+/// stores and writes 0 to rd where no other core wrote to the line since.
+pub fn a_pair_stores()
+    ensures { (number : ℕ) (reserve : Inst) (others : List (ℕ × Request)) (store : Inst) (s : CoreInMemory)
+        → PairStores number reserve others store s }
+{
+    flat_memory::laws::others_end_by_writes();
+    rv_core::laws::accesses_are_little_endian();
+}
+
+/// It stores nothing and writes 1 to rd where another core did.
+pub fn a_write_between_ends_a_pair()
+    ensures { (number : ℕ) (reserve : Inst) (others : List (ℕ × Request)) (store : Inst) (s : CoreInMemory)
+        → WriteBetweenEndsPair number reserve others store s }
+{
+    flat_memory::laws::others_end_by_writes();
+    rv_core::laws::accesses_are_little_endian();
 }
