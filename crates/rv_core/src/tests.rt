@@ -370,22 +370,28 @@ fn a_write_call_gives_its_count_or_a_linux_error(rt: HostRuntime) -> Result<(), 
 }
 
 // Instructions that set a7, a0, a1 and a2 before a call, and what it gives in a0 and on the console.
-static CALLS: [([u32; 4], u64, u64); 8] = [
+static CALLS: [([u32; 4], u64, u64); 10] = [
     // write of 3 bytes from the base on, to the standard output and to the standard error
     ([0x0400_0893, 0x0010_0513, 0x0001_05b7, 0x0030_0613], 3, 3),
     ([0x0400_0893, 0x0020_0513, 0x0001_05b7, 0x0030_0613], 3, 3),
-    // of 0 bytes, from address 0 too
+    // of 0 bytes, from address 0 and from address -1 too
     ([0x0400_0893, 0x0010_0513, 0x0001_05b7, 0x0000_0613], 0, 0),
     ([0x0400_0893, 0x0010_0513, 0x0000_0593, 0x0000_0613], 0, 0),
+    ([0x0400_0893, 0x0010_0513, 0xfff0_0593, 0x0000_0613], 0, 0),
     // of 257 bytes
     (
         [0x0400_0893, 0x0010_0513, 0x0001_05b7, 0x1010_0613],
         256,
         256,
     ),
-    // from address 0, to another file, and another call
+    // from address 0, from address -1, to another file, and another call
     (
         [0x0400_0893, 0x0010_0513, 0x0000_0593, 0x0050_0613],
+        18446744073709551602,
+        0,
+    ),
+    (
+        [0x0400_0893, 0x0010_0513, 0xfff0_0593, 0x0030_0613],
         18446744073709551602,
         0,
     ),
