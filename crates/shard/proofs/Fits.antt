@@ -18,6 +18,7 @@ use Rattle.cache_set.proofs.Sets.{lacks-absent, lacks-take, distinct-without, la
 use Rattle.shard.specs.Coherence.{Caches, letter_in, letter_at, dirty_at, outcome_by, outcome_of, is_write, is_alone, is_dirty_victim, some_other, is_held, is_modified, own_after, own_victim, on_l2, on_others, on_own, l2_victim, room_made, written_back, after_access, after_accesses, empty_caches, recalled, marked_dirty, fetched, looked_up, other_after, others_changed, kept_first, taken_in, with_letter}
 use Rattle.shard.specs.Lines.{line_of, set_of, in_set_of, set_number}
 use Rattle.shard.specs.StandsFor.{HaveSets, IsSet}
+use Rattle.shard.proofs.CoherentPlaced.{Placed, stand_all}
 
 -- ---- one set
 module _ {X : Type 0} where
@@ -387,8 +388,15 @@ empty_fit cores shards l1_sets l1_ways l2_sets l2_ways = record {
   l2 = All-replicate (IsSet l2_ways) l2_sets [] (set_nil l2_ways);
 }
 
-pub sets_of_fit : (c : Caches) → Fits c → HaveSets c
-sets_of_fit c f = record {
+held_all : (s : List (ℕ × Letter)) → Held s → All (λ (way : ℕ × Letter). is_held way.1 ≡ true) s
+held_all [] h = All-nil (λ (way : ℕ × Letter). is_held way.1 ≡ true)
+held_all (e ∷ s) h = All-cons (λ (way : ℕ × Letter). is_held way.1 ≡ true) e s h.0 (held_all s h.1)
+
+pub sets_of_fit : (c : Caches) → Fits c → Placed c → HaveSets c
+sets_of_fit c f p = record {
   l1 = All-weaker (All (IsL1 c.l1_ways)) (All (IsSet c.l1_ways)) (λ sets h. All-weaker (IsL1 c.l1_ways) (IsSet c.l1_ways) (λ s k. k.fits) sets h) c.l1 f.l1;
   l2 = f.l2;
+  held = λ core n. held_all (get_or (get_or c.l1 core []) n []) (at_or (IsL1 c.l1_ways) (get_or c.l1 core []) n [] (own_sets c f core) (l1_nil c.l1_ways)).held;
+  l1_placed = λ core n. stand_all c.shards (length (get_or c.l1 core [])) n (get_or (get_or c.l1 core []) n []) ((p.l1 core).each n);
+  l2_placed = λ n. stand_all c.shards (length c.l2) n (get_or c.l2 n []) (p.l2.each n);
 }

@@ -5,11 +5,11 @@ use Rattle.zs_num.specs.declared.request.Request.{Request}
 use Rattle.flat_memory.specs.declared.reservation.Reservation.{Reservation}
 use Rattle.flat_memory.specs.FlatMemory as flat
 use Rattle.zs_num.specs.declared.entry.Outcome.TheVariants.{Hit}
-use Rattle.shard.specs.Coherence.{Caches, after_accesses, allows, empty_caches, is_write, letter_at, outcome_of}
+use Rattle.shard.specs.Coherence.{Caches, after_access, after_accesses, allows, empty_caches, is_write, letter_at, outcome_of}
 use Rattle.shard.specs.Lines.{line_of}
 use Rattle.shard.specs.Marks.{ArePairedRight, MarkedMemory, marked_after, marked_reply, pairings_after}
 use Rattle.shard.specs.Served.{CanServe, HasCore, ShardState, after}
-use Rattle.shard.specs.StandsFor.{HaveSets, flat_for}
+use Rattle.shard.specs.StandsFor.{AreCoherent, HaveRoom, HaveSets, flat_for}
 
 -- ---- what an access leaves of a shard
 
@@ -36,6 +36,12 @@ HitsAreAllowed = (c : Caches) (core : ℕ) (request : Request) → (outcome_of c
 abbrev pub SetsStaySound : Type 0
 SetsStaySound = (cores shards l1_sets l1_ways l2_sets l2_ways : ℕ) (accesses : List (ℕ × Request))
     → HaveSets (after_accesses (empty_caches cores shards l1_sets l1_ways l2_sets l2_ways) accesses)
+
+-- Coherence is kept by every access of a core, where there is a set for each line with room for one. So is the room, and so
+-- are the cores.
+abbrev pub CoherentStays : Type 0
+CoherentStays = (c : Caches) (core : ℕ) (request : Request) → AreCoherent c → HaveRoom c → core < length c.l1
+    → AreCoherent (after_access c core request) × HaveRoom (after_access c core request) × (length (after_access c core request).l1 ≡ length c.l1)
 
 -- ---- marks and reservations
 

@@ -6,7 +6,7 @@ use Rattle.cache_set.specs.declared.letter.Letter.TheVariants.{I}
 use Rattle.flat_memory.specs.declared.reservation.Reservation.{Reservation}
 use Rattle.flat_memory.specs.FlatMemory.{MemoryState, is_reservation}
 use Rattle.shard.specs.Coherence.{Caches, dirty_at, is_alone, is_held, letter_at}
-use Rattle.shard.specs.Lines.{line_at, set_of, shard_of}
+use Rattle.shard.specs.Lines.{line_at, set_number, set_of, shard_of}
 use Rattle.shard.specs.Marks.{MarkedMemory, pairing_of}
 use Rattle.shard.specs.Served.{ShardState, place_of}
 
@@ -20,6 +20,11 @@ pub record IsSet {X : Type 0} (ways : ℕ) (set : List (ℕ × X)) : Type 0 wher
 pub record HaveSets (c : Caches) : Type 0 where
   pub l1 : All (λ sets. All (λ set. IsSet c.l1_ways set) sets) c.l1
   pub l2 : All (λ set. IsSet c.l2_ways set) c.l2
+  -- what an L1 has it holds: no letter is I
+  pub held : (core n : ℕ) → All (λ way. IsTrue (is_held way.1)) (slice_index_or (slice_index_or c.l1 core []) n [])
+  -- each line stands in its own set
+  pub l1_placed : (core n : ℕ) → All (λ way. set_number c.shards way.0 (slice_index_or c.l1 core []) ≡ n) (slice_index_or (slice_index_or c.l1 core []) n [])
+  pub l2_placed : (n : ℕ) → All (λ way. set_number c.shards way.0 c.l2 ≡ n) (slice_index_or c.l2 n [])
 
 pub record AreCoherent (c : Caches) : Type 0 where
   pub sets : HaveSets c
@@ -27,6 +32,13 @@ pub record AreCoherent (c : Caches) : Type 0 where
   pub single : (core other line : ℕ) → other ≢ core → IsTrue (is_alone (letter_at c core line)) → letter_at c other line ≡ I
   -- each line of an L1 stands in the L2
   pub inclusive : (core line : ℕ) → IsTrue (is_held (letter_at c core line)) → IsSome (dirty_at c line)
+
+-- there is a set for each line, and room for a line in each
+pub record HaveRoom (c : Caches) : Type 0 where
+  pub l1_ways : 1 ≤ c.l1_ways
+  pub l2_ways : 1 ≤ c.l2_ways
+  pub l1_sets : (core : ℕ) → core < length c.l1 → 1 ≤ length (slice_index_or c.l1 core [])
+  pub l2_sets : 1 ≤ length c.l2
 
 -- ---- shards
 

@@ -1,8 +1,11 @@
-use Rattle.shard.specs.Coherence.{after_accesses, empty_caches}
+use Rattle.shard.specs.Coherence.{Caches, after_accesses, empty_caches}
 use Rattle.shard.proofs.Fits.{accesses_fit, empty_fit, sets_of_fit}
+use Rattle.shard.proofs.CoherentPlaced.{accesses_placed, empty_placed}
 use Rattle.shard.proofs.laws.sets_stay_sound.Goals as goal
 
 pub returns : goal.returns
 returns c cores shards l1_sets l1_ways l2_sets l2_ways accesses =
-    sets_of_fit (after_accesses (empty_caches cores shards l1_sets l1_ways l2_sets l2_ways) accesses)
-    (accesses_fit accesses (empty_caches cores shards l1_sets l1_ways l2_sets l2_ways) (empty_fit cores shards l1_sets l1_ways l2_sets l2_ways))
+    let start : Caches = empty_caches cores shards l1_sets l1_ways l2_sets l2_ways in
+    sets_of_fit (after_accesses start accesses)
+    (accesses_fit accesses start (empty_fit cores shards l1_sets l1_ways l2_sets l2_ways))
+    (accesses_placed accesses start (empty_placed cores shards l1_sets l1_ways l2_sets l2_ways))

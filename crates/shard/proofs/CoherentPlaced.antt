@@ -1,0 +1,324 @@
+-- Each access leaves each line in its own set, and as many sets as there were.
+use Rattle.std.proofs.Common.{◌≡◌, ℕ, zero, suc, ◌+◌, ◌/◌, ◌%◌, Bool, true, false, cond, eqb, List, [], ◌∷◌, length, get_or, map, set, take, replicate, Option, Some, None, refl, sym, ap, ◌∙◌, subst, arith, inl, inr}
+use Rattle.std.specs.List.{All, enumerate_from}
+use Rattle.std.specs.Option.{option_map_or}
+use Rattle.std.proofs.lemmas.Bool.{cases_eq, cases_lt}
+use Rattle.std.proofs.lemmas.List.{get_or-map, get_or-replicate, length-replicate, get_or-set_same, get_or-set_other, get_or_past, length-map, length-set}
+use Rattle.std.proofs.lemmas.List.Elements.{All-nil, All-cons}
+use Rattle.std.proofs.lemmas.List.FromFn.{get_or-enumerate_from, length-enumerate_from}
+use Rattle.zs_num.specs.declared.entry.Outcome.{Outcome}
+use Rattle.zs_num.specs.declared.entry.Outcome.TheVariants.{Hit, Upgrade, L2, Miss}
+use Rattle.zs_num.specs.declared.request.Request.{Request}
+use Rattle.cache_set.specs.declared.letter.Letter.{Letter}
+use Rattle.cache_set.specs.declared.letter.Letter.TheVariants.{M, E, S, I}
+use Rattle.cache_set.specs.Ways.{kept_of, without, used, filled, changed}
+use Rattle.shard.specs.Coherence.{Caches, after_access, after_accesses, empty_caches, fetched, is_held, is_modified, is_write, kept_first, l2_victim, letter_at, letter_in, looked_up, marked_dirty, on_l2, on_others, on_own, other_after, others_changed, outcome_of, own_after, own_victim, recalled, room_made, some_other, taken_in, with_letter, written_back}
+use Rattle.shard.specs.Lines.{line_of, set_of, in_set_of, set_number}
+
+-- ---- one set, of so many, with its number
+module _ {X : Type 0} where
+  abbrev pub Stand : (shards count n : ℕ) → List (ℕ × X) → Type 0
+  Stand shards count n [] = Unit {0}
+  Stand shards count n (e ∷ es) = (e.0 / shards % count ≡ n) × Stand shards count n es
+
+  module _ (shards count n : ℕ) where
+    stand_without : (line : ℕ) (s : List (ℕ × X)) → Stand shards count n s → Stand shards count n (without line s)
+    stand_without line [] h = tt
+    stand_without line (e ∷ s) h =
+        elim (eqb line e.0) as (λ b. Stand shards count n (cond b s (e ∷ without line s)))
+        [ true ↦ h.1 | false ↦ (h.0, stand_without line s h.1) ]
+
+    stand_changed : (line : ℕ) (v : X) (s : List (ℕ × X)) → Stand shards count n s → Stand shards count n (changed line v s)
+    stand_changed line v [] h = tt
+    stand_changed line v (e ∷ s) h =
+        elim (eqb line e.0) as (λ b. Stand shards count n (cond b ((e.0, v) ∷ s) (e ∷ changed line v s)))
+        [ true ↦ (h.0, h.1) | false ↦ (h.0, stand_changed line v s h.1) ]
+
+    stand_take : (k : ℕ) (s : List (ℕ × X)) → Stand shards count n s → Stand shards count n (take k s)
+    stand_take zero s h = tt
+    stand_take (suc k) [] h = tt
+    stand_take (suc k) (e ∷ s) h = (h.0, stand_take k s h.1)
+
+    stand_used : (line : ℕ) (s : List (ℕ × X)) → line / shards % count ≡ n → Stand shards count n s → Stand shards count n (used line s)
+    stand_used line s e h =
+        elim (kept_of line s) as (λ o. Stand shards count n (option_map_or (λ kept. (line, kept) ∷ without line s) o s))
+        [ None ↦ h | Some v ↦ (e, stand_without line s h) ]
+
+    pub stand_all : (s : List (ℕ × X)) → Stand shards count n s → All (λ (way : ℕ × X). way.0 / shards % count ≡ n) s
+    stand_all [] h = All-nil (λ (way : ℕ × X). way.0 / shards % count ≡ n)
+    stand_all (e ∷ s) h = All-cons (λ (way : ℕ × X). way.0 / shards % count ≡ n) e s h.0 (stand_all s h.1)
+
+  -- ---- all sets
+  pub record AllStand (shards count : ℕ) (sets : List (List (ℕ × X))) : Type 0 where
+    pub many : length sets ≡ count
+    pub each : (n : ℕ) → Stand shards count n (get_or sets n [])
+
+  none_stand : (shards : ℕ) → AllStand shards 0 []
+  none_stand shards = record { many = refl; each = λ n. tt }
+
+  -- one line's set changes
+  stand_in_set : (shards count line : ℕ) (change : List (ℕ × X) → List (ℕ × X)) (sets : List (List (ℕ × X)))
+      → (Stand shards count (line / shards % count) (set_of shards line sets) → Stand shards count (line / shards % count) (change (set_of shards line sets)))
+      → AllStand shards count sets → AllStand shards count (in_set_of shards line change sets)
+  stand_in_set shards count line change sets step h =
+      let k : ℕ = set_number shards line sets in
+      let is : k ≡ line / shards % count = ap (λ (x : ℕ). line / shards % x) h.many in
+      let same : Stand shards count k (change (get_or sets k []))
+      = subst (λ (x : ℕ). Stand shards count x (change (get_or sets k []))) (sym is) (step (subst (λ (x : ℕ). Stand shards count x (get_or sets k [])) is (h.each k))) in
+      record {
+        many = length-set sets k (change (get_or sets k [])) ∙ h.many;
+        each = λ n. elim (cases_eq n k) as (λ _. Stand shards count n (get_or (set sets k (change (get_or sets k []))) n [])) [
+          | inl e ↦ subst (λ (x : ℕ). Stand shards count x (get_or (set sets k (change (get_or sets k []))) x [])) (sym e)
+              (elim (cases_lt k (length sets)) as (λ _. Stand shards count k (get_or (set sets k (change (get_or sets k []))) k [])) [
+                | inl l ↦ rw (get_or-set_same sets k (change (get_or sets k [])) [] l) same
+                | inr l ↦ rw (get_or_past (set sets k (change (get_or sets k []))) k [] (omega (arith, length-set sets k (change (get_or sets k []))))) tt
+              ])
+          | inr e ↦ rw (get_or-set_other sets k n (change (get_or sets k [])) [] e) (h.each n)
+        ];
+      }
+
+-- ---- the caches
+-- so many sets, and each line in its own
+pub record Placed (c : Caches) : Type 0 where
+  pub l1 : (core : ℕ) → AllStand c.shards (length (get_or c.l1 core [])) (get_or c.l1 core [])
+  pub l2 : AllStand c.shards (length c.l2) c.l2
+
+-- the caches after a step: as many cores and sets, and each line in its own set
+pub record Keeps (c d : Caches) : Type 0 where
+  pub shards : d.shards ≡ c.shards
+  pub cores : length d.l1 ≡ length c.l1
+  pub l1_sets : (core : ℕ) → length (get_or d.l1 core []) ≡ length (get_or c.l1 core [])
+  pub l2_sets : length d.l2 ≡ length c.l2
+  pub placed : Placed c → Placed d
+
+keeps_same : (c : Caches) → Keeps c c
+keeps_same c = record { shards = refl; cores = refl; l1_sets = λ core. refl; l2_sets = refl; placed = λ p. p }
+
+keeps_both : (b c d : Caches) → Keeps b c → Keeps c d → Keeps b d
+keeps_both b c d s t = record {
+  shards = t.shards ∙ s.shards;
+  cores = t.cores ∙ s.cores;
+  l1_sets = λ core. t.l1_sets core ∙ s.l1_sets core;
+  l2_sets = t.l2_sets ∙ s.l2_sets;
+  placed = λ p. t.placed (s.placed p);
+}
+
+-- a step that changes a line's set in the L2
+l2_keeps : (line : ℕ) (change : List (ℕ × Bool) → List (ℕ × Bool)) (c : Caches)
+    → (Stand c.shards (length c.l2) (line / c.shards % length c.l2) (set_of c.shards line c.l2) → Stand c.shards (length c.l2) (line / c.shards % length c.l2) (change (set_of c.shards line c.l2)))
+    → Keeps c (record c { l2 = in_set_of c.shards line change c.l2 })
+l2_keeps line change c step =
+    let longer : length (in_set_of c.shards line change c.l2) ≡ length c.l2 = length-set c.l2 (set_number c.shards line c.l2) (change (set_of c.shards line c.l2)) in
+    record {
+      shards = refl;
+      cores = refl;
+      l1_sets = λ core. refl;
+      l2_sets = longer;
+      placed = λ p. record {
+        l1 = p.l1;
+        l2 = subst (λ (n : ℕ). AllStand c.shards n (in_set_of c.shards line change c.l2)) (sym longer) (stand_in_set c.shards (length c.l2) line change c.l2 step p.l2);
+      };
+    }
+
+-- a step that gives each core other sets, as many
+l1_keeps : (l1 : List (List (List (ℕ × Letter)))) (c : Caches) → length l1 ≡ length c.l1 → ((core : ℕ) → length (get_or l1 core []) ≡ length (get_or c.l1 core []))
+    → ((core : ℕ) → AllStand c.shards (length (get_or c.l1 core [])) (get_or c.l1 core []) → AllStand c.shards (length (get_or c.l1 core [])) (get_or l1 core []))
+    → Keeps c (record c { l1 = l1 })
+l1_keeps l1 c cores sets step = record {
+  shards = refl;
+  cores = cores;
+  l1_sets = sets;
+  l2_sets = refl;
+  placed = λ p. record {
+    l1 = λ core. subst (λ (n : ℕ). AllStand c.shards n (get_or l1 core [])) (sym (sets core)) (step core (p.l1 core));
+    l2 = p.l2;
+  };
+}
+
+-- the sets of a core after each core's sets were changed
+pub mapped_at : {X : Type 0} (f : List X → List X) (xs : List (List X)) (core : ℕ) → f [] ≡ [] → get_or (map f xs) core [] ≡ f (get_or xs core [])
+mapped_at f xs core none =
+    elim (cases_lt core (length xs)) as (λ _. get_or (map f xs) core [] ≡ f (get_or xs core [])) [
+      | inl l ↦ get_or-map f xs core [] [] l
+      | inr l ↦ rw (get_or_past (map f xs) core [] (omega (arith, length-map xs f)), get_or_past xs core [] l) (sym none)
+    ]
+
+-- and after each core's were by its number
+pub numbered_at : {X : Type 0} (g : ℕ × List X → List X) (xs : List (List X)) (core : ℕ) → g (core, []) ≡ [] → get_or (map g (enumerate_from 0 xs)) core [] ≡ g (core, get_or xs core [])
+numbered_at g xs core none =
+    let longer : length (enumerate_from 0 xs) ≡ length xs = length-enumerate_from 0 xs in
+    elim (cases_lt core (length xs)) as (λ _. get_or (map g (enumerate_from 0 xs)) core [] ≡ g (core, get_or xs core [])) [
+      | inl l ↦
+          let zero_core : 0 + core ≡ core = omega arith in
+          get_or-map g (enumerate_from 0 xs) core (0, []) [] (omega (arith, longer)) ∙ rw (get_or-enumerate_from 0 xs core (0, []) l, zero_core) refl
+      | inr l ↦ rw (get_or_past (map g (enumerate_from 0 xs)) core [] (omega (arith, longer, length-map (enumerate_from 0 xs) g)), get_or_past xs core [] l) (sym none)
+    ]
+
+-- ---- each step
+recalled_keeps : (line : ℕ) (c : Caches) → Keeps c (recalled line c)
+unfolding recalled
+recalled_keeps line c =
+    let f : List (List (ℕ × Letter)) → List (List (ℕ × Letter)) = in_set_of c.shards line (without line) in
+    l1_keeps (map f c.l1) c (length-map c.l1 f)
+    (λ core. rw (mapped_at f c.l1 core refl) (length-set (get_or c.l1 core []) (set_number c.shards line (get_or c.l1 core [])) (without line (set_of c.shards line (get_or c.l1 core [])))))
+    (λ core h. rw (mapped_at f c.l1 core refl) (stand_in_set c.shards (length (get_or c.l1 core [])) line (without line) (get_or c.l1 core [])
+    (stand_without c.shards (length (get_or c.l1 core [])) (line / c.shards % length (get_or c.l1 core [])) line (set_of c.shards line (get_or c.l1 core []))) h))
+
+marked_keeps : (line : ℕ) (c : Caches) → Keeps c (marked_dirty line c)
+unfolding marked_dirty
+marked_keeps line c = l2_keeps line (changed line true) c (stand_changed c.shards (length c.l2) (line / c.shards % length c.l2) line true (set_of c.shards line c.l2))
+
+fetched_keeps : (line : ℕ) (c : Caches) → Keeps c (fetched line c)
+unfolding fetched
+fetched_keeps line c = l2_keeps line (filled c.l2_ways line false) c (λ h. stand_take c.shards (length c.l2) (line / c.shards % length c.l2) c.l2_ways ((line, false) ∷ set_of c.shards line c.l2) (refl, h))
+
+looked_keeps : (line : ℕ) (c : Caches) → Keeps c (looked_up line c)
+unfolding looked_up
+looked_keeps line c = l2_keeps line (used line) c (stand_used c.shards (length c.l2) (line / c.shards % length c.l2) line (set_of c.shards line c.l2) refl)
+
+with_letter_stand : (shards count n line : ℕ) (v : Letter) (s : List (ℕ × Letter)) → Stand shards count n s → Stand shards count n (with_letter line v s)
+with_letter_stand shards count n line M s h = stand_changed shards count n line M s h
+with_letter_stand shards count n line E s h = stand_changed shards count n line E s h
+with_letter_stand shards count n line S s h = stand_changed shards count n line S s h
+with_letter_stand shards count n line I s h = stand_without shards count n line s h
+
+-- what the others' change makes of the sets of a core
+abbrev pub if_other : (Letter → Letter) → (core line shards : ℕ) → ℕ × List (List (ℕ × Letter)) → List (List (ℕ × Letter))
+if_other change core line shards at = cond (eqb at.0 core) at.1 (in_set_of shards line (λ copies. with_letter line (change (letter_in line copies)) copies) at.1)
+
+none_other : (change : Letter → Letter) (core line shards other : ℕ) → if_other change core line shards (other, []) ≡ []
+none_other change core line shards other = elim (eqb other core) as (λ b. cond {A = List (List (ℕ × Letter))} b [] [] ≡ []) [ true ↦ refl | false ↦ refl ]
+
+others_keeps : (change : Letter → Letter) (core line : ℕ) (c : Caches) → Keeps c (others_changed change core line c)
+unfolding others_changed
+others_keeps change core line c =
+    let g : ℕ × List (List (ℕ × Letter)) → List (List (ℕ × Letter)) = if_other change core line c.shards in
+    let f : List (ℕ × Letter) → List (ℕ × Letter) = λ copies. with_letter line (change (letter_in line copies)) copies in
+    l1_keeps (map g (enumerate_from 0 c.l1)) c (length-map (enumerate_from 0 c.l1) g ∙ length-enumerate_from 0 c.l1)
+    (λ other. rw (numbered_at g c.l1 other (none_other change core line c.shards other))
+    (elim (eqb other core) as (λ b. length (cond b (get_or c.l1 other []) (in_set_of c.shards line f (get_or c.l1 other []))) ≡ length (get_or c.l1 other [])) [
+      | true ↦ refl
+      | false ↦ length-set (get_or c.l1 other []) (set_number c.shards line (get_or c.l1 other [])) (f (set_of c.shards line (get_or c.l1 other [])))
+    ]))
+    (λ other h. rw (numbered_at g c.l1 other (none_other change core line c.shards other))
+    (elim (eqb other core) as (λ b. AllStand c.shards (length (get_or c.l1 other [])) (cond b (get_or c.l1 other []) (in_set_of c.shards line f (get_or c.l1 other [])))) [
+      | true ↦ h
+      | false ↦ stand_in_set c.shards (length (get_or c.l1 other [])) line f (get_or c.l1 other [])
+          (with_letter_stand c.shards (length (get_or c.l1 other [])) (line / c.shards % length (get_or c.l1 other [])) line (change (letter_in line (set_of c.shards line (get_or c.l1 other [])))) (set_of c.shards line (get_or c.l1 other []))) h
+    ]))
+
+-- the sets of a core after one core's were set
+pub set_read : {X : Type 0} (P : List X → Type 0) (xs : List (List X)) (k : ℕ) (v : List X) (n : ℕ) → (n ≡ k → P v) → P (get_or xs n []) → P (get_or (set xs k v) n [])
+set_read P xs k v n own old =
+    elim (cases_eq n k) as (λ _. P (get_or (set xs k v) n [])) [
+      | inl e ↦ elim (cases_lt k (length xs)) as (λ _. P (get_or (set xs k v) n [])) [
+        | inl l ↦ rw (e, get_or-set_same xs k v [] l) (own e)
+        | inr l ↦ subst P (get_or_past xs n [] (omega arith) ∙ sym (get_or_past (set xs k v) n [] (omega (arith, length-set xs k v)))) old
+      ]
+      | inr e ↦ rw (get_or-set_other xs k n v [] e) old
+    ]
+
+-- a core's own sets change in one
+own_keeps_sets : (core line : ℕ) (change : List (ℕ × Letter) → List (ℕ × Letter)) (c : Caches)
+    → ((n : ℕ) (s : List (ℕ × Letter)) → line / c.shards % n ≡ line / c.shards % n → Stand c.shards n (line / c.shards % n) s → Stand c.shards n (line / c.shards % n) (change s))
+    → Keeps c (record c { l1 = set c.l1 core (in_set_of c.shards line change (get_or c.l1 core [])) })
+own_keeps_sets core line change c step =
+    let own : List (List (ℕ × Letter)) = get_or c.l1 core [] in
+    let sets : List (List (ℕ × Letter)) = in_set_of c.shards line change own in
+    let longer : length sets ≡ length own = length-set own (set_number c.shards line own) (change (set_of c.shards line own)) in
+    l1_keeps (set c.l1 core sets) c (length-set c.l1 core sets)
+    (λ other. set_read (λ s. length s ≡ length (get_or c.l1 other [])) c.l1 core sets other (λ e. rw e longer) refl)
+    (λ other h. set_read (AllStand c.shards (length (get_or c.l1 other []))) c.l1 core sets other
+    (λ e. subst (λ (x : ℕ). AllStand c.shards (length (get_or c.l1 x [])) sets) (sym e)
+    (stand_in_set c.shards (length own) line change own (step (length own) (set_of c.shards line own) refl) (subst (λ (x : ℕ). AllStand c.shards (length (get_or c.l1 x [])) (get_or c.l1 x [])) e h)))
+    h)
+
+first_keeps : (core line : ℕ) (letter : Letter) (c : Caches) → Keeps c (kept_first core line letter c)
+unfolding kept_first
+first_keeps core line letter c =
+    own_keeps_sets core line (λ copies. (line, letter) ∷ without line copies) c (λ n s is h. (is, stand_without c.shards n (line / c.shards % n) line s h))
+
+back_keeps : (victim : Option (ℕ × Letter)) (c : Caches) → Keeps c (written_back victim c)
+back_keeps None c = keeps_same c
+back_keeps (Some victim) c =
+    elim (is_modified victim.1) as (λ b. Keeps c (cond b (marked_dirty victim.0 c) c))
+    [ true ↦ marked_keeps victim.0 c | false ↦ keeps_same c ]
+
+taken_keeps : (core line : ℕ) (letter : Letter) (c : Caches) → Keeps c (taken_in core line letter c)
+unfolding taken_in
+taken_keeps core line letter c =
+    let d : Caches = written_back (own_victim c core line) c in
+    keeps_both c d (taken_in core line letter c) (back_keeps (own_victim c core line) c)
+    (own_keeps_sets core line (filled c.l1_ways line letter) d (λ n s is h. stand_take d.shards n (line / d.shards % n) c.l1_ways ((line, letter) ∷ s) (is, h)))
+
+-- ---- one access
+room_keeps : (victim : Option (ℕ × Bool)) (c : Caches) → Keeps c (room_made victim c)
+room_keeps None c = keeps_same c
+room_keeps (Some victim) c = recalled_keeps victim.0 c
+
+l2_step : (outcome : Outcome) (line : ℕ) (c : Caches) → Keeps c (on_l2 outcome line c)
+l2_step Hit line c = keeps_same c
+l2_step (Upgrade others) line c = looked_keeps line c
+l2_step (L2 others) line c = looked_keeps line c
+l2_step (Miss dirty) line c =
+    let made : Caches = room_made (l2_victim c line) c in
+    keeps_both c made (fetched line made) (room_keeps (l2_victim c line) c) (fetched_keeps line made)
+
+dirtied_keeps : (b : Bool) (line : ℕ) (c : Caches) → Keeps c (cond b (marked_dirty line c) c)
+dirtied_keeps true line c = marked_keeps line c
+dirtied_keeps false line c = keeps_same c
+
+others_step : (outcome : Outcome) (write : Bool) (core line : ℕ) (c : Caches) → Keeps c (on_others outcome write core line c)
+others_step Hit write core line c = keeps_same c
+others_step (Upgrade others) write core line c = others_keeps (other_after write) core line c
+others_step (L2 others) write core line c =
+    let dirtied : Caches = cond (some_other is_modified c core line) (marked_dirty line c) c in
+    keeps_both c dirtied (others_changed (other_after write) core line dirtied)
+    (dirtied_keeps (some_other is_modified c core line) line c) (others_keeps (other_after write) core line dirtied)
+others_step (Miss dirty) write core line c = keeps_same c
+
+own_step : (own : Letter) (core line : ℕ) (letter : Letter) (c : Caches) → Keeps c (on_own own core line letter c)
+own_step M core line letter c = first_keeps core line letter c
+own_step E core line letter c = first_keeps core line letter c
+own_step S core line letter c = first_keeps core line letter c
+own_step I core line letter c = taken_keeps core line letter c
+
+pub access_keeps : (c : Caches) (core : ℕ) (request : Request) → Keeps c (after_access c core request)
+unfolding after_access
+access_keeps c core request =
+    let line : ℕ = line_of request in
+    let write : Bool = is_write request in
+    let own : Letter = letter_at c core line in
+    let outcome : Outcome = outcome_of c core request in
+    let letter : Letter = own_after write own (some_other is_held c core line) in
+    let first : Caches = on_l2 outcome line c in
+    let second : Caches = on_others outcome write core line first in
+    keeps_both c second (on_own own core line letter second)
+    (keeps_both c first second (l2_step outcome line c) (others_step outcome write core line first))
+    (own_step own core line letter second)
+
+pub accesses_placed : (accesses : List (ℕ × Request)) (c : Caches) → Placed c → Placed (after_accesses c accesses)
+accesses_placed [] c p = p
+accesses_placed (access ∷ accesses) c p =
+    accesses_placed accesses (after_access c access.0 access.1) ((access_keeps c access.0 access.1).placed p)
+
+empty_at : {X : Type 0} (n k : ℕ) → get_or (replicate {A = List X} n []) k [] ≡ []
+empty_at {X = X} n k =
+    elim (cases_lt k n) as (λ _. get_or (replicate {A = List X} n []) k [] ≡ []) [
+      | inl l ↦ get_or-replicate n k [] [] l
+      | inr l ↦ get_or_past (replicate n []) k [] (omega (arith, length-replicate {A = List X} n []))
+    ]
+
+empty_stands : {X : Type 0} (shards many : ℕ) → AllStand {X = X} shards (length (replicate {A = List (ℕ × X)} many [])) (replicate many [])
+empty_stands {X = X} shards many = record { many = refl; each = λ n. rw (empty_at {X = ℕ × X} many n) tt }
+
+pub empty_placed : (cores shards l1_sets l1_ways l2_sets l2_ways : ℕ) → Placed (empty_caches cores shards l1_sets l1_ways l2_sets l2_ways)
+empty_placed cores shards l1_sets l1_ways l2_sets l2_ways =
+    let sets : List (List (ℕ × Letter)) = replicate l1_sets [] in
+    record {
+      l1 = λ core. elim (cases_lt core cores) as (λ _. AllStand shards (length (get_or (replicate cores sets) core [])) (get_or (replicate cores sets) core [])) [
+        | inl l ↦ rw (get_or-replicate cores core sets [] l) (empty_stands shards l1_sets)
+        | inr l ↦ rw (get_or_past (replicate cores sets) core [] (omega (arith, length-replicate cores sets))) (none_stand shards)
+      ];
+      l2 = empty_stands shards l2_sets;
+    }
