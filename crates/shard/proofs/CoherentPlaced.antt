@@ -94,7 +94,7 @@ pub record Keeps (c d : Caches) : Type 0 where
 keeps_same : (c : Caches) → Keeps c c
 keeps_same c = record { shards = refl; cores = refl; l1_sets = λ core. refl; l2_sets = refl; placed = λ p. p }
 
-keeps_both : (b c d : Caches) → Keeps b c → Keeps c d → Keeps b d
+pub keeps_both : (b c d : Caches) → Keeps b c → Keeps c d → Keeps b d
 keeps_both b c d s t = record {
   shards = t.shards ∙ s.shards;
   cores = t.cores ∙ s.cores;
@@ -186,10 +186,10 @@ with_letter_stand shards count n line I s h = stand_without shards count n line 
 abbrev pub if_other : (Letter → Letter) → (core line shards : ℕ) → ℕ × List (List (ℕ × Letter)) → List (List (ℕ × Letter))
 if_other change core line shards at = cond (eqb at.0 core) at.1 (in_set_of shards line (λ copies. with_letter line (change (letter_in line copies)) copies) at.1)
 
-none_other : (change : Letter → Letter) (core line shards other : ℕ) → if_other change core line shards (other, []) ≡ []
+pub none_other : (change : Letter → Letter) (core line shards other : ℕ) → if_other change core line shards (other, []) ≡ []
 none_other change core line shards other = elim (eqb other core) as (λ b. cond {A = List (List (ℕ × Letter))} b [] [] ≡ []) [ true ↦ refl | false ↦ refl ]
 
-others_keeps : (change : Letter → Letter) (core line : ℕ) (c : Caches) → Keeps c (others_changed change core line c)
+pub others_keeps : (change : Letter → Letter) (core line : ℕ) (c : Caches) → Keeps c (others_changed change core line c)
 unfolding others_changed
 others_keeps change core line c =
     let g : ℕ × List (List (ℕ × Letter)) → List (List (ℕ × Letter)) = if_other change core line c.shards in
@@ -252,11 +252,11 @@ taken_keeps core line letter c =
     (own_keeps_sets core line (filled c.l1_ways line letter) d (λ n s is h. stand_take d.shards n (line / d.shards % n) c.l1_ways ((line, letter) ∷ s) (is, h)))
 
 -- ---- one access
-room_keeps : (victim : Option (ℕ × Bool)) (c : Caches) → Keeps c (room_made victim c)
+pub room_keeps : (victim : Option (ℕ × Bool)) (c : Caches) → Keeps c (room_made victim c)
 room_keeps None c = keeps_same c
 room_keeps (Some victim) c = recalled_keeps victim.0 c
 
-l2_step : (outcome : Outcome) (line : ℕ) (c : Caches) → Keeps c (on_l2 outcome line c)
+pub l2_step : (outcome : Outcome) (line : ℕ) (c : Caches) → Keeps c (on_l2 outcome line c)
 l2_step Hit line c = keeps_same c
 l2_step (Upgrade others) line c = looked_keeps line c
 l2_step (L2 others) line c = looked_keeps line c
@@ -264,11 +264,11 @@ l2_step (Miss dirty) line c =
     let made : Caches = room_made (l2_victim c line) c in
     keeps_both c made (fetched line made) (room_keeps (l2_victim c line) c) (fetched_keeps line made)
 
-dirtied_keeps : (b : Bool) (line : ℕ) (c : Caches) → Keeps c (cond b (marked_dirty line c) c)
+pub dirtied_keeps : (b : Bool) (line : ℕ) (c : Caches) → Keeps c (cond b (marked_dirty line c) c)
 dirtied_keeps true line c = marked_keeps line c
 dirtied_keeps false line c = keeps_same c
 
-others_step : (outcome : Outcome) (write : Bool) (core line : ℕ) (c : Caches) → Keeps c (on_others outcome write core line c)
+pub others_step : (outcome : Outcome) (write : Bool) (core line : ℕ) (c : Caches) → Keeps c (on_others outcome write core line c)
 others_step Hit write core line c = keeps_same c
 others_step (Upgrade others) write core line c = others_keeps (other_after write) core line c
 others_step (L2 others) write core line c =

@@ -17,8 +17,7 @@ use Rattle.cache_set.specs.Ways.{kept_of, without, used, filled, changed}
 use Rattle.cache_set.proofs.Sets.{lacks-absent, lacks-take, distinct-without, lacks-others, length-without, length-without_some}
 use Rattle.shard.specs.Coherence.{Caches, letter_in, letter_at, dirty_at, outcome_by, outcome_of, is_write, is_alone, is_dirty_victim, some_other, is_held, is_modified, own_after, own_victim, on_l2, on_others, on_own, l2_victim, room_made, written_back, after_access, after_accesses, empty_caches, recalled, marked_dirty, fetched, looked_up, other_after, others_changed, kept_first, taken_in, with_letter}
 use Rattle.shard.specs.Lines.{line_of, set_of, in_set_of, set_number}
-use Rattle.shard.specs.StandsFor.{HaveSets, IsSet}
-use Rattle.shard.proofs.CoherentPlaced.{Placed, stand_all}
+use Rattle.shard.specs.StandsFor.{IsSet}
 
 -- ---- one set
 module _ {X : Type 0} where
@@ -115,11 +114,11 @@ there_as line s (Some v) e h = refl
 there_at : (line : ℕ) (s : List (ℕ × Letter)) → is_held (letter_in line s) ≡ true → IsSome (kept_of line s)
 there_at line s h = there_as line s (kept_of line s) refl h
 
-l1_nil : (ways : ℕ) → IsL1 ways []
+pub l1_nil : (ways : ℕ) → IsL1 ways []
 unfolding IsDistinct
 l1_nil ways = record { fits = record { distinct = tt; within = omega arith }; held = tt }
 
-set_nil : {X : Type 0} (ways : ℕ) → IsSet {X = X} ways []
+pub set_nil : {X : Type 0} (ways : ℕ) → IsSet {X = X} ways []
 unfolding IsDistinct
 set_nil ways = record { distinct = tt; within = omega arith }
 
@@ -143,7 +142,7 @@ l1_filled ways line v s k none h = record { fits = set_filled ways line v s h.fi
 
 -- ---- lists of sets
 module _ {X : Type 0} (P : X → Type 0) where
-  at_or : (xs : List X) (i : ℕ) (d : X) → All P xs → P d → P (get_or xs i d)
+  pub at_or : (xs : List X) (i : ℕ) (d : X) → All P xs → P d → P (get_or xs i d)
   at_or xs i d h k =
       elim (cases_lt i (length xs)) as (λ _. P (get_or xs i d))
       [ inl l ↦ h i d l | inr l ↦ rw (get_or_past xs i d l) k ]
@@ -165,7 +164,7 @@ pub record Fits (c : Caches) : Type 0 where
   pub l1 : All (All (IsL1 c.l1_ways)) c.l1
   pub l2 : All (IsSet c.l2_ways) c.l2
 
-own_sets : (c : Caches) → Fits c → (core : ℕ) → All (IsL1 c.l1_ways) (get_or c.l1 core [])
+pub own_sets : (c : Caches) → Fits c → (core : ℕ) → All (IsL1 c.l1_ways) (get_or c.l1 core [])
 own_sets c f core = at_or (All (IsL1 c.l1_ways)) c.l1 core [] f.l1 (All-nil (IsL1 c.l1_ways))
 
 own_set : (c : Caches) → Fits c → (core line : ℕ) → IsL1 c.l1_ways (set_of c.shards line (get_or c.l1 core []))
@@ -186,21 +185,21 @@ marked_fits line c f = record {
   l2 = in_set (IsSet c.l2_ways) c.shards line (changed line true) c.l2 (set_nil c.l2_ways) (set_changed c.l2_ways line true (set_of c.shards line c.l2)) f.l2;
 }
 
-looked_fits : (line : ℕ) (c : Caches) → Fits c → Fits (looked_up line c)
+pub looked_fits : (line : ℕ) (c : Caches) → Fits c → Fits (looked_up line c)
 unfolding looked_up
 looked_fits line c f = record {
   l1 = f.l1;
   l2 = in_set (IsSet c.l2_ways) c.shards line (used line) c.l2 (set_nil c.l2_ways) (set_used c.l2_ways line (set_of c.shards line c.l2)) f.l2;
 }
 
-fetched_fits : (line : ℕ) (c : Caches) → dirty_at c line ≡ None → Fits c → Fits (fetched line c)
+pub fetched_fits : (line : ℕ) (c : Caches) → dirty_at c line ≡ None → Fits c → Fits (fetched line c)
 unfolding fetched dirty_at
 fetched_fits line c none f = record {
   l1 = f.l1;
   l2 = in_set (IsSet c.l2_ways) c.shards line (filled c.l2_ways line false) c.l2 (set_nil c.l2_ways) (λ h. set_filled c.l2_ways line false (set_of c.shards line c.l2) h none) f.l2;
 }
 
-others_fits : (change : Letter → Letter) (core line : ℕ) (c : Caches) → Fits c → Fits (others_changed change core line c)
+pub others_fits : (change : Letter → Letter) (core line : ℕ) (c : Caches) → Fits c → Fits (others_changed change core line c)
 unfolding others_changed
 others_fits change core line c f = record {
   l1 = numbered_all (All (IsL1 c.l1_ways)) (λ (at : ℕ × List (List (ℕ × Letter))). cond (eqb at.0 core) at.1 (in_set_of c.shards line (λ copies. with_letter line (change (letter_in line copies)) copies) at.1)) 0 c.l1
@@ -306,7 +305,7 @@ held_after false S has = refl
 held_after false I true = refl
 held_after false I false = refl
 
-room_fits : (victim : Option (ℕ × Bool)) (c : Caches) → Fits c → Fits (room_made victim c)
+pub room_fits : (victim : Option (ℕ × Bool)) (c : Caches) → Fits c → Fits (room_made victim c)
 room_fits None c f = f
 room_fits (Some victim) c f = recalled_fits victim.0 c f
 
@@ -327,7 +326,7 @@ looked_own : (core line : ℕ) (c : Caches) → letter_at (looked_up line c) cor
 unfolding letter_at looked_up
 looked_own core line c = refl
 
-dirtied : (b : Bool) (line : ℕ) (c : Caches) → Fits c → Fits (cond b (marked_dirty line c) c)
+pub dirtied : (b : Bool) (line : ℕ) (c : Caches) → Fits c → Fits (cond b (marked_dirty line c) c)
 dirtied true line c f = marked_fits line c f
 dirtied false line c f = f
 
@@ -386,17 +385,4 @@ pub empty_fit : (cores shards l1_sets l1_ways l2_sets l2_ways : ℕ) → Fits (e
 empty_fit cores shards l1_sets l1_ways l2_sets l2_ways = record {
   l1 = All-replicate (All (IsL1 l1_ways)) cores (replicate l1_sets []) (All-replicate (IsL1 l1_ways) l1_sets [] (l1_nil l1_ways));
   l2 = All-replicate (IsSet l2_ways) l2_sets [] (set_nil l2_ways);
-}
-
-held_all : (s : List (ℕ × Letter)) → Held s → All (λ (way : ℕ × Letter). is_held way.1 ≡ true) s
-held_all [] h = All-nil (λ (way : ℕ × Letter). is_held way.1 ≡ true)
-held_all (e ∷ s) h = All-cons (λ (way : ℕ × Letter). is_held way.1 ≡ true) e s h.0 (held_all s h.1)
-
-pub sets_of_fit : (c : Caches) → Fits c → Placed c → HaveSets c
-sets_of_fit c f p = record {
-  l1 = All-weaker (All (IsL1 c.l1_ways)) (All (IsSet c.l1_ways)) (λ sets h. All-weaker (IsL1 c.l1_ways) (IsSet c.l1_ways) (λ s k. k.fits) sets h) c.l1 f.l1;
-  l2 = f.l2;
-  held = λ core n. held_all (get_or (get_or c.l1 core []) n []) (at_or (IsL1 c.l1_ways) (get_or c.l1 core []) n [] (own_sets c f core) (l1_nil c.l1_ways)).held;
-  l1_placed = λ core n. stand_all c.shards (length (get_or c.l1 core [])) n (get_or (get_or c.l1 core []) n []) ((p.l1 core).each n);
-  l2_placed = λ n. stand_all c.shards (length c.l2) n (get_or c.l2 n []) (p.l2.each n);
 }

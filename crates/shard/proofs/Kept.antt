@@ -24,7 +24,7 @@ pub record SameShape (c d : Caches) : Type 0 where
 same : (c : Caches) → SameShape c c
 same c = record { shards = refl; l1_ways = refl; l2_ways = refl }
 
-after_same : (b c d : Caches) → SameShape c d → SameShape b c → SameShape b d
+pub after_same : (b c d : Caches) → SameShape c d → SameShape b c → SameShape b d
 after_same b c d s t = record { shards = t.shards ∙ s.shards; l1_ways = t.l1_ways ∙ s.l1_ways; l2_ways = t.l2_ways ∙ s.l2_ways }
 
 recalled_same : (line : ℕ) (c : Caches) → SameShape (recalled line c) c
@@ -63,11 +63,11 @@ taken_same core line letter c =
     let back : SameShape (written_back (own_victim c core line) c) c = back_same (own_victim c core line) c in
     record { shards = back.shards; l1_ways = back.l1_ways; l2_ways = back.l2_ways }
 
-room_same : (victim : Option (ℕ × Bool)) (c : Caches) → SameShape (room_made victim c) c
+pub room_same : (victim : Option (ℕ × Bool)) (c : Caches) → SameShape (room_made victim c) c
 room_same None c = same c
 room_same (Some victim) c = recalled_same victim.0 c
 
-l2_same : (outcome : Outcome) (line : ℕ) (c : Caches) → SameShape (on_l2 outcome line c) c
+pub l2_same : (outcome : Outcome) (line : ℕ) (c : Caches) → SameShape (on_l2 outcome line c) c
 l2_same Hit line c = same c
 l2_same (Upgrade others) line c = looked_same line c
 l2_same (L2 others) line c = looked_same line c
@@ -79,7 +79,7 @@ dirtied_same : (b : Bool) (line : ℕ) (c : Caches) → SameShape (cond b (marke
 dirtied_same true line c = marked_same line c
 dirtied_same false line c = same c
 
-on_others_same : (outcome : Outcome) (write : Bool) (core line : ℕ) (c : Caches) → SameShape (on_others outcome write core line c) c
+pub on_others_same : (outcome : Outcome) (write : Bool) (core line : ℕ) (c : Caches) → SameShape (on_others outcome write core line c) c
 on_others_same Hit write core line c = same c
 on_others_same (Upgrade others) write core line c = others_same (other_after write) core line c
 on_others_same (L2 others) write core line c =

@@ -3,3 +3,9 @@ pub mod Kept
 pub mod Reservations
 pub mod WorkedRows
 pub mod CoherentPlaced
+pub mod CoherentLines
+pub mod CoherentLetters
+pub mod CoherentDirty
+pub mod CoherentSets
+pub mod CoherentSettled
+pub mod Coherent

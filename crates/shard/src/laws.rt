@@ -1,5 +1,5 @@
 //! Laws over the definitions alone, each the contract of a function that does nothing.
-ghost use Rattle.shard.specs.Laws.{CoresStay, HitsAreAllowed, LastIsStamp, MarksAreReservations, NumberStays, SetsStaySound, StillServes};
+ghost use Rattle.shard.specs.Laws.{CoherentStays, CoresStay, HitsAreAllowed, LastIsStamp, MarksAreReservations, NumberStays, SetsStaySound, StillServes};
 
 /// An access leaves a shard its number.
 pub fn number_stays()
@@ -37,4 +37,10 @@ pub fn marks()
 /// Whatever is accessed, from empty caches on, no set has a line twice or more lines than ways.
 pub fn sets_stay_sound()
     ensures { SetsStaySound }
+{}
+
+/// Coherence is kept by every access of a core, where there is a set for each line with room for
+/// one.
+pub fn coherence_stays()
+    ensures { CoherentStays }
 {}

@@ -1,5 +1,6 @@
 use Rattle.shard.specs.Coherence.{Caches, after_accesses, empty_caches}
-use Rattle.shard.proofs.Fits.{accesses_fit, empty_fit, sets_of_fit}
+use Rattle.shard.proofs.Fits.{accesses_fit, empty_fit}
+use Rattle.shard.proofs.CoherentSets.{sets_of_fit}
 use Rattle.shard.proofs.CoherentPlaced.{accesses_placed, empty_placed}
 use Rattle.shard.proofs.laws.sets_stay_sound.Goals as goal
 
