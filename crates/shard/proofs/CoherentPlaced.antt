@@ -302,7 +302,7 @@ accesses_placed [] c p = p
 accesses_placed (access ∷ accesses) c p =
     accesses_placed accesses (after_access c access.0 access.1) ((access_keeps c access.0 access.1).placed p)
 
-empty_at : {X : Type 0} (n k : ℕ) → get_or (replicate {A = List X} n []) k [] ≡ []
+pub empty_at : {X : Type 0} (n k : ℕ) → get_or (replicate {A = List X} n []) k [] ≡ []
 empty_at {X = X} n k =
     elim (cases_lt k n) as (λ _. get_or (replicate {A = List X} n []) k [] ≡ []) [
       | inl l ↦ get_or-replicate n k [] [] l

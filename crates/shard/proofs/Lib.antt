@@ -9,3 +9,4 @@ pub mod CoherentDirty
 pub mod CoherentSets
 pub mod CoherentSettled
 pub mod Coherent
+pub mod CoherentRuns

@@ -1,11 +1,12 @@
 -- Laws of the definitions.
-use Rattle.std.specs.Prelude.{◌≡◌, ℕ, ◌<◌, ◌↔◌, List, [], ◌∷◌, All, length, Option, IsTrue}
+use Rattle.std.specs.Prelude.{◌≡◌, ◌≢◌, ℕ, ◌<◌, ◌≤◌, ◌↔◌, List, [], ◌∷◌, All, length, Option, IsSome, IsTrue}
 use Rattle.zs_num.specs.declared.entry.Entry.{Entry}
 use Rattle.zs_num.specs.declared.request.Request.{Request}
 use Rattle.flat_memory.specs.declared.reservation.Reservation.{Reservation}
 use Rattle.flat_memory.specs.FlatMemory as flat
 use Rattle.zs_num.specs.declared.entry.Outcome.TheVariants.{Hit}
-use Rattle.shard.specs.Coherence.{Caches, after_access, after_accesses, allows, empty_caches, is_write, letter_at, outcome_of}
+use Rattle.cache_set.specs.declared.letter.Letter.TheVariants.{I}
+use Rattle.shard.specs.Coherence.{Caches, after_access, after_accesses, allows, dirty_at, empty_caches, is_alone, is_held, is_write, letter_at, outcome_of}
 use Rattle.shard.specs.Lines.{line_of}
 use Rattle.shard.specs.Marks.{ArePairedRight, MarkedMemory, marked_after, marked_reply, pairings_after}
 use Rattle.shard.specs.Served.{CanServe, HasCore, ShardState, after}
@@ -42,6 +43,20 @@ SetsStaySound = (cores shards l1_sets l1_ways l2_sets l2_ways : ℕ) (accesses :
 abbrev pub CoherentStays : Type 0
 CoherentStays = (c : Caches) (core : ℕ) (request : Request) → AreCoherent c → HaveRoom c → core < length c.l1
     → AreCoherent (after_access c core request) × HaveRoom (after_access c core request) × (length (after_access c core request).l1 ≡ length c.l1)
+
+-- what accesses of cores make of empty caches that have a set for each line, with room for one
+abbrev pub AfterEmpty : (Caches → Type 0) → Type 0
+AfterEmpty Holds = (cores shards l1_sets l1_ways l2_sets l2_ways : ℕ) (accesses : List (ℕ × Request))
+    → 1 ≤ l1_sets → 1 ≤ l1_ways → 1 ≤ l2_sets → 1 ≤ l2_ways → All (λ access. access.0 < cores) accesses
+    → Holds (after_accesses (empty_caches cores shards l1_sets l1_ways l2_sets l2_ways) accesses)
+
+-- where a core has a line in M or E, no other core has it
+abbrev pub SingleWriter : Type 0
+SingleWriter = AfterEmpty (λ c. (core other line : ℕ) → other ≢ core → IsTrue (is_alone (letter_at c core line)) → letter_at c other line ≡ I)
+
+-- each line of an L1 stands in the L2
+abbrev pub Inclusion : Type 0
+Inclusion = AfterEmpty (λ c. (core line : ℕ) → IsTrue (is_held (letter_at c core line)) → IsSome (dirty_at c line))
 
 -- ---- marks and reservations
 

@@ -1,5 +1,5 @@
 //! Laws over the definitions alone, each the contract of a function that does nothing.
-ghost use Rattle.shard.specs.Laws.{CoherentStays, CoresStay, HitsAreAllowed, LastIsStamp, MarksAreReservations, NumberStays, SetsStaySound, StillServes};
+ghost use Rattle.shard.specs.Laws.{CoherentStays, CoresStay, HitsAreAllowed, Inclusion, LastIsStamp, MarksAreReservations, NumberStays, SetsStaySound, SingleWriter, StillServes};
 
 /// An access leaves a shard its number.
 pub fn number_stays()
@@ -43,4 +43,15 @@ pub fn sets_stay_sound()
 /// one.
 pub fn coherence_stays()
     ensures { CoherentStays }
+{}
+
+/// Whatever cores access, from empty caches on: where a core has a line in M or E, no other core
+/// has it.
+pub fn single_writer()
+    ensures { SingleWriter }
+{}
+
+/// Whatever cores access, from empty caches on: the L2 has each line that an L1 has.
+pub fn inclusion()
+    ensures { Inclusion }
 {}
