@@ -3,10 +3,10 @@
 
 pub mod laws;
 mod memory;
-mod numbers;
+pub mod numbers;
 mod reservation;
 #[cfg(test)]
 mod tests;
 
 pub use memory::FlatMemory;
-pub use reservation::Reservation;
+pub use reservation::{Reservation, end_others, is_reserved};

@@ -1,4 +1,4 @@
-// Numbers in a list of bytes, little-endian.
+//! Numbers in a list of bytes, little-endian.
 ghost use Rattle.std.specs.Prelude.{◌≡◌, ◌+◌, ◌≤◌, ◌++◌, length, take, drop};
 ghost use Rattle.flat_memory.specs.FlatMemory.{number_in, with_number};
 
@@ -7,7 +7,7 @@ use byteorder::{ByteOrder, LittleEndian};
 /// The number in so many bytes from a place on.
 #[tactic(auto, unfolding(crate::specs::FlatMemory::number_in))]
 #[inline(always)]
-pub(crate) fn read(bytes: &[u8], place: usize, width: u8) -> u64
+pub fn read(bytes: &[u8], place: usize, width: u8) -> u64
     requires some { 1 ≤ width }
     requires few { width ≤ 8 }
     requires within { place + width ≤ length bytes.now }
@@ -24,7 +24,7 @@ pub(crate) fn read(bytes: &[u8], place: usize, width: u8) -> u64
 /// Puts the low bytes of a number into so many bytes from a place on.
 #[tactic(auto, unfolding(crate::specs::FlatMemory::with_number))]
 #[inline(always)]
-pub(crate) fn write(bytes: &mut [u8], place: usize, width: u8, value: u64)
+pub fn write(bytes: &mut [u8], place: usize, width: u8, value: u64)
     requires few { width ≤ 8 }
     requires within { place + width ≤ length bytes.old }
     ensures value { bytes.new ≡ with_number bytes.old place width value }

@@ -12,7 +12,7 @@ pub struct Reservation {
 }
 
 /// Whether these bytes are what a core has reserved.
-pub(crate) fn is_reserved(reservation: Option<Reservation>, addr: u64, width: u8) -> bool
+pub fn is_reserved(reservation: Option<Reservation>, addr: u64, width: u8) -> bool
     ensures { result ≡ is_reservation reservation addr width }
 {
     match reservation {
@@ -32,7 +32,7 @@ fn still(reservation: Option<Reservation>, is_writer: bool, addr: u64) -> Option
 }
 
 /// Ends what other cores have reserved in the line that a core wrote to.
-pub(crate) fn end_others(reservations: &mut [Option<Reservation>], core: u16, addr: u64)
+pub fn end_others(reservations: &mut [Option<Reservation>], core: u16, addr: u64)
     ensures { reservations.new ≡ after_write core addr reservations.old }
 {
     for (number, reservation) in reservations.iter_mut().enumerate() {
