@@ -1,4 +1,4 @@
--- What an access does not change: the number of shards, the ways, and for how many cores marks are kept.
+-- What an access does not change: the number of shards, the cores, the ways, and for how many cores marks are kept.
 use Rattle.std.proofs.Common.{◌≡◌, ℕ, Bool, true, false, cond, List, length, set, Option, Some, None, refl, ◌∙◌}
 use Rattle.std.specs.List.{enumerate_from}
 use Rattle.std.proofs.lemmas.List.{length-map, length-set}
@@ -12,44 +12,51 @@ use Rattle.cache_set.specs.declared.letter.Letter.TheVariants.{M, E, S, I}
 use Rattle.flat_memory.specs.declared.reservation.Reservation.{Reservation}
 use Rattle.flat_memory.specs.FlatMemory.{after_write}
 use Rattle.shard.specs.Coherence.{Caches, letter_at, outcome_of, is_write, some_other, is_held, is_modified, own_after, own_victim, on_l2, on_others, on_own, l2_victim, room_made, written_back, after_access, recalled, marked_dirty, fetched, looked_up, other_after, others_changed, kept_first, taken_in}
-use Rattle.shard.specs.Lines.{line_of}
+use Rattle.cache_set.specs.Ways.{without}
+use Rattle.shard.specs.Lines.{in_set_of, line_of}
 use Rattle.shard.specs.Marks.{marks_after, does_store}
 
--- the number of shards and the ways of two caches are the same
+-- the number of shards, the cores and the ways of two caches are the same
 pub record SameShape (c d : Caches) : Type 0 where
   pub shards : c.shards ≡ d.shards
   pub l1_ways : c.l1_ways ≡ d.l1_ways
   pub l2_ways : c.l2_ways ≡ d.l2_ways
+  pub cores : length c.l1 ≡ length d.l1
 
 same : (c : Caches) → SameShape c c
-same c = record { shards = refl; l1_ways = refl; l2_ways = refl }
+same c = record { shards = refl; l1_ways = refl; l2_ways = refl; cores = refl }
 
-pub after_same : (b c d : Caches) → SameShape c d → SameShape b c → SameShape b d
-after_same b c d s t = record { shards = t.shards ∙ s.shards; l1_ways = t.l1_ways ∙ s.l1_ways; l2_ways = t.l2_ways ∙ s.l2_ways }
+after_same : (b c d : Caches) → SameShape c d → SameShape b c → SameShape b d
+after_same b c d s t = record { shards = t.shards ∙ s.shards; l1_ways = t.l1_ways ∙ s.l1_ways; l2_ways = t.l2_ways ∙ s.l2_ways; cores = t.cores ∙ s.cores }
 
 recalled_same : (line : ℕ) (c : Caches) → SameShape (recalled line c) c
 unfolding recalled
-recalled_same line c = record { shards = refl; l1_ways = refl; l2_ways = refl }
+recalled_same line c = record { shards = refl; l1_ways = refl; l2_ways = refl; cores = length-map c.l1 (in_set_of c.shards line (without line)) }
 
 marked_same : (line : ℕ) (c : Caches) → SameShape (marked_dirty line c) c
 unfolding marked_dirty
-marked_same line c = record { shards = refl; l1_ways = refl; l2_ways = refl }
+marked_same line c = record { shards = refl; l1_ways = refl; l2_ways = refl; cores = refl }
 
 fetched_same : (line : ℕ) (c : Caches) → SameShape (fetched line c) c
 unfolding fetched
-fetched_same line c = record { shards = refl; l1_ways = refl; l2_ways = refl }
+fetched_same line c = record { shards = refl; l1_ways = refl; l2_ways = refl; cores = refl }
 
 looked_same : (line : ℕ) (c : Caches) → SameShape (looked_up line c) c
 unfolding looked_up
-looked_same line c = record { shards = refl; l1_ways = refl; l2_ways = refl }
+looked_same line c = record { shards = refl; l1_ways = refl; l2_ways = refl; cores = refl }
 
 others_same : (change : Letter → Letter) (core line : ℕ) (c : Caches) → SameShape (others_changed change core line c) c
 unfolding others_changed
-others_same change core line c = record { shards = refl; l1_ways = refl; l2_ways = refl }
+others_same change core line c = record {
+  shards = refl;
+  l1_ways = refl;
+  l2_ways = refl;
+  cores = length-map (enumerate_from 0 c.l1) _ ∙ length-enumerate_from 0 c.l1;
+}
 
 first_same : (core line : ℕ) (letter : Letter) (c : Caches) → SameShape (kept_first core line letter c) c
 unfolding kept_first
-first_same core line letter c = record { shards = refl; l1_ways = refl; l2_ways = refl }
+first_same core line letter c = record { shards = refl; l1_ways = refl; l2_ways = refl; cores = length-set c.l1 core _ }
 
 back_same : (victim : Option (ℕ × Letter)) (c : Caches) → SameShape (written_back victim c) c
 back_same None c = same c
@@ -61,7 +68,7 @@ taken_same : (core line : ℕ) (letter : Letter) (c : Caches) → SameShape (tak
 unfolding taken_in
 taken_same core line letter c =
     let back : SameShape (written_back (own_victim c core line) c) c = back_same (own_victim c core line) c in
-    record { shards = back.shards; l1_ways = back.l1_ways; l2_ways = back.l2_ways }
+    record { shards = back.shards; l1_ways = back.l1_ways; l2_ways = back.l2_ways; cores = length-set (written_back (own_victim c core line) c).l1 core _ ∙ back.cores }
 
 pub room_same : (victim : Option (ℕ × Bool)) (c : Caches) → SameShape (room_made victim c) c
 room_same None c = same c

@@ -1,6 +1,9 @@
+pub mod FirstBytes
 pub mod Fits
 pub mod Kept
+pub mod LaidOut
 pub mod Reservations
+pub mod Unmarked
 pub mod WorkedRows
 pub mod CoherentPlaced
 pub mod CoherentLines

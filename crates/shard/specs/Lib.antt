@@ -3,4 +3,5 @@ pub mod Laws
 pub mod Lines
 pub mod Marks
 pub mod Served
+pub mod ShardLayout
 pub mod StandsFor

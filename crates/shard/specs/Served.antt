@@ -1,6 +1,6 @@
 -- A shard, and what it does with an access. All is said by functions of the shard and the recorded entry, so that a list of
 -- entries is at once the list of requests, of replies and of stamps.
-use Rattle.std.specs.Prelude.{◌≡◌, ℕ, ◌+◌, ◌-◌, ◌*◌, ◌/◌, ◌%◌, ◌<◌, List, length, replicate, Option, None}
+use Rattle.std.specs.Prelude.{◌≡◌, ℕ, ◌+◌, ◌-◌, ◌*◌, ◌/◌, ◌%◌, ◌<◌, List, length, max, replicate, Option, None}
 use Rattle.std.specs.List.{flat_map, range_with_len}
 use Rattle.zs_num.specs.Request.{addr_of, IsServable}
 use Rattle.zs_num.specs.declared.entry.Entry.{Entry}
@@ -58,6 +58,21 @@ after shard entry = record shard {
   marks = marks_after shard.marks entry.core entry.request;
   last = entry.stamp;
 }
+
+-- The entry that a shard answers to an access of a core, whose own latest stamp was `last`: the reply and the outcome are
+-- those of the shard, and the stamp is past the latest of both (L. Lamport, "Time, Clocks, and the Ordering of Events in a
+-- Distributed System", 1978).
+pub record IsServedBy (shard : ShardState) (core start last : ℕ) (request : Request) (entry : Entry) : Type 0 where
+  pub core_is : entry.core ≡ core
+  pub start_is : entry.start ≡ start
+  pub request_is : entry.request ≡ request
+  pub reply : entry.reply ≡ reply_of shard entry
+  pub outcome : entry.outcome ≡ met_by shard entry
+  pub stamp : entry.stamp ≡ max shard.last last + 1
+
+-- a shard whose latest stamp is another
+abbrev pub resumed : ShardState → (last : ℕ) → ShardState
+resumed shard last = record shard { last = last }
 
 -- ---- before the first access
 
