@@ -1,4 +1,5 @@
-pub mod FirstBytes
+pub mod CoreSets
+pub mod Entries
 pub mod Fits
 pub mod Kept
 pub mod LaidOut

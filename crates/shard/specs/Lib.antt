@@ -1,3 +1,4 @@
+pub mod CacheLayout
 pub mod Coherence
 pub mod Laws
 pub mod Lines

@@ -1,7 +1,7 @@
 //! One shard of the machine: the caches and the memory of the lines that are dealt to it.
 #![tactic(auto)]
 
-mod filling;
+mod caches;
 pub mod laws;
 mod marked_bytes;
 mod marks;
