@@ -143,3 +143,21 @@ used_kept {X} line es h = by_kept (kept_of line es) refl h where
   by_kept : (o : Option X) → kept_of line es ≡ o → IsSome o → IsSome (kept_of line (used line es))
   by_kept None at some = absurd cc
   by_kept (Some kept) at some = rw (at, eq-eqb line line refl) refl
+
+-- use changes nothing that is kept
+pub kept-used : {X : Type 0} → (line q : ℕ) (es : List (ℕ × X)) → IsDistinct nat_eq (keys_of es) → kept_of q (used line es) ≡ kept_of q es
+kept-used {X} line q es d = by_kept (kept_of line es) refl where
+  by_kept : (o : Option X) → kept_of line es ≡ o → kept_of q (used line es) ≡ kept_of q es
+  by_kept None at = rw at refl
+  by_kept (Some kept) at =
+      rw at (kept-first line q kept (without line es) ∙ (ap (λ (o : Option X). cond (nat_eq line q) (Some kept) o) (kept-without line q es d)
+      ∙ elim (cases_eq line q) as (λ _. cond (nat_eq line q) (Some kept) (cond (nat_eq line q) None (kept_of q es)) ≡ kept_of q es) [
+        | inl e ↦ rw (eq-eqb line q e) (sym at ∙ ap (λ (x : ℕ). kept_of x es) e)
+        | inr e ↦ rw (ne_eqb line q e) refl
+      ]))
+
+pub used-as : {X Y : Type 0} (g : X → Y) (line : ℕ) (es : List (ℕ × X)) → each_as g (used line es) ≡ used line (each_as g es)
+used-as {X} g line es = by_kept (kept_of line es) refl where
+  by_kept : (o : Option X) → kept_of line es ≡ o → each_as g (used line es) ≡ used line (each_as g es)
+  by_kept None at = rw (at, kept-as g line es, at) refl
+  by_kept (Some kept) at = rw (at, kept-as g line es, at, ← without-as g line es) refl

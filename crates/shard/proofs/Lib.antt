@@ -4,7 +4,7 @@ pub mod Fits
 pub mod Kept
 pub mod LaidOut
 pub mod Reservations
-pub mod Unmarked
+pub mod SharedSets
 pub mod WorkedRows
 pub mod CoherentPlaced
 pub mod CoherentLines

@@ -1,2 +1,3 @@
 // The caches of a shard's lines.
-pub(crate) mod core_cache;
+mod core_cache;
+mod shared_set;
