@@ -1,3 +1,4 @@
+pub mod AllCaches
 pub mod CoreSets
 pub mod Entries
 pub mod Fits

@@ -129,10 +129,10 @@ pub record IsShared (ways cores : ℕ) (s : SharedLines) : Type 0 where
   pub same_ways : s.ways ≡ ways
   pub same_cores : s.map.cores ≡ cores
 
--- the directories say of each line which cores have it, and which core has it in M or E
-pub record Tell (c : Caches) (l2 : List SharedLines) : Type 0 where
-  pub holds : (core line : ℕ) → is_among (sharing_at c.shards l2 line) core ≡ is_held (letter_at c core line)
-  pub owns : (core line : ℕ) → is_owner (sharing_at c.shards l2 line).owner core ≡ is_alone (letter_at c core line)
+-- who has which lines is what the cores' letters say, and the owner is the core with M or E
+pub record Tells (letters : (core line : ℕ) → Letter) (sharing : (line : ℕ) → Sharing) : Type 0 where
+  pub holds : (core line : ℕ) → is_among (sharing line) core ≡ is_held (letters core line)
+  pub owns : (core line : ℕ) → is_owner (sharing line).owner core ≡ is_alone (letters core line)
 
 pub record AreLists (shards l1_ways l2_ways : ℕ) (l1 : List CoreLines) (l2 : List SharedLines) : Type 0 where
   pub a_shard : 0 < shards
@@ -140,4 +140,5 @@ pub record AreLists (shards l1_ways l2_ways : ℕ) (l1 : List CoreLines) (l2 : L
   pub few_cores : length l1 ≤ 256
   pub each_core : All (IsCore shards l1_ways) l1
   pub each_set : All (IsShared l2_ways (length l1)) l2
-  pub tell : Tell (lists_view shards l1_ways l2_ways l1 l2) l2
+  -- the directories say of each line which cores have it, and which core has it in M or E
+  pub tells : Tells (letter_at (lists_view shards l1_ways l2_ways l1 l2)) (sharing_at shards l2)
