@@ -33,7 +33,7 @@ module _ (seen : Seen) (k : Kept) (machine : Machine) (image : MemoryImage) (com
   asked : IsOk (setup_of seen.words k)
   asked = ap is_ok come.setup
 
-  gives : (r : Results) → IsRunOf machine image k.schedule.lists r → Gives seen.words k r
+  abbrev gives : (r : Results) → IsRunOf machine image k.schedule.lists r → Gives seen.words k r
   gives r run = record { setup = record { machine = machine; image = image }; is = come.setup; run = run }
 
   reported : (s : Status) → RanWhole s machine image k.schedule.lists seen.out → IsReported s seen k

@@ -12,8 +12,7 @@ use Rattle.zsim.specs.CommandLine.{command_of}
 use Rattle.zsim.specs.ErrorLine.{error_line}
 use Rattle.zsim.specs.Limits.{exe_limit}
 use Rattle.zsim.specs.ReferenceRun.{IsLegalSoFar, IsRunOf}
-use Rattle.zsim.specs.ReportText.{report_text}
-use Rattle.zsim.specs.Results.{Results}
+use Rattle.zsim.specs.Results.{Results, report_of}
 use Rattle.zsim.specs.Seen.{Seen, SinkSeen, FailedToRead, FileFailed, Gained, GainedNothing, GainedPrefix, NoFileFailed, NoPutFailed, PutFailed, SameNames, WasRead}
 use Rattle.zsim.specs.Setup.{Setup, setup_of}
 
@@ -78,11 +77,12 @@ status_at Limit = status.Limit
 
 -- standard output gained the whole report of the run, whose end the status tells
 abbrev pub IsReported : Status → Seen → Kept → Type 0
-IsReported s seen kept = (r : Results) × Gives seen.words kept r × (s ≡ status_at r.ending) × Gained seen.out (report_text r)
+IsReported s seen kept =
+    (r : Results) × (run : Gives seen.words kept r) × (s ≡ status_at r.ending) × Gained seen.out (report_of run.setup.machine r)
 
 -- it gained a prefix of the report
 abbrev pub IsCut : Seen → Kept → Type 0
-IsCut seen kept = (r : Results) × Gives seen.words kept r × GainedPrefix seen.out (report_text r)
+IsCut seen kept = (r : Results) × (run : Gives seen.words kept r) × GainedPrefix seen.out (report_of run.setup.machine r)
 
 abbrev pub Reports : Status → Seen → Kept → Type 0
 Reports status.Ran seen kept = IsReported status.Ran seen kept

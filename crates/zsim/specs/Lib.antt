@@ -7,7 +7,6 @@ pub mod Port
 pub mod ReferenceRun
 pub mod IntervalWeave
 pub mod Progress
-pub mod ReportText
 pub mod ErrorLine
 pub mod Seen
 pub mod Setup

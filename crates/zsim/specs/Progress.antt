@@ -16,6 +16,7 @@ use Rattle.zsim.specs.FlatWorld.{FlatWorld, serve}
 use Rattle.zsim.specs.Limits.{room_beyond}
 use Rattle.access_log.specs.RecordedOrder.{Stamps, no_stamps, recorded_order}
 use Rattle.zsim.specs.ReferenceRun.{RunState, after_interval, end_of, ending_before, time_of}
+use Rattle.zsim.specs.Results.{Results}
 
 -- a bound phase of one core
 abbrev pub one_core : TimedCore → FlatWorld → List Entry → BoundState FlatWorld
@@ -75,6 +76,12 @@ pub record IsBounded (machine : Machine) (image : MemoryImage) (end : ℕ) (befo
   pub clock : after.core.timed.clock ≤ 2 ^ 57
   pub connected : IsConnected after
   pub over : IsOver end after.core.timed
+
+-- the results have the cores of the machine, and a count for each of them and for each component
+pub record HasCounts (machine : Machine) (r : Results) : Type 0 where
+  pub cores : length r.cores ≡ machine.cores
+  pub core_counts : length r.counts.core_counts ≡ machine.cores
+  pub comp_counts : length r.counts.comp_counts ≡ component_count machine
 
 -- an interval under these turns leads on from there
 pub record LeadsTo (machine : Machine) (image : MemoryImage) (s : RunState) (turns : List ℕ) (p : Progress) : Type 0 where

@@ -1,6 +1,6 @@
 -- The run of the machine of one thread under a schedule, which has a list of turns for each interval. An interval is its
 -- bound phase, the weave of the events that were recorded in it, and the feedback of what the core waited.
-use Rattle.std.specs.Prelude.{◌≡◌, ℕ, ◌+◌, ◌*◌, ◌==◌, nat_lt, Bool, ◌||◌, if◌then◌else◌, List, [], ◌∷◌, ◌++◌, length, map, take, drop, slice_index, Option, Some, None, is_none, is_some, Result, Ok, Err}
+use Rattle.std.specs.Prelude.{◌≡◌, ℕ, ◌+◌, ◌*◌, ◌==◌, nat_lt, Bool, ◌||◌, if◌then◌else◌, List, [], ◌∷◌, ◌++◌, length, map, slice_index, Option, Some, None, is_none, is_some, Result, Ok, Err}
 use Rattle.std.specs.List.{enumerate_from, list_all, list_any, range_with_len}
 use Rattle.zs_num.specs.declared.entry.Entry.{Entry}
 use Rattle.elf_load.specs.MemoryImage.{MemoryImage}
@@ -12,10 +12,8 @@ use Rattle.event_graph.specs.EventGraph.{all_events}
 use Rattle.event_graph.specs.OneListWeave.{comps_after, fired_of, woven}
 use Rattle.event_graph.specs.Timing.{pieces_of, time_by}
 use Rattle.feedback.specs.FeedbackDelay.{feedback_delays}
-use Rattle.stats.specs.declared.counts.CoreCount.{CoreCount}
-use Rattle.stats.specs.Counts.{Interval, core_total, counts_of, total_accesses}
+use Rattle.stats.specs.Counts.{Interval, counts_of, total_accesses}
 use Rattle.zsim.specs.Limits.{access_limit, cycle_limit, room_beyond}
-use Rattle.zsim.specs.declared.results.CoreResult.{CoreResult}
 use Rattle.zsim.specs.declared.results.Ending.{Ending}
 use Rattle.zsim.specs.declared.results.Ending.TheVariants.{Halted, Limit}
 use Rattle.bound_core.specs.ReferenceMachine.{BoundState, bound_phase}
@@ -136,19 +134,13 @@ first_state machine image comps = record {
   intervals = [];
 }
 
-abbrev pub core_result : TimedCore → CoreCount → CoreResult
-core_result c count = record { instructions = c.instructions; cycles = c.clock; count = count; halted = c.core.halted; console = c.console }
-
 -- what the run gives where it ends in this way
 abbrev pub results_of : Machine → RunState → Ending → Results
-results_of machine s ending = let counts = counts_of machine.cores s.comps s.intervals in record {
+results_of machine s ending = record {
   ending = ending;
   intervals = length s.intervals;
-  accesses = counts.accesses;
-  events = counts.events;
-  cores = map (λ at. core_result at.1 (core_total s.intervals at.0)) (enumerate_from 0 s.cores);
-  banks = take machine.l2.banks counts.comp_counts;
-  controllers = drop machine.l2.banks counts.comp_counts;
+  cores = s.cores;
+  counts = counts_of machine.cores s.comps s.intervals;
 }
 
 -- what the run gives that ends so, or the place that is missing where it goes on

@@ -1,17 +1,20 @@
--- What a run gives.
-use Rattle.std.specs.Prelude.{ℕ, List}
-use Rattle.zsim.specs.declared.results.CoreResult.{CoreResult}
-use Rattle.stats.specs.declared.counts.CompCount.{CompCount}
+-- What a run gives, and its report.
+use Rattle.std.specs.Prelude.{ℕ, false, List}
+use Rattle.machine_desc.specs.declared.machine.Machine.{Machine}
+use Rattle.bound_core.specs.Timed.{TimedCore}
+use Rattle.stats.specs.Counts.{Counts}
+use Rattle.report.specs.ReportText.{report_text}
 use Rattle.zsim.specs.declared.results.Ending.{Ending}
 
 pub record Results : Type 0 where
   pub ending : Ending
   -- how many intervals were run
   pub intervals : ℕ
-  -- how many accesses and events there were in all of them
-  pub accesses : ℕ
-  pub events : ℕ
-  -- in order of their numbers
-  pub cores : List CoreResult
-  pub banks : List CompCount
-  pub controllers : List CompCount
+  -- the cores at its end, in order of their numbers
+  pub cores : List TimedCore
+  -- what was counted in all intervals
+  pub counts : Counts
+
+-- the report of a run on a machine
+abbrev pub report_of : Machine → Results → List ℕ
+report_of machine r = report_text machine r.counts r.cores r.intervals false

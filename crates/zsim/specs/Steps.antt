@@ -8,8 +8,7 @@ use Rattle.zsim.specs.declared.ended.Status.{Status}
 use Rattle.zsim.specs.declared.ended.Status.TheVariants as status
 use Rattle.zsim.specs.Ended.{status_at}
 use Rattle.zsim.specs.ReferenceRun.{IsLegalSoFar, IsRunOf}
-use Rattle.zsim.specs.ReportText.{report_text}
-use Rattle.zsim.specs.Results.{Results}
+use Rattle.zsim.specs.Results.{Results, report_of}
 use Rattle.zsim.specs.Seen.{SinkSeen, Gained, GainedNothing, GainedPrefix, NoPutFailed, PutFailed}
 use Rattle.zsim.specs.Setup.{Setup}
 
@@ -32,11 +31,11 @@ Answers machine (Err _) setup = ⊥
 -- the run of an image was reported whole
 abbrev pub RanWhole : Status → Machine → MemoryImage → (lists : List (List ℕ)) → (out : SinkSeen) → Type 0
 RanWhole s machine image lists out =
-    (r : Results) × IsRunOf machine image lists r × (s ≡ status_at r.ending) × Gained out (report_text r)
+    (r : Results) × IsRunOf machine image lists r × (s ≡ status_at r.ending) × Gained out (report_of machine r)
 
 -- a prefix of its report was put
 abbrev pub RanCut : Machine → MemoryImage → (lists : List (List ℕ)) → (out : SinkSeen) → Type 0
-RanCut machine image lists out = (r : Results) × IsRunOf machine image lists r × GainedPrefix out (report_text r)
+RanCut machine image lists out = (r : Results) × IsRunOf machine image lists r × GainedPrefix out (report_of machine r)
 
 -- what each status says of the run of an image
 abbrev pub RunsAs : Status → Machine → MemoryImage → (lists : List (List ℕ)) → (out : SinkSeen) → Type 0

@@ -11,7 +11,6 @@ mod limits;
 mod machine;
 mod progress;
 mod put;
-mod report;
 mod results;
 mod running;
 mod schedule;

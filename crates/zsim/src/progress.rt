@@ -1,12 +1,11 @@
 // A run between two intervals.
-ghost use Rattle.std.specs.Prelude.{◌≡◌, ◌+◌, ◌-◌, ◌*◌, ◌<◌, ◌≤◌, ◌^◌, [], ◌∷◌, All, IfOk, length, map, nat_lt, slice_get, Some};
+ghost use Rattle.std.specs.Prelude.{◌≡◌, ◌+◌, ◌-◌, ◌*◌, ◌<◌, ◌≤◌, ◌^◌, [], ◌∷◌, All, IfOk, length, map, nat_lt};
 ghost use Rattle.std.specs.List.{list_any};
-ghost use Rattle.machine_desc.specs.Components.{component_count};
+ghost use Rattle.machine_desc.specs.declared.machine.Machine.{Machine};
 ghost use Rattle.machine_desc.specs.Machine.{IsMachine};
 ghost use Rattle.component.specs.ComponentStep.{free_of};
 ghost use Rattle.component.specs.Components.{AreFresh};
-ghost use Rattle.stats.specs.declared.counts.CoreCount.{CoreCount};
-ghost use Rattle.zsim.specs.ReferenceRun.{RunState, access_room, at_limit, core_result, ending_at, first_state, results_of};
+ghost use Rattle.zsim.specs.ReferenceRun.{RunState, access_room, at_limit, ending_at, first_state, results_of};
 ghost use Rattle.zsim.specs.Limits.{cycle_limit};
 ghost use Rattle.zsim.specs.Progress.{GoesOn, StandsFor, HasRoom, IsBounded, LeadsTo};
 ghost use Rattle.zsim.specs.IntervalWeave.{IsPlainOf};
@@ -14,7 +13,7 @@ ghost use Rattle.zsim.specs.IntervalWeave.{IsPlainOf};
 use crate::flat_port::FlatPort;
 use crate::flat_world::FlatWorld;
 use crate::limits::{ACCESS_LIMIT, CYCLE_LIMIT, ROOM_BEYOND};
-use crate::results::{CoreResult, Ending, RunResults};
+use crate::results::{Ending, RunResults};
 use crate::weaving::weave_interval;
 use bound_core::BoundCore;
 use component::{Comp, Comps, components};
@@ -24,7 +23,7 @@ use machine_desc::Machine;
 use rv_core::DecodedProgram;
 use stats::Counters;
 use std::alloc::Global;
-use zs_num::{Bytes, Cycle, Entries, Entry, NoMemory};
+use zs_num::{Cycle, Entries, Entry, NoMemory};
 
 /// A run between two intervals: its core, the core's port to memory, its components and what was
 /// counted.
@@ -148,46 +147,19 @@ impl Progress {
     }
 
     /// What the run gives where it ends before interval k.
-    pub fn results(
-        &self,
-        alloc: Global,
-        machine: &Machine,
-        k: u32,
-        ending: Ending,
-    ) -> Result<RunResults, NoMemory>
-        requires machine { IsMachine machine.now }
-        requires cores { machine.now.cores ≡ 1 }
-        requires comps { length self.now.counters.comp_counts ≡ component_count machine.now }
-        requires count { length self.now.counters.core_counts ≡ 1 }
-        ensures { IfOk result (λ r. (s : RunState) → StandsFor machine.now s self.now → length s.intervals ≡ k → r ≡ results_of machine.now s ending) }
+    pub fn results(self, alloc: Global, k: u32, ending: Ending) -> Result<RunResults, NoMemory>
+        ensures results { IfOk result (λ r. (machine : Machine) (s : RunState) → StandsFor machine s self → length s.intervals ≡ k → r ≡ results_of machine s ending) }
+        ensures cores { IfOk result (λ r. length r.cores ≡ 1) }
+        ensures counts { IfOk result (λ r. r.counts ≡ self.counters) }
     {
-        let counts = self.counters.comp_counts();
-        let (banks, controllers) = counts.split_at(machine.l2.banks as usize);
+        let mut cores = Vec::new(alloc);
+        cores.push(self.core)?;
         Ok(RunResults {
             ending,
             intervals: k,
-            accesses: self.counters.accesses(),
-            events: self.counters.events(),
-            cores: self.core_results(alloc)?,
-            banks: Vec::from_slice(alloc, banks)?,
-            controllers: Vec::from_slice(alloc, controllers)?,
+            cores,
+            counters: self.counters,
         })
-    }
-
-    // What the run gives of its one core.
-    fn core_results(&self, alloc: Global) -> Result<Vec<CoreResult>, NoMemory>
-        requires { length self.now.counters.core_counts ≡ 1 }
-        ensures { IfOk result (λ cores. (count : CoreCount) → slice_get self.now.counters.core_counts 0 ≡ Some count → cores.items ≡ core_result self.now.core.timed count ∷ []) }
-    {
-        let mut cores = Vec::new(alloc);
-        cores.push(CoreResult {
-            instructions: self.core.instructions(),
-            cycles: self.core.clock(),
-            count: self.counters.core(0),
-            halted: self.core.halted(),
-            console: Bytes::from_slice(alloc, self.core.console())?,
-        })?;
-        Ok(cores)
     }
 }
 

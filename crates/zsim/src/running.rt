@@ -1,6 +1,7 @@
 // The run of an executable: intervals until every core halted, or until a limit.
 ghost use Rattle.std.specs.Prelude.{◌≡◌, [], IfOk, OnErr};
 ghost use Rattle.machine_desc.specs.Machine.{IsMachine};
+ghost use Rattle.zsim.specs.Progress.{HasCounts};
 ghost use Rattle.zsim.specs.ReferenceRun.{IsLegalSoFar, IsRunOf};
 
 use crate::Schedule;
@@ -29,6 +30,7 @@ pub fn run(
     requires empty { schedule.old.lists ≡ [] }
     requires cores_known { schedule.old.cores ≡ 1 }
     ensures ok { IfOk result (IsRunOf machine.now image.now schedule.new.lists) }
+    ensures counted { IfOk result (HasCounts machine.now) }
     ensures err { OnErr result (IsLegalSoFar machine.now image.now schedule.new.lists) }
     ensures cores { schedule.new.cores ≡ schedule.old.cores }
 {
@@ -41,7 +43,7 @@ pub fn run(
     let mut end = 0;
     loop {
         if let Some(ending) = progress.ending(machine, k) {
-            return progress.results(alloc, machine, k, ending);
+            return progress.results(alloc, k, ending);
         }
         k += 1;
         end += machine.interval;

@@ -3,18 +3,17 @@ ghost use Rattle.std.specs.Prelude.{◌≡◌, ◌<◌, ◌≤◌, ◌^◌, All,
 
 use crate::error_line::error_line;
 use crate::machine::plain;
-use crate::results::{CoreResult, Ending, RunResults};
+use crate::results::Ending;
 use crate::running::run;
 use crate::weaving::weave_interval;
-use crate::{Schedule, Status, report};
+use crate::{Schedule, Status};
 use component::components;
 use elf_load::{BadElf, load};
 use event_graph::{Fired, Plain};
-use rv_core::Why;
-use stats::{CompCount, CoreCount};
+use stats::CompCount;
 use std::alloc::Global;
 use std::test::Fail;
-use zs_num::{Bytes, Entries, Entry, NoMemory, Outcome, Request};
+use zs_num::{Entries, Entry, NoMemory, Outcome, Request};
 
 // An executable of eight words, by the ELF-64 object file format, up to its code at byte 120.
 static FRONT: [u8; 120] = [
@@ -77,8 +76,8 @@ fn a_run_ends_at_the_limit_of_intervals(rt: HostRuntime) -> Result<(), Fail> {
         assert_eq!(rt; schedule.intervals(), ran);
         assert_eq!(rt; results.cores.len(), 1);
         for core in &results.cores {
-            assert_eq!(rt; core.instructions, instructions);
-            assert_eq!(rt; core.cycles, instructions);
+            assert_eq!(rt; core.instructions(), instructions);
+            assert_eq!(rt; core.clock(), instructions);
         }
     }
     Ok(())
@@ -99,29 +98,23 @@ fn a_busy_bank_delays_the_core(rt: HostRuntime) -> Result<(), Fail> {
     assert_eq!(rt; results.ending, Ending::Halted);
     assert_eq!(rt; results.cores.len(), 1);
     for core in &results.cores {
-        assert_eq!(rt;
-            (core.instructions, core.cycles, core.count.delay),
-            (4, 246, 16)
-        );
-        assert_eq!(rt; (core.count.loads, core.count.misses), (2, 2));
+        assert_eq!(rt; (core.instructions(), core.clock()), (4, 246));
     }
+    let count = results.counters.core(0);
+    assert_eq!(rt; (count.delay, count.loads, count.misses), (16, 2, 2));
+    let bank = CompCount {
+        events: 4,
+        waited: 16,
+        free: 262,
+    };
+    let controller = CompCount {
+        events: 2,
+        waited: 0,
+        free: 162,
+    };
     assert_eq!(rt;
-        results.banks.as_slice(),
-        [CompCount {
-            events: 4,
-            waited: 16,
-            free: 262
-        }]
-        .as_slice()
-    );
-    assert_eq!(rt;
-        results.controllers.as_slice(),
-        [CompCount {
-            events: 2,
-            waited: 0,
-            free: 162
-        }]
-        .as_slice()
+        results.counters.comp_counts(),
+        [bank, controller].as_slice()
     );
     assert_eq!(rt; schedule.intervals(), 1);
     assert_eq!(rt; schedule.list(0), [0, 0].as_slice());
@@ -206,59 +199,6 @@ fn a_long_run_keeps_a_list_for_each_interval(rt: HostRuntime) -> Result<(), Fail
     assert_eq!(rt; results.ending, Ending::Limit);
     assert_eq!(rt; results.intervals, 70_000);
     assert_eq!(rt; schedule.intervals(), 70_000);
-    Ok(())
-}
-
-// The most of each number, with a console of 64 KiB that no byte of prints as itself.
-fn largest_core(alloc: Global) -> Result<CoreResult, NoMemory> {
-    Ok(CoreResult {
-        instructions: u64::MAX,
-        cycles: u64::MAX,
-        count: CoreCount {
-            delay: u128::MAX,
-            loads: u64::MAX,
-            stores: u64::MAX,
-            atomics: u64::MAX,
-            hits: u64::MAX,
-            upgrades: u64::MAX,
-            l2hits: u64::MAX,
-            misses: u64::MAX,
-        },
-        halted: Some(Why::Misaligned { target: u64::MAX }),
-        console: Bytes::of(vec![in alloc; 0; 65_536]?),
-    })
-}
-
-// 64 cores, 64 banks and 16 controllers. The length is that of the text in docs/report.md.
-#[test]
-fn the_largest_report_is_written_whole(rt: HostRuntime) -> Result<(), Fail> {
-    let alloc = rt.alloc();
-    let mut cores = Vec::new(alloc);
-    for _ in 0..64 {
-        cores.push(largest_core(alloc)?)?;
-    }
-    let component = CompCount {
-        events: u64::MAX,
-        waited: u128::MAX,
-        free: u64::MAX,
-    };
-    let results = RunResults {
-        ending: Ending::Halted,
-        intervals: 1 << 20,
-        accesses: 1 << 26,
-        events: 1 << 28,
-        cores,
-        banks: vec![in alloc; component; 64]?,
-        controllers: vec![in alloc; component; 16]?,
-    };
-    let text = report::text(alloc, &results)?;
-    let first =
-        "zsim report 1\ncores 64\nintervals 1048576\ninstructions 1180591620717411303360\ncycles 18446744073709551615\naccesses 67108864\nevents 268435456\n";
-    let last =
-        "controller 15 events 18446744073709551615 waited 340282366920938463463374607431768211455 free 18446744073709551615\n";
-    assert_eq!(rt; text.as_slice().len(), 16809812);
-    assert!(rt; text.as_slice().starts_with(first.as_bytes()));
-    assert!(rt; text.as_slice().ends_with(last.as_bytes()));
     Ok(())
 }
 

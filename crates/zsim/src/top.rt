@@ -3,7 +3,8 @@ ghost use Rattle.std.specs.Prelude.{◌≡◌, ◌⊎◌, ℕ, [], List, None, S
 ghost use Rattle.machine_desc.specs.Plain.{plain_machine};
 ghost use Rattle.zsim.specs.Ended.{status_at, Gives, IsOutcome, Says};
 ghost use Rattle.zsim.specs.ReferenceRun.{IsLegalSoFar, IsRunOf};
-ghost use Rattle.zsim.specs.Results.{Results};
+ghost use Rattle.zsim.specs.Progress.{HasCounts};
+ghost use Rattle.zsim.specs.Results.{Results, report_of};
 ghost use Rattle.zsim.specs.Seen.{files_seen, sink_seen};
 ghost use Rattle.zsim.specs.Setup.{loaded_on};
 ghost use Rattle.zsim.specs.Steps.{Answers, IsEmpty, RunsAs};
@@ -14,7 +15,7 @@ use crate::limits::EXE_LIMIT;
 use crate::machine::plain;
 use crate::put::put_all;
 use crate::results::{Ending, RunResults};
-use crate::{Ended, Kept, Said, Schedule, Status, Which, report, running};
+use crate::{Ended, Kept, Said, Schedule, Status, Which, running};
 use elf_load::{Image, LoadFail, load};
 use machine_desc::{Machine, PLAIN};
 use std::alloc::{AllocError, Global};
@@ -126,7 +127,7 @@ fn run_and_report<O: Sink>(
         Ok(results) => results,
         Err(NoMemory) => return Status::NoMemory,
     };
-    let text = match report::text(alloc, &results) {
+    let text = match whole_report(alloc, machine, &results) {
         Ok(text) => text,
         Err(NoMemory) => return Status::NoMemory,
     };
@@ -151,9 +152,25 @@ fn run_plain(
     requires cores_known { schedule.old.cores ≡ 1 }
     ensures ok { IfOk result (IsRunOf plain_machine image.now schedule.new.lists) }
     ensures err { OnErr result (IsLegalSoFar plain_machine image.now schedule.new.lists) }
+    ensures counted { IfOk result (HasCounts plain_machine) }
     ensures cores { schedule.new.cores ≡ schedule.old.cores }
 {
     running::run(alloc, machine, image, schedule)
+}
+
+// The whole report of a run.
+fn whole_report(alloc: Global, machine: &Machine, results: &RunResults) -> Result<Bytes, NoMemory>
+    requires { HasCounts machine.now results.now }
+    ensures { IfOk result (λ text. text ≡ report_of machine.now results.now) }
+{
+    report::text(
+        alloc,
+        machine,
+        &results.counters,
+        &results.cores,
+        results.intervals,
+        false,
+    )
 }
 
 // The status of a run that was reported whole.

@@ -3,11 +3,13 @@ use Rattle.std.proofs.lemmas.Result.{IfOk-weaker}
 use Rattle.std.proofs.lemmas.List.{length-append}
 use Rattle.zs_num.specs.declared.entry.Entry.{Entry}
 use Rattle.elf_load.specs.MemoryImage.{MemoryImage}
+use Rattle.machine_desc.specs.declared.machine.Machine.{Machine}
 use Rattle.zsim.specs.Schedule.{IntervalLists}
 use Rattle.zsim.specs.ReferenceRun.{IsLegalSoFar, IsRunOf, RunState, after_intervals, ending_before, first_state, results_of}
 use Rattle.zsim.specs.Results.{Results}
 use Rattle.zsim.specs.Progress.{StandsFor, LeadsTo}
-use Rattle.zsim.proofs.NextInterval.{counts_come, has_room}
+use Rattle.zsim.proofs.NextInterval.{has_room}
+use Rattle.zsim.proofs.RunEnds.{counted_run}
 use Rattle.zsim.proofs.RunSoFar.{HasRun, accesses_are, below_limit, ends_with, further, goes, legal_so_far, nothing_run, on_err, same_ending}
 use Rattle.zsim.proofs.running.run.Goals as goal
 
@@ -48,16 +50,6 @@ loop-ending-init c =
       cores = refl;
     }
 
-pub results-requires-clause-comps : goal.results-requires-clause-comps
-results-requires-clause-comps c =
-    let h = c.loop-ending.invariant.run in
-    (counts_come c.args.machine.now h.state c.loop-ending.progress h.come).1
-
-pub results-requires-clause-count : goal.results-requires-clause-count
-results-requires-clause-count c =
-    let h = c.loop-ending.invariant.run in
-    (counts_come c.args.machine.now h.state c.loop-ending.progress h.come).0 ∙ c.requires.cores
-
 pub returns-in-Some-clause-ok : goal.returns-in-Some-clause-ok
 returns-in-Some-clause-ok c =
     let machine = c.args.machine.now in
@@ -67,14 +59,21 @@ returns-in-Some-clause-ok c =
     let h = c.loop-ending.invariant.run in
     let long : length h.state.intervals ≡ c.loop-ending.k = h.as_long ∙ c.loop-ending.invariant.count in
     let ends : ending_before machine h.state ≡ Some c.in-Some.ending = sym (same_ending machine h.state p h.come c.loop-ending.k long) ∙ sym c.in-Some.ensures in
-    let is_run : (r : Results) → ((s : RunState) → StandsFor machine s p → length s.intervals ≡ c.loop-ending.k → r ≡ results_of machine s c.in-Some.ending) → IsRunOf machine image lists r =
+    let is_run : (r : Results) → ((m : Machine) (s : RunState) → StandsFor m s p → length s.intervals ≡ c.loop-ending.k → r ≡ results_of m s c.in-Some.ending) → IsRunOf machine image lists r =
     λ r are. record {
       comps = h.comps;
       fresh = h.fresh;
-      gives = ends_with machine image lists p h c.in-Some.ending ends ∙ ap Ok (sym (are h.state h.come long));
+      gives = ends_with machine image lists p h c.in-Some.ending ends ∙ ap Ok (sym (are machine h.state h.come long));
     }
     in
-    IfOk-weaker c.results.result _ (IsRunOf machine image lists) is_run c.results.ensures
+    IfOk-weaker c.results.result _ (IsRunOf machine image lists) is_run c.results.ensures.results
+
+pub returns-in-Some-clause-counted : goal.returns-in-Some-clause-counted
+returns-in-Some-clause-counted c =
+    let machine = c.args.machine.now in
+    let p = c.loop-ending.progress in
+    let h = c.loop-ending.invariant.run in
+    counted_run machine h.state p h.come c.requires.cores c.results.result c.results.ensures.cores c.results.ensures.counts
 
 pub interval-requires-clause-room : goal.interval-requires-clause-room
 interval-requires-clause-room c =

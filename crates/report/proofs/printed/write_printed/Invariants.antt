@@ -1,7 +1,7 @@
 -- what was written and what is left to print are all of it
 use Rattle.std.proofs.Common.{◌≡◌, ◌++◌, string_bytes, drop}
-use Rattle.zsim.specs.ReportText.{printed}
-use Rattle.zsim.proofs.report.write_printed.Given as goal
+use Rattle.report.specs.ReportText.{printed}
+use Rattle.report.proofs.printed.write_printed.Given as goal
 
 abbrev pub invariant-loop-byte : goal.invariant-loop-byte
 invariant-loop-byte l =

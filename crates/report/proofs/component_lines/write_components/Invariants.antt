@@ -1,7 +1,7 @@
 -- what was written and the lines of the rest are all lines
 use Rattle.std.proofs.Common.{◌≡◌, ◌++◌, string_bytes, drop}
-use Rattle.zsim.specs.ReportText.{numbered, component_line}
-use Rattle.zsim.proofs.report.write_components.Given as goal
+use Rattle.report.specs.ReportText.{numbered, component_line}
+use Rattle.report.proofs.component_lines.write_components.Given as goal
 
 abbrev pub invariant-loop-n : goal.invariant-loop-n
 invariant-loop-n l =

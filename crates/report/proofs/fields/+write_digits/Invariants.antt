@@ -1,4 +1,4 @@
-use Rattle.zsim.proofs.report.+write_digits.Given as goal
+use Rattle.report.proofs.fields.+write_digits.Given as goal
 
 abbrev pub decreases-write_digits : goal.decreases-write_digits
 decreases-write_digits l = l.digits

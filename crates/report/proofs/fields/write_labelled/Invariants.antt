@@ -1,7 +1,7 @@
 -- what was written and the fields that are left are all fields
 use Rattle.std.proofs.Common.{◌≡◌, ◌++◌, string_bytes, drop, map}
-use Rattle.zsim.specs.ReportText.{labelled}
-use Rattle.zsim.proofs.report.write_labelled.Given as goal
+use Rattle.report.specs.ReportText.{labelled}
+use Rattle.report.proofs.fields.write_labelled.Given as goal
 
 abbrev pub invariant-loop-label : goal.invariant-loop-label
 invariant-loop-label l =

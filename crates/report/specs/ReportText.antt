@@ -1,12 +1,14 @@
 -- The text of the report. Numbers are decimal, and each line ends with one newline.
-use Rattle.std.specs.Prelude.{ℕ, zero, suc, ◌+◌, ◌/◌, ◌%◌, max, ◌==◌, nat_lt, nat_le, Bool, not, ◌&&◌, if◌then◌else◌, List, [], ◌∷◌, ◌++◌, length, codes, Option, Some, None}
+use Rattle.std.specs.Prelude.{ℕ, zero, suc, ◌+◌, ◌/◌, ◌%◌, max, ◌==◌, nat_lt, nat_le, Bool, not, ◌&&◌, if◌then◌else◌, List, [], ◌∷◌, ◌++◌, length, take, drop, codes, Option, Some, None}
+use Rattle.std.specs.List.{zip}
 use Rattle.std.specs.Fmt.{decimal}
 use Rattle.rv_core.specs.declared.why.Why.{Why}
 use Rattle.rv_core.specs.declared.why.Why.TheVariants.{Exit, Illegal, Misaligned, AtomicAlign, Fetch, Access, Break}
+use Rattle.machine_desc.specs.declared.machine.Machine.{Machine}
+use Rattle.bound_core.specs.Timed.{TimedCore}
 use Rattle.stats.specs.declared.counts.CoreCount.{CoreCount}
-use Rattle.zsim.specs.declared.results.CoreResult.{CoreResult}
 use Rattle.stats.specs.declared.counts.CompCount.{CompCount}
-use Rattle.zsim.specs.Results.{Results}
+use Rattle.stats.specs.Counts.{Counts}
 
 -- a hexadecimal digit, in lower case
 abbrev pub hex_digit : ℕ → ℕ
@@ -53,19 +55,19 @@ count_text c = labelled (
     ∷ (codes " hits ", c.hits) ∷ (codes " upgrades ", c.upgrades) ∷ (codes " l2hits ", c.l2hits) ∷ (codes " misses ", c.misses) ∷ [])
 
 -- the first line of a core
-unfoldable pub core_line : ℕ → CoreResult → List ℕ
-core_line n c =
-    labelled ((codes "core ", n) ∷ (codes " instructions ", c.instructions) ∷ (codes " cycles ", c.cycles) ∷ [])
-    ++ (count_text c.count ++ (codes " halt " ++ (halt_text c.halted ++ codes "\n")))
+unfoldable pub core_line : ℕ → TimedCore → CoreCount → List ℕ
+core_line n c count =
+    labelled ((codes "core ", n) ∷ (codes " instructions ", c.instructions) ∷ (codes " cycles ", c.clock) ∷ [])
+    ++ (count_text count ++ (codes " halt " ++ (halt_text c.core.halted ++ codes "\n")))
 
 -- the second line of a core: how many bytes it wrote on its console, and the bytes
 unfoldable pub console_line : ℕ → List ℕ → List ℕ
 console_line n console =
     labelled ((codes "core ", n) ∷ (codes " console ", length console) ∷ []) ++ (codes " \"" ++ (printed console ++ codes "\"\n"))
 
--- the two lines of a core
-abbrev pub core_lines : ℕ → CoreResult → List ℕ
-core_lines n c = core_line n c ++ console_line n c.console
+-- the two lines of a core, with what was counted of it
+abbrev pub core_lines : ℕ → TimedCore × CoreCount → List ℕ
+core_lines n (c, count) = core_line n c count ++ console_line n c.console
 
 -- the line of a bank or a controller
 unfoldable pub component_line : List ℕ → ℕ → CompCount → List ℕ
@@ -78,24 +80,34 @@ numbered lines n [] = []
 numbered lines n (x ∷ xs) = lines n x ++ numbered lines (n + 1) xs
 
 -- the instructions of all cores
-abbrev pub all_instructions : List CoreResult → ℕ
+abbrev pub all_instructions : List TimedCore → ℕ
 all_instructions [] = 0
 all_instructions (c ∷ cs) = c.instructions + all_instructions cs
 
 -- the greatest clock
-abbrev pub greatest_clock : List CoreResult → ℕ
+abbrev pub greatest_clock : List TimedCore → ℕ
 greatest_clock [] = 0
-greatest_clock (c ∷ cs) = max c.cycles (greatest_clock cs)
+greatest_clock (c ∷ cs) = max c.clock (greatest_clock cs)
 
--- the seven lines of the summary, but for the last newline; they alone are the brief report
+-- the seven lines of the summary, but for the last newline
 unfoldable pub summary : (cores intervals instructions cycles accesses events : ℕ) → List ℕ
 summary cores intervals instructions cycles accesses events = labelled (
     (codes "zsim report 1\ncores ", cores) ∷ (codes "\nintervals ", intervals) ∷ (codes "\ninstructions ", instructions)
     ∷ (codes "\ncycles ", cycles) ∷ (codes "\naccesses ", accesses) ∷ (codes "\nevents ", events) ∷ [])
 
--- the summary, the cores, the banks and the controllers
-abbrev pub report_text : Results → List ℕ
-report_text r =
-    summary (length r.cores) r.intervals (all_instructions r.cores) (greatest_clock r.cores) r.accesses r.events
-    ++ codes "\n" ++ numbered core_lines 0 r.cores ++ numbered (component_line (codes "bank")) 0 r.banks
-    ++ numbered (component_line (codes "controller")) 0 r.controllers
+-- the summary of a run, from what was counted, its cores at the end, and how many intervals were run
+abbrev pub summary_of : Counts → List TimedCore → (intervals : ℕ) → List ℕ
+summary_of counts cores intervals =
+    summary (length cores) intervals (all_instructions cores) (greatest_clock cores) counts.accesses counts.events
+
+-- what follows the summary: the cores, and of the components first the banks and then the controllers
+abbrev pub details : Machine → Counts → List TimedCore → List ℕ
+details machine counts cores =
+    numbered core_lines 0 (zip cores counts.core_counts)
+    ++ numbered (component_line (codes "bank")) 0 (take machine.l2.banks counts.comp_counts)
+    ++ numbered (component_line (codes "controller")) 0 (drop machine.l2.banks counts.comp_counts)
+
+-- the report: the summary, and then the rest, unless it is to be brief
+abbrev pub report_text : Machine → Counts → List TimedCore → (intervals : ℕ) → (brief : Bool) → List ℕ
+report_text machine counts cores intervals brief =
+    summary_of counts cores intervals ++ codes "\n" ++ (if brief then [] else details machine counts cores)

@@ -1,0 +1,116 @@
+// The two lines of each core: what was counted of it, and its console.
+ghost use Rattle.std.specs.Prelude.{◌≡◌, ◌++◌, OnOk, length, map, string_bytes};
+ghost use Rattle.std.specs.List.{zip};
+ghost use Rattle.report.specs.ReportText.{console_line, core_line, core_lines, count_text, halt_text, numbered};
+
+use crate::fields::{write_hexadecimal, write_labelled};
+use crate::printed::write_printed;
+use bound_core::BoundCore;
+use rv_core::Why;
+use stats::{CoreCount, Counters};
+use std::alloc::AllocError;
+
+/// Writes the lines of all cores, of which there are so many.
+pub fn write_cores(
+    text: &mut String,
+    count: u16,
+    cores: &[BoundCore],
+    counters: &Counters,
+) -> Result<(), AllocError>
+    requires cores { length cores.now ≡ count }
+    requires counts { length counters.now.core_counts ≡ count }
+    ensures { OnOk result (string_bytes text.new ≡ string_bytes text.old
+        ++ numbered core_lines 0 (zip (map (λ c. c.timed) cores.now) counters.now.core_counts)) }
+{
+    for n in 0..count {
+        write_core(text, n, &cores[usize::from(n)], &counters.core(n))?;
+    }
+    Ok(())
+}
+
+fn write_core(
+    text: &mut String,
+    n: u16,
+    core: &BoundCore,
+    count: &CoreCount,
+) -> Result<(), AllocError>
+    ensures { OnOk result (string_bytes text.new ≡ string_bytes text.old
+        ++ core_lines n (core.now.timed, count.now)) }
+{
+    write_core_line(text, n, core, count)?;
+    write_console_line(text, n, core.console())
+}
+
+#[tactic(auto, unfolding(crate::specs::ReportText::core_line))]
+fn write_core_line(
+    text: &mut String,
+    n: u16,
+    core: &BoundCore,
+    count: &CoreCount,
+) -> Result<(), AllocError>
+    ensures { OnOk result (string_bytes text.new ≡ string_bytes text.old
+        ++ core_line n core.now.timed count.now) }
+{
+    let fields = [
+        ("core ", u128::from(n)),
+        (" instructions ", u128::from(core.instructions())),
+        (" cycles ", u128::from(core.clock())),
+    ];
+    write_labelled(text, &fields)?;
+    write_count(text, count)?;
+    text.push_str(" halt ")?;
+    write_halt(text, core.halted())?;
+    text.push_str("\n")
+}
+
+#[tactic(auto, unfolding(crate::specs::ReportText::count_text))]
+fn write_count(text: &mut String, count: &CoreCount) -> Result<(), AllocError>
+    ensures { OnOk result (string_bytes text.new ≡ string_bytes text.old ++ count_text count.now) }
+{
+    let fields = [
+        (" delay ", count.delay),
+        (" loads ", u128::from(count.loads)),
+        (" stores ", u128::from(count.stores)),
+        (" atomics ", u128::from(count.atomics)),
+        (" hits ", u128::from(count.hits)),
+        (" upgrades ", u128::from(count.upgrades)),
+        (" l2hits ", u128::from(count.l2hits)),
+        (" misses ", u128::from(count.misses)),
+    ];
+    write_labelled(text, &fields)
+}
+
+/// Writes why a core halted.
+#[tactic(auto, unfolding(crate::specs::ReportText::halt_text))]
+pub fn write_halt(text: &mut String, halted: Option<Why>) -> Result<(), AllocError>
+    ensures { OnOk result (string_bytes text.new ≡ string_bytes text.old ++ halt_text halted) }
+{
+    match halted {
+        None => text.push_str("running"),
+        Some(Why::Exit(number)) => write!(text, "exit {number}"),
+        Some(Why::Illegal { word }) => write_hexadecimal(text, "illegal ", 8, u64::from(word)),
+        Some(Why::Misaligned { target }) => write_hexadecimal(text, "misaligned ", 16, target),
+        Some(Why::AtomicAlign { addr }) => write_hexadecimal(text, "atomic ", 16, addr),
+        Some(Why::Fetch { addr }) => write_hexadecimal(text, "fetch ", 16, addr),
+        Some(Why::Access { addr }) => write_hexadecimal(text, "access ", 16, addr),
+        Some(Why::Break) => text.push_str("break"),
+    }
+}
+
+/// Writes how many bytes a core wrote on its console, and the bytes.
+#[tactic(auto, unfolding(crate::specs::ReportText::console_line))]
+pub fn write_console_line(text: &mut String, n: u16, console: &[u8]) -> Result<(), AllocError>
+    ensures { OnOk result (string_bytes text.new ≡ string_bytes text.old
+        ++ console_line n console.now) }
+{
+    write_labelled(
+        text,
+        &[
+            ("core ", u128::from(n)),
+            (" console ", console.len() as u128),
+        ],
+    )?;
+    text.push_str(" \"")?;
+    write_printed(text, console)?;
+    text.push_str("\"\n")
+}

@@ -1,0 +1,14 @@
+//! The report of a run, as text.
+#![tactic(auto)]
+
+mod component_lines;
+mod core_lines;
+mod fields;
+mod printed;
+mod summary;
+mod writer;
+
+pub use writer::text;
+
+#[cfg(test)]
+mod tests;
