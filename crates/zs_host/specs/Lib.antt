@@ -6,3 +6,4 @@ pub mod MemSink
 pub mod Reading
 pub mod RealFiles
 pub mod RealSink
+pub mod Sure

@@ -12,6 +12,8 @@ mod no_memory;
 mod real_files;
 mod real_sink;
 mod sink;
+mod sure_files;
+mod sure_sink;
 #[cfg(test)]
 mod tests;
 
@@ -23,3 +25,5 @@ pub use mem_sink::MemSink;
 pub use real_files::RealFiles;
 pub use real_sink::{RealErr, RealOut, RealSink};
 pub use sink::{Sink, SinkFail};
+pub use sure_files::SureFiles;
+pub use sure_sink::SureSink;

@@ -4,7 +4,7 @@ ghost use Rattle.std.specs.Prelude.{◌≤◌, length, IfOk};
 use crate::real_files::read_first;
 use crate::{
     Fault, FileFail, Files, Gate, MemFiles, MemSink, OpenGate, Operation, Point, RealErr,
-    RealFiles, RealOut, RealSink, Sink, SinkFail,
+    RealFiles, RealOut, RealSink, Sink, SinkFail, SureFiles, SureSink,
 };
 use std::alloc::Global;
 use std::cell::{Cell, RefCell};
@@ -100,6 +100,37 @@ fn a_sink_in_memory_takes_a_byte_at_least(rt: HostRuntime) -> Result<(), Fail> {
     let mut sink = MemSink::new(alloc, 0, &[])?;
     assert_eq!(rt; sink.put(alloc, b"abc")?, 1);
     assert_eq!(rt; sink.bytes(), b"a".as_slice());
+    Ok(())
+}
+
+#[test]
+fn a_name_that_was_never_written_holds_no_bytes(rt: HostRuntime) -> Result<(), Fail> {
+    let alloc = rt.alloc();
+    let mut files = SureFiles::new(alloc);
+    assert!(rt; files.read(alloc, "missing", 9)?.as_slice().is_empty());
+    files.set(alloc, "machine", b"cores = 1")?;
+    files.write(alloc, "report", b"cycles 3")?;
+    for (name, most, want) in [
+        ("machine", 100, "cores = 1"),
+        ("machine", 5, "cores"),
+        ("report", 100, "cycles 3"),
+        ("missing", 100, ""),
+    ] {
+        let bytes = files.read(alloc, name, most)?;
+        assert_eq!(rt; bytes.as_slice(), want.as_bytes(), "{name} up to {most}");
+    }
+    assert_eq!(rt; files.get("machine"), b"cores = 1".as_slice());
+    Ok(())
+}
+
+#[test]
+fn a_sure_sink_takes_each_piece_whole(rt: HostRuntime) -> Result<(), Fail> {
+    let alloc = rt.alloc();
+    let mut sink = SureSink::new(alloc);
+    assert_eq!(rt; sink.put(alloc, b"abc")?, 3);
+    assert_eq!(rt; sink.put(alloc, b"")?, 0);
+    assert_eq!(rt; sink.put(alloc, b"xy")?, 2);
+    assert_eq!(rt; sink.bytes(), b"abcxy".as_slice());
     Ok(())
 }
 
