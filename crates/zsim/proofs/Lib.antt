@@ -8,3 +8,4 @@ pub mod PortKept
 pub mod RecordedOrder
 pub mod RunEnds
 pub mod RunSoFar
+pub mod TwoReads

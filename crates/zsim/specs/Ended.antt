@@ -1,5 +1,5 @@
 -- What the answer of a call tells: each status with its cause, what was kept, and what was written.
-use Rattle.std.specs.Prelude.{◌≡◌, ◌⊎◌, ◌↔◌, ℕ, List, [], None, IsSome, IsSomeAnd, IsOk, Ok, Err, MatchResult}
+use Rattle.std.specs.Prelude.{◌≡◌, ◌⊎◌, ◌↔◌, ℕ, List, [], Option, Some, None, IsSome, IsSomeAnd, IsOk, Ok, Err, MatchResult}
 use Rattle.machine_desc.specs.declared.plain.TheConstants.{PLAIN}
 use Rattle.zsim.specs.declared.ended.Kept.{Kept}
 use Rattle.zsim.specs.declared.ended.Said.{Said}
@@ -8,13 +8,20 @@ use Rattle.zsim.specs.declared.ended.Status.{Status}
 use Rattle.zsim.specs.declared.ended.Status.TheVariants as status
 use Rattle.zsim.specs.declared.results.Ending.{Ending}
 use Rattle.zsim.specs.declared.results.Ending.TheVariants.{Halted, Limit}
-use Rattle.zsim.specs.CommandLine.{command_of}
+use Rattle.zsim.specs.declared.ended.Which.TheVariants as which
+use Rattle.zsim.specs.CommandLine.{Command, command_of}
 use Rattle.zsim.specs.ErrorLine.{error_line}
-use Rattle.zsim.specs.Limits.{exe_limit}
+use Rattle.zsim.specs.Limits.{exe_limit, machine_limit}
 use Rattle.zsim.specs.ReferenceRun.{IsLegalSoFar, IsRunOf}
-use Rattle.zsim.specs.Results.{Results, report_of}
-use Rattle.zsim.specs.Seen.{Seen, SinkSeen, FailedToRead, FileFailed, Gained, GainedNothing, GainedPrefix, NoFileFailed, NoPutFailed, PutFailed, SameNames, WasRead}
-use Rattle.zsim.specs.Setup.{Setup, setup_of}
+use Rattle.zsim.specs.ReportText.{report_text}
+use Rattle.zsim.specs.Results.{Results}
+use Rattle.zsim.specs.Seen.{FilesSeen, Seen, SinkSeen, FailedToRead, FailedToReadInput, FileFailed, Gained, GainedNothing, GainedPrefix, NoFileFailed, NoPutFailed, PutFailed, SameNames, WasRead}
+use Rattle.zsim.specs.Setup.{Setup, machine_by, setup_of}
+
+-- this text of a machine is that of its file, or the built-in one
+abbrev pub IsMachineText : FilesSeen → Option (List ℕ) → List ℕ → Type 0
+IsMachineText files None text = text ≡ PLAIN.now
+IsMachineText files (Some name) text = WasRead files name machine_limit text
 
 -- What is kept: nothing yet, the text of the machine, or this and the executable.
 pub record KeepsNothing (kept : Kept) : Type 0 where
@@ -22,36 +29,45 @@ pub record KeepsNothing (kept : Kept) : Type 0 where
   pub exe : kept.exe ≡ []
   pub lists : kept.schedule.lists ≡ []
 
-pub record KeepsMachine (kept : Kept) : Type 0 where
-  pub machine : kept.machine ≡ PLAIN.now
+pub record KeepsMachine (seen : Seen) (kept : Kept) : Type 0 where
+  pub machine : IsSomeAnd (command_of seen.words) (λ command. IsMachineText seen.files command.machine kept.machine)
   pub exe : kept.exe ≡ []
   pub lists : kept.schedule.lists ≡ []
 
 pub record KeepsInputs (seen : Seen) (kept : Kept) : Type 0 where
-  pub machine : kept.machine ≡ PLAIN.now
-  pub exe : IsSomeAnd (command_of seen.words) (λ name. WasRead seen.files name exe_limit kept.exe)
+  pub machine : IsSomeAnd (command_of seen.words) (λ command. IsMachineText seen.files command.machine kept.machine)
+  pub exe : IsSomeAnd (command_of seen.words) (λ command. WasRead seen.files command.exe exe_limit kept.exe)
 
 -- It goes as far as the steps that were reached. Where the schedule has an interval, the inputs are kept.
 abbrev pub Keeps : Status → Seen → Kept → Type 0
 Keeps status.Usage seen kept = KeepsNothing kept
-Keeps status.ReadFault seen kept = KeepsMachine kept
-Keeps status.NoMemory seen kept = KeepsNothing kept ⊎ KeepsMachine kept ⊎ KeepsInputs seen kept
+Keeps status.ReadFault seen kept = KeepsNothing kept ⊎ KeepsMachine seen kept
+Keeps status.NoMemory seen kept = KeepsNothing kept ⊎ KeepsMachine seen kept ⊎ KeepsInputs seen kept
 Keeps status.Ran seen kept = KeepsInputs seen kept
 Keeps status.Limit seen kept = KeepsInputs seen kept
 Keeps status.WriteFault seen kept = KeepsInputs seen kept
+Keeps (status.BadMachine bad) seen kept = KeepsMachine seen kept
 Keeps (status.BadElf bad) seen kept = KeepsInputs seen kept
-Keeps (status.TooLong which) seen kept = KeepsInputs seen kept
+Keeps (status.TooLong which.Machine) seen kept = KeepsMachine seen kept
+Keeps (status.TooLong which.Exe) seen kept = KeepsInputs seen kept
 
 -- no file and no put failed
 pub record NothingFailed (seen : Seen) : Type 0 where
   pub files : NoFileFailed seen.files
   pub out : NoPutFailed seen.out
 
+-- A read failed: that of the machine's file, before anything was kept; or that of the executable, for a machine that
+-- passed its checks.
+abbrev pub CouldNotRead : FilesSeen → Kept → Command → Type 0
+CouldNotRead files kept command =
+    (KeepsNothing kept × FailedToReadInput files command.machine) ⊎ (IsOk (machine_by kept.machine) × FailedToRead files command.exe)
+
 -- The cause of each status. A fault that was counted is always told: no other status comes where one was.
 abbrev pub HasCause : Status → Seen → Kept → Type 0
 HasCause status.Usage seen kept = (setup_of seen.words kept ≡ Err status.Usage) × NothingFailed seen
-HasCause status.ReadFault seen kept = IsSomeAnd (command_of seen.words) (FailedToRead seen.files) × NoPutFailed seen.out
+HasCause status.ReadFault seen kept = IsSomeAnd (command_of seen.words) (CouldNotRead seen.files kept) × NoPutFailed seen.out
 HasCause (status.TooLong which) seen kept = (setup_of seen.words kept ≡ Err (status.TooLong which)) × NothingFailed seen
+HasCause (status.BadMachine bad) seen kept = (setup_of seen.words kept ≡ Err (status.BadMachine bad)) × NothingFailed seen
 HasCause (status.BadElf bad) seen kept = (setup_of seen.words kept ≡ Err (status.BadElf bad)) × NothingFailed seen
 HasCause status.WriteFault seen kept = IsOk (setup_of seen.words kept) × NoFileFailed seen.files × PutFailed seen.out
 HasCause status.Ran seen kept = IsOk (setup_of seen.words kept) × NothingFailed seen
@@ -98,6 +114,7 @@ Leaves status.WriteFault seen kept = IsCut seen kept
 Leaves status.NoMemory seen kept = (((kept.schedule.lists ≡ []) ⊎ IsStopped seen.words kept) × GainedNothing seen.out) ⊎ IsCut seen kept
 Leaves status.Usage seen kept = (kept.schedule.lists ≡ []) × GainedNothing seen.out
 Leaves status.ReadFault seen kept = (kept.schedule.lists ≡ []) × GainedNothing seen.out
+Leaves (status.BadMachine bad) seen kept = (kept.schedule.lists ≡ []) × GainedNothing seen.out
 Leaves (status.BadElf bad) seen kept = (kept.schedule.lists ≡ []) × GainedNothing seen.out
 Leaves (status.TooLong which) seen kept = (kept.schedule.lists ≡ []) × GainedNothing seen.out
 

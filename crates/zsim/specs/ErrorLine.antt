@@ -1,11 +1,25 @@
 -- The line on standard error for each status. It ends with one newline.
 use Rattle.std.specs.Prelude.{ℕ, List, [], ◌++◌, codes}
-use Rattle.std.specs.Fmt.{decimal}
+use Rattle.std.specs.Fmt.{decimal, signed_decimal}
 use Rattle.elf_load.specs.declared.bad_elf.BadElf.{BadElf}
 use Rattle.elf_load.specs.declared.bad_elf.BadElf.TheVariants as bad
+use Rattle.machine_desc.specs.declared.errors.BadMachine.{BadMachine}
+use Rattle.machine_desc.specs.declared.errors.BadMachine.TheVariants.{Text, Missing, Kind, Range, Unknown, Ratio, Domain}
+use Rattle.zsim.specs.ReportText.{printed}
 use Rattle.zsim.specs.declared.ended.Status.{Status}
 use Rattle.zsim.specs.declared.ended.Status.TheVariants as status
-use Rattle.zsim.specs.declared.ended.Which.TheVariants.{Exe}
+use Rattle.zsim.specs.declared.ended.Which.TheVariants.{Machine, Exe}
+
+-- The number of the check that a machine description failed, and the key and the value or the component where there are
+-- any. A key is printed as the bytes of a console are.
+abbrev pub machine_details : BadMachine → List ℕ
+machine_details Text = codes "1"
+machine_details (Missing key) = codes "2 " ++ printed key
+machine_details (Kind key) = codes "3 " ++ printed key
+machine_details (Range key value) = codes "4 " ++ (printed key ++ (codes " " ++ signed_decimal value))
+machine_details (Unknown key) = codes "5 " ++ printed key
+machine_details (Ratio key) = codes "6 " ++ printed key
+machine_details (Domain component) = codes "7 " ++ decimal component
 
 -- the number of the check that an executable failed, and the indexes of the segments where there are any
 abbrev pub elf_details : BadElf → List ℕ
@@ -28,7 +42,9 @@ error_line status.Limit = codes "zsim: stopped at the limit\n"
 error_line status.Usage = codes "zsim: usage: zsim run MACHINE EXE [--workers N] [--record NAME] [--brief] or zsim replay MACHINE EXE --schedule NAME [--brief]\n"
 error_line status.ReadFault = codes "zsim: cannot read\n"
 error_line status.WriteFault = codes "zsim: cannot write\n"
+error_line (status.BadMachine bad) = codes "zsim: machine " ++ machine_details bad ++ codes "\n"
 error_line (status.BadElf bad) = codes "zsim: elf " ++ elf_details bad ++ codes "\n"
+error_line (status.TooLong Machine) = codes "zsim: too long: machine\n"
 error_line (status.TooLong Exe) = codes "zsim: too long: executable\n"
 error_line status.NoMemory = codes "zsim: out of memory\n"
 
@@ -39,6 +55,7 @@ status_number status.Usage = 2
 status_number status.Limit = 3
 status_number status.ReadFault = 4
 status_number status.WriteFault = 5
+status_number (status.BadMachine bad) = 6
 status_number (status.BadElf bad) = 7
 status_number status.NoMemory = 8
-status_number (status.TooLong Exe) = 10
+status_number (status.TooLong which) = 10

@@ -1,6 +1,10 @@
 -- The limits of what is read and of a run, as numbers.
 use Rattle.std.specs.Prelude.{ℕ, ◌^◌}
 
+-- the most bytes of a machine description
+abbrev pub machine_limit : ℕ
+machine_limit = 2 ^ 20
+
 -- the most bytes of an executable
 abbrev pub exe_limit : ℕ
 exe_limit = 2 ^ 26

@@ -1,5 +1,5 @@
 -- What a call saw of the world outside it: files by name and streams that take bytes, before and after it.
-use Rattle.std.specs.Prelude.{◌≡◌, ℕ, ◌+◌, ◌<◌, ◌≤◌, Bool, IsTrue, List, ◌++◌, length, take, Option, Some}
+use Rattle.std.specs.Prelude.{◌≡◌, ℕ, ◌+◌, ◌<◌, ◌≤◌, Bool, IsTrue, List, ◌++◌, length, take, Option, Some, None}
 use Rattle.std.specs.Option.{option_map}
 use Rattle.zs_host.specs.Faults.{Rose}
 use Rattle.zs_host.specs.declared.fault.Fault.{Fault}
@@ -77,6 +77,11 @@ pub record FailedToRead (files : FilesSeen) (name : List ℕ) : Type 0 where
 pub record WasRead (files : FilesSeen) (name : List ℕ) (limit : ℕ) (bytes : List ℕ) : Type 0 where
   pub held : IsTrue files.tells → option_map (take (limit + 1)) (files.held_before name) ≡ Some bytes
   pub most : length bytes ≤ limit + 1
+
+-- the file of an input was asked for, and could not be read; an input without a file is not
+abbrev pub FailedToReadInput : FilesSeen → Option (List ℕ) → Type 0
+FailedToReadInput files None = ⊥
+FailedToReadInput files (Some name) = FailedToRead files name
 
 -- no put failed
 abbrev pub NoPutFailed : SinkSeen → Type 0

@@ -3,6 +3,7 @@ ghost use Rattle.std.specs.Prelude.{◌≡◌};
 
 use crate::Schedule;
 use elf_load::BadElf;
+use machine_desc::BadMachine;
 use zs_num::Bytes;
 
 /// What a call answers: how it ended, what it could say of that on standard error, and what it kept.
@@ -14,7 +15,7 @@ pub struct Ended {
 }
 
 /// How a call ended.
-#[derive(Clone, Copy, Debug, PartialEq, Eq)]
+#[derive(Debug, Drop)]
 pub enum Status {
     /// The run ended with every core halted, and its report was written.
     Ran,
@@ -22,10 +23,12 @@ pub enum Status {
     Limit,
     /// The words are no command.
     Usage,
-    /// A file could not be read.
+    /// The machine or the executable could not be read.
     ReadFault,
     /// The output could not be written.
     WriteFault,
+    /// The machine description fails this check first.
+    BadMachine(BadMachine),
     /// The executable fails this check first.
     BadElf(BadElf),
     /// A file has more bytes than its limit.
@@ -37,8 +40,8 @@ impl Status {
     ghost use Rattle.zsim.specs.ErrorLine.{status_number};
 
     /// The number with which the program ends.
-    pub fn number(self) -> u8
-        ensures { result ≡ status_number self }
+    pub fn number(&self) -> u8
+        ensures { result ≡ status_number self.now }
     {
         match self {
             Status::Ran => 0,
@@ -46,9 +49,10 @@ impl Status {
             Status::Limit => 3,
             Status::ReadFault => 4,
             Status::WriteFault => 5,
+            Status::BadMachine(_) => 6,
             Status::BadElf(_) => 7,
             Status::NoMemory => 8,
-            Status::TooLong(Which::Exe) => 10,
+            Status::TooLong(_) => 10,
         }
     }
 }
@@ -56,6 +60,8 @@ impl Status {
 /// Which file has more bytes than its limit.
 #[derive(Clone, Copy, Debug, PartialEq, Eq)]
 pub enum Which {
+    /// The machine description, of 2^20 bytes at most.
+    Machine,
     /// The executable, of 2^26 bytes at most.
     Exe,
 }
@@ -74,7 +80,7 @@ pub enum Said {
 /// What was read, and the schedule that the run took.
 #[derive(Debug, Drop)]
 pub struct Kept {
-    /// The text of the machine. It is empty where the step that makes it was not reached.
+    /// The text of the machine. It is empty where it was not read.
     pub machine: Bytes,
     /// The executable. It is empty where it was not read.
     pub exe: Bytes,

@@ -1,14 +1,17 @@
 // The line on standard error for each status.
 ghost use Rattle.std.specs.Prelude.{◌≡◌, ◌++◌, codes, IfOk, OnOk, string_bytes};
-ghost use Rattle.zsim.specs.ErrorLine.{elf_details, error_line};
+ghost use Rattle.zsim.specs.ReportText.{printed};
+ghost use Rattle.zsim.specs.ErrorLine.{elf_details, error_line, machine_details};
 
+use crate::report::write_printed;
 use crate::{Status, Which};
 use elf_load::BadElf;
+use machine_desc::{BadMachine, KeyName};
 use std::alloc::{AllocError, Global};
 
 /// The line for a status, with its newline.
-pub fn error_line(alloc: Global, status: Status) -> Result<String, AllocError>
-    ensures { IfOk result (λ line. string_bytes line ≡ error_line status) }
+pub fn error_line(alloc: Global, status: &Status) -> Result<String, AllocError>
+    ensures { IfOk result (λ line. string_bytes line ≡ error_line status.now) }
 {
     match status {
         Status::Ran => Ok(String::new(alloc)),
@@ -16,7 +19,9 @@ pub fn error_line(alloc: Global, status: Status) -> Result<String, AllocError>
         Status::Usage => String::from_str(alloc, USAGE),
         Status::ReadFault => String::from_str(alloc, "zsim: cannot read\n"),
         Status::WriteFault => String::from_str(alloc, "zsim: cannot write\n"),
-        Status::BadElf(bad) => elf_line(alloc, bad),
+        Status::BadMachine(bad) => machine_line(alloc, bad),
+        Status::BadElf(bad) => elf_line(alloc, *bad),
+        Status::TooLong(Which::Machine) => String::from_str(alloc, "zsim: too long: machine\n"),
         Status::TooLong(Which::Exe) => String::from_str(alloc, "zsim: too long: executable\n"),
         Status::NoMemory => String::from_str(alloc, "zsim: out of memory\n"),
     }
@@ -24,6 +29,42 @@ pub fn error_line(alloc: Global, status: Status) -> Result<String, AllocError>
 
 const USAGE: &str =
     "zsim: usage: zsim run MACHINE EXE [--workers N] [--record NAME] [--brief] or zsim replay MACHINE EXE --schedule NAME [--brief]\n";
+
+// The line for a machine description that is refused.
+fn machine_line(alloc: Global, bad: &BadMachine) -> Result<String, AllocError>
+    ensures { IfOk result (λ line. string_bytes line ≡ codes "zsim: machine " ++ machine_details bad.now ++ codes "\n") }
+{
+    let mut line = String::from_str(alloc, "zsim: machine ")?;
+    write_machine_details(&mut line, bad)?;
+    line.push_str("\n")?;
+    Ok(line)
+}
+
+// Writes the number of the check that a description failed, and what it names.
+fn write_machine_details(line: &mut String, bad: &BadMachine) -> Result<(), AllocError>
+    ensures { OnOk result (string_bytes line.new ≡ string_bytes line.old ++ machine_details bad.now) }
+{
+    match bad {
+        BadMachine::Text => line.push_str("1"),
+        BadMachine::Missing { key } => write_key(line, "2 ", key),
+        BadMachine::Kind { key } => write_key(line, "3 ", key),
+        BadMachine::Range { key, value } => {
+            write_key(line, "4 ", key)?;
+            write!(line, " {value}")
+        }
+        BadMachine::Unknown { key } => write_key(line, "5 ", key),
+        BadMachine::Ratio { key } => write_key(line, "6 ", key),
+        BadMachine::Domain { component } => write!(line, "7 {component}"),
+    }
+}
+
+// Writes a number, and a key as the bytes of a console are printed.
+fn write_key(line: &mut String, number: &str, key: &KeyName) -> Result<(), AllocError>
+    ensures { OnOk result (string_bytes line.new ≡ string_bytes line.old ++ (number.now ++ printed key.now)) }
+{
+    line.push_str(number)?;
+    write_printed(line, key.as_slice())
+}
 
 // The line for an executable that is refused.
 fn elf_line(alloc: Global, bad: BadElf) -> Result<String, AllocError>

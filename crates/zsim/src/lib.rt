@@ -8,12 +8,12 @@ mod flat_port;
 mod flat_world;
 pub mod laws;
 mod limits;
-mod machine;
 mod progress;
 mod put;
 mod results;
 mod running;
 mod schedule;
+mod setup;
 #[cfg(test)]
 mod tests;
 mod top;

@@ -1,16 +1,19 @@
 // Runs on machines that the command line cannot name yet.
 ghost use Rattle.std.specs.Prelude.{◌≡◌, ◌<◌, ◌≤◌, ◌^◌, All, IfOk, length};
+ghost use Rattle.machine_desc.specs.Plain.{plain_machine};
 
 use crate::error_line::error_line;
-use crate::machine::plain;
-use crate::results::Ending;
+use crate::results::{CoreResult, Ending, RunResults};
 use crate::running::run;
 use crate::weaving::weave_interval;
 use crate::{Schedule, Status};
 use component::components;
 use elf_load::{BadElf, load};
 use event_graph::{Fired, Plain};
-use stats::CompCount;
+use machine_desc::laws::plain_reads;
+use machine_desc::{Machine, PLAIN, read};
+use rv_core::Why;
+use stats::{CompCount, CoreCount};
 use std::alloc::Global;
 use std::test::Fail;
 use zs_num::{Entries, Entry, NoMemory, Outcome, Request};
@@ -44,6 +47,17 @@ static TWO_LOADS: [u32; 8] = [
     0,
     0,
 ];
+
+// The built-in machine.
+fn plain(alloc: Global) -> Result<Machine, NoMemory>
+    ensures { IfOk result (λ machine. machine ≡ plain_machine) }
+{
+    plain_reads();
+    match read(alloc, PLAIN.as_bytes()) {
+        Ok(machine) => Ok(machine),
+        Err(_) => Err(NoMemory),
+    }
+}
 
 // The file of eight words.
 fn file_of(alloc: Global, words: &[u32; 8]) -> Result<Vec<u8>, NoMemory> {
@@ -209,9 +223,9 @@ fn the_longest_error_lines_are_written_whole(rt: HostRuntime) -> Result<(), Fail
         first: 126,
         second: 127,
     };
-    let line = error_line(alloc, Status::BadElf(overlap))?;
+    let line = error_line(alloc, &Status::BadElf(overlap))?;
     assert_eq!(rt; line.as_str(), "zsim: elf 11 126 127\n");
-    let usage = error_line(alloc, Status::Usage)?;
+    let usage = error_line(alloc, &Status::Usage)?;
     assert_eq!(rt;
         usage.as_str(),
         "zsim: usage: zsim run MACHINE EXE [--workers N] [--record NAME] [--brief] or zsim replay MACHINE EXE --schedule NAME [--brief]\n"

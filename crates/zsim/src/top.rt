@@ -1,23 +1,20 @@
 // The call that does all that the program does.
-ghost use Rattle.std.specs.Prelude.{◌≡◌, ◌⊎◌, ℕ, [], List, None, Some, IfOk, map, string_bytes, OnErr};
-ghost use Rattle.machine_desc.specs.Plain.{plain_machine};
+ghost use Rattle.std.specs.Prelude.{◌≡◌, ◌⊎◌, [], map, string_bytes};
+ghost use Rattle.machine_desc.specs.Machine.{IsMachine};
 ghost use Rattle.zsim.specs.Ended.{status_at, Gives, IsOutcome, Says};
-ghost use Rattle.zsim.specs.ReferenceRun.{IsLegalSoFar, IsRunOf};
-ghost use Rattle.zsim.specs.Progress.{HasCounts};
-ghost use Rattle.zsim.specs.Results.{Results, report_of};
+ghost use Rattle.zsim.specs.ReferenceRun.{IsRunOf};
+ghost use Rattle.zsim.specs.Results.{Results};
 ghost use Rattle.zsim.specs.Seen.{files_seen, sink_seen};
-ghost use Rattle.zsim.specs.Setup.{loaded_on};
-ghost use Rattle.zsim.specs.Steps.{Answers, IsEmpty, RunsAs};
+ghost use Rattle.zsim.specs.Steps.{IsEmpty, RunsAs};
 
-use crate::command_line::command;
+use crate::command_line::command_of;
 use crate::error_line::error_line;
-use crate::limits::EXE_LIMIT;
-use crate::machine::plain;
 use crate::put::put_all;
-use crate::results::{Ending, RunResults};
-use crate::{Ended, Kept, Said, Schedule, Status, Which, running};
-use elf_load::{Image, LoadFail, load};
-use machine_desc::{Machine, PLAIN};
+use crate::results::Ending;
+use crate::setup::{check_exe, check_machine, read_exe, read_machine};
+use crate::{Ended, Kept, Said, Schedule, Status, report, running};
+use elf_load::Image;
+use machine_desc::Machine;
 use std::alloc::{AllocError, Global};
 use zs_host::{FileFail, Files, Gate, Sink, SinkFail};
 use zs_num::{Bytes, NoMemory};
@@ -51,7 +48,7 @@ pub fn zsim<F: Files, O: Sink, E: Sink, G: Gate>(
         schedule: Schedule::new(alloc, 1),
     };
     let status = conduct(alloc, words, files, out, &mut kept);
-    let said = say(alloc, err, status);
+    let said = say(alloc, err, &status);
     Ended { status, said, kept }
 }
 
@@ -68,41 +65,26 @@ fn conduct<F: Files, O: Sink>(
     ensures untouched_files { result ≡ Status.Usage → files.new ≡ files.old }
     ensures untouched_output { (out.new ≡ out.old) ⊎ ((r : Results) × Gives (map string_bytes words.now) kept.new r) }
 {
-    let Some(name) = command(words) else {
+    let Some(command) = command_of(words) else {
         return Status::Usage;
     };
-    let Ok(machine) = plain(alloc) else {
-        return Status::NoMemory;
-    };
-    match Bytes::from_slice(alloc, PLAIN.as_bytes()) {
+    match read_machine(alloc, command.machine, files) {
         Ok(text) => kept.machine = text,
-        Err(NoMemory) => return Status::NoMemory,
+        Err(FileFail::Failed) => return Status::ReadFault,
+        Err(FileFail::NoMemory) => return Status::NoMemory,
     }
-    match files.read(alloc, name, EXE_LIMIT + 1) {
+    let machine = match check_machine(alloc, kept.machine.as_slice()) {
+        Ok(machine) => machine,
+        Err(status) => return status,
+    };
+    match read_exe(alloc, command.exe, files) {
         Ok(bytes) => kept.exe = bytes,
         Err(FileFail::Failed) => return Status::ReadFault,
         Err(FileFail::NoMemory) => return Status::NoMemory,
     }
-    match check(alloc, &machine, kept.exe.as_slice()) {
+    match check_exe(alloc, &machine, kept.exe.as_slice()) {
         Ok(image) => run_and_report(alloc, &machine, &image, out, &mut kept.schedule),
         Err(status) => status,
-    }
-}
-
-// The checks of an executable: its length, and then those of its file format.
-#[tactic(auto, unfolding(crate::specs::Setup::loaded_on))]
-fn check(alloc: Global, machine: &Machine, exe: &[u8]) -> Result<Image, Status>
-    requires { machine.now ≡ plain_machine }
-    ensures answer { Answers machine.now result (loaded_on machine.now exe.now) }
-    ensures memory { IfOk result (λ image. (image.base ≡ machine.now.memory.base) × (image.size ≡ machine.now.memory.size)) }
-{
-    if exe.len() > EXE_LIMIT {
-        return Err(Status::TooLong(Which::Exe));
-    }
-    match load(alloc, exe, machine.memory.base, machine.memory.size) {
-        Ok(image) => Ok(image),
-        Err(LoadFail::Bad(bad)) => Err(Status::BadElf(bad)),
-        Err(LoadFail::NoMemory) => Err(Status::NoMemory),
     }
 }
 
@@ -114,16 +96,17 @@ fn run_and_report<O: Sink>(
     out: &mut O,
     schedule: &mut Schedule,
 ) -> Status
-    requires machine { machine.now ≡ plain_machine }
+    requires machine { IsMachine machine.now }
+    requires one { machine.now.cores ≡ 1 }
     requires base { image.now.base ≡ machine.now.memory.base }
     requires size { image.now.size ≡ machine.now.memory.size }
     requires empty { schedule.old.lists ≡ [] }
     requires cores_known { schedule.old.cores ≡ 1 }
     ensures cores { schedule.new.cores ≡ schedule.old.cores }
-    ensures run { RunsAs result plain_machine image.now schedule.new.lists (sink_seen O.tells O.bytes O.faults out.old out.new) }
-    ensures untouched { (out.new ≡ out.old) ⊎ ((r : Results) × IsRunOf plain_machine image.now schedule.new.lists r) }
+    ensures run { RunsAs result machine.now image.now schedule.new.lists (sink_seen O.tells O.bytes O.faults out.old out.new) }
+    ensures untouched { (out.new ≡ out.old) ⊎ ((r : Results) × IsRunOf machine.now image.now schedule.new.lists r) }
 {
-    let results = match run_plain(alloc, machine, image, schedule) {
+    let results = match running::run(alloc, machine, image, schedule) {
         Ok(results) => results,
         Err(NoMemory) => return Status::NoMemory,
     };
@@ -138,41 +121,6 @@ fn run_and_report<O: Sink>(
     }
 }
 
-// Runs an image on the built-in machine.
-fn run_plain(
-    alloc: Global,
-    machine: &Machine,
-    image: &Image,
-    schedule: &mut Schedule,
-) -> Result<RunResults, NoMemory>
-    requires machine { machine.now ≡ plain_machine }
-    requires base { image.now.base ≡ machine.now.memory.base }
-    requires size { image.now.size ≡ machine.now.memory.size }
-    requires empty { schedule.old.lists ≡ [] }
-    requires cores_known { schedule.old.cores ≡ 1 }
-    ensures ok { IfOk result (IsRunOf plain_machine image.now schedule.new.lists) }
-    ensures err { OnErr result (IsLegalSoFar plain_machine image.now schedule.new.lists) }
-    ensures counted { IfOk result (HasCounts plain_machine) }
-    ensures cores { schedule.new.cores ≡ schedule.old.cores }
-{
-    running::run(alloc, machine, image, schedule)
-}
-
-// The whole report of a run.
-fn whole_report(alloc: Global, machine: &Machine, results: &RunResults) -> Result<Bytes, NoMemory>
-    requires { HasCounts machine.now results.now }
-    ensures { IfOk result (λ text. text ≡ report_of machine.now results.now) }
-{
-    report::text(
-        alloc,
-        machine,
-        &results.counters,
-        &results.cores,
-        results.intervals,
-        false,
-    )
-}
-
 // The status of a run that was reported whole.
 fn status_of(ending: Ending) -> Status
     ensures { result ≡ status_at ending }
@@ -184,11 +132,11 @@ fn status_of(ending: Ending) -> Status
 }
 
 // Says on standard error how the call ended.
-fn say<E: Sink>(alloc: Global, err: &mut E, status: Status) -> Said
-    ensures line { Says result status (sink_seen E.tells E.bytes E.faults err.old err.new) }
-    ensures silent { status ≡ Status.Ran → (result ≡ Said.All) × (err.new ≡ err.old) }
+fn say<E: Sink>(alloc: Global, err: &mut E, status: &Status) -> Said
+    ensures line { Says result status.now (sink_seen E.tells E.bytes E.faults err.old err.new) }
+    ensures silent { status.now ≡ Status.Ran → (result ≡ Said.All) × (err.new ≡ err.old) }
 {
-    if status == Status::Ran {
+    if matches!(status, Status::Ran) {
         return Said::All;
     }
     let line = match error_line(alloc, status) {

@@ -1,8 +1,10 @@
 // Cases from a file. Each line is one, and its first word says what the others are: the words of the
 // command line; the name of an example; the instructions of an executable, or all its bytes, in
-// hexadecimal digits; or bytes of the executable that exits with seven that become others. A line with
-// `#` is for the reader.
+// hexadecimal digits; bytes of the executable that exits with seven that become others; changes to the
+// built-in machine, and after ` : ` the instructions that run on it, if others than those that exit with
+// seven; or the text of a machine description, or its bytes. A line with `#` is for the reader.
 use crate::executables::{SEVEN, executable};
+use crate::machines::changed;
 use std::alloc::Global;
 use zs_host::{Files, MemFiles, MemSink, OpenGate, Sink};
 use zsim::zsim;
@@ -36,6 +38,19 @@ fn write_case<F: Files>(alloc: Global, line: &str, files: &mut F, out: &mut MemS
         ),
         "file" => write_run(alloc, &bytes_of(alloc, rest)?, out),
         "spoil" => write_run(alloc, &spoiled(alloc, rest)?, out),
+        "machine" => write_on_changed(alloc, rest, out),
+        "text" => write_on(
+            alloc,
+            rest.as_bytes(),
+            &executable(alloc, &SEVEN).ok()?,
+            out,
+        ),
+        "bytes" => write_on(
+            alloc,
+            &bytes_of(alloc, rest)?,
+            &executable(alloc, &SEVEN).ok()?,
+            out,
+        ),
         _ => None,
     }
 }
@@ -55,6 +70,25 @@ fn write_example<F: Files>(
 // Writes what `run plain A` answers, where A holds this executable.
 fn write_run(alloc: Global, exe: &[u8], out: &mut MemSink) -> Option<()> {
     write_call(alloc, "run plain A", exe, out)
+}
+
+// Writes what `run m A` answers, where m holds the built-in machine with changes, and A the executable
+// of the instructions behind ` : `, if there are any, and else the one that exits with seven.
+fn write_on_changed(alloc: Global, rest: &str, out: &mut MemSink) -> Option<()> {
+    let (changes, exe) = match rest.split_once(" : ") {
+        Some((changes, code)) => (changes, executable(alloc, &numbers_of(alloc, code)?).ok()?),
+        None => (rest, executable(alloc, &SEVEN).ok()?),
+    };
+    write_on(alloc, changed(alloc, changes)?.as_bytes(), &exe, out)
+}
+
+// Writes what `run m A` answers, where m holds this description and A this executable.
+fn write_on(alloc: Global, machine: &[u8], exe: &[u8], out: &mut MemSink) -> Option<()> {
+    let words = words_of(alloc, "run m A")?;
+    let mut files = MemFiles::new(alloc, &[]).ok()?;
+    files.set(alloc, "m", machine).ok()?;
+    files.set(alloc, "A", exe).ok()?;
+    write_answer(alloc, &words, &mut files, out)
 }
 
 // Writes what these words answer, where A holds this executable.

@@ -3,7 +3,7 @@ use std::alloc::{AllocError, Global};
 use std::process::Abort;
 use zs_host::{MemFiles, MemSink, OpenGate};
 use zs_num::NoMemory;
-use zsim::{Ended, Status, zsim};
+use zsim::{Ended, zsim};
 
 /// The answer of a call, and what the two streams hold after it.
 #[derive(Drop)]
@@ -43,8 +43,8 @@ pub fn run(alloc: Global, exe: &[u8]) -> Result<Called, NoMemory> {
     call(alloc, exe, out, err)
 }
 
-// The words, each on its own.
-fn owned(alloc: Global, words: &[&str]) -> Result<Vec<String>, AllocError> {
+/// The words, each on its own.
+pub fn owned(alloc: Global, words: &[&str]) -> Result<Vec<String>, AllocError> {
     let mut all = Vec::new(alloc);
     for word in words {
         all.push(String::from_str(alloc, word)?)?;
@@ -53,8 +53,9 @@ fn owned(alloc: Global, words: &[&str]) -> Result<Vec<String>, AllocError> {
 }
 
 /// The call ended so, with this on standard output and this on standard error.
-pub fn assert_ended(rt: &impl Abort, called: &Called, status: Status, out: &str, err: &str) {
-    assert_eq!(rt; called.ended.status, status);
+/// Its status has this number; the line on standard error tells the rest of it.
+pub fn assert_ended(rt: &impl Abort, called: &Called, number: u8, out: &str, err: &str) {
+    assert_eq!(rt; called.ended.status.number(), number);
     assert_eq!(rt; called.out.bytes(), out.as_bytes());
     assert_eq!(rt; called.err.bytes(), err.as_bytes());
 }

@@ -1,7 +1,9 @@
 // What is kept of a run: the machine's text, the executable and the schedule.
 use crate::executables::{SEVEN, executable};
-use crate::harness::run;
+use crate::harness::{call_with, run};
+use machine_desc::PLAIN;
 use std::test::Fail;
+use zs_host::MemFiles;
 use zsim::{Said, Status};
 
 // addi x6, x0, 200; ld x5, -8(x2); addi x6, x6, -1; bne x6, x0, -8; addi x17, x0, 93; ecall
@@ -20,7 +22,7 @@ fn the_machine_and_the_executable_are_kept(rt: HostRuntime) -> Result<(), Fail> 
     let exe = executable(alloc, &SEVEN)?;
     assert_eq!(rt; exe.len(), 132);
     let called = run(alloc, &exe)?;
-    assert_eq!(rt; called.ended.status, Status::Ran);
+    assert!(rt; matches!(called.ended.status, Status::Ran));
     assert_eq!(rt; called.ended.said, Said::All);
     let kept = &called.ended.kept;
     assert_eq!(rt; kept.exe.as_slice(), exe.as_slice());
@@ -28,6 +30,24 @@ fn the_machine_and_the_executable_are_kept(rt: HostRuntime) -> Result<(), Fail> 
     assert!(rt; kept.sched_file.as_slice().is_empty());
     assert_eq!(rt; kept.schedule.cores(), 1);
     assert_eq!(rt; kept.schedule.intervals(), 1);
+    Ok(())
+}
+
+#[test]
+fn what_the_machine_file_held_is_kept(rt: HostRuntime) -> Result<(), Fail> {
+    let alloc = rt.alloc();
+    let mut files = MemFiles::new(alloc, &[])?;
+    files.set(alloc, "A", &executable(alloc, &SEVEN)?)?;
+    let text = format!(in alloc; "# another text\n{PLAIN}")?;
+    files.set(alloc, "m", text.as_bytes())?;
+    let called = call_with(alloc, &["run", "m", "A"], &mut files)?;
+    assert!(rt; matches!(called.ended.status, Status::Ran));
+    assert_eq!(rt; called.ended.kept.machine.as_slice(), text.as_bytes());
+    assert_eq!(rt; called.ended.kept.exe.as_slice().len(), 132);
+    files.set(alloc, "m", b"cores =")?;
+    let called = call_with(alloc, &["run", "m", "A"], &mut files)?;
+    assert_eq!(rt; called.ended.kept.machine.as_slice(), b"cores =".as_slice());
+    assert!(rt; called.ended.kept.exe.as_slice().is_empty());
     Ok(())
 }
 

@@ -9,6 +9,7 @@ mod executables;
 mod harness;
 #[cfg(test)]
 mod kept;
+mod machines;
 #[cfg(test)]
 mod memory;
 #[cfg(test)]

@@ -11,10 +11,10 @@ use zsim::{Said, Status};
 fn a_run_answers_its_status_or_no_memory(rt: HostRuntime) {
     let alloc = rt.alloc();
     if let Ok(called) = run_words(alloc, &SEVEN) {
-        assert_answered(&rt, &called, Status::Ran, "");
+        assert_answered(&rt, &called, 0, "");
     }
     if let Ok(called) = run_words(alloc, &STORE_AND_LOAD) {
-        assert_answered(&rt, &called, Status::Ran, "");
+        assert_answered(&rt, &called, 0, "");
     }
     if let Ok(called) = run(alloc, b"") {
         let number = called.ended.status.number();
@@ -29,9 +29,9 @@ fn run_words(alloc: Global, words: &[u32]) -> Result<Called, NoMemory> {
 }
 
 // The call ended so, or out of memory, with what belongs to that on both streams.
-fn assert_answered(rt: &impl Abort, called: &Called, status: Status, line: &str) {
-    let out_of_memory = called.ended.status == Status::NoMemory;
-    assert!(rt; out_of_memory || called.ended.status == status);
+fn assert_answered(rt: &impl Abort, called: &Called, number: u8, line: &str) {
+    let out_of_memory = matches!(called.ended.status, Status::NoMemory);
+    assert!(rt; out_of_memory || called.ended.status.number() == number);
     assert_eq!(rt; called.out.bytes().is_empty(), out_of_memory);
     let line = if out_of_memory {
         "zsim: out of memory\n"

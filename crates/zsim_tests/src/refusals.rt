@@ -1,35 +1,104 @@
-// Executables that cannot be read, and what is kept of one that is refused.
+// Machines and executables that cannot be read, and what is kept of one that is refused.
 use crate::executables::{SEVEN, executable};
-use crate::harness::{assert_ended, call_with, run};
+use crate::harness::{assert_ended, call_with, owned, run};
+use crate::machines::changed;
 use elf_load::BadElf;
+use machine_desc::{BadMachine, PLAIN};
 use std::test::Fail;
-use zs_host::MemFiles;
-use zsim::{Said, Status, Which};
+use zs_host::{MemFiles, OpenGate, SureFiles, SureSink};
+use zsim::{Status, zsim};
 
 #[test]
 fn an_executable_over_its_limit_is_too_long(rt: HostRuntime) -> Result<(), Fail> {
     let alloc = rt.alloc();
     let exe = vec![in alloc; 0u8; (1 << 26) + 1]?;
     let called = run(alloc, &exe)?;
-    let status = Status::TooLong(Which::Exe);
-    assert_ended(&rt, &called, status, "", "zsim: too long: executable\n");
-    assert_eq!(rt; status.number(), 10);
+    assert_ended(&rt, &called, 10, "", "zsim: too long: executable\n");
     assert_eq!(rt; called.ended.kept.exe.as_slice().len(), (1 << 26) + 1);
     let longest = run(alloc, &exe[1..])?;
-    assert_eq!(rt; longest.ended.status, Status::BadElf(BadElf::Magic));
+    assert!(rt; matches!(longest.ended.status, Status::BadElf(BadElf::Magic)));
     assert!(rt; longest.ended.kept.exe.as_slice() == &exe[1..]);
     Ok(())
 }
 
+// A description of newlines alone is a text without a key, if it is not too long.
+#[test]
+fn a_description_over_its_limit_is_too_long(rt: HostRuntime) -> Result<(), Fail> {
+    let alloc = rt.alloc();
+    let newlines = vec![in alloc; b'\n'; (1 << 20) + 1]?;
+    let mut files = MemFiles::new(alloc, &[])?;
+    files.set(alloc, "m", &newlines)?;
+    let called = call_with(alloc, &["run", "m", "A"], &mut files)?;
+    assert_ended(&rt, &called, 10, "", "zsim: too long: machine\n");
+    assert_eq!(rt; called.ended.kept.machine.as_slice().len(), (1 << 20) + 1);
+    files.set(alloc, "m", &newlines[1..])?;
+    let longest = call_with(alloc, &["run", "m", "A"], &mut files)?;
+    assert_ended(&rt, &longest, 6, "", "zsim: machine 2 version\n");
+    assert_eq!(rt; files.fault_count(), 0);
+    Ok(())
+}
+
+// Of the two reads the first or the second fails. The machine is checked before the second.
 #[test]
 fn a_read_that_fails_is_a_read_fault(rt: HostRuntime) -> Result<(), Fail> {
     let alloc = rt.alloc();
-    let mut files = MemFiles::new(alloc, &[0])?;
-    files.set(alloc, "A", &executable(alloc, &SEVEN)?)?;
-    let called = call_with(alloc, &["run", "plain", "A"], &mut files)?;
-    assert_ended(&rt, &called, Status::ReadFault, "", "zsim: cannot read\n");
-    assert_eq!(rt; called.ended.said, Said::All);
-    assert!(rt; called.ended.kept.exe.as_slice().is_empty());
-    assert_eq!(rt; files.fault_count(), 1);
+    for (fails, machine, number, line, kept) in [
+        (0, PLAIN, 4, "zsim: cannot read\n", 0),
+        (1, PLAIN, 4, "zsim: cannot read\n", 339),
+        (1, "cores =", 6, "zsim: machine 1\n", 7),
+        (2, PLAIN, 0, "", 339),
+    ] {
+        let mut files = MemFiles::new(alloc, &[fails])?;
+        files.set(alloc, "m.toml", machine.as_bytes())?;
+        files.set(alloc, "A", &executable(alloc, &SEVEN)?)?;
+        let called = call_with(alloc, &["run", "m.toml", "A"], &mut files)?;
+        assert_eq!(rt; called.ended.status.number(), number, "{fails}");
+        assert_eq!(rt; called.err.bytes(), line.as_bytes(), "{fails}");
+        assert_eq!(rt; called.out.bytes().is_empty(), number != 0, "{fails}");
+        assert_eq!(rt; called.ended.kept.machine.as_slice().len(), kept, "{fails}");
+        assert_eq!(rt;
+            called.ended.kept.exe.as_slice().is_empty(),
+            number != 0,
+            "{fails}"
+        );
+        assert_eq!(rt; files.fault_count(), u64::from(number == 4), "{fails}");
+    }
+    Ok(())
+}
+
+// Over objects that never fail, a name that was never written holds no bytes.
+#[test]
+fn objects_that_never_fail_are_read_and_written(rt: HostRuntime) -> Result<(), Fail> {
+    let alloc = rt.alloc();
+    let exe = executable(alloc, &SEVEN)?;
+    for (intervals, number, first) in [
+        (
+            "3",
+            0,
+            "zsim report 1\ncores 1\nintervals 3\ninstructions 3\ncycles 3\n",
+        ),
+        (
+            "2",
+            3,
+            "zsim report 1\ncores 1\nintervals 2\ninstructions 2\ncycles 2\n",
+        ),
+    ] {
+        let changes = format!(in alloc;
+            "interval = 10000 -> interval = 1; intervals = 100000 -> intervals = {intervals}"
+        )?;
+        let machine = changed(alloc, changes.as_str()).ok_or("a machine")?;
+        let mut files = SureFiles::new(alloc);
+        let mut out = SureSink::new(alloc);
+        let mut err = SureSink::new(alloc);
+        files.set(alloc, "m", machine.as_bytes())?;
+        files.set(alloc, "A", &exe)?;
+        let words = owned(alloc, &["run", "m", "A"])?;
+        let ended = zsim(alloc, &words, &mut files, &mut out, &mut err, &OpenGate);
+        assert_eq!(rt; ended.status.number(), number);
+        assert!(rt; out.bytes().starts_with(first.as_bytes()));
+        let words = owned(alloc, &["run", "missing", "A"])?;
+        let ended = zsim(alloc, &words, &mut files, &mut out, &mut err, &OpenGate);
+        assert!(rt; matches!(ended.status, Status::BadMachine(BadMachine::Missing { .. })));
+    }
     Ok(())
 }

@@ -1,0 +1,62 @@
+-- What holds of a call's files after two reads, of the machine and then of the executable.
+use Rattle.std.proofs.Common.{◌≡◌, ℕ, ◌+◌, Bool, List, [], Option, Some, None, Ok, take, sym, ◌∙◌, ap}
+use Rattle.std.specs.Option.{option_map}
+use Rattle.zs_host.specs.declared.fault.Fault.{Fault}
+use Rattle.machine_desc.specs.declared.machine.Machine.{Machine}
+use Rattle.zsim.specs.declared.ended.Kept.{Kept}
+use Rattle.zsim.specs.CommandLine.{Command, command_of}
+use Rattle.zsim.specs.Ended.{IsMachineText, KeepsInputs}
+use Rattle.zsim.specs.Limits.{exe_limit}
+use Rattle.zsim.specs.Seen.{FilesSeen, Seen, SinkSeen, NoFileFailed, SameNames, WasRead, files_seen}
+use Rattle.zsim.specs.Setup.{machine_by}
+use Rattle.zsim.proofs.Outcome.{HasInputs}
+
+-- the inputs that the words ask for are kept
+keeps : (seen : Seen) (k : Kept) (asked : Command) → command_of seen.words ≡ Some asked
+    → IsMachineText seen.files asked.machine k.machine → WasRead seen.files asked.exe exe_limit k.exe → KeepsInputs seen k
+keeps seen k asked is text read = record { machine = rw is text; exe = rw is read }
+
+module _ {F : Type 0} (tells : Bool) (contents : F → List ℕ → Option (List ℕ)) (faults : F → ℕ) (latest : F → Option Fault) (before between after : F) where
+  abbrev first : FilesSeen
+  first = files_seen tells contents faults latest before between
+
+  abbrev second : FilesSeen
+  second = files_seen tells contents faults latest between after
+
+  abbrev both : FilesSeen
+  both = files_seen tells contents faults latest before after
+
+  names_stay : SameNames first → SameNames second → SameNames both
+  names_stay one other = λ told name. other told name ∙ one told name
+
+  none_failed : NoFileFailed first → NoFileFailed second → NoFileFailed both
+  none_failed one other = record { faults = other.faults ∙ one.faults; latest = other.latest ∙ one.latest }
+
+  -- what was read in the first call
+  text_stays : (name : Option (List ℕ)) (text : List ℕ) → IsMachineText first name text → IsMachineText both name text
+  text_stays None text is = is
+  text_stays (Some name) text read = record { held = read.held; most = read.most }
+
+  -- what was read in the second
+  was_read : SameNames first → (name : List ℕ) (limit : ℕ) (bytes : List ℕ) → WasRead second name limit bytes → WasRead both name limit bytes
+  was_read same name limit bytes read = record {
+    held = λ told. ap (option_map (take (limit + 1))) (sym (same told name)) ∙ read.held told;
+    most = read.most;
+  }
+
+  -- both were read, and the machine passed its checks
+  pub has_inputs : (words : List (List ℕ)) (out : SinkSeen) (k : Kept) (machine : Machine) (asked : Command) → command_of words ≡ Some asked
+      → SameNames first → SameNames second → NoFileFailed first → NoFileFailed second
+      → IsMachineText first asked.machine k.machine → WasRead second asked.exe exe_limit k.exe
+      → k.sched_file ≡ [] → k.schedule.cores ≡ 1 → machine_by k.machine ≡ Ok machine
+      → HasInputs (record { words = words; files = both; out = out }) k machine
+  has_inputs words out k machine asked is same then_same none then_none text read sched_file cores machine_is = record {
+    inputs = keeps (record { words = words; files = both; out = out }) k asked is (text_stays asked.machine k.machine text) (was_read same asked.exe exe_limit k.exe read);
+    sched_file = sched_file;
+    cores = cores;
+    no_fault = none_failed none then_none;
+    names = names_stay same then_same;
+    asked = asked;
+    is = is;
+    machine_is = machine_is;
+  }

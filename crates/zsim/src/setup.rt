@@ -1,0 +1,106 @@
+// What a call is to run: the machine and the executable, each read and checked.
+ghost use Rattle.std.specs.Prelude.{◌≡◌, codes, IfOk, Some, option_map};
+ghost use Rattle.machine_desc.specs.Machine.{IsMachine};
+ghost use Rattle.zsim.specs.Ended.{IsMachineText};
+ghost use Rattle.zsim.specs.Limits.{exe_limit};
+ghost use Rattle.zsim.specs.Seen.{files_seen, SameNames, WasRead};
+ghost use Rattle.zsim.specs.Setup.{loaded_on, machine_by, with_one_core};
+ghost use Rattle.zsim.specs.Steps.{Answers, AnswersMachine, Reads};
+
+use crate::limits::{EXE_LIMIT, MACHINE_LIMIT};
+use crate::{Status, Which};
+use elf_load::{Image, LoadFail, load};
+use machine_desc::{BadMachine, KeyName, Machine, MachineFail, PLAIN, read};
+use std::alloc::{AllocError, Global};
+use zs_host::{FileFail, Files};
+use zs_num::Bytes;
+
+/// The text of the machine: the first bytes of the file of this name, up to the limit and one more;
+/// or the built-in text, where there is no name.
+pub fn read_machine<F: Files>(
+    alloc: Global,
+    name: Option<&str>,
+    files: &mut F,
+) -> Result<Bytes, FileFail>
+    ensures text { IfOk result (IsMachineText (files_seen F.tells F.contents F.faults F.latest files.old files.new) (option_map (λ n. n.now) name.entry)) }
+    ensures names { SameNames (files_seen F.tells F.contents F.faults F.latest files.old files.new) }
+    ensures faults { Reads result (files_seen F.tells F.contents F.faults F.latest files.old files.new) (option_map (λ n. n.now) name.entry) }
+{
+    match name {
+        Some(name) => files.read(alloc, name, MACHINE_LIMIT + 1),
+        None => Ok(Bytes::from_slice(alloc, PLAIN.as_bytes())?),
+    }
+}
+
+/// The machine of a description, or the refusal of the first check that fails: its length, and then
+/// the checks of the description.
+#[tactic(auto, unfolding(crate::specs::Setup::machine_by))]
+pub fn check_machine(alloc: Global, text: &[u8]) -> Result<Machine, Status>
+    ensures answer { AnswersMachine result (machine_by text.now) }
+    ensures valid { IfOk result IsMachine }
+    ensures one { IfOk result (λ machine. machine.cores ≡ 1) }
+{
+    if text.len() > MACHINE_LIMIT {
+        return Err(Status::TooLong(Which::Machine));
+    }
+    match read(alloc, text) {
+        Ok(machine) => with_one_core(alloc, machine),
+        Err(MachineFail::Bad(bad)) => Err(Status::BadMachine(bad)),
+        Err(MachineFail::NoMemory) => Err(Status::NoMemory),
+    }
+}
+
+// A machine of one core. One of several cores is refused: none can be run yet.
+fn with_one_core(alloc: Global, machine: Machine) -> Result<Machine, Status>
+    requires { IsMachine machine }
+    ensures answer { AnswersMachine result (with_one_core machine) }
+    ensures valid { IfOk result IsMachine }
+    ensures one { IfOk result (λ machine. machine.cores ≡ 1) }
+{
+    if machine.cores == 1 {
+        return Ok(machine);
+    }
+    match cores_key(alloc) {
+        Ok(key) => Err(Status::BadMachine(BadMachine::Range {
+            key,
+            value: i64::from(machine.cores),
+        })),
+        Err(AllocError) => Err(Status::NoMemory),
+    }
+}
+
+// The key of the number of cores.
+fn cores_key(alloc: Global) -> Result<KeyName, AllocError>
+    ensures { IfOk result (λ key. key ≡ codes "cores") }
+{
+    let text = String::from_str(alloc, "cores")?;
+    let _utf8 = text.as_str();
+    Ok(KeyName::of(text.into_bytes()))
+}
+
+/// The first bytes of the executable, up to the limit and one more.
+pub fn read_exe<F: Files>(alloc: Global, name: &str, files: &mut F) -> Result<Bytes, FileFail>
+    ensures exe { IfOk result (WasRead (files_seen F.tells F.contents F.faults F.latest files.old files.new) name.now exe_limit) }
+    ensures names { SameNames (files_seen F.tells F.contents F.faults F.latest files.old files.new) }
+    ensures faults { Reads result (files_seen F.tells F.contents F.faults F.latest files.old files.new) (Some name.now) }
+{
+    files.read(alloc, name, EXE_LIMIT + 1)
+}
+
+/// The image of an executable, or the refusal of the first check that fails: its length, and then
+/// the checks of its file format.
+#[tactic(auto, unfolding(crate::specs::Setup::loaded_on))]
+pub fn check_exe(alloc: Global, machine: &Machine, exe: &[u8]) -> Result<Image, Status>
+    requires { IsMachine machine.now }
+    ensures answer { Answers machine.now result (loaded_on machine.now exe.now) }
+    ensures memory { IfOk result (λ image. (image.base ≡ machine.now.memory.base) × (image.size ≡ machine.now.memory.size)) }
+{
+    if exe.len() > EXE_LIMIT {
+        return Err(Status::TooLong(Which::Exe));
+    }
+    match load(alloc, exe, machine.memory.base, machine.memory.size) {
+        Ok(image) => Ok(image),
+        Err(LoadFail::Bad(bad)) => Err(Status::BadElf(bad)),
+        Err(LoadFail::NoMemory) => Err(Status::NoMemory),
+    }
+}
