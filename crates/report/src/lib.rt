@@ -8,6 +8,7 @@ mod printed;
 mod summary;
 mod writer;
 
+pub use printed::write_printed;
 pub use writer::text;
 
 #[cfg(test)]

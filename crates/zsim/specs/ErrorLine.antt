@@ -5,7 +5,7 @@ use Rattle.elf_load.specs.declared.bad_elf.BadElf.{BadElf}
 use Rattle.elf_load.specs.declared.bad_elf.BadElf.TheVariants as bad
 use Rattle.machine_desc.specs.declared.errors.BadMachine.{BadMachine}
 use Rattle.machine_desc.specs.declared.errors.BadMachine.TheVariants.{Text, Missing, Kind, Range, Unknown, Ratio, Domain}
-use Rattle.zsim.specs.ReportText.{printed}
+use Rattle.report.specs.ReportText.{printed}
 use Rattle.zsim.specs.declared.ended.Status.{Status}
 use Rattle.zsim.specs.declared.ended.Status.TheVariants as status
 use Rattle.zsim.specs.declared.ended.Which.TheVariants.{Machine, Exe}

@@ -1,9 +1,9 @@
 // The line on standard error for each status.
 ghost use Rattle.std.specs.Prelude.{◌≡◌, ◌++◌, codes, IfOk, OnOk, string_bytes};
-ghost use Rattle.zsim.specs.ReportText.{printed};
+ghost use Rattle.report.specs.ReportText.{printed};
 ghost use Rattle.zsim.specs.ErrorLine.{elf_details, error_line, machine_details};
 
-use crate::report::write_printed;
+use report::write_printed;
 use crate::{Status, Which};
 use elf_load::BadElf;
 use machine_desc::{BadMachine, KeyName};
