@@ -12,6 +12,23 @@ use Rattle.cache_set.specs.Ways.{kept_of, without, used, filled, changed, last_o
 use Rattle.shard.specs.Lines.{set_of, in_set_of, set_number}
 use Rattle.shard.proofs.CoherentPlaced.{set_read}
 
+-- ---- all sets, of which the one of a line changes
+module _ {Y : Type 0} where
+  pub set_same_at : (shards line other : ℕ) (change : List Y → List Y) (sets : List (List Y)) → 1 ≤ length sets → set_number shards line sets ≡ set_number shards other sets
+      → set_of shards line (in_set_of shards other change sets) ≡ change (set_of shards other sets)
+  set_same_at shards line other change sets some e =
+      let k : ℕ = set_number shards other sets in
+      let within : k < length sets = omega arith in
+      rw (length-set sets k (change (get_or sets k [])), e, get_or-set_same sets k (change (get_or sets k [])) [] within) refl
+
+  pub set_same : (shards line : ℕ) (change : List Y → List Y) (sets : List (List Y)) → 1 ≤ length sets → set_of shards line (in_set_of shards line change sets) ≡ change (set_of shards line sets)
+  set_same shards line change sets some = set_same_at shards line line change sets some refl
+
+  pub set_other : (shards line other : ℕ) (change : List Y → List Y) (sets : List (List Y)) → set_number shards line sets ≢ set_number shards other sets
+      → set_of shards line (in_set_of shards other change sets) ≡ set_of shards line sets
+  set_other shards line other change sets h =
+      rw (length-set sets (set_number shards other sets) (change (set_of shards other sets)), get_or-set_other sets (set_number shards other sets) (set_number shards line sets) (change (set_of shards other sets)) [] h) refl
+
 module _ {X : Type 0} where
   -- ---- one set
   lacks_none : (line : ℕ) (s : List (ℕ × X)) → Lacks line (keys_of s) → kept_of line s ≡ None
@@ -135,18 +152,6 @@ module _ {X : Type 0} where
   kept_victim ways s victim h e = kept_at (ways - 1) s victim h e
 
   -- ---- all sets, of which the one of a line changes
-  pub set_same : (shards line : ℕ) (change : List (ℕ × X) → List (ℕ × X)) (sets : List (List (ℕ × X))) → 1 ≤ length sets
-      → set_of shards line (in_set_of shards line change sets) ≡ change (set_of shards line sets)
-  set_same shards line change sets some =
-      let k : ℕ = set_number shards line sets in
-      let within : k < length sets = omega arith in
-      rw (length-set sets k (change (set_of shards line sets)), get_or-set_same sets k (change (set_of shards line sets)) [] within) refl
-
-  pub set_other : (shards line other : ℕ) (change : List (ℕ × X) → List (ℕ × X)) (sets : List (List (ℕ × X))) → set_number shards line sets ≢ set_number shards other sets
-      → set_of shards line (in_set_of shards other change sets) ≡ set_of shards line sets
-  set_other shards line other change sets h =
-      rw (length-set sets (set_number shards other sets) (change (set_of shards other sets)), get_or-set_other sets (set_number shards other sets) (set_number shards line sets) (change (set_of shards other sets)) [] h) refl
-
   -- what is kept of a line that the change does not concern
   pub kept_elsewhere : (shards line other : ℕ) (change : List (ℕ × X) → List (ℕ × X)) (sets : List (List (ℕ × X))) → kept_of line (change (set_of shards other sets)) ≡ kept_of line (set_of shards other sets)
       → kept_of line (set_of shards line (in_set_of shards other change sets)) ≡ kept_of line (set_of shards line sets)

@@ -15,3 +15,10 @@ pub mod CoherentSets
 pub mod CoherentSettled
 pub mod Coherent
 pub mod CoherentRuns
+pub mod StandsForSets
+pub mod StandsForPart
+pub mod StandsForSteps
+pub mod StandsForApart
+pub mod StandsForBytes
+pub mod StandsForShare
+pub mod StandsForStep

@@ -1,5 +1,6 @@
 -- Laws of the definitions.
-use Rattle.std.specs.Prelude.{◌≡◌, ◌≢◌, ℕ, ◌<◌, ◌≤◌, ◌↔◌, List, [], ◌∷◌, All, length, Option, IsSome, IsTrue}
+use Rattle.std.specs.Prelude.{◌≡◌, ◌≢◌, ℕ, ◌<◌, ◌≤◌, ◌↔◌, List, [], ◌∷◌, All, length, slice_set, Option, IsSome, IsTrue}
+use Rattle.zs_num.specs.Request.{IsServable}
 use Rattle.zs_num.specs.declared.entry.Entry.{Entry}
 use Rattle.zs_num.specs.declared.request.Request.{Request}
 use Rattle.flat_memory.specs.declared.reservation.Reservation.{Reservation}
@@ -9,8 +10,8 @@ use Rattle.cache_set.specs.declared.letter.Letter.TheVariants.{I}
 use Rattle.shard.specs.Coherence.{Caches, after_access, after_accesses, allows, dirty_at, empty_caches, is_alone, is_held, is_write, letter_at, outcome_of}
 use Rattle.shard.specs.Lines.{line_of}
 use Rattle.shard.specs.Marks.{ArePairedRight, MarkedMemory, marked_after, marked_reply, pairings_after}
-use Rattle.shard.specs.Served.{CanServe, HasCore, ShardState, after}
-use Rattle.shard.specs.StandsFor.{AreCoherent, HaveRoom, HaveSets, flat_for}
+use Rattle.shard.specs.Served.{CanServe, HasCore, ShardState, after, met_by, reply_of}
+use Rattle.shard.specs.StandsFor.{AreCoherent, HaveRoom, HaveSets, Keeps, StandFor, flat_for}
 
 -- ---- what an access leaves of a shard
 
@@ -91,3 +92,14 @@ MarksAreReservations = (memory : MarkedMemory) (pairings : List (Option Reservat
     → ArePairedRight pairings accesses
     → (marked_replies memory accesses ≡ flat_replies (flat_for memory pairings) accesses)
     × (flat_for (marked_after_all memory accesses) (pairings_after_all pairings accesses) ≡ flat_after_all (flat_for memory pairings) accesses)
+
+-- ---- shards that stand for one machine
+
+-- What a shard does with the entry of an access to a line of its own is what the memory and the caches do for which all
+-- shards stand, and they stand for what these leave.
+abbrev pub ShardsStandForAMachine : Type 0
+ShardsStandForAMachine = (shards : List ShardState) (memory : MarkedMemory) (c : Caches) (s : ShardState) (entry : Entry)
+    → StandFor shards memory c → Keeps shards (line_of entry.request) s → IsServable memory.base (length memory.bytes) entry.request → entry.core < length c.l1
+    → (reply_of s entry ≡ marked_reply memory entry.core entry.request)
+    × (met_by s entry ≡ outcome_of c entry.core entry.request)
+    × StandFor (slice_set shards s.number (after s entry)) (marked_after memory entry.core entry.request) (after_access c entry.core entry.request)

@@ -1,5 +1,5 @@
 -- What shards stand for together: one memory, and the cache lists of one machine.
-use Rattle.std.specs.Prelude.{◌≡◌, ◌≢◌, ℕ, ◌+◌, ◌-◌, ◌*◌, ◌<◌, ◌≤◌, if◌then◌else◌, IsTrue, IsSome, List, [], length, map, nat_eq, slice_index, slice_index_or, slice_get, Option, Some, None}
+use Rattle.std.specs.Prelude.{◌≡◌, ◌≢◌, ℕ, ◌+◌, ◌-◌, ◌*◌, ◌<◌, ◌≤◌, if◌then◌else◌, IsTrue, IsSome, List, [], length, map, nat_eq, slice_index_or, slice_get, Option, Some, None}
 use Rattle.std.specs.List.{All, IsDistinct, range_with_len}
 use Rattle.std.specs.Map.{keys_of}
 use Rattle.cache_set.specs.declared.letter.Letter.TheVariants.{I}
@@ -58,7 +58,7 @@ Keeps shards line s = slice_get shards (shard_of (length shards) line) ≡ Some 
 pub record StandFor (shards : List ShardState) (memory : MarkedMemory) (c : Caches) : Type 0 where
   pub are : AreShards shards memory.base (length memory.bytes)
   pub bytes : (addr : ℕ) (s : ShardState) → memory.base ≤ addr → addr < memory.base + length memory.bytes → Keeps shards (line_at addr) s
-      → slice_index memory.bytes (addr - memory.base) ≡ slice_index s.bytes (place_of (length shards) memory.base addr)
+      → slice_get memory.bytes (addr - memory.base) ≡ slice_get s.bytes (place_of (length shards) memory.base addr)
   pub marks : memory.marks ≡ map (λ s. s.marks) shards
   pub whole : c.shards ≡ 1
   pub l1 : (core line : ℕ) (s : ShardState) → Keeps shards line s
@@ -72,6 +72,7 @@ pub record StandFor (shards : List ShardState) (memory : MarkedMemory) (c : Cach
   pub l1_ways : (i : ℕ) (s : ShardState) → slice_get shards i ≡ Some s → s.caches.l1_ways ≡ c.l1_ways
   pub l2_ways : (i : ℕ) (s : ShardState) → slice_get shards i ≡ Some s → s.caches.l2_ways ≡ c.l2_ways
   pub coherent : AreCoherent c
+  pub room : HaveRoom c
 
 -- ---- one reservation for each core
 

@@ -1,5 +1,5 @@
 //! Laws over the definitions alone, each the contract of a function that does nothing.
-ghost use Rattle.shard.specs.Laws.{CoherentStays, CoresStay, HitsAreAllowed, Inclusion, LastIsStamp, MarksAreReservations, NumberStays, SetsStaySound, SingleWriter, StillServes};
+ghost use Rattle.shard.specs.Laws.{CoherentStays, CoresStay, HitsAreAllowed, Inclusion, LastIsStamp, MarksAreReservations, NumberStays, SetsStaySound, ShardsStandForAMachine, SingleWriter, StillServes};
 
 /// An access leaves a shard its number.
 pub fn number_stays()
@@ -54,4 +54,10 @@ pub fn single_writer()
 /// Whatever cores access, from empty caches on: the L2 has each line that an L1 has.
 pub fn inclusion()
     ensures { Inclusion }
+{}
+
+/// What a shard does with an access to a line of its own is what one machine does, and the shards
+/// stand for that machine after it.
+pub fn shards_stand_for_a_machine()
+    ensures { ShardsStandForAMachine }
 {}
