@@ -7,6 +7,7 @@ pub mod LoadsStores
 pub mod Pairs
 pub mod Phase
 pub mod PhaseHistories
+pub mod Reaching
 pub mod ShardKept
 pub mod ShardsTurn
 pub mod Simulation

@@ -3,6 +3,7 @@ pub mod Laws
 pub mod MachineOfShards
 pub mod MachineWorld
 pub mod Port
+pub mod Reaching
 pub mod ReferenceMachine
 pub mod ShardWorld
 pub mod Simulation

@@ -3,8 +3,8 @@ ghost use Rattle.std.specs.Prelude.{◌≡◌, ℕ, List};
 ghost use Rattle.zs_num.specs.declared.entry.Entry.{Entry};
 ghost use Rattle.zs_num.specs.declared.request.Request.{Request};
 ghost use Rattle.elf_load.specs.MemoryImage.{MemoryImage};
-ghost use Rattle.rv_decode.specs.declared.inst.Inst.{Inst};
-ghost use Rattle.bound_core.specs.InstructionLaws.{CoreInMemory, LoadsAreWhole, OtherBytesStay, PairStores, StoredIsLoaded, StoresAreWhole, WriteBetweenEndsPair};
+ghost use Rattle.bound_core.specs.HistoryLaws.{HistoriesArePhases, PhasesAreHistories, RecordedOrderIsHistory};
+ghost use Rattle.bound_core.specs.Reaching.{BeginsAtItself, GoesOnByATurn, GoesOnByLocalInstructions, GoesOnToTheEnd, IsThePhaseAtTheEnd};
 ghost use Rattle.bound_core.specs.Laws.{AccessesAreFew, EndsWhereAllAreOver, LocalInstructionsAreAlone, TurnIsScheduled, TurnsAreScheduled};
 ghost use Rattle.bound_core.specs.MachineOfShards.{HistoriesAreRunsOfTheMachine, ShardsDoAsTheMachine, ShardsStandForAMachine};
 
@@ -37,11 +37,38 @@ pub fn turns_are_scheduled<Q: Port, World>()
         → TurnsAreScheduled Q.gives world serve }
 {}
 
-/// A load or a store does what one access of all its bytes would, aligned or not, and wherever it
-/// crosses a line.
-pub fn loads_and_stores_are_whole()
-    ensures loads { LoadsAreWhole }
-    ensures stores { StoresAreWhole }
+/// How a bound phase is followed from turn to turn: it begins without a turn, goes on by a turn, by a
+/// core's local instructions or by all turns of a core that are left, and is the whole bound phase where
+/// every core is over.
+pub fn turns_lead_on<Q: Port, World>()
+    ensures begins { (serve : World → (core start : ℕ) → Request → Entry × World) (time : Entry → ℕ) (image : MemoryImage) (end : ℕ)
+        → BeginsAtItself serve time image end }
+    ensures turn { (world : Q → World) (serve : World → (core start : ℕ) → Request → Entry × World)
+        → GoesOnByATurn Q.gives world serve }
+    ensures alone { (serve : World → (core start : ℕ) → Request → Entry × World) (time : Entry → ℕ) (image : MemoryImage) (end : ℕ)
+        → GoesOnByLocalInstructions serve time image end }
+    ensures turns { (world : Q → World) (serve : World → (core start : ℕ) → Request → Entry × World)
+        → GoesOnToTheEnd Q.gives world serve }
+    ensures whole { (serve : World → (core start : ℕ) → Request → Entry × World) (time : Entry → ℕ) (image : MemoryImage) (end : ℕ)
+        → IsThePhaseAtTheEnd serve time image end }
+{}
+
+/// A history of an interval is a bound phase: whatever the order in which the cores took their turns at
+/// the shards, the schedule of the entries' cores is legal, and gives these entries, these cores and
+/// these shards.
+pub fn histories_are_phases()
+    ensures { (time : Entry → ℕ) (image : MemoryImage) (end : ℕ) → HistoriesArePhases time image end }
+{}
+
+/// The entries of every bound phase over shards are a history.
+pub fn phases_are_histories()
+    ensures { (time : Entry → ℕ) (image : MemoryImage) (end : ℕ) → PhasesAreHistories time image end }
+{}
+
+/// The entries of a history in recorded order are a history of the same cores and shards. So the turns
+/// in recorded order are legal, and leave what the turns left as they were taken.
+pub fn recorded_order_is_a_history()
+    ensures { (time : Entry → ℕ) (image : MemoryImage) (end : ℕ) → RecordedOrderIsHistory time image end }
 {
     rv_core::laws::accesses_are_little_endian();
 }
