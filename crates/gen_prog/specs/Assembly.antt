@@ -1,0 +1,51 @@
+-- Instructions, with their operands in the order of assembly language, and their words (RISC-V Unprivileged ISA manual,
+-- "RISC-V Assembly Programmer's Handbook").
+use Rattle.std.specs.Prelude.{◌≡◌, ◌<◌, ℕ, ◌+◌, ◌*◌, ◌^◌, ℤ, pos, List, Some}
+use Rattle.std.specs.List.{flat_map}
+use Rattle.byteorder.specs.Endian.{little_bytes}
+use Rattle.rv_decode.specs.InstructionTable.{decoded}
+use Rattle.rv_decode.specs.NamedRows.{format_of, value_of}
+use Rattle.rv_decode.specs.declared.inst.Inst.{Inst}
+use Rattle.rv_decode.specs.declared.name.Name.{Name}
+use Rattle.rv_encode.specs.Encoding.{immediate_of, registers_of}
+
+-- of a register and the upper 20 bits of an immediate
+abbrev pub upper : Name → (rd imm : ℕ) → Inst
+upper name rd imm = record { name = name; rd = rd; rs1 = 0; rs2 = 0; imm = pos (imm * 2 ^ 12) }
+
+-- of two registers and an immediate; a load has its offset there
+abbrev pub immediate : Name → (rd rs1 : ℕ) → ℤ → Inst
+immediate name rd rs1 imm = record { name = name; rd = rd; rs1 = rs1; rs2 = 0; imm = imm }
+
+-- of three registers; an atomic has neither aq nor rl
+abbrev pub registers : Name → (rd rs1 rs2 : ℕ) → Inst
+registers name rd rs1 rs2 = record { name = name; rd = rd; rs1 = rs1; rs2 = rs2; imm = pos 0 }
+
+-- a store of rs2 at an offset from rs1
+abbrev pub store : Name → (rs2 rs1 : ℕ) → (offset : ℤ) → Inst
+store name rs2 rs1 offset = record { name = name; rd = 0; rs1 = rs1; rs2 = rs2; imm = offset }
+
+-- a branch by so many bytes
+abbrev pub branch : Name → (rs1 rs2 : ℕ) → (offset : ℤ) → Inst
+branch name rs1 rs2 offset = record { name = name; rd = 0; rs1 = rs1; rs2 = rs2; imm = offset }
+
+-- a jump by so many bytes
+abbrev pub jump : Name → (rd : ℕ) → (offset : ℤ) → Inst
+jump name rd offset = record { name = name; rd = rd; rs1 = 0; rs2 = 0; imm = offset }
+
+-- an instruction without operands
+abbrev pub system : Name → Inst
+system name = record { name = name; rd = 0; rs1 = 0; rs2 = 0; imm = pos 0 }
+
+-- the word of an instruction: the bits that its row of the instruction table states, its registers and its immediate
+unfoldable pub word_of : Inst → ℕ
+word_of i = value_of i.name + registers_of i + immediate_of (format_of i.name) i.imm
+
+-- the words of instructions as bytes, little-endian
+abbrev pub assembled : List Inst → List ℕ
+assembled instructions = flat_map (λ i. little_bytes 4 (word_of i)) instructions
+
+-- the word of an instruction is one, and decodes to it
+pub record IsEncodable (i : Inst) : Type 0 where
+  pub small : word_of i < 2 ^ 32
+  pub decodes : decoded (word_of i) ≡ Some i

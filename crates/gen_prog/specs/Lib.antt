@@ -1,0 +1,3 @@
+pub mod Assembly
+pub mod Generated
+pub mod Laws

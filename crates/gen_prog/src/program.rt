@@ -1,0 +1,63 @@
+// The program of a number, as a list of instructions.
+ghost use Rattle.std.specs.Prelude.{◌≡◌};
+ghost use Rattle.gen_prog.specs.Generated.{mask, program, rounds};
+
+use crate::assembly::{branch, immediate, jump, registers, store, system, upper};
+use rv_decode::{Inst, Name};
+
+/// The offset of the last doubleword of the table, which has 16 to 256 of them.
+pub fn mask(n: u64) -> u16
+    ensures { result ≡ mask n }
+{
+    8 * ((1 << (4 + n % 5)) - 1)
+}
+
+/// How many rounds each core makes: 100 to 10,000.
+pub fn rounds(n: u64) -> u64
+    ensures { result ≡ rounds n }
+{
+    100 + n % 9901
+}
+
+/// The program, with the offset of the table's last doubleword. At its start a core has its number
+/// in x10; x5 is the address of the data, x6 the number that was drawn last, x7 how many rounds are
+/// left, and x8 an address.
+pub fn program(mask: u16) -> [Inst; 28]
+    ensures { result ≡ program mask }
+{
+    [
+        upper(Name::Auipc, 5, 1),
+        immediate(Name::Ld, 6, 5, 0),
+        immediate(Name::Ld, 7, 5, 8),
+        registers(Name::Add, 6, 6, 10),
+        immediate(Name::Ori, 6, 6, 1),
+        immediate(Name::Addi, 9, 0, 1),
+        // A round: the next number.
+        immediate(Name::Slli, 8, 6, 13),
+        registers(Name::Xor, 6, 6, 8),
+        immediate(Name::Srli, 8, 6, 7),
+        registers(Name::Xor, 6, 6, 8),
+        immediate(Name::Slli, 8, 6, 17),
+        registers(Name::Xor, 6, 6, 8),
+        // An address in the table.
+        immediate(Name::Srli, 8, 6, 8),
+        immediate(Name::Andi, 8, 8, i64::from(mask)),
+        registers(Name::Add, 8, 8, 5),
+        immediate(Name::Addi, 8, 8, 64),
+        // An access by the last two bits: 1 adds, 0 stores, 2 and 3 load.
+        immediate(Name::Andi, 11, 6, 3),
+        branch(Name::Beq, 11, 0, 16),
+        branch(Name::Bne, 11, 9, 20),
+        registers(Name::AmoaddD, 12, 8, 9),
+        jump(Name::Jal, 0, 16),
+        store(Name::Sd, 6, 8, 0),
+        jump(Name::Jal, 0, 8),
+        immediate(Name::Ld, 12, 8, 0),
+        // The next round.
+        immediate(Name::Addi, 7, 7, -1),
+        branch(Name::Bne, 7, 0, -76),
+        // The exit.
+        immediate(Name::Addi, 17, 0, 93),
+        system(Name::Ecall),
+    ]
+}
