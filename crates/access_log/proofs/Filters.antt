@@ -5,8 +5,14 @@ use Rattle.zs_num.specs.declared.entry.Entry.{Entry}
 use Rattle.access_log.specs.History.{HasSameFilters, bank_of_entry, core_of_entry, numbered}
 
 module _ (number_of : Entry → ℕ) (number : ℕ) where
+  pub own_first : (e : Entry) (entries : List Entry) → number_of e ≡ number → numbered number_of number (e ∷ entries) ≡ e ∷ numbered number_of number entries
+  own_first e entries own = rw (eq-eqb (number_of e) number own) refl
+
+  pub other_first : (e : Entry) (entries : List Entry) → (number_of e ≡ number → ⊥) → numbered number_of number (e ∷ entries) ≡ numbered number_of number entries
+  other_first e entries other = rw (ne_eqb (number_of e) number other) refl
+
   -- two neighbours with different numbers change places
-  swapped : (e x : Entry) (entries : List Entry) → (number_of e ≡ number_of x → ⊥) → numbered number_of number (x ∷ e ∷ entries) ≡ numbered number_of number (e ∷ x ∷ entries)
+  pub swapped : (e x : Entry) (entries : List Entry) → (number_of e ≡ number_of x → ⊥) → numbered number_of number (x ∷ e ∷ entries) ≡ numbered number_of number (e ∷ x ∷ entries)
   swapped e x entries apart =
       elim (cases_eq (number_of e) number) as (λ _. numbered number_of number (x ∷ e ∷ entries) ≡ numbered number_of number (e ∷ x ∷ entries)) [
         | inl own ↦
@@ -16,7 +22,7 @@ module _ (number_of : Entry → ℕ) (number : ℕ) where
       ]
 
   -- an entry before lists of the same entries
-  before_same : (e : Entry) (entries others : List Entry) → numbered number_of number others ≡ numbered number_of number entries
+  pub before_same : (e : Entry) (entries others : List Entry) → numbered number_of number others ≡ numbered number_of number entries
       → numbered number_of number (e ∷ others) ≡ numbered number_of number (e ∷ entries)
   before_same e entries others same = rw same refl
 

@@ -1,5 +1,5 @@
 -- Two neighbours of different cores and banks may change places.
-use Rattle.std.proofs.Common.{◌≡◌, ℕ, ◌+◌, ◌<◌, max, nat_lt, true, false, ◌||◌, Bool, List, ◌∷◌, length, refl, sym, ◌∙◌, ap, subst, arith, rules}
+use Rattle.std.proofs.Common.{◌≡◌, ℕ, ◌<◌, nat_lt, true, false, ◌||◌, Bool, List, ◌∷◌, length, refl, sym, ◌∙◌, ap, subst, arith, rules}
 use Rattle.std.proofs.lemmas.List.{get_or-set_other, get_or-set_same, set_comm}
 use Rattle.std.specs.Prelude.{slice_index, slice_set}
 use Rattle.zs_num.specs.declared.entry.Entry.{Entry}
@@ -14,7 +14,7 @@ first_fails false b fails = refl
 found : (numbers : List ℕ) (i j n : ℕ) → i ≡ j → i < length numbers → slice_index (slice_set numbers i n) j ≡ n
 found numbers i j n same within = ap (slice_index (slice_set numbers i n)) (sym same) ∙ get_or-set_same numbers i n 0 within
 
-not_before : (n m : ℕ) → nat_lt n m ≡ false → n < m → ⊥
+pub not_before : (n m : ℕ) → nat_lt n m ≡ false → n < m → ⊥
 not_before n m not lt = let before : nat_lt n m ≡ true = search rules in cc
 
 module _ (banks : ℕ) (stamps : Stamps) (e x : Entry) where

@@ -1,6 +1,6 @@
 -- A history: the entries of the accesses of an interval, in an order in which the turns were taken. What one core did is
 -- told by its own entries, and what one bank did by those of the bank.
-use Rattle.std.specs.Prelude.{◌≡◌, ℕ, ◌==◌, ◌%◌, List, [], ◌∷◌, map}
+use Rattle.std.specs.Prelude.{◌≡◌, ℕ, ◌==◌, ◌%◌, ◌<◌, List, [], ◌∷◌, map}
 use Rattle.std.specs.List.{enumerate_from, filter, fold}
 use Rattle.zs_num.specs.Request.{line_of}
 use Rattle.zs_num.specs.declared.entry.Entry.{Entry}
@@ -44,6 +44,11 @@ abbrev pub AreStamped : (banks : ℕ) → Stamps → List Entry → Type 0
 AreStamped banks stamps [] = Unit {0}
 AreStamped banks stamps (e ∷ entries) =
     (e.stamp ≡ next_stamp stamps (bank_of_entry banks e) e.core) × AreStamped banks (stamped_by banks stamps e) entries
+
+-- the stamps rise, from above this one on
+abbrev pub AreRising : (above : ℕ) → List Entry → Type 0
+AreRising above [] = Unit {0}
+AreRising above (e ∷ entries) = (above < e.stamp) × AreRising e.stamp entries
 
 -- ---- another order
 

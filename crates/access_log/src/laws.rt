@@ -1,8 +1,23 @@
 //! Laws over the definitions alone, each the contract of a function that does nothing.
-ghost use Rattle.access_log.specs.Laws.{RecordedOrderKeepsTheStamps};
+ghost use Rattle.access_log.specs.Laws.{CoresDecideTheOrder, RecordedOrderKeepsTheStamps, RisingListsStay, StampsRise};
 
 /// What was stamped in the order in which the turns were taken is stamped by the same rule in recorded
 /// order, and each core and each bank has the same entries in the same order.
 pub fn recorded_order_keeps_the_stamps()
     ensures { RecordedOrderKeepsTheStamps }
+{}
+
+/// The stamps of logical clocks rise in each core and in each bank.
+pub fn stamps_rise()
+    ensures { StampsRise }
+{}
+
+/// The recorded order leaves each list of entries with one number as it is, where its stamps rise.
+pub fn rising_lists_stay()
+    ensures { RisingListsStay }
+{}
+
+/// The recorded order is the same for all ways of putting the lists of the cores together.
+pub fn cores_decide_the_order()
+    ensures { CoresDecideTheOrder }
 {}
