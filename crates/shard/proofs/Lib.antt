@@ -22,3 +22,5 @@ pub mod StandsForApart
 pub mod StandsForBytes
 pub mod StandsForShare
 pub mod StandsForStep
+pub mod StandsForStart
+pub mod StandsForRuns

@@ -1,17 +1,20 @@
 -- Laws of the definitions.
-use Rattle.std.specs.Prelude.{◌≡◌, ◌≢◌, ℕ, ◌<◌, ◌≤◌, ◌↔◌, List, [], ◌∷◌, All, length, slice_set, Option, IsSome, IsTrue}
+use Rattle.std.specs.Prelude.{◌≡◌, ◌≢◌, ℕ, ◌<◌, ◌≤◌, ◌↔◌, List, [], ◌∷◌, All, length, map, replicate, slice_set, Option, None, IsSome, IsTrue}
 use Rattle.zs_num.specs.Request.{IsServable}
 use Rattle.zs_num.specs.declared.entry.Entry.{Entry}
 use Rattle.zs_num.specs.declared.request.Request.{Request}
+use Rattle.elf_load.specs.MemoryImage.{MemoryImage}
+use Rattle.machine_desc.specs.Machine.{IsMachine}
+use Rattle.machine_desc.specs.declared.machine.Machine.{Machine}
 use Rattle.flat_memory.specs.declared.reservation.Reservation.{Reservation}
 use Rattle.flat_memory.specs.FlatMemory as flat
 use Rattle.zs_num.specs.declared.entry.Outcome.TheVariants.{Hit}
 use Rattle.cache_set.specs.declared.letter.Letter.TheVariants.{I}
-use Rattle.shard.specs.Coherence.{Caches, after_access, after_accesses, allows, dirty_at, empty_caches, is_alone, is_held, is_write, letter_at, outcome_of}
+use Rattle.shard.specs.Coherence.{Caches, after_access, after_accesses, allows, dirty_at, empty_caches, is_alone, is_held, is_write, letter_at, outcome_of, outcomes_of}
 use Rattle.shard.specs.Lines.{line_of}
 use Rattle.shard.specs.Marks.{ArePairedRight, MarkedMemory, marked_after, marked_reply, pairings_after}
 use Rattle.shard.specs.Served.{CanServe, HasCore, ShardState, after, met_by, reply_of}
-use Rattle.shard.specs.StandsFor.{AreCoherent, HaveRoom, HaveSets, Keeps, StandFor, flat_for}
+use Rattle.shard.specs.StandsFor.{AreAnswered, AreCoherent, HaveRoom, HaveSets, Keeps, StandFor, accesses_of, flat_for, new_caches, new_memory, new_shards}
 
 -- ---- what an access leaves of a shard
 
@@ -103,3 +106,20 @@ ShardsStandForAMachine = (shards : List ShardState) (memory : MarkedMemory) (c :
     → (reply_of s entry ≡ marked_reply memory entry.core entry.request)
     × (met_by s entry ≡ outcome_of c entry.core entry.request)
     × StandFor (slice_set shards s.number (after s entry)) (marked_after memory entry.core entry.request) (after_access c entry.core entry.request)
+
+-- The new shards of a machine stand for memory as it was loaded and for empty caches, and so for flat memory as it was
+-- loaded.
+abbrev pub NewShardsStand : Type 0
+NewShardsStand = (m : Machine) (image : MemoryImage) → IsMachine m
+    → StandFor (new_shards m image) (new_memory m image) (new_caches m) × (flat_for (new_memory m image) (replicate m.cores None) ≡ flat.loaded image m.cores)
+
+-- What shards answer to accesses that are paired right are the replies of one flat memory and the outcomes of the caches of
+-- one machine, and the shards that are left stand for what these leave.
+abbrev pub EntriesAreOfOneMachine : Type 0
+EntriesAreOfOneMachine = (shards : List ShardState) (memory : MarkedMemory) (c : Caches) (pairings : List (Option Reservation)) (entries : List Entry) (left : List ShardState)
+    → StandFor shards memory c → length pairings ≡ length c.l1 → All (λ entry. entry.core < length c.l1) entries → All (λ entry. IsServable memory.base (length memory.bytes) entry.request) entries
+    → ArePairedRight pairings (accesses_of entries) → AreAnswered shards entries left
+    → (map (λ entry. entry.reply) entries ≡ flat_replies (flat_for memory pairings) (accesses_of entries))
+    × (map (λ entry. entry.outcome) entries ≡ outcomes_of c (accesses_of entries))
+    × StandFor left (marked_after_all memory (accesses_of entries)) (after_accesses c (accesses_of entries))
+    × (flat_for (marked_after_all memory (accesses_of entries)) (pairings_after_all pairings (accesses_of entries)) ≡ flat_after_all (flat_for memory pairings) (accesses_of entries))

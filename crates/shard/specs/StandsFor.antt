@@ -1,14 +1,18 @@
 -- What shards stand for together: one memory, and the cache lists of one machine.
-use Rattle.std.specs.Prelude.{◌≡◌, ◌≢◌, ℕ, ◌+◌, ◌-◌, ◌*◌, ◌<◌, ◌≤◌, if◌then◌else◌, IsTrue, IsSome, List, [], length, map, nat_eq, slice_index_or, slice_get, Option, Some, None}
+use Rattle.std.specs.Prelude.{◌≡◌, ◌≢◌, ℕ, ◌+◌, ◌-◌, ◌*◌, ◌<◌, ◌≤◌, if◌then◌else◌, IsTrue, IsSome, List, [], ◌∷◌, length, map, replicate, nat_eq, slice_index_or, slice_get, slice_set, Option, Some, None}
 use Rattle.std.specs.List.{All, IsDistinct, range_with_len}
 use Rattle.std.specs.Map.{keys_of}
+use Rattle.zs_num.specs.declared.entry.Entry.{Entry}
+use Rattle.zs_num.specs.declared.request.Request.{Request}
+use Rattle.elf_load.specs.MemoryImage.{MemoryImage, bytes_from}
+use Rattle.machine_desc.specs.declared.machine.Machine.{Machine}
 use Rattle.cache_set.specs.declared.letter.Letter.TheVariants.{I}
 use Rattle.flat_memory.specs.declared.reservation.Reservation.{Reservation}
 use Rattle.flat_memory.specs.FlatMemory.{MemoryState, is_reservation}
-use Rattle.shard.specs.Coherence.{Caches, dirty_at, is_alone, is_held, letter_at}
-use Rattle.shard.specs.Lines.{line_at, set_number, set_of, shard_of}
+use Rattle.shard.specs.Coherence.{Caches, dirty_at, empty_caches, is_alone, is_held, letter_at}
+use Rattle.shard.specs.Lines.{line_at, line_of, set_number, set_of, shard_of}
 use Rattle.shard.specs.Marks.{MarkedMemory, pairing_of}
-use Rattle.shard.specs.Served.{ShardState, place_of}
+use Rattle.shard.specs.Served.{ShardState, after, met_by, new_shard, place_of, reply_of}
 
 -- ---- caches that accesses can leave
 
@@ -73,6 +77,37 @@ pub record StandFor (shards : List ShardState) (memory : MarkedMemory) (c : Cach
   pub l2_ways : (i : ℕ) (s : ShardState) → slice_get shards i ≡ Some s → s.caches.l2_ways ≡ c.l2_ways
   pub coherent : AreCoherent c
   pub room : HaveRoom c
+
+-- ---- before the first access
+
+-- the shards of a machine, in order of their numbers
+abbrev pub new_shards : Machine → MemoryImage → List ShardState
+new_shards m image = map (λ number. new_shard m number image) (range_with_len 0 m.l2.banks)
+
+-- memory as an executable was loaded, with no mark
+abbrev pub new_memory : Machine → MemoryImage → MarkedMemory
+new_memory m image = record {
+  base = image.base;
+  bytes = bytes_from image.segments image.base image.size;
+  marks = replicate m.l2.banks (replicate m.cores None);
+}
+
+-- the caches of the whole machine, empty
+abbrev pub new_caches : Machine → Caches
+new_caches m = empty_caches m.cores 1 m.l1.sets m.l1.ways m.l2.sets m.l2.ways
+
+-- ---- entries
+
+abbrev pub accesses_of : List Entry → List (ℕ × Request)
+accesses_of entries = map (λ entry. (entry.core, entry.request)) entries
+
+-- These entries are what the shards answer to their accesses one after the other, each the shard that keeps the line, and
+-- these shards are left.
+abbrev pub AreAnswered : (shards : List ShardState) → List Entry → (left : List ShardState) → Type 0
+AreAnswered shards [] left = left ≡ shards
+AreAnswered shards (entry ∷ entries) left =
+    (s : ShardState) × Keeps shards (line_of entry.request) s × (entry.reply ≡ reply_of s entry) × (entry.outcome ≡ met_by s entry)
+    × AreAnswered (slice_set shards s.number (after s entry)) entries left
 
 -- ---- one reservation for each core
 

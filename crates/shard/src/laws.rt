@@ -1,5 +1,5 @@
 //! Laws over the definitions alone, each the contract of a function that does nothing.
-ghost use Rattle.shard.specs.Laws.{CoherentStays, CoresStay, HitsAreAllowed, Inclusion, LastIsStamp, MarksAreReservations, NumberStays, SetsStaySound, ShardsStandForAMachine, SingleWriter, StillServes};
+ghost use Rattle.shard.specs.Laws.{CoherentStays, CoresStay, EntriesAreOfOneMachine, HitsAreAllowed, Inclusion, LastIsStamp, MarksAreReservations, NewShardsStand, NumberStays, SetsStaySound, ShardsStandForAMachine, SingleWriter, StillServes};
 
 /// An access leaves a shard its number.
 pub fn number_stays()
@@ -60,4 +60,15 @@ pub fn inclusion()
 /// stand for that machine after it.
 pub fn shards_stand_for_a_machine()
     ensures { ShardsStandForAMachine }
+{}
+
+/// The new shards of a machine stand for memory as an executable was loaded, and for empty caches.
+pub fn new_shards_stand()
+    ensures { NewShardsStand }
+{}
+
+/// Whatever shards answer, one after the other, are the replies of one flat memory and the outcomes
+/// of the caches of one machine, where each store-conditional says rightly whether it is paired.
+pub fn entries_are_of_one_machine()
+    ensures { EntriesAreOfOneMachine }
 {}
