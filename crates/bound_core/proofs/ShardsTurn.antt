@@ -18,13 +18,13 @@ use Rattle.flat_memory.specs.declared.reservation.Reservation.{Reservation}
 use Rattle.flat_memory.specs.FlatMemory as flat
 use Rattle.shard.specs.Coherence.{Caches, outcome_of}
 use Rattle.shard.specs.Coherence as caches
-use Rattle.shard.specs.Laws.{MarksAreReservations}
+use Rattle.shard.specs.Laws.{MarksAreReservations, ShardsStandForAMachine}
 use Rattle.shard.specs.Marks.{MarkedMemory, marked_after, marked_reply, pairing_after, pairing_of, pairings_after}
 use Rattle.shard.specs.Served.{ShardState, after, met_by, reply_of}
 use Rattle.shard.specs.StandsFor.{StandFor, flat_for}
 use Rattle.access_log.specs.History.{bank_of}
 use Rattle.access_log.specs.RecordedOrder.{Stamps, next_stamp}
-use Rattle.bound_core.specs.MachineOfShards.{IsCoreOf, ShardsStandForAMachine, StandForMachine, bytes_of, pairings_of}
+use Rattle.bound_core.specs.MachineOfShards.{IsCoreOf, StandForMachine, bytes_of, pairings_of}
 use Rattle.bound_core.specs.MachineWorld as machine
 use Rattle.bound_core.specs.MachineWorld.{MachineWorld, bank_for}
 use Rattle.bound_core.specs.ReferenceMachine.{BoundState, bound_from}

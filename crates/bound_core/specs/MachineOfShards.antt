@@ -1,17 +1,14 @@
 -- When cores and shards with marks stand for the machine of one thread: one flat memory with a reservation for each core, and
 -- one list for each set of the caches.
-use Rattle.std.specs.Prelude.{◌≡◌, ℕ, ◌<◌, List, [], length, map, slice_set, All, Option, Some, None, Ok}
-use Rattle.zs_num.specs.Request.{IsServable}
+use Rattle.std.specs.Prelude.{◌≡◌, ℕ, ◌<◌, List, [], length, map, All, Option, Some, None, Ok}
 use Rattle.zs_num.specs.declared.entry.Entry.{Entry}
 use Rattle.elf_load.specs.MemoryImage.{MemoryImage}
 use Rattle.rv_core.specs.declared.pairing.Pairing.{Pairing}
 use Rattle.rv_core.specs.Sound.{IsSound}
 use Rattle.flat_memory.specs.declared.reservation.Reservation.{Reservation}
-use Rattle.shard.specs.Coherence.{Caches, after_access, outcome_of}
-use Rattle.shard.specs.Lines.{line_of}
-use Rattle.shard.specs.Marks.{MarkedMemory, marked_after, marked_reply}
-use Rattle.shard.specs.Served.{ShardState, after, met_by, reply_of}
-use Rattle.shard.specs.StandsFor.{Keeps, StandFor, flat_for}
+use Rattle.shard.specs.Marks.{MarkedMemory}
+use Rattle.shard.specs.Served.{ShardState}
+use Rattle.shard.specs.StandsFor.{StandFor, flat_for}
 use Rattle.access_log.specs.RecordedOrder.{recorded_order}
 use Rattle.bound_core.specs.History.{IsHistory, after_history}
 use Rattle.bound_core.specs.MachineWorld as machine
@@ -47,14 +44,6 @@ pub record StandForMachine (cores : List TimedCore) (w : ShardWorld) (m : Machin
   pub cores_are : All (IsCoreOf memory.base (length memory.bytes)) cores
   pub banks_stamped : m.stamps.banks ≡ map (λ shard. shard.last) w.shards
   pub cores_stamped : m.stamps.cores ≡ w.stamps
-
--- Shards give what the memory with marks and the cache lists do for which they stand, and stand for what these leave.
-abbrev pub ShardsStandForAMachine : Type 0
-ShardsStandForAMachine = (shards : List ShardState) (memory : MarkedMemory) (c : Caches) (s : ShardState) (entry : Entry)
-    → StandFor shards memory c → Keeps shards (line_of entry.request) s → IsServable memory.base (length memory.bytes) entry.request → entry.core < length c.l1
-    → (reply_of s entry ≡ marked_reply memory entry.core entry.request)
-    × (met_by s entry ≡ outcome_of c entry.core entry.request)
-    × StandFor (slice_set shards s.number (after s entry)) (marked_after memory entry.core entry.request) (after_access c entry.core entry.request)
 
 -- a bound phase of the machine of one thread before its first access
 abbrev pub begun : List TimedCore → MachineWorld → BoundState MachineWorld

@@ -5,7 +5,8 @@ use Rattle.zs_num.specs.declared.request.Request.{Request}
 use Rattle.elf_load.specs.MemoryImage.{MemoryImage}
 use Rattle.machine_desc.specs.declared.machine.Machine.{Machine}
 use Rattle.flat_memory.specs.FlatMemory.{MemoryState, after, loaded, reply_of}
-use Rattle.shard.specs.Coherence.{Caches, after_access, empty_caches, outcome_of}
+use Rattle.shard.specs.Coherence.{Caches, after_access, outcome_of}
+use Rattle.shard.specs.StandsFor.{new_caches}
 use Rattle.access_log.specs.History.{bank_of}
 use Rattle.access_log.specs.RecordedOrder.{Stamps, next_stamp, no_stamps, stamped}
 
@@ -45,6 +46,6 @@ serve w core start request = let e = recorded w core start request in (
 abbrev pub first_world : Machine → MemoryImage → MachineWorld
 first_world machine image = record {
   memory = loaded image machine.cores;
-  caches = empty_caches machine.cores 1 machine.l1.sets machine.l1.ways machine.l2.sets machine.l2.ways;
+  caches = new_caches machine;
   stamps = no_stamps machine.l2.banks machine.cores;
 }

@@ -6,7 +6,7 @@ ghost use Rattle.elf_load.specs.MemoryImage.{MemoryImage};
 ghost use Rattle.bound_core.specs.HistoryLaws.{HistoriesArePhases, PhasesAreHistories, RecordedOrderIsHistory};
 ghost use Rattle.bound_core.specs.Reaching.{BeginsAtItself, GoesOnByATurn, GoesOnByLocalInstructions, GoesOnToTheEnd, IsThePhaseAtTheEnd};
 ghost use Rattle.bound_core.specs.Laws.{AccessesAreFew, EndsWhereAllAreOver, LocalInstructionsAreAlone, TurnIsScheduled, TurnsAreScheduled};
-ghost use Rattle.bound_core.specs.MachineOfShards.{HistoriesAreRunsOfTheMachine, ShardsDoAsTheMachine, ShardsStandForAMachine};
+ghost use Rattle.bound_core.specs.MachineOfShards.{HistoriesAreRunsOfTheMachine, ShardsDoAsTheMachine};
 
 use crate::Port;
 
@@ -73,17 +73,21 @@ pub fn recorded_order_is_a_history()
     rv_core::laws::accesses_are_little_endian();
 }
 
-/// A load of what a store stored gives the stored bytes, sign-extended or zero-extended, for every
-/// width and address in memory.
-pub fn stored_is_loaded()
-    ensures { StoredIsLoaded }
+/// Where cores and shards stand for a machine, every bound phase over the shards is that of the machine,
+/// and so is every place at which a schedule is not legal.
+pub fn shards_do_as_the_machine()
+    ensures { (time : Entry → ℕ) (image : MemoryImage) (end : ℕ) → ShardsDoAsTheMachine time image end }
 {
-    rv_core::laws::accesses_are_little_endian();
+    rv_core::laws::cores_stay_sound();
+    rv_core::laws::accesses_are_paired_right();
+    shard::laws::marks();
+    shard::laws::shards_stand_for_a_machine();
 }
 
-/// A store changes no other byte of memory.
-pub fn other_bytes_stay()
-    ensures { OtherBytesStay }
+/// Whatever the order in which cores took their turns at the shards, in recorded order the entries are a
+/// run of the machine of one thread for which the cores and the shards stand.
+pub fn histories_are_runs_of_the_machine()
+    ensures { (time : Entry → ℕ) (image : MemoryImage) (end : ℕ) → HistoriesAreRunsOfTheMachine time image end }
 {
     rv_core::laws::accesses_are_little_endian();
     flat_memory::laws::other_bytes_stay();

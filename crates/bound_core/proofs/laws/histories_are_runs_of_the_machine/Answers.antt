@@ -2,9 +2,9 @@ use Rattle.bound_core.proofs.MachineRuns.{run_of_machine}
 use Rattle.bound_core.proofs.laws.histories_are_runs_of_the_machine.Goals as goal
 
 pub returns : goal.returns
-returns c step time image end cores shards entries m history stand =
+returns c time image end cores shards entries m history stand =
     run_of_machine time image end
     (c.histories_are_phases.ensures time image end)
     (c.recorded_order_is_a_history.ensures time image end)
-    (c.shards_do_as_the_machine.ensures step time image end)
+    (c.shards_do_as_the_machine.ensures time image end)
     cores shards entries m history stand

@@ -3,7 +3,7 @@ use Rattle.bound_core.proofs.ShardsTurn.{shards_do_as_machine}
 use Rattle.bound_core.proofs.laws.shards_do_as_the_machine.Goals as goal
 
 pub returns : goal.returns
-returns c step time image end s t related numbers place =
+returns c time image end s t related numbers place =
     let laws : CoreLaws = record {
       advanced_sound = c.cores_stay_sound.ensures.advanced;
       advanced_memory = c.cores_stay_sound.ensures.advanced_memory;
@@ -13,4 +13,4 @@ returns c step time image end s t related numbers place =
       answered_pairing = c.cores_stay_sound.ensures.answered_pairing;
       paired_right = c.accesses_are_paired_right.ensures.next;
     } in
-    shards_do_as_machine laws step c.marks.ensures time image end s t related numbers place
+    shards_do_as_machine laws c.shards_stand_for_a_machine.ensures c.marks.ensures time image end s t related numbers place
