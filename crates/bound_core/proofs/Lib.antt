@@ -1,8 +1,6 @@
 pub mod Accesses
 pub mod InstructionLaws
-pub mod Instructions
 pub mod LittleEndian
-pub mod Lists
 pub mod LoadsStores
 pub mod Pairs
 pub mod Phase
