@@ -52,10 +52,6 @@ register-written core rd value some there =
     let other : (rd == 0) ≡ false = ne_eqb rd 0 some in rw other (get_or-set_same core.registers rd value 0 there)
 
 -- a core that only goes on
-pub quiet-register : (core : CoreState) (n : ℕ) → register (goes_on core 0 0) n ≡ register core n
-unfolding goes_to
-quiet-register core n = refl
-
 pub quiet-length : (core : CoreState) → length (goes_on core 0 0).registers ≡ length core.registers
 unfolding goes_to
 quiet-length core = refl

@@ -7,13 +7,16 @@ use Rattle.zs_num.specs.declared.request.Request.TheVariants.{Store}
 use Rattle.rv_decode.specs.declared.inst.Inst.{Inst}
 use Rattle.rv_decode.specs.declared.name.Name.{Name}
 use Rattle.rv_decode.specs.declared.name.Name.TheVariants as name
+use Rattle.elf_load.specs.MemoryImage.{MemoryImage}
 use Rattle.flat_memory.specs.FlatMemory.{MemoryState, after, memory_number, reply_of}
 use Rattle.flat_memory.specs.Laws.{does_write}
+use Rattle.rv_core.specs.declared.program.Fetched.TheVariants.{Instruction}
 use Rattle.rv_core.specs.Accesses.{is_in_memory, low_bytes, sign_extended}
 use Rattle.rv_core.specs.CoreState.{CoreState}
 use Rattle.rv_core.specs.Effect.{address, effect, goes_on, register}
+use Rattle.rv_core.specs.Fetch.{fetched_at}
 use Rattle.rv_core.specs.Sound.{IsSound}
-use Rattle.rv_core.specs.Step.{answered, is_free}
+use Rattle.rv_core.specs.Step.{advanced, answered, is_free}
 use Rattle.bound_core.specs.Timed.{left_of_instruction, next_request}
 
 -- ---- a whole instruction
@@ -49,6 +52,12 @@ pub record IsReady (s : CoreInMemory) : Type 0 where
   pub base : s.core.memory.base ≡ s.memory.base
   pub size : s.core.memory.size ≡ length s.memory.bytes
   pub bytes : All (λ byte. byte < 256) s.memory.bytes
+
+-- A whole instruction is the core's step at an address where the program has it, and then its accesses.
+abbrev pub InstructionsAreSteps : Type 0
+InstructionsAreSteps = (number : ℕ) (image : MemoryImage) (inst : Inst) (s : CoreInMemory)
+    → IsTrue (is_free s.core) → fetched_at image s.core.pc ≡ Instruction inst
+    → after_executing number inst s ≡ after_all_requests number (record s { core = advanced image s.core })
 
 -- ---- loads and stores
 

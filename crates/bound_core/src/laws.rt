@@ -3,38 +3,17 @@ ghost use Rattle.std.specs.Prelude.{◌≡◌, ℕ, List};
 ghost use Rattle.zs_num.specs.declared.entry.Entry.{Entry};
 ghost use Rattle.zs_num.specs.declared.request.Request.{Request};
 ghost use Rattle.elf_load.specs.MemoryImage.{MemoryImage};
-ghost use Rattle.bound_core.specs.HistoryLaws.{HistoriesArePhases, PhasesAreHistories, RecordedOrderIsHistory};
-ghost use Rattle.bound_core.specs.Reaching.{BeginsAtItself, GoesOnByATurn, GoesOnByLocalInstructions, GoesOnToTheEnd, IsThePhaseAtTheEnd};
+ghost use Rattle.rv_decode.specs.declared.inst.Inst.{Inst};
+ghost use Rattle.bound_core.specs.InstructionLaws.{CoreInMemory, InstructionsAreSteps, LoadsAreWhole, OtherBytesStay, PairStores, StoredIsLoaded, StoresAreWhole, WriteBetweenEndsPair};
 ghost use Rattle.bound_core.specs.Laws.{AccessesAreFew, EndsWhereAllAreOver, LocalInstructionsAreAlone, TurnIsScheduled, TurnsAreScheduled};
 ghost use Rattle.bound_core.specs.MachineOfShards.{HistoriesAreRunsOfTheMachine, ShardsDoAsTheMachine};
 
 use crate::Port;
 
-/// A core has at most 256 accesses more than cycles before it ends its interval.
-pub fn accesses_are_few()
-    ensures { AccessesAreFew }
-{}
-
-/// Where a core executed its local instructions before its turn comes, the bound phase is the same.
-pub fn local_instructions_are_alone<World>()
-    ensures { (serve : World → (core start : ℕ) → Request → Entry × World) (time : Entry → ℕ) (image : MemoryImage) (end : ℕ)
-        → LocalInstructionsAreAlone serve time image end }
-{}
-
-/// Where every core has halted or come to the interval's end with no instruction in progress, the
-/// bound phase leaves all as it is.
-pub fn ends_where_all_are_over<World>()
-    ensures { (serve : World → (core start : ℕ) → Request → Entry × World) (time : Entry → ℕ) (image : MemoryImage) (end : ℕ)
-        → EndsWhereAllAreOver serve time image end }
-{}
-
-/// Where a port answers what a world does, the turns of a core through it are those of the machine of
-/// one thread under the schedule that names the core for each.
-pub fn turns_are_scheduled<Q: Port, World>()
-    ensures one { (world : Q → World) (serve : World → (core start : ℕ) → Request → Entry × World)
-        → TurnIsScheduled Q.gives world serve }
-    ensures to_end { (world : Q → World) (serve : World → (core start : ℕ) → Request → Entry × World)
-        → TurnsAreScheduled Q.gives world serve }
+/// A whole instruction is what a core does at its next step, with the instruction that the program has
+/// at pc, and then with the replies to its accesses.
+pub fn instructions_are_steps_and_replies()
+    ensures { InstructionsAreSteps }
 {}
 
 /// How a bound phase is followed from turn to turn: it begins without a turn, goes on by a turn, by a
@@ -111,3 +90,30 @@ pub fn a_write_between_ends_a_pair()
     flat_memory::laws::others_end_by_writes();
     rv_core::laws::accesses_are_little_endian();
 }
+
+/// A core has at most 256 accesses more than cycles before it ends its interval.
+pub fn accesses_are_few()
+    ensures { AccessesAreFew }
+{}
+
+/// Where a core executed its local instructions before its turn comes, the bound phase is the same.
+pub fn local_instructions_are_alone<World>()
+    ensures { (serve : World → (core start : ℕ) → Request → Entry × World) (time : Entry → ℕ) (image : MemoryImage) (end : ℕ)
+        → LocalInstructionsAreAlone serve time image end }
+{}
+
+/// Where every core has halted or come to the interval's end with no instruction in progress, the
+/// bound phase leaves all as it is.
+pub fn ends_where_all_are_over<World>()
+    ensures { (serve : World → (core start : ℕ) → Request → Entry × World) (time : Entry → ℕ) (image : MemoryImage) (end : ℕ)
+        → EndsWhereAllAreOver serve time image end }
+{}
+
+/// Where a port answers what a world does, the turns of a core through it are those of the machine of
+/// one thread under the schedule that names the core for each.
+pub fn turns_are_scheduled<Q: Port, World>()
+    ensures one { (world : Q → World) (serve : World → (core start : ℕ) → Request → Entry × World)
+        → TurnIsScheduled Q.gives world serve }
+    ensures to_end { (world : Q → World) (serve : World → (core start : ℕ) → Request → Entry × World)
+        → TurnsAreScheduled Q.gives world serve }
+{}
