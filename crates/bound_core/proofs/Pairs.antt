@@ -5,7 +5,7 @@ use Rattle.std.proofs.lemmas.Bool.{eq-eqb, ne_eqb}
 use Rattle.std.proofs.lemmas.List.{get_or-set_same}
 use Rattle.zs_num.specs.Request.{addr_of, line_of}
 use Rattle.zs_num.specs.declared.request.Request.{Request}
-use Rattle.zs_num.specs.declared.request.Request.TheVariants.{Lr, Sc}
+use Rattle.zs_num.specs.declared.request.Request.TheVariants.{Lr, Sc, Store}
 use Rattle.rv_decode.specs.declared.inst.Inst.{Inst}
 use Rattle.rv_decode.specs.declared.name.Name.{Name}
 use Rattle.flat_memory.specs.declared.reservation.Reservation.{Reservation}
@@ -16,7 +16,7 @@ use Rattle.rv_core.specs.CoreState.{CoreState}
 use Rattle.rv_core.specs.Effect.{ended, goes_on, received, register, to_register}
 use Rattle.rv_core.specs.Laws.{bytes_of, bytes_stored}
 use Rattle.rv_core.specs.Pairing.{is_paired, pairing_after}
-use Rattle.bound_core.specs.InstructionLaws.{CoreInMemory, IsLoadReserved, IsPair, IsStoreConditional, PairStores, WriteBetweenEndsPair, after_accesses, after_all_requests, after_executing, after_pair, between, is_ended, is_written, reserved, sc_w, sc_d}
+use Rattle.bound_core.specs.InstructionLaws.{CoreInMemory, IsLoadReserved, IsPair, IsStoreConditional, PairAloneStores, PairStores, StoreBetweenEndsPair, WriteBetweenEndsPair, after_accesses, after_all_requests, after_executing, after_pair, between, is_ended, is_written, reserved, sc_w, sc_d}
 use Rattle.bound_core.proofs.Lists.{all_head, all_tail}
 use Rattle.bound_core.proofs.LoadsStores.{low-bytes_count}
 use Rattle.bound_core.proofs.WholeInstructions.{atomic-run, goes_on-memory, load_reserved-effect, register-written, registers-stay, store_conditional-effect, zero-stays}
@@ -209,3 +209,13 @@ module _ (law : OthersEndByWrites) (writes : (addr width value : ℕ) → flat_m
   write-ends_pair width p ended some =
       let other : (store.rd == 0) ≡ false = ne_eqb store.rd 0 some in
       (pair-result width true p ended ∙ ap (λ b. cond b 0 1) other, (pair-leaves width true p ended).bytes_are)
+
+module _ (law : OthersEndByWrites) (writes : (addr width value : ℕ) → flat_map bytes_stored (store_requests addr width value) ≡ bytes_of width value) where
+  pub pair_alone-stores : PairAloneStores
+  pair_alone-stores number reserve store s width p = (pair-stores law writes number reserve [] store s width p refl).0
+
+  pub store_between-ends_pair : StoreBetweenEndsPair
+  store_between-ends_pair number other addr size value reserve store s width p line some =
+      let here = register s.core reserve.rs1 in
+      let ended : is_ended number reserve ((other, Store addr size value) ∷ []) store s ≡ true = rw (eq-eqb (here / 64) (addr / 64) (sym line)) refl in
+      (write-ends_pair law writes number reserve ((other, Store addr size value) ∷ []) store s width p ended some).0

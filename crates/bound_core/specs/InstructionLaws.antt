@@ -181,3 +181,14 @@ module _ (number : ℕ) (reserve : Inst) (others : List (ℕ × Request)) (store
   abbrev pub WriteBetweenEndsPair : Type 0
   WriteBetweenEndsPair = (width : ℕ) → IsPair width → is_ended ≡ true → store.rd ≢ 0
       → (register after_pair.core store.rd ≡ 1) × (after_pair.memory.bytes ≡ between.memory.bytes)
+
+-- So a pair with nothing at all between stores.
+abbrev pub PairAloneStores : Type 0
+PairAloneStores = (number : ℕ) (reserve store : Inst) (s : CoreInMemory) (width : ℕ) → IsPair number reserve [] store s width
+    → register (after_executing number store (after_executing number reserve s)).core store.rd ≡ 0
+
+-- And a pair with one store of another core to its line between does not.
+abbrev pub StoreBetweenEndsPair : Type 0
+StoreBetweenEndsPair = (number other addr size value : ℕ) (reserve store : Inst) (s : CoreInMemory) (width : ℕ)
+    → IsPair number reserve ((other, Store addr size value) ∷ []) store s width → addr / 64 ≡ register s.core reserve.rs1 / 64 → store.rd ≢ 0
+    → register (after_pair number reserve ((other, Store addr size value) ∷ []) store s).core store.rd ≡ 1

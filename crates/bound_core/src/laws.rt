@@ -4,7 +4,7 @@ ghost use Rattle.zs_num.specs.declared.entry.Entry.{Entry};
 ghost use Rattle.zs_num.specs.declared.request.Request.{Request};
 ghost use Rattle.elf_load.specs.MemoryImage.{MemoryImage};
 ghost use Rattle.rv_decode.specs.declared.inst.Inst.{Inst};
-ghost use Rattle.bound_core.specs.InstructionLaws.{CoreInMemory, InstructionsAreSteps, LoadsAreWhole, OtherBytesStay, PairStores, StoredIsLoaded, StoresAreWhole, WriteBetweenEndsPair};
+ghost use Rattle.bound_core.specs.InstructionLaws.{CoreInMemory, InstructionsAreSteps, LoadsAreWhole, OtherBytesStay, PairAloneStores, PairStores, StoreBetweenEndsPair, StoredIsLoaded, StoresAreWhole, WriteBetweenEndsPair};
 ghost use Rattle.bound_core.specs.Laws.{AccessesAreFew, EndsWhereAllAreOver, LocalInstructionsAreAlone, TurnIsScheduled, TurnsAreScheduled};
 ghost use Rattle.bound_core.specs.MachineOfShards.{HistoriesAreRunsOfTheMachine, ShardsDoAsTheMachine};
 
@@ -75,7 +75,8 @@ pub fn histories_are_runs_of_the_machine()
 /// A store-conditional of the bytes of the latest load-reserved, with nothing between on this core,
 /// stores and writes 0 to rd where no other core wrote to the line since.
 pub fn a_pair_stores()
-    ensures { (number : ℕ) (reserve : Inst) (others : List (ℕ × Request)) (store : Inst) (s : CoreInMemory)
+    ensures alone { PairAloneStores }
+    ensures others { (number : ℕ) (reserve : Inst) (others : List (ℕ × Request)) (store : Inst) (s : CoreInMemory)
         → PairStores number reserve others store s }
 {
     flat_memory::laws::others_end_by_writes();
@@ -84,7 +85,8 @@ pub fn a_pair_stores()
 
 /// It stores nothing and writes 1 to rd where another core did.
 pub fn a_write_between_ends_a_pair()
-    ensures { (number : ℕ) (reserve : Inst) (others : List (ℕ × Request)) (store : Inst) (s : CoreInMemory)
+    ensures store { StoreBetweenEndsPair }
+    ensures others { (number : ℕ) (reserve : Inst) (others : List (ℕ × Request)) (store : Inst) (s : CoreInMemory)
         → WriteBetweenEndsPair number reserve others store s }
 {
     flat_memory::laws::others_end_by_writes();
