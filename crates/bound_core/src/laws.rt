@@ -10,8 +10,8 @@ ghost use Rattle.bound_core.specs.MachineOfShards.{HistoriesAreRunsOfTheMachine,
 
 use crate::Port;
 
-/// A whole instruction is what a core does at its next step, with the instruction that the program has
-/// at pc, and then with the replies to its accesses.
+/// A whole instruction is what a core does at its next step, with the instruction that the program
+/// has at pc, and then with the replies to its accesses.
 pub fn instructions_are_steps_and_replies()
     ensures { InstructionsAreSteps }
 {}
