@@ -4,6 +4,7 @@
 mod component_lines;
 mod core_lines;
 mod fields;
+pub mod laws;
 mod printed;
 mod summary;
 mod writer;
