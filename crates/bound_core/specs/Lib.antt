@@ -1,4 +1,6 @@
-pub mod InstructionLaws
+pub mod History
+pub mod HistoryLaws
+pub mod Intervals
 pub mod Laws
 pub mod MachineOfShards
 pub mod MachineWorld

@@ -3,8 +3,9 @@ ghost use Rattle.std.specs.Prelude.{◌≡◌, ℕ, List};
 ghost use Rattle.zs_num.specs.declared.entry.Entry.{Entry};
 ghost use Rattle.zs_num.specs.declared.request.Request.{Request};
 ghost use Rattle.elf_load.specs.MemoryImage.{MemoryImage};
-ghost use Rattle.rv_decode.specs.declared.inst.Inst.{Inst};
-ghost use Rattle.bound_core.specs.InstructionLaws.{CoreInMemory, InstructionsAreSteps, LoadsAreWhole, OtherBytesStay, PairAloneStores, PairStores, StoreBetweenEndsPair, StoredIsLoaded, StoresAreWhole, WriteBetweenEndsPair};
+ghost use Rattle.bound_core.specs.HistoryLaws.{HistoriesArePhases, PhasesAreHistories, RecordedOrderIsHistory};
+ghost use Rattle.bound_core.specs.Reaching.{BeginsAtItself, GoesOnByATurn, GoesOnByLocalInstructions, GoesOnToTheEnd, IsThePhaseAtTheEnd};
+ghost use Rattle.bound_core.specs.Intervals.{FirstIntervalBegins, NextIntervalBegins};
 ghost use Rattle.bound_core.specs.Laws.{AccessesAreFew, EndsWhereAllAreOver, LocalInstructionsAreAlone, TurnIsScheduled, TurnsAreScheduled};
 ghost use Rattle.bound_core.specs.MachineOfShards.{HistoriesAreRunsOfTheMachine, ShardsDoAsTheMachine};
 
@@ -72,50 +73,12 @@ pub fn histories_are_runs_of_the_machine()
     flat_memory::laws::other_bytes_stay();
 }
 
-/// A store-conditional of the bytes of the latest load-reserved, with nothing between on this core,
-/// stores and writes 0 to rd where no other core wrote to the line since.
-pub fn a_pair_stores()
-    ensures alone { PairAloneStores }
-    ensures others { (number : ℕ) (reserve : Inst) (others : List (ℕ × Request)) (store : Inst) (s : CoreInMemory)
-        → PairStores number reserve others store s }
+/// The cores and the new shards of a machine stand for its first world, and cores and shards that stand
+/// for a machine stand for it in the next interval, where all last stamps are 0 again.
+pub fn intervals_begin()
+    ensures first { FirstIntervalBegins }
+    ensures next { NextIntervalBegins }
 {
-    flat_memory::laws::others_end_by_writes();
-    rv_core::laws::accesses_are_little_endian();
+    rv_core::laws::reached_cores_are_sound();
+    shard::laws::new_shards_stand();
 }
-
-/// It stores nothing and writes 1 to rd where another core did.
-pub fn a_write_between_ends_a_pair()
-    ensures store { StoreBetweenEndsPair }
-    ensures others { (number : ℕ) (reserve : Inst) (others : List (ℕ × Request)) (store : Inst) (s : CoreInMemory)
-        → WriteBetweenEndsPair number reserve others store s }
-{
-    flat_memory::laws::others_end_by_writes();
-    rv_core::laws::accesses_are_little_endian();
-}
-
-/// A core has at most 256 accesses more than cycles before it ends its interval.
-pub fn accesses_are_few()
-    ensures { AccessesAreFew }
-{}
-
-/// Where a core executed its local instructions before its turn comes, the bound phase is the same.
-pub fn local_instructions_are_alone<World>()
-    ensures { (serve : World → (core start : ℕ) → Request → Entry × World) (time : Entry → ℕ) (image : MemoryImage) (end : ℕ)
-        → LocalInstructionsAreAlone serve time image end }
-{}
-
-/// Where every core has halted or come to the interval's end with no instruction in progress, the
-/// bound phase leaves all as it is.
-pub fn ends_where_all_are_over<World>()
-    ensures { (serve : World → (core start : ℕ) → Request → Entry × World) (time : Entry → ℕ) (image : MemoryImage) (end : ℕ)
-        → EndsWhereAllAreOver serve time image end }
-{}
-
-/// Where a port answers what a world does, the turns of a core through it are those of the machine of
-/// one thread under the schedule that names the core for each.
-pub fn turns_are_scheduled<Q: Port, World>()
-    ensures one { (world : Q → World) (serve : World → (core start : ℕ) → Request → Entry × World)
-        → TurnIsScheduled Q.gives world serve }
-    ensures to_end { (world : Q → World) (serve : World → (core start : ℕ) → Request → Entry × World)
-        → TurnsAreScheduled Q.gives world serve }
-{}
