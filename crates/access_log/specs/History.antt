@@ -45,6 +45,10 @@ AreStamped banks stamps [] = Unit {0}
 AreStamped banks stamps (e ∷ entries) =
     (e.stamp ≡ next_stamp stamps (bank_of_entry banks e) e.core) × AreStamped banks (stamped_by banks stamps e) entries
 
+-- the stamp of the last of some entries, 0 where there is none
+abbrev pub latest_of : List Entry → ℕ
+latest_of entries = fold (λ stamp e. e.stamp) 0 entries
+
 -- the stamps rise, from above this one on
 abbrev pub AreRising : (above : ℕ) → List Entry → Type 0
 AreRising above [] = Unit {0}

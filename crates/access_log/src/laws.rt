@@ -1,10 +1,15 @@
 //! Laws over the definitions alone, each the contract of a function that does nothing.
-ghost use Rattle.access_log.specs.Laws.{CoresDecideTheOrder, RecordedOrderKeepsTheStamps, RisingListsStay, StampsRise};
+ghost use Rattle.access_log.specs.Laws.{CoresDecideTheOrder, OneMoreIsStamped, RecordedOrderKeepsTheStamps, RisingListsStay, StampsRise};
 
 /// What was stamped in the order in which the turns were taken is stamped by the same rule in recorded
 /// order, and each core and each bank has the same entries in the same order.
 pub fn recorded_order_keeps_the_stamps()
     ensures { RecordedOrderKeepsTheStamps }
+{}
+
+/// An entry whose stamp is one more than the latest of its bank and of its core goes on with a history.
+pub fn one_more_is_stamped()
+    ensures { OneMoreIsStamped }
 {}
 
 /// The stamps of logical clocks rise in each core and in each bank.

@@ -1,14 +1,13 @@
 -- What local instructions and replies leave of a core: it stays sound, and its memory where it is.
-use Rattle.std.proofs.Common.{◌≡◌, ℕ, zero, suc, ◌-◌, ◌&&◌, nat_lt, Bool, true, false, Option, Some, None, refl, sym, ◌∙◌, ap, subst, inl, inr}
+use Rattle.std.proofs.Common.{◌≡◌, ℕ, zero, suc, ◌-◌, nat_lt, true, Option, Some, None, refl, ◌∙◌, subst, inl, inr}
 use Rattle.std.proofs.lemmas.Bool.{and_parts, cases_Bool}
-use Rattle.zs_num.specs.declared.entry.Entry.{Entry}
 use Rattle.zs_num.specs.declared.request.Request.{Request}
 use Rattle.elf_load.specs.MemoryImage.{MemoryImage}
 use Rattle.rv_core.specs.CoreState.{CoreState, InProgress}
 use Rattle.rv_core.specs.Pairing.{IsPairedRight, pairing_after}
 use Rattle.rv_core.specs.Sound.{IsSound}
 use Rattle.rv_core.specs.Step.{advanced, answered, executed, is_free}
-use Rattle.bound_core.specs.Timed.{TimedCore, after_access, after_instruction, after_instructions, asks, goes_on_alone, next_request, ran_to}
+use Rattle.bound_core.specs.Timed.{TimedCore, after_instruction, after_instructions, goes_on_alone, next_request, ran_to}
 
 -- the laws of a core
 pub record CoreLaws : Type 0 where

@@ -1,16 +1,16 @@
 -- A history is a bound phase, and a bound phase has a history: a turn at a time.
-use Rattle.std.proofs.Common.{◌≡◌, ℕ, zero, suc, ◌+◌, ◌<◌, max, Bool, true, false, List, [], ◌∷◌, ◌++◌, map, length, All, Option, Some, None, Ok, Err, Result, refl, sym, ◌∙◌, ap, subst, arith}
-use Rattle.std.specs.Prelude.{slice_get, slice_index, slice_set, is_none}
+use Rattle.std.proofs.Common.{◌≡◌, ℕ, zero, suc, ◌+◌, ◌<◌, max, true, List, [], ◌∷◌, ◌++◌, map, length, All, Some, None, Ok, refl, sym, ◌∙◌, ap, subst, arith}
+use Rattle.std.specs.Prelude.{slice_get, slice_index, is_none}
 use Rattle.std.specs.List.{list_all}
 use Rattle.std.proofs.lemmas.List.{append-nil, append_assoc, length-set, map-set}
-use Rattle.std.proofs.lemmas.List.Elements.{All-cons, All-head, All-nil, All-tail}
+use Rattle.std.proofs.lemmas.List.Elements.{All-cons, All-head, All-tail}
 use Rattle.zs_num.specs.declared.entry.Entry.{Entry}
 use Rattle.elf_load.specs.MemoryImage.{MemoryImage}
 use Rattle.shard.specs.Served.{ShardState, after}
 use Rattle.access_log.specs.History.{AreStamped, bank_of_entry, core_of_entry, each_after, stamped_by}
 use Rattle.access_log.specs.RecordedOrder.{Stamps}
 use Rattle.bound_core.specs.History.{AreServedBy, AreTurnsOf, after_turn}
-use Rattle.bound_core.specs.ReferenceMachine.{BoundState, and_then, are_done, at_end, bound_from, legal_at, turn}
+use Rattle.bound_core.specs.ReferenceMachine.{BoundState, at_end, bound_from}
 use Rattle.bound_core.specs.ShardWorld.{ShardWorld, serve}
 use Rattle.bound_core.specs.Timed.{TimedCore, asks, ran_to}
 use Rattle.bound_core.proofs.HistoryTurn.{IsNext, bank_in, last_at, next, stamps_of, takes_next}

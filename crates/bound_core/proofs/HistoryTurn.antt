@@ -1,21 +1,17 @@
 -- One turn of a core at its shard, as the first of a history.
-use Rattle.std.proofs.Common.{◌≡◌, ℕ, zero, suc, ◌+◌, ◌<◌, max, List, [], ◌∷◌, ◌++◌, map, length, All, Option, Some, None, refl, sym, ◌∙◌, ap, subst, arith}
-use Rattle.std.specs.Prelude.{slice_get, slice_index, slice_index_or, slice_set}
-use Rattle.std.proofs.lemmas.List.{length-set, map-set}
-use Rattle.std.proofs.lemmas.List.Elements.{All-cons, All-head, All-tail}
-use Rattle.std.proofs.lemmas.Option.{get_or_from_slice_get, slice_get_within}
+use Rattle.std.proofs.Common.{◌≡◌, ℕ, zero, suc, ◌+◌, max, List, [], ◌∷◌, ◌++◌, map, length, Some, refl, sym, ◌∙◌, ap}
+use Rattle.std.specs.Prelude.{slice_get, slice_index, slice_set}
+use Rattle.std.proofs.lemmas.Option.{get_or_from_slice_get}
 use Rattle.zs_num.specs.declared.entry.Entry.{Entry}
 use Rattle.zs_num.specs.declared.entry.Outcome.{Outcome}
-use Rattle.zs_num.specs.declared.request.Request.{Request}
 use Rattle.elf_load.specs.MemoryImage.{MemoryImage}
 use Rattle.shard.specs.Served.{ShardState, after, met_by, reply_of}
-use Rattle.access_log.specs.History.{AreStamped, bank_of_entry, core_of_entry, each_after, of_bank, of_core}
+use Rattle.access_log.specs.History.{bank_of_entry}
 use Rattle.access_log.specs.RecordedOrder.{Stamps}
-use Rattle.bound_core.specs.History.{AreServedBy, AreTurnsOf, after_turn}
+use Rattle.bound_core.specs.History.{after_turn}
 use Rattle.bound_core.specs.ReferenceMachine.{BoundState, turn}
 use Rattle.bound_core.specs.ShardWorld.{ShardWorld, no_shard, recorded, serve, shard_for}
 use Rattle.bound_core.specs.Timed.{TimedCore, asks, ran_to}
-use Rattle.bound_core.proofs.Numbered.{EachHolds, all_hold, first_holds, rest_holds}
 
 -- the stamps of a world
 abbrev pub stamps_of : ShardWorld → Stamps

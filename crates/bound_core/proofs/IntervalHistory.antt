@@ -1,5 +1,5 @@
 -- The history of an interval, from its first access on.
-use Rattle.std.proofs.Common.{◌≡◌, ℕ, ◌+◌, ◌<◌, List, [], ◌∷◌, map, length, All, Ok, refl, sym, ◌∙◌, ap, subst, arith}
+use Rattle.std.proofs.Common.{◌≡◌, ℕ, ◌<◌, List, [], ◌∷◌, map, length, All, Ok, refl, sym, ◌∙◌, ap, subst}
 use Rattle.std.specs.Prelude.{replicate}
 use Rattle.std.proofs.lemmas.List.{length-replicate}
 use Rattle.std.proofs.lemmas.List.Elements.{All-head, All-tail}
@@ -15,7 +15,7 @@ use Rattle.bound_core.specs.ShardWorld.{ShardWorld, serve}
 use Rattle.bound_core.specs.Timed.{TimedCore}
 use Rattle.bound_core.proofs.Histories.{Follows, IsReady, history_is_phase}
 use Rattle.bound_core.proofs.HistoryTurn.{stamps_of}
-use Rattle.bound_core.proofs.Numbered.{EachHolds, after_same_entries}
+use Rattle.bound_core.proofs.Numbered.{after_same_entries}
 use Rattle.bound_core.proofs.PhaseHistories.{phase_has_history}
 
 last_stamps : (shards : List ShardState) → All (λ shard. shard.last ≡ 0) shards → map (λ shard. shard.last) shards ≡ replicate (length shards) 0

@@ -8,6 +8,7 @@ pub mod Intervals
 pub mod Lists
 pub mod MachineRuns
 pub mod Numbered
+pub mod OwnTurns
 pub mod Pairings
 pub mod Phase
 pub mod PhaseHistories

@@ -1,5 +1,5 @@
 -- A history in recorded order is a run of the machine of one thread.
-use Rattle.std.proofs.Common.{◌≡◌, ℕ, List, [], map, length, Ok, Err, Result, refl, sym, ◌∙◌, ap, subst}
+use Rattle.std.proofs.Common.{◌≡◌, ℕ, List, map, length, Ok, Err, Result, refl, sym, ◌∙◌, ap, subst}
 use Rattle.zs_num.specs.declared.entry.Entry.{Entry}
 use Rattle.elf_load.specs.MemoryImage.{MemoryImage}
 use Rattle.shard.specs.Served.{ShardState}
@@ -11,7 +11,7 @@ use Rattle.bound_core.specs.MachineOfShards.{IsRunOfTheMachine, ShardsDoAsTheMac
 use Rattle.bound_core.specs.MachineWorld as machine
 use Rattle.bound_core.specs.MachineWorld.{MachineWorld}
 use Rattle.bound_core.specs.ReferenceMachine.{BoundState, bound_phase}
-use Rattle.bound_core.specs.ShardWorld.{ShardWorld, begun_world, serve}
+use Rattle.bound_core.specs.ShardWorld.{ShardWorld, begun_world}
 use Rattle.bound_core.specs.Simulation.{AreRelated, EndAlike}
 use Rattle.bound_core.specs.Timed.{TimedCore}
 

@@ -1,14 +1,12 @@
 -- The pairings of cores, as the shards' marks speak of them.
-use Rattle.std.proofs.Common.{◌≡◌, ℕ, List, [], ◌∷◌, map, Option, Some, None, refl, sym, ◌∙◌, ap}
-use Rattle.std.specs.Prelude.{slice_get, slice_set}
+use Rattle.std.proofs.Common.{◌≡◌, ℕ, List, Option, Some, None, refl, ◌∙◌, ap}
+use Rattle.std.specs.Prelude.{slice_get}
 use Rattle.std.specs.Option.{option_map}
-use Rattle.std.proofs.lemmas.List.{map-set}
 use Rattle.std.proofs.lemmas.Option.{get_or_from_slice_get, slice_get-map}
 use Rattle.zs_num.specs.declared.request.Request.{Request}
 use Rattle.zs_num.specs.declared.request.Request.TheVariants.{Load, Store, Lr, Sc, Amo}
 use Rattle.rv_core.specs.declared.pairing.Pairing.{Pairing}
 use Rattle.rv_core.specs.Pairing as core
-use Rattle.flat_memory.specs.declared.reservation.Reservation.{Reservation}
 use Rattle.flat_memory.specs.FlatMemory.{is_reservation}
 use Rattle.shard.specs.Marks.{IsPairedRight, pairing_after, pairing_of}
 use Rattle.bound_core.specs.MachineOfShards.{bytes_of, pairings_of}

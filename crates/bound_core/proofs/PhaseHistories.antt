@@ -1,22 +1,18 @@
 -- Every bound phase over shards has a history.
-use Rattle.std.proofs.Common.{◌≡◌, ℕ, zero, suc, ◌+◌, ◌<◌, max, Bool, true, false, List, [], ◌∷◌, ◌++◌, map, length, All, Option, Some, None, Ok, Err, Result, cond, refl, sym, ◌∙◌, ap, subst, arith, inl, inr}
+use Rattle.std.proofs.Common.{◌≡◌, ℕ, zero, suc, ◌+◌, ◌<◌, max, Bool, true, false, List, [], ◌∷◌, map, length, Option, Some, None, Ok, Err, refl, sym, ◌∙◌, ap, arith}
 use Rattle.std.specs.Prelude.{slice_get, slice_index, is_none}
 use Rattle.std.specs.List.{list_all}
-use Rattle.std.specs.Option.{option_and_then, option_map}
-use Rattle.std.proofs.lemmas.Bool.{cases_Bool, and_parts}
 use Rattle.std.proofs.lemmas.List.Elements.{All-nil}
 use Rattle.std.proofs.lemmas.Option.{get_or_from_slice_get, same_Some, slice_get_within}
 use Rattle.zs_num.specs.declared.entry.Entry.{Entry}
 use Rattle.zs_num.specs.declared.request.Request.{Request}
 use Rattle.elf_load.specs.MemoryImage.{MemoryImage}
 use Rattle.shard.specs.Served.{ShardState, met_by, reply_of}
-use Rattle.access_log.specs.History.{bank_of_entry, core_of_entry}
-use Rattle.bound_core.specs.History.{AreServedBy, AreTurnsOf}
-use Rattle.bound_core.specs.ReferenceMachine.{BoundState, and_then, are_done, at_end, bound_from, legal_at, turn, turn_at}
+use Rattle.bound_core.specs.ReferenceMachine.{BoundState, are_done, at_end, bound_from, turn}
 use Rattle.bound_core.specs.ShardWorld.{ShardWorld, no_shard, number_for, recorded, serve, shard_for}
 use Rattle.bound_core.specs.Timed.{TimedCore, asks, ran_to}
 use Rattle.bound_core.proofs.Histories.{Follows, IsReady, is_there, left, next_left, next_ready, none_left, whole_follows}
-use Rattle.bound_core.proofs.HistoryTurn.{IsNext, bank_in, next, takes_next}
+use Rattle.bound_core.proofs.HistoryTurn.{IsNext, next, takes_next}
 
 module _ (time : Entry → ℕ) (image : MemoryImage) (end : ℕ) where
   -- what the turn of the core of this number was

@@ -1,7 +1,6 @@
 -- What an access leaves of a shard.
-use Rattle.std.proofs.Common.{◌≡◌, ℕ, Bool, true, false, cond, List, map, eqb, length, Option, None, refl, sym, ◌∙◌, ap}
+use Rattle.std.proofs.Common.{◌≡◌, ℕ, Bool, true, false, cond, List, eqb, length, Option, None, refl, ◌∙◌}
 use Rattle.std.specs.List.{enumerate_from}
-use Rattle.std.specs.Prelude.{slice_set}
 use Rattle.std.proofs.lemmas.List.{length-map, length-set}
 use Rattle.std.proofs.lemmas.List.FromFn.{length-enumerate_from}
 use Rattle.zs_num.specs.declared.entry.Entry.{Entry}

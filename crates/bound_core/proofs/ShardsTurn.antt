@@ -1,5 +1,5 @@
 -- One turn over shards and over the machine for which they stand.
-use Rattle.std.proofs.Common.{◌≡◌, ℕ, zero, suc, ◌+◌, ◌<◌, max, List, [], ◌∷◌, map, length, All, Option, Some, None, refl, sym, ◌∙◌, ap, subst, arith}
+use Rattle.std.proofs.Common.{◌≡◌, ℕ, ◌<◌, List, [], ◌∷◌, map, length, All, Option, Some, refl, sym, ◌∙◌, ap, subst, arith}
 use Rattle.std.specs.Prelude.{slice_get, slice_index, slice_set}
 use Rattle.std.proofs.lemmas.List.{length-map, length-set, map-set}
 use Rattle.std.proofs.lemmas.List.Elements.{All-cons, All-head, All-map, All-nil, All-set, All-tail, All-weaker}
@@ -10,8 +10,7 @@ use Rattle.zs_num.specs.declared.entry.Outcome.{Outcome}
 use Rattle.zs_num.specs.declared.request.Request.{Request}
 use Rattle.elf_load.specs.MemoryImage.{MemoryImage}
 use Rattle.rv_core.specs.CoreState.{CoreState, InProgress}
-use Rattle.rv_core.specs.Sound.{IsSound, left_of}
-use Rattle.rv_core.specs.Accesses.{AreServed}
+use Rattle.rv_core.specs.Sound.{IsSound}
 use Rattle.rv_core.specs.Step.{answered}
 use Rattle.rv_core.specs.Pairing as core
 use Rattle.flat_memory.specs.declared.reservation.Reservation.{Reservation}
@@ -23,13 +22,13 @@ use Rattle.shard.specs.Marks.{MarkedMemory, marked_after, marked_reply, pairing_
 use Rattle.shard.specs.Served.{ShardState, after, met_by, reply_of}
 use Rattle.shard.specs.StandsFor.{StandFor, flat_for}
 use Rattle.access_log.specs.History.{bank_of}
-use Rattle.access_log.specs.RecordedOrder.{Stamps, next_stamp}
+use Rattle.access_log.specs.RecordedOrder.{next_stamp}
 use Rattle.bound_core.specs.MachineOfShards.{IsCoreOf, StandForMachine, bytes_of, pairings_of}
 use Rattle.bound_core.specs.MachineWorld as machine
 use Rattle.bound_core.specs.MachineWorld.{MachineWorld, bank_for}
 use Rattle.bound_core.specs.ReferenceMachine.{BoundState, bound_from}
 use Rattle.bound_core.specs.Simulation.{AreRelated, EndAlike}
-use Rattle.bound_core.specs.ShardWorld.{ShardWorld, no_shard, number_for, recorded, serve, shard_for}
+use Rattle.bound_core.specs.ShardWorld.{ShardWorld, no_shard, number_for, recorded, serve}
 use Rattle.bound_core.specs.Timed.{TimedCore, after_access, asks, ran_to}
 use Rattle.bound_core.proofs.CoreKept.{CoreLaws, StaysSound, ran_stays_sound, waits_for}
 use Rattle.bound_core.proofs.Histories.{after_last, is_there}

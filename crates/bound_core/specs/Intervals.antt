@@ -1,5 +1,5 @@
 -- Cores and shards stand for the machine of one thread from interval to interval.
-use Rattle.std.specs.Prelude.{◌≡◌, ℕ, List, length, map}
+use Rattle.std.specs.Prelude.{◌≡◌, List, length, map}
 use Rattle.std.specs.List.{range_with_len}
 use Rattle.elf_load.specs.MemoryImage.{MemoryImage}
 use Rattle.machine_desc.specs.Machine.{IsMachine}

@@ -3,7 +3,7 @@ ghost use Rattle.std.specs.Prelude.{◌≡◌, ℕ, List};
 ghost use Rattle.zs_num.specs.declared.entry.Entry.{Entry};
 ghost use Rattle.zs_num.specs.declared.request.Request.{Request};
 ghost use Rattle.elf_load.specs.MemoryImage.{MemoryImage};
-ghost use Rattle.bound_core.specs.HistoryLaws.{HistoriesArePhases, PhasesAreHistories, RecordedOrderIsHistory};
+ghost use Rattle.bound_core.specs.HistoryLaws.{HistoriesArePhases, PhasesAreHistories, RecordedOrderIsHistory, TurnsAreTheCoresOwn, TurnsMakeAHistory};
 ghost use Rattle.bound_core.specs.Reaching.{BeginsAtItself, GoesOnByATurn, GoesOnByLocalInstructions, GoesOnToTheEnd, IsThePhaseAtTheEnd};
 ghost use Rattle.bound_core.specs.Intervals.{FirstIntervalBegins, NextIntervalBegins};
 ghost use Rattle.bound_core.specs.Laws.{AccessesAreFew, EndsWhereAllAreOver, LocalInstructionsAreAlone, TurnIsScheduled, TurnsAreScheduled};
@@ -43,6 +43,19 @@ pub fn histories_are_phases()
 /// The entries of every bound phase over shards are a history.
 pub fn phases_are_histories()
     ensures { (time : Entry → ℕ) (image : MemoryImage) (end : ℕ) → PhasesAreHistories time image end }
+{}
+
+/// Turns that were taken one after the other make a history, once every core is over: so do those of
+/// cores that run to the end of the interval one after the other.
+pub fn turns_make_a_history()
+    ensures { (time : Entry → ℕ) (image : MemoryImage) (end : ℕ) → TurnsMakeAHistory time image end }
+{
+    phases_are_histories();
+}
+
+/// The turns that a core took through a port are its own part of a history.
+pub fn turns_are_the_cores_own<Q: Port>()
+    ensures { TurnsAreTheCoresOwn Q.gives }
 {}
 
 /// The entries of a history in recorded order are a history of the same cores and shards. So the turns
