@@ -1,10 +1,15 @@
 //! Laws over the definitions alone, each the contract of a function that does nothing.
-ghost use Rattle.access_log.specs.Laws.{CoresDecideTheOrder, OneMoreIsStamped, RecordedOrderKeepsTheStamps, RisingListsStay, StampsRise};
+ghost use Rattle.access_log.specs.Laws.{CoresDecideTheOrder, EachHasItsOwn, OneMoreIsStamped, RecordedOrderKeepsTheStamps, RisingListsStay, StampsRise};
 
 /// What was stamped in the order in which the turns were taken is stamped by the same rule in recorded
 /// order, and each core and each bank has the same entries in the same order.
 pub fn recorded_order_keeps_the_stamps()
     ensures { RecordedOrderKeepsTheStamps }
+{}
+
+/// What each of a list of things comes to by the entries of a history is what it comes to by its own.
+pub fn each_has_its_own<X>()
+    ensures { EachHasItsOwn X }
 {}
 
 /// An entry whose stamp is one more than the latest of its bank and of its core goes on with a history.
