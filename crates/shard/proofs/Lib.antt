@@ -24,3 +24,5 @@ pub mod StandsForShare
 pub mod StandsForStep
 pub mod StandsForStart
 pub mod StandsForRuns
+pub mod StandsForReads
+pub mod StandsForAnswers

@@ -1,23 +1,27 @@
 -- What shards answer to a list of accesses is what one machine with one flat memory does.
-use Rattle.std.proofs.Common.{◌≡◌, ℕ, ◌%◌, ◌<◌, List, [], ◌∷◌, length, get_or, map, set, Option, Some, refl, sym, ap, ◌∙◌, subst, arith}
+use Rattle.std.proofs.Common.{◌≡◌, ℕ, ◌%◌, ◌<◌, List, [], ◌∷◌, length, get_or, map, set, replicate, Option, Some, None, refl, sym, ap, ◌∙◌, subst, arith}
 use Rattle.std.specs.List.{All}
 use Rattle.std.specs.Prelude.{slice_get}
-use Rattle.std.proofs.lemmas.List.{length-map}
+use Rattle.std.proofs.lemmas.List.{length-map, length-replicate}
+use Rattle.std.proofs.lemmas.List.FromFn.{length-map-range_with_len}
+use Rattle.elf_load.specs.MemoryImage.{byte_at}
 use Rattle.std.proofs.lemmas.List.Elements.{All-head, All-map, All-tail}
 use Rattle.std.proofs.lemmas.Option.{slice_get-get_or, slice_get_within}
 use Rattle.zs_num.specs.Request.{IsServable}
 use Rattle.zs_num.specs.declared.entry.Entry.{Entry}
 use Rattle.zs_num.specs.declared.request.Request.{Request}
 use Rattle.flat_memory.specs.declared.reservation.Reservation.{Reservation}
+use Rattle.flat_memory.specs.FlatMemory as flat
 use Rattle.shard.specs.Coherence.{Caches, after_access, after_accesses, outcomes_of}
-use Rattle.shard.specs.Laws.{EntriesAreOfOneMachine, marked_after_all, marked_replies}
+use Rattle.shard.specs.Laws.{EntriesAreOfOneMachine, NewShardsAreOneMachine, marked_after_all, marked_replies, flat_replies}
 use Rattle.shard.specs.Lines.{line_of}
 use Rattle.shard.specs.Marks.{MarkedMemory, marked_after}
 use Rattle.shard.specs.Served.{ShardState, after}
-use Rattle.shard.specs.StandsFor.{AreAnswered, StandFor, accesses_of}
+use Rattle.shard.specs.StandsFor.{AreAnswered, StandFor, accesses_of, new_caches, new_memory, new_shards}
 use Rattle.shard.proofs.Coherent.{coherent_stays}
 use Rattle.shard.proofs.Reservations.{marks_are_reservations}
 use Rattle.shard.proofs.StandsForShare.{length-bytes_after}
+use Rattle.shard.proofs.StandsForStart.{new_shards_stand}
 use Rattle.shard.proofs.StandsForStep.{shards_stand}
 use Rattle.shard.specs.Marks.{marks_for}
 
@@ -83,3 +87,18 @@ entries_are_of_one_machine shards memory c pairings (entry ∷ entries) left h l
     (subst (λ (n : ℕ). All (λ (access : ℕ × Request). access.0 < n) (accesses_of (entry ∷ entries))) (sym long) (accesses_known (length c.l1) (entry ∷ entries) cores))
     right in
     (marked.replies ∙ one.0, marked.outcomes, marked.stand, one.1)
+
+-- ---- from the start
+pub new_shards_are_one_machine : NewShardsAreOneMachine
+new_shards_are_one_machine m image entries left is cores can right answered =
+    let start = new_shards_stand m image is in
+    let memory : MarkedMemory = new_memory m image in
+    let accesses : List (ℕ × Request) = accesses_of entries in
+    let many : length (new_caches m).l1 ≡ m.cores = length-replicate m.cores (replicate m.l1.sets []) in
+    let paired : length (replicate {A = Option Reservation} m.cores None) ≡ m.cores = length-replicate m.cores None in
+    let long : length memory.bytes ≡ image.size = length-map-range_with_len (byte_at image.segments) image.base image.size in
+    let one = entries_are_of_one_machine (new_shards m image) memory (new_caches m) (replicate m.cores None) entries left start.0 (paired ∙ sym many)
+    (subst (λ (n : ℕ). All (λ (x : Entry). x.core < n) entries) (sym many) cores)
+    (subst (λ (n : ℕ). All (λ (x : Entry). IsServable image.base n x.request) entries) (sym long) can)
+    right answered in
+    (one.0 ∙ ap (λ (f : flat.MemoryState). flat_replies f accesses) start.1, one.1)

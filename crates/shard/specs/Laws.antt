@@ -1,8 +1,9 @@
 -- Laws of the definitions.
-use Rattle.std.specs.Prelude.{◌≡◌, ◌≢◌, ℕ, ◌<◌, ◌≤◌, ◌↔◌, List, [], ◌∷◌, All, length, map, replicate, slice_set, Option, None, IsSome, IsTrue}
+use Rattle.std.specs.Prelude.{◌≡◌, ◌≢◌, ℕ, ◌%◌, ◌^◌, ◌<◌, ◌≤◌, ◌==◌, ◌↔◌, Bool, true, false, List, [], ◌∷◌, ◌++◌, All, length, map, replicate, slice_set, Option, None, IsSome, IsTrue}
 use Rattle.zs_num.specs.Request.{IsServable}
 use Rattle.zs_num.specs.declared.entry.Entry.{Entry}
 use Rattle.zs_num.specs.declared.request.Request.{Request}
+use Rattle.zs_num.specs.declared.request.Request.TheVariants.{Load, Store, Lr, Sc, Amo}
 use Rattle.elf_load.specs.MemoryImage.{MemoryImage}
 use Rattle.machine_desc.specs.Machine.{IsMachine}
 use Rattle.machine_desc.specs.declared.machine.Machine.{Machine}
@@ -11,7 +12,7 @@ use Rattle.flat_memory.specs.FlatMemory as flat
 use Rattle.zs_num.specs.declared.entry.Outcome.TheVariants.{Hit}
 use Rattle.cache_set.specs.declared.letter.Letter.TheVariants.{I}
 use Rattle.shard.specs.Coherence.{Caches, after_access, after_accesses, allows, dirty_at, empty_caches, is_alone, is_held, is_write, letter_at, outcome_of, outcomes_of}
-use Rattle.shard.specs.Lines.{line_of}
+use Rattle.shard.specs.Lines.{line_at, line_of}
 use Rattle.shard.specs.Marks.{ArePairedRight, MarkedMemory, marked_after, marked_reply, pairings_after}
 use Rattle.shard.specs.Served.{CanServe, HasCore, ShardState, after, met_by, reply_of}
 use Rattle.shard.specs.StandsFor.{AreAnswered, AreCoherent, HaveRoom, HaveSets, Keeps, StandFor, accesses_of, flat_for, new_caches, new_memory, new_shards}
@@ -123,3 +124,33 @@ EntriesAreOfOneMachine = (shards : List ShardState) (memory : MarkedMemory) (c :
     × (map (λ entry. entry.outcome) entries ≡ outcomes_of c (accesses_of entries))
     × StandFor left (marked_after_all memory (accesses_of entries)) (after_accesses c (accesses_of entries))
     × (flat_for (marked_after_all memory (accesses_of entries)) (pairings_after_all pairings (accesses_of entries)) ≡ flat_after_all (flat_for memory pairings) (accesses_of entries))
+
+-- So it is from the new shards of a machine on, with memory as an executable was loaded and empty caches.
+abbrev pub NewShardsAreOneMachine : Type 0
+NewShardsAreOneMachine = (m : Machine) (image : MemoryImage) (entries : List Entry) (left : List ShardState) → IsMachine m
+    → All (λ entry. entry.core < m.cores) entries → All (λ entry. IsServable image.base image.size entry.request) entries
+    → ArePairedRight (replicate m.cores None) (accesses_of entries) → AreAnswered (new_shards m image) entries left
+    → (map (λ entry. entry.reply) entries ≡ flat_replies (flat.loaded image m.cores) (accesses_of entries))
+    × (map (λ entry. entry.outcome) entries ≡ outcomes_of (new_caches m) (accesses_of entries))
+
+-- an access that is answered with this reply wrote to memory
+abbrev pub has_written : Request → (reply : ℕ) → Bool
+has_written (Load addr width) reply = false
+has_written (Store addr width value) reply = true
+has_written (Lr addr width) reply = false
+has_written (Sc addr width value paired) reply = reply == 0
+has_written (Amo op addr width value) reply = true
+
+-- A load of what a store wrote gives the low bytes of the number, where no access between wrote to the line.
+abbrev pub ReadAfterWrite : Type 0
+ReadAfterWrite = (shards : List ShardState) (memory : MarkedMemory) (c : Caches) (store load : Entry) (between : List Entry) (left : List ShardState) (addr width value : ℕ)
+    → let entries = store ∷ (between ++ (load ∷ [])) in StandFor shards memory c → AreAnswered shards entries left
+    → All (λ entry. entry.core < length c.l1) entries → All (λ entry. IsServable memory.base (length memory.bytes) entry.request) entries
+    → store.request ≡ Store addr width value → load.request ≡ Load addr width → All (λ entry. IsTrue (has_written entry.request entry.reply) → line_of entry.request ≢ line_at addr) between
+    → load.reply ≡ value % 256 ^ width
+
+-- Shards that stand for a machine answer whatever its cores ask of its memory.
+abbrev pub ShardsAnswer : Type 0
+ShardsAnswer = (shards : List ShardState) (memory : MarkedMemory) (c : Caches) (accesses : List (ℕ × Request)) → StandFor shards memory c → 0 < length shards
+    → All (λ access. access.0 < length c.l1) accesses → All (λ access. IsServable memory.base (length memory.bytes) access.1) accesses
+    → (entries : List Entry) × (left : List ShardState) × AreAnswered shards entries left × (accesses_of entries ≡ accesses)

@@ -1,5 +1,5 @@
 //! Laws over the definitions alone, each the contract of a function that does nothing.
-ghost use Rattle.shard.specs.Laws.{CoherentStays, CoresStay, EntriesAreOfOneMachine, HitsAreAllowed, Inclusion, LastIsStamp, MarksAreReservations, NewShardsStand, NumberStays, SetsStaySound, ShardsStandForAMachine, SingleWriter, StillServes};
+ghost use Rattle.shard.specs.Laws.{CoherentStays, CoresStay, EntriesAreOfOneMachine, HitsAreAllowed, Inclusion, LastIsStamp, MarksAreReservations, NewShardsAreOneMachine, NewShardsStand, NumberStays, ReadAfterWrite, SetsStaySound, ShardsAnswer, ShardsStandForAMachine, SingleWriter, StillServes};
 
 /// An access leaves a shard its number.
 pub fn number_stays()
@@ -71,4 +71,23 @@ pub fn new_shards_stand()
 /// of the caches of one machine, where each store-conditional says rightly whether it is paired.
 pub fn entries_are_of_one_machine()
     ensures { EntriesAreOfOneMachine }
+{}
+
+/// So it is from the new shards of a machine on, with memory as an executable was loaded and empty
+/// caches.
+pub fn new_shards_are_one_machine()
+    ensures { NewShardsAreOneMachine }
+{}
+
+/// A load of what a store wrote gives the low bytes of the number, where no access between wrote to
+/// the line, whichever cores accessed.
+pub fn read_after_write()
+    ensures { ReadAfterWrite }
+{
+    flat_memory::laws::stored_is_loaded();
+}
+
+/// Shards that stand for a machine answer whatever its cores ask of its memory.
+pub fn shards_answer()
+    ensures { ShardsAnswer }
 {}
