@@ -15,7 +15,8 @@ use Rattle.shard.specs.Coherence.{Caches, fetched, in_own_set_of, is_modified, k
 use Rattle.shard.specs.Lines.{set_of, in_set_of, set_number}
 use Rattle.shard.specs.StandsFor.{HaveSets, IsSet}
 use Rattle.shard.proofs.CoherentLines.{kept_changed_other, kept_changed_same, kept_elsewhere, kept_filled_other, kept_filled_room, kept_filled_same, kept_filled_victim, kept_front_other, kept_front_same, kept_without_other, kept_without_same, set_same}
-use Rattle.shard.proofs.CoherentPlaced.{if_other, mapped_at, none_other, numbered_at, set_read}
+use Rattle.shard.proofs.CoherentLists.{mapped_at, numbered_at, set_read}
+use Rattle.shard.proofs.CoherentPlaced.{if_other, none_other}
 use Rattle.shard.proofs.Fits.{at_or, set_nil}
 
 -- the set of a line in a core's L1

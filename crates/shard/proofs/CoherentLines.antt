@@ -10,7 +10,7 @@ use Rattle.std.proofs.lemmas.Map.Keys.{IsDistinct-head, IsDistinct-tail}
 use Rattle.cache_set.proofs.Sets.{Lacks, lacks-others}
 use Rattle.cache_set.specs.Ways.{kept_of, without, used, filled, changed, last_of_full}
 use Rattle.shard.specs.Lines.{set_of, in_set_of, set_number}
-use Rattle.shard.proofs.CoherentPlaced.{set_read}
+use Rattle.shard.proofs.CoherentLists.{set_read}
 
 -- ---- all sets, of which the one of a line changes
 module _ {Y : Type 0} where

@@ -1,81 +1,19 @@
 -- Each access leaves each line in its own set, and as many sets as there were.
-use Rattle.std.proofs.Common.{◌≡◌, ℕ, zero, suc, ◌+◌, ◌/◌, ◌%◌, Bool, true, false, cond, eqb, List, [], ◌∷◌, length, get_or, map, set, take, replicate, Option, Some, None, refl, sym, ap, ◌∙◌, subst, arith, inl, inr}
-use Rattle.std.specs.List.{All, enumerate_from}
-use Rattle.std.specs.Option.{option_map_or}
-use Rattle.std.proofs.lemmas.Bool.{cases_eq, cases_lt}
-use Rattle.std.proofs.lemmas.List.{get_or-map, get_or-replicate, length-replicate, get_or-set_same, get_or-set_other, get_or_past, length-map, length-set}
-use Rattle.std.proofs.lemmas.List.Elements.{All-nil, All-cons}
-use Rattle.std.proofs.lemmas.List.FromFn.{get_or-enumerate_from, length-enumerate_from}
+use Rattle.std.proofs.Common.{◌≡◌, ℕ, ◌/◌, ◌%◌, Bool, true, false, cond, eqb, List, [], ◌∷◌, length, get_or, map, set, replicate, Option, Some, None, refl, sym, ◌∙◌, subst, arith, inl, inr}
+use Rattle.std.specs.List.{enumerate_from}
+use Rattle.std.proofs.lemmas.Bool.{cases_lt}
+use Rattle.std.proofs.lemmas.List.{get_or-replicate, length-replicate, get_or_past, length-map, length-set}
+use Rattle.std.proofs.lemmas.List.FromFn.{length-enumerate_from}
 use Rattle.zs_num.specs.declared.entry.Outcome.{Outcome}
 use Rattle.zs_num.specs.declared.entry.Outcome.TheVariants.{Hit, Upgrade, L2, Miss}
 use Rattle.zs_num.specs.declared.request.Request.{Request}
 use Rattle.cache_set.specs.declared.letter.Letter.{Letter}
 use Rattle.cache_set.specs.declared.letter.Letter.TheVariants.{M, E, S, I}
-use Rattle.cache_set.specs.Ways.{kept_of, without, used, filled, changed}
+use Rattle.cache_set.specs.Ways.{without, used, filled, changed}
 use Rattle.shard.specs.Coherence.{Caches, after_access, after_accesses, empty_caches, fetched, is_held, is_modified, is_write, kept_first, l2_victim, letter_at, letter_in, looked_up, marked_dirty, on_l2, on_others, on_own, other_after, others_changed, outcome_of, own_after, own_victim, recalled, room_made, some_other, taken_in, with_letter, written_back}
 use Rattle.shard.specs.Lines.{line_of, set_of, in_set_of, set_number}
-
--- ---- one set, of so many, with its number
-module _ {X : Type 0} where
-  abbrev pub Stand : (shards count n : ℕ) → List (ℕ × X) → Type 0
-  Stand shards count n [] = Unit {0}
-  Stand shards count n (e ∷ es) = (e.0 / shards % count ≡ n) × Stand shards count n es
-
-  module _ (shards count n : ℕ) where
-    stand_without : (line : ℕ) (s : List (ℕ × X)) → Stand shards count n s → Stand shards count n (without line s)
-    stand_without line [] h = tt
-    stand_without line (e ∷ s) h =
-        elim (eqb line e.0) as (λ b. Stand shards count n (cond b s (e ∷ without line s)))
-        [ true ↦ h.1 | false ↦ (h.0, stand_without line s h.1) ]
-
-    stand_changed : (line : ℕ) (v : X) (s : List (ℕ × X)) → Stand shards count n s → Stand shards count n (changed line v s)
-    stand_changed line v [] h = tt
-    stand_changed line v (e ∷ s) h =
-        elim (eqb line e.0) as (λ b. Stand shards count n (cond b ((e.0, v) ∷ s) (e ∷ changed line v s)))
-        [ true ↦ (h.0, h.1) | false ↦ (h.0, stand_changed line v s h.1) ]
-
-    stand_take : (k : ℕ) (s : List (ℕ × X)) → Stand shards count n s → Stand shards count n (take k s)
-    stand_take zero s h = tt
-    stand_take (suc k) [] h = tt
-    stand_take (suc k) (e ∷ s) h = (h.0, stand_take k s h.1)
-
-    stand_used : (line : ℕ) (s : List (ℕ × X)) → line / shards % count ≡ n → Stand shards count n s → Stand shards count n (used line s)
-    stand_used line s e h =
-        elim (kept_of line s) as (λ o. Stand shards count n (option_map_or (λ kept. (line, kept) ∷ without line s) o s))
-        [ None ↦ h | Some v ↦ (e, stand_without line s h) ]
-
-    pub stand_all : (s : List (ℕ × X)) → Stand shards count n s → All (λ (way : ℕ × X). way.0 / shards % count ≡ n) s
-    stand_all [] h = All-nil (λ (way : ℕ × X). way.0 / shards % count ≡ n)
-    stand_all (e ∷ s) h = All-cons (λ (way : ℕ × X). way.0 / shards % count ≡ n) e s h.0 (stand_all s h.1)
-
-  -- ---- all sets
-  pub record AllStand (shards count : ℕ) (sets : List (List (ℕ × X))) : Type 0 where
-    pub many : length sets ≡ count
-    pub each : (n : ℕ) → Stand shards count n (get_or sets n [])
-
-  none_stand : (shards : ℕ) → AllStand shards 0 []
-  none_stand shards = record { many = refl; each = λ n. tt }
-
-  -- one line's set changes
-  stand_in_set : (shards count line : ℕ) (change : List (ℕ × X) → List (ℕ × X)) (sets : List (List (ℕ × X)))
-      → (Stand shards count (line / shards % count) (set_of shards line sets) → Stand shards count (line / shards % count) (change (set_of shards line sets)))
-      → AllStand shards count sets → AllStand shards count (in_set_of shards line change sets)
-  stand_in_set shards count line change sets step h =
-      let k : ℕ = set_number shards line sets in
-      let is : k ≡ line / shards % count = ap (λ (x : ℕ). line / shards % x) h.many in
-      let same : Stand shards count k (change (get_or sets k []))
-      = subst (λ (x : ℕ). Stand shards count x (change (get_or sets k []))) (sym is) (step (subst (λ (x : ℕ). Stand shards count x (get_or sets k [])) is (h.each k))) in
-      record {
-        many = length-set sets k (change (get_or sets k [])) ∙ h.many;
-        each = λ n. elim (cases_eq n k) as (λ _. Stand shards count n (get_or (set sets k (change (get_or sets k []))) n [])) [
-          | inl e ↦ subst (λ (x : ℕ). Stand shards count x (get_or (set sets k (change (get_or sets k []))) x [])) (sym e)
-              (elim (cases_lt k (length sets)) as (λ _. Stand shards count k (get_or (set sets k (change (get_or sets k []))) k [])) [
-                | inl l ↦ rw (get_or-set_same sets k (change (get_or sets k [])) [] l) same
-                | inr l ↦ rw (get_or_past (set sets k (change (get_or sets k []))) k [] (omega (arith, length-set sets k (change (get_or sets k []))))) tt
-              ])
-          | inr e ↦ rw (get_or-set_other sets k n (change (get_or sets k [])) [] e) (h.each n)
-        ];
-      }
+use Rattle.shard.proofs.CoherentLists.{mapped_at, numbered_at, set_read}
+use Rattle.shard.proofs.CoherentStand.{AllStand, Stand, empty_stands, none_stand, stand_changed, stand_in_set, stand_take, stand_used, stand_without}
 
 -- ---- the caches
 -- so many sets, and each line in its own
@@ -135,25 +73,6 @@ l1_keeps l1 c cores sets step = record {
   };
 }
 
--- the sets of a core after each core's sets were changed
-pub mapped_at : {X : Type 0} (f : List X → List X) (xs : List (List X)) (core : ℕ) → f [] ≡ [] → get_or (map f xs) core [] ≡ f (get_or xs core [])
-mapped_at f xs core none =
-    elim (cases_lt core (length xs)) as (λ _. get_or (map f xs) core [] ≡ f (get_or xs core [])) [
-      | inl l ↦ get_or-map f xs core [] [] l
-      | inr l ↦ rw (get_or_past (map f xs) core [] (omega (arith, length-map xs f)), get_or_past xs core [] l) (sym none)
-    ]
-
--- and after each core's were by its number
-pub numbered_at : {X : Type 0} (g : ℕ × List X → List X) (xs : List (List X)) (core : ℕ) → g (core, []) ≡ [] → get_or (map g (enumerate_from 0 xs)) core [] ≡ g (core, get_or xs core [])
-numbered_at g xs core none =
-    let longer : length (enumerate_from 0 xs) ≡ length xs = length-enumerate_from 0 xs in
-    elim (cases_lt core (length xs)) as (λ _. get_or (map g (enumerate_from 0 xs)) core [] ≡ g (core, get_or xs core [])) [
-      | inl l ↦
-          let zero_core : 0 + core ≡ core = omega arith in
-          get_or-map g (enumerate_from 0 xs) core (0, []) [] (omega (arith, longer)) ∙ rw (get_or-enumerate_from 0 xs core (0, []) l, zero_core) refl
-      | inr l ↦ rw (get_or_past (map g (enumerate_from 0 xs)) core [] (omega (arith, longer, length-map (enumerate_from 0 xs) g)), get_or_past xs core [] l) (sym none)
-    ]
-
 -- ---- each step
 recalled_keeps : (line : ℕ) (c : Caches) → Keeps c (recalled line c)
 unfolding recalled
@@ -206,17 +125,6 @@ others_keeps change core line c =
       | false ↦ stand_in_set c.shards (length (get_or c.l1 other [])) line f (get_or c.l1 other [])
           (with_letter_stand c.shards (length (get_or c.l1 other [])) (line / c.shards % length (get_or c.l1 other [])) line (change (letter_in line (set_of c.shards line (get_or c.l1 other [])))) (set_of c.shards line (get_or c.l1 other []))) h
     ]))
-
--- the sets of a core after one core's were set
-pub set_read : {X : Type 0} (P : List X → Type 0) (xs : List (List X)) (k : ℕ) (v : List X) (n : ℕ) → (n ≡ k → P v) → P (get_or xs n []) → P (get_or (set xs k v) n [])
-set_read P xs k v n own old =
-    elim (cases_eq n k) as (λ _. P (get_or (set xs k v) n [])) [
-      | inl e ↦ elim (cases_lt k (length xs)) as (λ _. P (get_or (set xs k v) n [])) [
-        | inl l ↦ rw (e, get_or-set_same xs k v [] l) (own e)
-        | inr l ↦ subst P (get_or_past xs n [] (omega arith) ∙ sym (get_or_past (set xs k v) n [] (omega (arith, length-set xs k v)))) old
-      ]
-      | inr e ↦ rw (get_or-set_other xs k n v [] e) old
-    ]
 
 -- a core's own sets change in one
 own_keeps_sets : (core line : ℕ) (change : List (ℕ × Letter) → List (ℕ × Letter)) (c : Caches)
@@ -301,16 +209,6 @@ pub accesses_placed : (accesses : List (ℕ × Request)) (c : Caches) → Placed
 accesses_placed [] c p = p
 accesses_placed (access ∷ accesses) c p =
     accesses_placed accesses (after_access c access.0 access.1) ((access_keeps c access.0 access.1).placed p)
-
-pub empty_at : {X : Type 0} (n k : ℕ) → get_or (replicate {A = List X} n []) k [] ≡ []
-empty_at {X = X} n k =
-    elim (cases_lt k n) as (λ _. get_or (replicate {A = List X} n []) k [] ≡ []) [
-      | inl l ↦ get_or-replicate n k [] [] l
-      | inr l ↦ get_or_past (replicate n []) k [] (omega (arith, length-replicate {A = List X} n []))
-    ]
-
-empty_stands : {X : Type 0} (shards many : ℕ) → AllStand {X = X} shards (length (replicate {A = List (ℕ × X)} many [])) (replicate many [])
-empty_stands {X = X} shards many = record { many = refl; each = λ n. rw (empty_at {X = ℕ × X} many n) tt }
 
 pub empty_placed : (cores shards l1_sets l1_ways l2_sets l2_ways : ℕ) → Placed (empty_caches cores shards l1_sets l1_ways l2_sets l2_ways)
 empty_placed cores shards l1_sets l1_ways l2_sets l2_ways =

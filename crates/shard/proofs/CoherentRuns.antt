@@ -10,7 +10,8 @@ use Rattle.cache_set.specs.declared.letter.Letter.TheVariants.{I}
 use Rattle.shard.specs.Coherence.{Caches, after_access, after_accesses, empty_caches, is_held, letter_at}
 use Rattle.shard.specs.StandsFor.{AreCoherent, HaveRoom}
 use Rattle.shard.proofs.Coherent.{coherent_stays}
-use Rattle.shard.proofs.CoherentPlaced.{empty_at, empty_placed}
+use Rattle.shard.proofs.CoherentLists.{empty_at}
+use Rattle.shard.proofs.CoherentPlaced.{empty_placed}
 use Rattle.shard.proofs.CoherentSets.{sets_of_fit}
 use Rattle.shard.proofs.Fits.{empty_fit}
 

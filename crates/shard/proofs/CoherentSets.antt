@@ -5,7 +5,8 @@ use Rattle.std.proofs.lemmas.List.Elements.{All-cons, All-from_get_or, All-head,
 use Rattle.cache_set.specs.declared.letter.Letter.{Letter}
 use Rattle.shard.specs.Coherence.{Caches, is_held}
 use Rattle.shard.specs.StandsFor.{HaveSets, IsSet}
-use Rattle.shard.proofs.CoherentPlaced.{Placed, Stand, stand_all}
+use Rattle.shard.proofs.CoherentPlaced.{Placed}
+use Rattle.shard.proofs.CoherentStand.{Stand, stand_all}
 use Rattle.shard.proofs.Fits.{Fits, Held, IsL1, at_or, l1_nil, own_sets}
 
 held_all : (s : List (ℕ × Letter)) → Held s → All (λ (way : ℕ × Letter). is_held way.1 ≡ true) s

@@ -12,7 +12,9 @@ use Rattle.cache_set.specs.Ways.{without, used, filled, changed}
 use Rattle.shard.specs.Coherence.{Caches, after_access, fetched, in_own_set_of, is_held, is_modified, is_write, kept_first, l2_victim, letter_at, letter_in, looked_up, marked_dirty, on_l2, on_others, on_own, other_after, others_changed, outcome_of, own_after, own_victim, recalled, room_made, some_other, taken_in, with_letter, written_back}
 use Rattle.shard.specs.Lines.{line_of, in_set_of, set_number}
 use Rattle.shard.proofs.CoherentLetters.{at_victim}
-use Rattle.shard.proofs.CoherentPlaced.{Keeps, Placed, if_other, l2_step, mapped_at, none_other, numbered_at, others_step, set_read, stand_all}
+use Rattle.shard.proofs.CoherentLists.{mapped_at, numbered_at, set_read}
+use Rattle.shard.proofs.CoherentPlaced.{Keeps, Placed, if_other, l2_step, none_other, others_step}
+use Rattle.shard.proofs.CoherentStand.{stand_all}
 use Rattle.shard.proofs.StandsForPart.{Part}
 use Rattle.shard.proofs.StandsForSets.{Agree, apart_step, same_rest}
 

@@ -8,7 +8,8 @@ use Rattle.cache_set.specs.Ways.{kept_of}
 use Rattle.shard.specs.Coherence.{Caches, dirty_at, is_alone, is_dirty_victim, is_held, is_modified, is_write, l2_victim, letter_at, letter_in, outcome_by, outcome_of, own_victim, some_core, some_other}
 use Rattle.shard.specs.Lines.{line_of, set_of, set_number}
 use Rattle.shard.proofs.CoherentLetters.{at_victim}
-use Rattle.shard.proofs.CoherentPlaced.{Placed, stand_all}
+use Rattle.shard.proofs.CoherentPlaced.{Placed}
+use Rattle.shard.proofs.CoherentStand.{stand_all}
 use Rattle.shard.proofs.StandsForSets.{Agree, same_rest}
 
 pub record Part (n number : ℕ) (c d : Caches) : Type 0 where

@@ -18,7 +18,7 @@ use Rattle.shard.specs.Lines.{line_at}
 use Rattle.shard.specs.Marks.{pairing_of}
 use Rattle.shard.specs.Served.{ShardState, first_bytes, lines_below, lines_kept, new_shard, place_of}
 use Rattle.shard.specs.StandsFor.{StandFor, flat_for, new_caches, new_memory, new_shards, reserved_by}
-use Rattle.shard.proofs.CoherentPlaced.{empty_at}
+use Rattle.shard.proofs.CoherentLists.{empty_at}
 use Rattle.shard.proofs.CoherentRuns.{empty_coherent, empty_room}
 use Rattle.shard.proofs.StandsForBytes.{Share, div_mono, slice_same}
 use Rattle.shard.proofs.StandsForSets.{Agree}

@@ -1,7 +1,6 @@
 -- Shards stand for one machine after an access to a line of one of them, if they did before.
-use Rattle.std.proofs.Common.{◌≡◌, ◌≢◌, ℕ, zero, suc, ◌-◌, ◌%◌, ◌<◌, List, [], ◌∷◌, length, get_or, map, set, Option, Some, refl, sym, ap, ◌∙◌, subst, arith, inl, inr}
+use Rattle.std.proofs.Common.{◌≡◌, ◌≢◌, ℕ, ◌-◌, ◌%◌, ◌<◌, List, [], length, get_or, map, set, Option, Some, refl, sym, ap, ◌∙◌, subst, arith}
 use Rattle.std.specs.Prelude.{slice_get}
-use Rattle.std.proofs.lemmas.Bool.{cases_eq}
 use Rattle.std.proofs.lemmas.List.{get_or-map, length-map, length-set, map-set}
 use Rattle.std.proofs.lemmas.Option.{get_or_from_slice_get, slice_get_within}
 use Rattle.zs_num.specs.Request.{addr_of, IsServable}
@@ -14,6 +13,7 @@ use Rattle.shard.specs.Marks.{MarkedMemory, bytes_after, marked_after, marked_re
 use Rattle.shard.specs.Served.{ShardState, after, met_by, place_of, reply_of}
 use Rattle.shard.specs.StandsFor.{AreCoherent, HaveRoom, Keeps, StandFor}
 use Rattle.shard.proofs.Coherent.{coherent_stays}
+use Rattle.shard.proofs.CoherentLists.{each_after_set}
 use Rattle.shard.proofs.CoherentPlaced.{Placed}
 use Rattle.shard.proofs.CoherentSets.{placed_of_sets}
 use Rattle.shard.proofs.Kept.{length-marks_after, shards_stay}
@@ -22,32 +22,6 @@ use Rattle.shard.proofs.StandsForBytes.{Share}
 use Rattle.shard.proofs.StandsForPart.{Part, outcome_same}
 use Rattle.shard.proofs.StandsForShare.{length-bytes_after, reply_same, share_after, share_apart}
 use Rattle.shard.proofs.StandsForSteps.{access_part}
-
--- ---- one place of a list is set
-module _ {X : Type 0} where
-  get-set_same : (xs : List X) (k : ℕ) (v : X) → k < length xs → slice_get (set xs k v) k ≡ Some v
-  get-set_same [] k v l = absurd (omega arith)
-  get-set_same (x ∷ xs) zero v l = refl
-  get-set_same (x ∷ xs) (suc k) v l = get-set_same xs k v (omega arith)
-
-  get-set_other : (xs : List X) (k j : ℕ) (v : X) → j ≢ k → slice_get (set xs k v) j ≡ slice_get xs j
-  get-set_other [] k j v h = refl
-  get-set_other (x ∷ xs) zero zero v h = absurd (h refl)
-  get-set_other (x ∷ xs) zero (suc j) v h = refl
-  get-set_other (x ∷ xs) (suc k) zero v h = refl
-  get-set_other (x ∷ xs) (suc k) (suc j) v h = get-set_other xs k j v (λ e. h (ap (λ (i : ℕ). suc i) e))
-
-  -- what holds of the element that was set, and of the others, holds of each
-  pub each_after_set : (Q : ℕ → X → Type 0) (xs : List X) (k : ℕ) (v : X) → k < length xs → Q k v → ((j : ℕ) (x : X) → j ≢ k → slice_get xs j ≡ Some x → Q j x)
-      → (j : ℕ) (x : X) → slice_get (set xs k v) j ≡ Some x → Q j x
-  each_after_set Q xs k v l own others j x e =
-      elim (cases_eq j k) as (λ _. Q j x) [
-        | inl same ↦
-            let at : Some v ≡ Some x = sym (get-set_same xs k v l) ∙ subst (λ (i : ℕ). slice_get (set xs k v) i ≡ Some x) same e in
-            let is : v ≡ x = cc in
-            subst (λ (i : ℕ). Q i x) (sym same) (subst (Q k) is own)
-        | inr apart ↦ others j x apart (sym (get-set_other xs k j v apart) ∙ e)
-      ]
 
 -- ---- one shard of those that stand for a machine
 pub record Stands (n : ℕ) (memory : MarkedMemory) (c : Caches) (j : ℕ) (t : ShardState) : Type 0 where

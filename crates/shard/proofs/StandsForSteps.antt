@@ -1,8 +1,7 @@
 -- After each step of an access to a line of a shard, the shard's caches are again a part of those of the whole machine.
-use Rattle.std.proofs.Common.{◌≡◌, ℕ, ◌%◌, ◌<◌, Bool, true, false, cond, eqb, List, [], ◌∷◌, length, get_or, map, set, Option, Some, None, refl, sym, ◌∙◌, subst, arith, inl, inr}
+use Rattle.std.proofs.Common.{◌≡◌, ℕ, ◌%◌, ◌<◌, Bool, true, false, cond, eqb, List, [], ◌∷◌, length, get_or, map, set, Option, Some, None, refl, sym, ◌∙◌, subst}
 use Rattle.std.specs.List.{enumerate_from}
-use Rattle.std.proofs.lemmas.Bool.{cases_eq, cases_lt}
-use Rattle.std.proofs.lemmas.List.{get_or-set_same, get_or-set_other, get_or_past, length-map, length-set}
+use Rattle.std.proofs.lemmas.List.{length-map, length-set}
 use Rattle.std.proofs.lemmas.List.FromFn.{length-enumerate_from}
 use Rattle.zs_num.specs.declared.entry.Outcome.{Outcome}
 use Rattle.zs_num.specs.declared.entry.Outcome.TheVariants.{Hit, Upgrade, L2, Miss}
@@ -12,24 +11,10 @@ use Rattle.cache_set.specs.declared.letter.Letter.TheVariants.{M, E, S, I}
 use Rattle.cache_set.specs.Ways.{without, used, filled, changed}
 use Rattle.shard.specs.Coherence.{Caches, after_access, fetched, in_own_set_of, is_held, is_modified, is_write, kept_first, l2_victim, letter_at, letter_in, looked_up, marked_dirty, on_l2, on_others, on_own, other_after, others_changed, outcome_of, own_after, own_victim, recalled, room_made, some_other, taken_in, with_letter, written_back}
 use Rattle.shard.specs.Lines.{line_of, in_set_of}
-use Rattle.shard.proofs.CoherentPlaced.{Keeps, Placed, if_other, l2_step, mapped_at, none_other, numbered_at, others_step}
+use Rattle.shard.proofs.CoherentLists.{both_set, mapped_at, numbered_at}
+use Rattle.shard.proofs.CoherentPlaced.{Keeps, Placed, if_other, l2_step, none_other, others_step}
 use Rattle.shard.proofs.StandsForPart.{Part, l2_victim_number, l2_victim_same, letter_same, outcome_same, own_victim_number, own_victim_same, some_other_same}
 use Rattle.shard.proofs.StandsForSets.{Agree, agree_step}
-
--- two lists in which the same place is set
-both_set : {X Y : Type 0} (P : List X → List Y → Type 0) (xs : List (List X)) (ys : List (List Y)) → length ys ≡ length xs → (k : ℕ) (v : List X) (w : List Y) (i : ℕ) → P v w → P (get_or xs i []) (get_or ys i [])
-    → P (get_or (set xs k v) i []) (get_or (set ys k w) i [])
-both_set P xs ys long k v w i new old =
-    elim (cases_eq i k) as (λ _. P (get_or (set xs k v) i []) (get_or (set ys k w) i [])) [
-      | inl e ↦ elim (cases_lt k (length xs)) as (λ _. P (get_or (set xs k v) i []) (get_or (set ys k w) i [])) [
-        | inl l ↦ rw (e, get_or-set_same xs k v [] l, get_or-set_same ys k w [] (omega arith)) new
-        | inr l ↦
-            let first : P [] (get_or ys i []) = subst (λ s. P s (get_or ys i [])) (get_or_past xs i [] (omega arith)) old in
-            let second : P [] [] = subst (λ s. P [] s) (get_or_past ys i [] (omega arith)) first in
-            rw (get_or_past (set xs k v) i [] (omega (arith, length-set xs k v)), get_or_past (set ys k w) i [] (omega (arith, length-set ys k w))) second
-      ]
-      | inr e ↦ rw (get_or-set_other xs k i v [] e, get_or-set_other ys k i w [] e) old
-    ]
 
 module _ (n number : ℕ) (some : 0 < n) where
   l2_part : (c d : Caches) (s t : List (List (ℕ × Bool))) → Part n number c d → Agree n number s t → Part n number (record c { l2 = s }) (record d { l2 = t })
