@@ -38,7 +38,8 @@ CoresStay = (shard : ShardState) (entry : Entry) (core : ℕ) → HasCore shard 
 abbrev pub HitsAreAllowed : Type 0
 HitsAreAllowed = (c : Caches) (core : ℕ) (request : Request) → (outcome_of c core request ≡ Hit) ↔ IsTrue (allows (is_write request) (letter_at c core (line_of request)))
 
--- whatever is accessed, from empty caches on, no set has a line twice or more lines than ways
+-- whatever is accessed, from empty caches on, no set has a line twice or more lines than ways, each line stands in its own
+-- set, and no L1 has a line with the letter I
 abbrev pub SetsStaySound : Type 0
 SetsStaySound = (cores shards l1_sets l1_ways l2_sets l2_ways : ℕ) (accesses : List (ℕ × Request))
     → HaveSets (after_accesses (empty_caches cores shards l1_sets l1_ways l2_sets l2_ways) accesses)
