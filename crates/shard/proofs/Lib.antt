@@ -13,15 +13,6 @@ pub mod Fits
 pub mod Kept
 pub mod LaidOut
 pub mod Reservations
-pub mod StandsForAnswers
-pub mod StandsForApart
-pub mod StandsForBytes
-pub mod StandsForPart
-pub mod StandsForReads
-pub mod StandsForRuns
-pub mod StandsForSets
-pub mod StandsForShare
-pub mod StandsForStart
-pub mod StandsForStep
-pub mod StandsForSteps
+pub mod SharedSets
+pub mod SomeCores
 pub mod WorkedRows

@@ -1,0 +1,54 @@
+-- Whether some core's letter passes a test.
+use Rattle.std.proofs.Common.{◌≡◌, ◌≢◌, ℕ, zero, suc, ◌+◌, ◌<◌, ◌≤◌, Bool, true, false, not, cond, ◌&&◌, ◌||◌, eqb, List, [], ◌∷◌, length, refl, sym, ap, ◌∙◌, subst, arith, inl, inr}
+use Rattle.std.specs.List.{list_any, range_with_len}
+use Rattle.std.specs.Prelude.{nat_eq}
+use Rattle.std.proofs.lemmas.Bool.{eqb-true, eq-eqb, ne_eqb, cases_eq}
+use Rattle.cache_set.specs.declared.letter.Letter.{Letter}
+use Rattle.shard.specs.Coherence.{Caches, letter_at, some_core, some_other}
+
+any_true : (p : ℕ → Bool) (a n o : ℕ) → a ≤ o → o < a + n → p o ≡ true → list_any p (range_with_len a n) ≡ true
+any_true p a zero o low high t = absurd (omega arith)
+any_true p a (suc n) o low high t =
+    elim (cases_eq a o) as (λ _. (p a || list_any p (range_with_len (a + 1) n)) ≡ true) [
+      | inl e ↦ rw (e, t) refl
+      | inr e ↦ let rest : list_any p (range_with_len (a + 1) n) ≡ true = any_true p (a + 1) n o (omega arith) (omega arith) t in
+          elim (p a) as (λ b. (b || list_any p (range_with_len (a + 1) n)) ≡ true) [ true ↦ refl | false ↦ rest ]
+    ]
+
+any_false : (p : ℕ → Bool) (a n : ℕ) → ((o : ℕ) → p o ≡ false) → list_any p (range_with_len a n) ≡ false
+any_false p a zero f = refl
+any_false p a (suc n) f = rw (f a) (any_false p (a + 1) n f)
+
+any_same : (p q : ℕ → Bool) (a n : ℕ) → ((o : ℕ) → p o ≡ q o) → list_any p (range_with_len a n) ≡ list_any q (range_with_len a n)
+any_same p q a zero f = refl
+any_same p q a (suc n) f = rw (f a, any_same p q (a + 1) n f) refl
+
+module _ (test : Letter → Bool) (c : Caches) (line : ℕ) where
+  pub some_core_true : (o : ℕ) → o < length c.l1 → test (letter_at c o line) ≡ true → some_core test c line ≡ true
+  some_core_true o within t = any_true (λ (x : ℕ). test (letter_at c x line)) 0 (length c.l1) o (omega arith) (omega arith) t
+
+  pub some_core_false : ((o : ℕ) → test (letter_at c o line) ≡ false) → some_core test c line ≡ false
+  some_core_false f = any_false (λ (x : ℕ). test (letter_at c x line)) 0 (length c.l1) f
+
+  module _ (core : ℕ) where
+    abbrev other : ℕ → Bool
+    other o = not (nat_eq o core) && test (letter_at c o line)
+
+    pub some_other_true : (o : ℕ) → o < length c.l1 → o ≢ core → test (letter_at c o line) ≡ true → some_other test c core line ≡ true
+    some_other_true o within apart t = any_true other 0 (length c.l1) o (omega arith) (omega arith) (rw (ne_eqb o core apart) t)
+
+    pub some_other_false : ((o : ℕ) → o ≢ core → test (letter_at c o line) ≡ false) → some_other test c core line ≡ false
+    some_other_false f =
+        any_false other 0 (length c.l1) (λ o. elim (cases_eq o core) as (λ _. other o ≡ false) [
+          | inl e ↦ rw (eq-eqb o core e) refl
+          | inr e ↦ rw (ne_eqb o core e) (f o e)
+        ])
+
+-- the same letters, as far as a test tells, give the same answer
+pub some_other_same : (test other_test : Letter → Bool) (c d : Caches) (core line : ℕ) → length c.l1 ≡ length d.l1 → ((o : ℕ) → o ≢ core → test (letter_at c o line) ≡ other_test (letter_at d o line))
+    → some_other test c core line ≡ some_other other_test d core line
+some_other_same test other_test c d core line longer f =
+    rw longer (any_same (other test c line core) (other other_test d line core) 0 (length d.l1) (λ o. elim (cases_eq o core) as (λ _. other test c line core o ≡ other other_test d line core o) [
+      | inl e ↦ rw (eq-eqb o core e) refl
+      | inr e ↦ rw (ne_eqb o core e) (f o e)
+    ]))
