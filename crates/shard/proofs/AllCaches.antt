@@ -1,7 +1,7 @@
 -- All caches of a shard after a change of one core's copies or of one set of the L2.
 use Rattle.std.proofs.Common.{◌≡◌, ◌≢◌, ℕ, zero, suc, ◌+◌, ◌-◌, ◌<◌, ◌≤◌, ◌/◌, ◌%◌, Bool, true, false, cond, not, ◌&&◌, eqb, List, [], ◌∷◌, length, get_or, map, set, replicate, Option, Some, None, is_some, refl, sym, ap, ◌∙◌, subst, arith, inl, inr}
 use Rattle.std.specs.List.{All}
-use Rattle.std.specs.Prelude.{IsSome, IsTrue, nat_eq, ◌↔◌}
+use Rattle.std.specs.Prelude.{IfSome, IsSome, IsTrue, nat_eq, ◌↔◌}
 use Rattle.std.proofs.lemmas.Bool.{eqb-true, eq-eqb, ne_eqb, cases_eq, cases_lt, cases_Bool}
 use Rattle.std.proofs.lemmas.List.{get_or-map, get_or-set_same, get_or-set_other, get_or_past, get_or_default, get_or-replicate, length-map, length-replicate, length-set, map-set}
 use Rattle.std.proofs.Math.Seq.{map-set_same}
@@ -10,7 +10,7 @@ use Rattle.cache_set.specs.declared.letter.Letter.{Letter}
 use Rattle.cache_set.specs.declared.letter.Letter.TheVariants.{M, E, S, I}
 use Rattle.cache_set.specs.Ways.{kept_of, used, changed, filled, last_of_full}
 use Rattle.mesi_dir.specs.LineMap.{LineMap, Sharing, HasOther, KeepsOthers, is_among, is_sharer, nobody, owner_of, sharing_of}
-use Rattle.shard.specs.CacheLayout.{AreLists, ChangesLetter, CoreLines, HasCopies, IsCore, IsShared, SharedLines, Tells, TellsLetter, copies_of, is_owner, lists_view, no_lines, own_letter, shared_of, sharing_at, sharing_without}
+use Rattle.shard.specs.CacheLayout.{AreLists, ChangesLetter, ChangesOne, HaveCopies, CoreLines, HasCopies, IsCore, IsShared, SharedLines, Tells, TellsLetter, copies_of, is_owner, lists_view, no_lines, own_letter, shared_of, sharing_at, sharing_without}
 use Rattle.shard.specs.Coherence.{Caches, is_alone, is_held, letter_at, dirty_at, empty_caches, fetched, in_own_set_of, l2_victim, looked_up, marked_dirty, own_after, own_victim, some_other}
 use Rattle.shard.specs.Lines.{in_set_of, set_number, set_of}
 use Rattle.shard.proofs.SomeCores.{some_other_false, some_other_true}
@@ -383,6 +383,11 @@ module _ (shards l1_ways l2_ways : ℕ) (l1 : List CoreLines) (l2 : List SharedL
         let sets : new.sets ≡ in_set_of shards line change old.sets = ap (λ (c : CoreLines). c.sets) after ∙ ap (λ (n : ℕ). in_set_of n line change old.sets) core_is.same_shards in
         rw (same, map-set (λ (c : CoreLines). c.sets) l1 core new, sets, core_sets shards l1_ways l2_ways l1 l2 core old is below_cores) refl
 
+    pub letters_view : HasCopies new → (letter : Letter) → ChangesLetter old new line letter → (other_l2 : List SharedLines)
+        → ChangesOne (lists_view shards l1_ways l2_ways l1 l2) (lists_view shards l1_ways l2_ways (set l1 core new) other_l2) core line letter
+    letters_view copies letter changes other_l2 =
+        letter_set shards l1_ways l2_ways l1 l2 other_l2 core old new is below_cores core_is.same_shards (core_stays copies).same_shards line letter changes
+
     -- with a letter that tells the directory nothing new
     pub alone_are : (letter : Letter) → ChangesLetter old new line letter → HasCopies new → is_held letter ≡ is_held (own_letter old line) → is_alone letter ≡ is_alone (own_letter old line)
         → AreLists shards l1_ways l2_ways (set l1 core new) l2
@@ -418,6 +423,12 @@ told_new old new core line true true h t = told_as old new core line E M refl re
 told_new old new core line true false h t = let bad : false ≡ true = h refl in absurd cc
 told_new old new core line false true h t = t
 told_new old new core line false false h t = t
+
+pub not_held : (letter : Letter) → is_held letter ≡ false → letter ≡ I
+not_held M h = absurd cc
+not_held E h = absurd cc
+not_held S h = absurd cc
+not_held I h = refl
 
 -- ---- other cores
 both_ways : (b : Bool) → b ≡ true → b ≡ false → ⊥
@@ -466,3 +477,35 @@ module _ (shards l1_ways l2_ways : ℕ) (l1 : List CoreLines) (l2 : List SharedL
           | inl t ↦ t
           | inr f ↦ absurd (both_ways false (h.1 (λ other. both_ways (some_other is_held now core line) (other_held other) f)) refl)
         ]
+
+  -- the owner is known
+  pub owner_known : (o : Option ℕ) → o ≡ owner_of s.map line → IfSome o (λ owner. owner < length now.l1)
+  owner_known None e = tt
+  owner_known (Some owner) e =
+      let alone : is_alone (letter_at now owner line) ≡ true
+      = sym (owns_is shards l1_ways l2_ways l1 l2 are line i s number within is owner) ∙ (ap (λ (x : Option ℕ). is_owner x owner) (sym e) ∙ eq-eqb owner owner refl) in
+      held_below owner (alone_held (letter_at now owner line) alone)
+
+  -- a line that is not in the L2 no core has
+  pub none_has : (kept_of line s.list ≡ None → (core : ℕ) → is_sharer s.map line core ≡ false) → dirty_at now line ≡ None → (core : ℕ) → letter_at now core line ≡ I
+  none_has within_set none core =
+      let absent : kept_of line s.list ≡ None = sym (dirty_is shards l1_ways l2_ways l1 l2 are line i s number within is) ∙ none in
+      not_held (letter_at now core line) (sym (holds_is shards l1_ways l2_ways l1 l2 are line i s number within is core) ∙ within_set absent core)
+
+  -- a line that a core has is in the L2
+  pub in_l2 : ((c : ℕ) → is_sharer s.map line c ≡ true → IsSome (kept_of line s.list)) → (core : ℕ) → is_held (letter_at now core line) ≡ true → IsSome (dirty_at now line)
+  in_l2 within_set core held =
+      subst (λ (o : Option Bool). IsSome o) (sym (dirty_is shards l1_ways l2_ways l1 l2 are line i s number within is)) (within_set core (holds_is shards l1_ways l2_ways l1 l2 are line i s number within is core ∙ held))
+
+-- a line with the letter I has no copy
+pub have_copies : (shards l1_ways l2_ways : ℕ) (l1 : List CoreLines) (l2 : List SharedLines) → AreLists shards l1_ways l2_ways l1 l2 → HaveCopies (lists_view shards l1_ways l2_ways l1 l2)
+have_copies shards l1_ways l2_ways l1 l2 are core line e =
+    elim (cases_lt core (length l1)) as (λ _. kept_of line (set_of shards line (get_or (map (λ (c : CoreLines). c.sets) l1) core [])) ≡ None) [
+      | inl l ↦
+          let c : CoreLines = get_or l1 core (no_copies 0 0 0) in
+          let is : c ≡ get_or l1 core c = get_or_default l1 core (no_copies 0 0 0) c l in
+          let core_is : IsCore shards l1_ways c = is_core shards l1_ways l2_ways l1 l2 are core c is l in
+          let none : kept_of line (copies_of c line) ≡ None = core_is.copies line (sym (letter_at_core shards l1_ways l2_ways l1 l2 core line c is l core_is.same_shards) ∙ e) in
+          rw (core_sets shards l1_ways l2_ways l1 l2 core c is l, ← core_is.same_shards) none
+      | inr l ↦ rw (get_or_past (map (λ (c : CoreLines). c.sets) l1) core [] (omega (arith, length-map l1 (λ (c : CoreLines). c.sets)))) refl
+    ]

@@ -9,12 +9,13 @@ use Rattle.std.proofs.lemmas.List.Elements.{All-set, All-replicate}
 use Rattle.cache_set.specs.declared.letter.Letter.{Letter}
 use Rattle.cache_set.specs.declared.letter.Letter.TheVariants.{M, E, S, I}
 use Rattle.cache_set.specs.Letters.{mark_of, letter_of}
-use Rattle.cache_set.specs.Ways.{WaySet, IsWaySet, kept_of, without, used, filled, changed, last_of_full}
+use Rattle.cache_set.specs.Ways.{WaySet, IsWaySet, kept_of, without, used, filled, changed, last_of_full, way_of}
+use Rattle.cache_set.specs.declared.set.Way.{Way}
 use Rattle.cache_set.proofs.Sets.{set-without, set-used, set-changed, set-filled}
 use Rattle.shard.specs.CacheLayout.{AreCoreSets, CoreLines, HasCopies, IsCoreSet, copies_in, copies_of, core_view, letter_without, own_letter}
 use Rattle.shard.specs.Coherence.{is_held, letter_in}
 use Rattle.shard.specs.Lines.{in_set_of, set_number, set_of}
-use Rattle.shard.proofs.Entries.{kept_without, kept-without, kept-changed, kept-first, kept-filled, last_kept, kept-as, without-as, changed-as, filled-as, last-as, first_changed}
+use Rattle.shard.proofs.Entries.{kept_without, kept-without, kept-changed, kept-first, kept-filled, last_kept, kept-as, without-as, changed-as, filled-as, last-as, first_changed, each_as, take-as, without_last}
 
 -- ---- letters of marks
 abbrev pub mark_letter : Option ℕ → Letter
@@ -268,6 +269,22 @@ module _ (shards ways : ℕ) (sets : List WaySet) (are : AreCoreSets shards ways
       (subst (λ (x : Letter). IsStep shards ways sets i line (record { ways = old.ways; list = filled old.ways line (mark_of letter) old.list }) (filled ways line x) (λ q l. cond (nat_eq line q) x (letter_without (as_letters (last_of_full old.ways old.list)) q l))) (letter_back letter)
       (step (record { ways = old.ways; list = filled old.ways line (mark_of letter) old.list }) (filled_edit line letter old old_core.is_set (not_there absent) k) (filled ways line (letter_of (mark_of letter)))
       (filled-as letter_of old.ways line (mark_of letter) old.list ∙ ap (λ (n : ℕ). filled n line (letter_of (mark_of letter)) (copies_in old)) old_core.same_ways)))
+
+  -- the line that makes room, of this set
+  pub last_placed : (v : ℕ × ℕ) → last_of_full old.ways old.list ≡ Some v → set_number shards v.0 (map copies_in sets) ≡ set_number shards line (map copies_in sets)
+  last_placed v at =
+      rw (length-map sets copies_in) (are.placed i v.0 old inside (subst (λ (s : WaySet). IsSome (kept_of v.0 s.list)) is (last_kept (old.ways - 1) old.list v at)) ∙ place)
+
+  pub last_without : (v : ℕ × ℕ) → last_of_full old.ways old.list ≡ Some v → without v.0 (copies_of (core_view shards ways sets) line) ≡ take (ways - 1) (copies_of (core_view shards ways sets) line)
+  last_without v at =
+      let set_is : IsWaySet old = old_core.is_set in
+      let few : length old.list ≤ suc (old.ways - 1) = let h = set_is.within in let k = set_is.ways.0 in omega arith in
+      rw (old_copies, ← old_core.same_ways)
+      (sym (without-as letter_of v.0 old.list) ∙ (ap (each_as letter_of) (without_last (old.ways - 1) old.list v set_is.distinct few at) ∙ take-as letter_of (old.ways - 1) old.list))
+
+pub from_way : (o : Option (ℕ × ℕ)) (way : Way) → option_map way_of o ≡ Some way → (v : ℕ × ℕ) × (o ≡ Some v) × (v.0 ≡ way.line)
+from_way None way e = absurd cc
+from_way (Some v) way e = let same : way_of v ≡ way = cc in (v, refl, ap (λ (w : Way). w.line) same)
 
 -- no set has a line
 pub empty_core : (shards ways count : ℕ) → 0 < shards → 0 < count → (1 ≤ ways) × (ways ≤ 32) → AreCoreSets shards ways (replicate count (record { ways = ways; list = [] }))

@@ -63,6 +63,15 @@ module _ {X : Type 0} where
         front true is None at rest lacks = refl
         front true is (Some v) at rest lacks = rw (absent_key e.0 q v w es lacks at is) refl
 
+  pub without_last : (w : ℕ) (es : List (ℕ × X)) (v : ℕ × X) → IsDistinct nat_eq (keys_of es) → length es ≤ suc w → slice_get es w ≡ Some v → without v.0 es ≡ take w es
+  without_last w [] v d l at = absurd cc
+  without_last zero (e ∷ es) v d l at =
+      let same : e ≡ v = cc in
+      rw (← same, eq-eqb e.0 e.0 refl) (empty_from_length es (omega arith))
+  without_last (suc w) (e ∷ es) v d l at =
+      let apart : nat_eq e.0 v.0 ≡ false = absent_key e.0 e.0 v w es (IsDistinct-head nat_eq e.0 (keys_of es) d) at (eq-eqb e.0 e.0 refl) in
+      rw (flipped v.0 e.0, apart) (ap (λ (xs : List (ℕ × X)). e ∷ xs) (without_last w es v (IsDistinct-tail nat_eq e.0 (keys_of es) d) (omega arith) at))
+
   -- a line that comes to the front of a set where it was not
   pub kept-filled : (ways line q : ℕ) (v : X) (es : List (ℕ × X)) → 1 ≤ ways → IsDistinct nat_eq (keys_of es) → length es ≤ ways
       → kept_of q (filled ways line v es) ≡ cond (nat_eq line q) (Some v) (kept_without (last_of_full ways es) q (kept_of q es))
@@ -118,7 +127,7 @@ module _ {X Y : Type 0} (g : X → Y) where
       elim (nat_eq line e.0) as (λ b. each_as (cond b ((e.0, v) ∷ es) (e ∷ changed line v es)) ≡ cond b ((e.0, g v) ∷ each_as es) ((e.0, g e.1) ∷ changed line (g v) (each_as es)))
       [ true ↦ refl | false ↦ ap (λ (xs : List (ℕ × Y)). (e.0, g e.1) ∷ xs) (changed-as line v es) ]
 
-  take-as : (n : ℕ) (es : List (ℕ × X)) → each_as (take n es) ≡ take n (each_as es)
+  pub take-as : (n : ℕ) (es : List (ℕ × X)) → each_as (take n es) ≡ take n (each_as es)
   take-as zero es = refl
   take-as (suc n) [] = refl
   take-as (suc n) (e ∷ es) = ap (λ (xs : List (ℕ × Y)). (e.0, g e.1) ∷ xs) (take-as n es)

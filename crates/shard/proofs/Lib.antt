@@ -11,7 +11,7 @@ pub mod CoherentSettled
 pub mod CoherentStand
 pub mod Fits
 pub mod Kept
-pub mod LaidOut
+pub mod Others
 pub mod Reservations
 pub mod SharedSets
 pub mod SomeCores

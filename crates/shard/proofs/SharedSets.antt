@@ -32,6 +32,12 @@ none_as g (Some x) h = absurd cc
 pub raw_there : (q : ℕ) (s : WaySet) → IsSome (kept_of q (shared_list s)) → IsSome (kept_of q s.list)
 raw_there q s h = some_as is_dirty_mark (kept_of q s.list) (subst (λ (o : Option Bool). IsSome o) (kept-as is_dirty_mark q s.list) h)
 
+pub there_as : (q : ℕ) (s : WaySet) → IsSome (kept_of q s.list) → IsSome (kept_of q (shared_list s))
+there_as q s h = subst (λ (o : Option Bool). IsSome o) (sym (kept-as is_dirty_mark q s.list)) (some_mapped (kept_of q s.list) h) where
+  some_mapped : (o : Option ℕ) → IsSome o → IsSome (option_map is_dirty_mark o)
+  some_mapped None k = absurd cc
+  some_mapped (Some x) k = refl
+
 pub raw_absent : (q : ℕ) (s : WaySet) → kept_of q (shared_list s) ≡ None → kept_of q s.list ≡ None
 raw_absent q s h = none_as is_dirty_mark (kept_of q s.list) (sym (kept-as is_dirty_mark q s.list) ∙ h)
 

@@ -142,3 +142,22 @@ pub record AreLists (shards l1_ways l2_ways : ℕ) (l1 : List CoreLines) (l2 : L
   pub each_set : All (IsShared l2_ways (length l1)) l2
   -- the directories say of each line which cores have it, and which core has it in M or E
   pub tells : Tells (letter_at (lists_view shards l1_ways l2_ways l1 l2)) (sharing_at shards l2)
+
+-- a line with the letter I has no copy in its set
+abbrev pub HaveCopies : Caches → Type 0
+HaveCopies c = (core line : ℕ) → letter_at c core line ≡ I → kept_of line (set_of c.shards line (slice_index_or c.l1 core [])) ≡ None
+
+-- one core has another letter for one line, and else all have the old ones
+abbrev pub ChangesOne : (old new : Caches) (core line : ℕ) → Letter → Type 0
+ChangesOne old new core line letter = (c q : ℕ) → letter_at new c q ≡ (if nat_eq core c then (if nat_eq line q then letter else letter_at old c q) else letter_at old c q)
+
+-- all cores but this one have the letter I for one line, and else all have the old ones
+pub record DropsOthers (old new : Caches) (core line : ℕ) : Type 0 where
+  pub gone : (c : ℕ) → c ≢ core → letter_at new c line ≡ I
+  pub own : (q : ℕ) → letter_at new core q ≡ letter_at old core q
+  pub others : (c q : ℕ) → q ≢ line → letter_at new c q ≡ letter_at old c q
+  pub l2 : new.l2 ≡ old.l2
+
+-- what a core's L1 has of a line's set
+abbrev pub copies_at : Caches → (core line : ℕ) → List (ℕ × Letter)
+copies_at c core line = set_of c.shards line (slice_index_or c.l1 core [])

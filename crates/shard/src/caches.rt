@@ -1,11 +1,12 @@
 // The caches of a shard's lines: a cache for each core (L1), and one that all share (L2).
-ghost use Rattle.std.specs.Prelude.{◌≡◌, ℕ, ◌<◌, ◌≤◌, [], IfOk, length, replicate};
+ghost use Rattle.std.specs.Prelude.{◌≡◌, ℕ, ◌<◌, ◌≤◌, [], IfOk, length, replicate, None};
 ghost use Rattle.shard.specs.Coherence.{Caches, dirty_at, empty_caches, letter_at};
 ghost use Rattle.shard.specs.Lines.{set_number};
 
 mod copies;
 mod core_cache;
 mod l2;
+mod others;
 mod shared_set;
 
 use cache_set::Letter;
@@ -77,9 +78,18 @@ impl CacheLists {
 
     /// Whether a line is dirty in the L2. It is None exactly where the L2 doesn't hold the line.
     pub(crate) fn l2_dirty(&self, line: u64) -> Option<bool>
-        ensures { result ≡ dirty_at self.now line }
+        ensures dirty { result ≡ dirty_at self.now line }
+        ensures inclusive { dirty_at self.now line ≡ None
+            → (core : ℕ) → letter_at self.now core line ≡ Letter.I }
     {
         self.l2[self.place(line)].dirty(line)
+    }
+
+    // For how many cores there are caches.
+    fn cores(&self) -> u16
+        ensures { result ≡ length self.now.l1 }
+    {
+        self.l1.len() as u16
     }
 
     // The number of a line's set in the L2.

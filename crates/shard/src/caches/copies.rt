@@ -1,6 +1,7 @@
 // What an access does to one core's copy of a line, and to the directory with it.
 ghost use Rattle.std.specs.Prelude.{◌≡◌, ◌≢◌, ℕ, ◌<◌, IsSome, IsTrue, false, true, not, length};
 ghost use Rattle.cache_set.specs.Ways.{without, filled, changed};
+ghost use Rattle.shard.specs.CacheLayout.{ChangesOne};
 ghost use Rattle.shard.specs.Coherence.{dirty_at, in_own_set_of, is_alone, is_held, is_modified, kept_first, letter_at, own_after, own_victim, some_other, written_back};
 
 use super::CacheLists;
@@ -10,7 +11,8 @@ impl CacheLists {
     /// A core has a line no more.
     pub(super) fn drop_copy(&mut self, core: u16, line: u64)
         requires { core < length self.old.l1 }
-        ensures { self.new ≡ in_own_set_of core line (without line) self.old }
+        ensures after { self.new ≡ in_own_set_of core line (without line) self.old }
+        ensures letters { ChangesOne self.old self.new core line Letter.I }
     {
         let place = self.place(line);
         let cache = &mut self.l1[usize::from(core)];
@@ -23,7 +25,8 @@ impl CacheLists {
     pub(super) fn share_copy(&mut self, core: u16, line: u64)
         requires core { core < length self.old.l1 }
         requires alone { IsTrue (is_alone (letter_at self.old core line)) }
-        ensures { self.new ≡ in_own_set_of core line (changed line Letter.S) self.old }
+        ensures after { self.new ≡ in_own_set_of core line (changed line Letter.S) self.old }
+        ensures letters { ChangesOne self.old self.new core line Letter.S }
     {
         let place = self.place(line);
         let cache = &mut self.l1[usize::from(core)];

@@ -1,5 +1,5 @@
 // The cache of one core (L1): its sets, whose marks stand for letters.
-ghost use Rattle.std.specs.Prelude.{◌≡◌, ℕ, ◌<◌, ◌≤◌, ◌∷◌, [], IfOk, IsSome, IsTrue, None, length, if◌then◌else◌, nat_eq, replicate};
+ghost use Rattle.std.specs.Prelude.{◌≡◌, ℕ, ◌<◌, ◌≤◌, ◌∷◌, [], IfOk, IfSome, IsSome, IsTrue, take, ◌-◌, None, length, if◌then◌else◌, nat_eq, replicate};
 ghost use Rattle.cache_set.specs.Ways.{kept_of, without, filled, changed, last_of_full};
 ghost use Rattle.shard.specs.Coherence.{is_held, letter_in};
 ghost use Rattle.shard.specs.Lines.{in_set_of, set_number};
@@ -56,7 +56,9 @@ impl CoreCache {
 
     /// The line that has to leave for this one, which is not there.
     pub(crate) fn victim(&self, line: u64) -> Option<(u64, Letter)>
-        ensures { result ≡ last_of_full self.now.ways (copies_of self.now line) }
+        ensures victim { result ≡ last_of_full self.now.ways (copies_of self.now line) }
+        ensures placed { IfSome result (λ v. set_number self.now.shards v.0 self.now.sets ≡ set_number self.now.shards line self.now.sets) }
+        ensures last { IfSome result (λ v. without v.0 (copies_of self.now line) ≡ take (self.now.ways - 1) (copies_of self.now line)) }
     {
         let way = self.sets[self.place(line)].last_if_full()?;
         Some((way.line, Letter::of_mark(way.mark)))

@@ -109,7 +109,8 @@ impl SharedSet {
     /// Whether another core than this one has a line.
     pub(crate) fn any_other(&self, line: u64, core: u16) -> bool
         requires { core < self.now.map.cores }
-        ensures { IsTrue result ↔ HasOther self.now.map line core }
+        ensures other { IsTrue result ↔ HasOther self.now.map line core }
+        ensures within { (c : ℕ) → IsTrue (is_sharer self.now.map line c) → IsSome (kept_of line self.now.list) }
     {
         self.directory.any_other(line, core)
     }
