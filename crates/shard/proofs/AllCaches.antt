@@ -297,6 +297,11 @@ module _ (shards l1_ways l2_ways : ℕ) (l1 : List CoreLines) (l2 : List SharedL
       map-set (λ (s : SharedLines). s.list) l2 i t ∙ (ap (set (map (λ (s : SharedLines). s.list) l2) i) (e ∙ ap change (sym list_is))
       ∙ subst (λ (j : ℕ). set (map (λ (s : SharedLines). s.list) l2) i (change (set_of shards line (map (λ (s : SharedLines). s.list) l2))) ≡ set (map (λ (s : SharedLines). s.list) l2) j (change (set_of shards line (map (λ (s : SharedLines). s.list) l2)))) number refl)
 
+  pub there_after : (t : SharedLines) → IsSome (kept_of line t.list) → IsSome (dirty_at (lists_view shards l1_ways l2_ways l1 (set l2 i t)) line)
+  unfolding dirty_at
+  there_after t there =
+      rw (map-set (λ (s : SharedLines). s.list) l2 i t, length-set (map (λ (s : SharedLines). s.list) l2) i t.list, ← number, get_or-set_same (map (λ (s : SharedLines). s.list) l2) i t.list [] within) there
+
   abbrev with_lists : List (List (ℕ × Bool)) → Caches
   with_lists lists = record before { l2 = lists }
 

@@ -170,3 +170,12 @@ used-as {X} g line es = by_kept (kept_of line es) refl where
   by_kept : (o : Option X) → kept_of line es ≡ o → each_as g (used line es) ≡ used line (each_as g es)
   by_kept None at = rw (at, kept-as g line es, at) refl
   by_kept (Some kept) at = rw (at, kept-as g line es, at, ← without-as g line es) refl
+
+-- a change of what is kept leaves each line where it is
+pub still_there : {X : Type 0} → (line q : ℕ) (v : X) (es : List (ℕ × X)) → IsSome (kept_of q es) → IsSome (kept_of q (changed line v es))
+still_there line q v [] h = h
+still_there {X} line q v (e ∷ es) h =
+    elim (nat_eq line e.0) as (λ b. IsSome (kept_of q (cond b ((e.0, v) ∷ es) (e ∷ changed line v es)))) [
+      | true ↦ elim (nat_eq q e.0) as (λ b. IsSome (cond b (Some e.1) (kept_of q es)) → IsSome (cond b (Some v) (kept_of q es))) [ true ↦ λ _. refl | false ↦ λ k. k ] h
+      | false ↦ elim (nat_eq q e.0) as (λ b. IsSome (cond b (Some e.1) (kept_of q es)) → IsSome (cond b (Some e.1) (kept_of q (changed line v es)))) [ true ↦ λ _. refl | false ↦ λ k. still_there line q v es k ] h
+    ]

@@ -146,3 +146,10 @@ cleared m new (Some v) victim e none others q =
 pub none_left : (m : LineMap) (last : Option (ℕ × ℕ)) → ((victim : Way) → option_map way_of last ≡ Some victim → ⊥) → (q : ℕ) → sharing_of m q ≡ sharing_without (as_dirt last) q (sharing_of m q)
 none_left m None h q = refl
 none_left m (Some v) h q = absurd (h (way_of v) refl)
+
+-- a line that comes is there
+pub come_there : (s : WaySet) {m : LineMap} → AreShared s m → (line mark : ℕ) → IsSome (kept_of line (shared_list (record { ways = s.ways; list = filled s.ways line mark s.list })))
+come_there s are line mark =
+    let is_set : IsWaySet s = are.is_set in
+    there_as line (record { ways = s.ways; list = filled s.ways line mark s.list })
+    (rw (kept-filled s.ways line line mark s.list is_set.ways.0 is_set.distinct is_set.within, eq-eqb line line refl) refl)

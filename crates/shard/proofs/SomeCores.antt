@@ -52,3 +52,11 @@ some_other_same test other_test c d core line longer f =
       | inl e ↦ rw (eq-eqb o core e) refl
       | inr e ↦ rw (ne_eqb o core e) (f o e)
     ]))
+
+-- where a core's own letter fails the test, the others are all cores
+pub some_other_all : (test : Letter → Bool) (c : Caches) (core line : ℕ) → test (letter_at c core line) ≡ false → some_other test c core line ≡ some_core test c line
+some_other_all test c core line own =
+    any_same (other test c line core) (λ (o : ℕ). test (letter_at c o line)) 0 (length c.l1) (λ o. elim (cases_eq o core) as (λ _. other test c line core o ≡ test (letter_at c o line)) [
+      | inl e ↦ rw (eq-eqb o core e) (sym (ap (λ (x : ℕ). test (letter_at c x line)) e ∙ own))
+      | inr e ↦ rw (ne_eqb o core e) refl
+    ])

@@ -37,7 +37,8 @@ impl CacheLists {
         requires absent { dirty_at self.old line ≡ None }
         requires gone { (victim : ℕ × Bool) → l2_victim self.old line ≡ Some victim
             → (core : ℕ) → letter_at self.old core victim.0 ≡ Letter.I }
-        ensures { self.new ≡ fetched line self.old }
+        ensures after { self.new ≡ fetched line self.old }
+        ensures there { IsSome (dirty_at self.new line) }
     {
         let place = self.place(line);
         let set = &mut self.l2[place];

@@ -85,6 +85,7 @@ impl SharedSet {
         ensures cores { self.new.map.cores ≡ self.old.map.cores }
         ensures sharing { (other : ℕ) → sharing_of self.new.map other
             ≡ sharing_without (last_of_full self.old.ways self.old.list) other (sharing_of self.old.map other) }
+        ensures there { IsSome (kept_of line self.new.list) }
     {
         if let Some(victim) = self.set.put(line, CLEAN) {
             self.directory.clear(victim.line);

@@ -7,7 +7,7 @@ use Rattle.cache_set.specs.Ways.{kept_of, last_of_full, way_of}
 use Rattle.mesi_dir.specs.LineMap.{sharing_of}
 use Rattle.shard.specs.CacheLayout.{is_dirty_mark, shared_list, sharing_without}
 use Rattle.shard.proofs.Entries.{filled-as}
-use Rattle.shard.proofs.SharedSets.{as_dirt, raw_absent, come, cleared, none_left, last_dirt}
+use Rattle.shard.proofs.SharedSets.{as_dirt, raw_absent, come, come_there, cleared, none_left, last_dirt}
 use Rattle.shard.proofs.caches.shared_set.SharedSet.put.Goals as goal
 
 pub put-requires : goal.put-requires
@@ -48,3 +48,13 @@ pub returns-in_default-clause-sharing : goal.returns-in_default-clause-sharing
 returns-in_default-clause-sharing c =
     let s = c.self.inside in
     rw (← c.self.view_is, last_dirt s.set) (none_left s.directory (last_of_full s.set.ways s.set.list) (λ v e. c.in_default.not-Some v (c.put.ensures.victim ∙ e)))
+
+pub returns-in-Some-clause-there : goal.returns-in-Some-clause-there
+returns-in-Some-clause-there c =
+    let s = c.self.inside in
+    rw c.put.ensures.after (come_there s.set c.self.invariant c.args.line 0)
+
+pub returns-in_default-clause-there : goal.returns-in_default-clause-there
+returns-in_default-clause-there c =
+    let s = c.self.inside in
+    rw c.put.ensures.after (come_there s.set c.self.invariant c.args.line 0)
