@@ -2,6 +2,7 @@
 #![tactic(auto)]
 
 mod caches;
+mod filling;
 pub mod laws;
 mod marked_bytes;
 mod marks;
