@@ -1,10 +1,12 @@
 // Cases from a file. Each line is one, and its first word says what the others are: the words of the
-// command line; the name of an example; the instructions of an executable, or all its bytes, in
+// command line; the name of an example; words over the files beside this one; the name of a machine
+// description to be read; the instructions of an executable, or all its bytes, in
 // hexadecimal digits; bytes of the executable that exits with seven that become others; changes to the
 // built-in machine, and after ` : ` the instructions that run on it, if others than those that exit with
 // seven; or the text of a machine description, or its bytes. A line with `#` is for the reader.
 use crate::executables::{SEVEN, executable};
 use crate::machines::changed;
+use machine_desc::read;
 use std::alloc::Global;
 use zs_host::{Files, MemFiles, MemSink, OpenGate, Sink};
 use zsim::zsim;
@@ -30,6 +32,8 @@ fn write_case<F: Files>(alloc: Global, line: &str, files: &mut F, out: &mut MemS
     match kind {
         "#" => write_line(alloc, line, out),
         "example" => write_example(alloc, rest, files, out),
+        "files" => write_answer(alloc, &words_of(alloc, rest)?, files, out),
+        "describe" => write_machine(alloc, rest, files, out),
         "words" => write_call(alloc, rest, &executable(alloc, &SEVEN).ok()?, out),
         "code" => write_run(
             alloc,
@@ -65,6 +69,21 @@ fn write_example<F: Files>(
     let mut words = words_of(alloc, "run plain")?;
     words.push(String::from_str(alloc, name).ok()?).ok()?;
     write_answer(alloc, &words, files, out)
+}
+
+// Writes the numbers of cores, banks, controllers and domains of the machine that a file describes.
+fn write_machine<F: Files>(
+    alloc: Global,
+    name: &str,
+    files: &mut F,
+    out: &mut MemSink,
+) -> Option<()> {
+    let text = files.read(alloc, name, MOST).ok()?;
+    let machine = read(alloc, text.as_slice()).ok()?;
+    let (cores, banks) = (machine.cores, machine.l2.banks);
+    let (controllers, domains) = (machine.controllers.count, machine.domains.count);
+    let line = format!(in alloc; "{name}: {cores} {banks} {controllers} {domains}").ok()?;
+    write_line(alloc, &line, out)
 }
 
 // Writes what `run plain A` answers, where A holds this executable.
