@@ -6,3 +6,8 @@ mod filling;
 pub mod laws;
 mod marked_bytes;
 mod marks;
+mod shard;
+#[cfg(test)]
+mod tests;
+
+pub use shard::Shard;
