@@ -31,7 +31,7 @@ last_at (x ∷ shards) (suc i) shard here = last_at shards i shard here
 abbrev made : Entry → (stamp reply : ℕ) → Outcome → Entry
 made e stamp reply outcome = record { core = e.core; stamp = stamp; start = e.start; request = e.request; reply = reply; outcome = outcome }
 
-recorded_is : (shard : ShardState) (latest : ℕ) (e : Entry) → e.stamp ≡ max shard.last latest + 1 → e.reply ≡ reply_of shard e → e.outcome ≡ met_by shard e
+pub recorded_is : (shard : ShardState) (latest : ℕ) (e : Entry) → e.stamp ≡ max shard.last latest + 1 → e.reply ≡ reply_of shard e → e.outcome ≡ met_by shard e
     → recorded shard latest e.core e.start e.request ≡ e
 unfolding reply_of met_by
 recorded_is shard latest e stamp reply outcome =

@@ -7,6 +7,7 @@ pub mod MachineWorld
 pub mod Port
 pub mod Reaching
 pub mod ReferenceMachine
+pub mod ShardPort
 pub mod ShardWorld
 pub mod Simulation
 pub mod Timed

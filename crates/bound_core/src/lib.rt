@@ -4,10 +4,12 @@
 mod bounded;
 pub mod laws;
 mod port;
+mod shard_port;
 #[cfg(test)]
 mod tests;
 mod turned;
 
 pub use bounded::BoundCore;
 pub use port::Port;
+pub use shard_port::ShardPort;
 pub use turned::Turned;
