@@ -10,6 +10,8 @@ mod meet;
 mod others;
 mod room;
 mod shared_set;
+#[cfg(test)]
+mod tests;
 
 use cache_set::Letter;
 use core_cache::CoreCache;

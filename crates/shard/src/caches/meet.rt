@@ -13,6 +13,7 @@ impl CacheLists {
         requires { core < length self.old.l1 }
         ensures outcome { result ≡ outcome_of self.old core request }
         ensures after { self.new ≡ after_access self.old core request }
+        ensures cores { length self.new.l1 ≡ length self.old.l1 }
     {
         self.meet_line(core, request.line(), is_write(&request))
     }
