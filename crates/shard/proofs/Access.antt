@@ -1,20 +1,19 @@
 -- The steps of an access, put together.
-use Rattle.std.proofs.Common.{◌≡◌, ◌≢◌, ℕ, zero, suc, ◌+◌, ◌-◌, ◌<◌, ◌≤◌, ◌/◌, ◌%◌, Bool, true, false, cond, not, ◌||◌, eqb, List, [], ◌∷◌, length, get_or, map, set, take, Option, Some, None, is_some, refl, sym, ap, ◌∙◌, subst, arith, inl, inr}
-use Rattle.std.specs.Prelude.{IfSome, IsSome, IsTrue, nat_eq, slice_get}
-use Rattle.std.proofs.lemmas.Bool.{eqb-true, eq-eqb, ne_eqb, cases_eq, cases_lt, cases_Bool}
+use Rattle.std.proofs.Common.{◌≡◌, ◌≢◌, ℕ, ◌-◌, ◌<◌, Bool, true, false, cond, List, [], length, get_or, set, take, Option, Some, None, refl, sym, ap, ◌∙◌, subst, arith, inl, inr}
+use Rattle.std.specs.Prelude.{IsSome, nat_eq}
+use Rattle.std.proofs.lemmas.Bool.{eq-eqb, ne_eqb, cases_eq, cases_lt, cases_Bool}
 use Rattle.std.proofs.lemmas.List.{get_or-set_same, get_or-set_other, get_or_past, length-map, length-set}
 use Rattle.std.proofs.lemmas.List.FromFn.{length-enumerate_from}
-use Rattle.zs_num.specs.declared.entry.Outcome.{Outcome}
-use Rattle.zs_num.specs.declared.entry.Outcome.TheVariants.{Hit, Upgrade, L2, Miss}
+use Rattle.zs_num.specs.declared.entry.Outcome.TheVariants.{L2}
 use Rattle.cache_set.specs.declared.letter.Letter.{Letter}
 use Rattle.cache_set.specs.declared.letter.Letter.TheVariants.{M, E, S, I}
-use Rattle.cache_set.specs.Ways.{kept_of, without, used, changed, filled, last_of_full}
-use Rattle.shard.specs.CacheLayout.{ChangesOne, DropsOthers, LeavesFree, MakesL2Room, MakesRoom, after_at, copies_at, met_at}
-use Rattle.shard.specs.Coherence.{Caches, allows, dirty_at, fetched, in_own_set_of, is_alone, is_dirty_victim, is_held, is_modified, kept_first, l2_victim, letter_at, letter_in, looked_up, marked_dirty, on_l2, on_others, on_own, other_after, others_changed, own_after, own_victim, recalled, room_made, some_core, some_other, taken_in, written_back}
+use Rattle.cache_set.specs.Ways.{kept_of, without, used, changed}
+use Rattle.shard.specs.CacheSteps.{ChangesOne, DropsOthers, LeavesFree, MakesL2Room, MakesRoom, after_at, copies_at}
+use Rattle.shard.specs.Coherence.{Caches, dirty_at, fetched, in_own_set_of, is_alone, is_held, is_modified, l2_victim, letter_at, looked_up, marked_dirty, on_others, other_after, others_changed, own_after, own_victim, recalled, room_made, some_other, taken_in, written_back}
 use Rattle.shard.specs.Lines.{in_set_of, set_number, set_of}
 use Rattle.shard.proofs.Entries.{still_there, used_kept}
 use Rattle.shard.proofs.Others.{fills, has_left, letter_unknown}
-use Rattle.shard.proofs.SomeCores.{some_other_false, some_other_same}
+use Rattle.shard.proofs.SomeCores.{some_other_same}
 
 -- ---- what the L2 has no part in, and what the L1s have none in
 pub letters_marked : (v : ℕ) (c : Caches) (core line : ℕ) → letter_at (marked_dirty v c) core line ≡ letter_at c core line
@@ -28,10 +27,6 @@ letters_looked v c core line = refl
 pub letters_fetched : (v : ℕ) (c : Caches) (core line : ℕ) → letter_at (fetched v c) core line ≡ letter_at c core line
 unfolding letter_at fetched
 letters_fetched v c core line = refl
-
-pub dirty_of_l2 : (c d : Caches) (line : ℕ) → c.shards ≡ d.shards → c.l2 ≡ d.l2 → dirty_at c line ≡ dirty_at d line
-unfolding dirty_at
-dirty_of_l2 c d line shards l2 = rw (shards, l2) refl
 
 pub cores_marked : (v : ℕ) (c : Caches) → length (marked_dirty v c).l1 ≡ length c.l1
 unfolding marked_dirty
@@ -250,45 +245,11 @@ l2_room c new line victim is after drops = record {
         | inr e ↦ drops.gone core e
       ]
 
--- ---- the cases of the table
-pub met_hit : (c : Caches) (core line : ℕ) (write : Bool) (own : Letter) → letter_at c core line ≡ own → allows write own ≡ true → Hit ≡ met_at c core line write
-met_hit c core line true M is h = rw is refl
-met_hit c core line true E is h = rw is refl
-met_hit c core line true S is h = absurd cc
-met_hit c core line true I is h = absurd cc
-met_hit c core line false M is h = rw is refl
-met_hit c core line false E is h = rw is refl
-met_hit c core line false S is h = rw is refl
-met_hit c core line false I is h = absurd cc
-
-pub after_hit : (c : Caches) (core line : ℕ) (write : Bool) (own : Letter) → letter_at c core line ≡ own → allows write own ≡ true → kept_first core line (cond write M own) c ≡ after_at c core line write
-after_hit c core line true M is h = rw is refl
-after_hit c core line true E is h = rw is refl
-after_hit c core line true S is h = absurd cc
-after_hit c core line true I is h = absurd cc
-after_hit c core line false M is h = rw is refl
-after_hit c core line false E is h = rw is refl
-after_hit c core line false S is h = rw is refl
-after_hit c core line false I is h = absurd cc
-
-pub met_upgrade : (c : Caches) (core line : ℕ) → letter_at c core line ≡ S → Upgrade (some_other is_held c core line) ≡ met_at c core line true
-met_upgrade c core line is = rw is refl
-
-pub after_upgrade : (c : Caches) (core line : ℕ) → letter_at c core line ≡ S → kept_first core line M (others_changed (other_after true) core line (looked_up line c)) ≡ after_at c core line true
-after_upgrade c core line is = rw is refl
-
-pub met_l2 : (c : Caches) (core line : ℕ) (write : Bool) → letter_at c core line ≡ I → IsSome (dirty_at c line) → L2 (cond write (some_other is_held c core line) (some_other is_alone c core line)) ≡ met_at c core line write
-met_l2 c core line true is there = rw (is, there) refl
-met_l2 c core line false is there = rw (is, there) refl
-
+-- ---- the cases of the table in which the core has no copy
 pub after_l2 : (c : Caches) (core line : ℕ) (write : Bool) → letter_at c core line ≡ I → IsSome (dirty_at c line)
     → taken_in core line (own_after write I (some_other is_held c core line)) (on_others (L2 false) write core line (looked_up line c)) ≡ after_at c core line write
 after_l2 c core line true is there = rw (is, there) refl
 after_l2 c core line false is there = rw (is, there) refl
-
-pub met_miss : (c : Caches) (core line : ℕ) (write : Bool) → letter_at c core line ≡ I → dirty_at c line ≡ None → Miss (is_dirty_victim c (l2_victim c line)) ≡ met_at c core line write
-met_miss c core line true is none = rw (is, none) refl
-met_miss c core line false is none = rw (is, none) refl
 
 pub after_miss : (c : Caches) (core line : ℕ) (write : Bool) → letter_at c core line ≡ I → dirty_at c line ≡ None
     → taken_in core line (own_after write I (some_other is_held c core line)) (fetched line (room_made (l2_victim c line) c)) ≡ after_at c core line write

@@ -1,8 +1,7 @@
 -- All caches of a shard after a change of one core's copies or of one set of the L2.
-use Rattle.std.proofs.Common.{◌≡◌, ◌≢◌, ℕ, zero, suc, ◌+◌, ◌-◌, ◌<◌, ◌≤◌, ◌/◌, ◌%◌, Bool, true, false, cond, not, ◌&&◌, eqb, List, [], ◌∷◌, length, get_or, map, set, replicate, Option, Some, None, is_some, refl, sym, ap, ◌∙◌, subst, arith, inl, inr}
-use Rattle.std.specs.List.{All}
+use Rattle.std.proofs.Common.{◌≡◌, ◌≢◌, ℕ, zero, suc, ◌<◌, ◌≤◌, ◌/◌, ◌%◌, Bool, true, false, cond, not, List, [], ◌∷◌, length, get_or, map, set, replicate, Option, Some, None, refl, sym, ap, ◌∙◌, subst, arith, inl, inr}
 use Rattle.std.specs.Prelude.{IfSome, IsSome, IsTrue, nat_eq, ◌↔◌}
-use Rattle.std.proofs.lemmas.Bool.{eqb-true, eq-eqb, ne_eqb, cases_eq, cases_lt, cases_Bool}
+use Rattle.std.proofs.lemmas.Bool.{eq-eqb, ne_eqb, cases_eq, cases_lt, cases_Bool}
 use Rattle.std.proofs.lemmas.List.{get_or-map, get_or-set_same, get_or-set_other, get_or_past, get_or_default, get_or-replicate, length-map, length-replicate, length-set, map-set}
 use Rattle.std.proofs.Math.Seq.{map-set_same}
 use Rattle.std.proofs.lemmas.List.Elements.{All-set, All-replicate}
@@ -10,7 +9,8 @@ use Rattle.cache_set.specs.declared.letter.Letter.{Letter}
 use Rattle.cache_set.specs.declared.letter.Letter.TheVariants.{M, E, S, I}
 use Rattle.cache_set.specs.Ways.{kept_of, used, changed, filled, last_of_full}
 use Rattle.mesi_dir.specs.LineMap.{LineMap, Sharing, HasOther, KeepsOthers, is_among, is_sharer, nobody, owner_of, sharing_of}
-use Rattle.shard.specs.CacheLayout.{AreLists, ChangesLetter, ChangesOne, HaveCopies, CoreLines, HasCopies, IsCore, IsShared, SharedLines, Tells, TellsLetter, copies_of, is_owner, lists_view, no_lines, own_letter, shared_of, sharing_at, sharing_without}
+use Rattle.shard.specs.CacheLayout.{AreLists, ChangesLetter, CoreLines, HasCopies, IsCore, IsShared, SharedLines, Tells, TellsLetter, copies_of, is_owner, lists_view, no_lines, own_letter, shared_of, sharing_at, sharing_without}
+use Rattle.shard.specs.CacheSteps.{ChangesOne, HaveCopies}
 use Rattle.shard.specs.Coherence.{Caches, is_alone, is_held, letter_at, dirty_at, empty_caches, fetched, in_own_set_of, l2_victim, looked_up, marked_dirty, own_after, own_victim, some_other}
 use Rattle.shard.specs.Lines.{in_set_of, set_number, set_of}
 use Rattle.shard.proofs.SomeCores.{some_other_false, some_other_true}

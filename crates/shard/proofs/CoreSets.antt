@@ -1,9 +1,9 @@
 -- The sets of a core's cache after a change of one of them.
-use Rattle.std.proofs.Common.{◌≡◌, ℕ, zero, suc, ◌+◌, ◌-◌, ◌<◌, ◌≤◌, ◌/◌, ◌%◌, Bool, true, false, cond, eqb, List, [], ◌∷◌, length, get_or, map, set, take, replicate, Option, Some, None, is_some, refl, sym, ap, ◌∙◌, subst, arith, inl, inr, ◌≢◌}
-use Rattle.std.specs.List.{All, IsDistinct}
+use Rattle.std.proofs.Common.{◌≡◌, ℕ, zero, suc, ◌-◌, ◌<◌, ◌≤◌, ◌/◌, ◌%◌, Bool, true, false, cond, List, [], ◌∷◌, length, get_or, map, set, take, replicate, Option, Some, None, refl, sym, ap, ◌∙◌, subst, arith, inl, inr, ◌≢◌}
+use Rattle.std.specs.List.{IsDistinct}
 use Rattle.std.specs.Option.{option_map, unwrap_or}
-use Rattle.std.specs.Prelude.{IsSome, IsTrue, nat_eq, slice_get}
-use Rattle.std.proofs.lemmas.Bool.{eqb-true, eq-eqb, ne_eqb, cases_eq}
+use Rattle.std.specs.Prelude.{IsSome, nat_eq}
+use Rattle.std.proofs.lemmas.Bool.{ne_eqb, cases_eq}
 use Rattle.std.proofs.lemmas.List.{get_or-map, get_or-set_same, get_or-set_other, get_or-replicate, length-map, length-set, length-replicate, map-set}
 use Rattle.std.proofs.lemmas.List.Elements.{All-set, All-replicate}
 use Rattle.cache_set.specs.declared.letter.Letter.{Letter}
@@ -12,7 +12,7 @@ use Rattle.cache_set.specs.Letters.{mark_of, letter_of}
 use Rattle.cache_set.specs.Ways.{WaySet, IsWaySet, kept_of, without, used, filled, changed, last_of_full, way_of}
 use Rattle.cache_set.specs.declared.set.Way.{Way}
 use Rattle.cache_set.proofs.Sets.{set-without, set-used, set-changed, set-filled}
-use Rattle.shard.specs.CacheLayout.{AreCoreSets, CoreLines, HasCopies, IsCoreSet, copies_in, copies_of, core_view, letter_without, own_letter}
+use Rattle.shard.specs.CacheLayout.{AreCoreSets, HasCopies, IsCoreSet, copies_in, copies_of, core_view, letter_without, own_letter}
 use Rattle.shard.specs.Coherence.{is_held, letter_in}
 use Rattle.shard.specs.Lines.{in_set_of, set_number, set_of}
 use Rattle.shard.proofs.Entries.{kept_without, kept-without, kept-changed, kept-first, kept-filled, last_kept, kept-as, without-as, changed-as, filled-as, last-as, first_changed, each_as, take-as, without_last}

@@ -1,17 +1,18 @@
 -- The other cores' copies after a change.
-use Rattle.std.proofs.Common.{◌≡◌, ◌≢◌, ℕ, zero, suc, ◌+◌, ◌-◌, ◌<◌, ◌≤◌, ◌/◌, ◌%◌, Bool, true, false, cond, not, eqb, List, [], ◌∷◌, length, get_or, map, set, take, Option, Some, None, is_some, refl, sym, ap, ◌∙◌, subst, arith, inl, inr}
+use Rattle.std.proofs.Common.{◌≡◌, ◌≢◌, ℕ, zero, suc, ◌+◌, ◌-◌, ◌<◌, ◌≤◌, Bool, true, false, cond, eqb, List, [], length, get_or, map, set, take, Option, Some, None, is_some, refl, sym, ap, ◌∙◌, arith, inl, inr}
 use Rattle.std.specs.List.{enumerate_from}
 use Rattle.std.specs.Option.{unwrap_or}
-use Rattle.std.specs.Prelude.{IfSome, IsSome, IsTrue, nat_eq, slice_get}
-use Rattle.std.proofs.lemmas.Bool.{eqb-true, eq-eqb, ne_eqb, cases_eq, cases_lt, cases_Bool}
+use Rattle.std.specs.Prelude.{IfSome, nat_eq}
+use Rattle.std.proofs.lemmas.Bool.{eq-eqb, ne_eqb, cases_eq, cases_lt}
 use Rattle.std.proofs.lemmas.List.{ext_get_or, get_or-map, get_or-set_same, get_or-set_other, get_or_past, length-map, length-set, length-take, set-get_or, set-set, take-take}
 use Rattle.std.proofs.lemmas.List.FromFn.{get_or-enumerate_from, length-enumerate_from}
 use Rattle.std.proofs.lemmas.Option.{slice_get_past}
 use Rattle.cache_set.specs.declared.letter.Letter.{Letter}
 use Rattle.cache_set.specs.declared.letter.Letter.TheVariants.{M, E, S, I}
 use Rattle.cache_set.specs.Ways.{kept_of, without, changed, filled, last_of_full}
-use Rattle.shard.specs.CacheLayout.{ChangesOne, DropsOthers, HaveCopies, copies_at, is_owner}
-use Rattle.shard.specs.Coherence.{Caches, dirty_at, in_own_set_of, is_alone, is_held, is_modified, letter_at, letter_in, marked_dirty, other_after, others_changed, own_victim, recalled, some_core, taken_in, with_letter, written_back}
+use Rattle.shard.specs.CacheLayout.{is_owner}
+use Rattle.shard.specs.CacheSteps.{ChangesOne, DropsOthers, HaveCopies, copies_at}
+use Rattle.shard.specs.Coherence.{Caches, in_own_set_of, is_alone, is_modified, letter_at, letter_in, other_after, others_changed, own_victim, recalled, some_core, with_letter}
 use Rattle.shard.specs.Lines.{in_set_of, set_number, set_of}
 use Rattle.shard.proofs.Entries.{changed_same, without_absent}
 use Rattle.shard.proofs.SomeCores.{some_core_false, some_core_true}

@@ -1,21 +1,21 @@
 -- A set of the L2 with its directory after a change.
-use Rattle.std.proofs.Common.{◌≡◌, ◌≢◌, ℕ, zero, suc, ◌+◌, ◌-◌, ◌<◌, ◌≤◌, Bool, true, false, cond, eqb, List, [], ◌∷◌, length, map, Option, Some, None, is_some, refl, sym, ap, ◌∙◌, subst, arith, inl, inr}
+use Rattle.std.proofs.Common.{◌≡◌, ℕ, ◌-◌, ◌≤◌, Bool, true, false, cond, ◌∷◌, length, Option, Some, None, refl, sym, ap, ◌∙◌, subst, arith, inl, inr}
 use Rattle.std.specs.Cmp.{nat_eq_equiv}
-use Rattle.std.specs.List.{IsDistinct, list_any}
+use Rattle.std.specs.List.{list_any}
 use Rattle.std.specs.Map.{keys_of, lookup}
 use Rattle.std.specs.Option.{option_map}
-use Rattle.std.specs.Prelude.{IsSome, IsNone, IsTrue, nat_eq, slice_get, ◌⊎◌, ◌↔◌}
-use Rattle.std.proofs.lemmas.Bool.{eqb-true, eq-eqb, ne_eqb, cases_eq, cases_Bool}
+use Rattle.std.specs.Prelude.{IsSome, nat_eq}
+use Rattle.std.proofs.lemmas.Bool.{eq-eqb, ne_eqb, cases_eq}
 use Rattle.std.proofs.lemmas.Map.Entries.{length-keys_of}
 use Rattle.std.proofs.lemmas.Map.Keys.{IsDistinct-cons}
 use Rattle.std.proofs.lemmas.Map.Made.{is_some-lookup}
 use Rattle.std.proofs.lemmas.Map.Steps.{length-le_from_keys}
 use Rattle.cache_set.specs.declared.set.Way.{Way}
-use Rattle.cache_set.specs.Ways.{WaySet, IsWaySet, kept_of, without, used, filled, changed, last_of_full, way_of}
+use Rattle.cache_set.specs.Ways.{WaySet, IsWaySet, kept_of, used, filled, changed, last_of_full, way_of}
 use Rattle.cache_set.proofs.Sets.{set-used, set-changed, set-filled, lacks-absent}
-use Rattle.mesi_dir.specs.LineMap.{LineMap, Sharing, HasOther, HasRoom, IsLineMap, KeepsOthers, is_among, is_sharer, nobody, owner_of, sharing_of}
-use Rattle.shard.specs.CacheLayout.{AreShared, TellsLetter, is_dirty_mark, is_owner, shared_list, sharing_without}
-use Rattle.shard.proofs.Entries.{each_as, kept_without, kept-used, kept-changed, kept-filled, kept-as, changed-as, used-as, filled-as, last-as, changed_absent}
+use Rattle.mesi_dir.specs.LineMap.{LineMap, Sharing, HasRoom, IsLineMap, KeepsOthers, is_among, nobody, sharing_of}
+use Rattle.shard.specs.CacheLayout.{AreShared, is_dirty_mark, shared_list, sharing_without}
+use Rattle.shard.proofs.Entries.{kept_without, kept-used, kept-changed, kept-filled, kept-as, last-as}
 
 abbrev pub as_dirt : Option (ℕ × ℕ) → Option (ℕ × Bool)
 as_dirt victim = option_map (λ way. (way.0, is_dirty_mark way.1)) victim
@@ -51,14 +51,6 @@ not_both : (b : Bool) → b ≡ true → b ≡ false → ⊥
 not_both b t f = cc
 
 module _ {s : WaySet} {m : LineMap} (are : AreShared s m) where
-  -- a line that is not there has no core
-  pub no_core : (line : ℕ) → kept_of line s.list ≡ None → (core : ℕ) → is_sharer m line core ≡ false
-  no_core line none core =
-      elim (cases_Bool (is_sharer m line core)) as (λ _. is_sharer m line core ≡ false) [
-        | inl t ↦ let some : IsSome (kept_of line s.list) = are.within line core t in let bad : is_some {T = ℕ} None ≡ true = rw none at some in absurd cc
-        | inr f ↦ f
-      ]
-
   -- ---- the order of the lines, and their dirt
   pub touched : (line : ℕ) → AreShared (record { ways = s.ways; list = used line s.list }) m
   touched line = record {

@@ -1,14 +1,13 @@
 -- How a shard's caches are laid out: for each core its sets, and for each set of the L2 its lines and a directory of them.
-use Rattle.std.specs.Prelude.{◌≡◌, ◌≢◌, ℕ, ◌<◌, ◌≤◌, ◌/◌, ◌%◌, Bool, true, false, if◌then◌else◌, IsTrue, IsSome, List, [], length, map, nat_eq, slice_index_or, Option, Some, None, is_some}
+use Rattle.std.specs.Prelude.{◌≡◌, ℕ, ◌<◌, ◌≤◌, ◌/◌, ◌%◌, Bool, false, if◌then◌else◌, IsTrue, IsSome, List, [], length, map, nat_eq, slice_index_or, Option, Some, None}
 use Rattle.std.specs.List.{All}
-use Rattle.zs_num.specs.declared.entry.Outcome.{Outcome}
 use Rattle.cache_set.specs.declared.letter.Letter.{Letter}
 use Rattle.cache_set.specs.declared.letter.Letter.TheVariants.{I}
 use Rattle.cache_set.specs.Letters.{letter_of}
-use Rattle.cache_set.specs.Ways.{WaySet, IsWaySet, filled, kept_of}
+use Rattle.cache_set.specs.Ways.{WaySet, IsWaySet, kept_of}
 use Rattle.mesi_dir.specs.LineMap.{LineMap, Sharing, KeepsOthers, is_among, is_sharer, nobody, owner_of, sharing_of}
-use Rattle.shard.specs.Coherence.{Caches, dirty_at, in_own_set_of, is_alone, is_dirty_victim, is_held, l2_victim, letter_at, letter_in, on_l2, on_others, on_own, outcome_by, own_after, own_victim, some_other, taken_in}
-use Rattle.shard.specs.Lines.{set_number, set_of}
+use Rattle.shard.specs.Coherence.{Caches, is_alone, is_held, letter_at, letter_in}
+use Rattle.shard.specs.Lines.{set_of}
 
 -- ---- the cache of one core
 
@@ -143,60 +142,3 @@ pub record AreLists (shards l1_ways l2_ways : ℕ) (l1 : List CoreLines) (l2 : L
   pub each_set : All (IsShared l2_ways (length l1)) l2
   -- the directories say of each line which cores have it, and which core has it in M or E
   pub tells : Tells (letter_at (lists_view shards l1_ways l2_ways l1 l2)) (sharing_at shards l2)
-
--- a line with the letter I has no copy in its set
-abbrev pub HaveCopies : Caches → Type 0
-HaveCopies c = (core line : ℕ) → letter_at c core line ≡ I → kept_of line (set_of c.shards line (slice_index_or c.l1 core [])) ≡ None
-
--- one core has another letter for one line, and else all have the old ones
-abbrev pub ChangesOne : (old new : Caches) (core line : ℕ) → Letter → Type 0
-ChangesOne old new core line letter = (c q : ℕ) → letter_at new c q ≡ (if nat_eq core c then (if nat_eq line q then letter else letter_at old c q) else letter_at old c q)
-
--- all cores but this one have the letter I for one line, and else all have the old ones
-pub record DropsOthers (old new : Caches) (core line : ℕ) : Type 0 where
-  pub gone : (c : ℕ) → c ≢ core → letter_at new c line ≡ I
-  pub own : (q : ℕ) → letter_at new core q ≡ letter_at old core q
-  pub others : (c q : ℕ) → q ≢ line → letter_at new c q ≡ letter_at old c q
-  pub l2 : new.l2 ≡ old.l2
-
--- what a core's L1 has of a line's set
-abbrev pub copies_at : Caches → (core line : ℕ) → List (ℕ × Letter)
-copies_at c core line = set_of c.shards line (slice_index_or c.l1 core [])
-
--- ---- an access of a line
-
--- how the caches meet it, and what it leaves
-abbrev pub met_at : Caches → (core line : ℕ) → (write : Bool) → Outcome
-met_at c core line write =
-    outcome_by write (letter_at c core line) (is_some (dirty_at c line))
-    (some_other is_alone c core line) (some_other is_held c core line) (is_dirty_victim c (l2_victim c line))
-
-abbrev pub after_at : Caches → (core line : ℕ) → (write : Bool) → Caches
-after_at c core line write =
-    on_own (letter_at c core line) core line (own_after write (letter_at c core line) (some_other is_held c core line))
-    (on_others (met_at c core line write) write core line (on_l2 (met_at c core line write) line c))
-
--- a core's set of a line has room, and the line comes into it as into the full set
-pub record MakesRoom (old new : Caches) (core line : ℕ) : Type 0 where
-  pub room : own_victim new core line ≡ None
-  pub cores : length new.l1 ≡ length old.l1
-  pub absent : letter_at new core line ≡ I
-  pub others : (c : ℕ) → c ≢ core → letter_at new c line ≡ letter_at old c line
-  pub in_l2 : IsSome (dirty_at old line) → IsSome (dirty_at new line)
-  pub fills : (letter : Letter) → in_own_set_of core line (filled new.l1_ways line letter) new ≡ taken_in core line letter old
-
--- the other cores have letters for a line that leave the core free to take it
-pub record LeavesFree (old new : Caches) (core line : ℕ) (write : Bool) : Type 0 where
-  pub cores : length new.l1 ≡ length old.l1
-  pub absent : letter_at new core line ≡ I
-  pub in_l2 : IsSome (dirty_at new line)
-  pub shared : (c : ℕ) → c ≢ core → is_alone (letter_at new c line) ≡ false
-  pub written : write ≡ true → (c : ℕ) → c ≢ core → letter_at new c line ≡ I
-  pub held : write ≡ false → (c : ℕ) → c ≢ core → is_held (letter_at new c line) ≡ is_held (letter_at old c line)
-
--- the line that has to leave the L2 for this one has no copy any more
-pub record MakesL2Room (old new : Caches) (line : ℕ) : Type 0 where
-  pub cores : length new.l1 ≡ length old.l1
-  pub l2 : dirty_at new line ≡ dirty_at old line
-  pub gone : (victim : ℕ × Bool) → l2_victim new line ≡ Some victim → (core : ℕ) → letter_at new core victim.0 ≡ I
-  pub absent : (core : ℕ) → letter_at old core line ≡ I → letter_at new core line ≡ I

@@ -1,4 +1,5 @@
 pub mod CacheLayout
+pub mod CacheSteps
 pub mod Coherence
 pub mod Laws
 pub mod Lines

@@ -1,7 +1,7 @@
 // What an access does to one core's copy of a line, and to the directory with it.
 ghost use Rattle.std.specs.Prelude.{◌≡◌, ◌≢◌, ℕ, ◌<◌, IsSome, IsTrue, false, true, not, length};
 ghost use Rattle.cache_set.specs.Ways.{without, filled, changed};
-ghost use Rattle.shard.specs.CacheLayout.{ChangesOne};
+ghost use Rattle.shard.specs.CacheSteps.{ChangesOne};
 ghost use Rattle.shard.specs.Coherence.{dirty_at, in_own_set_of, is_alone, is_held, is_modified, kept_first, letter_at, own_after, own_victim, some_other, written_back};
 
 use super::CacheLists;

@@ -1,6 +1,6 @@
 // How the caches meet an access: each row of the table of the MESI protocol.
 ghost use Rattle.std.specs.Prelude.{◌≡◌, ◌≢◌, ℕ, ◌<◌, ◌||◌, IsSome, IsTrue, None, false, true, length, if◌then◌else◌};
-ghost use Rattle.shard.specs.CacheLayout.{LeavesFree, MakesL2Room, after_at, met_at};
+ghost use Rattle.shard.specs.CacheSteps.{LeavesFree, MakesL2Room, after_at, met_at};
 ghost use Rattle.shard.specs.Coherence.{after_access, allows, dirty_at, is_alone, is_dirty_victim, is_held, is_modified, is_write, l2_victim, letter_at, marked_dirty, on_others, outcome_of, room_made, some_core, some_other};
 
 use super::CacheLists;

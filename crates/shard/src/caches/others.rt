@@ -1,6 +1,7 @@
 // What an access does to the other cores' copies of a line.
 ghost use Rattle.std.specs.Prelude.{◌≡◌, ◌≢◌, ℕ, ◌<◌, IfSome, IsSome, IsTrue, false, true, length, nat_eq, if◌then◌else◌};
-ghost use Rattle.shard.specs.CacheLayout.{ChangesOne, DropsOthers, HaveCopies, is_owner};
+ghost use Rattle.shard.specs.CacheLayout.{is_owner};
+ghost use Rattle.shard.specs.CacheSteps.{ChangesOne, DropsOthers, HaveCopies};
 ghost use Rattle.shard.specs.Coherence.{dirty_at, is_alone, is_held, is_modified, letter_at, marked_dirty, other_after, others_changed, recalled, some_core, some_other};
 
 use super::CacheLists;

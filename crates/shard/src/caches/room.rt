@@ -1,7 +1,7 @@
 // How a line comes into a core's L1.
 ghost use Rattle.std.specs.Prelude.{◌≡◌, ◌≢◌, ℕ, ◌<◌, ◌-◌, IfSome, IsSome, Some, None, false, true, length, slice_index_or, take, []};
 ghost use Rattle.cache_set.specs.Ways.{without};
-ghost use Rattle.shard.specs.CacheLayout.{MakesRoom, copies_at};
+ghost use Rattle.shard.specs.CacheSteps.{MakesRoom, copies_at};
 ghost use Rattle.shard.specs.Coherence.{dirty_at, is_alone, is_held, letter_at, own_after, own_victim, some_other, taken_in, written_back};
 ghost use Rattle.shard.specs.Lines.{set_number};
 

@@ -1,5 +1,4 @@
 -- The line's directory tells the letters.
-use Rattle.std.proofs.Common.{◌≡◌}
 use Rattle.shard.proofs.AllCaches.{in_l2, some_other_is}
 use Rattle.shard.proofs.caches.CacheLists.any_other.Goals as goal
 

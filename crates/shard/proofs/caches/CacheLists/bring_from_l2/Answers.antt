@@ -1,8 +1,8 @@
 -- The L2, the others and the core's own L1, one after the other.
-use Rattle.std.proofs.Common.{◌≡◌, Bool, false, ap, sym, ◌∙◌, arith}
+use Rattle.std.proofs.Common.{◌≡◌, false, ap, ◌∙◌, arith}
 use Rattle.zs_num.specs.declared.entry.Outcome.TheVariants.{L2}
 use Rattle.cache_set.specs.declared.letter.Letter.TheVariants.{I}
-use Rattle.shard.specs.Coherence.{Caches, is_held, looked_up, on_others, own_after, some_other, taken_in}
+use Rattle.shard.specs.Coherence.{is_held, looked_up, on_others, own_after, some_other, taken_in}
 use Rattle.shard.proofs.Access.{after_l2, cores_looked, held_same, letters_looked, looked_in_l2, own_same}
 use Rattle.shard.proofs.caches.CacheLists.bring_from_l2.Goals as goal
 

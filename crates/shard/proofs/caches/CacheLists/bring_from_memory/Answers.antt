@@ -1,7 +1,7 @@
 -- The L2 and the core's own L1, one after the other; no other core has the line.
-use Rattle.std.proofs.Common.{◌≡◌, Bool, ap, sym, ◌∙◌, arith}
+use Rattle.std.proofs.Common.{◌≡◌, ap, sym, ◌∙◌, arith}
 use Rattle.cache_set.specs.declared.letter.Letter.TheVariants.{I}
-use Rattle.shard.specs.Coherence.{Caches, fetched, is_alone, is_held, l2_victim, own_after, room_made, some_other, taken_in}
+use Rattle.shard.specs.Coherence.{fetched, is_alone, is_held, l2_victim, own_after, room_made, some_other, taken_in}
 use Rattle.shard.proofs.Access.{after_miss, cores_fetched, held_same, letters_fetched, own_same}
 use Rattle.shard.proofs.caches.CacheLists.bring_from_memory.Goals as goal
 

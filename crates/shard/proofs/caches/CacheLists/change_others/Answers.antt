@@ -1,6 +1,5 @@
 -- The copies change, and the core stays without one.
-use Rattle.std.proofs.Common.{◌≡◌, ◌∙◌}
-use Rattle.shard.specs.CacheLayout.{DropsOthers}
+use Rattle.std.proofs.Common.{◌∙◌}
 use Rattle.shard.specs.Coherence.{is_modified, some_other}
 use Rattle.shard.proofs.Access.{free_read, free_written, letters_collected}
 use Rattle.shard.proofs.caches.CacheLists.change_others.Goals as goal

@@ -1,5 +1,5 @@
 -- The core's cache and the line's directory have the copy no more.
-use Rattle.std.proofs.Common.{◌≡◌, set}
+use Rattle.std.proofs.Common.{set}
 use Rattle.cache_set.specs.declared.letter.Letter.TheVariants.{I}
 use Rattle.cache_set.specs.Ways.{without}
 use Rattle.shard.proofs.AllCaches.{both_are, both_view, letters_view}

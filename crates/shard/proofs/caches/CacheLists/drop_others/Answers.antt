@@ -1,7 +1,7 @@
 -- One core after the other.
-use Rattle.std.proofs.Common.{◌≡◌, sym, ◌∙◌, arith}
+use Rattle.std.proofs.Common.{sym, arith}
 use Rattle.shard.proofs.AllCaches.{not_held}
-use Rattle.shard.proofs.Others.{IsDropped, all_dropped, dropped_more, drops_others, kept_more, none_dropped, own_more}
+use Rattle.shard.proofs.Others.{all_dropped, dropped_more, drops_others, kept_more, none_dropped, own_more}
 use Rattle.shard.proofs.caches.CacheLists.drop_others.Goals.{then-other-core+then-holds, else-other-core, else-other-core-via-then-other-core+else-holds, else-other-core-via-else-other-core}
 use Rattle.shard.proofs.caches.CacheLists.drop_others.Goals as goal
 

@@ -1,5 +1,5 @@
 -- The line's set has it at the front, and its directory the victim no more.
-use Rattle.std.proofs.Common.{◌≡◌, sym, ◌∙◌}
+use Rattle.std.proofs.Common.{sym, ◌∙◌}
 use Rattle.shard.proofs.AllCaches.{dirty_is, come_step, come_view, there_after}
 use Rattle.shard.proofs.caches.CacheLists.fetch.Goals as goal
 

@@ -1,5 +1,5 @@
 -- There is an owner where a core has the line in M or E.
-use Rattle.std.proofs.Common.{◌≡◌, ◌∙◌}
+use Rattle.std.proofs.Common.{◌∙◌}
 use Rattle.shard.proofs.Others.{owned}
 use Rattle.shard.proofs.caches.CacheLists.has_owner.Goals as goal
 

@@ -1,5 +1,4 @@
 -- No letter is I.
-use Rattle.std.proofs.Common.{◌≡◌}
 use Rattle.shard.proofs.AllCaches.{have_copies}
 use Rattle.shard.proofs.caches.CacheLists.holds.Goals as goal
 

@@ -1,5 +1,5 @@
 -- Only the owner can have the line in M.
-use Rattle.std.proofs.Common.{◌≡◌, sym, ◌∙◌}
+use Rattle.std.proofs.Common.{◌∙◌}
 use Rattle.shard.proofs.Others.{modified_no, modified_none, modified_yes}
 use Rattle.shard.proofs.caches.CacheLists.is_modified.Goals as goal
 

@@ -1,5 +1,5 @@
 -- The core's cache has the line at the front, and the directory stays.
-use Rattle.std.proofs.Common.{◌≡◌, ℕ, List, ◌∷◌, ap, refl, sym, ◌∙◌}
+use Rattle.std.proofs.Common.{ℕ, List, ◌∷◌, ap, refl, sym, ◌∙◌}
 use Rattle.cache_set.specs.declared.letter.Letter.{Letter}
 use Rattle.cache_set.specs.Ways.{without}
 use Rattle.shard.specs.Coherence.{is_alone, is_held, kept_first}

@@ -1,5 +1,5 @@
 -- What the line's set says, and its directory.
-use Rattle.std.proofs.Common.{◌≡◌, ℕ, sym, ◌∙◌}
+use Rattle.std.proofs.Common.{sym, ◌∙◌}
 use Rattle.shard.proofs.AllCaches.{dirty_is, none_has}
 use Rattle.shard.proofs.caches.CacheLists.l2_dirty.Goals as goal
 

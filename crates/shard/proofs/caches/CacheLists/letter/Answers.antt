@@ -1,7 +1,6 @@
 -- The letter in the core's cache; a core that has none has no line.
-use Rattle.std.proofs.Common.{◌≡◌, ◌<◌, ◌≤◌, ℕ, length, get_or, sym, ◌∙◌, subst, arith}
+use Rattle.std.proofs.Common.{◌<◌, ◌≤◌, length, sym, ◌∙◌}
 use borrow.Author.Tests.{ltb-true, ltb-false}
-use Rattle.shard.specs.CacheLayout.{CoreLines, IsCore}
 use Rattle.shard.proofs.AllCaches.{is_core, letter_at_core, letter_past}
 use Rattle.shard.proofs.caches.CacheLists.letter.Goals as goal
 

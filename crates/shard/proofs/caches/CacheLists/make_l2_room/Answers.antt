@@ -1,5 +1,5 @@
 -- No core has the victim.
-use Rattle.std.proofs.Common.{◌≡◌, sym}
+use Rattle.std.proofs.Common.{sym}
 use Rattle.shard.proofs.Access.{l2_room}
 use Rattle.shard.proofs.caches.CacheLists.make_l2_room.Goals as goal
 

@@ -1,5 +1,5 @@
 -- The line's set has it dirty.
-use Rattle.std.proofs.Common.{◌≡◌, true}
+use Rattle.std.proofs.Common.{true}
 use Rattle.cache_set.specs.Ways.{changed}
 use Rattle.shard.proofs.AllCaches.{dirty_view, list_step}
 use Rattle.shard.proofs.caches.CacheLists.mark_dirty.Goals as goal

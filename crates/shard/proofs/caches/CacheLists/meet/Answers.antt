@@ -1,5 +1,5 @@
 -- The access is one of its line.
-use Rattle.std.proofs.Common.{◌≡◌, length, ap, ◌∙◌}
+use Rattle.std.proofs.Common.{length, ap, ◌∙◌}
 use Rattle.shard.specs.Coherence.{Caches, after_access, outcome_of}
 use Rattle.shard.proofs.CoherentPlaced.{access_keeps}
 use Rattle.shard.proofs.caches.CacheLists.meet.Goals as goal

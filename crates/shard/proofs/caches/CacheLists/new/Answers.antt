@@ -1,5 +1,4 @@
 -- No cache has a line.
-use Rattle.std.proofs.Common.{◌≡◌}
 use Rattle.shard.proofs.AllCaches.{empty_lists, empty_view}
 use Rattle.shard.proofs.caches.CacheLists.new.Goals as goal
 

@@ -1,5 +1,5 @@
 -- A core without the line is not its owner.
-use Rattle.std.proofs.Common.{◌≡◌, ap, sym, ◌∙◌}
+use Rattle.std.proofs.Common.{ap, sym, ◌∙◌}
 use Rattle.shard.specs.Coherence.{is_alone}
 use Rattle.shard.proofs.SomeCores.{some_other_all}
 use Rattle.shard.proofs.caches.CacheLists.others_change.Goals as goal

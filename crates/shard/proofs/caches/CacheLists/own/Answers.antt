@@ -5,7 +5,7 @@ use Rattle.cache_set.specs.declared.letter.Letter.{Letter}
 use Rattle.cache_set.specs.declared.letter.Letter.TheVariants.{M, E, S}
 use Rattle.cache_set.specs.Ways.{without}
 use Rattle.shard.specs.CacheLayout.{TellsLetter}
-use Rattle.shard.specs.Coherence.{is_alone, is_held, kept_first}
+use Rattle.shard.specs.Coherence.{is_held, kept_first}
 use Rattle.shard.proofs.AllCaches.{both_are, both_view, dirty_is, letter_is, no_other, told_as}
 use Rattle.shard.proofs.caches.CacheLists.own.Goals as goal
 

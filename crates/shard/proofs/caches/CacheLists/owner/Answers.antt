@@ -1,5 +1,4 @@
 -- The owner has the line in M or E.
-use Rattle.std.proofs.Common.{◌≡◌}
 use Rattle.shard.proofs.AllCaches.{have_copies, owner_known}
 use Rattle.shard.proofs.caches.CacheLists.owner.Goals as goal
 

@@ -1,11 +1,9 @@
 -- The core's cache has the line at the front, and its directory the core.
-use Rattle.std.proofs.Common.{◌≡◌, ◌≢◌, ℕ, Bool, true, not, cond, List, ◌∷◌, Option, None, ap, refl, sym, subst, ◌∙◌}
+use Rattle.std.proofs.Common.{◌≡◌, ℕ, Bool, true, cond, Option, None, sym, subst, ◌∙◌}
 use Rattle.std.specs.Prelude.{IsSome, nat_eq}
 use Rattle.cache_set.specs.declared.letter.Letter.{Letter}
-use Rattle.cache_set.specs.declared.letter.Letter.TheVariants.{E, S, I}
 use Rattle.cache_set.specs.Ways.{filled, last_of_full}
 use Rattle.shard.specs.CacheLayout.{ChangesLetter, CoreLines, TellsLetter, copies_of, letter_without, own_letter}
-use Rattle.shard.specs.Coherence.{is_alone, is_held, own_after}
 use Rattle.shard.specs.Lines.{in_set_of}
 use Rattle.shard.proofs.AllCaches.{both_are, both_view, core_is, dirty_is, letter_is, no_other, own_victim_is, some_other_not, told_new}
 use Rattle.shard.proofs.caches.CacheLists.put_in.Goals as goal

@@ -1,6 +1,5 @@
 -- Each core is another than one that there is not.
-use Rattle.std.proofs.Common.{◌≡◌, ℕ, subst, ◌∙◌}
-use Rattle.shard.specs.Coherence.{other_after, others_changed}
+use Rattle.std.proofs.Common.{◌∙◌}
 use Rattle.shard.proofs.Others.{all_recalled}
 use Rattle.shard.proofs.caches.CacheLists.recall.Goals as goal
 

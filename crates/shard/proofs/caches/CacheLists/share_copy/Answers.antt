@@ -1,5 +1,5 @@
 -- The core's cache has the copy in S, and the line's directory no owner.
-use Rattle.std.proofs.Common.{◌≡◌, set, ap, sym, ◌∙◌}
+use Rattle.std.proofs.Common.{set, ap, sym, ◌∙◌}
 use Rattle.cache_set.specs.declared.letter.Letter.TheVariants.{S}
 use Rattle.cache_set.specs.Ways.{changed}
 use Rattle.shard.specs.Coherence.{is_alone}

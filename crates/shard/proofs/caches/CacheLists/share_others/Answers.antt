@@ -1,5 +1,5 @@
 -- Only the owner's copy changes.
-use Rattle.std.proofs.Common.{◌≡◌, ◌∙◌, sym, ℕ, false}
+use Rattle.std.proofs.Common.{◌∙◌, sym}
 use Rattle.shard.proofs.Others.{quiet_letters, share_none, share_one, shared_letters}
 use Rattle.shard.proofs.caches.CacheLists.share_others.Goals as goal
 

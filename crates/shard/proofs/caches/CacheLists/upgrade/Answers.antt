@@ -1,5 +1,5 @@
 -- The others have the line no more, and the core has it alone.
-use Rattle.std.proofs.Common.{◌≡◌, Bool, true, Option, ap, sym, subst, ◌∙◌, arith}
+use Rattle.std.proofs.Common.{true, ap, ◌∙◌, arith}
 use Rattle.std.specs.Prelude.{IsSome}
 use Rattle.shard.specs.Coherence.{dirty_at, is_held, looked_up, other_after}
 use Rattle.shard.proofs.Access.{cores_looked, cores_others, l2_others, letters_looked, looked_in_l2}

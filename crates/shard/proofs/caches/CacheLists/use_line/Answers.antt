@@ -1,5 +1,5 @@
 -- The line's set has it at the front.
-use Rattle.std.proofs.Common.{◌≡◌, Bool, Option, subst}
+use Rattle.std.proofs.Common.{Bool, Option, subst}
 use Rattle.std.specs.Prelude.{IsSome}
 use Rattle.cache_set.specs.Ways.{used}
 use Rattle.shard.proofs.AllCaches.{dirty_is, list_step, used_view}

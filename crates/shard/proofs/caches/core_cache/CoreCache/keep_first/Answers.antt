@@ -1,7 +1,7 @@
 -- The line is the first of its set, with another letter.
-use Rattle.std.proofs.Common.{◌≡◌, true, ℕ, List, ap, sym, ◌∙◌}
+use Rattle.std.proofs.Common.{ℕ, List, ap}
 use Rattle.cache_set.specs.declared.letter.Letter.{Letter}
-use Rattle.shard.proofs.CoreSets.{IsStep, first, there}
+use Rattle.shard.proofs.CoreSets.{first, there}
 use Rattle.shard.proofs.Entries.{used_kept}
 use Rattle.shard.proofs.caches.core_cache.CoreCache.keep_first.Goals as goal
 

@@ -1,8 +1,6 @@
 -- The letter of the mark in the set of the line.
-use Rattle.std.proofs.Common.{◌≡◌, ℕ, Some, None, sym, ap, ◌∙◌}
+use Rattle.std.proofs.Common.{◌≡◌, Some, None, sym, ap, ◌∙◌}
 use Rattle.cache_set.specs.Ways.{kept_of}
-use Rattle.shard.specs.CacheLayout.{core_view}
-use Rattle.shard.specs.Coherence.{letter_in}
 use Rattle.shard.proofs.CoreSets.{has_copies, old_copies, letter-kept, mark_letter}
 use Rattle.shard.proofs.caches.core_cache.CoreCache.letter.Goals as goal
 

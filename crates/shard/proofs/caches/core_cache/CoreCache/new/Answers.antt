@@ -1,5 +1,5 @@
 -- No set has a line.
-use Rattle.std.proofs.Common.{◌≡◌, ℕ, List, [], ap, replicate}
+use Rattle.std.proofs.Common.{ℕ, List, ap}
 use Rattle.cache_set.specs.declared.letter.Letter.{Letter}
 use Rattle.shard.proofs.CoreSets.{empty_core, empty_copies}
 use Rattle.shard.proofs.caches.core_cache.CoreCache.new.Goals as goal

@@ -1,7 +1,7 @@
 -- The line is the first of its set, from which the last line of a full set has left.
-use Rattle.std.proofs.Common.{◌≡◌, true, ℕ, List, ap, sym, ◌∙◌}
+use Rattle.std.proofs.Common.{ℕ, List, ap}
 use Rattle.cache_set.specs.declared.letter.Letter.{Letter}
-use Rattle.shard.proofs.CoreSets.{IsStep, filled_up}
+use Rattle.shard.proofs.CoreSets.{filled_up}
 use Rattle.shard.proofs.caches.core_cache.CoreCache.put.Goals as goal
 
 pub invariant_of-self : goal.invariant_of-self

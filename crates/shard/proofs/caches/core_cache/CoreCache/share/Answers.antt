@@ -1,7 +1,7 @@
 -- The line's mark stands for S.
-use Rattle.std.proofs.Common.{◌≡◌, true, ℕ, List, ap, sym, ◌∙◌}
+use Rattle.std.proofs.Common.{ℕ, List, ap}
 use Rattle.cache_set.specs.declared.letter.Letter.{Letter}
-use Rattle.shard.proofs.CoreSets.{IsStep, shared, there}
+use Rattle.shard.proofs.CoreSets.{shared, there}
 use Rattle.shard.proofs.caches.core_cache.CoreCache.share.Goals as goal
 
 pub change-requires : goal.change-requires

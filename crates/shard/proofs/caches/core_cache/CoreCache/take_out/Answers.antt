@@ -1,7 +1,7 @@
 -- The line's set without it.
-use Rattle.std.proofs.Common.{◌≡◌, ℕ, List, ap}
+use Rattle.std.proofs.Common.{ℕ, List, ap}
 use Rattle.cache_set.specs.declared.letter.Letter.{Letter}
-use Rattle.shard.proofs.CoreSets.{IsStep, taken_out}
+use Rattle.shard.proofs.CoreSets.{taken_out}
 use Rattle.shard.proofs.caches.core_cache.CoreCache.take_out.Goals as goal
 
 pub invariant_of-self : goal.invariant_of-self

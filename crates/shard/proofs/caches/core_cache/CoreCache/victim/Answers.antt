@@ -1,5 +1,5 @@
 -- The last line of the set.
-use Rattle.std.proofs.Common.{◌≡◌, sym, ◌∙◌, ap, ℕ}
+use Rattle.std.proofs.Common.{sym, ◌∙◌}
 use Rattle.shard.proofs.CoreSets.{from_way, last_placed, last_without}
 use Rattle.shard.proofs.caches.core_cache.CoreCache.victim.Goals as goal
 

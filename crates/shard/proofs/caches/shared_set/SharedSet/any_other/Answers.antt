@@ -1,5 +1,4 @@
 -- The directory has lines of the set alone.
-use Rattle.std.proofs.Common.{◌≡◌}
 use Rattle.shard.proofs.SharedSets.{there_as}
 use Rattle.shard.proofs.caches.shared_set.SharedSet.any_other.Goals as goal
 

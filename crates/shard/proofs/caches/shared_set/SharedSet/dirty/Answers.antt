@@ -1,7 +1,6 @@
 -- The dirt of the mark, and no core where there is none.
-use Rattle.std.proofs.Common.{◌≡◌, ℕ, Bool, true, Option, Some, None, sym, ◌∙◌}
+use Rattle.std.proofs.Common.{◌≡◌, Some, None, sym, ◌∙◌}
 use Rattle.cache_set.specs.Ways.{kept_of}
-use Rattle.shard.specs.CacheLayout.{shared_list}
 use Rattle.shard.proofs.SharedSets.{dirt_of}
 use Rattle.shard.proofs.caches.shared_set.SharedSet.dirty.Goals as goal
 

@@ -1,5 +1,4 @@
 -- There is room for each line of the set.
-use Rattle.std.proofs.Common.{◌≡◌, ℕ}
 use Rattle.shard.proofs.SharedSets.{raw_there, has_room, granted}
 use Rattle.shard.proofs.caches.shared_set.SharedSet.grant.Goals as goal
 

@@ -1,13 +1,9 @@
 -- The line is the first; the last line of a full set has left, and the directory has it no more.
-use Rattle.std.proofs.Common.{◌≡◌, ◌≢◌, ℕ, Bool, true, false, List, Option, None, Some, is_some, ap, sym, ◌∙◌, refl}
-use Rattle.std.specs.Option.{option_map}
-use Rattle.std.specs.Prelude.{IsNone}
-use Rattle.cache_set.specs.declared.set.Way.{Way}
-use Rattle.cache_set.specs.Ways.{kept_of, last_of_full, way_of}
-use Rattle.mesi_dir.specs.LineMap.{sharing_of}
-use Rattle.shard.specs.CacheLayout.{is_dirty_mark, shared_list, sharing_without}
+use Rattle.std.proofs.Common.{ℕ, Bool, List, ap, sym, ◌∙◌, refl}
+use Rattle.cache_set.specs.Ways.{last_of_full}
+use Rattle.shard.specs.CacheLayout.{is_dirty_mark}
 use Rattle.shard.proofs.Entries.{filled-as}
-use Rattle.shard.proofs.SharedSets.{as_dirt, raw_absent, come, come_there, cleared, none_left, last_dirt}
+use Rattle.shard.proofs.SharedSets.{raw_absent, come, come_there, cleared, none_left, last_dirt}
 use Rattle.shard.proofs.caches.shared_set.SharedSet.put.Goals as goal
 
 pub put-requires : goal.put-requires

@@ -1,5 +1,5 @@
 -- The line is the first, and the directory stays.
-use Rattle.std.proofs.Common.{◌≡◌, ℕ, Bool, List, ap}
+use Rattle.std.proofs.Common.{ℕ, Bool, List, ap}
 use Rattle.shard.specs.CacheLayout.{is_dirty_mark}
 use Rattle.shard.proofs.Entries.{used-as}
 use Rattle.shard.proofs.SharedSets.{raw_there, touched}
