@@ -1,5 +1,5 @@
 -- The steps of an access, put together.
-use Rattle.std.proofs.Common.{◌≡◌, ◌≢◌, ℕ, ◌-◌, ◌<◌, Bool, true, false, cond, List, [], length, get_or, set, take, Option, Some, None, refl, sym, ap, ◌∙◌, subst, arith, inl, inr}
+use Rattle.std.proofs.Common.{◌≡◌, ◌≢◌, ℕ, ◌-◌, ◌<◌, Bool, true, false, cond, List, [], length, get_or, set, take, Option, Some, None, refl, sym, ap, ◌∙◌, subst, inl, inr}
 use Rattle.std.specs.Prelude.{IsSome, nat_eq}
 use Rattle.std.proofs.lemmas.Bool.{eq-eqb, ne_eqb, cases_eq, cases_lt, cases_Bool}
 use Rattle.std.proofs.lemmas.List.{get_or-set_same, get_or-set_other, get_or_past, length-map, length-set}
@@ -8,11 +8,11 @@ use Rattle.zs_num.specs.declared.entry.Outcome.TheVariants.{L2}
 use Rattle.cache_set.specs.declared.letter.Letter.{Letter}
 use Rattle.cache_set.specs.declared.letter.Letter.TheVariants.{M, E, S, I}
 use Rattle.cache_set.specs.Ways.{kept_of, without, used, changed}
-use Rattle.shard.specs.CacheSteps.{ChangesOne, DropsOthers, LeavesFree, MakesL2Room, MakesRoom, after_at, copies_at}
+use Rattle.shard.specs.CacheSteps.{ChangesOne, DropsAll, DropsOthers, LeavesFree, MakesL2Room, MakesRoom, after_at, copies_at}
 use Rattle.shard.specs.Coherence.{Caches, dirty_at, fetched, in_own_set_of, is_alone, is_held, is_modified, l2_victim, letter_at, looked_up, marked_dirty, on_others, other_after, others_changed, own_after, own_victim, recalled, room_made, some_other, taken_in, written_back}
 use Rattle.shard.specs.Lines.{in_set_of, set_number, set_of}
 use Rattle.shard.proofs.Entries.{still_there, used_kept}
-use Rattle.shard.proofs.Others.{fills, has_left, letter_unknown}
+use Rattle.shard.proofs.Others.{fills, has_left}
 use Rattle.shard.proofs.SomeCores.{some_other_same}
 
 -- ---- what the L2 has no part in, and what the L1s have none in
@@ -152,7 +152,7 @@ pub letters_collected : (b : Bool) (line : ℕ) (c : Caches) (core q : ℕ) → 
 letters_collected true line c core q = letters_marked line c core q
 letters_collected false line c core q = refl
 
-cores_collected : (b : Bool) (line : ℕ) (c : Caches) → length (cond b (marked_dirty line c) c).l1 ≡ length c.l1
+pub cores_collected : (b : Bool) (line : ℕ) (c : Caches) → length (cond b (marked_dirty line c) c).l1 ≡ length c.l1
 cores_collected true line c = cores_marked line c
 cores_collected false line c = refl
 
@@ -219,7 +219,7 @@ victim_recalled : (v : ℕ) (c : Caches) (q : ℕ) → l2_victim (recalled v c) 
 unfolding recalled
 victim_recalled v c q = refl
 
-pub l2_room : (c new : Caches) (line : ℕ) (victim : ℕ × Bool) → l2_victim c line ≡ Some victim → new ≡ recalled victim.0 c → DropsOthers c new (length c.l1) victim.0 → MakesL2Room c new line
+pub l2_room : (c new : Caches) (line : ℕ) (victim : ℕ × Bool) → l2_victim c line ≡ Some victim → new ≡ recalled victim.0 c → DropsAll c new victim.0 → MakesL2Room c new line
 l2_room c new line victim is after drops = record {
   cores = longer;
   l2 = ap (λ (x : Caches). dirty_at x line) after ∙ dirty_recalled victim.0 c line;
@@ -239,11 +239,7 @@ l2_room c new line victim is after drops = record {
   some_same e = cc
 
   no_copy : (core : ℕ) → letter_at new core victim.0 ≡ I
-  no_copy core =
-      elim (cases_eq core (length c.l1)) as (λ _. letter_at new core victim.0 ≡ I) [
-        | inl e ↦ letter_unknown new core victim.0 (omega (arith, longer))
-        | inr e ↦ drops.gone core e
-      ]
+  no_copy core = drops.gone core
 
 -- ---- the cases of the table in which the core has no copy
 pub after_l2 : (c : Caches) (core line : ℕ) (write : Bool) → letter_at c core line ≡ I → IsSome (dirty_at c line)

@@ -11,7 +11,7 @@ use Rattle.cache_set.specs.declared.letter.Letter.{Letter}
 use Rattle.cache_set.specs.declared.letter.Letter.TheVariants.{M, E, S, I}
 use Rattle.cache_set.specs.Ways.{kept_of, without, changed, filled, last_of_full}
 use Rattle.shard.specs.CacheLayout.{is_owner}
-use Rattle.shard.specs.CacheSteps.{ChangesOne, DropsOthers, HaveCopies, copies_at}
+use Rattle.shard.specs.CacheSteps.{ChangesOne, DropsAll, DropsOthers, HaveCopies, copies_at}
 use Rattle.shard.specs.Coherence.{Caches, in_own_set_of, is_alone, is_modified, letter_at, letter_in, other_after, others_changed, own_victim, recalled, some_core, with_letter}
 use Rattle.shard.specs.Lines.{in_set_of, set_number, set_of}
 use Rattle.shard.proofs.Entries.{changed_same, without_absent}
@@ -175,12 +175,56 @@ module _ {old new : Caches} {core line n : ℕ} (d : IsDropped old new core line
       l2 = ap (λ (c : Caches). c.l2) d.rest;
     }
 
--- all cores but one that there is not
-pub all_recalled : (c : Caches) (line : ℕ) → others_changed (other_after true) (length c.l1) line c ≡ recalled line c
-unfolding recalled
-all_recalled c line =
-    sym (others_is (other_after true) (length c.l1) line c (map (in_set_of c.shards line (without line)) c.l1) (length-map c.l1 (in_set_of c.shards line (without line)))
-    (λ i below. rw (ne_eqb i (length c.l1) (λ e. absurd (omega arith))) (get_or-map (in_set_of c.shards line (without line)) c.l1 i [] [] below)))
+-- where no other core has the line
+module _ (c : Caches) (core line : ℕ) where
+  pub none_to_drop : HaveCopies c → ((o : ℕ) → o ≢ core → letter_at c o line ≡ I) → c ≡ others_changed (other_after true) core line c
+  none_to_drop copies none =
+      others_is (other_after true) core line c c.l1 refl (λ i below.
+      elim (cases_eq i core) as (λ _. get_or c.l1 i [] ≡ cond (nat_eq i core) (get_or c.l1 i []) (in_set_of c.shards line (without line) (get_or c.l1 i []))) [
+        | inl e ↦ rw (eq-eqb i core e) refl
+        | inr e ↦ rw (ne_eqb i core e) (sym (in_set_same c.shards line (without line) (get_or c.l1 i []) (without_absent line (copies_at c i line) (copies i line (none i e)))))
+      ])
+
+  pub drops_none : ((o : ℕ) → o ≢ core → letter_at c o line ≡ I) → DropsOthers c c core line
+  drops_none none = record { gone = none; own = λ q. refl; others = λ x q apart. refl; l2 = refl }
+
+  pub cores_changed : (change : Letter → Letter) → length (others_changed change core line c).l1 ≡ length c.l1
+  cores_changed change = others_length change core line c
+
+  -- all cores, this one last
+  pub recalled_by : core < length c.l1 → in_own_set_of core line (without line) (others_changed (other_after true) core line c) ≡ recalled line c
+  unfolding recalled
+  recalled_by known =
+      let lists : List (List (List (ℕ × Letter))) = (others_changed (other_after true) core line c).l1 in
+      let made : List (List (ℕ × Letter)) = in_set_of c.shards line (without line) (get_or lists core []) in
+      let whole : List (List (List (ℕ × Letter))) = map (in_set_of c.shards line (without line)) c.l1 in
+      let longer : length lists ≡ length c.l1 = others_length (other_after true) core line c in
+      let own : get_or lists core [] ≡ get_or c.l1 core [] = others_at (other_after true) core line c core known ∙ rw (eq-eqb core core refl) refl in
+      let same : set lists core made ≡ whole
+      = ext_get_or [] (set lists core made) whole (omega (arith, length-set lists core made, length-map c.l1 (in_set_of c.shards line (without line)), longer)) (λ i below.
+      let inside : i < length c.l1 = omega (arith, length-set lists core made, longer) in
+      elim (cases_eq i core) as (λ _. get_or (set lists core made) i [] ≡ get_or whole i []) [
+        | inl e ↦
+            rw (e, get_or-set_same lists core made [] (omega (arith, longer)), get_or-map (in_set_of c.shards line (without line)) c.l1 core [] [] known)
+            (ap (in_set_of c.shards line (without line)) own)
+        | inr e ↦
+            get_or-set_other lists core i made [] e ∙ (others_at (other_after true) core line c i inside ∙ (rw (ne_eqb i core e) refl ∙ sym (get_or-map (in_set_of c.shards line (without line)) c.l1 i [] [] inside)))
+      ]) in
+      ap (in_own_set_of core line (without line)) (others_rest (other_after true) core line c) ∙ ap (λ (l1 : List (List (List (ℕ × Letter)))). record c { l1 = l1 }) same
+
+-- the letters then
+pub drops_all : (old mid new : Caches) (core line : ℕ) → DropsOthers old mid core line → ChangesOne mid new core line I → DropsAll old new line
+drops_all old mid new core line drops one = record {
+  gone = λ c.
+      elim (cases_eq core c) as (λ _. letter_at new c line ≡ I) [
+        | inl e ↦ one c line ∙ rw (eq-eqb core c e, eq-eqb line line refl) refl
+        | inr e ↦ one c line ∙ rw (ne_eqb core c e) (drops.gone c (λ k. e (sym k)))
+      ];
+  others = λ c q apart. one c q ∙ (rw (ne_eqb line q (λ e. apart (sym e))) (either (nat_eq core c) (letter_at mid c q)) ∙ drops.others c q apart);
+} where
+  either : (b : Bool) (l : Letter) → cond b l l ≡ l
+  either true l = refl
+  either false l = refl
 
 -- ---- a line that is read
 quiet_copies : (line : ℕ) (copies : List (ℕ × Letter)) (l : Letter) → letter_in line copies ≡ l → is_alone l ≡ false → (l ≡ I → kept_of line copies ≡ None) → with_letter line (other_after false l) copies ≡ copies

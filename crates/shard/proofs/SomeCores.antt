@@ -1,10 +1,12 @@
 -- Whether some core's letter passes a test.
-use Rattle.std.proofs.Common.{◌≡◌, ◌≢◌, ℕ, zero, suc, ◌+◌, ◌<◌, ◌≤◌, Bool, true, false, not, ◌&&◌, ◌||◌, length, refl, sym, ap, ◌∙◌, arith, inl, inr}
+use Rattle.std.proofs.Common.{◌≡◌, ◌≢◌, ℕ, zero, suc, ◌+◌, ◌<◌, ◌≤◌, Bool, true, false, not, ◌&&◌, ◌||◌, [], length, refl, sym, ap, ◌∙◌, arith, inl, inr}
 use Rattle.std.specs.List.{list_any, range_with_len}
 use Rattle.std.specs.Prelude.{nat_eq}
-use Rattle.std.proofs.lemmas.Bool.{eq-eqb, ne_eqb, cases_eq}
+use Rattle.std.proofs.lemmas.Bool.{eq-eqb, ne_eqb, cases_Bool, cases_eq, cases_lt}
+use Rattle.std.proofs.lemmas.List.{get_or_past}
 use Rattle.cache_set.specs.declared.letter.Letter.{Letter}
-use Rattle.shard.specs.Coherence.{Caches, letter_at, some_core, some_other}
+use Rattle.cache_set.specs.declared.letter.Letter.TheVariants.{M, E, S, I}
+use Rattle.shard.specs.Coherence.{Caches, is_held, letter_at, some_core, some_other}
 
 any_true : (p : ℕ → Bool) (a n o : ℕ) → a ≤ o → o < a + n → p o ≡ true → list_any p (range_with_len a n) ≡ true
 any_true p a zero o low high t = absurd (omega arith)
@@ -60,3 +62,27 @@ some_other_all test c core line own =
       | inl e ↦ rw (eq-eqb o core e) (sym (ap (λ (x : ℕ). test (letter_at c x line)) e ∙ own))
       | inr e ↦ rw (ne_eqb o core e) refl
     ])
+
+both : (b : Bool) → b ≡ true → b ≡ false → ⊥
+both b t f = cc
+
+unknown : (c : Caches) (core line : ℕ) → length c.l1 ≤ core → letter_at c core line ≡ I
+unfolding letter_at
+unknown c core line past = rw (get_or_past c.l1 core [] past) refl
+
+-- where no other core has the line, each has the letter I for it
+pub some_other_none : (c : Caches) (line core : ℕ) → some_other is_held c core line ≡ false → (o : ℕ) → o ≢ core → letter_at c o line ≡ I
+some_other_none c line core none o apart =
+    elim (cases_lt o (length c.l1)) as (λ _. letter_at c o line ≡ I) [
+      | inl l ↦
+          elim (cases_Bool (is_held (letter_at c o line))) as (λ _. letter_at c o line ≡ I) [
+            | inl t ↦ absurd (both (some_other is_held c core line) (some_other_true is_held c line core o l apart t) none)
+            | inr f ↦ not_held (letter_at c o line) f
+          ]
+      | inr l ↦ unknown c o line l
+    ] where
+      not_held : (letter : Letter) → is_held letter ≡ false → letter ≡ I
+      not_held M h = absurd cc
+      not_held E h = absurd cc
+      not_held S h = absurd cc
+      not_held I h = refl

@@ -22,6 +22,11 @@ pub record DropsOthers (old new : Caches) (core line : ℕ) : Type 0 where
   pub others : (c q : ℕ) → q ≢ line → letter_at new c q ≡ letter_at old c q
   pub l2 : new.l2 ≡ old.l2
 
+-- all cores have the letter I for one line, and else the old ones
+pub record DropsAll (old new : Caches) (line : ℕ) : Type 0 where
+  pub gone : (c : ℕ) → letter_at new c line ≡ I
+  pub others : (c q : ℕ) → q ≢ line → letter_at new c q ≡ letter_at old c q
+
 -- what a core's L1 has of a line's set
 abbrev pub copies_at : Caches → (core line : ℕ) → List (ℕ × Letter)
 copies_at c core line = set_of c.shards line (slice_index_or c.l1 core [])

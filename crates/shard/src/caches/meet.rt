@@ -105,6 +105,7 @@ impl CacheLists {
     // The other cores' copies change for an access of a core that has none, and a modified copy
     // makes the line dirty.
     fn change_others(&mut self, core: u16, line: u64, write: bool)
+        requires core { core < length self.old.l1 }
         requires own { letter_at self.old core line ≡ Letter.I }
         requires there { IsSome (dirty_at self.old line) }
         ensures after { self.new ≡ on_others (Outcome.L2 false) write core line self.old }
@@ -136,15 +137,16 @@ impl CacheLists {
         ensures outcome { result ≡ met_at self.old core line write }
         ensures after { self.new ≡ after_at self.old core line write }
     {
-        let dirty_victim = self.make_l2_room(line);
+        let dirty_victim = self.make_l2_room(core, line);
         self.fetch(line);
         self.bring_in(core, line, write);
         Outcome::Miss { dirty_victim }
     }
 
-    // Every copy of the line that has to leave the L2 for this one is removed. The answer is
+    // Every copy of the line that has to leave the L2 for a core's access is removed. The answer is
     // whether that line is dirty.
-    fn make_l2_room(&mut self, line: u64) -> bool
+    fn make_l2_room(&mut self, core: u16, line: u64) -> bool
+        requires { core < length self.old.l1 }
         ensures dirty { result ≡ is_dirty_victim self.old (l2_victim self.old line) }
         ensures after { self.new ≡ room_made (l2_victim self.old line) self.old }
         ensures room { MakesL2Room self.old self.new line }
@@ -152,7 +154,7 @@ impl CacheLists {
         match self.l2_victim(line) {
             Some((victim, dirty)) => {
                 let is_dirty = self.is_dirty(victim, dirty);
-                self.recall(victim);
+                self.recall(core, victim);
                 is_dirty
             }
             None => false,

@@ -1,7 +1,7 @@
 // What an access does to the other cores' copies of a line.
 ghost use Rattle.std.specs.Prelude.{◌≡◌, ◌≢◌, ℕ, ◌<◌, IfSome, IsSome, IsTrue, false, true, length, nat_eq, if◌then◌else◌};
 ghost use Rattle.shard.specs.CacheLayout.{is_owner};
-ghost use Rattle.shard.specs.CacheSteps.{ChangesOne, DropsOthers, HaveCopies};
+ghost use Rattle.shard.specs.CacheSteps.{ChangesOne, DropsAll, DropsOthers, HaveCopies};
 ghost use Rattle.shard.specs.Coherence.{dirty_at, is_alone, is_held, is_modified, letter_at, marked_dirty, other_after, others_changed, recalled, some_core, some_other};
 
 use super::CacheLists;
@@ -13,6 +13,7 @@ impl CacheLists {
         requires { core < length self.now.l1 }
         ensures other { result ≡ some_other is_held self.now core line }
         ensures inclusive { (c : ℕ) → IsTrue (is_held (letter_at self.now c line)) → IsSome (dirty_at self.now line) }
+        ensures copies { HaveCopies self.now }
     {
         self.l2[self.place(line)].any_other(line, core)
     }
@@ -54,6 +55,17 @@ impl CacheLists {
 
     /// No core but this one has a line any more.
     pub(super) fn drop_others(&mut self, core: u16, line: u64)
+        requires { core < length self.old.l1 }
+        ensures after { self.new ≡ others_changed (other_after true) core line self.old }
+        ensures letters { DropsOthers self.old self.new core line }
+    {
+        if self.any_other(core, line) {
+            self.drop_each_other(core, line);
+        }
+    }
+
+    // The same, core by core.
+    fn drop_each_other(&mut self, core: u16, line: u64)
         ensures after { self.new ≡ others_changed (other_after true) core line self.old }
         ensures letters { DropsOthers self.old self.new core line }
     {
@@ -64,13 +76,14 @@ impl CacheLists {
         }
     }
 
-    /// No core has a line any more.
-    pub(super) fn recall(&mut self, line: u64)
+    /// No core has a line any more, nor does this one.
+    pub(super) fn recall(&mut self, core: u16, line: u64)
+        requires { core < length self.old.l1 }
         ensures after { self.new ≡ recalled line self.old }
-        ensures letters { DropsOthers self.old self.new (length self.old.l1) line }
+        ensures letters { DropsAll self.old self.new line }
     {
-        // all cores are others than one that there is not
-        self.drop_others(self.cores(), line);
+        self.drop_others(core, line);
+        self.drop_copy(core, line);
     }
 
     /// Another core that has a line in M or E has it in S.

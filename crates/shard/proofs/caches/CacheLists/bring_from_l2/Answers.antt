@@ -6,6 +6,9 @@ use Rattle.shard.specs.Coherence.{is_held, looked_up, on_others, own_after, some
 use Rattle.shard.proofs.Access.{after_l2, cores_looked, held_same, letters_looked, looked_in_l2, own_same}
 use Rattle.shard.proofs.caches.CacheLists.bring_from_l2.Goals as goal
 
+pub change_others-requires-clause-core : goal.change_others-requires-clause-core
+change_others-requires-clause-core c = rw c.use_line.ensures (omega (arith, c.requires.core, cores_looked c.args.line c.args.self.now))
+
 pub change_others-requires-clause-own : goal.change_others-requires-clause-own
 change_others-requires-clause-own c = rw c.use_line.ensures (letters_looked c.args.line c.args.self.now c.args.core c.args.line ∙ c.requires.own)
 

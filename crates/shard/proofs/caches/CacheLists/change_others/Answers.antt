@@ -1,8 +1,12 @@
 -- The copies change, and the core stays without one.
-use Rattle.std.proofs.Common.{◌∙◌}
+use Rattle.std.proofs.Common.{arith, ◌∙◌}
 use Rattle.shard.specs.Coherence.{is_modified, some_other}
-use Rattle.shard.proofs.Access.{free_read, free_written, letters_collected}
+use Rattle.shard.proofs.Access.{cores_collected, free_read, free_written, letters_collected}
 use Rattle.shard.proofs.caches.CacheLists.change_others.Goals as goal
+
+pub drop_others-requires : goal.drop_others-requires
+drop_others-requires c =
+    rw c.collect.ensures (omega (arith, c.requires.core, cores_collected (some_other is_modified c.args.self.now c.args.core c.args.line) c.args.line c.args.self.now))
 
 pub share_others-requires : goal.share_others-requires
 share_others-requires c =

@@ -1,34 +1,13 @@
--- One core after the other.
-use Rattle.std.proofs.Common.{sym, arith}
-use Rattle.shard.proofs.AllCaches.{not_held}
-use Rattle.shard.proofs.Others.{all_dropped, dropped_more, drops_others, kept_more, none_dropped, own_more}
-use Rattle.shard.proofs.caches.CacheLists.drop_others.Goals.{then-other-core+then-holds, else-other-core, else-other-core-via-then-other-core+else-holds, else-other-core-via-else-other-core}
+-- Where no other core has the line, nothing changes.
+use Rattle.std.proofs.Common.{sym}
+use Rattle.shard.proofs.Others.{drops_none, none_to_drop}
+use Rattle.shard.proofs.SomeCores.{some_other_none}
 use Rattle.shard.proofs.caches.CacheLists.drop_others.Goals as goal
 
-pub loop-other-init : goal.loop-other-init
-loop-other-init c = none_dropped c.args.self.now c.args.core c.args.line
+pub returns-else-any_other-clause-after : goal.returns-else-any_other-clause-after
+returns-else-any_other-clause-after c =
+    none_to_drop c.args.self.now c.args.core c.args.line c.any_other.ensures.copies (some_other_none c.args.self.now c.args.line c.args.core (sym c.if-any_other.ensures.other))
 
-pub holds-requires : goal.holds-requires
-holds-requires c = let so_far = c.loop-other.invariant in omega (arith, so_far.cores)
-
-pub drop_copy-requires : goal.drop_copy-requires
-drop_copy-requires c = let so_far = c.loop-other.invariant in omega (arith, so_far.cores)
-
-pub loop-other-preserved : goal.loop-other-preserved
-loop-other-preserved c =
-    let so_far = c.loop-other.invariant in
-    elim c.if-other-core.branch [
-      | then-other-core+then-holds w ↦
-          rw (w.self-is, w.drop_copy.ensures.after) (dropped_more so_far w.if-other-core.true (omega (arith, so_far.cores)) (rw w.drop_copy.ensures.after at w.drop_copy.ensures.letters))
-      | else-other-core w ↦
-          rw w.self-is (elim w.else-other-core.branch [
-            | else-other-core-via-then-other-core+else-holds v ↦ kept_more so_far (not_held _ (sym v.if-holds.ensures.held)) v.holds.ensures.copies
-            | else-other-core-via-else-other-core v ↦ own_more so_far v.if-other-core.false
-          ])
-    ]
-
-pub returns-clause-after : goal.returns-clause-after
-returns-clause-after c = all_dropped c.loop-other.invariant (omega arith)
-
-pub returns-clause-letters : goal.returns-clause-letters
-returns-clause-letters c = drops_others c.loop-other.invariant (omega arith)
+pub returns-else-any_other-clause-letters : goal.returns-else-any_other-clause-letters
+returns-else-any_other-clause-letters c =
+    drops_none c.args.self.now c.args.core c.args.line (some_other_none c.args.self.now c.args.line c.args.core (sym c.if-any_other.ensures.other))

@@ -5,6 +5,9 @@ use Rattle.shard.specs.Coherence.{dirty_at, is_held, looked_up, other_after}
 use Rattle.shard.proofs.Access.{cores_looked, cores_others, l2_others, letters_looked, looked_in_l2}
 use Rattle.shard.proofs.caches.CacheLists.upgrade.Goals as goal
 
+pub drop_others-requires : goal.drop_others-requires
+drop_others-requires c = rw c.use_line.ensures (omega (arith, c.requires.core, cores_looked c.args.line c.args.self.now))
+
 pub own-requires-clause-core : goal.own-requires-clause-core
 own-requires-clause-core c =
     rw (c.drop_others.ensures.after, c.use_line.ensures)
