@@ -76,7 +76,7 @@ impl CacheLists {
         }
     }
 
-    /// No core has a line any more, nor does this one.
+    /// No core has a line any more, this one included.
     pub(super) fn recall(&mut self, core: u16, line: u64)
         requires { core < length self.old.l1 }
         ensures after { self.new ≡ recalled line self.old }
