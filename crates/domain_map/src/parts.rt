@@ -51,6 +51,13 @@ impl Parts {
         self.count
     }
 
+    /// The domains of the components, by number.
+    pub fn places(&self) -> &[u16]
+        ensures { result.now ≡ self.now.places }
+    {
+        &self.places
+    }
+
     /// The domain of a component.
     pub fn domain(&self, component: u16) -> u16
         requires { component < length self.now.places }

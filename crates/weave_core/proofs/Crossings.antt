@@ -24,15 +24,23 @@ pub record Joins (places : List ℕ) (events : List Event) (x : Crossing) : Type
   pub there : slice_get events number ≡ Some child
   pub slot : (child.first ≡ Some parent) ⊎ (child.second ≡ Some parent)
   pub is : crossing_of places events child parent ≡ x
+  pub apart : eqb (domain_of_number places events parent.number) (domain_of places child) ≡ false
 
 module _ (places : List ℕ) (events : List Event) where
-  from_slot : (e : Event) (p : Option Parent) (x : Crossing) → In x (crossing_from places events e p) → (q : Parent) × ((p ≡ Some q) × (crossing_of places events e q ≡ x))
+  -- the parent of a crossing is of another domain
+  record IsFrom (e : Event) (p : Option Parent) (x : Crossing) : Type 0 where
+    parent : Parent
+    slot : p ≡ Some parent
+    is : crossing_of places events e parent ≡ x
+    apart : eqb (domain_of_number places events parent.number) (domain_of places e) ≡ false
+
+  from_slot : (e : Event) (p : Option Parent) (x : Crossing) → In x (crossing_from places events e p) → IsFrom e p x
   from_slot e None x h = absurd h
-  from_slot e (Some q) x h = by_test (eqb (domain_of_number places events q.number) (domain_of places e)) h
+  from_slot e (Some q) x h = by_test (eqb (domain_of_number places events q.number) (domain_of places e)) refl h
     where
-      by_test : (t : Bool) → In x (cond t [] (crossing_of places events e q ∷ [])) → (r : Parent) × ((Some q ≡ Some r) × (crossing_of places events e r ≡ x))
-      by_test true m = absurd m
-      by_test false m = elim m [ inl s ↦ (q, (refl, s)) | inr n ↦ absurd n ]
+      by_test : (t : Bool) → eqb (domain_of_number places events q.number) (domain_of places e) ≡ t → In x (cond t [] (crossing_of places events e q ∷ [])) → IsFrom e (Some q) x
+      by_test true v m = absurd m
+      by_test false v m = elim m [ inl s ↦ record { parent = q; slot = refl; is = s; apart = v } | inr n ↦ absurd n ]
 
   to_slot : (e : Event) (q : Parent) → eqb (domain_of_number places events q.number) (domain_of places e) ≡ false
       → In (crossing_of places events e q) (crossing_from places events e (Some q))
@@ -45,11 +53,11 @@ module _ (places : List ℕ) (events : List Event) where
       let at : (i : ℕ) × (slice_get events i ≡ Some r.0) = in_at r.0 events r.1.0 in
       elim (in_cases x (crossing_from places events r.0 r.0.first) (crossing_from places events r.0 r.0.second) r.1.1) [
         | inl m ↦
-            let s : (q : Parent) × ((r.0.first ≡ Some q) × (crossing_of places events r.0 q ≡ x)) = from_slot r.0 r.0.first x m in
-            record { child = r.0; parent = s.0; number = at.0; there = at.1; slot = inl s.1.0; is = s.1.1 }
+            let s : IsFrom r.0 r.0.first x = from_slot r.0 r.0.first x m in
+            record { child = r.0; parent = s.parent; number = at.0; there = at.1; slot = inl s.slot; is = s.is; apart = s.apart }
         | inr m ↦
-            let s : (q : Parent) × ((r.0.second ≡ Some q) × (crossing_of places events r.0 q ≡ x)) = from_slot r.0 r.0.second x m in
-            record { child = r.0; parent = s.0; number = at.0; there = at.1; slot = inr s.1.0; is = s.1.1 }
+            let s : IsFrom r.0 r.0.second x = from_slot r.0 r.0.second x m in
+            record { child = r.0; parent = s.parent; number = at.0; there = at.1; slot = inr s.slot; is = s.is; apart = s.apart }
       ]
 
   pub crossing_at : (i : ℕ) (e : Event) (q : Parent) → slice_get events i ≡ Some e → ((e.first ≡ Some q) ⊎ (e.second ≡ Some q))

@@ -1,6 +1,6 @@
 -- What the calls of a domain promise: each is a step of the machine, and the events that a domain fires are the first of its
 -- events in every solution of the timing rules for which its words and its floor are sound.
-use Rattle.std.specs.Prelude.{◌≡◌, ◌≤◌, ◌<◌, ◌⊎◌, ◌==◌, ℕ, Bool, true, List, [], ◌∷◌, ◌++◌, length, map, take, Option, Some, None, slice_get, slice_set}
+use Rattle.std.specs.Prelude.{◌≡◌, ◌≤◌, ◌<◌, ◌⊎◌, ◌==◌, ◌^◌, ℕ, Bool, true, List, [], ◌∷◌, ◌++◌, length, map, take, Option, Some, None, slice_get, slice_set}
 use Rattle.std.specs.List.{filter, enumerate_from}
 use Rattle.std.specs.Option.{option_map}
 use Rattle.zs_num.specs.declared.time.Key.{Key}
@@ -16,39 +16,30 @@ use Rattle.domain_map.specs.declared.crossing.Crossing.{Crossing}
 use Rattle.domain_map.specs.Domains.{Division, Divides, domain_at, domain_of}
 use Rattle.weave_core.specs.declared.next.Next.{Next}
 use Rattle.weave_core.specs.declared.next.Next.TheVariants.{Done, Fire, Blocked}
-use Rattle.weave_core.specs.DomainMachine.{DomainState, arrival_of, bound_of, is_clear, is_unresolved, latency_at, next_in}
+use Rattle.weave_core.specs.DomainMachine.{DomainState, arrival_of, bound_of, cycle_of, is_clear, is_exact, is_unresolved, next_in, word_at}
+use Rattle.weave_core.specs.Layout.{place_in}
 use Rattle.weave_core.specs.Interleavings.{IsFront, of_domain}
 use Rattle.weave_core.specs.Soundness.{AreSoundWords, IsSoundFloor}
 
--- a crossing into a domain: its number, and the least time that its parent takes
-pub record Incoming : Type 0 where
-  pub number : ℕ
-  pub crossing : Crossing
-  pub latency : ℕ
-
--- What a domain keeps of a graph, with what it knows and did, and its components in order of their numbers.
+-- What a domain keeps: the graph and its division, which domain it is, what it knows and did, and its components in order of
+-- their numbers.
 pub record DomainValue (C : Type 0) : Type 0 where
   pub domain : ℕ
   pub events : List Event
-  pub incoming : List Incoming
-  pub outgoing : List (ℕ × Crossing)
+  pub division : Division
   pub own : DomainState
   pub comps : List C
+
+-- it is this domain of this graph, as it was divided
+pub record IsDomainOf {C : Type 0} (events : List Event) (p : Division) (domain : ℕ) (v : DomainValue C) : Type 0 where
+  pub domain_is : v.domain ≡ domain
+  pub events_are : v.events ≡ events
+  pub division_is : v.division ≡ p
 
 -- those of the components that are in a domain, in order of their numbers
 abbrev pub comps_in : {C : Type 0} → (places : List ℕ) → (domain : ℕ) → List C → List C
 comps_in {C} places domain comps =
     map (λ (at : ℕ × C). at.1) (filter (λ (at : ℕ × C). domain_at places at.0 == domain) (enumerate_from 0 comps))
-
--- it is this domain of this graph, as it was divided
-pub record IsDomainOf {C : Type 0} (events : List Event) (p : Division) (domain : ℕ) (v : DomainValue C) : Type 0 where
-  pub divides : Divides events p
-  pub domain_is : v.domain ≡ domain
-  pub events_are : v.events ≡ filter (λ e. domain_of p.places e == domain) events
-  pub incoming : v.incoming
-      ≡ map (λ at. record { number = at.0; crossing = at.1; latency = latency_at events at.1.parent })
-      (filter (λ (at : ℕ × Crossing). at.1.target == domain) (enumerate_from 0 p.crossings))
-  pub outgoing : v.outgoing ≡ filter (λ (at : ℕ × Crossing). at.1.source == domain) (enumerate_from 0 p.crossings)
 
 -- the components of a domain, at their numbers among all components, which the graph fits
 pub record IsFitted {C : Type 0} (serves : C → Kind → Bool) (floor : C → Kind → ℕ) (events : List Event) (p : Division) (domain : ℕ) (comps all : List C) : Type 0 where
@@ -96,6 +87,17 @@ module _ (events : List Event) (p : Division) (domain : ℕ) where
   IsNoFall own number x (Bound a) (Exact f) = bound_of events p own number x ≤ f
   IsNoFall own number x (Exact g) (Exact f) = f ≡ g
 
+  -- a word that the domain may be told: its crossing leads into the domain, it doesn't fall, a finish is the one that other
+  -- crossings told of the same parent, and its cycle is one of a run
+  pub record MayTell (own : DomainState) (number : ℕ) (word : Word) : Type 0 where
+    pub crossing : Crossing
+    pub there : slice_get p.crossings number ≡ Some crossing
+    pub target : crossing.target ≡ domain
+    pub no_fall : IsNoFall own number crossing (word_at own.known number) word
+    pub agrees : (other : ℕ) (y : Crossing) → slice_get p.crossings other ≡ Some y → y.parent ≡ crossing.parent
+        → is_exact (word_at own.known other) ≡ true → is_exact word ≡ true → cycle_of word ≡ cycle_of (word_at own.known other)
+    pub small : cycle_of word ≤ 2 ^ 62
+
   -- the least ready key
   abbrev pub earliest_of : DomainState → Option Key
   earliest_of own = option_map (λ next. record { start = next.1; number = next.0.number }) (next_in events p domain own)
@@ -108,24 +110,26 @@ at_first p = record { fired = []; known = map (λ x. Bound 0) p.crossings; floor
 abbrev pub with_known : DomainState → (number : ℕ) → Word → DomainState
 with_known own number word = record own { known = slice_set own.known number word }
 
--- the place of a component among those of its domain
-abbrev pub place_in : (places : List ℕ) → (domain component : ℕ) → ℕ
-place_in places domain component = length (filter (λ d. d == domain) (take component places))
-
 -- a fire: the least ready event fires, its component serves it, and nothing else changes
-pub record IsFire {C : Type 0} (stepped : C → Kind → ℕ → C × ℕ) (events : List Event) (p : Division) (old new : DomainValue C) (result : Fired) : Type 0 where
+pub record IsFire {C : Type 0} (stepped : C → Kind → ℕ → C × ℕ) (old new : DomainValue C) (result : Fired) : Type 0 where
   pub event : Event
   pub start : ℕ
-  pub next : next_in events p old.domain old.own ≡ Some (event, start)
+  pub next : next_in old.events old.division old.domain old.own ≡ Some (event, start)
   pub component : C
-  pub there : slice_get old.comps (place_in p.places old.domain event.component) ≡ Some component
+  pub there : slice_get old.comps (place_in old.division.places old.domain event.component) ≡ Some component
   pub result_is : result ≡ record { number = event.number; start = start; finish = (stepped component event.kind start).1 }
   pub new_is : new ≡ record old {
     own = record old.own {
       fired = old.own.fired ++ (record { event = event; start = start; finish = (stepped component event.kind start).1 }) ∷ [];
     };
-    comps = slice_set old.comps (place_in p.places old.domain event.component) (stepped component event.kind start).0;
+    comps = slice_set old.comps (place_in old.division.places old.domain event.component) (stepped component event.kind start).0;
   }
+
+-- it may fire, and the greatest sum of the step is at most 2^62
+pub record CanFire {C : Type 0} (greatest : C → Kind → ℕ → ℕ) (v : DomainValue C) : Type 0 where
+  pub key : Key
+  pub may : MayFire v.events v.division v.domain v.own key
+  pub small : (c : C) → slice_get v.comps (place_in v.division.places v.domain may.event.component) ≡ Some c → greatest c may.event.kind key.start ≤ 2 ^ 62
 
 -- Where the words that the domain knows and its floor are sound for a solution, it fired the first of its events in that
 -- solution, at their cycles, and its components are what these leave.

@@ -1,0 +1,81 @@
+-- The crossings into a domain, and the queue of those whose finish is not known.
+use Rattle.std.specs.Prelude.{◌≡◌, ◌≤◌, ◌<◌, ◌+◌, ◌-◌, ◌^◌, ℕ, true, false, max, List, [], ◌∷◌, length, slice_get, slice_set, Some, None}
+use Rattle.std.specs.List.{Contains}
+use Rattle.std.specs.Option.{option_map_or}
+use Rattle.zs_num.specs.declared.time.Key.{Key}
+use Rattle.zs_num.specs.declared.time.Word.{Word}
+use Rattle.zs_num.specs.declared.time.Word.TheVariants.{Bound, Exact}
+use Rattle.domain_queue.specs.SortedKeys.{ReadyKeys, is_before}
+use Rattle.weave_core.specs.declared.incoming.Stub.{Stub}
+use Rattle.weave_core.specs.DomainMachine.{cycle_of, is_exact}
+use Rattle.weave_core.specs.Waits.{key_of}
+
+-- the stubs in order of their numbers, and the floor
+pub record Stubs : Type 0 where
+  pub stubs : List Stub
+  pub floor : ℕ
+
+-- its times don't pass 2^62
+pub record IsSmallStub (s : Stub) : Type 0 where
+  pub delay : s.delay ≤ 2 ^ 62
+  pub latency : s.latency ≤ 2 ^ 62
+  pub cycle : cycle_of s.word ≤ 2 ^ 62
+
+abbrev pub AreSmallStubs : List Stub → Type 0
+AreSmallStubs stubs = (place : ℕ) (s : Stub) → slice_get stubs place ≡ Some s → IsSmallStub s
+
+-- what its child can't start before
+abbrev pub arrival_at : (floor : ℕ) → Stub → ℕ
+arrival_at floor s = max (cycle_of s.word) (floor + s.latency) + s.delay
+
+-- with another word at a place
+abbrev pub told_word : Word → Stub → Stub
+told_word word s = record s { word = word }
+
+-- of the stubs whose finish isn't known it has the least arrival, and at a tie the least place
+pub record IsFirstStub (v : Stubs) (k : Key) : Type 0 where
+  pub stub : Stub
+  pub there : slice_get v.stubs k.number ≡ Some stub
+  pub unknown : is_exact stub.word ≡ false
+  pub start : k.start ≡ arrival_at v.floor stub
+  pub least : (place : ℕ) (s : Stub) → slice_get v.stubs place ≡ Some s → is_exact s.word ≡ false → is_before (key_of (arrival_at v.floor s) place) k ≡ false
+
+-- each finish is known
+abbrev pub NoneOpen : Stubs → Type 0
+NoneOpen v = (place : ℕ) (s : Stub) → slice_get v.stubs place ≡ Some s → is_exact s.word ≡ true
+
+-- Each stub whose finish isn't known has a key that isn't too late, and no stub has two.
+pub record IsKeyed (stubs : List Stub) (floor : ℕ) (queue : ReadyKeys) : Type 0 where
+  pub within : (k : Key) → Contains queue.keys k → k.number < length stubs
+  pub covers : (place : ℕ) (s : Stub) → slice_get stubs place ≡ Some s → is_exact s.word ≡ false
+      → (start : ℕ) × ((start ≤ arrival_at floor s) × Contains queue.keys (key_of start place))
+  pub once : (k other : Key) → Contains queue.keys k → Contains queue.keys other → k.number ≡ other.number → k ≡ other
+  pub room : length queue.keys ≤ queue.room
+
+-- the arrival of the stub at a place
+abbrev pub arrival_in : List Stub → (floor place : ℕ) → ℕ
+arrival_in stubs floor place = option_map_or (arrival_at floor) (slice_get stubs place) 0
+
+-- how far the keys are from their stubs' arrivals, and how many they are
+abbrev pub slack : List Stub → (floor : ℕ) → List Key → ℕ
+slack stubs floor [] = 0
+slack stubs floor (k ∷ keys) = 1 + (arrival_in stubs floor k.number - k.start) + slack stubs floor keys
+
+-- the first key is that of a stub whose finish isn't known, at its arrival
+abbrev pub IsCurrent : List Stub → (floor : ℕ) → ReadyKeys → Type 0
+IsCurrent stubs floor queue =
+    (k : Key) (s : Stub) → slice_get queue.keys 0 ≡ Some k → slice_get stubs k.number ≡ Some s → (is_exact s.word ≡ false) × (k.start ≡ arrival_at floor s)
+
+pub record IsQueued (stubs : List Stub) (floor : ℕ) (queue : ReadyKeys) : Type 0 where
+  pub small : AreSmallStubs stubs
+  pub floor_small : floor ≤ 2 ^ 62
+  pub keyed : IsKeyed stubs floor queue
+  pub current : IsCurrent stubs floor queue
+
+-- a stub of the crossing is among them, and their numbers rise
+pub record IsSearched (stubs : List Stub) (crossing : ℕ) : Type 0 where
+  pub place : ℕ
+  pub stub : Stub
+  pub there : slice_get stubs place ≡ Some stub
+  pub number : stub.number ≡ crossing
+  pub rising : (i j : ℕ) (s t : Stub) → i < j → slice_get stubs i ≡ Some s → slice_get stubs j ≡ Some t → s.number < t.number

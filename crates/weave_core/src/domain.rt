@@ -1,0 +1,167 @@
+// A domain of the weave.
+ghost use Rattle.std.specs.Prelude.{◌≡◌, ◌≤◌, ◌<◌, ◌^◌, IfErr, IfOk, List, length};
+ghost use Rattle.weave_core.specs.DomainCalls.{CanFire, IsAnswer, IsFire, IsFitted, MayTell, at_first, earliest_of, with_known};
+ghost use Rattle.domain_map.specs.Domains.{Divides};
+ghost use Rattle.weave_core.specs.DomainMachine.{with_floor};
+ghost use Rattle.weave_core.specs.LaidOut.{FitsDomain};
+
+use crate::Next;
+use crate::answer::{answer, numbered};
+use crate::children::{Link, tell_children};
+use crate::incoming::{Incoming, place_of};
+use crate::prepare::lay_out;
+use crate::waiting::Waiting;
+use component::{Component, Comps};
+use domain_map::Parts;
+use event_graph::{Event, Fired, Graph};
+use std::alloc::Global;
+use std::marker::Model;
+use std::snapshot::Snapshot;
+use zs_num::{Cycle, Key, NoMemory, Word};
+
+/// One domain's events and components. It fires its events in order of (start, number), as far as
+/// what it was told of the other domains allows.
+#[derive(Drop)]
+pub struct Domain<C: Component> {
+    pub(crate) graph: Snapshot<Graph>,
+    pub(crate) parts: Snapshot<Parts>,
+    pub(crate) domain: u16,
+    /// Its events, in order of their numbers. Their places are what the lists below go by.
+    pub(crate) here: Vec<Event>,
+    /// For each event the last link to a child, as `Link::next` has it.
+    pub(crate) heads: Vec<u32>,
+    pub(crate) links: Vec<Link>,
+    pub(crate) waiting: Waiting,
+    pub(crate) incoming: Incoming,
+    pub(crate) fired: Vec<Fired>,
+    /// For each component of the machine its place among those of its domain.
+    pub(crate) spots: Vec<u16>,
+    pub(crate) comps: Comps<C>,
+}
+
+impl<C: Component> Model for Domain<C> {
+    ghost use Rattle.weave_core.specs.DomainCalls.{DomainValue};
+    ghost use Rattle.weave_core.specs.Inside.{domain_value, IsDomain};
+
+    ghost Value = { DomainValue C };
+
+    ghost view = { domain_value };
+
+    ghost invariant = { IsDomain C.serves };
+}
+
+impl<C: Component> Domain<C> {
+    /// The domain of this number of a graph that was split, with its components in order of their
+    /// numbers, before its first event fires. All memory that it needs is taken here; where it runs
+    /// out, the components come back.
+    pub fn prepare(
+        alloc: Global,
+        g: &Graph,
+        p: &Parts,
+        domain: u16,
+        comps: Comps<C>,
+    ) -> Result<Self, (NoMemory, Comps<C>)>
+        requires domain { domain < length p.now.events }
+        requires divides { Divides g.now p.now }
+        requires fits { FitsDomain g.now p.now }
+        requires components { (all : List C) × IsFitted C.serves C.floor g.now p.now domain comps all }
+        ensures prepared { IfOk result (λ it. it ≡ record { domain = domain; events = g.now; division = p.now; own = at_first p.now; comps = comps }) }
+        ensures back { IfErr result (λ e. e.1 ≡ comps) }
+    {
+        let _ = g.events();
+        match lay_out(alloc, g, p, domain) {
+            Ok(layout) => Ok(Domain {
+                graph: Snapshot::of(g),
+                parts: Snapshot::of(p),
+                domain,
+                here: layout.here,
+                heads: layout.heads,
+                links: layout.links,
+                waiting: layout.waiting,
+                incoming: layout.incoming,
+                fired: layout.fired,
+                spots: layout.spots,
+                comps,
+            }),
+            Err(error) => Err((error, comps)),
+        }
+    }
+
+    /// The least (start, number) of an event that is ready. None exactly where none is.
+    pub fn earliest(&self) -> Option<Key>
+        ensures { result ≡ earliest_of self.now.events self.now.division self.now.domain self.now.own }
+    {
+        let key = self.waiting.first()?;
+        Some(numbered(&self.here, key))
+    }
+
+    /// What it can do next.
+    pub fn next(&self) -> Next
+        ensures { IsAnswer self.now.events self.now.division self.now.domain self.now.own result }
+    {
+        answer(
+            &self.here,
+            self.incoming.stubs(),
+            self.waiting.first(),
+            self.incoming.first(),
+        )
+    }
+
+    /// Tells it what is known of a crossing's parent.
+    pub fn look(&mut self, crossing: u32, word: Word)
+        requires { MayTell self.old.events self.old.division self.old.domain self.old.own crossing word }
+        ensures { self.new ≡ record self.old { own = with_known self.old.own crossing word } }
+    {
+        let place = place_of(self.incoming.stubs(), crossing);
+        let stub = self.incoming.stubs()[place as usize];
+        self.incoming.tell(place, word);
+        if stub.is_open() {
+            if let Word::Exact(finish) = word {
+                self.waiting.parent_fired(stub.child, finish + stub.delay);
+            }
+        }
+    }
+
+    /// Tells it that every event that other domains have not told it of starts at this cycle or
+    /// later.
+    pub fn set_floor(&mut self, floor: Cycle)
+        requires rises { self.old.own.floor ≤ floor }
+        requires small { floor ≤ 2 ^ 62 }
+        ensures { self.new ≡ record self.old { own = with_floor floor self.old.own } }
+    {
+        self.incoming.raise(floor);
+    }
+
+    /// Fires the event of `next`, and answers it with its start and its finish. Takes no memory.
+    pub fn fire(&mut self) -> Fired
+        requires { CanFire C.greatest self.old }
+        ensures { IsFire C.stepped self.old self.new result }
+    {
+        let Some(key) = self.waiting.take_first() else {
+            unreachable!()
+        };
+        let event = self.here[key.number as usize];
+        let spot = self.spots[usize::from(event.component)];
+        let finish = self.comps.as_mut_slice()[usize::from(spot)].step(event.kind, key.start);
+        let fired = Fired {
+            number: event.number,
+            start: key.start,
+            finish,
+        };
+        self.fired.push_reserved(fired);
+        tell_children(
+            &mut self.waiting,
+            &self.links,
+            self.heads[key.number as usize],
+            finish,
+        );
+        fired
+    }
+
+    /// The components.
+    pub fn finish(self) -> Comps<C>
+        ensures { result ≡ self.comps }
+    {
+        self.comps
+    }
+}
