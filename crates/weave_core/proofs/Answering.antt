@@ -1,11 +1,11 @@
 -- What a domain answers.
-use Rattle.std.proofs.Common.{◌≡◌, ◌+◌, ◌-◌, ◌<◌, ◌≤◌, ℕ, zero, suc, Bool, true, false, not, ◌&&◌, ◌||◌, cond, eqb, ltb, max, List, length, ◌⊎◌, Option, Some, None, slice_get, get_or, sym, ◌∙◌, ap, subst, refl, inl, inr, arith}
+use Rattle.std.proofs.Common.{◌≡◌, ◌+◌, ◌-◌, ◌<◌, ◌≤◌, ℕ, zero, suc, Bool, true, false, not, ◌||◌, cond, eqb, ltb, max, List, ◌⊎◌, Option, Some, None, slice_get, get_or, sym, ◌∙◌, ap, subst, refl, inl, inr, arith}
 use Rattle.std.specs.Prelude.{IfSome, IfNone}
-use Rattle.std.proofs.lemmas.Bool.{cases_eq, cases_lt, false≢true}
+use Rattle.std.proofs.lemmas.Bool.{cases_lt, false≢true}
 use Rattle.std.proofs.lemmas.Bool.Decides.{nat_tests}
-use Rattle.std.proofs.lemmas.Option.{same_Some, none-some, get_or_from_slice_get}
-use Rattle.std.specs.List.{enumerate_from, list_all}
-use Rattle.std.specs.Option.{option_map, option_map_or}
+use Rattle.std.proofs.lemmas.Option.{same_Some, get_or_from_slice_get}
+use Rattle.std.specs.List.{enumerate_from}
+use Rattle.std.specs.Option.{option_map}
 use Rattle.zs_num.specs.declared.time.Key.{Key}
 use Rattle.event_graph.specs.declared.event.Event.{Event}
 use Rattle.event_graph.specs.declared.event.Parent.{Parent}
@@ -15,13 +15,11 @@ use Rattle.domain_map.specs.declared.crossing.Crossing.{Crossing}
 use Rattle.domain_map.specs.Domains.{Division, Divides, domain_of, domain_of_number}
 use Rattle.domain_queue.specs.SortedKeys.{is_before}
 use Rattle.weave_core.specs.declared.incoming.Stub.{Stub}
-use Rattle.weave_core.specs.declared.next.Next.{Next}
-use Rattle.weave_core.specs.declared.next.Next.TheVariants.{Done, Fire, Blocked}
 use Rattle.weave_core.specs.Answer.{IsBlocking, answer_of, blocked_by, fire_of, no_stub, numbered_key}
-use Rattle.weave_core.specs.DomainCalls.{AllFired, IsAnswer, IsBlockedBy, IsLeastArrival, MayFire, earliest_of}
-use Rattle.weave_core.specs.DomainMachine.{DomainState, arrival_of, bound_of, cycle_of, every_crossing, is_clear, is_exact, is_own_parent_fired, is_unresolved, latency_at, next_in, word_at}
-use Rattle.weave_core.specs.Layout.{AreHere, AreStubs, IsStubOf, Stands, known_words, missing_at, no_event, pending, unknown_into}
-use Rattle.weave_core.specs.Stubs.{IsFirstStub, NoneOpen, Stubs, arrival_at}
+use Rattle.weave_core.specs.DomainCalls.{AllFired, IsAnswer, IsBlockedBy, MayFire, earliest_of}
+use Rattle.weave_core.specs.DomainMachine.{DomainState, arrival_of, bound_of, cycle_of, is_exact, is_own_parent_fired, is_unresolved, latency_at, next_in, word_at}
+use Rattle.weave_core.specs.Layout.{AreHere, AreStubs, Stands, known_words, missing_at, no_event, pending, unknown_into}
+use Rattle.weave_core.specs.Stubs.{IsFirstStub, NoneOpen, arrival_at}
 use Rattle.weave_core.specs.Waits.{IsFirstReady, NoneReady, Waits, key_of}
 use Rattle.weave_core.proofs.Knowledge.{at_event}
 use Rattle.weave_core.proofs.Lists.{all_from, and_true, both, from_enum, get_below, get_there, not_true, or_left, or_right}

@@ -1,5 +1,5 @@
 -- A walk down a chain of children.
-use Rattle.std.proofs.Common.{◌≡◌, ◌+◌, ◌-◌, ◌<◌, ◌≤◌, ℕ, zero, suc, List, [], ◌∷◌, length, Some, slice_get, sym, ◌∙◌, ap, subst, refl, arith}
+use Rattle.std.proofs.Common.{◌≡◌, ◌-◌, ◌<◌, ℕ, List, [], ◌∷◌, Some, slice_get, sym, ◌∙◌, ap, subst, refl, arith}
 use Rattle.std.proofs.lemmas.Option.{same_Some}
 use Rattle.weave_core.specs.declared.children.Link.{Link}
 use Rattle.weave_core.specs.Children.{CanTell, IsChain, IsTellable, tell_all, tell_child}
@@ -46,12 +46,15 @@ next_link links head finish next first w t some = by_rest t.rest t.is_chain t.ca
         → ((chain : List Link) → IsChain links head chain → tell_all finish first chain ≡ tell_all finish w rest)
         → (l : Link) × IsNextLink links head finish next first w l
     by_rest [] is can same = absurd (omega (arith, is, some))
-    by_rest (l ∷ rest) is can same = (l, record {
-      there = is.1.0;
-      lower = is.1.1.0;
-      tellable = can.0;
-      later = record { rest = rest; is_chain = is.1.1.1; can = can.1; same = same };
-    })
+    by_rest (l ∷ rest) is can same = (
+      l,
+      record {
+        there = is.1.0;
+        lower = is.1.1.0;
+        tellable = can.0;
+        later = record { rest = rest; is_chain = is.1.1.1; can = can.1; same = same };
+      },
+    )
 
 pub at_end : (links : List Link) (head finish next : ℕ) (first w : Waits) → IsTelling links head finish next first w → next ≡ 0
     → (chain : List Link) → IsChain links head chain → w ≡ tell_all finish first chain

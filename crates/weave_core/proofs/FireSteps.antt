@@ -1,24 +1,23 @@
 -- A domain after one of its events fired.
-use Rattle.std.proofs.Common.{◌≡◌, ◌+◌, ◌-◌, ◌<◌, ◌≤◌, ◌^◌, ℕ, zero, suc, Bool, true, false, not, ◌&&◌, ◌||◌, cond, eqb, max, List, [], ◌∷◌, ◌++◌, length, map, set, get_or, ◌⊎◌, Option, Some, None, is_some, slice_get, sym, ◌∙◌, ap, subst, refl, inl, inr, arith, length-set}
-use Rattle.std.proofs.lemmas.Bool.{cases_eq, cases_lt, false≢true}
+use Rattle.std.proofs.Common.{◌≡◌, ◌+◌, ◌-◌, ◌<◌, ◌≤◌, ◌^◌, ℕ, zero, suc, Bool, true, false, not, ◌&&◌, ◌||◌, cond, eqb, max, List, [], ◌∷◌, ◌++◌, length, set, get_or, Option, Some, None, is_some, slice_get, sym, ◌∙◌, ap, refl, inl, inr, arith, length-set}
+use Rattle.std.proofs.lemmas.Bool.{cases_eq, false≢true}
 use Rattle.std.proofs.lemmas.Option.{same_Some, none-some, get_or_from_slice_get}
-use Rattle.std.specs.List.{find}
 use Rattle.event_graph.specs.declared.event.Event.{Event}
 use Rattle.event_graph.specs.declared.event.Parent.{Parent}
 use Rattle.event_graph.specs.Numbered.{IsNumbered}
 use Rattle.event_graph.specs.OneListWeave.{Timed, find_fired, finish_in, finish_or_zero, is_fired}
-use Rattle.domain_map.specs.Domains.{Division, domain_of, domain_of_number}
+use Rattle.domain_map.specs.Domains.{Division, domain_of_number}
 use Rattle.weave_core.specs.declared.children.Link.{Link}
 use Rattle.weave_core.specs.declared.incoming.Stub.{Stub}
-use Rattle.weave_core.specs.Children.{CanTell, IsTellable, tell_all, tell_child}
+use Rattle.weave_core.specs.Children.{CanTell, tell_all, tell_child}
 use Rattle.weave_core.specs.DomainMachine.{DomainState}
-use Rattle.weave_core.specs.Layout.{AreHere, IsChildren, Stands, fired_in, hit_after, hits, latest_to, links_to, missing_at, own_after, pending, start_at, told_into, unknown_into}
-use Rattle.weave_core.specs.Waits.{Waits, is_fired_wait, told}
+use Rattle.weave_core.specs.Layout.{AreHere, IsChildren, Stands, fired_in, hit_after, hits, latest_to, links_to, missing_at, own_after, pending, told_into}
+use Rattle.weave_core.specs.Waits.{Waits, is_fired_wait}
 use Rattle.weave_core.proofs.Knowledge.{at_event}
-use Rattle.weave_core.proofs.Lists.{In, at_in, find_some, get_below, get_there, some_at, test_cases}
+use Rattle.weave_core.proofs.Lists.{get_below, get_there, test_cases}
 use Rattle.weave_core.proofs.Looked.{fired_told, unknown_few}
 use Rattle.weave_core.proofs.Updates.{get_set_other, get_set_same}
-use Rattle.weave_core.proofs.Words.{apart_eq, eq_is, is_eq, one_place}
+use Rattle.weave_core.proofs.Words.{apart_eq, is_eq, one_place}
 
 -- what a walk leaves
 
@@ -92,22 +91,22 @@ can_tell finish w (l ∷ chain) sizes each counts =
     let some = counts l.child v.0 v.1 (omega (arith, one)) in (
       record { sizes = sizes; within = here.0; waits = omega (arith, read, some.0, one); unfired = omega (arith, read, some.1); small = here.1 },
       can_tell finish (tell_child finish w l) chain
-      (length-set w.starts l.child _ ∙ (sizes ∙ sym (length-set w.waits l.child _)))
-      (λ i m h. let r = each (suc i) m h in (omega (arith, r.0, length-set w.waits l.child (get_or w.waits l.child 0 - 1)), r.1))
-      (λ j u h more.
-      elim (cases_eq j l.child) [
-        | inl same ↦
-            let one_j : cond {A = ℕ} (eqb l.child j) 1 0 ≡ 1 = ap (λ (t : Bool). cond {A = ℕ} t 1 0) (is_eq l.child j (sym same)) in
-            let now : get_or w.waits l.child 0 - 1 ≡ u =
-            same_Some (get_or w.waits l.child 0 - 1) u (sym (get_set_same w.waits l.child (get_or w.waits l.child 0 - 1) v.0 v.1) ∙ (ap (slice_get (tell_child finish w l).waits) (sym same) ∙ h))
-            in
-            let c = counts j v.0 (ap (slice_get w.waits) same ∙ v.1) (omega (arith, one_j)) in
-            (omega (arith, c.0, one_j, now, read), omega (arith, c.1, now, read))
-        | inr apart ↦
-            let none : cond {A = ℕ} (eqb l.child j) 1 0 ≡ 0 = ap (λ (t : Bool). cond {A = ℕ} t 1 0) (apart_eq l.child j (λ q. apart (sym q))) in
-            let c = counts j u (sym (get_set_other w.waits l.child j (get_or w.waits l.child 0 - 1) apart) ∙ h) (omega (arith, more, none)) in
-            (omega (arith, c.0, none), c.1)
-      ]),
+          (length-set w.starts l.child _ ∙ (sizes ∙ sym (length-set w.waits l.child _)))
+          (λ i m h. let r = each (suc i) m h in (omega (arith, r.0, length-set w.waits l.child (get_or w.waits l.child 0 - 1)), r.1))
+          (λ j u h more.
+          elim (cases_eq j l.child) [
+            | inl same ↦
+                let one_j : cond {A = ℕ} (eqb l.child j) 1 0 ≡ 1 = ap (λ (t : Bool). cond {A = ℕ} t 1 0) (is_eq l.child j (sym same)) in
+                let now : get_or w.waits l.child 0 - 1 ≡ u =
+                same_Some (get_or w.waits l.child 0 - 1) u (sym (get_set_same w.waits l.child (get_or w.waits l.child 0 - 1) v.0 v.1) ∙ (ap (slice_get (tell_child finish w l).waits) (sym same) ∙ h))
+                in
+                let c = counts j v.0 (ap (slice_get w.waits) same ∙ v.1) (omega (arith, one_j)) in
+                (omega (arith, c.0, one_j, now, read), omega (arith, c.1, now, read))
+            | inr apart ↦
+                let none : cond {A = ℕ} (eqb l.child j) 1 0 ≡ 0 = ap (λ (t : Bool). cond {A = ℕ} t 1 0) (apart_eq l.child j (λ q. apart (sym q))) in
+                let c = counts j u (sym (get_set_other w.waits l.child j (get_or w.waits l.child 0 - 1) apart) ∙ h) (omega (arith, more, none)) in
+                (omega (arith, c.0, none), c.1)
+          ]),
     )
 
 -- one more has fired

@@ -30,3 +30,5 @@ mod Linking
 mod Spots
 mod LinkAll
 mod Stubbing
+mod LayingOut
+mod Prepared

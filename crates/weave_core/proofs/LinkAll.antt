@@ -1,5 +1,5 @@
 -- The links of the events up to one.
-use Rattle.std.proofs.Common.{◌≡◌, ◌+◌, ◌<◌, ◌≤◌, ◌^◌, ℕ, zero, suc, Bool, true, false, cond, eqb, ltb, max, List, [], ◌∷◌, ◌++◌, length, map, replicate, ◌⊎◌, Option, Some, None, slice_get, sym, ◌∙◌, ap, subst, refl, inl, inr, arith}
+use Rattle.std.proofs.Common.{◌≡◌, ◌+◌, ◌<◌, ◌≤◌, ◌^◌, ℕ, zero, suc, Bool, true, false, cond, eqb, ltb, max, List, [], ◌∷◌, ◌++◌, length, replicate, Option, Some, slice_get, sym, ◌∙◌, ap, subst, refl, inl, inr, arith}
 use Rattle.std.proofs.lemmas.Bool.{cases_eq, cases_lt}
 use Rattle.std.proofs.lemmas.Bool.Decides.{nat_tests}
 use Rattle.std.proofs.lemmas.List.{length_push}
@@ -8,7 +8,7 @@ use Rattle.std.specs.Option.{option_map_or}
 use Rattle.event_graph.specs.declared.event.Event.{Event}
 use Rattle.weave_core.specs.declared.children.Link.{Link}
 use Rattle.weave_core.specs.Beginning.{AreChained, AreCounts, IsCount}
-use Rattle.weave_core.specs.Layout.{AreLinked, hit_after, hits, latest_to, links_to}
+use Rattle.weave_core.specs.Layout.{AreLinked, hit_after, hits}
 use Rattle.weave_core.proofs.Linking.{chained_alike}
 use Rattle.weave_core.proofs.Lists.{get_below, last_at}
 use Rattle.weave_core.proofs.Spots.{get_push}
@@ -59,11 +59,28 @@ same_late here upto finish number child l =
 -- before the first
 pub chained_none : (here : List Event) (heads : List ℕ) → heads ≡ replicate (length here) 0 → AreChained here heads [] (count_upto here 0) (late_upto here 0)
 chained_none here heads is = record {
-  each = λ place e h.
-      (0, (ap (λ (xs : List ℕ). slice_get xs place) is ∙ zeros (length here) place (get_below here place e h), (omega arith, ([], (refl, (none, (
-        (λ c. sym (count_past here 0 e.number c (omega arith))),
-        (λ f c. sym (late_past here 0 f e.number c (omega arith))),
-      )))))));
+  each = λ place e h. (
+    0,
+    (
+      ap (λ (xs : List ℕ). slice_get xs place) is ∙ zeros (length here) place (get_below here place e h),
+      (
+        omega arith,
+        (
+          [],
+          (
+            refl,
+            (
+              none,
+              (
+                (λ c. sym (count_past here 0 e.number c (omega arith))),
+                (λ f c. sym (late_past here 0 f e.number c (omega arith))),
+              ),
+            ),
+          ),
+        ),
+      ),
+    ),
+  );
 }
   where
     zeros : (n i : ℕ) → i < n → slice_get {X = ℕ} (replicate n 0) i ≡ Some 0
@@ -126,14 +143,19 @@ chained_next here heads links upto e there are =
 pub linked_all : (here : List Event) (heads : List ℕ) (links : List Link) (upto : ℕ) → length here ≤ upto → AreChained here heads links (count_upto here upto) (late_upto here upto) → AreLinked here heads links
 linked_all here heads links upto end are = record {
   each = λ place e h.
-      let a = are.each place e h in
-      (a.0, (a.1.0, record {
-        chain = a.1.1.1.0;
-        is_chain = a.1.1.1.1.0;
-        within = a.1.1.1.1.1.0;
-        counts = λ child f k. a.1.1.1.1.1.1.0 child ∙ count_below here upto e.number child f (omega (arith, get_below here child f k, end)) k;
-        latest = λ finish child f k. a.1.1.1.1.1.1.1 finish child ∙ late_below here upto finish e.number child f (omega (arith, get_below here child f k, end)) k;
-      }));
+      let a = are.each place e h in (
+        a.0,
+        (
+          a.1.0,
+          record {
+            chain = a.1.1.1.0;
+            is_chain = a.1.1.1.1.0;
+            within = a.1.1.1.1.1.0;
+            counts = λ child f k. a.1.1.1.1.1.1.0 child ∙ count_below here upto e.number child f (omega (arith, get_below here child f k, end)) k;
+            latest = λ finish child f k. a.1.1.1.1.1.1.1 finish child ∙ late_below here upto finish e.number child f (omega (arith, get_below here child f k, end)) k;
+          },
+        ),
+      );
 }
 
 -- a count more
@@ -151,8 +173,18 @@ counts_next here waits longer upto first second e there are a b is =
             | inr m ↦
                 let same : place ≡ upto = omega (arith, m, below) in
                 let end : place ≡ length waits = omega (arith, same, are.size) in
-                let e_is : e ≡ f = same_Some e f (sym there ∙ (ap (slice_get here) (sym same) ∙ h)) in
-                (first, (second, (subst (λ (z : Event). IsCount here z.first first) e_is a, (subst (λ (z : Event). IsCount here z.second second) e_is b,
-                ap (slice_get (waits ++ (first + second) ∷ [])) end ∙ last_at waits (first + second)))))
+                let e_is : e ≡ f = same_Some e f (sym there ∙ (ap (slice_get here) (sym same) ∙ h)) in (
+                  first,
+                  (
+                    second,
+                    (
+                      subst (λ (z : Event). IsCount here z.first first) e_is a,
+                      (
+                        subst (λ (z : Event). IsCount here z.second second) e_is b,
+                        ap (slice_get (waits ++ (first + second) ∷ [])) end ∙ last_at waits (first + second),
+                      ),
+                    ),
+                  ),
+                )
           ];
     })

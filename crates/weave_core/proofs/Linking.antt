@@ -1,5 +1,5 @@
 -- One link more.
-use Rattle.std.proofs.Common.{◌≡◌, ◌+◌, ◌-◌, ◌<◌, ◌≤◌, ◌^◌, ℕ, zero, suc, Bool, true, false, cond, eqb, max, List, [], ◌∷◌, ◌++◌, length, set, ◌⊎◌, Option, Some, None, slice_get, sym, ◌∙◌, ap, subst, refl, inl, inr, arith, length-set}
+use Rattle.std.proofs.Common.{◌≡◌, ◌+◌, ◌-◌, ◌<◌, ◌≤◌, ◌^◌, ℕ, zero, suc, Bool, true, false, cond, eqb, max, List, [], ◌∷◌, ◌++◌, length, set, Option, Some, slice_get, sym, ◌∙◌, ap, subst, refl, inl, inr, arith}
 use Rattle.std.proofs.lemmas.Bool.{cases_eq}
 use Rattle.std.proofs.lemmas.List.{length_push}
 use Rattle.std.proofs.lemmas.Option.{same_Some, none-some}
@@ -9,7 +9,7 @@ use Rattle.weave_core.specs.declared.children.Link.{Link}
 use Rattle.weave_core.specs.Beginning.{AreChained, HasPlace, IsRisingList, NoPlace}
 use Rattle.weave_core.specs.Children.{IsChain}
 use Rattle.weave_core.specs.Layout.{hit_after, hits, latest_to, links_to}
-use Rattle.weave_core.proofs.Lists.{get_below, last_at}
+use Rattle.weave_core.proofs.Lists.{last_at}
 use Rattle.weave_core.proofs.Updates.{get_set_other, get_set_same}
 use Rattle.weave_core.proofs.Words.{apart_eq, is_eq, one_place}
 
@@ -76,29 +76,55 @@ added here rising heads links child place head q count late has within small hea
             let lower : head < length links + 1 = omega (arith, a.1.1.0, head_is) in
             let index : length links + 1 - 1 ≡ length links = omega arith in
             let last : slice_get (links ++ new ∷ []) (length links + 1 - 1) ≡ Some new = ap (slice_get (links ++ new ∷ [])) index ∙ last_at links new in
-            let some : 0 < length links + 1 = omega arith in
-            (length links + 1, (ap (slice_get (set heads place (length links + 1))) same ∙ get_set_same heads place (length links + 1) head head_there, (omega (arith, length_push links new), (new ∷ a.1.1.1.0, (
-              (some, (last, (lower, subst (λ (n : ℕ). IsChain (links ++ new ∷ []) n a.1.1.1.0) head_is (chain_longer links new a.0 a.1.1.1.0 a.1.1.1.1.0)))),
-              (inside a.1.1.1.0 a.1.1.1.1.1.0,
+            let some : 0 < length links + 1 = omega arith in (
+              length links + 1,
               (
-                (λ c. counted c (links_to c a.1.1.1.0) (count e.number c) (hits e.number (Some q)) (a.1.1.1.1.1.1.0 c) (ap (λ (t : Bool). cond {A = ℕ} t 1 0) hit)),
-                (λ f c. latest f c (latest_to f c a.1.1.1.0) (late f e.number c) (hit_after f e.number (Some q)) (a.1.1.1.1.1.1.1 f c) (ap (λ (t : Bool). cond t (f + q.delay) 0) hit)),
-              )),
-            )))))
+                ap (slice_get (set heads place (length links + 1))) same ∙ get_set_same heads place (length links + 1) head head_there,
+                (
+                  omega (arith, length_push links new),
+                  (
+                    new ∷ a.1.1.1.0,
+                    (
+                      (some, (last, (lower, subst (λ (n : ℕ). IsChain (links ++ new ∷ []) n a.1.1.1.0) head_is (chain_longer links new a.0 a.1.1.1.0 a.1.1.1.1.0)))),
+                      (
+                        inside a.1.1.1.0 a.1.1.1.1.1.0,
+                        (
+                          (λ c. counted c (links_to c a.1.1.1.0) (count e.number c) (hits e.number (Some q)) (a.1.1.1.1.1.1.0 c) (ap (λ (t : Bool). cond {A = ℕ} t 1 0) hit)),
+                          (λ f c. latest f c (latest_to f c a.1.1.1.0) (late f e.number c) (hit_after f e.number (Some q)) (a.1.1.1.1.1.1.1 f c) (ap (λ (t : Bool). cond t (f + q.delay) 0) hit)),
+                        ),
+                      ),
+                    ),
+                  ),
+                ),
+              ),
+            )
         | inr apart ↦
             let other : eqb q.number e.number ≡ false =
             apart_eq q.number e.number (λ s. apart (one_place (λ (z : Event). z.number) here rising.rising i place e has.event h has.there (sym (has.number_is ∙ s))))
             in
-            let no_hit : hits e.number (Some q) ≡ 0 = ap (λ (t : Bool). cond {A = ℕ} t 1 0) other in
-            (a.0, (get_set_other heads place i (length links + 1) apart ∙ a.1.0, (omega (arith, a.1.1.0, length_push links new), (a.1.1.1.0, (
-              chain_longer links new a.0 a.1.1.1.0 a.1.1.1.1.0,
-              (a.1.1.1.1.1.0,
+            let no_hit : hits e.number (Some q) ≡ 0 = ap (λ (t : Bool). cond {A = ℕ} t 1 0) other in (
+              a.0,
               (
-                (λ c. omega (arith, a.1.1.1.1.1.1.0 c, no_more c child (hits e.number (Some q)) no_hit)),
-                (λ f c. let none : hit_after f e.number (Some q) ≡ 0 = ap (λ (t : Bool). cond t (f + q.delay) 0) other in
-                omega (arith, a.1.1.1.1.1.1.1 f c, no_more c child (hit_after f e.number (Some q)) none)),
-              )),
-            )))))
+                get_set_other heads place i (length links + 1) apart ∙ a.1.0,
+                (
+                  omega (arith, a.1.1.0, length_push links new),
+                  (
+                    a.1.1.1.0,
+                    (
+                      chain_longer links new a.0 a.1.1.1.0 a.1.1.1.1.0,
+                      (
+                        a.1.1.1.1.1.0,
+                        (
+                          (λ c. omega (arith, a.1.1.1.1.1.1.0 c, no_more c child (hits e.number (Some q)) no_hit)),
+                          (λ f c. let none : hit_after f e.number (Some q) ≡ 0 = ap (λ (t : Bool). cond t (f + q.delay) 0) other in
+                              omega (arith, a.1.1.1.1.1.1.1 f c, no_more c child (hit_after f e.number (Some q)) none)),
+                        ),
+                      ),
+                    ),
+                  ),
+                ),
+              ),
+            )
       ];
 }
   where

@@ -1,7 +1,6 @@
 -- A domain after it was told a word.
-use Rattle.std.proofs.Common.{◌≡◌, ◌+◌, ◌-◌, ◌<◌, ◌≤◌, ◌^◌, ℕ, zero, suc, Bool, true, false, not, ◌&&◌, cond, eqb, max, List, [], ◌∷◌, length, map, set, get_or, ◌⊎◌, Option, Some, None, slice_get, sym, ◌∙◌, ap, subst, refl, inl, inr, arith, length-set}
-use Rattle.std.proofs.lemmas.Bool.{cases_eq, cases_lt, false≢true}
-use Rattle.std.proofs.lemmas.Bool.Decides.{nat_tests}
+use Rattle.std.proofs.Common.{◌≡◌, ◌+◌, ◌-◌, ◌<◌, ◌≤◌, ◌^◌, ℕ, zero, suc, Bool, true, false, not, ◌&&◌, cond, eqb, max, List, [], ◌∷◌, length, map, set, get_or, Option, Some, slice_get, sym, ◌∙◌, ap, subst, refl, inl, inr, arith, length-set}
+use Rattle.std.proofs.lemmas.Bool.{cases_eq, false≢true}
 use Rattle.std.proofs.lemmas.Option.{same_Some, none-some, get_or_from_slice_get}
 use Rattle.std.specs.List.{find, enumerate_from}
 use Rattle.std.specs.Option.{option_map_or}
@@ -14,17 +13,17 @@ use Rattle.domain_map.specs.declared.crossing.Crossing.{Crossing}
 use Rattle.domain_map.specs.Domains.{Division}
 use Rattle.weave_core.specs.declared.incoming.Stub.{Stub}
 use Rattle.weave_core.specs.DomainCalls.{IsNoFall, MayTell}
-use Rattle.weave_core.specs.DomainMachine.{DomainState, bound_of, cycle_of, is_exact, word_at}
+use Rattle.weave_core.specs.DomainMachine.{DomainState, cycle_of, is_exact, word_at}
 use Rattle.weave_core.specs.Layout.{AreHere, AreStubs, IsStubOf, Stands, fired_in, known_words, missing_at, own_after, pending, start_at, told_into, unknown_into, word_of}
 use Rattle.weave_core.specs.Stubs.{told_word}
 use Rattle.weave_core.specs.Waits.{Waits, told}
-use Rattle.weave_core.proofs.Lists.{get_below, get_there}
+use Rattle.weave_core.proofs.Lists.{get_below}
 use Rattle.weave_core.proofs.Updates.{get_set_other, get_set_same}
-use Rattle.weave_core.proofs.Words.{apart_eq, eq_is, is_eq, still_stubs, told_raised, told_told, unknown_raised, unknown_told, word_known, word_of_stub}
+use Rattle.weave_core.proofs.Words.{apart_eq, is_eq, still_stubs, told_raised, told_told, unknown_raised, unknown_told, word_known, word_of_stub}
 
 -- the words
 
-same_enum : (f h : ℕ → Word) (n : ℕ) (xs : List Crossing) → ((j : ℕ) → n ≤ j → f j ≡ h j)
+pub same_enum : (f h : ℕ → Word) (n : ℕ) (xs : List Crossing) → ((j : ℕ) → n ≤ j → f j ≡ h j)
     → map (λ (at : ℕ × Crossing). f at.0) (enumerate_from n xs) ≡ map (λ (at : ℕ × Crossing). h at.0) (enumerate_from n xs)
 same_enum f h n [] e = refl
 same_enum f h n (y ∷ xs) e =

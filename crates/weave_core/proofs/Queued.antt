@@ -1,5 +1,5 @@
 -- The queue of the stubs after each step.
-use Rattle.std.proofs.Common.{◌≡◌, ◌+◌, ◌-◌, ◌<◌, ◌≤◌, ◌^◌, ℕ, max, zero, suc, Bool, true, false, cond, List, [], ◌∷◌, length, set, drop, ◌⊎◌, Option, Some, None, slice_get, sym, ◌∙◌, ap, subst, refl, inl, inr, arith, length-set}
+use Rattle.std.proofs.Common.{◌≡◌, ◌+◌, ◌-◌, ◌<◌, ◌≤◌, ◌^◌, ℕ, max, Bool, true, false, cond, List, [], ◌∷◌, length, set, drop, Option, Some, None, slice_get, sym, ◌∙◌, ap, subst, refl, inl, inr, arith, length-set}
 use Rattle.std.proofs.lemmas.Bool.{cases_eq, false≢true}
 use Rattle.std.proofs.lemmas.Bool.Decides.{nat_tests}
 use Rattle.std.proofs.lemmas.Option.{same_Some, none-some}
@@ -10,7 +10,7 @@ use Rattle.zs_num.specs.declared.time.Word.{Word}
 use Rattle.domain_queue.specs.SortedKeys.{IsAscending, ReadyKeys, is_before, put}
 use Rattle.weave_core.specs.declared.incoming.Stub.{Stub}
 use Rattle.weave_core.specs.DomainMachine.{cycle_of, is_exact}
-use Rattle.weave_core.specs.Stubs.{AreSmallStubs, IsCurrent, IsFirstStub, IsKeyed, IsQueued, IsSmallStub, NoneOpen, Stubs, arrival_at, arrival_in, slack, told_word}
+use Rattle.weave_core.specs.Stubs.{AreSmallStubs, IsCurrent, IsFirstStub, IsKeyed, IsQueued, IsSmallStub, NoneOpen, arrival_at, arrival_in, slack, told_word}
 use Rattle.weave_core.specs.Waits.{key_of}
 use Rattle.weave_core.proofs.Keys.{first_in, first_least, first_or_rest, has_in, in_has, length-put, length-rest, put_cases, put_new, put_old, rest_apart, rest_in}
 use Rattle.weave_core.proofs.Lists.{In, get_below, get_there}
@@ -119,10 +119,14 @@ module _ (stubs : List Stub) (floor : ℕ) (queue : ReadyKeys) (keyed : IsKeyed 
                 elim (first_or_rest f (key_of k.0 place) queue.keys e (has_in queue.keys (key_of k.0 place) k.1.1)) [
                   | inl same ↦
                       let number : f.number ≡ place = ap (λ (z : Key). z.number) same in
-                      let stub : s ≡ t = same_Some s t (sym there ∙ (ap (slice_get stubs) number ∙ at)) in
-                      (arrival_at floor s, (omega (arith, ap (arrival_at floor) stub),
-                      in_has (put new (drop 1 queue.keys)) (key_of (arrival_at floor s) place)
-                      (subst (λ (n : ℕ). In (key_of (arrival_at floor s) n) (put new (drop 1 queue.keys))) number (put_new new (drop 1 queue.keys)))))
+                      let stub : s ≡ t = same_Some s t (sym there ∙ (ap (slice_get stubs) number ∙ at)) in (
+                        arrival_at floor s,
+                        (
+                          omega (arith, ap (arrival_at floor) stub),
+                          in_has (put new (drop 1 queue.keys)) (key_of (arrival_at floor s) place)
+                              (subst (λ (n : ℕ). In (key_of (arrival_at floor s) n) (put new (drop 1 queue.keys))) number (put_new new (drop 1 queue.keys))),
+                        ),
+                      )
                   | inr m ↦ (k.0, (k.1.0, in_has (put new (drop 1 queue.keys)) (key_of k.0 place) (put_old new (key_of k.0 place) (drop 1 queue.keys) m)))
                 ];
             once = λ k o h i same.

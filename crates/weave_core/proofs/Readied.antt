@@ -1,12 +1,12 @@
 -- The queue has the places that wait for no parent after each step.
-use Rattle.std.proofs.Common.{◌≡◌, ◌+◌, ◌-◌, ◌<◌, ◌≤◌, ℕ, zero, suc, Bool, true, false, cond, List, [], ◌∷◌, length, set, drop, ◌⊎◌, Option, Some, None, slice_get, sym, ◌∙◌, ap, subst, refl, inl, inr, arith, length-set}
+use Rattle.std.proofs.Common.{◌≡◌, ◌+◌, ◌-◌, ◌<◌, ◌≤◌, ℕ, zero, suc, List, [], ◌∷◌, length, set, drop, Some, None, slice_get, sym, ◌∙◌, ap, subst, refl, inl, inr, arith, length-set}
 use Rattle.std.proofs.lemmas.Bool.{cases_eq}
 use Rattle.std.proofs.lemmas.Bool.Decides.{nat_tests}
 use Rattle.std.proofs.lemmas.Option.{same_Some, none-some}
 use Rattle.std.specs.List.{Contains}
 use Rattle.zs_num.specs.declared.time.Key.{Key}
-use Rattle.domain_queue.specs.SortedKeys.{IsAscending, ReadyKeys, is_before, put}
-use Rattle.weave_core.specs.Waits.{HasReady, IsFirstReady, NoneReady, Waits, key_of, one_waiting, waiting_in}
+use Rattle.domain_queue.specs.SortedKeys.{IsAscending, ReadyKeys, put}
+use Rattle.weave_core.specs.Waits.{HasReady, IsFirstReady, NoneReady, key_of, one_waiting, waiting_in}
 use Rattle.weave_core.proofs.Keys.{first_in, first_least, first_or_rest, has_in, in_has, length-put, length-rest, put_cases, put_new, put_old, rest_apart, rest_in}
 use Rattle.weave_core.proofs.Lists.{In, get_below, get_there}
 use Rattle.weave_core.proofs.Updates.{get_set_other, get_set_same}

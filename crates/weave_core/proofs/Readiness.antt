@@ -1,9 +1,9 @@
 -- An event is ready where its place waits for nothing, and its start is the one kept there.
-use Rattle.std.proofs.Common.{◌≡◌, ◌+◌, ◌<◌, ◌≤◌, ℕ, zero, suc, Bool, true, false, not, ◌&&◌, ◌||◌, cond, eqb, ltb, max, List, [], ◌∷◌, length, ◌⊎◌, Option, Some, None, is_some, slice_get, sym, ◌∙◌, ap, subst, refl, inl, inr, arith}
-use Rattle.std.proofs.lemmas.Bool.{cases_eq, cases_lt, false≢true}
+use Rattle.std.proofs.Common.{◌≡◌, ◌+◌, ◌<◌, ◌≤◌, ℕ, Bool, true, false, not, ◌&&◌, ◌||◌, cond, eqb, ltb, max, List, ◌⊎◌, Option, Some, None, slice_get, sym, ◌∙◌, ap, subst, refl, inl, inr, arith}
+use Rattle.std.proofs.lemmas.Bool.{cases_lt, false≢true}
 use Rattle.std.proofs.lemmas.Bool.Decides.{nat_tests}
-use Rattle.std.proofs.lemmas.Option.{same_Some, none-some}
-use Rattle.std.specs.List.{enumerate_from, find, list_all}
+use Rattle.std.proofs.lemmas.Option.{same_Some}
+use Rattle.std.specs.List.{enumerate_from, find}
 use Rattle.std.specs.Option.{option_map_or}
 use Rattle.zs_num.specs.declared.time.Key.{Key}
 use Rattle.event_graph.specs.declared.event.Event.{Event}
@@ -11,15 +11,15 @@ use Rattle.event_graph.specs.declared.event.Parent.{Parent}
 use Rattle.event_graph.specs.Numbered.{IsNumbered}
 use Rattle.event_graph.specs.OneListWeave.{after_parent, finish_in, is_before as is_event_before, is_fired, start_of}
 use Rattle.domain_map.specs.declared.crossing.Crossing.{Crossing}
-use Rattle.domain_map.specs.Domains.{Division, Divides, crossings_of, domain_of, domain_of_number}
+use Rattle.domain_map.specs.Domains.{Division, Divides, domain_of, domain_of_number}
 use Rattle.domain_queue.specs.SortedKeys.{is_before}
 use Rattle.weave_core.specs.declared.incoming.Stub.{Stub}
 use Rattle.weave_core.specs.DomainMachine.{DomainState, cycle_of, is_exact, is_own_parent_fired, is_ready_in, known_finish, next_in, told_finish, word_at}
-use Rattle.weave_core.specs.Layout.{AreHere, AreStubs, IsStubOf, Stands, known_words, missing_at, own_after, pending, start_at, told_into, unknown_into}
+use Rattle.weave_core.specs.Layout.{AreHere, AreStubs, Stands, known_words, missing_at, own_after, pending, start_at, told_into, unknown_into}
 use Rattle.weave_core.specs.Waits.{IsFirstReady, NoneReady, Waits, key_of}
 use Rattle.weave_core.proofs.Crossings.{Joins, crossing_at, crossing_of, joins}
 use Rattle.weave_core.proofs.LeastBy.{IsLeast, next_there, some_next}
-use Rattle.weave_core.proofs.Lists.{In, all_from, all_in, and_true, at_in, both, either, find_in, find_some, from_enum, get_below, in_at, in_enum, not_true, some_at, test_cases}
+use Rattle.weave_core.proofs.Lists.{In, all_from, all_in, and_true, at_in, both, either, find_in, find_some, from_enum, in_at, in_enum, not_true, some_at}
 use Rattle.weave_core.proofs.Words.{all_known, eq_is, is_eq, known_is_stub, none_unknown, one_place, told_least, told_most, word_known}
 
 module _ (events : List Event) (p : Division) (domain : ℕ) (here : List Event) (stubs : List Stub) (own : DomainState) (w : Waits)

@@ -1,14 +1,14 @@
 -- The components of a domain, by their places among them.
-use Rattle.std.proofs.Common.{◌≡◌, ◌+◌, ◌-◌, ◌<◌, ◌≤◌, ℕ, zero, suc, Bool, true, false, cond, eqb, List, [], ◌∷◌, ◌++◌, length, map, take, get_or, ◌⊎◌, Some, None, slice_get, sym, ◌∙◌, ap, subst, refl, inl, inr, arith}
-use Rattle.std.proofs.lemmas.Bool.{cases_eq, cases_lt}
+use Rattle.std.proofs.Common.{◌≡◌, ◌+◌, ◌<◌, ℕ, zero, suc, Bool, true, false, cond, eqb, List, [], ◌∷◌, ◌++◌, length, map, take, get_or, Some, slice_get, sym, ◌∙◌, ap, subst, refl, inl, inr, arith}
+use Rattle.std.proofs.lemmas.Bool.{cases_lt}
 use Rattle.std.proofs.lemmas.List.{length_push}
 use Rattle.std.proofs.lemmas.Option.{same_Some, none-some}
 use Rattle.std.specs.List.{filter, enumerate_from}
 use Rattle.weave_core.specs.Beginning.{AreSpots}
 use Rattle.weave_core.specs.DomainCalls.{comps_in}
 use Rattle.weave_core.specs.Layout.{place_in}
-use Rattle.weave_core.proofs.Lists.{get_below, last_at}
-use Rattle.weave_core.proofs.Words.{apart_eq, eq_is, is_eq}
+use Rattle.weave_core.proofs.Lists.{last_at}
+use Rattle.weave_core.proofs.Words.{apart_eq, is_eq}
 
 pub get_push : {X : Type 0} (xs : List X) (y : X) (i : ℕ) → i < length xs → slice_get (xs ++ y ∷ []) i ≡ slice_get xs i
 get_push [] y i l = absurd (omega arith)

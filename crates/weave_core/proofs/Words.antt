@@ -1,8 +1,8 @@
 -- What a domain's stubs tell of the crossings.
-use Rattle.std.proofs.Common.{◌≡◌, ◌+◌, ◌<◌, ◌≤◌, ℕ, zero, suc, Bool, true, false, not, ◌&&◌, cond, eqb, max, List, [], ◌∷◌, length, map, set, get_or, ◌⊎◌, Option, Some, None, is_some, slice_get, sym, ◌∙◌, ap, subst, refl, inl, inr, arith, length-set}
+use Rattle.std.proofs.Common.{◌≡◌, ◌+◌, ◌<◌, ◌≤◌, ℕ, zero, suc, Bool, true, false, not, ◌&&◌, cond, eqb, max, List, [], ◌∷◌, length, map, set, get_or, Option, Some, None, is_some, slice_get, sym, ◌∙◌, ap, subst, refl, inl, inr, arith}
 use Rattle.std.proofs.lemmas.Bool.{cases_eq, cases_lt, false≢true}
 use Rattle.std.proofs.lemmas.Bool.Decides.{nat_tests}
-use Rattle.std.proofs.lemmas.Option.{same_Some, none-some, slice_get-get_or, get_or_from_slice_get}
+use Rattle.std.proofs.lemmas.Option.{same_Some, none-some}
 use Rattle.std.specs.List.{find, enumerate_from}
 use Rattle.std.specs.Option.{option_map_or}
 use Rattle.zs_num.specs.declared.time.Word.{Word}
@@ -12,9 +12,9 @@ use Rattle.domain_map.specs.declared.crossing.Crossing.{Crossing}
 use Rattle.domain_map.specs.Domains.{Division}
 use Rattle.weave_core.specs.declared.incoming.Stub.{Stub}
 use Rattle.weave_core.specs.DomainMachine.{cycle_of, is_exact, word_at}
-use Rattle.weave_core.specs.Layout.{AreHere, AreStubs, IsStubOf, known_words, told_into, unknown_into, word_of}
+use Rattle.weave_core.specs.Layout.{AreStubs, IsStubOf, known_words, told_into, unknown_into, word_of}
 use Rattle.weave_core.specs.Stubs.{told_word}
-use Rattle.weave_core.proofs.Lists.{In, at_in, both, and_true, find_in, find_some, get_below, get_there, in_at, some_at, test_cases}
+use Rattle.weave_core.proofs.Lists.{In, at_in, both, and_true, find_in, find_some, get_there, in_at, some_at}
 use Rattle.weave_core.proofs.Updates.{get_set_other, get_set_same}
 
 pub eq_is : (a b : ℕ) → eqb a b ≡ true → a ≡ b

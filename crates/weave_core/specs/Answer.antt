@@ -1,5 +1,5 @@
 -- What a domain answers, by its first ready place and its first stub.
-use Rattle.std.specs.Prelude.{◌≡◌, ◌≤◌, ◌-◌, ℕ, cond, nat_lt, List, Option, Some, None, slice_get}
+use Rattle.std.specs.Prelude.{◌≡◌, ◌≤◌, ◌-◌, cond, nat_lt, List, Option, Some, None, slice_get}
 use Rattle.std.specs.List.{slice_index_or}
 use Rattle.zs_num.specs.declared.time.Key.{Key}
 use Rattle.zs_num.specs.declared.time.Word.TheVariants.{Bound}

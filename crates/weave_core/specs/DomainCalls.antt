@@ -1,6 +1,6 @@
 -- What the calls of a domain promise: each is a step of the machine, and the events that a domain fires are the first of its
 -- events in every solution of the timing rules for which its words and its floor are sound.
-use Rattle.std.specs.Prelude.{◌≡◌, ◌≤◌, ◌<◌, ◌⊎◌, ◌==◌, ◌^◌, ℕ, Bool, true, List, [], ◌∷◌, ◌++◌, length, map, take, Option, Some, None, slice_get, slice_set}
+use Rattle.std.specs.Prelude.{◌≡◌, ◌≤◌, ◌<◌, ◌⊎◌, ◌==◌, ◌^◌, ℕ, Bool, true, List, [], ◌∷◌, ◌++◌, length, map, Option, Some, None, slice_get, slice_set}
 use Rattle.std.specs.List.{filter, enumerate_from}
 use Rattle.std.specs.Option.{option_map}
 use Rattle.zs_num.specs.declared.time.Key.{Key}
@@ -13,7 +13,7 @@ use Rattle.event_graph.specs.Fits.{GraphFits}
 use Rattle.event_graph.specs.OneListWeave.{Timed, is_fired}
 use Rattle.event_graph.specs.TimingSolution.{IsSolution, after_serving, of_component}
 use Rattle.domain_map.specs.declared.crossing.Crossing.{Crossing}
-use Rattle.domain_map.specs.Domains.{Division, Divides, domain_at, domain_of}
+use Rattle.domain_map.specs.Domains.{Division, domain_at, domain_of}
 use Rattle.weave_core.specs.declared.next.Next.{Next}
 use Rattle.weave_core.specs.declared.next.Next.TheVariants.{Done, Fire, Blocked}
 use Rattle.weave_core.specs.DomainMachine.{DomainState, arrival_of, bound_of, cycle_of, is_clear, is_exact, is_unresolved, next_in, word_at}

@@ -1,5 +1,5 @@
 -- What a domain keeps of a graph, before its first event fires.
-use Rattle.std.specs.Prelude.{◌≡◌, ◌≤◌, ◌<◌, ◌^◌, ℕ, List, [], length, map, slice_get, Some}
+use Rattle.std.specs.Prelude.{◌≡◌, ◌≤◌, ◌<◌, ◌^◌, ℕ, List, [], length, map}
 use Rattle.std.specs.Vec.{vec_capacity}
 use Rattle.zs_num.specs.declared.time.Word.TheVariants.{Bound}
 use Rattle.event_graph.specs.declared.event.Event.{Event}

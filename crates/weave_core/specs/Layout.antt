@@ -3,7 +3,7 @@ use Rattle.std.specs.Prelude.{◌≡◌, ◌≤◌, ◌<◌, ◌+◌, ◌^◌, �
 use Rattle.std.specs.List.{filter, find, enumerate_from, slice_index_or}
 use Rattle.std.specs.Option.{option_map_or}
 use Rattle.zs_num.specs.declared.time.Word.{Word}
-use Rattle.zs_num.specs.declared.time.Word.TheVariants.{Bound, Exact}
+use Rattle.zs_num.specs.declared.time.Word.TheVariants.{Bound}
 use Rattle.component.specs.declared.kind.Kind.{Kind}
 use Rattle.component.specs.declared.kind.Kind.TheVariants.{Lookup}
 use Rattle.event_graph.specs.declared.event.Event.{Event}

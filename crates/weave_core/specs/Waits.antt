@@ -1,5 +1,5 @@
 -- What is kept of a domain's events that have not fired, by their places among its events.
-use Rattle.std.specs.Prelude.{◌≡◌, ◌≤◌, ◌<◌, ◌+◌, ◌-◌, ◌==◌, ◌&&◌, ℕ, Bool, true, false, cond, not, max, nat_lt, List, [], ◌∷◌, length, slice_get, slice_index, slice_set, Some}
+use Rattle.std.specs.Prelude.{◌≡◌, ◌≤◌, ◌+◌, ◌-◌, ◌&&◌, ℕ, false, cond, max, nat_lt, List, [], ◌∷◌, length, slice_get, slice_index, slice_set, Some}
 use Rattle.std.specs.List.{Contains}
 use Rattle.zs_num.specs.declared.time.Key.{Key}
 use Rattle.domain_queue.specs.SortedKeys.{ReadyKeys, is_before}

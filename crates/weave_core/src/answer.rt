@@ -8,12 +8,7 @@ use event_graph::Event;
 use zs_num::Key;
 
 /// The answer by the first ready place and the first open stub, where there are any.
-pub(crate) fn answer(
-    here: &[Event],
-    stubs: &[Stub],
-    ready: Option<Key>,
-    first: Option<Key>,
-) -> Next
+pub(crate) fn answer(here: &[Event], stubs: &[Stub], ready: Option<Key>, first: Option<Key>) -> Next
     requires ready { IfSome ready (λ key. key.number < length here.now) }
     requires first { IfSome first (IsBlocking stubs.now) }
     ensures { result ≡ answer_of here.now stubs.now ready first }

@@ -1,11 +1,11 @@
 //! One domain of the weave, apart from the threads that run it.
 #![tactic(auto)]
 
-pub mod laws;
 mod answer;
 mod children;
 mod domain;
 mod incoming;
+pub mod laws;
 mod next;
 mod prepare;
 mod waiting;

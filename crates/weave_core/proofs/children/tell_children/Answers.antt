@@ -1,5 +1,5 @@
 -- Each link is the next of the chain.
-use Rattle.std.proofs.Common.{ℕ, ◌<◌, ◌+◌, ◌-◌, ◌≡◌, List, length, get_or, slice_get, Some, ap, sym, ◌∙◌, subst, arith}
+use Rattle.std.proofs.Common.{◌<◌, ◌+◌, ◌-◌, ◌≡◌, length, get_or, ap, sym, ◌∙◌, subst, arith}
 use Rattle.std.proofs.lemmas.Option.{get_or_from_slice_get}
 use Rattle.weave_core.specs.declared.children.Link.{Link}
 use Rattle.weave_core.specs.Waits.{Waits, told}

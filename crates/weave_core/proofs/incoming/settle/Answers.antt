@@ -1,13 +1,13 @@
 -- The first key goes, or is current, or is put in again.
-use Rattle.std.proofs.Common.{ℕ, ◌<◌, ◌≡◌, Bool, true, false, not, length, Some, slice_get, get_or, ap, sym, ◌∙◌, subst, arith}
+use Rattle.std.proofs.Common.{◌≡◌, true, false, not, Some, slice_get, ap, sym, ◌∙◌}
 use Rattle.std.proofs.lemmas.Option.{get_or_from_slice_get}
-use Rattle.domain_queue.specs.SortedKeys.{ReadyKeys, put}
+use Rattle.domain_queue.specs.SortedKeys.{put}
 use Rattle.weave_core.specs.declared.incoming.Stub.{Stub}
 use Rattle.weave_core.specs.DomainMachine.{is_exact}
-use Rattle.weave_core.specs.Stubs.{arrival_at, slack}
+use Rattle.weave_core.specs.Stubs.{arrival_at}
 use Rattle.weave_core.specs.Waits.{key_of}
 use Rattle.weave_core.proofs.Lists.{get_there, not_false, not_true}
-use Rattle.weave_core.proofs.Queued.{first_within, is_current, is_new_key, keyed_again, keyed_without, slack_again, slack_without}
+use Rattle.weave_core.proofs.Queued.{first_within, is_current, is_new_key, keyed_again, keyed_without, slack_again}
 use Rattle.weave_core.proofs.incoming.settle.Goals as goal
 
 pub bounds-stubs-key : goal.bounds-stubs-key

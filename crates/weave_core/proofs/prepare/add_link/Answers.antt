@@ -1,5 +1,5 @@
 -- The link is put before the others of its parent.
-use Rattle.std.proofs.Common.{ℕ, ◌+◌, ◌<◌, ◌≤◌, ◌^◌, ◌≡◌, ◌∷◌, ◌++◌, [], cond, eqb, max, List, length, set, get_or, Option, Some, IfSome, slice_get, sym, ap, ◌∙◌, subst, arith}
+use Rattle.std.proofs.Common.{ℕ, ◌+◌, ◌<◌, ◌≤◌, ◌^◌, ◌≡◌, ◌∷◌, ◌++◌, [], cond, eqb, max, List, length, set, Option, Some, IfSome, slice_get, sym, ap, subst, arith}
 use Rattle.std.proofs.lemmas.List.{length_push}
 use Rattle.event_graph.specs.declared.event.Parent.{Parent}
 use Rattle.weave_core.specs.declared.children.Link.{Link}
@@ -7,7 +7,7 @@ use Rattle.weave_core.specs.Beginning.{AreChained}
 use Rattle.weave_core.specs.Layout.{hit_after, hits}
 use Rattle.weave_core.proofs.Indexing.{read_there}
 use Rattle.weave_core.proofs.Linking.{added}
-use Rattle.weave_core.proofs.Lists.{get_below, get_there}
+use Rattle.weave_core.proofs.Lists.{get_below}
 use Rattle.weave_core.proofs.prepare.add_link.Goals as goal
 
 pub returns-clause-added : goal.returns-clause-added

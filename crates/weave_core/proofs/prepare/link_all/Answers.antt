@@ -1,10 +1,10 @@
 -- Each event is linked to its parents.
-use Rattle.std.proofs.Common.{ℕ, ◌+◌, ◌<◌, ◌≤◌, ◌≡◌, ◌^◌, [], List, length, get_or, replicate, Option, Some, IfSome, slice_get, sym, ap, ◌∙◌, subst, refl, arith}
+use Rattle.std.proofs.Common.{◌<◌, ◌≡◌, List, length, get_or, replicate, Some, slice_get, sym, ap, ◌∙◌, subst, arith}
 use Rattle.std.proofs.lemmas.List.{length-replicate}
 use Rattle.std.proofs.lemmas.Option.{slice_get-get_or}
 use Rattle.event_graph.specs.declared.event.Event.{Event}
 use Rattle.weave_core.specs.declared.children.Link.{Link}
-use Rattle.weave_core.specs.Beginning.{AreChained, AreCounts}
+use Rattle.weave_core.specs.Beginning.{AreChained}
 use Rattle.weave_core.specs.Layout.{no_event}
 use Rattle.weave_core.proofs.LinkAll.{chained_next, chained_none, count_upto, counts_next, late_upto, linked_all}
 use Rattle.weave_core.proofs.prepare.link_all.Goals as goal

@@ -1,5 +1,5 @@
 -- The components so far.
-use Rattle.std.proofs.Common.{◌≡◌, ◌≤◌, length}
+use Rattle.std.proofs.Common.{◌≡◌, ◌≤◌}
 use Rattle.weave_core.specs.Beginning.{AreSpots}
 use Rattle.weave_core.specs.Layout.{place_in}
 use Rattle.weave_core.proofs.prepare.spots_of.Given as goal

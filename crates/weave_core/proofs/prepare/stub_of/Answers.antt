@@ -1,8 +1,8 @@
 -- What is known of the crossing.
-use Rattle.std.proofs.Common.{ℕ, ◌≤◌, ◌≡◌, get_or, sym, ap, ◌∙◌, subst, refl, arith}
+use Rattle.std.proofs.Common.{◌≤◌, ◌≡◌, get_or, sym, ap, ◌∙◌, subst, refl, arith}
 use Rattle.std.proofs.lemmas.Option.{get_or_from_slice_get}
 use Rattle.event_graph.specs.declared.event.Event.{Event}
-use Rattle.weave_core.specs.DomainMachine.{latency_at, latency_of}
+use Rattle.weave_core.specs.DomainMachine.{latency_of}
 use Rattle.weave_core.specs.Layout.{no_event}
 use Rattle.weave_core.proofs.Knowledge.{latency_there}
 use Rattle.weave_core.proofs.prepare.stub_of.Goals as goal

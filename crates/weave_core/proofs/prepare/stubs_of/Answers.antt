@@ -1,5 +1,5 @@
 -- A crossing more.
-use Rattle.std.proofs.Common.{ℕ, ◌+◌, ◌<◌, ◌≤◌, ◌≡◌, ◌^◌, ◌∷◌, ◌++◌, [], Bool, false, Vec, Global, List, length, set, get_or, Some, slice_get, sym, ap, ◌∙◌, subst, refl, arith}
+use Rattle.std.proofs.Common.{ℕ, ◌+◌, ◌<◌, ◌≤◌, ◌≡◌, ◌∷◌, ◌++◌, [], false, Vec, Global, List, length, set, get_or, Some, slice_get, sym, ap, ◌∙◌, subst, arith}
 use Rattle.std.proofs.lemmas.Option.{get_or_from_slice_get, slice_get-get_or}
 use Rattle.domain_map.specs.declared.crossing.Crossing.{Crossing}
 use Rattle.weave_core.specs.declared.incoming.Stub.{Stub}

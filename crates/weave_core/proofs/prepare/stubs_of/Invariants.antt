@@ -1,5 +1,4 @@
 -- The crossings so far.
-use Rattle.std.proofs.Common.{◌≡◌}
 use Rattle.weave_core.specs.Beginning.{AddsWaits, AreStubsUpto}
 use Rattle.weave_core.proofs.prepare.stubs_of.Given as goal
 

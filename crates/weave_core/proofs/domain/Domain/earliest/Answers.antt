@@ -1,5 +1,5 @@
 -- The first ready place.
-use Rattle.std.proofs.Common.{ℕ, ◌<◌, ◌≡◌, List, length, Option, Some, None, slice_get, sym, ap, ◌∙◌, subst, refl, arith}
+use Rattle.std.proofs.Common.{◌<◌, ◌≡◌, List, length, Option, Some, None, sym, ap, ◌∙◌, subst, refl, arith}
 use Rattle.event_graph.specs.declared.event.Event.{Event}
 use Rattle.zs_num.specs.declared.time.Key.{Key}
 use Rattle.weave_core.specs.Answer.{numbered_key}

@@ -1,17 +1,14 @@
 -- The first ready event fires, and its children learn it.
-use Rattle.std.proofs.Common.{ℕ, ◌+◌, ◌<◌, ◌≤◌, ◌≡◌, ◌^◌, Bool, true, IsTrue, List, [], ◌∷◌, ◌++◌, length, map, set, take, drop, get_or, Some, None, slice_get, sym, ap, ◌∙◌, subst, refl, rules, arith, length-set}
+use Rattle.std.proofs.Common.{ℕ, ◌+◌, ◌<◌, ◌≤◌, ◌≡◌, ◌^◌, IsTrue, List, [], ◌∷◌, ◌++◌, length, map, set, take, drop, get_or, Some, slice_get, sym, ap, ◌∙◌, subst, rules, arith, length-set}
 use Rattle.std.proofs.lemmas.Option.{get_or_from_slice_get, none-some, same_Some}
 use Rattle.std.proofs.lemmas.List.{length_push}
-use Rattle.component.specs.declared.kind.Kind.{Kind}
 use Rattle.event_graph.specs.declared.event.Event.{Event}
-use Rattle.event_graph.specs.declared.fired.Fired.{Fired}
 use Rattle.event_graph.specs.OneListWeave.{Timed}
 use Rattle.weave_core.specs.declared.children.Link.{Link}
 use Rattle.weave_core.specs.Children.{CanTell, CanTellChain, IsChain, tell_all}
 use Rattle.weave_core.specs.DomainCalls.{CanFire, DomainValue, IsFire}
-use Rattle.weave_core.specs.DomainMachine.{DomainState, next_in}
-use Rattle.weave_core.specs.Inside.{IsDomain, domain_value, own_of}
-use Rattle.weave_core.specs.Layout.{AreServed, IsChildren, Stands, fired_in, place_in, timed_from}
+use Rattle.weave_core.specs.Inside.{domain_value, own_of}
+use Rattle.weave_core.specs.Layout.{AreServed, Stands, fired_in, place_in, timed_from}
 use Rattle.weave_core.specs.Waits.{Waits, is_fired_wait}
 use Rattle.weave_core.proofs.FireHere.{IsFiring, fired_behind, firing, not_firing, still_served, take_front}
 use Rattle.weave_core.proofs.FireSteps.{can_tell_children, counted_then, some_unfired, stands_then}
@@ -396,7 +393,7 @@ returns g c =
           ∙ ap (λ (cs : List g.row.C.Denot). record (domain_value c.self.inside) {
             own = record (own_of c.self.inside) {
               fired = map (timed_from c.self.inside.graph.value) c.self.inside.fired.items
-              ++ (record { event = f.event; start = c.in-Some.key.start; finish = (g.C.Component.stepped f.component f.event.kind c.in-Some.key.start).1 }) ∷ [];
+                  ++ (record { event = f.event; start = c.in-Some.key.start; finish = (g.C.Component.stepped f.component f.event.kind c.in-Some.key.start).1 }) ∷ [];
             };
             comps = cs;
           }) comps_are;

@@ -1,18 +1,18 @@
 -- The stub is told, and its child where the finish was not known.
-use Rattle.std.proofs.Common.{ℕ, ◌+◌, ◌<◌, ◌≤◌, ◌≡◌, ◌^◌, Bool, true, false, not, List, length, set, get_or, Some, slice_get, sym, ap, ◌∙◌, subst, refl, arith, length-set}
+use Rattle.std.proofs.Common.{ℕ, ◌+◌, ◌<◌, ◌≡◌, true, false, not, List, length, set, get_or, Some, slice_get, sym, ap, ◌∙◌, subst, refl, arith, length-set}
 use Rattle.std.proofs.lemmas.Option.{get_or_from_slice_get, slice_get-get_or}
 use Rattle.zs_num.specs.declared.time.Word.{Word}
 use Rattle.zs_num.specs.declared.time.Word.TheVariants.{Bound, Exact}
 use Rattle.weave_core.specs.declared.incoming.Stub.{Stub}
 use Rattle.weave_core.specs.Answer.{no_stub}
 use Rattle.weave_core.specs.DomainCalls.{DomainValue, MayTell, with_known}
-use Rattle.weave_core.specs.DomainMachine.{DomainState, cycle_of, is_exact}
+use Rattle.weave_core.specs.DomainMachine.{cycle_of, is_exact}
 use Rattle.weave_core.specs.Inside.{IsDomain, domain_value, own_of}
-use Rattle.weave_core.specs.Layout.{AreStubs, Stands, fired_in, known_words}
+use Rattle.weave_core.specs.Layout.{Stands, known_words}
 use Rattle.weave_core.specs.Stubs.{Stubs, told_word}
 use Rattle.weave_core.specs.Waits.{Waits, told}
 use Rattle.weave_core.proofs.Lists.{get_there, not_false, not_true}
-use Rattle.weave_core.proofs.Looked.{child_few, child_waits, child_within, fired_told, known_after, later, stands_alike, stands_raised, stands_told, unchanged, wait_is}
+use Rattle.weave_core.proofs.Looked.{child_few, child_waits, child_within, fired_told, known_after, later, stands_alike, stands_raised, stands_told, unchanged}
 use Rattle.weave_core.proofs.Words.{still_stubs}
 use Rattle.weave_core.proofs.domain.Domain.look.Goals as goal
 

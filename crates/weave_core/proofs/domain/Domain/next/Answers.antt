@@ -1,5 +1,5 @@
 -- The first ready place and the first stub decide.
-use Rattle.std.proofs.Common.{ℕ, ◌≡◌, List, sym, ap, ◌∙◌, subst, refl}
+use Rattle.std.proofs.Common.{◌≡◌, List, sym, ap, ◌∙◌, subst, refl}
 use Rattle.event_graph.specs.declared.event.Event.{Event}
 use Rattle.weave_core.specs.declared.incoming.Stub.{Stub}
 use Rattle.weave_core.specs.declared.next.Next.{Next}

@@ -1,6 +1,5 @@
 -- The queue is filled in order of the stubs.
-use Rattle.std.proofs.Common.{ℕ, ◌<◌, ◌+◌, ◌≡◌, length, List, Some, slice_get, get_or, ap, sym, ◌∙◌, subst, refl, arith}
-use Rattle.std.proofs.lemmas.Option.{get_or_from_slice_get}
+use Rattle.std.proofs.Common.{◌<◌, ◌+◌, ◌≡◌, length, List, Some, slice_get, ap, sym, ◌∙◌, subst, refl, arith}
 use Rattle.zs_num.specs.declared.time.Key.{Key}
 use Rattle.domain_queue.specs.SortedKeys.{ReadyKeys, put}
 use Rattle.weave_core.specs.Stubs.{arrival_at}

@@ -1,9 +1,9 @@
 -- The first key of the queue is that of the first stub.
-use Rattle.std.proofs.Common.{Option, Some, None, slice_get, subst, sym, ◌≡◌, ◌∙◌, refl}
-use Rattle.std.specs.Prelude.{IfSome, IfNone}
+use Rattle.std.proofs.Common.{Option, Some, None, subst, sym, ◌≡◌, ◌∙◌, refl}
+use Rattle.std.specs.Prelude.{IfSome}
 use Rattle.zs_num.specs.declared.time.Key.{Key}
-use Rattle.weave_core.specs.Stubs.{IsFirstStub, NoneOpen, Stubs}
-use Rattle.weave_core.proofs.Queued.{first_stub, none_open}
+use Rattle.weave_core.specs.Stubs.{IsFirstStub, Stubs}
+use Rattle.weave_core.proofs.Queued.{first_stub}
 use Rattle.weave_core.proofs.incoming.Incoming.first.Goals as goal
 
 if_some : (o : Option Key) (P : Key → Type 0) → ((k : Key) → o ≡ Some k → P k) → IfSome o P

@@ -1,5 +1,5 @@
 -- The keys are no later under a higher floor.
-use Rattle.std.proofs.Common.{ℕ, ◌≤◌, ◌≡◌, List, ap, sym, ◌∙◌, subst, arith}
+use Rattle.std.proofs.Common.{◌≡◌, List, ap, sym, subst, arith}
 use Rattle.weave_core.specs.declared.incoming.Stub.{Stub}
 use Rattle.weave_core.specs.Stubs.{AreSmallStubs, IsKeyed, Stubs}
 use Rattle.weave_core.proofs.Queued.{keyed_raised}

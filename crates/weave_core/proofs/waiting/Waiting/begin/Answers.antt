@@ -1,6 +1,5 @@
 -- The queue is filled in order of the places.
-use Rattle.std.proofs.Common.{ℕ, ◌+◌, ◌≡◌, ◌<◌, ◌≤◌, length, List, Some, slice_get, get_or, ap, sym, ◌∙◌, subst, refl, arith}
-use Rattle.std.proofs.lemmas.Option.{slice_get-get_or}
+use Rattle.std.proofs.Common.{◌+◌, ◌≡◌, ◌<◌, ◌≤◌, length, List, Some, slice_get, ap, sym, ◌∙◌, subst, refl, arith}
 use Rattle.zs_num.specs.declared.time.Key.{Key}
 use Rattle.domain_queue.specs.SortedKeys.{ReadyKeys}
 use Rattle.weave_core.proofs.Readied.{IsFilled, filled_all, filled_none, filled_push, filled_skip, is_later}

@@ -1,5 +1,5 @@
 -- The first key of the queue.
-use Rattle.std.proofs.Common.{Option, Some, None, slice_get, subst, sym, ◌≡◌, ◌∙◌, refl}
+use Rattle.std.proofs.Common.{Option, Some, None, subst, sym, ◌≡◌, ◌∙◌, refl}
 use Rattle.std.specs.Prelude.{IfSome, IfNone}
 use Rattle.zs_num.specs.declared.time.Key.{Key}
 use Rattle.weave_core.specs.Waits.{IsFirstReady, NoneReady, Waits}

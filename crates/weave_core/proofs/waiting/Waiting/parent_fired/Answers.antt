@@ -1,5 +1,5 @@
 -- One that waits is told, and is ready where it waited for no other.
-use Rattle.std.proofs.Common.{ℕ, ◌<◌, ◌+◌, ◌-◌, length, Option, Some, None, slice_get, subst, sym, ◌≡◌, ◌∙◌, ap, arith, refl}
+use Rattle.std.proofs.Common.{ℕ, ◌<◌, ◌-◌, length, Some, slice_get, subst, sym, ◌≡◌, ◌∙◌, ap, arith}
 use Rattle.std.specs.Prelude.{slice_index, slice_set}
 use Rattle.std.proofs.lemmas.Option.{slice_get-get_or}
 use Rattle.std.proofs.lemmas.List.{get_or_read, get_or-set_same}

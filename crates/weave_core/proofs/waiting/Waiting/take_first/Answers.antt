@@ -1,5 +1,5 @@
 -- The first key of the queue leaves it.
-use Rattle.std.proofs.Common.{ℕ, ◌<◌, length, Option, Some, None, slice_get, subst, sym, ◌≡◌, ◌∙◌, arith}
+use Rattle.std.proofs.Common.{◌<◌, length, subst, sym, ◌∙◌, arith}
 use Rattle.weave_core.specs.Waits.{IsFirstReady, NoneReady, Waits}
 use Rattle.weave_core.proofs.Lists.{get_below}
 use Rattle.weave_core.proofs.Readied.{first_ready, none_ready, popped}
