@@ -32,6 +32,13 @@ fn a_put_that_fails_leaves_the_bytes_before_it(rt: HostRuntime) -> Result<(), Fa
     for fails in 0..5 {
         assert_cut(&rt, alloc, &exe, report, fails)?;
     }
+    let cut = call(
+        alloc,
+        &exe,
+        MemSink::new(alloc, 64, &[1])?,
+        MemSink::new(alloc, 7, &[])?,
+    )?;
+    assert!(rt; cut.out.bytes().ends_with(b"cycles 3\naccess"));
     let out = MemSink::new(alloc, 64, &[5])?;
     let called = call(alloc, &exe, out, MemSink::new(alloc, 7, &[])?)?;
     assert!(rt; matches!(called.ended.status, Status::Ran));
