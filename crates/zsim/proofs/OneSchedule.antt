@@ -18,17 +18,20 @@ use Rattle.component.specs.declared.comp.Comp.{Comp}
 use Rattle.component.specs.Components.{AreFresh}
 use Rattle.event_graph.specs.Timing.{time_by}
 use Rattle.rv_core.specs.CoreState.{InProgress}
+use Rattle.bound_core.specs.MachineWorld.{MachineWorld, serve}
 use Rattle.bound_core.specs.ReferenceMachine.{BoundState, access_served, bound_from}
 use Rattle.bound_core.specs.Timed.{TimedCore, after_access, after_instruction, after_instructions, asks, goes_on_alone, first_core, left_of_instruction, next_request, ran_to}
 use Rattle.bound_core.proofs.Accesses.{left_answered}
 use Rattle.bound_core.proofs.Instructions.{cycle_at_most, late_stops, ran_stays}
-use Rattle.zsim.specs.declared.results.Ending.{Ending}
-use Rattle.zsim.specs.FlatWorld.{FlatWorld, serve}
-use Rattle.zsim.specs.Progress.{one_core}
-use Rattle.access_log.specs.RecordedOrder.{no_stamps, recorded_order}
-use Rattle.zsim.specs.ReferenceRun.{Illegal, IsRunOf, RunState, after_interval, after_intervals, after_weave, all_delayed, and_then, begun, end_of, ending_before, first_state, next_place, reference_run, results_at, results_of, time_of, woven_after, woven_interval}
+use Rattle.zsim.specs.declared.results.RunEnd.{RunEnd}
+use Rattle.access_log.specs.RecordedOrder.{recorded_order}
+use Rattle.zsim.specs.ReferenceRun.{Illegal, IsRunOf, RunState, after_interval, after_intervals, after_weave, all_delayed, and_then, begun, end_of, ending_before, first_state, next_place, reference_run, results_at, results_of, time_of, world_of, woven_after, woven_interval}
 use Rattle.zsim.specs.Results.{Results}
 use Rattle.zsim.proofs.NextInterval.{goes_on}
+
+-- a bound phase of one core
+abbrev pub one_core : TimedCore → MachineWorld → List Entry → BoundState MachineWorld
+one_core c w entries = record { cores = c ∷ []; world = w; entries = entries }
 
 -- ---- the list of an interval
 
@@ -57,42 +60,42 @@ unfolding after_access
 access_left time e c request asked = left_answered e.reply c.core (some_left c.core.instruction request asked)
 
 module _ (time : Entry → ℕ) (image : MemoryImage) (end : ℕ) where
-  abbrev phase : (place : ℕ) → List ℕ → BoundState FlatWorld → Result (BoundState FlatWorld) ℕ
+  abbrev phase : (place : ℕ) → List ℕ → BoundState MachineWorld → Result (BoundState MachineWorld) ℕ
   phase = bound_from serve time image end
 
   -- after the turn of a core that asks for this
-  abbrev after_turn : TimedCore → FlatWorld → List Entry → Request → BoundState FlatWorld
+  abbrev after_turn : TimedCore → MachineWorld → List Entry → Request → BoundState MachineWorld
   after_turn c w es request = let ran = ran_to image end c in
       access_served serve time image end (one_core c w es) 0 ran (serve w 0 ran.clock request)
 
-  turned : (place : ℕ) (numbers : List ℕ) (c : TimedCore) (w : FlatWorld) (es : List Entry) (request : Request) → asks (ran_to image end c) ≡ Some request
+  turned : (place : ℕ) (numbers : List ℕ) (c : TimedCore) (w : MachineWorld) (es : List Entry) (request : Request) → asks (ran_to image end c) ≡ Some request
       → phase place (0 ∷ numbers) (one_core c w es) ≡ phase (place + 1) numbers (after_turn c w es request)
   turned place numbers c w es request asked = rw asked refl
 
-  stuck : (place number : ℕ) (numbers : List ℕ) (c : TimedCore) (w : FlatWorld) (es : List Entry) → asks (ran_to image end c) ≡ None
+  stuck : (place number : ℕ) (numbers : List ℕ) (c : TimedCore) (w : MachineWorld) (es : List Entry) → asks (ran_to image end c) ≡ None
       → phase place (number ∷ numbers) (one_core c w es) ≡ Err place
   stuck place zero numbers c w es asked = rw asked refl
   stuck place (suc number) numbers c w es asked = refl
 
-  other_core : (place number : ℕ) (numbers : List ℕ) (c : TimedCore) (w : FlatWorld) (es : List Entry)
+  other_core : (place number : ℕ) (numbers : List ℕ) (c : TimedCore) (w : MachineWorld) (es : List Entry)
       → phase place (suc number ∷ numbers) (one_core c w es) ≡ Err place
   other_core place number numbers c w es = refl
 
-  ends_here : (place : ℕ) (c : TimedCore) (w : FlatWorld) (es : List Entry) → asks (ran_to image end c) ≡ None
+  ends_here : (place : ℕ) (c : TimedCore) (w : MachineWorld) (es : List Entry) → asks (ran_to image end c) ≡ None
       → phase place [] (one_core c w es) ≡ Ok (one_core (ran_to image end c) w es)
   ends_here place c w es asked = rw asked refl
 
-  too_short : (place : ℕ) (c : TimedCore) (w : FlatWorld) (es : List Entry) (request : Request) → asks (ran_to image end c) ≡ Some request
+  too_short : (place : ℕ) (c : TimedCore) (w : MachineWorld) (es : List Entry) (request : Request) → asks (ran_to image end c) ≡ Some request
       → phase place [] (one_core c w es) ≡ Err place
   too_short place c w es request asked = rw asked refl
 
-  no_error : (r : Result (BoundState FlatWorld) ℕ) (place : ℕ) (b : BoundState FlatWorld) → r ≡ Err place → r ≡ Ok b → ⊥
+  no_error : (r : Result (BoundState MachineWorld) ℕ) (place : ℕ) (b : BoundState MachineWorld) → r ≡ Err place → r ≡ Ok b → ⊥
   no_error (Ok x) place b e f = cc
   no_error (Err p) place b e f = cc
 
   -- one list of turns is legal for an interval
-  one_list_by : (asked : Option Request) (place : ℕ) (c : TimedCore) (w : FlatWorld) (es : List Entry) → asks (ran_to image end c) ≡ asked
-      → (turns others : List ℕ) (b d : BoundState FlatWorld) → phase place turns (one_core c w es) ≡ Ok b → phase place others (one_core c w es) ≡ Ok d → turns ≡ others
+  one_list_by : (asked : Option Request) (place : ℕ) (c : TimedCore) (w : MachineWorld) (es : List Entry) → asks (ran_to image end c) ≡ asked
+      → (turns others : List ℕ) (b d : BoundState MachineWorld) → phase place turns (one_core c w es) ≡ Ok b → phase place others (one_core c w es) ≡ Ok d → turns ≡ others
   one_list_by asked place c w es is [] [] b d e f = refl
   one_list_by None place c w es is [] (n ∷ ns) b d e f = absurd (no_error _ place d (stuck place n ns c w es is) f)
   one_list_by None place c w es is (n ∷ ns) others b d e f = absurd (no_error _ place b (stuck place n ns c w es is) e)
@@ -108,23 +111,23 @@ module _ (time : Entry → ℕ) (image : MemoryImage) (end : ℕ) where
       (sym (turned place ns c w es request is) ∙ e) (sym (turned place ms c w es request is) ∙ f) in
       ap (λ (list : List ℕ). 0 ∷ list) rest
 
-  pub one_list : (c : TimedCore) (w : FlatWorld) (es : List Entry) (turns others : List ℕ) (b d : BoundState FlatWorld)
+  pub one_list : (c : TimedCore) (w : MachineWorld) (es : List Entry) (turns others : List ℕ) (b d : BoundState MachineWorld)
       → phase 0 turns (one_core c w es) ≡ Ok b → phase 0 others (one_core c w es) ≡ Ok d → turns ≡ others
   one_list c w es = one_list_by (asks (ran_to image end c)) 0 c w es refl
 
 -- turns that end an interval, and where they lead
-pub record Turns (time : Entry → ℕ) (image : MemoryImage) (end place : ℕ) (c : TimedCore) (w : FlatWorld) (es : List Entry) : Type 0 where
+pub record Turns (time : Entry → ℕ) (image : MemoryImage) (end place : ℕ) (c : TimedCore) (w : MachineWorld) (es : List Entry) : Type 0 where
   pub turns : List ℕ
   pub core : TimedCore
-  pub world : FlatWorld
+  pub world : MachineWorld
   pub entries : List Entry
   pub legal : bound_from serve time image end place turns (one_core c w es) ≡ Ok (one_core core world entries)
 
 module _ (time : Entry → ℕ) (some : (e : Entry) → 1 ≤ time e) (image : MemoryImage) (end : ℕ) where
   -- A turn, if there is one, and the turns after it: the clock is later, and where the end of the interval was reached
   -- before, fewer accesses are left.
-  turn_or_end : (place : ℕ) (c : TimedCore) (w : FlatWorld) (es : List Entry)
-      → ((d : TimedCore) (v : FlatWorld) (fs : List Entry) → c.clock + 1 ≤ d.clock → (end ≤ c.clock → left_of_instruction d.core.instruction + 1 ≤ left_of_instruction c.core.instruction) → Turns time image end (place + 1) d v fs)
+  turn_or_end : (place : ℕ) (c : TimedCore) (w : MachineWorld) (es : List Entry)
+      → ((d : TimedCore) (v : MachineWorld) (fs : List Entry) → c.clock + 1 ≤ d.clock → (end ≤ c.clock → left_of_instruction d.core.instruction + 1 ≤ left_of_instruction c.core.instruction) → Turns time image end (place + 1) d v fs)
       → (asked : Option Request) → asks (ran_to image end c) ≡ asked → Turns time image end place c w es
   turn_or_end place c w es further None is = record {
     turns = [];
@@ -155,14 +158,14 @@ module _ (time : Entry → ℕ) (some : (e : Entry) → 1 ≤ time e) (image : M
       }
 
   -- past the end of the interval: the accesses of the instruction in progress
-  turns_past : (m place : ℕ) (c : TimedCore) (w : FlatWorld) (es : List Entry) → end ≤ c.clock → left_of_instruction c.core.instruction ≤ m → Turns time image end place c w es
+  turns_past : (m place : ℕ) (c : TimedCore) (w : MachineWorld) (es : List Entry) → end ≤ c.clock → left_of_instruction c.core.instruction ≤ m → Turns time image end place c w es
   turns_past zero place c w es late few =
       turn_or_end place c w es (λ d v fs clock left. absurd (omega (arith, few, left late))) (asks (ran_to image end c)) refl
   turns_past (suc m) place c w es late few =
       turn_or_end place c w es (λ d v fs clock left. turns_past m (place + 1) d v fs (omega (arith, late, clock)) (omega (arith, few, left late))) (asks (ran_to image end c)) refl
 
   -- there are turns that end an interval: each access brings the core nearer to its end
-  pub turns_there : (n place : ℕ) (c : TimedCore) (w : FlatWorld) (es : List Entry) → end - c.clock ≤ n → Turns time image end place c w es
+  pub turns_there : (n place : ℕ) (c : TimedCore) (w : MachineWorld) (es : List Entry) → end - c.clock ≤ n → Turns time image end place c w es
   turns_there zero place c w es near = turns_past (left_of_instruction c.core.instruction) place c w es (omega (arith, near)) (omega arith)
   turns_there (suc n) place c w es near =
       elim (cases_lt c.clock end) [
@@ -187,15 +190,12 @@ takes_a_cycle machine is e =
 abbrev IsOneCore : RunState → Type 0
 IsOneCore s = (c : TimedCore) × (s.cores ≡ c ∷ [])
 
-abbrev world_at : Machine → RunState → FlatWorld
-world_at machine s = record { memory = s.memory; stamps = no_stamps machine.l2.banks machine.cores }
-
 -- the bound phase of an interval
-abbrev phase_at : Machine → MemoryImage → RunState → List ℕ → BoundState FlatWorld → Result (BoundState FlatWorld) ℕ
+abbrev phase_at : Machine → MemoryImage → RunState → List ℕ → BoundState MachineWorld → Result (BoundState MachineWorld) ℕ
 phase_at machine image s turns b = bound_from serve (time_of machine) image (end_of machine s) 0 turns b
 
-begun_one : (machine : Machine) (s : RunState) (c : TimedCore) → s.cores ≡ c ∷ [] → begun machine s ≡ one_core c (world_at machine s) []
-begun_one machine s c one = ap (λ (cores : List TimedCore). let b : BoundState FlatWorld = record { cores = cores; world = world_at machine s; entries = [] } in b) one
+begun_one : (machine : Machine) (s : RunState) (c : TimedCore) → s.cores ≡ c ∷ [] → begun machine s ≡ one_core c (world_of machine s) []
+begun_one machine s c one = ap (λ (cores : List TimedCore). let b : BoundState MachineWorld = record { cores = cores; world = world_of machine s; entries = [] } in b) one
 
 -- a list of turns, and the run after the interval that it leads through
 record NextInterval (machine : Machine) (image : MemoryImage) (s : RunState) : Type 0 where
@@ -205,7 +205,7 @@ record NextInterval (machine : Machine) (image : MemoryImage) (s : RunState) : T
   one : IsOneCore state
   longer : length state.intervals ≡ length s.intervals + 1
 
-weave_keeps : (machine : Machine) (s : RunState) (c : TimedCore) (w : FlatWorld) (es : List Entry)
+weave_keeps : (machine : Machine) (s : RunState) (c : TimedCore) (w : MachineWorld) (es : List Entry)
     → IsOneCore (after_weave machine s (one_core c w es)) × (length (after_weave machine s (one_core c w es)).intervals ≡ length s.intervals + 1)
 unfolding after_weave
 weave_keeps machine s c w es = ((_, refl), length-append s.intervals (woven_interval machine s.comps (recorded_order es) ∷ []))
@@ -213,7 +213,7 @@ weave_keeps machine s c w es = ((_, refl), length-append s.intervals (woven_inte
 next_interval : (machine : Machine) (image : MemoryImage) → IsMachine machine → (s : RunState) → IsOneCore s → NextInterval machine image s
 next_interval machine image is s one =
     let end = end_of machine s in
-    let found = turns_there (time_of machine) (takes_a_cycle machine is) image end (end - one.0.clock) 0 one.0 (world_at machine s) [] (omega arith) in
+    let found = turns_there (time_of machine) (takes_a_cycle machine is) image end (end - one.0.clock) 0 one.0 (world_of machine s) [] (omega arith) in
     let kept = weave_keeps machine s found.core found.world found.entries in
     let legal : phase_at machine image s found.turns (begun machine s) ≡ Ok (one_core found.core found.world found.entries) =
     ap (phase_at machine image s found.turns) (begun_one machine s one.0 one.1) ∙ found.legal
@@ -231,7 +231,7 @@ record RestOfRun (machine : Machine) (image : MemoryImage) (s : RunState) : Type
   lists : List (List ℕ)
   last : RunState
   reached : after_intervals machine image s lists ≡ Ok last
-  ending : Ending
+  ending : RunEnd
   ends : ending_before machine last ≡ Some ending
 
 with_interval : (machine : Machine) (image : MemoryImage) (s : RunState) → ending_before machine s ≡ None → (next : NextInterval machine image s) → RestOfRun machine image next.state → RestOfRun machine image s
@@ -243,14 +243,14 @@ with_interval machine image s on next rest = record {
   ends = rest.ends;
 }
 
-rest_or_end : (machine : Machine) (image : MemoryImage) (s : RunState) → (ending_before machine s ≡ None → RestOfRun machine image s) → (ending : Option Ending) → ending_before machine s ≡ ending → RestOfRun machine image s
+rest_or_end : (machine : Machine) (image : MemoryImage) (s : RunState) → (ending_before machine s ≡ None → RestOfRun machine image s) → (ending : Option RunEnd) → ending_before machine s ≡ ending → RestOfRun machine image s
 rest_or_end machine image s goes None is = goes is
 rest_or_end machine image s goes (Some ending) is = record { lists = []; last = s; reached = refl; ending = ending; ends = is }
 
 -- a run ends, by the limit of intervals at the latest
 rest_of_run : (machine : Machine) (image : MemoryImage) → IsMachine machine → (n : ℕ) (s : RunState) → IsOneCore s → length s.intervals + n ≡ machine.intervals → RestOfRun machine image s
 rest_of_run machine image is zero s one left =
-    rest_or_end machine image s (λ on. absurd ((goes_on machine s one.0 one.1 on).1.intervals_left (omega (arith, left)))) (ending_before machine s) refl
+    rest_or_end machine image s (λ on. absurd ((goes_on machine s on).intervals_left (omega (arith, left)))) (ending_before machine s) refl
 rest_of_run machine image is (suc n) s one left =
     let next = next_interval machine image is s one in
     rest_or_end machine image s (λ on. with_interval machine image s on next (rest_of_run machine image is n next.state next.one (omega (arith, left, next.longer)))) (ending_before machine s) refl
@@ -280,20 +280,20 @@ let_pass true (Err illegal) rest stop last e = cc
 let_pass true (Ok t) rest stop last e = (refl, t, refl, e)
 let_pass false next rest stop last e = cc
 
-from_bound : (machine : Machine) (s : RunState) (o : Result (BoundState FlatWorld) ℕ) (t : RunState) → woven_after machine s o ≡ Ok t → (b : BoundState FlatWorld) × (o ≡ Ok b) × (after_weave machine s b ≡ t)
+from_bound : (machine : Machine) (s : RunState) (o : Result (BoundState MachineWorld) ℕ) (t : RunState) → woven_after machine s o ≡ Ok t → (b : BoundState MachineWorld) × (o ≡ Ok b) × (after_weave machine s b ≡ t)
 from_bound machine s (Err place) t e = cc
 from_bound machine s (Ok b) t e = (b, refl, cc)
 
-stops : (ending : Option Ending) (how : Ending) → ending ≡ Some how → is_none ending ≡ true → ⊥
+stops : (ending : Option RunEnd) (how : RunEnd) → ending ≡ Some how → is_none ending ≡ true → ⊥
 stops None how e none = cc
 stops (Some other) how e none = cc
 
-keeps_one : (image : MemoryImage) (time : Entry → ℕ) (end place : ℕ) (turns : List ℕ) (c : TimedCore) (w : FlatWorld) (es : List Entry) (asked : Option Request) → asks (ran_to image end c) ≡ asked
-    → (b : BoundState FlatWorld) → bound_from serve time image end place turns (one_core c w es) ≡ Ok b → (d : TimedCore) × (b.cores ≡ d ∷ [])
+keeps_one : (image : MemoryImage) (time : Entry → ℕ) (end place : ℕ) (turns : List ℕ) (c : TimedCore) (w : MachineWorld) (es : List Entry) (asked : Option Request) → asks (ran_to image end c) ≡ asked
+    → (b : BoundState MachineWorld) → bound_from serve time image end place turns (one_core c w es) ≡ Ok b → (d : TimedCore) × (b.cores ≡ d ∷ [])
 keeps_one image time end place [] c w es None is b e =
     let same : Ok (one_core (ran_to image end c) w es) ≡ Ok b = sym (ends_here time image end place c w es is) ∙ e in
     let at : one_core (ran_to image end c) w es ≡ b = cc in
-    (ran_to image end c, ap (λ (x : BoundState FlatWorld). x.cores) (sym at))
+    (ran_to image end c, ap (λ (x : BoundState MachineWorld). x.cores) (sym at))
 keeps_one image time end place [] c w es (Some request) is b e = absurd (no_error time image end _ place b (too_short time image end place c w es request is) e)
 keeps_one image time end place (n ∷ ns) c w es None is b e = absurd (no_error time image end _ place b (stuck time image end place n ns c w es is) e)
 keeps_one image time end place (suc n ∷ ns) c w es (Some request) is b e = absurd (no_error time image end _ place b (other_core time image end place n ns c w es) e)
@@ -303,12 +303,12 @@ keeps_one image time end place (zero ∷ ns) c w es (Some request) is b e =
     let next = after_access time answer.0 ran in
     keeps_one image time end (place + 1) ns next answer.1 (es ++ answer.0 ∷ []) (asks (ran_to image end next)) refl b (sym (turned time image end place ns c w es request is) ∙ e)
 
-weave_one : (machine : Machine) (s : RunState) (b : BoundState FlatWorld) (d : TimedCore) → b.cores ≡ d ∷ [] → IsOneCore (after_weave machine s b)
+weave_one : (machine : Machine) (s : RunState) (b : BoundState MachineWorld) (d : TimedCore) → b.cores ≡ d ∷ [] → IsOneCore (after_weave machine s b)
 unfolding after_weave
 weave_one machine s b d one = (_, ap (all_delayed (woven_interval machine s.comps (recorded_order b.entries)).delays) one)
 
 module _ (machine : Machine) (image : MemoryImage) where
-  one_schedule : (s : RunState) → IsOneCore s → (lists others : List (List ℕ)) (last end : RunState) (ending other : Ending)
+  one_schedule : (s : RunState) → IsOneCore s → (lists others : List (List ℕ)) (last end : RunState) (ending other : RunEnd)
       → after_intervals machine image s lists ≡ Ok last → ending_before machine last ≡ Some ending
       → after_intervals machine image s others ≡ Ok end → ending_before machine end ≡ Some other → lists ≡ others
   one_schedule s one [] [] last end ending other e is f ends = refl
@@ -330,8 +330,8 @@ module _ (machine : Machine) (image : MemoryImage) where
       let second = from_bound machine s (phase_at machine image s turns_too (begun machine s)) leads.1 leads.2 in
       let from_one = ap (phase_at machine image s turns) (sym begins) ∙ first.1 in
       let from_other = ap (phase_at machine image s turns_too) (sym begins) ∙ second.1 in
-      let head : turns ≡ turns_too = one_list time image stop one.0 (world_at machine s) [] turns turns_too first.0 second.0 from_one from_other in
-      let kept = keeps_one image time stop 0 turns one.0 (world_at machine s) [] (asks (ran_to image stop one.0)) refl first.0 from_one in
+      let head : turns ≡ turns_too = one_list time image stop one.0 (world_of machine s) [] turns turns_too first.0 second.0 from_one from_other in
+      let kept = keeps_one image time stop 0 turns one.0 (world_of machine s) [] (asks (ran_to image stop one.0)) refl first.0 from_one in
       let next_one : IsOneCore goes.1 = subst IsOneCore first.2 (weave_one machine s first.0 kept.0 kept.1) in
       let next : Ok goes.1 ≡ Ok leads.1 = sym goes.2 ∙ ap (after_interval machine image s) head ∙ leads.2 in
       let same : goes.1 ≡ leads.1 = cc in
@@ -339,12 +339,12 @@ module _ (machine : Machine) (image : MemoryImage) where
       let tails : rest ≡ rest_too = one_schedule goes.1 next_one rest rest_too last end ending other goes.3 is from ends in
       cc
 
-  ending_of : (last : RunState) (results : Results) (o : Option Ending) → ending_before machine last ≡ o → results_at machine last o ≡ Ok results → (ending : Ending) × (ending_before machine last ≡ Some ending)
+  ending_of : (last : RunState) (results : Results) (o : Option RunEnd) → ending_before machine last ≡ o → results_at machine last o ≡ Ok results → (ending : RunEnd) × (ending_before machine last ≡ Some ending)
   ending_of last results None is e = cc
   ending_of last results (Some ending) is e = (ending, is)
 
   -- a run that gives results ends
-  whole : (o : Result RunState Illegal) (results : Results) → and_then (λ s. results_at machine s (ending_before machine s)) o ≡ Ok results → (last : RunState) × (ending : Ending) × (o ≡ Ok last) × (ending_before machine last ≡ Some ending)
+  whole : (o : Result RunState Illegal) (results : Results) → and_then (λ s. results_at machine s (ending_before machine s)) o ≡ Ok results → (last : RunState) × (ending : RunEnd) × (o ≡ Ok last) × (ending_before machine last ≡ Some ending)
   whole (Err illegal) results e = cc
   whole (Ok last) results e =
       let ends = ending_of last results (ending_before machine last) refl e in

@@ -1,25 +1,83 @@
--- Accesses whose stamps are counted are in recorded order.
-use Rattle.std.proofs.Common.{◌≡◌, ℕ, ◌+◌, nat_lt, true, List, [], ◌∷◌, ◌++◌, length, refl, ◌∙◌, ap, arith}
+-- What recorded order keeps of the accesses of an interval.
+use Rattle.std.proofs.Common.{◌≡◌, ◌≢◌, ℕ, ◌+◌, ◌<◌, false, List, [], ◌∷◌, length, All, refl, subst, arith, inl, inr}
+use Rattle.std.specs.List.{AllByRecursion, IsDistinct}
+use Rattle.std.proofs.lemmas.Bool.{cases_Bool, cases_eq}
 use Rattle.std.proofs.lemmas.Bool.Decides.{nat_tests}
+use Rattle.std.proofs.lemmas.List.Elements.{All-cons, All-head, All-nil, All-tail}
 use Rattle.zs_num.specs.declared.entry.Entry.{Entry}
-use Rattle.zsim.specs.Port.{AreCounted}
-use Rattle.access_log.specs.RecordedOrder.{comes_before, placed, recorded_order}
+use Rattle.access_log.specs.History.{AreRising, AreStamped, core_of_entry, of_core}
+use Rattle.access_log.specs.Laws.{CoresDecideTheOrder, RecordedOrderKeepsTheStamps, StampsRise}
+use Rattle.access_log.specs.Logs.{HaveDistinctKeys, have_same_key}
+use Rattle.access_log.specs.RecordedOrder.{comes_before, no_stamps, placed, recorded_order}
+use Rattle.access_log.proofs.Filters.{other_first, own_first}
+use Rattle.access_log.proofs.Rising.{rising_less}
 
--- an access that came later
-earlier : (first : ℕ) (a b : Entry) → a.stamp ≡ first → b.stamp ≡ first + 1 → nat_lt a.stamp b.stamp ≡ true
-earlier first a b at next = grind (arith, nat_tests)
+-- ---- the same accesses
 
-before : (a b : Entry) → nat_lt a.stamp b.stamp ≡ true → comes_before a b ≡ true
-before a b lt = rw lt refl
+all_placed : (P : Entry → Type 0) (e : Entry) (entries : List Entry) → P e → All P entries → All P (placed e entries)
+all_placed P e [] one all = All-cons P e [] one all
+all_placed P e (x ∷ entries) one all =
+    elim (cases_Bool (comes_before e x)) as (λ _. All P (placed e (x ∷ entries))) [
+      | inl is ↦ rw is (All-cons P e (x ∷ entries) one all)
+      | inr not ↦ rw not (All-cons P x (placed e entries) (All-head P x entries all) (all_placed P e entries one (All-tail P x entries all)))
+    ]
 
-first_stays : (first : ℕ) (e : Entry) (es : List Entry) → e.stamp ≡ first → AreCounted (first + 1) es → placed e es ≡ e ∷ es
-first_stays first e [] at counted = refl
-first_stays first e (x ∷ xs) at counted = rw (before e x (earlier first e x at counted.0)) refl
+pub all_recorded : (P : Entry → Type 0) (entries : List Entry) → All P entries → All P (recorded_order entries)
+all_recorded P [] all = All-nil P
+all_recorded P (e ∷ entries) all = all_placed P e (recorded_order entries) (All-head P e entries all) (all_recorded P entries (All-tail P e entries all))
 
-pub in_order : (first : ℕ) (es : List Entry) → AreCounted first es → recorded_order es ≡ es
-in_order first [] counted = refl
-in_order first (e ∷ es) counted = ap (placed e) (in_order (first + 1) es counted.1) ∙ first_stays first e es counted.0 counted.1
+length_placed : (e : Entry) (entries : List Entry) → length (placed e entries) ≡ length entries + 1
+length_placed e [] = refl
+length_placed e (x ∷ entries) =
+    elim (cases_Bool (comes_before e x)) as (λ _. length (placed e (x ∷ entries)) ≡ length (x ∷ entries) + 1) [
+      | inl is ↦ rw is (omega arith)
+      | inr not ↦ rw not (omega (arith, length_placed e entries))
+    ]
 
-pub counted_more : (first : ℕ) (es : List Entry) (e : Entry) → AreCounted first es → e.stamp ≡ first + length es → AreCounted first (es ++ e ∷ [])
-counted_more first [] e counted at = (omega (arith, at), tt)
-counted_more first (x ∷ xs) e counted at = (counted.0, counted_more (first + 1) xs e counted.1 (omega (arith, at)))
+pub length_recorded : (entries : List Entry) → length (recorded_order entries) ≡ length entries
+length_recorded [] = refl
+length_recorded (e ∷ entries) = omega (arith, length_placed e (recorded_order entries), length_recorded entries)
+
+-- ---- no two have the same stamp and core
+
+later_differs : (e x : Entry) → e.stamp < x.stamp → have_same_key e x ≡ false
+later_differs e x later = grind (arith, nat_tests)
+
+other_differs : (e x : Entry) → x.core ≢ e.core → have_same_key e x ≡ false
+other_differs e x other = grind (arith, nat_tests)
+
+rest_rises : (core : ℕ) (e : Entry) (entries : List Entry) → AreRising 0 (of_core core (e ∷ entries)) → AreRising 0 (of_core core entries)
+rest_rises core e entries rising =
+    elim (cases_eq e.core core) as (λ _. AreRising 0 (of_core core entries)) [
+      | inl own ↦
+          let whole : AreRising 0 (e ∷ of_core core entries) = subst (AreRising 0) (own_first core_of_entry core e entries own) rising in
+          rising_less 0 e.stamp (of_core core entries) (omega arith) whole.1
+      | inr other ↦ subst (AreRising 0) (other_first core_of_entry core e entries other) rising
+    ]
+
+apart_from_all : (e : Entry) (entries : List Entry) → AreRising e.stamp (of_core e.core entries) → AllByRecursion (λ y. have_same_key e y ≡ false) entries
+apart_from_all e [] rising = tt
+apart_from_all e (x ∷ entries) rising =
+    elim (cases_eq x.core e.core) as (λ _. AllByRecursion (λ y. have_same_key e y ≡ false) (x ∷ entries)) [
+      | inl own ↦
+          let whole : AreRising e.stamp (x ∷ of_core e.core entries) = subst (AreRising e.stamp) (own_first core_of_entry e.core x entries own) rising in
+          (later_differs e x whole.0, apart_from_all e entries (rising_less e.stamp x.stamp (of_core e.core entries) (omega (arith, whole.0)) whole.1))
+      | inr other ↦
+          let rest : AreRising e.stamp (of_core e.core entries) = subst (AreRising e.stamp) (other_first core_of_entry e.core x entries other) rising in
+          (other_differs e x other, apart_from_all e entries rest)
+    ]
+
+pub distinct_keys : (entries : List Entry) → ((core : ℕ) → AreRising 0 (of_core core entries)) → HaveDistinctKeys entries
+unfolding IsDistinct
+distinct_keys [] rising = tt
+distinct_keys (e ∷ entries) rising =
+    let whole : AreRising 0 (e ∷ of_core e.core entries) = subst (AreRising 0) (own_first core_of_entry e.core e entries refl) (rising e.core) in
+    (apart_from_all e entries whole.1, distinct_keys entries (λ core. rest_rises core e entries (rising core)))
+
+-- ---- in recorded order already
+
+-- recorded order leaves itself as it is
+pub recorded_again : StampsRise → RecordedOrderKeepsTheStamps → CoresDecideTheOrder → (banks cores : ℕ) (entries : List Entry)
+    → 0 < banks → All (λ e. e.core < cores) entries → AreStamped banks (no_stamps banks cores) entries → recorded_order (recorded_order entries) ≡ recorded_order entries
+recorded_again rise keep decide banks cores entries some known stamped =
+    decide entries (recorded_order entries) (rise banks cores entries some known stamped).0 (keep banks cores entries some known stamped).2.core

@@ -7,15 +7,15 @@ use Rattle.machine_desc.specs.declared.machine.Machine.{Machine}
 use Rattle.component.specs.declared.comp.Comp.{Comp}
 use Rattle.component.specs.Components.{AreFresh}
 use Rattle.stats.specs.Counts.{Counts, Interval, counts_of, total_accesses}
-use Rattle.zsim.specs.declared.progress.Progress.{Progress}
-use Rattle.zsim.specs.declared.results.Ending.{Ending}
+use Rattle.zsim.specs.declared.simulation.Simulation.{Simulation}
+use Rattle.zsim.specs.declared.results.RunEnd.{RunEnd}
 use Rattle.bound_core.specs.Timed.{TimedCore}
-use Rattle.zsim.specs.Progress.{GoesOn, StandsFor, LeadsTo}
+use Rattle.zsim.specs.Simulation.{GoesOn, LeadsTo, StandsFor, cores_of}
 use Rattle.zsim.specs.ReferenceRun.{RunState, after_interval, after_intervals, ending_at, ending_before, first_state, IsLegalSoFar, and_then, reference_run, results_at, results_of, Illegal, next_place}
 use Rattle.zsim.proofs.NextInterval.{goes_on}
 
 -- the code has come to where the run is after the intervals of this schedule
-pub record HasRun (machine : Machine) (image : MemoryImage) (lists : List (List ℕ)) (p : Progress) : Type 0 where
+pub record HasRun (machine : Machine) (image : MemoryImage) (lists : List (List ℕ)) (p : Simulation) : Type 0 where
   pub comps : List Comp
   pub fresh : AreFresh machine comps
   pub state : RunState
@@ -28,21 +28,21 @@ unfolding counts_of
 counted_accesses cores comps intervals = refl
 
 -- the accesses that the code has counted
-pub accesses_are : (machine : Machine) (s : RunState) (p : Progress) → StandsFor machine s p → p.counters.accesses ≡ total_accesses s.intervals
+pub accesses_are : (machine : Machine) (s : RunState) (p : Simulation) → StandsFor machine s p → p.counters.accesses ≡ total_accesses s.intervals
 accesses_are machine s p come = ap (λ (c : Counts). c.accesses) come.counters ∙ counted_accesses machine.cores s.comps s.intervals
 
 -- how the run ends, by what the code has
-pub same_ending : (machine : Machine) (s : RunState) (p : Progress) → StandsFor machine s p → (k : ℕ) → length s.intervals ≡ k
-    → ending_at machine k p.counters.accesses (p.core.timed ∷ []) p.comps ≡ ending_before machine s
+pub same_ending : (machine : Machine) (s : RunState) (p : Simulation) → StandsFor machine s p → (k : ℕ) → length s.intervals ≡ k
+    → ending_at machine k p.counters.accesses (cores_of p) p.comps ≡ ending_before machine s
 same_ending machine s p come k as_long =
-    ap (λ (n : ℕ). ending_at machine n p.counters.accesses (p.core.timed ∷ []) p.comps) (sym as_long)
-    ∙ ap (λ (n : ℕ). ending_at machine (length s.intervals) n (p.core.timed ∷ []) p.comps) (accesses_are machine s p come)
+    ap (λ (n : ℕ). ending_at machine n p.counters.accesses (cores_of p) p.comps) (sym as_long)
+    ∙ ap (λ (n : ℕ). ending_at machine (length s.intervals) n (cores_of p) p.comps) (accesses_are machine s p come)
     ∙ ap (λ (cores : List TimedCore). ending_at machine (length s.intervals) (total_accesses s.intervals) cores p.comps) (sym come.cores)
     ∙ ap (λ (comps : List Comp). ending_at machine (length s.intervals) (total_accesses s.intervals) s.cores comps) come.comps
 
 -- the run goes on with an interval that ends then
-pub goes_to : (machine : Machine) (s : RunState) (p : Progress) → StandsFor machine s p → (k end : ℕ) → length s.intervals ≡ k → end ≡ (k + 1) * machine.interval
-    → ending_at machine k p.counters.accesses (p.core.timed ∷ []) p.comps ≡ None → GoesOn machine end s p
+pub goes_to : (machine : Machine) (s : RunState) (p : Simulation) → StandsFor machine s p → (k end : ℕ) → length s.intervals ≡ k → end ≡ (k + 1) * machine.interval
+    → ending_at machine k p.counters.accesses (cores_of p) p.comps ≡ None → GoesOn machine end s p
 goes_to machine s p come k end as_long ends on = record {
   come = come;
   on = sym (same_ending machine s p come k as_long) ∙ on;
@@ -54,7 +54,7 @@ passed : (test : Bool) (rest : Result RunState Illegal) (stop : Illegal) (t : Ru
 passed true rest stop t e = (refl, e)
 passed false rest stop t e = cc
 
-none_is : (ending : Option Ending) → ending ≡ None → is_none ending ≡ true
+none_is : (ending : Option RunEnd) → ending ≡ None → is_none ending ≡ true
 none_is None e = refl
 none_is (Some how) e = cc
 
@@ -77,7 +77,7 @@ one_interval machine image s (first ∷ lists) t u turns at on after =
     rw parts.0 (rest (after_interval machine image s first) parts.1)
 
 -- the run is an interval further, and its schedule a list longer
-pub further : (machine : Machine) (image : MemoryImage) (lists : List (List ℕ)) (p q : Progress) (h : HasRun machine image lists p) (turns : List ℕ) → ending_before machine h.state ≡ None
+pub further : (machine : Machine) (image : MemoryImage) (lists : List (List ℕ)) (p q : Simulation) (h : HasRun machine image lists p) (turns : List ℕ) → ending_before machine h.state ≡ None
     → LeadsTo machine image h.state turns q → HasRun machine image (lists ++ turns ∷ []) q
 further machine image lists p q h turns on leads = record {
   comps = h.comps;
@@ -89,7 +89,7 @@ further machine image lists p q h turns on leads = record {
 }
 
 -- what the run gives where it ends
-pub ends_with : (machine : Machine) (image : MemoryImage) (lists : List (List ℕ)) (p : Progress) (h : HasRun machine image lists p) (ending : Ending) → ending_before machine h.state ≡ Some ending
+pub ends_with : (machine : Machine) (image : MemoryImage) (lists : List (List ℕ)) (p : Simulation) (h : HasRun machine image lists p) (ending : RunEnd) → ending_before machine h.state ≡ Some ending
     → reference_run machine image h.comps lists ≡ Ok (results_of machine h.state ending)
 ends_with machine image lists p h ending ends =
     ap (and_then (λ (s : RunState). results_at machine s (ending_before machine s))) h.reached ∙ ap (results_at machine h.state) ends
@@ -100,7 +100,7 @@ on_err P (Ok x) p = tt
 on_err P (Err e) p = p
 
 -- the schedule has legal lists up to where the code has come
-pub legal_so_far : (machine : Machine) (image : MemoryImage) (lists : List (List ℕ)) (p : Progress) → HasRun machine image lists p → IsLegalSoFar machine image lists
+pub legal_so_far : (machine : Machine) (image : MemoryImage) (lists : List (List ℕ)) (p : Simulation) → HasRun machine image lists p → IsLegalSoFar machine image lists
 legal_so_far machine image lists p h = record { comps = h.comps; fresh = h.fresh; state = h.state; reached = h.reached }
 
 pub nothing_run : (machine : Machine) (image : MemoryImage) (lists : List (List ℕ)) → lists ≡ [] → (comps : List Comp) → AreFresh machine comps → IsLegalSoFar machine image lists
@@ -112,11 +112,11 @@ nothing_run machine image lists none comps fresh = record {
 }
 
 -- a run that goes on, and what the code needs of it
-module _ (machine : Machine) (image : MemoryImage) (lists : List (List ℕ)) (p : Progress) (h : HasRun machine image lists p) (k end : ℕ) (count : length lists ≡ k) (ends : end ≡ k * machine.interval) where
-  pub goes : ending_at machine k p.counters.accesses (p.core.timed ∷ []) p.comps ≡ None → GoesOn machine (end + machine.interval) h.state p
+module _ (machine : Machine) (image : MemoryImage) (lists : List (List ℕ)) (p : Simulation) (h : HasRun machine image lists p) (k end : ℕ) (count : length lists ≡ k) (ends : end ≡ k * machine.interval) where
+  pub goes : ending_at machine k p.counters.accesses (cores_of p) p.comps ≡ None → GoesOn machine (end + machine.interval) h.state p
   goes on = goes_to machine h.state p h.come k (end + machine.interval) (h.as_long ∙ count) (omega (arith, ends)) on
 
-  pub below_limit : (on : ending_at machine k p.counters.accesses (p.core.timed ∷ []) p.comps ≡ None) → k ≤ machine.intervals → k < machine.intervals
+  pub below_limit : (on : ending_at machine k p.counters.accesses (cores_of p) p.comps ≡ None) → k ≤ machine.intervals → k < machine.intervals
   below_limit on within =
-      let left : length h.state.intervals ≢ machine.intervals = (goes_on machine h.state p.core.timed h.come.cores (goes on).on).1.intervals_left in
+      let left : length h.state.intervals ≢ machine.intervals = (goes_on machine h.state (goes on).on).intervals_left in
       omega (arith, left, h.as_long, count)

@@ -6,8 +6,8 @@ use Rattle.zsim.specs.declared.ended.Said.{Said}
 use Rattle.zsim.specs.declared.ended.Said.TheVariants as said
 use Rattle.zsim.specs.declared.ended.Status.{Status}
 use Rattle.zsim.specs.declared.ended.Status.TheVariants as status
-use Rattle.zsim.specs.declared.results.Ending.{Ending}
-use Rattle.zsim.specs.declared.results.Ending.TheVariants.{Halted, Limit}
+use Rattle.zsim.specs.declared.results.RunEnd.{RunEnd}
+use Rattle.zsim.specs.declared.results.RunEnd.TheVariants.{Halted, Limit}
 use Rattle.zsim.specs.declared.ended.Which.TheVariants as which
 use Rattle.zsim.specs.CommandLine.{Command, command_of}
 use Rattle.zsim.specs.ErrorLine.{error_line}
@@ -87,7 +87,7 @@ pub record IsStopped (words : List (List ℕ)) (kept : Kept) : Type 0 where
   pub run : IsLegalSoFar setup.machine setup.image kept.schedule.lists
 
 -- the status of a run that was reported whole
-abbrev pub status_at : Ending → Status
+abbrev pub status_at : RunEnd → Status
 status_at Halted = status.Ran
 status_at Limit = status.Limit
 

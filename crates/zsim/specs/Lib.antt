@@ -2,11 +2,10 @@ pub mod CommandLine
 pub mod Results
 pub mod Schedule
 pub mod Limits
-pub mod FlatWorld
 pub mod Port
 pub mod ReferenceRun
 pub mod IntervalWeave
-pub mod Progress
+pub mod Simulation
 pub mod ErrorLine
 pub mod Seen
 pub mod Setup

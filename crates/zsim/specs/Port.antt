@@ -1,24 +1,18 @@
--- What a port of one core to flat memory is seen as.
-use Rattle.std.specs.Prelude.{◌≡◌, ◌≤◌, ℕ, ◌+◌, List, [], ◌∷◌, length, All}
+-- What a port to the shards that logs its accesses is seen as.
+use Rattle.std.specs.Prelude.{◌≡◌, ℕ, List}
 use Rattle.zs_num.specs.declared.entry.Entry.{Entry}
-use Rattle.zsim.specs.FlatWorld.{FlatWorld}
+use Rattle.zs_num.specs.declared.request.Request.{Request}
+use Rattle.bound_core.specs.ShardWorld.{ShardWorld, serve}
 
-pub record FlatPortState : Type 0 where
-  pub world : FlatWorld
+pub record LoggedPortState : Type 0 where
+  pub world : ShardWorld
+  -- the core whose accesses follow
+  pub core : ℕ
   -- the accesses so far
   pub entries : List Entry
   -- for how many more there is room
   pub room : ℕ
 
--- stamps are counted from a number on
-abbrev pub AreCounted : (first : ℕ) → List Entry → Type 0
-AreCounted first [] = Unit {0}
-AreCounted first (e ∷ es) = (e.stamp ≡ first) × AreCounted (first + 1) es
-
--- What a port keeps: the stamps of its one core count the accesses, there are banks, and core 0 is there.
-pub record IsPort (w : FlatWorld) (entries : List Entry) : Type 0 where
-  pub counted : AreCounted 1 entries
-  pub latest : w.stamps.cores ≡ length entries ∷ []
-  pub stamped : All (λ stamp. stamp ≤ length entries) w.stamps.banks
-  pub some : 1 ≤ length w.stamps.banks
-  pub core : 1 ≤ length w.memory.reservations
+-- what comes of a request of the chosen core: the shard of its line serves it
+abbrev pub gives : LoggedPortState → (start : ℕ) → Request → Entry → LoggedPortState → Type 0
+gives p start request e q = (e, q.world) ≡ serve p.world p.core start request

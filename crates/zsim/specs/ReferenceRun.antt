@@ -14,12 +14,13 @@ use Rattle.event_graph.specs.Timing.{pieces_of, time_by}
 use Rattle.feedback.specs.FeedbackDelay.{feedback_delays}
 use Rattle.stats.specs.Counts.{Interval, counts_of, total_accesses}
 use Rattle.zsim.specs.Limits.{access_limit, cycle_limit, room_beyond}
-use Rattle.zsim.specs.declared.results.Ending.{Ending}
-use Rattle.zsim.specs.declared.results.Ending.TheVariants.{Halted, Limit}
+use Rattle.zsim.specs.declared.results.RunEnd.{RunEnd}
+use Rattle.zsim.specs.declared.results.RunEnd.TheVariants.{Halted, Limit}
 use Rattle.bound_core.specs.ReferenceMachine.{BoundState, bound_phase}
 use Rattle.bound_core.specs.Timed.{TimedCore, delayed, first_core}
-use Rattle.flat_memory.specs.FlatMemory.{MemoryState, loaded}
-use Rattle.zsim.specs.FlatWorld.{FlatWorld, serve}
+use Rattle.bound_core.specs.MachineWorld.{MachineWorld, first_world, serve}
+use Rattle.flat_memory.specs.FlatMemory.{MemoryState}
+use Rattle.shard.specs.Coherence.{Caches}
 use Rattle.access_log.specs.RecordedOrder.{no_stamps, recorded_order}
 use Rattle.zsim.specs.Results.{Results}
 
@@ -28,6 +29,8 @@ pub record RunState : Type 0 where
   -- in order of their numbers
   pub cores : List TimedCore
   pub memory : MemoryState
+  -- the cache lists of the whole machine
+  pub caches : Caches
   -- the banks and controllers, in order of their numbers
   pub comps : List Comp
   -- the intervals that were run
@@ -51,17 +54,22 @@ all_delayed delays cores = map (λ at. delayed (slice_index delays at.0) at.1) (
 
 -- After the weave and the feedback of an interval with this bound phase. The weave takes the accesses in recorded order,
 -- whatever the order of the turns.
-unfoldable pub after_weave : Machine → RunState → BoundState FlatWorld → RunState
+unfoldable pub after_weave : Machine → RunState → BoundState MachineWorld → RunState
 after_weave machine s b = let interval = woven_interval machine s.comps (recorded_order b.entries) in record {
   cores = all_delayed interval.delays b.cores;
   memory = b.world.memory;
+  caches = b.world.caches;
   comps = comps_after comp_step interval.events s.comps;
   intervals = s.intervals ++ interval ∷ [];
 }
 
+-- what serves the accesses of the next interval, before the first of them
+abbrev pub world_of : Machine → RunState → MachineWorld
+world_of machine s = record { memory = s.memory; caches = s.caches; stamps = no_stamps machine.l2.banks machine.cores }
+
 -- the bound phase of the next interval begins without an access
-abbrev pub begun : Machine → RunState → BoundState FlatWorld
-begun machine s = record { cores = s.cores; world = record { memory = s.memory; stamps = no_stamps machine.l2.banks machine.cores }; entries = [] }
+abbrev pub begun : Machine → RunState → BoundState MachineWorld
+begun machine s = record { cores = s.cores; world = world_of machine s; entries = [] }
 
 -- interval k, from 0, ends at (k + 1) times its length
 abbrev pub end_of : Machine → RunState → ℕ
@@ -73,7 +81,7 @@ pub record Illegal : Type 0 where
   pub place : ℕ
 
 -- after the weave of a bound phase, or where its list is not legal
-abbrev pub woven_after : Machine → RunState → Result (BoundState FlatWorld) ℕ → Result RunState Illegal
+abbrev pub woven_after : Machine → RunState → Result (BoundState MachineWorld) ℕ → Result RunState Illegal
 woven_after machine s (Ok b) = Ok (after_weave machine s b)
 woven_after machine s (Err place) = Err (record { interval = length s.intervals; place = place })
 
@@ -97,14 +105,14 @@ at_limit machine intervals accesses cores comps =
     || list_any (λ c. nat_lt cycle_limit (free_of c)) comps
 
 -- how a run ends that has come so far, or None where it goes on
-abbrev pub ending_at : Machine → (intervals accesses : ℕ) → List TimedCore → List Comp → Option Ending
+abbrev pub ending_at : Machine → (intervals accesses : ℕ) → List TimedCore → List Comp → Option RunEnd
 ending_at machine intervals accesses cores comps =
     if list_all (λ c. is_some c.core.halted) cores then Some Halted
     else if at_limit machine intervals accesses cores comps then Some Limit
     else None
 
 -- how the run ends before its next interval
-abbrev pub ending_before : Machine → RunState → Option Ending
+abbrev pub ending_before : Machine → RunState → Option RunEnd
 ending_before machine s = ending_at machine (length s.intervals) (total_accesses s.intervals) s.cores s.comps
 
 -- what follows, unless a place was not legal
@@ -127,15 +135,16 @@ after_intervals machine image s (turns ∷ lists) =
 
 -- a run before its first interval
 abbrev pub first_state : Machine → MemoryImage → List Comp → RunState
-first_state machine image comps = record {
+first_state machine image comps = let world = first_world machine image in record {
   cores = map (first_core machine image) (range_with_len 0 machine.cores);
-  memory = loaded image machine.cores;
+  memory = world.memory;
+  caches = world.caches;
   comps = comps;
   intervals = [];
 }
 
 -- what the run gives where it ends in this way
-abbrev pub results_of : Machine → RunState → Ending → Results
+abbrev pub results_of : Machine → RunState → RunEnd → Results
 results_of machine s ending = record {
   ending = ending;
   intervals = length s.intervals;
@@ -144,7 +153,7 @@ results_of machine s ending = record {
 }
 
 -- what the run gives that ends so, or the place that is missing where it goes on
-abbrev pub results_at : Machine → RunState → Option Ending → Result Results Illegal
+abbrev pub results_at : Machine → RunState → Option RunEnd → Result Results Illegal
 results_at machine s (Some ending) = Ok (results_of machine s ending)
 results_at machine s None = Err (next_place s)
 

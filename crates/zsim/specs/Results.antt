@@ -4,10 +4,10 @@ use Rattle.machine_desc.specs.declared.machine.Machine.{Machine}
 use Rattle.bound_core.specs.Timed.{TimedCore}
 use Rattle.stats.specs.Counts.{Counts}
 use Rattle.report.specs.ReportText.{report_text}
-use Rattle.zsim.specs.declared.results.Ending.{Ending}
+use Rattle.zsim.specs.declared.results.RunEnd.{RunEnd}
 
 pub record Results : Type 0 where
-  pub ending : Ending
+  pub ending : RunEnd
   -- how many intervals were run
   pub intervals : ℕ
   -- the cores at its end, in order of their numbers

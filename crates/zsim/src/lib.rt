@@ -4,16 +4,17 @@
 mod command_line;
 mod ended;
 mod error_line;
-mod flat_port;
-mod flat_world;
 pub mod laws;
 mod limits;
-mod progress;
+mod logged_port;
+mod options;
 mod put;
+mod recorded;
 mod results;
 mod running;
 mod schedule;
 mod setup;
+mod simulation;
 #[cfg(test)]
 mod tests;
 mod top;

@@ -5,7 +5,7 @@ use std::marker::Model;
 
 /// How a run ended.
 #[derive(Clone, Copy, Debug, PartialEq, Eq)]
-pub enum Ending {
+pub enum RunEnd {
     /// Every core halted.
     Halted,
     /// A limit was reached, with a core that is not halted.
@@ -15,7 +15,7 @@ pub enum Ending {
 /// What a run gives.
 #[derive(Drop)]
 pub struct RunResults {
-    pub ending: Ending,
+    pub ending: RunEnd,
     /// How many intervals were run.
     pub intervals: u32,
     /// The cores at its end, in order of their numbers.

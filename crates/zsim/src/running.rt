@@ -1,12 +1,12 @@
 // The run of an executable: intervals until every core halted, or until a limit.
 ghost use Rattle.std.specs.Prelude.{◌≡◌, [], IfOk, OnErr};
 ghost use Rattle.machine_desc.specs.Machine.{IsMachine};
-ghost use Rattle.zsim.specs.Progress.{HasCounts};
+ghost use Rattle.zsim.specs.Simulation.{HasCounts};
 ghost use Rattle.zsim.specs.ReferenceRun.{IsLegalSoFar, IsRunOf};
 
 use crate::Schedule;
-use crate::progress::Progress;
 use crate::results::RunResults;
+use crate::simulation::Simulation;
 use component::laws::fresh_components_are_there;
 use elf_load::Image;
 use event_graph::Plain;
@@ -24,11 +24,10 @@ pub fn run(
     schedule: &mut Schedule,
 ) -> Result<RunResults, NoMemory>
     requires machine { IsMachine machine.now }
-    requires cores { machine.now.cores ≡ 1 }
     requires base { image.now.base ≡ machine.now.memory.base }
     requires size { image.now.size ≡ machine.now.memory.size }
     requires empty { schedule.old.lists ≡ [] }
-    requires cores_known { schedule.old.cores ≡ 1 }
+    requires cores_known { schedule.old.cores ≡ machine.now.cores }
     ensures ok { IfOk result (IsRunOf machine.now image.now schedule.new.lists) }
     ensures counted { IfOk result (HasCounts machine.now) }
     ensures err { OnErr result (IsLegalSoFar machine.now image.now schedule.new.lists) }
@@ -37,17 +36,17 @@ pub fn run(
     fresh_components_are_there();
     let plain = Plain::of(machine);
     let program = DecodedProgram::of(alloc, image)?;
-    let mut progress = Progress::new(alloc, machine, image)?;
+    let mut simulation = Simulation::new(alloc, machine, image)?;
     let mut list = Vec::new(alloc);
     let mut k = 0;
     let mut end = 0;
     loop {
-        if let Some(ending) = progress.ending(machine, k) {
-            return progress.results(alloc, k, ending);
+        if let Some(ending) = simulation.ending(machine, k) {
+            return Ok(simulation.results(k, ending));
         }
         k += 1;
         end += machine.interval;
-        let entries = progress.interval(alloc, machine, &program, &plain, end, list)?;
+        let entries = simulation.interval(alloc, machine, &program, &plain, end, list)?;
         schedule.add(alloc, &entries)?;
         list = entries.into_list();
     }

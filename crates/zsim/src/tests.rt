@@ -3,7 +3,7 @@ ghost use Rattle.std.specs.Prelude.{◌≡◌, ◌<◌, ◌≤◌, ◌^◌, All,
 ghost use Rattle.machine_desc.specs.Plain.{plain_machine};
 
 use crate::error_line::error_line;
-use crate::results::{CoreResult, Ending, RunResults};
+use crate::results::RunEnd;
 use crate::running::run;
 use crate::weaving::weave_interval;
 use crate::{Schedule, Status};
@@ -36,10 +36,10 @@ static SEVEN: [u32; 8] = [0x0070_0513, 0x05D0_0893, 0x0000_0073, 0, 0, 0, 0, 0];
 // jal x0, 0
 static FOREVER: [u32; 8] = [0x0000_006F, 0, 0, 0, 0, 0, 0, 0];
 
-// ld x5, -8(x2); ld x6, -8(x2); addi x17, x0, 93; ecall
+// ld x5, -8(x2); ld x6, -72(x2); addi x17, x0, 93; ecall
 static TWO_LOADS: [u32; 8] = [
     0xFF81_3283,
-    0xFF81_3303,
+    0xFB81_3303,
     0x05D0_0893,
     0x0000_0073,
     0,
@@ -74,9 +74,9 @@ fn file_of(alloc: Global, words: &[u32; 8]) -> Result<Vec<u8>, NoMemory> {
 fn a_run_ends_at_the_limit_of_intervals(rt: HostRuntime) -> Result<(), Fail> {
     let alloc = rt.alloc();
     for (words, interval, intervals, ending, ran, instructions) in [
-        (&SEVEN, 1, 3, Ending::Halted, 3, 3),
-        (&SEVEN, 1, 2, Ending::Limit, 2, 2),
-        (&FOREVER, 1000, 3, Ending::Limit, 3, 3000),
+        (&SEVEN, 1, 3, RunEnd::Halted, 3, 3),
+        (&SEVEN, 1, 2, RunEnd::Limit, 2, 2),
+        (&FOREVER, 1000, 3, RunEnd::Limit, 3, 3000),
     ] {
         let file = file_of(alloc, words)?;
         let mut machine = plain(alloc)?;
@@ -109,7 +109,7 @@ fn a_busy_bank_delays_the_core(rt: HostRuntime) -> Result<(), Fail> {
     let image = load(alloc, &file, machine.memory.base, machine.memory.size)?;
     let mut schedule = Schedule::new(alloc, 1);
     let results = run(alloc, &machine, &image, &mut schedule)?;
-    assert_eq!(rt; results.ending, Ending::Halted);
+    assert_eq!(rt; results.ending, RunEnd::Halted);
     assert_eq!(rt; results.cores.len(), 1);
     for core in &results.cores {
         assert_eq!(rt; (core.instructions(), core.clock()), (4, 246));
@@ -132,6 +132,26 @@ fn a_busy_bank_delays_the_core(rt: HostRuntime) -> Result<(), Fail> {
     );
     assert_eq!(rt; schedule.intervals(), 1);
     assert_eq!(rt; schedule.list(0), [0, 0].as_slice());
+    Ok(())
+}
+
+// The second core's loads come later at the one bank. Each core has its own lines.
+#[test]
+fn cores_take_their_turns_in_order(rt: HostRuntime) -> Result<(), Fail> {
+    let alloc = rt.alloc();
+    let file = file_of(alloc, &TWO_LOADS)?;
+    let mut machine = plain(alloc)?;
+    machine.cores = 2;
+    let image = load(alloc, &file, machine.memory.base, machine.memory.size)?;
+    let mut schedule = Schedule::new(alloc, 2);
+    let results = run(alloc, &machine, &image, &mut schedule)?;
+    assert_eq!(rt; results.ending, RunEnd::Halted);
+    assert_eq!(rt; results.cores.len(), 2);
+    for core in &results.cores {
+        assert_eq!(rt; core.instructions(), 4);
+    }
+    assert_eq!(rt; schedule.intervals(), 1);
+    assert_eq!(rt; schedule.list(0), [0, 0, 1, 1].as_slice());
     Ok(())
 }
 
@@ -210,7 +230,7 @@ fn a_long_run_keeps_a_list_for_each_interval(rt: HostRuntime) -> Result<(), Fail
     let image = load(alloc, &file, machine.memory.base, machine.memory.size)?;
     let mut schedule = Schedule::new(alloc, 1);
     let results = run(alloc, &machine, &image, &mut schedule)?;
-    assert_eq!(rt; results.ending, Ending::Limit);
+    assert_eq!(rt; results.ending, RunEnd::Limit);
     assert_eq!(rt; results.intervals, 70_000);
     assert_eq!(rt; schedule.intervals(), 70_000);
     Ok(())

@@ -3,14 +3,16 @@ ghost use Rattle.std.specs.Prelude.{◌≡◌, ◌⊎◌, [], map, string_bytes}
 ghost use Rattle.machine_desc.specs.Machine.{IsMachine};
 ghost use Rattle.zsim.specs.Ended.{status_at, Gives, IsOutcome, Says};
 ghost use Rattle.zsim.specs.ReferenceRun.{IsRunOf};
-ghost use Rattle.zsim.specs.Results.{Results};
+ghost use Rattle.zsim.specs.CommandLine.{command_of};
+ghost use Rattle.zsim.specs.Simulation.{HasCounts};
+ghost use Rattle.zsim.specs.Results.{Results, report_of};
 ghost use Rattle.zsim.specs.Seen.{files_seen, sink_seen};
 ghost use Rattle.zsim.specs.Steps.{IsEmpty, RunsAs};
 
 use crate::command_line::command_of;
 use crate::error_line::error_line;
 use crate::put::put_all;
-use crate::results::Ending;
+use crate::results::{RunEnd, RunResults};
 use crate::setup::{check_exe, check_machine, read_exe, read_machine};
 use crate::{Ended, Kept, Said, Schedule, Status, report, running};
 use elf_load::Image;
@@ -122,12 +124,12 @@ fn run_and_report<O: Sink>(
 }
 
 // The status of a run that was reported whole.
-fn status_of(ending: Ending) -> Status
+fn status_of(ending: RunEnd) -> Status
     ensures { result ≡ status_at ending }
 {
     match ending {
-        Ending::Halted => Status::Ran,
-        Ending::Limit => Status::Limit,
+        RunEnd::Halted => Status::Ran,
+        RunEnd::Limit => Status::Limit,
     }
 }
 
