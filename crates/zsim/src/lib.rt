@@ -9,7 +9,6 @@ mod limits;
 mod logged_port;
 mod options;
 mod put;
-mod recorded;
 mod results;
 mod running;
 mod schedule;

@@ -14,9 +14,9 @@ ghost use Rattle.zsim.specs.IntervalWeave.{IsPlainOf};
 
 use crate::limits::{ACCESS_LIMIT, CYCLE_LIMIT, ROOM_BEYOND};
 use crate::logged_port::LoggedPort;
-use crate::recorded::sort;
 use crate::results::{RunEnd, RunResults};
 use crate::weaving::weave_interval;
+use access_log::sort;
 use bound_core::BoundCore;
 use component::{Comp, Comps, components};
 use elf_load::Image;
