@@ -1,4 +1,4 @@
-use Rattle.std.proofs.Common.{◌≡◌, ℕ, ◌+◌, ◌-◌, ◌<◌, List, ◌++◌, ◌∷◌, [], length, map, Some, Ok, sym, ◌∙◌, ap, refl, subst, arith}
+use Rattle.std.proofs.Common.{◌≡◌, ℕ, ◌+◌, ◌-◌, ◌<◌, List, ◌++◌, ◌∷◌, [], length, map, Some, Ok, sym, ◌∙◌, ap, refl, subst, arith, All}
 use Rattle.std.proofs.lemmas.List.{length-append}
 use Rattle.zs_num.specs.declared.entry.Entry.{Entry}
 use Rattle.elf_load.specs.MemoryImage.{MemoryImage}
@@ -80,6 +80,11 @@ pub interval-requires-clause-goes_on : goal.interval-requires-clause-goes_on
 interval-requires-clause-goes_on c =
     let was = c.loop-ending.invariant in
     (was.run.state, goes c.args.machine.now c.args.image.now c.loop-ending.schedule.lists c.loop-ending.simulation was.run c.loop-ending.k c.loop-ending.end was.count was.end (sym c.in_default.ensures))
+
+pub add-requires-clause-cores : goal.add-requires-clause-cores
+add-requires-clause-cores c =
+    let known : c.loop-ending.schedule.cores ≡ c.args.machine.now.cores = c.loop-ending.invariant.cores ∙ c.requires.cores_known in
+    subst (λ (n : ℕ). All (λ (e : Entry). e.core < n) c.in_ok-entries.entries) (sym known) c.in_ok-entries.ensures.cores
 
 pub returns-in_err-add-clause-err : goal.returns-in_err-add-clause-err
 returns-in_err-add-clause-err c =
