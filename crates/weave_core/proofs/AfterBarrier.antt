@@ -18,7 +18,7 @@ use Rattle.weave_core.proofs.Updates.{floor_below}
 use Rattle.weave_core.proofs.First.{IsFirst}
 use Rattle.weave_core.proofs.Firing.{IsOrder, before_fired, before_start, fired_before, start_by_all}
 use Rattle.weave_core.proofs.Knowledge.{IsPlaced, IsReady, is_ready, latency_there, parent_of_crossing, placed, ready_start}
-use Rattle.weave_core.proofs.Steps.{Holds}
+use Rattle.weave_core.proofs.Steps.{Holds, bounds_of}
 use Rattle.weave_core.proofs.Barriers.{first_left_ready, is_left, left_test, left_is}
 
 -- a ready start is that of a domain's next event
@@ -88,8 +88,8 @@ module _ {C : Type 0} (stepped : C → Kind → ℕ → C × ℕ) (events : List
       let l : IsLeast (is_ready_in events p d (state_of s d)) (λ e. start_of (known_finish events p d (state_of s d)) e) events b =
       some_next (is_ready_in events p d (state_of s d)) (λ e. start_of (known_finish events p d (state_of s d)) e) events b is
       in
-      let r : IsReady events p all o div d (h.cut d) (state_of s d) own.fired own.known own.floor b.0 = is_ready events p all o div d (h.cut d) (state_of s d) own.fired own.known own.floor b.0 l.passes in
-      let w : IsPlaced events p all o div d (h.cut d) (state_of s d) own.fired own.known own.floor b.0 = placed events p all o div d (h.cut d) (state_of s d) own.fired own.known own.floor b.0 l.there r in
+      let r : IsReady events p all o div d (h.cut d) (state_of s d) own.fired own.known (bounds_of stepped events p comps all o div _ _ _ _ own) b.0 = is_ready events p all o div d (h.cut d) (state_of s d) own.fired own.known (bounds_of stepped events p comps all o div _ _ _ _ own) b.0 l.passes in
+      let w : IsPlaced events p all o div d (h.cut d) (state_of s d) own.fired own.known (bounds_of stepped events p comps all o div _ _ _ _ own) b.0 = placed events p all o div d (h.cut d) (state_of s d) own.fired own.known (bounds_of stepped events p comps all o div _ _ _ _ own) b.0 l.there r in
       let in_d : domain_of p.places w.x.event ≡ d = ap (domain_of p.places) w.event ∙ r.here in
       let cut : h.cut (domain_of p.places w.x.event) ≡ h.cut d = ap h.cut in_d in (
         w.k,
@@ -137,8 +137,8 @@ module _ {C : Type 0} (stepped : C → Kind → ℕ → C × ℕ) (events : List
       let l = some_next (is_ready_in events p (domain_of p.places x.event) (state_of s (domain_of p.places x.event))) (λ e. start_of (known_finish events p (domain_of p.places x.event) (state_of s (domain_of p.places x.event))) e) events b.0 b.1 in
       let n = not_earlier (domain_of p.places x.event) b.0 b.1 in
       let at : start_of (known_finish events p (domain_of p.places x.event) (state_of s (domain_of p.places x.event))) x.event ≡ x.start =
-      ready_start events p all o div (domain_of p.places x.event) (h.cut (domain_of p.places x.event)) (state_of s (domain_of p.places x.event)) own.fired own.known own.floor x.event.number x.event
-      (is_ready events p all o div (domain_of p.places x.event) (h.cut (domain_of p.places x.event)) (state_of s (domain_of p.places x.event)) own.fired own.known own.floor x.event ready) (o.event k x there)
+      ready_start events p all o div (domain_of p.places x.event) (h.cut (domain_of p.places x.event)) (state_of s (domain_of p.places x.event)) own.fired own.known (bounds_of stepped events p comps all o div _ _ _ _ own) x.event.number x.event
+      (is_ready events p all o div (domain_of p.places x.event) (h.cut (domain_of p.places x.event)) (state_of s (domain_of p.places x.event)) own.fired own.known (bounds_of stepped events p comps all o div _ _ _ _ own) x.event ready) (o.event k x there)
       ∙ sym (start_by_all events all o k x there)
       in
       elim (cases_lt k n.0) [

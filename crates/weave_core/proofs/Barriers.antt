@@ -20,7 +20,7 @@ use Rattle.weave_core.proofs.Updates.{floors_after}
 use Rattle.weave_core.proofs.First.{IsFirst, first_of}
 use Rattle.weave_core.proofs.Firing.{IsOrder, before_start, fired_before, start_by_all, start_is}
 use Rattle.weave_core.proofs.Knowledge.{IsReady, first_pending, is_pending, is_ready, parent_before, parent_of_crossing, pending_is, pending_test, ready_start}
-use Rattle.weave_core.proofs.Steps.{Holds, Stands}
+use Rattle.weave_core.proofs.Steps.{Holds, Stands, bounds_of}
 
 -- a list element's domain is among the numbered domains
 in_starts : (events : List Event) (p : Division) (n d : ℕ) (xs : List DomainState) (own : DomainState) (b : Event × ℕ) → slice_get xs d ≡ Some own
@@ -74,21 +74,21 @@ module _ {C : Type 0} (stepped : C → Kind → ℕ → C × ℕ) (events : List
     first_left_ready k x f =
         let d : ℕ = domain_of p.places x.event in
         let own = h.domains (domain_of p.places x.event) in
-        let first : IsFirst (is_pending events p all o div (domain_of p.places x.event) (h.cut (domain_of p.places x.event)) (state_of s (domain_of p.places x.event)) own.fired own.known own.floor) all k x =
+        let first : IsFirst (is_pending events p all o div (domain_of p.places x.event) (h.cut (domain_of p.places x.event)) (state_of s (domain_of p.places x.event)) own.fired own.known (bounds_of stepped events p comps all o div _ _ _ _ own)) all k x =
         record {
           there = f.there;
-          passes = pending_test events p all o div (domain_of p.places x.event) (h.cut (domain_of p.places x.event)) (state_of s (domain_of p.places x.event)) own.fired own.known own.floor k x refl (left_is k x f.passes);
+          passes = pending_test events p all o div (domain_of p.places x.event) (h.cut (domain_of p.places x.event)) (state_of s (domain_of p.places x.event)) own.fired own.known (bounds_of stepped events p comps all o div _ _ _ _ own) k x refl (left_is k x f.passes);
           before = λ j y l e.
-              elim (test_cases (is_pending events p all o div (domain_of p.places x.event) (h.cut (domain_of p.places x.event)) (state_of s (domain_of p.places x.event)) own.fired own.known own.floor j y)) [
+              elim (test_cases (is_pending events p all o div (domain_of p.places x.event) (h.cut (domain_of p.places x.event)) (state_of s (domain_of p.places x.event)) own.fired own.known (bounds_of stepped events p comps all o div _ _ _ _ own) j y)) [
                 | inr fails_it ↦ fails_it
                 | inl passes_it ↦
-                    let is = pending_is events p all o div (domain_of p.places x.event) (h.cut (domain_of p.places x.event)) (state_of s (domain_of p.places x.event)) own.fired own.known own.floor j y passes_it in
+                    let is = pending_is events p all o div (domain_of p.places x.event) (h.cut (domain_of p.places x.event)) (state_of s (domain_of p.places x.event)) own.fired own.known (bounds_of stepped events p comps all o div _ _ _ _ own) j y passes_it in
                     let cut : h.cut (domain_of p.places y.event) ≡ h.cut (domain_of p.places x.event) = ap h.cut is.0 in
                     absurd (false≢true (sym (f.before j y l e) ∙ left_test j y (omega (arith, is.1, cut))))
               ];
         }
         in
-        elim (first_pending events p all o div (domain_of p.places x.event) (h.cut (domain_of p.places x.event)) (state_of s (domain_of p.places x.event)) own.fired own.known own.floor k x first) [
+        elim (first_pending events p all o div (domain_of p.places x.event) (h.cut (domain_of p.places x.event)) (state_of s (domain_of p.places x.event)) own.fired own.known (bounds_of stepped events p comps all o div _ _ _ _ own) k x first) [
           | inl ready ↦ ready
           | inr a ↦
               let q : (i : ℕ) × ((w : Timed) × ((i < k) × ((slice_get all i ≡ Some w) × ((w.event.number ≡ a.crossing.parent) × (a.crossing.source ≡ domain_of p.places w.event))))) =
@@ -130,11 +130,11 @@ module _ {C : Type 0} (stepped : C → Kind → ℕ → C × ℕ) (events : List
         let l = some_next (is_ready_in events p (domain_of p.places f.1.0.event) (state_of s (domain_of p.places f.1.0.event)))
         (λ e. start_of (known_finish events p (domain_of p.places f.1.0.event) (state_of s (domain_of p.places f.1.0.event))) e) events b.0 b.1
         in
-        let r : IsReady events p all o div (domain_of p.places f.1.0.event) (h.cut (domain_of p.places f.1.0.event)) (state_of s (domain_of p.places f.1.0.event)) own.fired own.known own.floor f.1.0.event =
-        is_ready events p all o div (domain_of p.places f.1.0.event) (h.cut (domain_of p.places f.1.0.event)) (state_of s (domain_of p.places f.1.0.event)) own.fired own.known own.floor f.1.0.event ready
+        let r : IsReady events p all o div (domain_of p.places f.1.0.event) (h.cut (domain_of p.places f.1.0.event)) (state_of s (domain_of p.places f.1.0.event)) own.fired own.known (bounds_of stepped events p comps all o div _ _ _ _ own) f.1.0.event =
+        is_ready events p all o div (domain_of p.places f.1.0.event) (h.cut (domain_of p.places f.1.0.event)) (state_of s (domain_of p.places f.1.0.event)) own.fired own.known (bounds_of stepped events p comps all o div _ _ _ _ own) f.1.0.event ready
         in
         let at : start_of (known_finish events p (domain_of p.places f.1.0.event) (state_of s (domain_of p.places f.1.0.event))) f.1.0.event ≡ f.1.0.start =
-        ready_start events p all o div (domain_of p.places f.1.0.event) (h.cut (domain_of p.places f.1.0.event)) (state_of s (domain_of p.places f.1.0.event)) own.fired own.known own.floor
+        ready_start events p all o div (domain_of p.places f.1.0.event) (h.cut (domain_of p.places f.1.0.event)) (state_of s (domain_of p.places f.1.0.event)) own.fired own.known (bounds_of stepped events p comps all o div _ _ _ _ own)
         f.1.0.event.number f.1.0.event r (o.event f.0 f.1.0 f.1.1.1.there)
         ∙ sym (start_by_all events all o f.0 f.1.0 f.1.1.1.there)
         in

@@ -11,7 +11,7 @@ use Rattle.event_graph.specs.OneListWeave.{Timed, Weave, is_fired, served}
 use Rattle.event_graph.specs.TimingSolution.{after_serving, of_component}
 use Rattle.domain_map.specs.Domains.{Division, Divides, domain_at, domain_of}
 use Rattle.weave_core.specs.DomainMachine.{DomainState, MachineState, effect_of, fire, fire_event, fresh_domain, is_allowed, is_clear, next_in, state_of}
-use Rattle.weave_core.specs.Soundness.{AreSoundWords, IsSoundFloor}
+use Rattle.weave_core.specs.Soundness.{AreSoundBounds, AreSoundWords}
 use Rattle.weave_core.specs.Interleavings.{of_domain}
 use Rattle.weave_core.proofs.Lists.{finding_option, test_cases}
 use Rattle.weave_core.proofs.Fronts.{fold-push, front_kept, front_next}
@@ -19,7 +19,7 @@ use Rattle.weave_core.proofs.Updates.{get_set_other, get_set_same}
 use Rattle.weave_core.proofs.First.{IsFirst}
 use Rattle.weave_core.proofs.Firing.{IsOrder, finding, fired_before, from_domain}
 use Rattle.weave_core.proofs.Knowledge.{IsNextHere, eq_test, is_pending, may_fire, pending_is, pending_test, test_eq}
-use Rattle.weave_core.proofs.Steps.{Holds, Stands}
+use Rattle.weave_core.proofs.Steps.{Holds, Stands, bounds_of}
 
 -- each event's finish is what its component computed, after the events of its own that fired before
 pub record IsServed {C : Type 0} (stepped : C → Kind → ℕ → C × ℕ) (comps : List C) (all : List Timed) : Type 0 where
@@ -45,15 +45,15 @@ module _ {C : Type 0} (stepped : C → Kind → ℕ → C × ℕ) (events : List
 
   -- between the cut and its next event a domain has no events
   pub gap_domain : (domain cut k : ℕ) (own : DomainState) (fired_is : own.fired ≡ of_domain p.places domain (take cut all))
-      (known : AreSoundWords all p own.known) (floor : IsSoundFloor all p domain own) (x : Timed)
-      → IsFirst (is_pending events p all o div domain cut own fired_is known floor) all k x
+      (known : AreSoundWords all p own.known) (bounds : AreSoundBounds events all p domain own) (x : Timed)
+      → IsFirst (is_pending events p all o div domain cut own fired_is known bounds) all k x
       → (j : ℕ) (y : Timed) → cut ≤ j → j < k → slice_get all j ≡ Some y → eqb (domain_of p.places y.event) domain ≡ false
-  gap_domain domain cut k own fired_is known floor x f j y a b h =
+  gap_domain domain cut k own fired_is known bounds x f j y a b h =
       elim (test_cases (eqb (domain_of p.places y.event) domain)) [
         | inr fails_it ↦ fails_it
         | inl passes_it ↦
             absurd (false≢true (sym (f.before j y b h)
-            ∙ pending_test events p all o div domain cut own fired_is known floor j y (test_eq (domain_of p.places y.event) domain passes_it) a))
+            ∙ pending_test events p all o div domain cut own fired_is known bounds j y (test_eq (domain_of p.places y.event) domain passes_it) a))
       ]
 
   pub gap_component : (domain cut k number : ℕ) → domain_at p.places number ≡ domain
@@ -110,13 +110,13 @@ module _ {C : Type 0} (stepped : C → Kind → ℕ → C × ℕ) (events : List
 
   -- the domain's next event fires
   fires_next : (s : MachineState C) (domain : ℕ) (h : Holds stepped events p comps all o div s) (b : Event × ℕ) → next_in events p domain (state_of s domain) ≡ Some b
-      → IsNextHere events p all o div domain (h.cut domain) (state_of s domain) (h.domains domain).fired (h.domains domain).known (h.domains domain).floor b
+      → IsNextHere events p all o div domain (h.cut domain) (state_of s domain) (h.domains domain).fired (h.domains domain).known (bounds_of stepped events p comps all o div _ _ _ _ (h.domains domain)) b
       → Holds stepped events p comps all o div (effect_of events p stepped s (fire domain))
   fires_next s domain h b next n =
       let own = h.domains domain in
-      let is = pending_is events p all o div domain (h.cut domain) (state_of s domain) own.fired own.known own.floor n.k n.x n.first.passes in
+      let is = pending_is events p all o div domain (h.cut domain) (state_of s domain) own.fired own.known (bounds_of stepped events p comps all o div _ _ _ _ own) n.k n.x n.first.passes in
       let gap : (j : ℕ) (y : Timed) → h.cut domain ≤ j → j < n.k → slice_get all j ≡ Some y → eqb (domain_of p.places y.event) domain ≡ false =
-      gap_domain domain (h.cut domain) n.k (state_of s domain) own.fired own.known own.floor n.x n.first
+      gap_domain domain (h.cut domain) n.k (state_of s domain) own.fired own.known (bounds_of stepped events p comps all o div _ _ _ _ own) n.x n.first
       in
       let sv = serves.at n.k n.x n.first.there in
       let gap_here : (j : ℕ) (y : Timed) → h.cut domain ≤ j → j < n.k → slice_get all j ≡ Some y → eqb y.event.component n.x.event.component ≡ false =
@@ -217,4 +217,4 @@ module _ {C : Type 0} (stepped : C → Kind → ℕ → C × ℕ) (events : List
       let g : (b : Event × ℕ) × ((next_in events p domain (state_of s domain) ≡ Some b) × (is_clear events p domain (state_of s domain) b.1 ≡ true)) =
       finding_option (next_in events p domain (state_of s domain)) (λ (b : Event × ℕ). is_clear events p domain (state_of s domain) b.1) allowed
       in
-      fires_next s domain h g.0 g.1.0 (may_fire events p all o div domain (h.cut domain) (state_of s domain) own.fired own.known own.floor g.0 g.1.0 g.1.1)
+      fires_next s domain h g.0 g.1.0 (may_fire events p all o div domain (h.cut domain) (state_of s domain) own.fired own.known (bounds_of stepped events p comps all o div _ _ _ _ own) g.0 g.1.0 g.1.1)

@@ -20,6 +20,9 @@ use Rattle.weave_core.proofs.Fires.{IsServed}
 use Rattle.weave_core.proofs.Whole.{domain_there, follows, from_rest}
 use Rattle.weave_core.specs.SoundDomain.{IsNextEntry, IsSoundDomain}
 use Rattle.weave_core.proofs.AfterBarrier.{may_fire_first}
+use Rattle.weave_core.specs.Soundness.{AreSoundBounds, AreSoundWords, IsSoundFloor}
+use Rattle.weave_core.proofs.Knowledge.{sound_bounds}
+use Rattle.weave_core.proofs.Solutions.{bounds_back, floor_alike, words_alike}
 use Rattle.weave_core.proofs.SoundDomains.{sound_follow}
 
 module _ {C : Type 0} (serves : C → Kind → Bool) (floor : C → Kind → ℕ) (stepped : C → Kind → ℕ → C × ℕ)
@@ -158,3 +161,10 @@ module _ {C : Type 0} (serves : C → Kind → Bool) (floor : C → Kind → ℕ
         → (x : Timed) × IsNextEntry stepped events p comps timed solution domain own next x
     sound_next timed solution is domain own next s n clear =
         sound_follow stepped events p comps order_of d.divides served_of here in_order timed solution is domain own next s n clear
+
+    pub floors_bound : (timed : List Timed) (solution : IsSolution stepped events comps timed) → timed ≡ woven stepped events comps → (domain : ℕ) (own : DomainState)
+        → AreSoundWords timed p own.known → IsSoundFloor timed p domain own → AreSoundBounds events timed p domain own
+    floors_bound timed solution is domain own known floor =
+        bounds_back stepped events comps order_of timed is p domain own
+        (sound_bounds events p (weave stepped events comps).fired order_of d.divides domain own (words_alike stepped events comps order_of timed is p own.known known)
+        (floor_alike stepped events comps order_of timed is p domain own floor))

@@ -12,8 +12,8 @@ use Rattle.event_graph.specs.declared.event.Parent.{Parent}
 use Rattle.event_graph.specs.OneListWeave.{Timed, after_parent, find_fired, finish_in, finish_or_zero, is_before, is_fired, start_of}
 use Rattle.domain_map.specs.declared.crossing.Crossing.{Crossing}
 use Rattle.domain_map.specs.Domains.{Division, Divides, crossings_of, domain_of, domain_of_number}
-use Rattle.weave_core.specs.DomainMachine.{DomainState, arrival_of, cycle_of, every_crossing, is_clear, is_exact, is_own_parent_fired, is_ready_in, is_unresolved, known_finish, latency_at, latency_of, limit_of, next_in, told_finish, word_at}
-use Rattle.weave_core.specs.Soundness.{AreSoundWords, IsSoundFloor, IsSoundWord, start_in}
+use Rattle.weave_core.specs.DomainMachine.{DomainState, arrival_of, bound_of, cycle_of, every_crossing, is_clear, is_exact, is_own_parent_fired, is_ready_in, is_unresolved, known_finish, latency_at, latency_of, limit_of, next_in, told_finish, word_at}
+use Rattle.weave_core.specs.Soundness.{AreSoundBounds, AreSoundWords, IsSoundFloor, IsSoundWord, start_in}
 use Rattle.weave_core.specs.Interleavings.{of_domain}
 use Rattle.weave_core.proofs.Lists.{In, all_in, and_true, at_in, both, either, find_in, find_some, from_enum, in_at, in_enum, in_filter, in_left, in_map, in_right, least_le, neither, not_false, not_true, one_fails, or_left, or_right, some_at, test_cases}
 use Rattle.weave_core.proofs.LeastBy.{IsLeast, next_there, some_next, start_upto}
@@ -98,8 +98,27 @@ module _ (events : List Event) (p : Division) (all : List Timed) (o : IsOrder ev
       in
       (q.0, (q.1.0, (q.1.1.0, (q.1.1.1.0, (q.1.1.1.1 ∙ ap (λ (z : Crossing). z.parent) j.is, sym s ∙ d)))))
 
+  -- sound words and a sound floor make sound bounds
+  pub sound_bounds : (domain : ℕ) (own : DomainState) → AreSoundWords all p own.known → IsSoundFloor all p domain own → AreSoundBounds events all p domain own
+  sound_bounds domain own known floor = record {
+    each = λ number x h target unknown.
+        let q : (k : ℕ) × ((w : Timed) × ((slice_get all k ≡ Some w) × ((w.event.number ≡ x.parent) × (x.source ≡ domain_of p.places w.event)))) = parent_of_crossing number x h in
+        let finish : finish_in all x.parent ≡ q.1.0.finish = ap (finish_in all) (sym q.1.1.1.0) ∙ finish_is events all o q.0 q.1.0 q.1.1.0 in
+        let start : start_in all x.parent ≡ q.1.0.start = ap (start_in all) (sym q.1.1.1.0) ∙ start_is events all o q.0 q.1.0 q.1.1.0 in
+        let latency : latency_at events x.parent ≡ latency_of q.1.0.event =
+        ap (latency_at events) (sym q.1.1.1.0) ∙ latency_there events q.1.0.event.number q.1.0.event (o.event q.0 q.1.0 q.1.1.0)
+        in
+        let time : q.1.0.start + latency_of q.1.0.event ≤ q.1.0.finish = o.time q.0 q.1.0 q.1.1.0 in
+        let word : cycle_of (word_at own.known number) ≤ finish_in all x.parent = sound_cycle all x (word_at own.known number) (known.each number x h) in
+        let from : own.floor ≤ start_in all x.parent = floor.each number x h target unknown in
+        bounded (cycle_of (word_at own.known number)) own.floor (latency_at events x.parent) (finish_in all x.parent) word (omega (arith, from, start, latency, time, finish));
+  }
+    where
+      bounded : (c f l g : ℕ) → c ≤ g → f + l ≤ g → max c (f + l) ≤ g
+      bounded c f l g a b = omega arith
+
   module _ (domain cut : ℕ) (own : DomainState) (fired_is : own.fired ≡ of_domain p.places domain (take cut all))
-      (known : AreSoundWords all p own.known) (floor : IsSoundFloor all p domain own) where
+      (known : AreSoundWords all p own.known) (bounds : AreSoundBounds events all p domain own) where
     -- an unresolved crossing into an event lets it start no later than it does
     pub sound_arrival : (number : ℕ) (x : Crossing) → slice_get p.crossings number ≡ Some x → x.target ≡ domain → is_exact (word_at own.known number) ≡ false
         → (k : ℕ) (y : Timed) → slice_get all k ≡ Some y → y.event.number ≡ x.child → arrival_of events p own number x ≤ y.start
@@ -112,21 +131,10 @@ module _ (events : List Event) (p : Division) (all : List Timed) (o : IsOrder ev
         let q : (i : ℕ) × ((w : Timed) × ((i < k) × ((slice_get all i ≡ Some w) × (w.event.number ≡ j.parent.number)))) = parent_at events all o k y j.parent a slot in
         let number_is : q.1.0.event.number ≡ x.parent = q.1.1.1.1 ∙ ap (λ (z : Crossing). z.parent) j.is in
         let delay_is : j.parent.delay ≡ x.delay = ap (λ (z : Crossing). z.delay) j.is in
-        let finish : finish_in all x.parent ≡ q.1.0.finish = ap (finish_in all) (sym number_is) ∙ finish_is events all o q.0 q.1.0 q.1.1.1.0 in
-        let start : start_in all x.parent ≡ q.1.0.start = ap (start_in all) (sym number_is) ∙ start_is events all o q.0 q.1.0 q.1.1.1.0 in
-        let latency : latency_at events x.parent ≡ latency_of q.1.0.event =
-        ap (latency_at events) (sym number_is) ∙ latency_there events q.1.0.event.number q.1.0.event (o.event q.0 q.1.0 q.1.1.1.0)
-        in
-        let time : q.1.0.start + latency_of q.1.0.event ≤ q.1.0.finish = o.time q.0 q.1.0 q.1.1.1.0 in
-        let word : cycle_of (word_at own.known number) ≤ finish_in all x.parent = sound_cycle all x (word_at own.known number) (known.each number x h) in
-        let from : own.floor ≤ start_in all x.parent = floor.each number x h target unknown in
         let after : finish_in all j.parent.number + j.parent.delay ≤ y.start = start_after_parent events all o k y j.parent a slot in
         let same : finish_in all j.parent.number ≡ finish_in all x.parent = ap (λ (z : Crossing). finish_in all z.parent) j.is in
-        bounded (cycle_of (word_at own.known number)) own.floor (latency_at events x.parent) (finish_in all x.parent) x.delay y.start
-        word (omega (arith, from, start, latency, time, finish)) (omega (arith, after, same, delay_is))
-      where
-        bounded : (c f l g d s : ℕ) → c ≤ g → f + l ≤ g → g + d ≤ s → max c (f + l) + d ≤ s
-        bounded c f l g d s a b c2 = omega arith
+        let bound : bound_of events p own number x ≤ finish_in all x.parent = bounds.each number x h target unknown in
+        omega (arith, bound, after, same, delay_is)
 
     -- a ready event
 

@@ -13,7 +13,7 @@ use Rattle.event_graph.specs.TimingSolution.{IsInOrder}
 use Rattle.domain_map.specs.declared.crossing.Crossing.{Crossing}
 use Rattle.domain_map.specs.Domains.{Division}
 use Rattle.weave_core.specs.DomainMachine.{DomainState}
-use Rattle.weave_core.specs.Soundness.{AreSoundWords, IsSoundFloor, IsSoundWord, start_in, start_or_zero}
+use Rattle.weave_core.specs.Soundness.{AreSoundBounds, AreSoundWords, IsSoundFloor, IsSoundWord, start_in, start_or_zero}
 use Rattle.weave_core.proofs.Lists.{In, at_in, get_below, contained, contains, in_at, in_map}
 use Rattle.weave_core.proofs.Firing.{IsOrder, all_known, finding, found, one_place}
 
@@ -137,6 +137,12 @@ module _ {C : Type 0} (stepped : C → Kind → ℕ → C × ℕ) (events : List
 
   pub floor_alike : (p : Division) (domain : ℕ) (own : DomainState) → IsSoundFloor timed p domain own → IsSoundFloor all p domain own
   floor_alike p domain own h = record { each = λ number x there target unknown. omega (arith, h.each number x there target unknown, start_alike x.parent) }
+
+  pub bounds_alike : (p : Division) (domain : ℕ) (own : DomainState) → AreSoundBounds events timed p domain own → AreSoundBounds events all p domain own
+  bounds_alike p domain own h = record { each = λ number x there target unknown. omega (arith, h.each number x there target unknown, finish_alike x.parent) }
+
+  pub bounds_back : (p : Division) (domain : ℕ) (own : DomainState) → AreSoundBounds events all p domain own → AreSoundBounds events timed p domain own
+  bounds_back p domain own h = record { each = λ number x there target unknown. omega (arith, h.each number x there target unknown, finish_alike x.parent) }
 
   pub order_alike : (sorted : List Timed) → IsInOrder sorted → ((x : Timed) → Contains sorted x ↔ Contains timed x) → IsInOrder all → sorted ≡ all
   order_alike sorted s same w =

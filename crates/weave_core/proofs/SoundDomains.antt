@@ -9,13 +9,13 @@ use Rattle.domain_map.specs.Domains.{Division, Divides, domain_of}
 use Rattle.weave_core.specs.DomainMachine.{DomainState, is_clear, next_in}
 use Rattle.weave_core.specs.Interleavings.{of_domain}
 use Rattle.weave_core.specs.SoundDomain.{IsNextEntry, IsSoundDomain}
-use Rattle.weave_core.specs.Soundness.{AreSoundWords, IsSoundFloor}
+use Rattle.weave_core.specs.Soundness.{AreSoundBounds, AreSoundWords}
 use Rattle.weave_core.proofs.Lists.{get_take, last_at}
 use Rattle.weave_core.proofs.Fronts.{filter_front, front_kept, front_next}
 use Rattle.weave_core.proofs.Firing.{IsOrder}
 use Rattle.weave_core.proofs.Knowledge.{IsNextHere, eq_test, may_fire, pending_is}
 use Rattle.weave_core.proofs.Fires.{IsServed, gap_component, gap_domain}
-use Rattle.weave_core.proofs.Solutions.{floor_alike, order_alike, words_alike}
+use Rattle.weave_core.proofs.Solutions.{bounds_alike, order_alike, words_alike}
 use Rattle.weave_core.proofs.Whole.{narrowed}
 
 -- a front of a filtered list is what a front of the list leaves
@@ -41,14 +41,14 @@ module _ {C : Type 0} (stepped : C → Kind → ℕ → C × ℕ) (events : List
 
   -- with the weave's own order
   next_entry : (domain cut : ℕ) (own : DomainState) (fired : own.fired ≡ of_domain p.places domain (take cut all)) (known : AreSoundWords all p own.known)
-      (floor : IsSoundFloor all p domain own) (b : Event × ℕ) (n : IsNextHere events p all o div domain cut own fired known floor b)
+      (bounds : AreSoundBounds events all p domain own) (b : Event × ℕ) (n : IsNextHere events p all o div domain cut own fired known bounds b)
       → (slice_get (of_domain p.places domain all) (length own.fired) ≡ Some n.x)
       × ((c : C) × ((slice_get comps n.x.event.component ≡ Some c)
       × (n.x.finish ≡ (stepped (after_serving stepped c (of_component n.x.event.component own.fired)) n.x.event.kind n.x.start).1)))
-  next_entry domain cut own fired known floor b n =
-      let is = pending_is events p all o div domain cut own fired known floor n.k n.x n.first.passes in
+  next_entry domain cut own fired known bounds b n =
+      let is = pending_is events p all o div domain cut own fired known bounds n.k n.x n.first.passes in
       let gap : (j : ℕ) (y : Timed) → cut ≤ j → j < n.k → slice_get all j ≡ Some y → eqb (domain_of p.places y.event) domain ≡ false =
-      gap_domain stepped events p comps all o div serves here domain cut n.k own fired known floor n.x n.first
+      gap_domain stepped events p comps all o div serves here domain cut n.k own fired known bounds n.x n.first
       in
       let gap_here : (j : ℕ) (y : Timed) → cut ≤ j → j < n.k → slice_get all j ≡ Some y → eqb y.event.component n.x.event.component ≡ false =
       gap_component stepped events p comps all o div serves here domain cut n.k n.x.event.component is.0 gap
@@ -87,9 +87,9 @@ module _ {C : Type 0} (stepped : C → Kind → ℕ → C × ℕ) (events : List
       in
       let fired : own.fired ≡ of_domain p.places domain (take cut.0 all) = front ∙ cut.1 in
       let known : AreSoundWords all p own.known = words_alike stepped events comps o timed is p own.known s.known in
-      let floor : IsSoundFloor all p domain own = floor_alike stepped events comps o timed is p domain own s.floor in
-      let f : IsNextHere events p all o div domain cut.0 own fired known floor next = may_fire events p all o div domain cut.0 own fired known floor next n clear in
-      let e = next_entry domain cut.0 own fired known floor next f in (
+      let bounds : AreSoundBounds events all p domain own = bounds_alike stepped events comps o timed is p domain own s.bounds in
+      let f : IsNextHere events p all o div domain cut.0 own fired known bounds next = may_fire events p all o div domain cut.0 own fired known bounds next n clear in
+      let e = next_entry domain cut.0 own fired known bounds next f in (
         f.x,
         record {
           entry = ap (λ (xs : List Timed). slice_get (of_domain p.places domain xs) (length own.fired)) order ∙ e.0;

@@ -13,12 +13,12 @@ use Rattle.event_graph.specs.TimingSolution.{after_serving, of_component}
 use Rattle.domain_map.specs.declared.crossing.Crossing.{Crossing}
 use Rattle.domain_map.specs.Domains.{Division, Divides, domain_at, domain_of}
 use Rattle.weave_core.specs.DomainMachine.{DomainState, MachineState, cycle_of, effect_of, finish_of_parent, fresh_domain, is_allowed, is_crossing, is_exact, latency_at, latency_of, limit_of, look, may_raise, publish, raise, state_of, word_at}
-use Rattle.weave_core.specs.Soundness.{AreSoundWords, IsSoundFloor, IsSoundWord}
+use Rattle.weave_core.specs.Soundness.{AreSoundBounds, AreSoundWords, IsSoundFloor, IsSoundWord}
 use Rattle.weave_core.specs.Interleavings.{of_domain}
 use Rattle.weave_core.proofs.Lists.{both, finding_option, test_cases, not_true}
 use Rattle.weave_core.proofs.Updates.{read_after}
 use Rattle.weave_core.proofs.Firing.{IsOrder, all_known, finding, finish_is, fired_before, from_domain}
-use Rattle.weave_core.proofs.Knowledge.{latency_there, limit_holds, parent_of_crossing, test_eq}
+use Rattle.weave_core.proofs.Knowledge.{latency_there, limit_holds, parent_of_crossing, test_eq, sound_bounds}
 
 -- what holds of each element holds after one was written
 pub written : {X : Type 0} (Q : ℕ → X → Type 0) (xs : List X) (i : ℕ) (v d : X) → Q i v → ((j : ℕ) → Q j (get_or xs j d)) → (j : ℕ) → Q j (get_or (set xs i v) j d)
@@ -36,6 +36,10 @@ module _ {C : Type 0} (stepped : C → Kind → ℕ → C × ℕ) (events : List
     pub floor : IsSoundFloor all p domain own
     pub kept : (number : ℕ) (x : Crossing) → slice_get p.crossings number ≡ Some x → x.target ≡ domain
         → is_exact (word_at own.known number) ≡ true → is_exact (word_at words number) ≡ true
+
+  -- so the bounds that it takes of what it was told are
+  pub bounds_of : (words : List Word) (cut domain : ℕ) (own : DomainState) → Stands words cut domain own → AreSoundBounds events all p domain own
+  bounds_of words cut domain own h = sound_bounds events p all o div domain own h.known h.floor
 
   -- a word is sound, and exact only where the parent has fired
   pub record IsTrueWord (cut : ℕ → ℕ) (number : ℕ) (w : Word) : Type 0 where
@@ -129,7 +133,7 @@ module _ {C : Type 0} (stepped : C → Kind → ℕ → C × ℕ) (events : List
       ]
       in
       let limit : l.0 ≤ q.1.0.start =
-      limit_holds events p all o div domain (h.cut domain) (state_of s domain) own.fired own.known own.floor l.0 l.1.0 q.0 q.1.0 q.1.1.0 d behind
+      limit_holds events p all o div domain (h.cut domain) (state_of s domain) own.fired own.known (bounds_of _ _ _ _ own) l.0 l.1.0 q.0 q.1.0 q.1.1.0 d behind
       in
       let latency : latency_at events x.parent ≡ latency_of q.1.0.event =
       ap (latency_at events) (sym q.1.1.1.0) ∙ latency_there events q.1.0.event.number q.1.0.event (o.event q.0 q.1.0 q.1.1.0)

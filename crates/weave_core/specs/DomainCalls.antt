@@ -10,16 +10,16 @@ use Rattle.component.specs.declared.kind.Kind.{Kind}
 use Rattle.event_graph.specs.declared.event.Event.{Event}
 use Rattle.event_graph.specs.declared.fired.Fired.{Fired}
 use Rattle.event_graph.specs.Fits.{GraphFits}
-use Rattle.event_graph.specs.OneListWeave.{Timed, is_fired}
 use Rattle.event_graph.specs.TimingSolution.{IsSolution, after_serving, of_component}
+use Rattle.weave_core.specs.Interleavings.{IsFront, of_domain}
+use Rattle.weave_core.specs.Soundness.{AreSoundBounds, AreSoundWords}
+use Rattle.event_graph.specs.OneListWeave.{Timed, is_fired}
 use Rattle.domain_map.specs.declared.crossing.Crossing.{Crossing}
 use Rattle.domain_map.specs.Domains.{Division, domain_at, domain_of}
 use Rattle.weave_core.specs.declared.next.Next.{Next}
 use Rattle.weave_core.specs.declared.next.Next.TheVariants.{Done, Fire, Blocked}
 use Rattle.weave_core.specs.DomainMachine.{DomainState, arrival_of, bound_of, cycle_of, is_clear, is_exact, is_unresolved, next_in, word_at}
 use Rattle.weave_core.specs.Layout.{place_in}
-use Rattle.weave_core.specs.Interleavings.{IsFront, of_domain}
-use Rattle.weave_core.specs.Soundness.{AreSoundWords, IsSoundFloor}
 
 -- What a domain keeps: the graph and its division, which domain it is, what it knows and did, and its components in order of
 -- their numbers.
@@ -131,9 +131,10 @@ pub record CanFire {C : Type 0} (greatest : C → Kind → ℕ → ℕ) (v : Dom
   pub may : MayFire v.events v.division v.domain v.own key
   pub small : (c : C) → slice_get v.comps (place_in v.division.places v.domain may.event.component) ≡ Some c → greatest c may.event.kind key.start ≤ 2 ^ 62
 
--- Where the words that the domain knows and its floor are sound for a solution, it fired the first of its events in that
--- solution, at their cycles, and its components are what these leave.
-pub record Follows {C : Type 0} (stepped : C → Kind → ℕ → C × ℕ) (events : List Event) (p : Division) (all : List C) (timed : List Timed) (solution : IsSolution stepped events all timed) (v : DomainValue C) : Type 0 where
-  pub fired : AreSoundWords timed p v.own.known → IsSoundFloor timed p v.domain v.own → IsFront v.own.fired (of_domain p.places v.domain solution.sorted)
-  pub comps_are : AreSoundWords timed p v.own.known → IsSoundFloor timed p v.domain v.own
-      → v.comps ≡ comps_in p.places v.domain (map (λ (at : ℕ × C). after_serving stepped at.1 (of_component at.0 v.own.fired)) (enumerate_from 0 all))
+-- Where the words that the domain knows and the bounds that it takes of them are sound for a solution, it fired the first of
+-- its events in that solution, at their cycles, and its components are what these leave.
+pub record Follows {C : Type 0} (stepped : C → Kind → ℕ → C × ℕ) (all : List C) (timed : List Timed) (v : DomainValue C) (solution : IsSolution stepped v.events all timed) : Type 0 where
+  pub fired : AreSoundWords timed v.division v.own.known → AreSoundBounds v.events timed v.division v.domain v.own
+      → IsFront v.own.fired (of_domain v.division.places v.domain solution.sorted)
+  pub comps_are : AreSoundWords timed v.division v.own.known → AreSoundBounds v.events timed v.division v.domain v.own
+      → v.comps ≡ comps_in v.division.places v.domain (map (λ (at : ℕ × C). after_serving stepped at.1 (of_component at.0 v.own.fired)) (enumerate_from 0 all))

@@ -1,13 +1,13 @@
+pub mod Answer
+pub mod Beginning
 pub mod Children
 pub mod DomainCalls
 pub mod DomainMachine
+pub mod Inside
 pub mod Interleavings
+pub mod LaidOut
 pub mod Layout
 pub mod SoundDomain
 pub mod Soundness
 pub mod Stubs
 pub mod Waits
-pub mod Inside
-pub mod Answer
-pub mod Beginning
-pub mod LaidOut

@@ -7,14 +7,14 @@ use Rattle.event_graph.specs.TimingSolution.{IsSolution, after_serving, of_compo
 use Rattle.domain_map.specs.Domains.{Division}
 use Rattle.weave_core.specs.DomainMachine.{DomainState, is_clear, next_in}
 use Rattle.weave_core.specs.Interleavings.{IsDivided, IsFront, of_domain}
-use Rattle.weave_core.specs.Soundness.{AreSoundWords, IsSoundFloor}
+use Rattle.weave_core.specs.Soundness.{AreSoundBounds, AreSoundWords, IsSoundFloor}
 
 module _ {C : Type 0} (stepped : C → Kind → ℕ → C × ℕ) (events : List Event) (p : Division) (comps : List C) (timed : List Timed) (solution : IsSolution stepped events comps timed) where
   -- it fired the first of its events in that solution, and what it was told is sound
   pub record IsSoundDomain (domain : ℕ) (own : DomainState) : Type 0 where
     pub fired : IsFront own.fired (of_domain p.places domain solution.sorted)
     pub known : AreSoundWords timed p own.known
-    pub floor : IsSoundFloor timed p domain own
+    pub bounds : AreSoundBounds events timed p domain own
 
   -- the entry is the domain's next in that solution: that event, at that start, with the finish that its component computes
   -- after the domain's other events on it
@@ -34,3 +34,10 @@ SoundDomainsFollow {C} serves floor stepped =
     → IsSoundDomain stepped events p comps timed solution domain own
     → next_in events p domain own ≡ Some next → is_clear events p domain own next.1 ≡ true
     → (x : Timed) × IsNextEntry stepped events p comps timed solution domain own next x
+
+-- sound words and a sound floor make sound bounds
+abbrev pub SoundFloorsBound : {C : Type 0} (serves : C → Kind → Bool) (floor : C → Kind → ℕ) (stepped : C → Kind → ℕ → C × ℕ) → Type 0
+SoundFloorsBound {C} serves floor stepped =
+    (events : List Event) (p : Division) (comps : List C) (timed : List Timed) (solution : IsSolution stepped events comps timed)
+    (domain : ℕ) (own : DomainState) → IsDivided serves floor events p comps
+    → AreSoundWords timed p own.known → IsSoundFloor timed p domain own → AreSoundBounds events timed p domain own

@@ -2,10 +2,11 @@
 use Rattle.std.specs.Prelude.{◌≡◌, ◌≤◌, ℕ, false, List, Option, Some, None, slice_get}
 use Rattle.zs_num.specs.declared.time.Word.{Word}
 use Rattle.zs_num.specs.declared.time.Word.TheVariants.{Bound, Exact}
+use Rattle.event_graph.specs.declared.event.Event.{Event}
 use Rattle.event_graph.specs.OneListWeave.{Timed, find_fired, finish_in}
 use Rattle.domain_map.specs.declared.crossing.Crossing.{Crossing}
 use Rattle.domain_map.specs.Domains.{Division}
-use Rattle.weave_core.specs.DomainMachine.{DomainState, is_exact, word_at}
+use Rattle.weave_core.specs.DomainMachine.{DomainState, bound_of, is_exact, word_at}
 
 abbrev pub start_or_zero : Option Timed → ℕ
 start_or_zero None = 0
@@ -23,6 +24,11 @@ IsSoundWord timed x (Exact f) = f ≡ finish_in timed x.parent
 -- the word of each crossing is
 pub record AreSoundWords (timed : List Timed) (p : Division) (words : List Word) : Type 0 where
   pub each : (number : ℕ) (x : Crossing) → slice_get p.crossings number ≡ Some x → IsSoundWord timed x (word_at words number)
+
+-- no parent of a crossing that the domain hasn't resolved finishes before the crossing's bound
+pub record AreSoundBounds (events : List Event) (timed : List Timed) (p : Division) (domain : ℕ) (own : DomainState) : Type 0 where
+  pub each : (number : ℕ) (x : Crossing) → slice_get p.crossings number ≡ Some x → x.target ≡ domain
+      → is_exact (word_at own.known number) ≡ false → bound_of events p own number x ≤ finish_in timed x.parent
 
 -- the parent of each crossing that the domain hasn't resolved starts at the floor or later
 pub record IsSoundFloor (timed : List Timed) (p : Division) (domain : ℕ) (own : DomainState) : Type 0 where

@@ -1,6 +1,6 @@
 //! Laws over the definitions alone, each the contract of a function that does nothing.
 ghost use Rattle.weave_core.specs.Interleavings.{Interleavings, Progress};
-ghost use Rattle.weave_core.specs.SoundDomain.{SoundDomainsFollow};
+ghost use Rattle.weave_core.specs.SoundDomain.{SoundDomainsFollow, SoundFloorsBound};
 
 use component::Component;
 
@@ -34,10 +34,25 @@ pub fn progress<C: Component>()
 }
 
 /// For every solution of the timing rules: where a domain has fired the first of its events in it, and
-/// its words and its floor are sound for it, the event that may fire is the domain's next in it, with
+/// its words and its bounds are sound for it, the event that may fire is the domain's next in it, with
 /// that start, and its component computes that finish.
 pub fn sound_domains_follow<C: Component>()
     ensures { SoundDomainsFollow C.serves C.floor C.stepped }
+{
+    event_graph::laws::each_event_fires_once::<C>();
+    event_graph::laws::events_fire_in_order::<C>();
+    event_graph::laws::the_least_ready_event_fires::<C>();
+    event_graph::laws::each_round_fires_the_next_event::<C>();
+    event_graph::laws::rounds_fire_the_first_events::<C>();
+    event_graph::laws::components_serve_their_own_events::<C>();
+    event_graph::laws::graphs_keep_fitting::<C>();
+    event_graph::laws::weave_is_the_one_solution::<C>();
+}
+
+/// For every solution of the timing rules: where a domain's words and its floor are sound for it, so are
+/// the bounds that it takes of its unresolved crossings.
+pub fn sound_floors_bound<C: Component>()
+    ensures { SoundFloorsBound C.serves C.floor C.stepped }
 {
     event_graph::laws::each_event_fires_once::<C>();
     event_graph::laws::events_fire_in_order::<C>();
