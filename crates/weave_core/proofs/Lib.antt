@@ -32,3 +32,5 @@ mod LinkAll
 mod Stubbing
 mod LayingOut
 mod Prepared
+mod Following
+mod FollowLaws

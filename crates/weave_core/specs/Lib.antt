@@ -3,6 +3,7 @@ pub mod Beginning
 pub mod Children
 pub mod DomainCalls
 pub mod DomainMachine
+pub mod Following
 pub mod Inside
 pub mod Interleavings
 pub mod LaidOut

@@ -1,4 +1,5 @@
 //! Laws over the definitions alone, each the contract of a function that does nothing.
+ghost use Rattle.weave_core.specs.Following.{FirstFollows, FiresFollow, FloorsFollow, TellsFollow};
 ghost use Rattle.weave_core.specs.Interleavings.{Interleavings, Progress};
 ghost use Rattle.weave_core.specs.SoundDomain.{SoundDomainsFollow, SoundFloorsBound};
 
@@ -62,4 +63,27 @@ pub fn sound_floors_bound<C: Component>()
     event_graph::laws::components_serve_their_own_events::<C>();
     event_graph::laws::graphs_keep_fitting::<C>();
     event_graph::laws::weave_is_the_one_solution::<C>();
+}
+
+/// A domain that has fired nothing and knows nothing keeps to every solution of the timing rules.
+pub fn first_follows<C: Component>()
+    ensures { FirstFollows C.stepped }
+{}
+
+/// A domain that keeps to a solution where what it was told is sound does so after another word.
+pub fn tells_follow<C: Component>()
+    ensures { TellsFollow C.stepped }
+{}
+
+/// A domain that keeps to a solution where what it was told is sound does so at a higher floor.
+pub fn floors_follow<C: Component>()
+    ensures { FloorsFollow C.stepped }
+{}
+
+/// A domain that keeps to a solution where what it was told is sound does so after a fire that its
+/// unresolved crossings allow: what it fires is its next event there, with that start and finish.
+pub fn fires_follow<C: Component>()
+    ensures { FiresFollow C.serves C.floor C.stepped }
+{
+    sound_domains_follow::<C>();
 }
