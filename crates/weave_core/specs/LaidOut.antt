@@ -3,6 +3,7 @@ use Rattle.std.specs.Prelude.{◌≡◌, ◌≤◌, ◌<◌, ◌^◌, ℕ, List,
 use Rattle.std.specs.Vec.{vec_capacity}
 use Rattle.zs_num.specs.declared.time.Word.TheVariants.{Bound}
 use Rattle.event_graph.specs.declared.event.Event.{Event}
+use Rattle.event_graph.specs.Numbered.{IsNumbered}
 use Rattle.domain_map.specs.Domains.{Division}
 use Rattle.weave_core.specs.declared.prepare.Layout.{Layout as Kept}
 use Rattle.weave_core.specs.Beginning.{AreSmall, AreSpots}
@@ -21,6 +22,7 @@ abbrev pub at_rest_with : Division → (floor : ℕ) → DomainState
 at_rest_with p floor = record { fired = []; known = map (λ x. Bound 0) p.crossings; floor = floor }
 
 pub record IsLaidOut (events : List Event) (p : Division) (domain : ℕ) (l : Kept) : Type 0 where
+  pub numbered : IsNumbered events
   pub here : AreHere events p domain l.here.items
   pub linked : AreLinked l.here.items l.heads.items l.links.items
   pub stubs : AreStubs events p domain l.here.items l.incoming.stubs

@@ -68,7 +68,6 @@ impl<C: Component> Domain<C> {
         ensures prepared { IfOk result (λ it. it ≡ record { domain = domain; events = g.now; division = p.now; own = at_first p.now; comps = comps }) }
         ensures back { IfErr result (λ e. e.1 ≡ comps) }
     {
-        let _ = g.events();
         match lay_out(alloc, g, p, domain) {
             Ok(layout) => Ok(Domain {
                 graph: Snapshot::of(g),

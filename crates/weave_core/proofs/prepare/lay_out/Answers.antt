@@ -129,6 +129,7 @@ returns c =
     in
     let stubs : c.in_ok-incoming.incoming.stubs ≡ c.in_ok-stubs.stubs.items = ap (λ (v : Stubs). v.stubs) c.in_ok-incoming.ensures in
     record {
+      numbered = c.events-events.ensures.numbered;
       here = subst (AreHere c.args.g.now c.args.p.now c.args.domain) (sym here) (are_here c.args.g.now c.args.p.now c.args.domain c.events-events.ensures.numbered c.requires.divides c.requires.domain c.requires.fits c.events.result.now c.events.ensures);
       linked = subst (λ (xs : List Event). AreLinked xs c.in_ok-heads.field-0.heads.items c.in_ok-heads.field-0.links.items) c.deref.ensures.value c.in_ok-heads.ensures.linked;
       stubs =
