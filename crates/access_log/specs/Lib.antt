@@ -1,3 +1,5 @@
+pub mod RecordedOrder
 pub mod History
 pub mod Laws
-pub mod RecordedOrder
+pub mod Logs
+pub mod Schedule

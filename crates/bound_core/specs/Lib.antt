@@ -1,5 +1,6 @@
 pub mod History
 pub mod HistoryLaws
+pub mod InstructionLaws
 pub mod Intervals
 pub mod Laws
 pub mod MachineOfShards

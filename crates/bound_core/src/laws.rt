@@ -8,6 +8,8 @@ ghost use Rattle.bound_core.specs.Intervals.{FirstIntervalBegins, NextIntervalBe
 ghost use Rattle.bound_core.specs.Laws.{AccessesAreFew, EndsWhereAllAreOver, LocalInstructionsAreAlone, TurnIsScheduled, TurnsAreScheduled};
 ghost use Rattle.bound_core.specs.MachineOfShards.{HistoriesAreRunsOfTheMachine, ShardsDoAsTheMachine};
 ghost use Rattle.bound_core.specs.Reaching.{BeginsAtItself, GoesOnByATurn, GoesOnByLocalInstructions, GoesOnToTheEnd, IsThePhaseAtTheEnd};
+ghost use Rattle.rv_decode.specs.declared.inst.Inst.{Inst};
+ghost use Rattle.bound_core.specs.InstructionLaws.{CoreInMemory, InstructionsAreSteps, LoadsAreWhole, OtherBytesStay, PairAloneStores, PairStores, StoreBetweenEndsPair, StoredIsLoaded, StoresAreWhole, WriteBetweenEndsPair};
 
 use crate::Port;
 
@@ -15,6 +17,79 @@ use crate::Port;
 /// has at pc, and then with the replies to its accesses.
 pub fn instructions_are_steps_and_replies()
     ensures { InstructionsAreSteps }
+{}
+
+/// A load or a store does what one access of all its bytes would, aligned or not, and wherever it
+/// crosses a line.
+pub fn loads_and_stores_are_whole()
+    ensures loads { LoadsAreWhole }
+    ensures stores { StoresAreWhole }
+{
+    rv_core::laws::accesses_are_little_endian();
+}
+
+/// A load of what a store stored gives the stored bytes, sign-extended or zero-extended, for every
+/// width and address in memory.
+pub fn stored_is_loaded()
+    ensures { StoredIsLoaded }
+{
+    rv_core::laws::accesses_are_little_endian();
+}
+
+/// A store changes no other byte of memory.
+pub fn other_bytes_stay()
+    ensures { OtherBytesStay }
+{
+    rv_core::laws::accesses_are_little_endian();
+    flat_memory::laws::other_bytes_stay();
+}
+
+/// A store-conditional of the bytes of the latest load-reserved, with nothing between on this core,
+/// stores and writes 0 to rd where no other core wrote to the line since.
+pub fn a_pair_stores()
+    ensures alone { PairAloneStores }
+    ensures others { (number : ℕ) (reserve : Inst) (others : List (ℕ × Request)) (store : Inst) (s : CoreInMemory)
+        → PairStores number reserve others store s }
+{
+    flat_memory::laws::others_end_by_writes();
+    rv_core::laws::accesses_are_little_endian();
+}
+
+/// It stores nothing and writes 1 to rd where another core did.
+pub fn a_write_between_ends_a_pair()
+    ensures store { StoreBetweenEndsPair }
+    ensures others { (number : ℕ) (reserve : Inst) (others : List (ℕ × Request)) (store : Inst) (s : CoreInMemory)
+        → WriteBetweenEndsPair number reserve others store s }
+{
+    flat_memory::laws::others_end_by_writes();
+    rv_core::laws::accesses_are_little_endian();
+}
+
+/// A core has at most 256 accesses more than cycles before it ends its interval.
+pub fn accesses_are_few()
+    ensures { AccessesAreFew }
+{}
+
+/// Where a core executed its local instructions before its turn comes, the bound phase is the same.
+pub fn local_instructions_are_alone<World>()
+    ensures { (serve : World → (core start : ℕ) → Request → Entry × World) (time : Entry → ℕ) (image : MemoryImage) (end : ℕ)
+        → LocalInstructionsAreAlone serve time image end }
+{}
+
+/// Where every core has halted or come to the interval's end with no instruction in progress, the
+/// bound phase leaves all as it is.
+pub fn ends_where_all_are_over<World>()
+    ensures { (serve : World → (core start : ℕ) → Request → Entry × World) (time : Entry → ℕ) (image : MemoryImage) (end : ℕ)
+        → EndsWhereAllAreOver serve time image end }
+{}
+
+/// Where a port answers what a world does, the turns of a core through it are those of the machine of
+/// one thread under the schedule that names the core for each.
+pub fn turns_are_scheduled<Q: Port, World>()
+    ensures one { (world : Q → World) (serve : World → (core start : ℕ) → Request → Entry × World)
+        → TurnIsScheduled Q.gives world serve }
+    ensures to_end { (world : Q → World) (serve : World → (core start : ℕ) → Request → Entry × World)
+        → TurnsAreScheduled Q.gives world serve }
 {}
 
 /// How a bound phase is followed from turn to turn: it begins without a turn, goes on by a turn, by a
@@ -63,7 +138,7 @@ pub fn turns_are_the_cores_own<Q: Port>()
 pub fn recorded_order_is_a_history()
     ensures { (time : Entry → ℕ) (image : MemoryImage) (end : ℕ) → RecordedOrderIsHistory time image end }
 {
-    rv_core::laws::accesses_are_little_endian();
+    access_log::laws::recorded_order_keeps_the_stamps();
 }
 
 /// Where cores and shards stand for a machine, every bound phase over the shards is that of the machine,
@@ -82,8 +157,9 @@ pub fn shards_do_as_the_machine()
 pub fn histories_are_runs_of_the_machine()
     ensures { (time : Entry → ℕ) (image : MemoryImage) (end : ℕ) → HistoriesAreRunsOfTheMachine time image end }
 {
-    rv_core::laws::accesses_are_little_endian();
-    flat_memory::laws::other_bytes_stay();
+    recorded_order_is_a_history();
+    histories_are_phases();
+    shards_do_as_the_machine();
 }
 
 /// The cores and the new shards of a machine stand for its first world, and cores and shards that stand

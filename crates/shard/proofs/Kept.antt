@@ -26,7 +26,7 @@ pub record SameShape (c d : Caches) : Type 0 where
 same : (c : Caches) → SameShape c c
 same c = record { shards = refl; l1_ways = refl; l2_ways = refl; cores = refl }
 
-after_same : (b c d : Caches) → SameShape c d → SameShape b c → SameShape b d
+pub after_same : (b c d : Caches) → SameShape c d → SameShape b c → SameShape b d
 after_same b c d s t = record { shards = t.shards ∙ s.shards; l1_ways = t.l1_ways ∙ s.l1_ways; l2_ways = t.l2_ways ∙ s.l2_ways; cores = t.cores ∙ s.cores }
 
 recalled_same : (line : ℕ) (c : Caches) → SameShape (recalled line c) c

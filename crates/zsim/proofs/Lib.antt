@@ -2,6 +2,7 @@ pub mod BoundPhase
 pub mod Cores
 pub mod IntervalWeave
 pub mod NextInterval
+pub mod Numbers
 pub mod OneSchedule
 pub mod Outcome
 pub mod Pieces

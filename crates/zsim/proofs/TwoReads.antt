@@ -4,17 +4,17 @@ use Rattle.std.specs.Option.{option_map}
 use Rattle.zs_host.specs.declared.fault.Fault.{Fault}
 use Rattle.machine_desc.specs.declared.machine.Machine.{Machine}
 use Rattle.zsim.specs.declared.ended.Kept.{Kept}
-use Rattle.zsim.specs.CommandLine.{Command, command_of}
-use Rattle.zsim.specs.Ended.{IsMachineText, KeepsInputs}
+use Rattle.zsim.specs.CommandLine.{Command, Exe, command_of, file, generated}
+use Rattle.zsim.specs.Ended.{IsExeOf, IsMachineText, KeepsInputs}
 use Rattle.zsim.specs.Limits.{exe_limit}
 use Rattle.zsim.specs.Seen.{FilesSeen, Seen, SinkSeen, NoFileFailed, SameNames, WasRead, files_seen}
 use Rattle.zsim.specs.Setup.{machine_by}
 use Rattle.zsim.proofs.Outcome.{HasInputs}
 
 -- the inputs that the words ask for are kept
-keeps : (seen : Seen) (k : Kept) (asked : Command) → command_of seen.words ≡ Some asked
-    → IsMachineText seen.files asked.machine k.machine → WasRead seen.files asked.exe exe_limit k.exe → KeepsInputs seen k
-keeps seen k asked is text read = record { machine = rw is text; exe = rw is read }
+keeps : (seen : Seen) (k : Kept) (machine : Machine) (asked : Command) → command_of seen.words ≡ Some asked → machine_by k.machine ≡ Ok machine
+    → IsMachineText seen.files asked.machine k.machine → IsExeOf seen.files machine asked.exe k.exe → KeepsInputs seen k
+keeps seen k machine asked is machine_is text exe = record { machine = rw is text; exe = rw (is, machine_is) exe }
 
 module _ {F : Type 0} (tells : Bool) (contents : F → List ℕ → Option (List ℕ)) (faults : F → ℕ) (latest : F → Option Fault) (before between after : F) where
   abbrev first : FilesSeen
@@ -44,19 +44,22 @@ module _ {F : Type 0} (tells : Bool) (contents : F → List ℕ → Option (List
     most = read.most;
   }
 
+  exe_stays : SameNames first → (machine : Machine) (exe : Exe) (bytes : List ℕ) → IsExeOf second machine exe bytes → IsExeOf both machine exe bytes
+  exe_stays same machine (file name) bytes read = was_read same name exe_limit bytes read
+  exe_stays same machine (generated n) bytes is = is
+
   -- both were read, and the machine passed its checks
   pub has_inputs : (words : List (List ℕ)) (out : SinkSeen) (k : Kept) (machine : Machine) (asked : Command) → command_of words ≡ Some asked
       → SameNames first → SameNames second → NoFileFailed first → NoFileFailed second
-      → IsMachineText first asked.machine k.machine → WasRead second asked.exe exe_limit k.exe
+      → IsMachineText first asked.machine k.machine → IsExeOf second machine asked.exe k.exe
       → k.sched_file ≡ [] → k.schedule.cores ≡ 1 → machine_by k.machine ≡ Ok machine
-      → HasInputs (record { words = words; files = both; out = out }) k machine
-  has_inputs words out k machine asked is same then_same none then_none text read sched_file cores machine_is = record {
-    inputs = keeps (record { words = words; files = both; out = out }) k asked is (text_stays asked.machine k.machine text) (was_read same asked.exe exe_limit k.exe read);
+      → HasInputs (record { words = words; files = both; out = out }) k machine asked
+  has_inputs words out k machine asked is same then_same none then_none text exe sched_file cores machine_is = record {
+    inputs = keeps (record { words = words; files = both; out = out }) k machine asked is machine_is (text_stays asked.machine k.machine text) (exe_stays same machine asked.exe k.exe exe);
     sched_file = sched_file;
     cores = cores;
     no_fault = none_failed none then_none;
     names = names_stay same then_same;
-    asked = asked;
     is = is;
     machine_is = machine_is;
   }

@@ -1,31 +1,126 @@
 -- The command that a list of words stands for. The words are those after the program's name, as bytes.
-use Rattle.std.specs.Prelude.{ℕ, nat_eq, Bool, not, ◌&&◌, if◌then◌else◌, List, [], ◌∷◌, codes, Option, Some, None, option_map}
-use Rattle.std.specs.List.{starts_with}
+use Rattle.std.specs.Prelude.{ℕ, ◌^◌, nat_eq, nat_le, nat_lt, Bool, false, not, ◌&&◌, ◌||◌, if◌then◌else◌, List, [], ◌∷◌, drop, codes, Option, Some, None, is_some, option_map, option_and_then}
+use Rattle.std.specs.Char.{is_ascii_digit}
+use Rattle.std.specs.List.{list_all, starts_with}
+use Rattle.std.specs.Option.{option_map_or}
 use Rattle.std.specs.Str.{bytes_eq}
-use Rattle.zsim.specs.declared.command_line.Command.{Command as Words}
+use Rattle.std.specs.Str.Parse.{digits_value}
+use Rattle.clap.specs.Walk.{is_empty}
+use Rattle.clap.specs.Words.{Row, first_of}
+use Rattle.zsim.specs.declared.command_line.Asked.{Asked as ToldAsked}
+use Rattle.zsim.specs.declared.command_line.Command.{Command as ToldCommand}
+use Rattle.zsim.specs.declared.command_line.Exe.{Exe as ToldExe}
+use Rattle.zsim.specs.declared.command_line.Exe.TheVariants as told
+use Rattle.zsim.specs.Options.{matched_by, replay_options, run_options}
 
--- to run an executable on a machine
-pub record Command : Type 0 where
+-- what is to be executed: a file of this name, or the program that the generator makes of a number
+pub data Exe : Type 0 where
+  file : List ℕ → Exe
+  generated : ℕ → Exe
+
+-- what the words ask for: a run, or a replay of a schedule
+pub record Asked : Type 0 where
   -- the name of the machine's file, or None for the built-in machine
   pub machine : Option (List ℕ)
-  -- the name of the executable's file
-  pub exe : List ℕ
+  pub exe : Exe
+  -- how many threads are to do the work
+  pub workers : ℕ
+  -- the name of the file for the schedule of a run
+  pub record_to : Option (List ℕ)
+  -- the name of the schedule that is replayed
+  pub schedule : Option (List ℕ)
+  -- only the summary is reported
+  pub brief : Bool
 
--- the same as the code keeps it, by references to the words
-abbrev pub asked_by : Words → Command
-asked_by c = record { machine = option_map (λ name. name.now) c.machine; exe = c.exe.now }
+-- a run on a machine
+pub record Command : Type 0 where
+  pub machine : Option (List ℕ)
+  pub exe : Exe
+  pub brief : Bool
 
--- the name of a file: it begins neither with `-` nor with `gen:`
-abbrev pub is_name : List ℕ → Bool
-is_name word = not (starts_with nat_eq word (codes "-")) && not (starts_with nat_eq word (codes "gen:"))
+-- the same as the code keeps them, by references to the words
+abbrev pub exe_told : ToldExe → Exe
+exe_told (told.File name) = file name.now
+exe_told (told.Generated n) = generated n
+
+abbrev pub asked_told : ToldAsked → Asked
+asked_told a = record {
+  machine = option_map (λ name. name.now) a.machine;
+  exe = exe_told a.exe;
+  workers = a.workers;
+  record_to = option_map (λ name. name.now) a.record_to;
+  schedule = option_map (λ name. name.now) a.schedule;
+  brief = a.brief;
+}
+
+abbrev pub command_told : ToldCommand → Command
+command_told c = record { machine = option_map (λ name. name.now) c.machine; exe = exe_told c.exe; brief = c.brief }
+
+-- decimal digits, without a leading zero
+unfoldable pub is_decimal : List ℕ → Bool
+is_decimal word =
+    not (is_empty word) && (list_all is_ascii_digit word && (bytes_eq word (codes "0") || not (starts_with nat_eq word (codes "0"))))
+
+-- the number below 2^64 that a word writes
+unfoldable pub number_of : List ℕ → Option ℕ
+number_of word = if is_decimal word && nat_lt (digits_value 10 word) (2 ^ 64) then Some (digits_value 10 word) else None
 
 -- the name of the machine's file, where the word is not that of the built-in machine
-abbrev pub machine_name : List ℕ → Option (List ℕ)
-machine_name word = if bytes_eq word (codes "plain") then None else Some word
+unfoldable pub machine_of : List ℕ → Option (List ℕ)
+machine_of word = if bytes_eq word (codes "plain") then None else Some word
 
--- `run MACHINE EXE` is a command, and no other words are
-abbrev pub command_of : List (List ℕ) → Option Command
-command_of (verb ∷ machine ∷ exe ∷ []) =
-    if bytes_eq verb (codes "run") && is_name machine && is_name exe
-    then Some (record { machine = machine_name machine; exe = exe }) else None
-command_of _ = None
+-- `gen:N`, or the name of a file
+unfoldable pub exe_of : List ℕ → Option Exe
+exe_of word = if starts_with nat_eq word (codes "gen:") then option_map generated (number_of (drop 4 word)) else Some (file word)
+
+-- from 1 to 64
+abbrev pub up_to_64 : ℕ → Option ℕ
+up_to_64 n = if nat_le 1 n && nat_le n 64 then Some n else None
+
+-- the number of workers, which is 1 where none is given
+unfoldable pub workers_of : Option (List ℕ) → Option ℕ
+workers_of None = Some 1
+workers_of (Some word) = option_and_then up_to_64 (number_of word)
+
+abbrev pub asked_with : Option (List ℕ) → Option Exe → Option ℕ → List Row → Option Asked
+asked_with (Some machine) (Some exe) (Some workers) rows = Some (record {
+  machine = machine_of machine;
+  exe = exe;
+  workers = workers;
+  record_to = first_of (codes "record") rows;
+  schedule = first_of (codes "schedule") rows;
+  brief = option_map_or (bytes_eq (codes "true")) (first_of (codes "brief") rows) false;
+})
+asked_with _ _ _ rows = None
+
+-- what the matched words ask for, where their values are well formed
+unfoldable pub asked_by : List Row → Option Asked
+asked_by rows = asked_with (first_of (codes "machine") rows) (option_and_then exe_of (first_of (codes "exe") rows)) (workers_of (first_of (codes "workers") rows)) rows
+
+-- what the words ask for, where they are a command
+unfoldable pub asked_of : List (List ℕ) → Option Asked
+asked_of [] = None
+asked_of (verb ∷ words) =
+    if bytes_eq verb (codes "run") then option_and_then asked_by (matched_by run_options words)
+    else if bytes_eq verb (codes "replay") then option_and_then asked_by (matched_by replay_options words)
+    else None
+
+-- What can be done of what the words ask for: a run whose schedule is not written to a file. Its number of workers has no
+-- part in what it answers.
+abbrev pub runnable : Asked → Option Command
+runnable asked =
+    if is_some asked.record_to || is_some asked.schedule then None
+    else Some (record { machine = asked.machine; exe = asked.exe; brief = asked.brief })
+
+-- the command that the words are, if they are one that can be carried out
+unfoldable pub command_of : List (List ℕ) → Option Command
+command_of words = option_and_then runnable (asked_of words)
+
+-- the words ask for the summary alone
+abbrev pub is_brief : List (List ℕ) → Bool
+is_brief words = option_map_or (λ command. command.brief) (command_of words) false
+
+-- the name of the executable's file, if it has one
+abbrev pub exe_file : Exe → Option (List ℕ)
+exe_file (file name) = Some name
+exe_file (generated n) = None

@@ -1,6 +1,9 @@
 -- What the answer of a call tells: each status with its cause, what was kept, and what was written.
-use Rattle.std.specs.Prelude.{◌≡◌, ◌⊎◌, ◌↔◌, ℕ, List, [], Option, Some, None, IsSome, IsSomeAnd, IsOk, Ok, Err, MatchResult}
+use Rattle.std.specs.Prelude.{◌≡◌, ◌⊎◌, ℕ, List, [], Option, Some, None, IsSomeAnd, IsOk, IsOkAnd, Ok, Err, MatchResult}
+use Rattle.machine_desc.specs.declared.machine.Machine.{Machine}
 use Rattle.machine_desc.specs.declared.plain.TheConstants.{PLAIN}
+use Rattle.elf_write.specs.File.{file_of}
+use Rattle.gen_prog.specs.Generated.{generated_image}
 use Rattle.zsim.specs.declared.ended.Kept.{Kept}
 use Rattle.zsim.specs.declared.ended.Said.{Said}
 use Rattle.zsim.specs.declared.ended.Said.TheVariants as said
@@ -9,19 +12,23 @@ use Rattle.zsim.specs.declared.ended.Status.TheVariants as status
 use Rattle.zsim.specs.declared.results.RunEnd.{RunEnd}
 use Rattle.zsim.specs.declared.results.RunEnd.TheVariants.{Halted, Limit}
 use Rattle.zsim.specs.declared.ended.Which.TheVariants as which
-use Rattle.zsim.specs.CommandLine.{Command, command_of}
+use Rattle.zsim.specs.CommandLine.{Command, Exe, command_of, exe_file, file, generated, is_brief}
 use Rattle.zsim.specs.ErrorLine.{error_line}
 use Rattle.zsim.specs.Limits.{exe_limit, machine_limit}
 use Rattle.zsim.specs.ReferenceRun.{IsLegalSoFar, IsRunOf}
-use Rattle.zsim.specs.ReportText.{report_text}
-use Rattle.zsim.specs.Results.{Results}
-use Rattle.zsim.specs.Seen.{FilesSeen, Seen, SinkSeen, FailedToRead, FailedToReadInput, FileFailed, Gained, GainedNothing, GainedPrefix, NoFileFailed, NoPutFailed, PutFailed, SameNames, WasRead}
+use Rattle.zsim.specs.Results.{Results, report_of}
+use Rattle.zsim.specs.Seen.{FilesSeen, Seen, SinkSeen, FailedToReadInput, FileFailed, Gained, GainedNothing, GainedPrefix, NoFileFailed, NoPutFailed, PutFailed, SameNames, WasRead}
 use Rattle.zsim.specs.Setup.{Setup, machine_by, setup_of}
 
 -- this text of a machine is that of its file, or the built-in one
 abbrev pub IsMachineText : FilesSeen → Option (List ℕ) → List ℕ → Type 0
 IsMachineText files None text = text ≡ PLAIN.now
 IsMachineText files (Some name) text = WasRead files name machine_limit text
+
+-- these bytes of an executable are those of its file, or the program that is generated for this machine
+abbrev pub IsExeOf : FilesSeen → Machine → Exe → List ℕ → Type 0
+IsExeOf files machine (file name) bytes = WasRead files name exe_limit bytes
+IsExeOf files machine (generated n) bytes = bytes ≡ file_of (generated_image n machine.memory.base)
 
 -- What is kept: nothing yet, the text of the machine, or this and the executable.
 pub record KeepsNothing (kept : Kept) : Type 0 where
@@ -36,7 +43,7 @@ pub record KeepsMachine (seen : Seen) (kept : Kept) : Type 0 where
 
 pub record KeepsInputs (seen : Seen) (kept : Kept) : Type 0 where
   pub machine : IsSomeAnd (command_of seen.words) (λ command. IsMachineText seen.files command.machine kept.machine)
-  pub exe : IsSomeAnd (command_of seen.words) (λ command. WasRead seen.files command.exe exe_limit kept.exe)
+  pub exe : IsSomeAnd (command_of seen.words) (λ command. IsOkAnd (machine_by kept.machine) (λ machine. IsExeOf seen.files machine command.exe kept.exe))
 
 -- It goes as far as the steps that were reached. Where the schedule has an interval, the inputs are kept.
 abbrev pub Keeps : Status → Seen → Kept → Type 0
@@ -60,7 +67,7 @@ pub record NothingFailed (seen : Seen) : Type 0 where
 -- passed its checks.
 abbrev pub CouldNotRead : FilesSeen → Kept → Command → Type 0
 CouldNotRead files kept command =
-    (KeepsNothing kept × FailedToReadInput files command.machine) ⊎ (IsOk (machine_by kept.machine) × FailedToRead files command.exe)
+    (KeepsNothing kept × FailedToReadInput files command.machine) ⊎ (IsOk (machine_by kept.machine) × FailedToReadInput files (exe_file command.exe))
 
 -- The cause of each status. A fault that was counted is always told: no other status comes where one was.
 abbrev pub HasCause : Status → Seen → Kept → Type 0
@@ -72,7 +79,7 @@ HasCause (status.BadElf bad) seen kept = (setup_of seen.words kept ≡ Err (stat
 HasCause status.WriteFault seen kept = IsOk (setup_of seen.words kept) × NoFileFailed seen.files × PutFailed seen.out
 HasCause status.Ran seen kept = IsOk (setup_of seen.words kept) × NothingFailed seen
 HasCause status.Limit seen kept = IsOk (setup_of seen.words kept) × NothingFailed seen
-HasCause status.NoMemory seen kept = IsSome (command_of seen.words) × NothingFailed seen
+HasCause status.NoMemory seen kept = NothingFailed seen
 
 -- what the run of the kept inputs gives under the kept schedule
 pub record Gives (words : List (List ℕ)) (kept : Kept) (results : Results) : Type 0 where
@@ -94,11 +101,12 @@ status_at Limit = status.Limit
 -- standard output gained the whole report of the run, whose end the status tells
 abbrev pub IsReported : Status → Seen → Kept → Type 0
 IsReported s seen kept =
-    (r : Results) × (run : Gives seen.words kept r) × (s ≡ status_at r.ending) × Gained seen.out (report_of run.setup.machine r)
+    (r : Results) × (run : Gives seen.words kept r) × (s ≡ status_at r.ending) × Gained seen.out (report_of run.setup.machine (is_brief seen.words) r)
 
 -- it gained a prefix of the report
 abbrev pub IsCut : Seen → Kept → Type 0
-IsCut seen kept = (r : Results) × (run : Gives seen.words kept r) × GainedPrefix seen.out (report_of run.setup.machine r)
+IsCut seen kept =
+    (r : Results) × (run : Gives seen.words kept r) × GainedPrefix seen.out (report_of run.setup.machine (is_brief seen.words) r)
 
 abbrev pub Reports : Status → Seen → Kept → Type 0
 Reports status.Ran seen kept = IsReported status.Ran seen kept
@@ -125,8 +133,9 @@ IsDecided s seen kept =
 
 -- What a status and what was kept tell of the call. Nothing of it reads standard error, which has no say in the status.
 pub record IsOutcome (seen : Seen) (s : Status) (k : Kept) : Type 0 where
-  -- Usage comes exactly where the words are no command
-  pub usage : (s ≡ status.Usage) ↔ (command_of seen.words ≡ None)
+  -- Usage comes exactly where the words are no command, unless memory ran out
+  pub usage : s ≡ status.Usage → command_of seen.words ≡ None
+  pub no_command : command_of seen.words ≡ None → (s ≡ status.Usage) ⊎ (s ≡ status.NoMemory)
   -- what was read is kept
   pub kept : Keeps s seen k
   pub kept_sched_file : k.sched_file ≡ []

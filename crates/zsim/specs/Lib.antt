@@ -1,4 +1,5 @@
 pub mod CommandLine
+pub mod Options
 pub mod Results
 pub mod Schedule
 pub mod Limits

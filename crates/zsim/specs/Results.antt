@@ -1,5 +1,5 @@
 -- What a run gives, and its report.
-use Rattle.std.specs.Prelude.{ℕ, false, List}
+use Rattle.std.specs.Prelude.{ℕ, Bool, List}
 use Rattle.machine_desc.specs.declared.machine.Machine.{Machine}
 use Rattle.bound_core.specs.Timed.{TimedCore}
 use Rattle.stats.specs.Counts.{Counts}
@@ -15,6 +15,6 @@ pub record Results : Type 0 where
   -- what was counted in all intervals
   pub counts : Counts
 
--- the report of a run on a machine
-abbrev pub report_of : Machine → Results → List ℕ
-report_of machine r = report_text machine r.counts r.cores r.intervals false
+-- the report of a run on a machine, whole or brief
+abbrev pub report_of : Machine → (brief : Bool) → Results → List ℕ
+report_of machine brief r = report_text machine r.counts r.cores r.intervals brief

@@ -1,6 +1,6 @@
 -- What the private steps of a call promise to the call. It serves their contracts alone: no clause of a public function
 -- cites it.
-use Rattle.std.specs.Prelude.{◌≡◌, ◌⊎◌, ℕ, List, [], Option, Result, Ok, Err}
+use Rattle.std.specs.Prelude.{◌≡◌, ◌⊎◌, ℕ, Bool, List, [], Option, Result, Ok, Err}
 use Rattle.elf_load.specs.MemoryImage.{MemoryImage}
 use Rattle.machine_desc.specs.declared.machine.Machine.{Machine}
 use Rattle.zs_host.specs.declared.files.FileFail.{FileFail}
@@ -11,8 +11,7 @@ use Rattle.zsim.specs.declared.ended.Status.TheVariants as status
 use Rattle.zsim.specs.declared.ended.Which.TheVariants as which
 use Rattle.zsim.specs.Ended.{status_at}
 use Rattle.zsim.specs.ReferenceRun.{IsLegalSoFar, IsRunOf}
-use Rattle.zsim.specs.ReportText.{report_text}
-use Rattle.zsim.specs.Results.{Results}
+use Rattle.zsim.specs.Results.{Results, report_of}
 use Rattle.zsim.specs.Seen.{FilesSeen, SinkSeen, FailedToReadInput, NoFileFailed, Gained, GainedNothing, GainedPrefix, NoPutFailed, PutFailed}
 use Rattle.zsim.specs.Setup.{Setup}
 
@@ -46,20 +45,20 @@ Answers machine (Err (status.BadElf bad)) setup = setup ≡ Err (status.BadElf b
 Answers machine (Err (status.TooLong which.Exe)) setup = setup ≡ Err (status.TooLong which.Exe)
 Answers machine (Err _) setup = ⊥
 
--- the run of an image was reported whole
-abbrev pub RanWhole : Status → Machine → MemoryImage → (lists : List (List ℕ)) → (out : SinkSeen) → Type 0
-RanWhole s machine image lists out =
-    (r : Results) × IsRunOf machine image lists r × (s ≡ status_at r.ending) × Gained out (report_of machine r)
+-- the run of an image was reported, as brief as it was asked for
+abbrev pub RanWhole : Status → Machine → (brief : Bool) → MemoryImage → (lists : List (List ℕ)) → (out : SinkSeen) → Type 0
+RanWhole s machine brief image lists out =
+    (r : Results) × IsRunOf machine image lists r × (s ≡ status_at r.ending) × Gained out (report_of machine brief r)
 
 -- a prefix of its report was put
-abbrev pub RanCut : Machine → MemoryImage → (lists : List (List ℕ)) → (out : SinkSeen) → Type 0
-RanCut machine image lists out = (r : Results) × IsRunOf machine image lists r × GainedPrefix out (report_of machine r)
+abbrev pub RanCut : Machine → (brief : Bool) → MemoryImage → (lists : List (List ℕ)) → (out : SinkSeen) → Type 0
+RanCut machine brief image lists out = (r : Results) × IsRunOf machine image lists r × GainedPrefix out (report_of machine brief r)
 
 -- what each status says of the run of an image
-abbrev pub RunsAs : Status → Machine → MemoryImage → (lists : List (List ℕ)) → (out : SinkSeen) → Type 0
-RunsAs status.Ran machine image lists out = RanWhole status.Ran machine image lists out × NoPutFailed out
-RunsAs status.Limit machine image lists out = RanWhole status.Limit machine image lists out × NoPutFailed out
-RunsAs status.WriteFault machine image lists out = RanCut machine image lists out × PutFailed out
-RunsAs status.NoMemory machine image lists out =
-    ((IsLegalSoFar machine image lists × GainedNothing out) ⊎ RanCut machine image lists out) × NoPutFailed out
-RunsAs _ machine image lists out = ⊥
+abbrev pub RunsAs : Status → Machine → (brief : Bool) → MemoryImage → (lists : List (List ℕ)) → (out : SinkSeen) → Type 0
+RunsAs status.Ran machine brief image lists out = RanWhole status.Ran machine brief image lists out × NoPutFailed out
+RunsAs status.Limit machine brief image lists out = RanWhole status.Limit machine brief image lists out × NoPutFailed out
+RunsAs status.WriteFault machine brief image lists out = RanCut machine brief image lists out × PutFailed out
+RunsAs status.NoMemory machine brief image lists out =
+    ((IsLegalSoFar machine image lists × GainedNothing out) ⊎ RanCut machine brief image lists out) × NoPutFailed out
+RunsAs _ machine brief image lists out = ⊥

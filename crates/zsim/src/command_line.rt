@@ -1,42 +1,175 @@
 // The words of the command line.
-ghost use Rattle.std.specs.Prelude.{◌≡◌, map, option_map, string_bytes};
-ghost use Rattle.zsim.specs.CommandLine.{asked_by, command_of, is_name, machine_name};
+ghost use Rattle.std.specs.Prelude.{◌≡◌, map, option_map, string_bytes, IfOk};
+ghost use Rattle.std.specs.Char.{is_ascii_digit};
+ghost use Rattle.std.specs.List.{list_all};
+ghost use Rattle.clap.specs.Words.{first_of, found_of, rows_of};
+ghost use Rattle.zsim.specs.CommandLine.{asked_by, asked_of, asked_told, command_of, command_told, exe_of, exe_told, is_decimal, machine_of, number_of, runnable, workers_of};
 
-/// A command to run an executable on a machine.
+use crate::options::{matched_by, replay_options, run_options};
+use clap::ArgMatches;
+use std::alloc::{AllocError, Global};
+
+/// What is to be executed.
+#[derive(Clone, Copy)]
+pub enum Exe<'w> {
+    /// The file of this name.
+    File(&'w str),
+    /// What the generator makes of a number.
+    Generated(u64),
+}
+
+// What the words ask for: a run, or a replay of a schedule.
+#[derive(Clone, Copy)]
+struct Asked<'w> {
+    /// The name of the machine's file, or None for the built-in machine.
+    machine: Option<&'w str>,
+    exe: Exe<'w>,
+    /// How many threads are to do the work, from 1 to 64.
+    workers: u16,
+    /// The name of the file for the schedule of a run.
+    record_to: Option<&'w str>,
+    /// The name of the schedule that is replayed.
+    schedule: Option<&'w str>,
+    /// Only the summary is reported.
+    brief: bool,
+}
+
+/// A run on a machine.
 #[derive(Clone, Copy)]
 pub struct Command<'w> {
     /// The name of the machine's file, or None for the built-in machine.
     pub machine: Option<&'w str>,
-    /// The name of the executable's file.
-    pub exe: &'w str,
+    pub exe: Exe<'w>,
+    /// Only the summary is reported.
+    pub brief: bool,
 }
 
-/// The command that the words stand for, where they are one.
-pub fn command_of(words: &[String]) -> Option<Command<'_>>
-    ensures { option_map asked_by result ≡ command_of (map string_bytes words.now) }
+/// The command that the words are, if they are one that can be carried out.
+#[tactic(auto, unfolding(crate::specs::CommandLine::command_of))]
+pub fn command_of(alloc: Global, words: &[String]) -> Result<Option<Command<'_>>, AllocError>
+    ensures { IfOk result (λ command. option_map command_told command ≡ command_of (map string_bytes words.now)) }
 {
-    match words {
-        [verb, machine, exe]
-            if verb.as_str() == "run" && is_name(machine.as_str()) && is_name(exe.as_str()) => {
-            Some(Command {
-                machine: machine_name(machine.as_str()),
-                exe: exe.as_str(),
-            })
-        }
+    match asked_of(alloc, words)? {
+        Some(asked) => Ok(runnable(asked)),
+        None => Ok(None),
+    }
+}
+
+// What can be done of what the words ask for.
+fn runnable(asked: Asked<'_>) -> Option<Command<'_>>
+    ensures { option_map command_told result ≡ runnable (asked_told asked.entry) }
+{
+    if asked.record_to.is_some() || asked.schedule.is_some() {
+        return None;
+    }
+    Some(Command {
+        machine: asked.machine,
+        exe: asked.exe,
+        brief: asked.brief,
+    })
+}
+
+// What the words ask for, where they are well formed.
+#[tactic(auto, unfolding(crate::specs::CommandLine::asked_of))]
+fn asked_of(alloc: Global, words: &[String]) -> Result<Option<Asked<'_>>, AllocError>
+    ensures { IfOk result (λ asked. option_map asked_told asked ≡ asked_of (map string_bytes words.now)) }
+{
+    let Some((verb, words)) = words.split_first() else {
+        return Ok(None);
+    };
+    let options = match verb.as_str() {
+        "run" => run_options(alloc)?,
+        "replay" => replay_options(alloc)?,
+        _ => return Ok(None),
+    };
+    match matched_by(options, words)? {
+        Some(matches) => Ok(asked_by(&matches)),
+        None => Ok(None),
+    }
+}
+
+// What the matched words ask for, where their values are well formed.
+#[tactic(auto, unfolding(crate::specs::CommandLine::asked_by))]
+fn asked_by<'w>(matches: &ArgMatches<'w>) -> Option<Asked<'w>>
+    ensures { option_map asked_told result ≡ asked_by (rows_of (found_of matches.now)) }
+{
+    let machine = value(matches, "machine")?;
+    let exe = exe_of(value(matches, "exe")?)?;
+    let workers = workers_of(value(matches, "workers"))?;
+    Some(Asked {
+        machine: machine_of(machine),
+        exe,
+        workers,
+        record_to: value(matches, "record"),
+        schedule: value(matches, "schedule"),
+        brief: matches!(value(matches, "brief"), Some("true")),
+    })
+}
+
+// The first value of an option or a positional word.
+fn value<'w>(matches: &ArgMatches<'w>, name: &str) -> Option<&'w str>
+    ensures { option_map (λ s. s.now) result ≡ first_of name.now (rows_of (found_of matches.now)) }
+{
+    matches.get_str(name)
+}
+
+// The name of the machine's file, where the word is not that of the built-in machine.
+#[tactic(auto, unfolding(crate::specs::CommandLine::machine_of))]
+fn machine_of(word: &str) -> Option<&str>
+    ensures { option_map (λ name. name.now) result ≡ machine_of word.now }
+{
+    if word == "plain" { None } else { Some(word) }
+}
+
+// What the word for the executable names: `gen:N`, or a file.
+#[tactic(auto, unfolding(crate::specs::CommandLine::exe_of))]
+fn exe_of(word: &str) -> Option<Exe<'_>>
+    ensures { option_map exe_told result ≡ exe_of word.now }
+{
+    match word.strip_prefix("gen:") {
+        Some(number) => Some(Exe::Generated(number_of(number)?)),
+        None => Some(Exe::File(word)),
+    }
+}
+
+// The number of workers, which is 1 where none is given.
+#[tactic(auto, unfolding(crate::specs::CommandLine::workers_of))]
+fn workers_of(word: Option<&str>) -> Option<u16>
+    ensures { result ≡ workers_of (option_map (λ s. s.now) word.entry) }
+{
+    let Some(word) = word else {
+        return Some(1);
+    };
+    match number_of(word)? {
+        n @ 1..=64 => Some(n as u16),
         _ => None,
     }
 }
 
-// Whether a word names a file.
-fn is_name(word: &str) -> bool
-    ensures { result ≡ is_name word.now }
+// The number below 2^64 that a word writes.
+fn number_of(word: &str) -> Option<u64>
+    ensures { result ≡ number_of word.now }
 {
-    !word.as_bytes().starts_with(b"-") && !word.as_bytes().starts_with(b"gen:")
+    if !is_decimal(word.as_bytes()) {
+        return None;
+    }
+    match word.parse() {
+        Ok(number) => Some(number),
+        Err(_) => None,
+    }
 }
 
-// The name of the machine's file, where the word is not that of the built-in machine.
-fn machine_name(word: &str) -> Option<&str>
-    ensures { option_map (λ name. name.now) result ≡ machine_name word.now }
+// Whether a word has decimal digits alone, without a leading zero.
+#[tactic(auto, unfolding(crate::specs::CommandLine::is_decimal))]
+fn is_decimal(word: &[u8]) -> bool
+    ensures { result ≡ is_decimal word.now }
 {
-    if word == "plain" { None } else { Some(word) }
+    !word.is_empty() && has_digits(word) && (word == b"0".as_slice() || !word.starts_with(b"0"))
+}
+
+// Whether a word has decimal digits alone.
+fn has_digits(word: &[u8]) -> bool
+    ensures { result ≡ list_all is_ascii_digit word.now }
+{
+    word.iter().all(|byte| byte.is_ascii_digit())
 }

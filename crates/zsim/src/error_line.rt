@@ -3,10 +3,10 @@ ghost use Rattle.std.specs.Prelude.{◌≡◌, ◌++◌, codes, IfOk, OnOk, stri
 ghost use Rattle.report.specs.ReportText.{printed};
 ghost use Rattle.zsim.specs.ErrorLine.{elf_details, error_line, machine_details};
 
-use report::write_printed;
 use crate::{Status, Which};
 use elf_load::BadElf;
 use machine_desc::{BadMachine, KeyName};
+use report::write_printed;
 use std::alloc::{AllocError, Global};
 
 /// The line for a status, with its newline.

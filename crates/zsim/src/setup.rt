@@ -1,15 +1,17 @@
 // What a call is to run: the machine and the executable, each read and checked.
-ghost use Rattle.std.specs.Prelude.{◌≡◌, codes, IfOk, Some, option_map};
+ghost use Rattle.std.specs.Prelude.{◌≡◌, codes, IfOk, option_map};
 ghost use Rattle.machine_desc.specs.Machine.{IsMachine};
-ghost use Rattle.zsim.specs.Ended.{IsMachineText};
-ghost use Rattle.zsim.specs.Limits.{exe_limit};
-ghost use Rattle.zsim.specs.Seen.{files_seen, SameNames, WasRead};
+ghost use Rattle.zsim.specs.CommandLine.{exe_file, exe_told};
+ghost use Rattle.zsim.specs.Ended.{IsExeOf, IsMachineText};
+ghost use Rattle.zsim.specs.Seen.{files_seen, SameNames};
 ghost use Rattle.zsim.specs.Setup.{loaded_on, machine_by, with_one_core};
 ghost use Rattle.zsim.specs.Steps.{Answers, AnswersMachine, Reads};
 
+use crate::command_line::Exe;
 use crate::limits::{EXE_LIMIT, MACHINE_LIMIT};
 use crate::{Status, Which};
 use elf_load::{Image, LoadFail, load};
+use gen_prog::generate;
 use machine_desc::{BadMachine, KeyName, Machine, MachineFail, PLAIN, read};
 use std::alloc::{AllocError, Global};
 use zs_host::{FileFail, Files};
@@ -78,13 +80,23 @@ fn cores_key(alloc: Global) -> Result<KeyName, AllocError>
     Ok(KeyName::of(text.into_bytes()))
 }
 
-/// The first bytes of the executable, up to the limit and one more.
-pub fn read_exe<F: Files>(alloc: Global, name: &str, files: &mut F) -> Result<Bytes, FileFail>
-    ensures exe { IfOk result (WasRead (files_seen F.tells F.contents F.faults F.latest files.old files.new) name.now exe_limit) }
+/// The bytes of the executable: the first of its file, up to the limit and one more; or those of the
+/// program that is generated for this machine.
+pub fn read_exe<F: Files>(
+    alloc: Global,
+    machine: &Machine,
+    exe: Exe<'_>,
+    files: &mut F,
+) -> Result<Bytes, FileFail>
+    requires { IsMachine machine.now }
+    ensures exe { IfOk result (IsExeOf (files_seen F.tells F.contents F.faults F.latest files.old files.new) machine.now (exe_told exe.entry)) }
     ensures names { SameNames (files_seen F.tells F.contents F.faults F.latest files.old files.new) }
-    ensures faults { Reads result (files_seen F.tells F.contents F.faults F.latest files.old files.new) (Some name.now) }
+    ensures faults { Reads result (files_seen F.tells F.contents F.faults F.latest files.old files.new) (exe_file (exe_told exe.entry)) }
 {
-    files.read(alloc, name, EXE_LIMIT + 1)
+    match exe {
+        Exe::File(name) => files.read(alloc, name, EXE_LIMIT + 1),
+        Exe::Generated(n) => Ok(generate(alloc, n, machine.memory.base)?),
+    }
 }
 
 /// The image of an executable, or the refusal of the first check that fails: its length, and then

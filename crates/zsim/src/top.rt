@@ -1,5 +1,5 @@
 // The call that does all that the program does.
-ghost use Rattle.std.specs.Prelude.{◌≡◌, ◌⊎◌, [], map, string_bytes};
+ghost use Rattle.std.specs.Prelude.{◌≡◌, ◌⊎◌, [], IfOk, None, map, string_bytes};
 ghost use Rattle.machine_desc.specs.Machine.{IsMachine};
 ghost use Rattle.zsim.specs.Ended.{status_at, Gives, IsOutcome, Says};
 ghost use Rattle.zsim.specs.ReferenceRun.{IsRunOf};
@@ -14,7 +14,7 @@ use crate::error_line::error_line;
 use crate::put::put_all;
 use crate::results::{RunEnd, RunResults};
 use crate::setup::{check_exe, check_machine, read_exe, read_machine};
-use crate::{Ended, Kept, Said, Schedule, Status, report, running};
+use crate::{Ended, Kept, Said, Schedule, Status, running};
 use elf_load::Image;
 use machine_desc::Machine;
 use std::alloc::{AllocError, Global};
@@ -39,7 +39,7 @@ pub fn zsim<F: Files, O: Sink, E: Sink, G: Gate>(
 
     // Files are not touched where the words are no command, standard output until a run has come to
     // its end, and standard error where the status is Ran.
-    ensures untouched_files { result.status ≡ Status.Usage → files.new ≡ files.old }
+    ensures untouched_files { command_of (map string_bytes words.now) ≡ None → files.new ≡ files.old }
     ensures untouched_output { (out.new ≡ out.old) ⊎ ((r : Results) × Gives (map string_bytes words.now) result.kept r) }
     ensures silent { result.status ≡ Status.Ran → (result.said ≡ Said.All) × (err.new ≡ err.old) }
 {
@@ -64,11 +64,13 @@ fn conduct<F: Files, O: Sink>(
 ) -> Status
     requires { IsEmpty kept.old }
     ensures outcome { IsOutcome (record { words = map string_bytes words.now; files = files_seen F.tells F.contents F.faults F.latest files.old files.new; out = sink_seen O.tells O.bytes O.faults out.old out.new }) result kept.new }
-    ensures untouched_files { result ≡ Status.Usage → files.new ≡ files.old }
+    ensures untouched_files { command_of (map string_bytes words.now) ≡ None → files.new ≡ files.old }
     ensures untouched_output { (out.new ≡ out.old) ⊎ ((r : Results) × Gives (map string_bytes words.now) kept.new r) }
 {
-    let Some(command) = command_of(words) else {
-        return Status::Usage;
+    let command = match command_of(alloc, words) {
+        Ok(Some(command)) => command,
+        Ok(None) => return Status::Usage,
+        Err(AllocError) => return Status::NoMemory,
     };
     match read_machine(alloc, command.machine, files) {
         Ok(text) => kept.machine = text,
@@ -79,13 +81,22 @@ fn conduct<F: Files, O: Sink>(
         Ok(machine) => machine,
         Err(status) => return status,
     };
-    match read_exe(alloc, command.exe, files) {
+    match read_exe(alloc, &machine, command.exe, files) {
         Ok(bytes) => kept.exe = bytes,
         Err(FileFail::Failed) => return Status::ReadFault,
         Err(FileFail::NoMemory) => return Status::NoMemory,
     }
     match check_exe(alloc, &machine, kept.exe.as_slice()) {
-        Ok(image) => run_and_report(alloc, &machine, &image, out, &mut kept.schedule),
+        Ok(image) => {
+            run_and_report(
+                alloc,
+                &machine,
+                &image,
+                command.brief,
+                out,
+                &mut kept.schedule,
+            )
+        }
         Err(status) => status,
     }
 }
@@ -95,6 +106,7 @@ fn run_and_report<O: Sink>(
     alloc: Global,
     machine: &Machine,
     image: &Image,
+    brief: bool,
     out: &mut O,
     schedule: &mut Schedule,
 ) -> Status
@@ -105,14 +117,14 @@ fn run_and_report<O: Sink>(
     requires empty { schedule.old.lists ≡ [] }
     requires cores_known { schedule.old.cores ≡ 1 }
     ensures cores { schedule.new.cores ≡ schedule.old.cores }
-    ensures run { RunsAs result machine.now image.now schedule.new.lists (sink_seen O.tells O.bytes O.faults out.old out.new) }
+    ensures run { RunsAs result machine.now brief image.now schedule.new.lists (sink_seen O.tells O.bytes O.faults out.old out.new) }
     ensures untouched { (out.new ≡ out.old) ⊎ ((r : Results) × IsRunOf machine.now image.now schedule.new.lists r) }
 {
     let results = match running::run(alloc, machine, image, schedule) {
         Ok(results) => results,
         Err(NoMemory) => return Status::NoMemory,
     };
-    let text = match whole_report(alloc, machine, &results) {
+    let text = match report_of(alloc, machine, &results, brief) {
         Ok(text) => text,
         Err(NoMemory) => return Status::NoMemory,
     };
@@ -121,6 +133,26 @@ fn run_and_report<O: Sink>(
         Err(SinkFail::Failed) => Status::WriteFault,
         Err(SinkFail::NoMemory) => Status::NoMemory,
     }
+}
+
+// The report of a run, whole or brief.
+fn report_of(
+    alloc: Global,
+    machine: &Machine,
+    results: &RunResults,
+    brief: bool,
+) -> Result<Bytes, NoMemory>
+    requires { HasCounts machine.now results.now }
+    ensures { IfOk result (λ text. text ≡ report_of machine.now brief results.now) }
+{
+    report::text(
+        alloc,
+        machine,
+        &results.counters,
+        &results.cores,
+        results.intervals,
+        brief,
+    )
 }
 
 // The status of a run that was reported whole.

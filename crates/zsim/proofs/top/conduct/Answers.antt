@@ -1,10 +1,9 @@
 -- A call that read both inputs: the executable was refused, or run.
-use Rattle.std.proofs.Common.{◌≡◌, ℕ, map, string_bytes, rules, List, Some, Ok, refl, sym, ◌∙◌, ap}
-use Rattle.elf_load.specs.MemoryImage.{MemoryImage}
+use Rattle.std.proofs.Common.{◌≡◌, map, string_bytes, rules, Some, Ok, option_map, refl, sym, ◌∙◌, ap}
 use Rattle.zsim.specs.declared.ended.Kept.{Kept}
-use Rattle.zsim.specs.CommandLine.{asked_by, command_of}
+use Rattle.zsim.specs.CommandLine.{command_told}
 use Rattle.zsim.specs.Seen.{Seen, files_seen, sink_seen}
-use Rattle.zsim.specs.Setup.{Setup, loaded_on, machine_by}
+use Rattle.zsim.specs.Setup.{loaded_on}
 use Rattle.zsim.proofs.Outcome.{HasInputs, outcome_of_exe, outcome_of_run, untouched_or_run}
 use Rattle.zsim.proofs.TwoReads.{has_inputs}
 use Rattle.zsim.proofs.top.conduct.Given as given
@@ -25,11 +24,14 @@ module _ (g : given.Over) (c : goal.After-drop-machine-in-Ok-check_exe-2 g) wher
   abbrev kept : Kept
   kept = record { machine = c.in-Ok.text; exe = c.in-Ok-read_exe.bytes; sched_file = c.args.kept.now.sched_file; schedule = c.run_and_report.new.schedule }
 
-  has : HasInputs seen kept c.in-Ok-check_machine.machine
+  asked : c.in-Ok-Some.field-0 ≡ Some c.in-Ok-Some.command
+  asked = search rules
+
+  has : HasInputs seen kept c.in-Ok-check_machine.machine (command_told c.in-Ok-Some.command)
   has =
       let files = g.F.Files in
       has_inputs files.tells files.contents files.faults files.latest c.args.files.now c.read_machine.new.files c.read_exe.new.files
-      seen.words seen.out kept c.in-Ok-check_machine.machine (asked_by c.in-Some.command) (sym c.in-Some.ensures)
+      seen.words seen.out kept c.in-Ok-check_machine.machine (command_told c.in-Ok-Some.command) (sym c.in-Ok-Some.ensures ∙ ap (option_map command_told) asked)
       c.in-Ok.ensures.names c.in-Ok-read_exe.ensures.names c.in-Ok.ensures.faults c.in-Ok-read_exe.ensures.faults
       c.in-Ok.ensures.text c.in-Ok-read_exe.ensures.exe
       c.requires.sched_file (c.run_and_report.ensures.cores ∙ c.requires.cores) (search rules)
@@ -39,11 +41,11 @@ module _ (g : given.Over) (c : goal.After-drop-machine-in-Ok-check_exe-2 g) wher
 
 pub returns-in-Ok-check_exe-clause-outcome : goal.returns-in-Ok-check_exe-clause-outcome
 returns-in-Ok-check_exe-clause-outcome g c =
-    outcome_of_run (seen g c) (kept g c) c.in-Ok-check_machine.machine (has g c) c.in-Ok-check_exe.image (loads g c) c.run_and_report.result c.run_and_report.ensures.run
+    outcome_of_run (seen g c) (kept g c) c.in-Ok-check_machine.machine (command_told c.in-Ok-Some.command) (has g c) c.in-Ok-check_exe.image (loads g c) c.run_and_report.result c.run_and_report.ensures.run
 
 pub returns-in-Ok-check_exe-clause-untouched_output : goal.returns-in-Ok-check_exe-clause-untouched_output
 returns-in-Ok-check_exe-clause-untouched_output g c =
-    untouched_or_run (seen g c) (kept g c) c.in-Ok-check_machine.machine (has g c) c.in-Ok-check_exe.image (loads g c) c.args.out.now c.run_and_report.new.out c.run_and_report.ensures.untouched
+    untouched_or_run (seen g c) (kept g c) c.in-Ok-check_machine.machine (command_told c.in-Ok-Some.command) (has g c) c.in-Ok-check_exe.image (loads g c) c.args.out.now c.run_and_report.new.out c.run_and_report.ensures.untouched
 
 -- it was refused
 module _ (g : given.Over) (c : goal.After-drop-machine-3 g) where
@@ -60,16 +62,19 @@ module _ (g : given.Over) (c : goal.After-drop-machine-3 g) where
   abbrev refused_kept : Kept
   refused_kept = record { machine = c.in-Ok.text; exe = c.in-Ok-read_exe.bytes; sched_file = c.args.kept.now.sched_file; schedule = c.args.kept.now.schedule }
 
-  refused_has : HasInputs refused_seen refused_kept c.in-Ok-check_machine.machine
+  refused_asked : c.in-Ok-Some.field-0 ≡ Some c.in-Ok-Some.command
+  refused_asked = search rules
+
+  refused_has : HasInputs refused_seen refused_kept c.in-Ok-check_machine.machine (command_told c.in-Ok-Some.command)
   refused_has =
       let files = g.F.Files in
       has_inputs files.tells files.contents files.faults files.latest c.args.files.now c.read_machine.new.files c.read_exe.new.files
-      refused_seen.words refused_seen.out refused_kept c.in-Ok-check_machine.machine (asked_by c.in-Some.command) (sym c.in-Some.ensures)
+      refused_seen.words refused_seen.out refused_kept c.in-Ok-check_machine.machine (command_told c.in-Ok-Some.command) (sym c.in-Ok-Some.ensures ∙ ap (option_map command_told) refused_asked)
       c.in-Ok.ensures.names c.in-Ok-read_exe.ensures.names c.in-Ok.ensures.faults c.in-Ok-read_exe.ensures.faults
       c.in-Ok.ensures.text c.in-Ok-read_exe.ensures.exe
       c.requires.sched_file c.requires.cores (search rules)
 
 pub returns-clause-outcome : goal.returns-clause-outcome
 returns-clause-outcome g c =
-    outcome_of_exe (refused_seen g c) (refused_kept g c) c.in-Ok-check_machine.machine (refused_has g c) c.in-Err-check_exe.status
+    outcome_of_exe (refused_seen g c) (refused_kept g c) c.in-Ok-check_machine.machine (command_told c.in-Ok-Some.command) (refused_has g c) c.in-Err-check_exe.status
     (search rules) c.requires.lists refl (λ _. refl)
