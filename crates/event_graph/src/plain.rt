@@ -40,7 +40,7 @@ impl Plain {
     fn bank(&self, e: &Entry) -> u16
         ensures { result ≡ bank_of self.now.l2 e.now }
     {
-        (e.request.addr() / 64 % u64::from(self.l2.banks)) as u16
+        (e.request.line() % u64::from(self.l2.banks)) as u16
     }
 
     /// The controller behind the bank of an access.

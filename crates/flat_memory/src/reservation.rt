@@ -2,6 +2,8 @@
 ghost use Rattle.std.specs.Prelude.{◌≡◌, ◌<◌, IsTrue, length, slice_index_or, None};
 ghost use Rattle.flat_memory.specs.FlatMemory.{is_reservation, after_write, unless_written};
 
+use zs_num::LINE;
+
 /// What a load-reserved reserves: so many bytes from an address on (RISC-V Unprivileged ISA manual,
 /// "Load-Reserved/Store-Conditional Instructions").
 #[derive(Clone, Copy, Debug, PartialEq, Eq)]
@@ -26,7 +28,7 @@ fn still(reservation: Option<Reservation>, is_writer: bool, addr: u64) -> Option
     ensures { result ≡ unless_written is_writer addr reservation }
 {
     match reservation {
-        Some(r) if !is_writer && r.addr / 64 == addr / 64 => None,
+        Some(r) if !is_writer && r.addr / LINE == addr / LINE => None,
         _ => reservation,
     }
 }

@@ -6,17 +6,17 @@ use Rattle.std.proofs.lemmas.Bool.{cases_Bool}
 use Rattle.std.proofs.lemmas.List.{length-append, length-map, get_or_append_left, get_or-append-add}
 use Rattle.std.proofs.lemmas.List.Elements.{All-map}
 use Rattle.toml.specs.Data.{Members}
-use Rattle.machine_desc.specs.Keys.{Key, Check, Ratio, range_check, pages_check, array_check, top, at, top_checks, memory_checks, l1_checks, l2_checks, controller_checks, domain_checks, version_1_checks, version_1_ratios}
+use Rattle.machine_desc.specs.Keys.{KeyPath, Check, Ratio, range_check, pages_check, array_check, top, at, top_checks, memory_checks, l1_checks, l2_checks, controller_checks, domain_checks, version_1_checks, version_1_ratios}
 use Rattle.machine_desc.specs.Text.{natural, integer_at, version_of, integers_at}
 use Rattle.machine_desc.specs.Machine.{IsBetween, IsMemory, IsL1, IsL2, IsControllers, IsDomains, IsMachine}
 use Rattle.machine_desc.specs.Description.{checks_of, ratios_of, is_named, checks_fault, ratios_fault, written_domains, domain_fault, names_fault, fault_of, memory_of, l1_of, l2_of, controllers_of, domains_of, numbers_of}
 use Rattle.machine_desc.proofs.Valid.{IsWithin, checks_none-append, check_none, integer_holds, share_holds, array_holds, ratio_none, ratio_holds, domains_hold, first_none, second_none, map_none}
 
 -- the check and the ratio of this key
-abbrev is_check_of : Key → Check → Bool
+abbrev is_check_of : KeyPath → Check → Bool
 is_check_of key c = is_named key.table key.name c
 
-abbrev is_ratio_of : Key → Ratio → Bool
+abbrev is_ratio_of : KeyPath → Ratio → Bool
 is_ratio_of key r = bytes_eq r.key.table key.table && bytes_eq r.key.name key.name
 
 -- the lists of checks of a document, none of which finds anything
@@ -56,15 +56,15 @@ ratios_hold document h r = rw (is_version_1 document h) at r
 
 -- what a list of checks that finds nothing says of a key, which is found by its name
 module _ (document : Members) (cs : List Check) (none : checks_fault document cs ≡ None) where
-  between : (key : Key) (low high : ℕ) → find (is_check_of key) cs ≡ Some (range_check key low high) → IsBetween low (integer_at document key) high
+  between : (key : KeyPath) (low high : ℕ) → find (is_check_of key) cs ≡ Some (range_check key low high) → IsBetween low (integer_at document key) high
   between key low high found =
       let holds = integer_holds document key (record { low = low; high = high; step = 1 }) (check_none document cs (is_check_of key) _ none found) in
       (holds.low, holds.high)
 
-  pages : (key : Key) (low high : ℕ) → find (is_check_of key) cs ≡ Some (pages_check key low high) → IsWithin (record { low = low; high = high; step = 4096 }) (integer_at document key)
+  pages : (key : KeyPath) (low high : ℕ) → find (is_check_of key) cs ≡ Some (pages_check key low high) → IsWithin (record { low = low; high = high; step = 4096 }) (integer_at document key)
   pages key low high found = integer_holds document key _ (check_none document cs (is_check_of key) _ none found)
 
-  listed : (key count : Key) → find (is_check_of key) cs ≡ Some (array_check key count) → length (integers_at document key) ≡ integer_at document count
+  listed : (key count : KeyPath) → find (is_check_of key) cs ≡ Some (array_check key count) → length (integers_at document key) ≡ integer_at document count
   listed key count found = array_holds document key count (check_none document cs (is_check_of key) _ none found)
 
 memory_holds : (document : Members) → Passed document → IsMemory (integer_at document (top (codes "cores"))) (memory_of document)

@@ -6,7 +6,7 @@ use Rattle.std.proofs.lemmas.Bool.{and_parts, cases_Bool}
 use Rattle.std.specs.List.{find, position_from}
 use Rattle.std.proofs.lemmas.Iterator.Adapters.{position_from-zero}
 use Rattle.toml.specs.Data.{Data, Members, as_integer}
-use Rattle.machine_desc.specs.Keys.{Key, Range, Check, Ratio, is_integer, is_share, is_array}
+use Rattle.machine_desc.specs.Keys.{KeyPath, Range, Check, Ratio, is_integer, is_share, is_array}
 use Rattle.machine_desc.specs.Text.{natural, integer_at, natural_of, integers_at, array_integers, value_at}
 use Rattle.machine_desc.specs.Description.{is_in_range, is_share_of, unless, integer_fault, array_fault, value_fault, refusal_of, check_fault, checks_fault, ratio_fault, ratios_fault, is_below}
 use Rattle.machine_desc.specs.Answers.{passed_unless}
@@ -79,13 +79,13 @@ from_range range (pos n) h =
     record { low = grind (arith, nat_tests); high = grind (arith, nat_tests); step = grind (arith, nat_tests) }
 from_range range (negsuc n) h = cc
 
-pub integer_holds : (document : Members) (key : Key) (range : Range) → check_fault document (record { key = key; rule = is_integer range }) ≡ None → IsWithin range (integer_at document key)
+pub integer_holds : (document : Members) (key : KeyPath) (range : Range) → check_fault document (record { key = key; rule = is_integer range }) ≡ None → IsWithin range (integer_at document key)
 unfolding check_fault value_fault integer_at
 integer_holds document key range h =
     let (z, passes) = value_passes (is_in_range range) (refusal_of key) _ (value_at document key) h in
     rw passes.1 (from_range range z passes.0)
 
-pub share_holds : (document : Members) (key : Key) (range : Range) (times whole : Key) → check_fault document (record { key = key; rule = is_share range times whole }) ≡ None
+pub share_holds : (document : Members) (key : KeyPath) (range : Range) (times whole : KeyPath) → check_fault document (record { key = key; rule = is_share range times whole }) ≡ None
     → IsWithin range (integer_at document key) × (integer_at document times * integer_at document key ≤ integer_at document whole)
 unfolding check_fault value_fault integer_at
 share_holds document key range times whole h =
@@ -104,7 +104,7 @@ array_passes : (count : ℕ) (refusal : Fault → BadMachine) (missing : BadMach
 array_passes count refusal missing None h = cc
 array_passes count refusal missing (Some d) h = array_long count (array_integers d) (map_none refusal _ h)
 
-pub array_holds : (document : Members) (key count : Key) → check_fault document (record { key = key; rule = is_array count }) ≡ None → length (integers_at document key) ≡ integer_at document count
+pub array_holds : (document : Members) (key count : KeyPath) → check_fault document (record { key = key; rule = is_array count }) ≡ None → length (integers_at document key) ≡ integer_at document count
 unfolding check_fault value_fault integers_at
 array_holds document key count h = array_passes (integer_at document count) (refusal_of key) _ (value_at document key) h
 

@@ -5,7 +5,7 @@ use Rattle.std.specs.Cmp.Lexicographic.{slice_cmp}
 use Rattle.std.specs.Ordering.{nat_cmp, is_lt}
 use Rattle.std.specs.Option.{option_or, option_map_or}
 use Rattle.toml.specs.Data.{Data, Members, no_members, member, as_integer, as_table}
-use Rattle.machine_desc.specs.Keys.{Key, Range as Bounds, Rule, is_table, is_integer, is_share, is_array, Check, Ratio, top, at, version_check, version_1_checks, version_1_ratios}
+use Rattle.machine_desc.specs.Keys.{KeyPath, Range as Bounds, Rule, is_table, is_integer, is_share, is_array, Check, Ratio, top, at, version_check, version_1_checks, version_1_ratios}
 use Rattle.machine_desc.specs.Text.{document_of, table_at, value_at, integer_at, version_of, natural, array_integers, integers_at, full_name}
 use Rattle.machine_desc.specs.declared.errors.BadMachine.{BadMachine}
 use Rattle.machine_desc.specs.declared.errors.BadMachine.TheVariants.{Text, Missing, Kind, Range, Unknown, Ratio as BadRatio, Domain}
@@ -56,7 +56,7 @@ value_fault document (is_share range times whole) d =
 value_fault document (is_array count) d = array_fault (integer_at document count) d
 
 -- the refusal of a key's value
-abbrev pub refusal_of : Key → Fault → BadMachine
+abbrev pub refusal_of : KeyPath → Fault → BadMachine
 refusal_of key OtherKind = Kind (full_name key)
 refusal_of key (OutOfRange z) = Range (full_name key) z
 

@@ -2,7 +2,7 @@
 use Rattle.std.specs.Prelude.{ℕ, ◌^◌, List, [], ◌∷◌, ◌++◌, codes}
 
 -- where a value stands: the name of its table, which is empty at the top level, and its own name
-pub record Key : Type 0 where
+pub record KeyPath : Type 0 where
   pub table : List ℕ
   pub name : List ℕ
 
@@ -17,35 +17,35 @@ pub record Range : Type 0 where
 pub data Rule : Type 0 where
   is_table : Rule
   is_integer : Range → Rule
-  is_share : Range → (times whole : Key) → Rule
-  is_array : (count : Key) → Rule
+  is_share : Range → (times whole : KeyPath) → Rule
+  is_array : (count : KeyPath) → Rule
 
 -- a key that has to be there, and what its value has to be
 pub record Check : Type 0 where
-  pub key : Key
+  pub key : KeyPath
   pub rule : Rule
 
 -- an integer whose multiple another has to be
 pub record Ratio : Type 0 where
-  pub key : Key
-  pub divisor : Key
+  pub key : KeyPath
+  pub divisor : KeyPath
 
-abbrev pub top : List ℕ → Key
+abbrev pub top : List ℕ → KeyPath
 top name = record { table = []; name = name }
 
-abbrev pub at : (table name : List ℕ) → Key
+abbrev pub at : (table name : List ℕ) → KeyPath
 at table name = record { table = table; name = name }
 
 abbrev pub table_check : List ℕ → Check
 table_check name = record { key = top name; rule = is_table }
 
-abbrev pub range_check : Key → (low high : ℕ) → Check
+abbrev pub range_check : KeyPath → (low high : ℕ) → Check
 range_check key low high = record { key = key; rule = is_integer (record { low = low; high = high; step = 1 }) }
 
-abbrev pub pages_check : Key → (low high : ℕ) → Check
+abbrev pub pages_check : KeyPath → (low high : ℕ) → Check
 pages_check key low high = record { key = key; rule = is_integer (record { low = low; high = high; step = 4096 }) }
 
-abbrev pub array_check : Key → Key → Check
+abbrev pub array_check : KeyPath → KeyPath → Check
 array_check key count = record { key = key; rule = is_array count }
 
 -- the first check of every description

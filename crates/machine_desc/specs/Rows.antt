@@ -1,13 +1,13 @@
 -- What the rows of the program's tables say.
-use Rattle.machine_desc.specs.Keys.{Key, Range, Rule, is_table, is_integer, is_share, is_array, Check, Ratio}
-use Rattle.machine_desc.specs.declared.keys.Key.{Key as KeyRow}
+use Rattle.machine_desc.specs.Keys.{KeyPath, Range, Rule, is_table, is_integer, is_share, is_array, Check, Ratio}
+use Rattle.machine_desc.specs.declared.keys.KeyPath.{KeyPath as KeyRow}
 use Rattle.machine_desc.specs.declared.keys.Range.{Range as RangeRow}
 use Rattle.machine_desc.specs.declared.keys.Rule.{Rule as RuleRow}
 use Rattle.machine_desc.specs.declared.keys.Rule.TheVariants as row
 use Rattle.machine_desc.specs.declared.keys.Check.{Check as CheckRow}
 use Rattle.machine_desc.specs.declared.keys.Ratio.{Ratio as RatioRow}
 
-abbrev pub key_of : KeyRow → Key
+abbrev pub key_of : KeyRow → KeyPath
 key_of k = record { table = k.table.now; name = k.name.now }
 
 abbrev pub range_of : RangeRow → Range

@@ -4,7 +4,7 @@ use Rattle.std.specs.Option.{option_map_or}
 use Rattle.std.specs.Str.{is_utf8}
 use Rattle.toml.specs.Data.{Data, Items, no_items, item, Members, get_member, as_integer, as_array, as_table}
 use Rattle.toml.specs.Parse.{parse_document}
-use Rattle.machine_desc.specs.Keys.{Key, top}
+use Rattle.machine_desc.specs.Keys.{KeyPath, top}
 
 -- the document that the bytes are, if they are UTF-8 and TOML
 unfoldable pub document_of : List ℕ → Option Members
@@ -16,7 +16,7 @@ table_at document name =
     if length name == 0 then Some document else option_and_then as_table (get_member name document)
 
 -- the value at a key
-unfoldable pub value_at : Members → Key → Option Data
+unfoldable pub value_at : Members → KeyPath → Option Data
 value_at document key = option_and_then (get_member key.name) (table_at document key.table)
 
 -- an integer as a natural number: 0 where it is negative
@@ -29,7 +29,7 @@ abbrev pub natural_of : Data → ℕ
 natural_of d = option_map_or natural (as_integer d) 0
 
 -- the integer at a key, as a natural number: 0 where no integer stands there
-unfoldable pub integer_at : Members → Key → ℕ
+unfoldable pub integer_at : Members → KeyPath → ℕ
 integer_at document key = option_map_or natural_of (value_at document key) 0
 
 -- the version that a document says it is of
@@ -46,9 +46,9 @@ abbrev pub array_integers : Data → Option (List ℤ)
 array_integers d = option_and_then integers_of (as_array d)
 
 -- the integers at a key: none where no array of integers stands there
-unfoldable pub integers_at : Members → Key → List ℤ
+unfoldable pub integers_at : Members → KeyPath → List ℤ
 integers_at document key = unwrap_or (option_and_then array_integers (value_at document key)) []
 
 -- the name of a key as it stands in a refusal
-unfoldable pub full_name : Key → List ℕ
+unfoldable pub full_name : KeyPath → List ℕ
 full_name key = if length key.table == 0 then key.name else key.table ++ codes "." ++ key.name

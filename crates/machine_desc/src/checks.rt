@@ -8,7 +8,7 @@ ghost use Rattle.machine_desc.specs.Rows.{key_of, range_of, rule_of, check_of};
 ghost use Rattle.machine_desc.specs.Text.{integer_at};
 
 use crate::document::{array_integers, integer_at, natural, value_at};
-use crate::keys::{Check, Key, Range, Rule, full_name};
+use crate::keys::{Check, KeyPath, Range, Rule, full_name};
 use crate::{BadMachine, MachineFail};
 use std::alloc::{AllocError, Global};
 use toml::{Table, Value};
@@ -55,7 +55,7 @@ fn check_key(alloc: Global, document: &Table, check: &Check) -> Result<(), Machi
 }
 
 /// The refusal of a key's value.
-fn refusal(alloc: Global, key: &Key, fault: Fault) -> Result<BadMachine, AllocError>
+fn refusal(alloc: Global, key: &KeyPath, fault: Fault) -> Result<BadMachine, AllocError>
     ensures { IfOk result (λ bad. bad ≡ refusal_of (key_of key.now) fault) }
 {
     let key = full_name(alloc, key.table, key.name)?;

@@ -13,7 +13,7 @@ use toml::Table;
 
 /// Where a value stands: the name of its table, which is empty at the top level, and its own name.
 #[derive(Clone, Copy, Debug)]
-pub(crate) struct Key {
+pub(crate) struct KeyPath {
     pub table: &'static str,
     pub name: &'static str,
 }
@@ -49,30 +49,30 @@ pub(crate) enum Rule {
     /// at `whole`.
     Share {
         range: Range,
-        times: Key,
-        whole: Key,
+        times: KeyPath,
+        whole: KeyPath,
     },
     /// An array of integers, as many as the number at the key says.
-    Array(Key),
+    Array(KeyPath),
 }
 
 /// A key that has to be there, and what its value has to be.
 #[derive(Clone, Copy, Debug)]
 pub(crate) struct Check {
-    pub key: Key,
+    pub key: KeyPath,
     pub rule: Rule,
 }
 
 /// A key whose number has to be a multiple of the number at `divisor`.
 #[derive(Clone, Copy, Debug)]
 pub(crate) struct Ratio {
-    pub key: Key,
-    pub divisor: Key,
+    pub key: KeyPath,
+    pub divisor: KeyPath,
 }
 
 macro_rules! key {
     ($table:literal, $name:literal) => {
-        Key {
+        KeyPath {
             table: $table,
             name: $name,
         }

@@ -10,7 +10,7 @@ use Rattle.event_graph.specs.declared.event.Parent.{Parent}
 use Rattle.event_graph.specs.declared.fired.Fired.{Fired}
 use Rattle.event_graph.specs.Numbered.{IsNumbered}
 use Rattle.event_graph.proofs.Lists.{get-map, get_read, read_is}
-use Rattle.weave_seq.specs.declared.children.Slot.{Slot}
+use Rattle.weave_seq.specs.declared.children.ParentSlot.{ParentSlot}
 use Rattle.weave_seq.specs.Chains.{AreChains, latest, parent_in, parents_in, with_latest}
 use Rattle.weave_seq.specs.Order.{Keys}
 use Rattle.weave_seq.specs.SoFar.{AreSameKeys, ready_keys}
@@ -36,12 +36,12 @@ module _ (events : List Event) (numbered : IsNumbered events) (i : ℕ) (d : Eve
   pub number_is : (get_or events i d).number ≡ i
   number_is = numbered.number i (get_or events i d) there
 
-  pub parent_within : (slot : Slot) (last before : List ℕ) → AreChains (parents_in slot events) last before i → IfSome (parent_in slot (get_or events i d)) (λ p. p.number < length last)
+  pub parent_within : (slot : ParentSlot) (last before : List ℕ) → AreChains (parents_in slot events) last before i → IfSome (parent_in slot (get_or events i d)) (λ p. p.number < length last)
   parent_within slot last before h =
       within_by (length last) (parent_in slot (get_or events i d))
       (λ p is. omega (arith, parent_below slot events numbered i (get_or events i d) p there is, below, h.last_size, length-map events (parent_in slot)))
 
-  pub chained : (slot : Slot) (last before last' before' : List ℕ) → AreChains (parents_in slot events) last before i → last' ≡ with_latest last (parent_in slot (get_or events i d)) (get_or events i d).number
+  pub chained : (slot : ParentSlot) (last before last' before' : List ℕ) → AreChains (parents_in slot events) last before i → last' ≡ with_latest last (parent_in slot (get_or events i d)) (get_or events i d).number
       → before' ≡ before ++ latest last (parent_in slot (get_or events i d)) ∷ [] → AreChains (parents_in slot events) last' before' (i + 1)
   chained slot last before last' before' h a b =
       one_more (parents_in slot events) last before i h last' before' (parent_in slot (get_or events i d))

@@ -5,14 +5,14 @@ use Rattle.std.proofs.lemmas.Bool.{cases_eq, cases_lt}
 use Rattle.std.proofs.lemmas.List.{get_or-replicate, get_or-set_other, get_or-set_same, get_or_append_left, get_or_past, get_or_push, length-map, length-replicate, length_push}
 use Rattle.event_graph.specs.declared.event.Event.{Event}
 use Rattle.event_graph.specs.declared.event.Parent.{Parent}
-use Rattle.weave_seq.specs.declared.children.Slot.{Slot}
+use Rattle.weave_seq.specs.declared.children.ParentSlot.{ParentSlot}
 use Rattle.weave_seq.specs.Chains.{AreChains, IsParent, latest, parent_in, parents_in, with_latest}
 
 zeros : (n i : ℕ) → slice_index (replicate n 0) i ≡ 0
 zeros n i = elim (cases_lt i n) [ inl l ↦ get_or-replicate n i 0 0 l | inr l ↦ get_or_past (replicate n 0) i 0 (omega (arith, l, length-replicate {A = ℕ} n 0)) ]
 
 -- before the first child
-pub no_chains : (slot : Slot) (events : List Event) (last before : List ℕ) → last ≡ replicate (length events) 0 → before ≡ [] → AreChains (parents_in slot events) last before 0
+pub no_chains : (slot : ParentSlot) (events : List Event) (last before : List ℕ) → last ≡ replicate (length events) 0 → before ≡ [] → AreChains (parents_in slot events) last before 0
 no_chains slot events last before a b =
     let none : (n : ℕ) → slice_index last n ≡ 0 = λ n. ap (λ xs. slice_index xs n) a ∙ zeros (length events) n in
     let none' : (n : ℕ) → slice_index before n ≡ 0 = λ n. ap (λ xs. slice_index xs n) b in

@@ -12,8 +12,8 @@ use Rattle.event_graph.specs.Fits.{GraphFits}
 use Rattle.event_graph.specs.Numbered.{IsNumbered}
 use Rattle.event_graph.specs.OneListWeave.{AreSmallSteps, IsSmallStep, Timed, after, finish_in, least_ready, start_of}
 use Rattle.event_graph.proofs.Lists.{In, contains_in, get_within, in_push, read_is}
-use Rattle.weave_seq.specs.declared.children.Slot.{Slot}
-use Rattle.weave_seq.specs.declared.children.Slot.TheVariants.{First}
+use Rattle.weave_seq.specs.declared.children.ParentSlot.{ParentSlot}
+use Rattle.weave_seq.specs.declared.children.ParentSlot.TheVariants.{First}
 use Rattle.weave_seq.specs.Chains.{parent_in}
 use Rattle.weave_seq.specs.Known.{finish_at, known_to_all, told_to}
 use Rattle.weave_seq.specs.SoFar.{IsFirst, NoneIsReady, SoFar}
@@ -137,10 +137,10 @@ module _ {C : Type 0} (serves : C → Kind → Bool) (floor : C → Kind → ℕ
         pub size : length s'.times ≡ length events
         size = step.size' events numbered (after stepped events comps n).fired rule x round.next s is key first finish finish_same after_it s' s'_is
 
-        pub unfired : (slot : Slot) (j : ℕ) (e : Event) (p : Parent) → slice_get events j ≡ Some e → parent_in slot e ≡ Some p → p.number ≡ key.number → finish_at s'.times j ≡ 0
+        pub unfired : (slot : ParentSlot) (j : ℕ) (e : Event) (p : Parent) → slice_get events j ≡ Some e → parent_in slot e ≡ Some p → p.number ≡ key.number → finish_at s'.times j ≡ 0
         unfired = step.child_unfired events numbered (after stepped events comps n).fired rule x round.next s is key first finish finish_same after_it s' s'_is
 
-        pub bounded : (slot : Slot) (j : ℕ) (e : Event) (p : Parent) → slice_get events j ≡ Some e → parent_in slot e ≡ Some p → p.number ≡ key.number → finish + p.delay ≤ 2 ^ 62
+        pub bounded : (slot : ParentSlot) (j : ℕ) (e : Event) (p : Parent) → slice_get events j ≡ Some e → parent_in slot e ≡ Some p → p.number ≡ key.number → finish + p.delay ≤ 2 ^ 62
         bounded slot j e p a b m = step.child_small events numbered (after stepped events comps n).fired rule x round.next s is key first finish finish_same after_it s' s'_is slot small_start j e p a b m
 
         pub known_next : (s'' : SoFar) → s'' ≡ known_to_all (finish_at s'.times) events → s'' ≡ known_to_all (finish_in (after stepped events comps (suc n)).fired) events

@@ -15,8 +15,8 @@ use Rattle.event_graph.specs.OneListWeave.{Timed, after_parent, find_fired, fini
 use Rattle.event_graph.proofs.FindFired.{find_push_new, find_push_other, found_in, some_from_fired}
 use Rattle.event_graph.proofs.Least.{least_is, ready_from, ready_parts, same_event}
 use Rattle.event_graph.proofs.Lists.{In, at_in, contains_in, get-map, get-set_other, get-set_same, get_some, get_within, in_at, in_contains, map_same, read_is}
-use Rattle.weave_seq.specs.declared.children.Slot.{Slot}
-use Rattle.weave_seq.specs.declared.children.Slot.TheVariants.{First, Second}
+use Rattle.weave_seq.specs.declared.children.ParentSlot.{ParentSlot}
+use Rattle.weave_seq.specs.declared.children.ParentSlot.TheVariants.{First, Second}
 use Rattle.weave_seq.specs.Chains.{parent_in}
 use Rattle.weave_seq.specs.Known.{finish_at, known, known_time, known_to_all, known_waits, told_to, unfired_parent, without}
 use Rattle.weave_seq.specs.Order.{is_earlier}
@@ -58,7 +58,7 @@ abbrev Agree : ℕ → (ℕ → ℕ) → (ℕ → ℕ) → Type 0
 Agree n F G = (k : ℕ) → k < n → F k ≡ G k
 
 module _ (events : List Event) (numbered : IsNumbered events) where
-  parents_within : (slot : Slot) (j : ℕ) (e : Event) → slice_get events j ≡ Some e → (p : Parent) → parent_in slot e ≡ Some p → p.number < length events
+  parents_within : (slot : ParentSlot) (j : ℕ) (e : Event) → slice_get events j ≡ Some e → (p : Parent) → parent_in slot e ≡ Some p → p.number < length events
   parents_within slot j e at p is = omega (arith, parent_below slot events numbered j e p at is, get_within events j e at)
 
   time_same : (A B D A' B' D' : ℕ → ℕ) → Agree (length events) A A' → Agree (length events) B B' → (j : ℕ) (e : Event) → slice_get events j ≡ Some e → D e.number ≡ D' e.number → known_time A B D e ≡ known_time A' B' D' e
@@ -317,16 +317,16 @@ module _ (events : List Event) (numbered : IsNumbered events) where
               ∙ ap (λ ws. so_far (map (known_time (without key.number (finish_at s'.times)) (without key.number (finish_at s'.times)) (finish_at s'.times)) events) ws)
               (same_as_map (known_waits (without key.number (finish_at s'.times)) (without key.number (finish_at s'.times)) (finish_at s'.times)) events s'.waits waits_size' waits_are)
 
-          slot_fired : (slot : Slot) (e : Event) → is_parent_fired fired e.first ≡ true → is_parent_fired fired e.second ≡ true → is_parent_fired fired (parent_in slot e) ≡ true
+          slot_fired : (slot : ParentSlot) (e : Event) → is_parent_fired fired e.first ≡ true → is_parent_fired fired e.second ≡ true → is_parent_fired fired (parent_in slot e) ≡ true
           slot_fired First e a b = a
           slot_fired Second e a b = b
 
-          slot_start : (slot : Slot) (H : ℕ → ℕ) (e : Event) (p : Parent) → parent_in slot e ≡ Some p → H p.number + p.delay ≤ start_of H e
+          slot_start : (slot : ParentSlot) (H : ℕ → ℕ) (e : Event) (p : Parent) → parent_in slot e ≡ Some p → H p.number + p.delay ≤ start_of H e
           slot_start First H e p parent = let a : after_parent H e.first ≡ H p.number + p.delay = ap (λ o. after_parent H o) parent in omega arith
           slot_start Second H e p parent = let a : after_parent H e.second ≡ H p.number + p.delay = ap (λ o. after_parent H o) parent in omega arith
 
           -- what the children have to know
-          pub child_unfired : (slot : Slot) (j : ℕ) (e : Event) (p : Parent) → slice_get events j ≡ Some e → parent_in slot e ≡ Some p → p.number ≡ key.number → finish_at s'.times j ≡ 0
+          pub child_unfired : (slot : ParentSlot) (j : ℕ) (e : Event) (p : Parent) → slice_get events j ≡ Some e → parent_in slot e ≡ Some p → p.number ≡ key.number → finish_at s'.times j ≡ 0
           child_unfired slot j e p at parent n =
               let l : j < length events = get_within events j e at in
               let below : p.number < j = parent_below slot events numbered j e p at parent in
@@ -358,7 +358,7 @@ module _ (events : List Event) (numbered : IsNumbered events) where
           pub known_next : (s'' : SoFar) → s'' ≡ known_to_all (finish_at s'.times) events → s'' ≡ known_to_all (finish_in (fired ++ x ∷ [])) events
           known_next s'' all = all ∙ known_same (finish_at s'.times) (finish_in (fired ++ x ∷ [])) agrees
 
-          pub child_small : (slot : Slot) → ((e : Event) → In e events → start_of (finish_in (fired ++ x ∷ [])) e ≤ 2 ^ 62) → (j : ℕ) (e : Event) (p : Parent) → slice_get events j ≡ Some e → parent_in slot e ≡ Some p → p.number ≡ key.number → finish + p.delay ≤ 2 ^ 62
+          pub child_small : (slot : ParentSlot) → ((e : Event) → In e events → start_of (finish_in (fired ++ x ∷ [])) e ≤ 2 ^ 62) → (j : ℕ) (e : Event) (p : Parent) → slice_get events j ≡ Some e → parent_in slot e ≡ Some p → p.number ≡ key.number → finish + p.delay ≤ 2 ^ 62
           child_small slot small j e p at parent n =
               let start : start_of (finish_in (fired ++ x ∷ [])) e ≤ 2 ^ 62 = small e (at_in e events j at) in
               let here : finish_in (fired ++ x ∷ []) p.number ≡ finish = ap (λ k. finish_in (fired ++ x ∷ []) k) n ∙ (sym (agrees key.number key_within) ∙ finish_here) in

@@ -8,28 +8,28 @@ use Rattle.event_graph.specs.declared.event.Parent.{Parent}
 use Rattle.event_graph.specs.declared.fired.Fired.{Fired}
 use Rattle.event_graph.specs.Numbered.{IsNumbered}
 use Rattle.event_graph.proofs.Lists.{get-map, get_some, get_within, read_is}
-use Rattle.weave_seq.specs.declared.children.Slot.{Slot}
-use Rattle.weave_seq.specs.declared.children.Slot.TheVariants.{First, Second}
+use Rattle.weave_seq.specs.declared.children.ParentSlot.{ParentSlot}
+use Rattle.weave_seq.specs.declared.children.ParentSlot.TheVariants.{First, Second}
 use Rattle.weave_seq.specs.Chains.{AreChains, IsParent, parent_in, parents_in}
 use Rattle.weave_seq.specs.Known.{told_to}
 use Rattle.weave_seq.specs.SoFar.{SoFar}
 use Rattle.weave_seq.proofs.Telling.{IsAt, all_at, not_a_child, others, told_now}
 
-pub is_parent : (slot : Slot) (events : List Event) (c : ℕ) (e : Event) (p : Parent) → slice_get events c ≡ Some e → parent_in slot e ≡ Some p → IsParent (parents_in slot events) c p
+pub is_parent : (slot : ParentSlot) (events : List Event) (c : ℕ) (e : Event) (p : Parent) → slice_get events c ≡ Some e → parent_in slot e ≡ Some p → IsParent (parents_in slot events) c p
 is_parent slot events c e p at is = read_is (parents_in slot events) c None (parent_in slot e) (get-map (parent_in slot) e events c at) ∙ is
 
-pub parent_below : (slot : Slot) (events : List Event) → IsNumbered events → (c : ℕ) (e : Event) (p : Parent) → slice_get events c ≡ Some e → parent_in slot e ≡ Some p → p.number < c
+pub parent_below : (slot : ParentSlot) (events : List Event) → IsNumbered events → (c : ℕ) (e : Event) (p : Parent) → slice_get events c ≡ Some e → parent_in slot e ≡ Some p → p.number < c
 parent_below First events numbered c e p at is = numbered.first c e p at is
 parent_below Second events numbered c e p at is = numbered.second c e p at is
 
 -- the event that is a child
-pub record IsChild (slot : Slot) (events : List Event) (of c : ℕ) (p : Parent) : Type 0 where
+pub record IsChild (slot : ParentSlot) (events : List Event) (of c : ℕ) (p : Parent) : Type 0 where
   pub event : Event
   pub there : slice_get events c ≡ Some event
   pub parent : parent_in slot event ≡ Some p
   pub of_it : p.number ≡ of
 
-pub child_from : (slot : Slot) (events : List Event) (of c : ℕ) (q : (p : Parent) × (IsParent (parents_in slot events) c p × (p.number ≡ of))) → IsChild slot events of c q.0
+pub child_from : (slot : ParentSlot) (events : List Event) (of c : ℕ) (q : (p : Parent) × (IsParent (parents_in slot events) c p × (p.number ≡ of))) → IsChild slot events of c q.0
 child_from slot events of c q =
     elim (cases_lt c (length events)) [
       | inl l ↦
@@ -47,14 +47,14 @@ child_from slot events of c q =
     ]
 
 -- as the program reads it
-pub child_read : (slot : Slot) (events : List Event) (of c : ℕ) → (p : Parent) × (IsParent (parents_in slot events) c p × (p.number ≡ of)) → (d : Event) (r : Option Parent) (p : Parent) → r ≡ parent_in slot (get_or events c d) → r ≡ Some p → IsChild slot events of c p
+pub child_read : (slot : ParentSlot) (events : List Event) (of c : ℕ) → (p : Parent) × (IsParent (parents_in slot events) c p × (p.number ≡ of)) → (d : Event) (r : Option Parent) (p : Parent) → r ≡ parent_in slot (get_or events c d) → r ≡ Some p → IsChild slot events of c p
 child_read slot events of c q d r p read is =
     let k : IsChild slot events of c q.0 = child_from slot events of c q in
     let here : parent_in slot (get_or events c d) ≡ Some q.0 = ap (parent_in slot) (read_is events c d k.event k.there) ∙ k.parent in
     let same : q.0 ≡ p = cc in
     subst (λ z. IsChild slot events of c z) same k
 
-module _ (events : List Event) (numbered : IsNumbered events) (slot : Slot) (last before : List ℕ) (chains : AreChains (parents_in slot events) last before (length events)) (of : ℕ) (F : ℕ → ℕ) (after : 0 < F of) where
+module _ (events : List Event) (numbered : IsNumbered events) (slot : ParentSlot) (last before : List ℕ) (chains : AreChains (parents_in slot events) last before (length events)) (of : ℕ) (F : ℕ → ℕ) (after : 0 < F of) where
   -- no child stands behind the last
   pub told_at_first : (s : SoFar) → s ≡ told_to slot false of F events → (next : ℕ) → next ≡ slice_index last of → (j : ℕ) (e : Event) → slice_get events j ≡ Some e → next < j → IsAt of F after slot true s.times s.waits j e
   told_at_first s is next next_is j e at l =

@@ -2,15 +2,15 @@
 use Rattle.std.specs.Prelude.{◌≡◌, ◌<◌, ◌≤◌, ℕ, List, map, length, slice_index, slice_index_or, slice_set, Option, Some, None}
 use Rattle.event_graph.specs.declared.event.Event.{Event}
 use Rattle.event_graph.specs.declared.event.Parent.{Parent}
-use Rattle.weave_seq.specs.declared.children.Slot.{Slot}
-use Rattle.weave_seq.specs.declared.children.Slot.TheVariants.{First, Second}
+use Rattle.weave_seq.specs.declared.children.ParentSlot.{ParentSlot}
+use Rattle.weave_seq.specs.declared.children.ParentSlot.TheVariants.{First, Second}
 
-abbrev pub parent_in : Slot → Event → Option Parent
+abbrev pub parent_in : ParentSlot → Event → Option Parent
 parent_in First e = e.first
 parent_in Second e = e.second
 
 -- each event's parent in this slot
-abbrev pub parents_in : Slot → List Event → List (Option Parent)
+abbrev pub parents_in : ParentSlot → List Event → List (Option Parent)
 parents_in slot events = map (parent_in slot) events
 
 -- p is the parent of the event c

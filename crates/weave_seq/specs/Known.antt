@@ -4,8 +4,8 @@ use Rattle.event_graph.specs.declared.event.Event.{Event}
 use Rattle.event_graph.specs.declared.event.Parent.{Parent}
 use Rattle.event_graph.specs.declared.fired.Fired.{Fired}
 use Rattle.event_graph.specs.OneListWeave.{after_parent}
-use Rattle.weave_seq.specs.declared.children.Slot.{Slot}
-use Rattle.weave_seq.specs.declared.children.Slot.TheVariants.{First, Second}
+use Rattle.weave_seq.specs.declared.children.ParentSlot.{ParentSlot}
+use Rattle.weave_seq.specs.declared.children.ParentSlot.TheVariants.{First, Second}
 use Rattle.weave_seq.specs.SoFar.{SoFar}
 
 -- the finish of an event is 0 until it fires: no finish of one that fired is
@@ -37,16 +37,16 @@ abbrev pub without : ℕ → (ℕ → ℕ) → ℕ → ℕ
 without of finish number = cond (number == of) 0 (finish number)
 
 -- the children that have the event in their first slot are told before those that have it in their second
-abbrev pub known_to_first : Slot → Bool → ℕ → (ℕ → ℕ) → ℕ → ℕ
+abbrev pub known_to_first : ParentSlot → Bool → ℕ → (ℕ → ℕ) → ℕ → ℕ
 known_to_first First told of finish = cond told finish (without of finish)
 known_to_first Second told of finish = finish
 
-abbrev pub known_to_second : Slot → Bool → ℕ → (ℕ → ℕ) → ℕ → ℕ
+abbrev pub known_to_second : ParentSlot → Bool → ℕ → (ℕ → ℕ) → ℕ → ℕ
 known_to_second First told of finish = without of finish
 known_to_second Second told of finish = cond told finish (without of finish)
 
 -- what is known before and after the children that have the event in this slot are told
-abbrev pub told_to : Slot → Bool → ℕ → (ℕ → ℕ) → List Event → SoFar
+abbrev pub told_to : ParentSlot → Bool → ℕ → (ℕ → ℕ) → List Event → SoFar
 told_to slot told of finish events = known (known_to_first slot told of finish) (known_to_second slot told of finish) finish events
 
 -- what is known where these finishes are known to all

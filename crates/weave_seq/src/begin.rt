@@ -5,7 +5,7 @@ ghost use Rattle.event_graph.specs.OneListWeave.{after_parent, finish_in, start_
 ghost use Rattle.weave_seq.specs.Chains.{AreChains, parents_in};
 ghost use Rattle.weave_seq.specs.Known.{known_to_all, unfired_parent};
 
-use crate::children::{Children, Slot};
+use crate::children::{Children, ParentSlot};
 use crate::ready::Ready;
 use crate::state::State;
 use event_graph::{Event, Fired, Parent};
@@ -49,15 +49,15 @@ fn parents(event: &Event) -> u8
 /// Links each event to its children and counts its parents. All memory of the weave is taken here.
 pub(crate) fn begin(alloc: Global, events: &[Event]) -> Result<Beginning, NoMemory>
     requires { IsNumbered events.now }
-    ensures first_slot { IfOk result (λ it. it.first.slot ≡ Slot.First) }
-    ensures second_slot { IfOk result (λ it. it.second.slot ≡ Slot.Second) }
+    ensures first_slot { IfOk result (λ it. it.first.slot ≡ ParentSlot.First) }
+    ensures second_slot { IfOk result (λ it. it.second.slot ≡ ParentSlot.Second) }
     ensures first { IfOk result (λ it. AreChains (parents_in it.first.slot events.now) it.first.last.items it.first.before.items (length events.now)) }
     ensures second { IfOk result (λ it. AreChains (parents_in it.second.slot events.now) it.second.last.items it.second.before.items (length events.now)) }
     ensures state { IfOk result (λ it. it.state ≡ known_to_all (finish_in []) events.now) }
 {
     let count = events.len();
-    let mut first = Children::none(alloc, Slot::First, count)?;
-    let mut second = Children::none(alloc, Slot::Second, count)?;
+    let mut first = Children::none(alloc, ParentSlot::First, count)?;
+    let mut second = Children::none(alloc, ParentSlot::Second, count)?;
     let mut times = Vec::with_capacity(alloc, count)?;
     let mut waits = Vec::with_capacity(alloc, count)?;
     let mut ready = Ready::with_room(alloc, count)?;

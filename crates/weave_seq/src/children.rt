@@ -8,7 +8,7 @@ use zs_num::NoMemory;
 
 /// Which of an event's two parents.
 #[derive(Clone, Copy, Debug, PartialEq, Eq)]
-pub(crate) enum Slot {
+pub(crate) enum ParentSlot {
     First,
     Second,
 }
@@ -17,14 +17,14 @@ pub(crate) enum Slot {
 /// them the one before. 0 is none, since event 0 has no parents.
 #[derive(Drop)]
 pub(crate) struct Children {
-    pub(crate) slot: Slot,
+    pub(crate) slot: ParentSlot,
     pub(crate) last: Vec<u32>,
     pub(crate) before: Vec<u32>,
 }
 
 impl Children {
     /// No children yet of so many events.
-    pub(crate) fn none(alloc: Global, slot: Slot, events: usize) -> Result<Self, NoMemory>
+    pub(crate) fn none(alloc: Global, slot: ParentSlot, events: usize) -> Result<Self, NoMemory>
         ensures slot { IfOk result (λ it. it.slot ≡ slot) }
         ensures last { IfOk result (λ it. it.last.items ≡ replicate events 0) }
         ensures before { IfOk result (λ it. it.before.items ≡ []) }
@@ -50,12 +50,12 @@ impl Children {
 }
 
 /// The event's parent in this slot.
-pub(crate) fn parent(event: &Event, slot: Slot) -> Option<Parent>
+pub(crate) fn parent(event: &Event, slot: ParentSlot) -> Option<Parent>
     ensures { result ≡ parent_in slot event.now }
 {
     match slot {
-        Slot::First => event.first,
-        Slot::Second => event.second,
+        ParentSlot::First => event.first,
+        ParentSlot::Second => event.second,
     }
 }
 

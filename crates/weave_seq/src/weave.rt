@@ -7,7 +7,7 @@ ghost use Rattle.weave_seq.specs.Chains.{AreChains, parents_in};
 ghost use Rattle.weave_seq.specs.Known.{known_to_all};
 
 use crate::begin::{Beginning, begin};
-use crate::children::{Children, Slot};
+use crate::children::{Children, ParentSlot};
 use crate::state::State;
 use crate::tell::tell_children;
 use component::{Component, Comps};
@@ -52,8 +52,8 @@ fn fire_all<C: Component>(
     requires small { AreSmallSteps C.stepped C.greatest events.now comps.old }
     requires first { AreChains (parents_in first.now.slot events.now) first.now.last.items first.now.before.items (length events.now) }
     requires second { AreChains (parents_in second.now.slot events.now) second.now.last.items second.now.before.items (length events.now) }
-    requires first_slot { first.now.slot ≡ Slot.First }
-    requires second_slot { second.now.slot ≡ Slot.Second }
+    requires first_slot { first.now.slot ≡ ParentSlot.First }
+    requires second_slot { second.now.slot ≡ ParentSlot.Second }
     requires unfired { state.old ≡ known_to_all (finish_in []) events.now }
     ensures times { state.new.times ≡ map fired_of (woven C.stepped events.now comps.old) }
     ensures comps { comps.new ≡ comps_after C.stepped events.now comps.old }

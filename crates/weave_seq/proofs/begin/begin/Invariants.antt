@@ -1,7 +1,7 @@
 -- The events so far are linked, and what waits for no parent is ready.
 use Rattle.std.proofs.Common.{◌≡◌, ◌≤◌, [], length, map, take}
 use Rattle.event_graph.specs.OneListWeave.{finish_in}
-use Rattle.weave_seq.specs.declared.children.Slot.TheVariants.{First, Second}
+use Rattle.weave_seq.specs.declared.children.ParentSlot.TheVariants.{First, Second}
 use Rattle.weave_seq.specs.Chains.{AreChains, parents_in}
 use Rattle.weave_seq.specs.Known.{known_time, known_waits}
 use Rattle.weave_seq.specs.SoFar.{AreSameKeys, ready_keys}

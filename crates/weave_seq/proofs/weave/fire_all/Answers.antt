@@ -5,7 +5,7 @@ use Rattle.std.proofs.lemmas.List.{get_or-set_same, length-map}
 use Rattle.event_graph.specs.declared.event.Event.{Event}
 use Rattle.event_graph.specs.Firing.{time_so_far}
 use Rattle.event_graph.specs.OneListWeave.{after, finish_in}
-use Rattle.weave_seq.specs.declared.children.Slot.TheVariants.{First, Second}
+use Rattle.weave_seq.specs.declared.children.ParentSlot.TheVariants.{First, Second}
 use Rattle.weave_seq.specs.Known.{finish_at, known_to_all, known_waits, told_to, without}
 use Rattle.weave_seq.specs.SoFar.{SoFar}
 use Rattle.weave_seq.proofs.Round.{after_it, bounded, component_within, comps_next, finish_here, is_small, known_next, no_event, one_is_ready, serves_it, size, unfired, untold, within}
