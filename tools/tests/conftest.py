@@ -1,0 +1,122 @@
+"""What the tests share: the repository, zsim or what stands in for it, and a sweep of 12 runs."""
+
+import os
+import signal
+import sys
+from dataclasses import dataclass
+from pathlib import Path
+
+import pytest
+
+HERE = Path(__file__).resolve().parent
+REPOSITORY = HERE.parents[1]
+BUILT = REPOSITORY / "crates/zsim_main/out/zsim_main"
+
+sys.path.insert(0, str(HERE.parent))
+
+from zsim_tools.command import main  # noqa: E402  (the package stands in this checkout)
+
+SWEEP = """\
+machine = "machine.toml"
+executables = ["a.elf", "long.elf"]
+
+[axes]
+l1.sets = [2, 4]
+l1.ways = [1, 2, 4]
+"""
+
+# A report of two cores. What follows from it was worked out by hand, in test_reports.py.
+WORKED = """\
+zsim report 1
+cores 2
+intervals 1
+instructions 3000
+cycles 4000
+accesses 1300
+events 160
+core 0 instructions 1000 cycles 4000 delay 400 loads 500 stores 100 atomics 0 hits 580 upgrades 5 l2hits 10 misses 5 halt exit 0
+core 0 console 3 "a\\x0a\\x22"
+core 1 instructions 2000 cycles 3000 delay 100 loads 600 stores 50 atomics 50 hits 650 upgrades 10 l2hits 20 misses 20 halt exit 1
+core 1 console 0 ""
+bank 0 events 100 waited 50 free 4100
+bank 1 events 20 waited 0 free 3000
+controller 0 events 40 waited 80 free 3900
+"""
+
+
+@pytest.fixture(scope="session")
+def repository():
+    return REPOSITORY
+
+
+@pytest.fixture(scope="session")
+def built_zsim():
+    """The program of this checkout, or the one that the variable ZSIM names. It is not built for a test."""
+    program = Path(os.environ.get("ZSIM", BUILT))
+    if not os.access(program, os.X_OK):
+        pytest.skip(f"zsim is not built ({program})")
+    return str(program)
+
+
+@pytest.fixture(scope="session")
+def fake_zsim(tmp_path_factory):
+    """A small program that stands in for zsim."""
+    program = tmp_path_factory.mktemp("fake") / "zsim"
+    program.write_text(f'#!/bin/sh\nexec "{sys.executable}" -I -S "{HERE}/fake_zsim.py" "$@"\n')
+    program.chmod(0o755)
+    return str(program)
+
+
+@dataclass(frozen=True)
+class Ended:
+    """How a call of zsim-tools ended."""
+
+    returncode: int
+    stdout: str
+    stderr: str
+
+
+@pytest.fixture
+def command(fake_zsim, tmp_path, monkeypatch, capsys):
+    """Runs zsim-tools in a folder of its own, over what stands in for zsim, and returns how that ended.
+
+    It does so in this process, since a new one would load all libraries again.
+    """
+    monkeypatch.chdir(tmp_path)
+    monkeypatch.setenv("ZSIM", fake_zsim)
+    handler = signal.getsignal(signal.SIGTERM)
+
+    def run(*words, **variables):
+        for name, value in variables.items():
+            monkeypatch.setenv(name, str(value))
+        capsys.readouterr()
+        try:
+            status = main([str(word) for word in words])
+        except SystemExit as ended:
+            status = ended.code
+        return Ended(status, *capsys.readouterr())
+
+    yield run
+    signal.signal(signal.SIGTERM, handler)
+
+
+def environment(zsim, **variables):
+    return {**os.environ, "PYTHONPATH": str(HERE.parent), "ZSIM": zsim, **{name: str(v) for name, v in variables.items()}}
+
+
+@pytest.fixture
+def twelve(tmp_path, repository):
+    """A folder with a sweep of 12 runs for what stands in for zsim: two executables, two sets, three ways."""
+    (tmp_path / "sweep.toml").write_text(SWEEP)
+    (tmp_path / "machine.toml").write_bytes((repository / "tools/zsim_tools/plain.toml").read_bytes())
+    (tmp_path / "a.elf").write_text("a program")
+    (tmp_path / "long.elf").write_text("a program that is longer")
+    return tmp_path
+
+
+@pytest.fixture
+def worked(tmp_path):
+    """The file of a report that was worked out by hand."""
+    path = tmp_path / "worked.txt"
+    path.write_text(WORKED)
+    return path

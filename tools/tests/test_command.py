@@ -1,0 +1,172 @@
+"""The command line: help, tables in the terminal, comparisons, and what happens to an output that fails."""
+
+import csv
+import io
+import json
+import os
+import re
+import subprocess
+import sys
+
+import pytest
+from conftest import WORKED, environment
+
+import zsim_tools
+
+COMMANDS = ("show", "diff", "sweep", "plot")
+
+
+def test_help(command):
+    text = command("--help").stdout
+    for name in COMMANDS:
+        assert f"zsim-tools {name}" in text
+        ended = command(name, "--help")
+        assert ended.returncode == 0 and ended.stderr == ""
+        assert "Status: 0 done" in ended.stdout and f"usage: zsim-tools {name}" in ended.stdout
+        assert max(map(len, ended.stdout.splitlines())) <= 112
+
+
+@pytest.mark.parametrize("words, told", [
+    ([], "the following arguments are required: COMMAND (see zsim-tools --help)"),
+    (["shew"], "argument COMMAND: invalid choice: 'shew' (choose from 'show', 'diff', 'sweep', 'plot') (see zsim-tools --help)"),
+    (["show"], "the following arguments are required: REPORT (see zsim-tools show --help)"),
+    (["show", "a", "--colour"], "unrecognized arguments: --colour (see zsim-tools --help)"),
+    (["show", "a", "--json", "--csv"], "argument --csv: not allowed with argument --json (see zsim-tools show --help)"),
+    (["diff", "a"], "the following arguments are required: B (see zsim-tools diff --help)"),
+    (["sweep", "a.toml"], "the following arguments are required: --out (see zsim-tools sweep --help)"),
+    (["sweep", "a.toml", "--out", "a.csv", "--jobs", "0"],
+     "argument --jobs: 0 is no whole number of at least 1 (see zsim-tools sweep --help)"),
+    (["sweep", "a.toml", "--out", "a.csv", "--jobs", "2", "--scheduler", "a"],
+     "argument --scheduler: not allowed with argument --jobs (see zsim-tools sweep --help)"),
+])
+def test_words_that_are_no_command(command, words, told):
+    ended = command(*words)
+    assert (ended.returncode, ended.stdout, ended.stderr) == (2, "", f"zsim-tools: usage: {told}\n")
+
+
+def test_show(command, worked):
+    ended = command("show", "worked.txt")
+    assert (ended.returncode, ended.stderr) == (0, "")
+    lines = [line.split() for line in ended.stdout.splitlines()]
+    assert lines[0] == ["worked.txt"]
+    for line in (
+        "cpi 2.333", "waiting 7.14 %", "cycles_spread 28.57 %", "0 1000 4000 400 500 100 0 exit 0",
+        "1 2000 3000 100 600 50 50 exit 1", "mean 1500 3500 250 550 75 25", "1 1.5 3.33 % 325 5 10 20 10",
+        "least 580 5 10 5", "0 100 50 4100 0.5", "0 40 80 3900 2",
+    ):
+        assert line.split() in lines, line
+
+
+def test_show_of_one_core_and_a_machine(command, repository):
+    ended = command("show", repository / "crates/zsim_main/stdout", "--machine", "plain")
+    assert "spread" not in ended.stdout and "least" not in ended.stdout
+    assert ["bank", "events", "waited", "free", "wait", "busy"] in [line.split() for line in ended.stdout.splitlines()]
+
+
+def test_show_of_a_brief_report(command, tmp_path):
+    (tmp_path / "brief.txt").write_text("".join(WORKED.splitlines(keepends=True)[:7]))
+    ended = command("show", "brief.txt")
+    assert [line.split() for line in ended.stdout.splitlines()][3:] == [
+        ["cores", "2"], ["intervals", "1"], ["instructions", "3000"], ["cycles", "4000"], ["accesses", "1300"], ["events", "160"]]
+
+
+def test_show_as_json_and_csv_have_the_same_numbers(command, worked, repository):
+    names = ("worked.txt", str(repository / "crates/zsim_main/stdout"))
+    listed = json.loads(command("show", *names, "--json").stdout)
+    rows = list(csv.DictReader(io.StringIO(command("show", *names, "--csv").stdout)))
+    assert [report["report"] for report in listed] == list(names)
+    first = listed[0]
+    assert (first["run"]["cycles"], first["cores"][1]["misses"], first["banks"][0]["free"]) == (4000, 20, 4100)
+    assert (first["cores"][0]["halt"], first["cores"][0]["console"]) == ("exit 0", 'a\n"')
+    assert listed[1]["run"]["bank_wait"] is None
+    told = {(row["report"], row["part"], row["number"], row["name"]): row["value"] for row in rows}
+    for report in listed:
+        parts = [("run", "", report["run"])]
+        parts += [(kind[:-1], str(n), part) for kind in ("cores", "banks", "controllers") for n, part in enumerate(report[kind])]
+        for kind, number, part in parts:
+            for name, value in part.items():
+                if name != "console":
+                    text = told[report["report"], kind, number, name]
+                    assert text == ("" if value is None else str(value))
+
+
+CHANGED = (
+    WORKED.replace("cycles 4000", "cycles 4400").replace("delay 400", "delay 800").replace("waited 50", "waited 450")
+    .replace("halt exit 1", "halt break")
+)
+
+
+def test_diff(command, worked, tmp_path):
+    (tmp_path / "changed.txt").write_text(CHANGED)
+    ended = command("diff", "worked.txt", "changed.txt")
+    lines = [line.split() for line in ended.stdout.splitlines()]
+    assert lines[4] == "core 1 halt exit 1 break - - text".split()
+    # 400 cycles more, of 7400 of both cores.
+    assert "run cycles 4000 4400 +400 +10.00 % 0.0541".split() in lines
+    assert "bank 0 waited 50 450 +400 +800.00 % 0.0541".split() in lines
+    weights = [float(line[-1]) for line in lines[5:-1]]
+    assert weights == sorted(weights, reverse=True)
+    assert lines[-1][:3] == ["15", "numbers", "changed,"]
+    top = command("diff", "worked.txt", "changed.txt", "--top", 2).stdout.splitlines()
+    assert len(top) == 7 and top[-1].startswith("15 numbers changed; 13 lighter ones are not shown, ")
+    frame = zsim_tools.diff(zsim_tools.read_report(worked), zsim_tools.read_report(tmp_path / "changed.txt"))
+    # The heaviest number is the spread of the cycles: from 4000 and 3000 to 4400 and 3000.
+    assert len(frame) == 15 and list(frame["name"])[:2] == ["halt", "cycles_spread"]
+    assert frame["weight"].iloc[1] == pytest.approx(1400 / 3700 - 1000 / 3500)
+    assert len(json.loads(command("diff", "worked.txt", "changed.txt", "--json").stdout)) == 15
+    assert command("diff", "worked.txt", "changed.txt", "--csv").stdout.count("\n") == 16
+
+
+def test_nothing_changed(command, worked):
+    assert re.fullmatch("0 numbers changed, [0-9]+ are the same\n", command("diff", "worked.txt", "worked.txt").stdout)
+
+
+def test_diff_of_machines_with_other_parts(command, worked, repository):
+    ended = command("diff", "worked.txt", repository / "crates/zsim_main/stdout", "--json")
+    changes = {(change["part"], change["name"]): change for change in json.loads(ended.stdout)}
+    assert changes["core 1", "misses"]["b"] is None and changes["run", "cores"]["change"] == -1
+
+
+def call(words, **options):
+    """Runs zsim-tools in a process of its own."""
+    return subprocess.run([sys.executable, "-m", "zsim_tools", *map(str, words)], env=environment("zsim"), check=False,
+                          stderr=subprocess.PIPE, text=True, **options)
+
+
+def test_an_output_that_is_full(worked):
+    with open("/dev/full", "w") as full:
+        ended = call(["show", worked], stdout=full)
+    assert (ended.returncode, ended.stderr) == (2, "zsim-tools: cannot write: standard output: No space left on device\n")
+
+
+def test_a_reader_that_is_gone(worked):
+    reader, writer = os.pipe()
+    os.close(reader)
+    with open(writer, "w") as gone:
+        assert call(["show", worked], stdout=gone).stderr == ""
+
+
+def test_standard_input(worked):
+    with open(worked) as report:
+        ended = call(["show", "-"], stdin=report, stdout=subprocess.PIPE)
+    assert ended.returncode == 0 and ended.stdout.startswith("standard input\n")
+
+
+def test_the_script_runs_from_anywhere(worked, repository):
+    words = [repository / "tools/zsim-tools", "show", "worked.txt"]
+    variables = {**os.environ, "ZSIM_PYTHON": sys.executable}
+    ended = subprocess.run(words, cwd=worked.parent, env=variables, capture_output=True, text=True, check=False)
+    assert (ended.returncode, ended.stdout.splitlines()[0]) == (0, "worked.txt")
+
+
+def test_missing_packages_are_named(repository):
+    words = [repository / "tools/find-python", "pandas", "no_such_package", "nor_this"]
+    variables = {**os.environ, "ZSIM_PYTHON": sys.executable}
+    ended = subprocess.run(words, env=variables, capture_output=True, text=True, check=False)
+    assert (ended.returncode, ended.stdout) == (1, "")
+    assert f"{sys.executable} has no no_such_package nor_this" in ended.stderr
+
+
+def test_the_library_loads_little_at_first():
+    code = "import sys, zsim_tools; zsim_tools.run; assert not {'pandas', 'matplotlib', 'distributed'} & set(sys.modules)"
+    assert subprocess.run([sys.executable, "-c", code], env=environment("zsim"), check=False).returncode == 0

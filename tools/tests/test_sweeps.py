@@ -1,0 +1,306 @@
+"""Sweeps: over a small program that stands in for zsim, and over zsim itself where it is built."""
+
+import os
+import re
+import signal
+import subprocess
+import sys
+import time
+
+import pytest
+from conftest import environment
+
+import zsim_tools
+
+
+def text_of(path):
+    return path.read_text() if path.exists() else ""
+
+
+def wait_for(condition, seconds=60):
+    end = time.monotonic() + seconds
+    while not condition():
+        assert time.monotonic() < end, "it did not come to that in time"
+        time.sleep(0.01)
+
+
+def table_of(folder):
+    return zsim_tools.read_table(folder / "table.csv")
+
+
+def test_a_sweep_has_a_row_for_each_run(command, twelve):
+    ended = command("sweep", "sweep.toml", "--out", "table.csv", "--jobs", 3)
+    assert (ended.returncode, ended.stdout) == (0, "")
+    assert ended.stderr == "zsim-tools: table.csv: 12 runs\n"
+    table = table_of(twelve)
+    assert list(table.columns[:6]) == ["l1.sets", "l1.ways", "executable", "status", "line", "halt"]
+    # The executables in their order, and the last axis the fastest.
+    assert list(table["executable"]) == ["a.elf"] * 6 + ["long.elf"] * 6
+    assert list(zip(table["l1.sets"], table["l1.ways"]))[:6] == [(2, 1), (2, 2), (2, 4), (4, 1), (4, 2), (4, 4)]
+    assert list(table["status"]) == [0] * 12 and set(table["halt"]) == {"exit 0"}
+    # What stands in for zsim has 1000 accesses for each byte of the executable, and a miss for each so many lines.
+    assert list(table["misses"])[:3] == [4500, 2250, 1125] and table["core0_misses"].equals(table["misses"])
+    assert table["l2_mpki"].iloc[0] == pytest.approx(50)
+    assert table["machine_sha256"].nunique() == 6 and table["executable_sha256"].nunique() == 2
+    assert sorted(path.name for path in twelve.iterdir()) == [
+        "a.elf", "long.elf", "machine.toml", "sweep.toml", "table.csv", "table.csv.runs"]
+
+
+def test_a_run_that_is_done_is_not_run_again(command, twelve):
+    log = twelve / "log"
+    command("sweep", "sweep.toml", "--out", "table.csv", FAKE_LOG=log)
+    first = text_of(twelve / "table.csv")
+    again = command("sweep", "sweep.toml", "--out", "table.csv", FAKE_LOG=log)
+    assert again.stderr == "zsim-tools: table.csv: 0 runs, 12 were done before\n"
+    assert text_of(log).count("\n") == 12 and text_of(twelve / "table.csv") == first
+    # A further value runs what is new, and a changed executable what it takes part in.
+    (twelve / "sweep.toml").write_text(text_of(twelve / "sweep.toml").replace("[1, 2, 4]", "[1, 2, 4, 8]"))
+    command("sweep", "sweep.toml", "--out", "table.csv", FAKE_LOG=log)
+    assert text_of(log).count("\n") == 12 + 4 and len(table_of(twelve)) == 16
+    (twelve / "a.elf").write_text("another program")
+    command("sweep", "sweep.toml", "--out", "table.csv", FAKE_LOG=log)
+    assert text_of(log).count("\n") == 16 + 8 and len(table_of(twelve)) == 16
+
+
+@pytest.mark.parametrize("by", [signal.SIGINT, signal.SIGTERM, signal.SIGKILL])
+def test_a_sweep_that_was_stopped_goes_on(command, fake_zsim, twelve, by):
+    log, hold = twelve / "log", twelve / "hold"
+    hold.touch()
+    words = [sys.executable, "-m", "zsim_tools", "sweep", "sweep.toml", "--out", "table.csv", "--jobs", "1"]
+    variables = environment(fake_zsim, FAKE_LOG=log, FAKE_HOLD=hold)
+    with subprocess.Popen(words, cwd=twelve, env=variables, stderr=subprocess.PIPE, text=True) as process:
+        # Five runs are done and kept, and the sixth has begun.
+        wait_for(lambda: text_of(log).count("\n") == 6 and text_of(twelve / "table.csv.runs").count("\n") == 6)
+        process.send_signal(by)
+        _, said = process.communicate(timeout=60)
+    hold.unlink()
+    if by == signal.SIGKILL:
+        assert process.returncode == -signal.SIGKILL and not (twelve / "table.csv").exists()
+    else:
+        assert process.returncode == (130 if by == signal.SIGINT else 143)
+        assert "table.csv: 5 runs; 7 are left, and the next call goes on there" in said
+        assert len(table_of(twelve)) == 5
+    ended = command("sweep", "sweep.toml", "--out", "table.csv", FAKE_LOG=log)
+    assert (ended.returncode, ended.stderr) == (0, "zsim-tools: table.csv: 7 runs, 5 were done before\n")
+    # (the sixth was begun twice)
+    assert text_of(log).count("\n") == 13 and list(table_of(twelve)["status"]) == [0] * 12
+
+
+def test_what_a_kill_left_of_a_line_is_dropped(command, twelve):
+    command("sweep", "sweep.toml", "--out", "table.csv")
+    runs = twelve / "table.csv.runs"
+    runs.write_bytes(runs.read_bytes()[:-20])
+    ended = command("sweep", "sweep.toml", "--out", "table.csv")
+    assert ended.stderr == "zsim-tools: table.csv: 1 run, 11 were done before\n"
+    assert command("sweep", "sweep.toml", "--out", "table.csv").stderr.endswith("0 runs, 12 were done before\n")
+
+
+def test_refusals_are_rows_and_stop_nothing(command, twelve):
+    (twelve / "sweep.toml").write_text(text_of(twelve / "sweep.toml").replace("[1, 2, 4]", "[1, 0, 4]"))
+    (twelve / "long.elf").write_text("endless")
+    ended = command("sweep", "sweep.toml", "--out", "table.csv")
+    assert ended.returncode == 3
+    told = ended.stderr.splitlines()
+    assert "zsim-tools: a.elf l1.sets=2 l1.ways=0: status 6: zsim: machine 4 l1.ways 0" in told
+    assert "zsim-tools: long.elf l1.sets=4 l1.ways=4: status 3: zsim: stopped at the limit" in told
+    assert told[-1] == "zsim-tools: table.csv: 12 runs; 8 did not end by their program's exit"
+    table = table_of(twelve)
+    refused = table[table["l1.ways"] == 0]
+    assert len(table) == 12 and len(refused) == 4
+    assert set(refused["status"]) == {6} and set(refused["line"]) == {"zsim: machine 4 l1.ways 0"}
+    assert refused["cycles"].isna().all()
+    # A run that reached a limit has a report.
+    limited = table[table["status"] == 3]
+    assert len(limited) == 4 and limited["cycles"].notna().all()
+    # The same inputs are refused again, so they are not tried again.
+    again = command("sweep", "sweep.toml", "--out", "table.csv")
+    assert again.returncode == 3 and "0 runs, 12 were done before; 8 did not end" in again.stderr
+
+
+def test_what_failed_for_another_cause_is_tried_again(command, twelve):
+    (twelve / "a.elf").write_text("gone")
+    (twelve / "long.elf").write_text("nonsense")
+    ended = command("sweep", "sweep.toml", "--out", "table.csv")
+    assert ended.returncode == 3 and "a.elf l1.sets=2 l1.ways=1: status 4: zsim: cannot read" in ended.stderr
+    table = table_of(twelve)
+    assert list(table["status"]) == [4] * 6 + [0] * 6
+    assert set(table["line"][6:]) == {
+        'its output: line 1: no report: it begins with "Segmentation fault", not with "zsim report 1"'}
+    assert "table.csv: 12 runs;" in command("sweep", "sweep.toml", "--out", "table.csv").stderr
+
+
+def test_a_fault_of_the_program_is_told(command, twelve):
+    (twelve / "a.elf").write_text("break")
+    ended = command("sweep", "sweep.toml", "--out", "table.csv")
+    assert ended.returncode == 3 and "a.elf l1.sets=2 l1.ways=1: core 0 halted: break" in ended.stderr
+    assert list(table_of(twelve)["halt"]) == ["break"] * 6 + ["exit 0"] * 6
+
+
+def test_keys_that_are_tied_vary_together(command, twelve):
+    (twelve / "sweep.toml").write_text("""\
+machine = "plain"
+executables = ["gen:5"]
+axes.controllers.occupancy = [1, 8]
+[[tied]]
+l2.banks = [1, 2]
+domains.banks = [[0], [0, 0]]
+""")
+    assert command("sweep", "sweep.toml", "--out", "table.csv").returncode == 0
+    table = table_of(twelve)
+    assert list(zip(table["controllers.occupancy"], table["l2.banks"], table["domains.banks"])) == [
+        (1, 1, "[0]"), (1, 2, "[0, 0]"), (8, 1, "[0]"), (8, 2, "[0, 0]")]
+    assert table["bank1_events"].isna().tolist() == [True, False, True, False]
+
+
+def test_the_machine_keeps_its_comments():
+    text = "# top\nversion = 1 # one\n[l1]\nways =  8  # lines\nsets = 0x40\n[d]\nbanks = [0, # zero\n 1]\n"
+    machine = zsim_tools.Machine("m", text, {"version": 1, "l1.ways": 8, "l1.sets": 64, "d.banks": [0, 1]})
+    changed = machine.changed({"l1.ways": 4, "d.banks": [1]})
+    assert changed.text == text.replace("8  #", "4  #").replace("[0, # zero\n 1]", "[1]")
+    assert (changed.number("l1.ways"), changed.values["d.banks"], machine.text) == (4, [1], text)
+    # The one that it was made of stays as it was.
+    assert machine.changed({"version": 2}).text == text.replace("version = 1", "version = 2")
+    assert changed.changed({"l1.sets": 2}).text == changed.text.replace("0x40", "2")
+
+
+BAD_SWEEPS = [
+    ("l1.ways = [1, 2, 4]", "l1.waays = [1]", "sweep.toml: axes: l1.waays is no key of machine.toml"),
+    ("l1.ways = [1, 2, 4]", "ways = [1]", "sweep.toml: axes: ways is no key of machine.toml"),
+    ("l1.sets = [2, 4]\nl1.ways = [1, 2, 4]", "l1 = [1]",
+     "sweep.toml: axes: l1 is a table, and not a key with a value, of machine.toml"),
+    ("[1, 2, 4]", '[1, "two"]', "sweep.toml: axes: l1.ways has the string 'two', and in machine.toml it is of kind integer"),
+    ("[1, 2, 4]", "[1, 2.0]", "sweep.toml: axes: l1.ways has the float 2.0, and in machine.toml it is of kind integer"),
+    ("[1, 2, 4]", "[true]", "sweep.toml: axes: l1.ways has the boolean True, and in machine.toml it is of kind integer"),
+    ("[1, 2, 4]", "[[1]]",
+     "sweep.toml: axes: l1.ways has the array of integers [1], and in machine.toml it is of kind integer"),
+    ("[1, 2, 4]", "1", "sweep.toml: axes.l1.ways: has to be a list of values, with at least one"),
+    ("[1, 2, 4]", "[]", "sweep.toml: axes.l1.ways: has to be a list of values, with at least one"),
+    ("[1, 2, 4]", "[1, 2, 1]", "sweep.toml: axes: l1.ways: 1 stands twice"),
+    ("[1, 2, 4]", "[1, 2,", "sweep.toml: line 6: no TOML: "),
+    ("[axes]", "[axis]", "sweep.toml: axis: no key of a sweep; those are machine, executables, axes, tied"),
+    ("[axes]", "[[axes]]", "sweep.toml: axes: is of kind array of tables, and has to be of kind table"),
+    ('"machine.toml"', "3", "sweep.toml: machine: is of kind integer, and has to be of kind string"),
+    ('"machine.toml"', '"nothing.toml"', "sweep.toml: machine: cannot read: nothing.toml: No such file or directory"),
+    ('machine = "machine.toml"\n', "", "sweep.toml: machine: is missing"),
+    ('["a.elf", "long.elf"]', "[]", "sweep.toml: executables: is missing"),
+    ('"long.elf"', '"a.elf"', "sweep.toml: executables: one stands twice"),
+    ('"long.elf"', '"gen:x"', "sweep.toml: executables: gen:x: behind gen: stands a number"),
+    ('"long.elf"', '"gone.elf"', "sweep.toml: executables: cannot read: gone.elf: No such file or directory"),
+    ("[axes]", "[[tied]]", "sweep.toml: tied[0]: keys that are tied have as many values each: l1.sets has 2 and l1.ways has 3"),
+    ("[axes]", "[[tied]]\nl1.sets = [1]\n[axes]", "sweep.toml: l1.sets: stands in two axes"),
+]
+
+
+@pytest.mark.parametrize("old, new, told", BAD_SWEEPS, ids=[told.partition(": ")[2] for _, _, told in BAD_SWEEPS])
+def test_a_bad_sweep_is_refused_before_anything_runs(command, twelve, old, new, told):
+    text = text_of(twelve / "sweep.toml")
+    assert text.count(old) == 1
+    (twelve / "sweep.toml").write_text(text.replace(old, new))
+    ended = command("sweep", "sweep.toml", "--out", "table.csv", FAKE_LOG=twelve / "log")
+    assert ended.returncode == 2 and ended.stderr.startswith(f"zsim-tools: {told}")
+    assert ended.stderr.count("\n") == 1
+    assert not list(twelve.glob("table*")) and not (twelve / "log").exists()
+
+
+def test_a_bad_machine_is_named_with_its_line(command, twelve):
+    (twelve / "machine.toml").write_text("version = 1\ncores = \n")
+    ended = command("sweep", "sweep.toml", "--out", "table.csv")
+    assert ended.returncode == 2 and ended.stderr.startswith("zsim-tools: machine.toml: line 2: no TOML: ")
+
+
+@pytest.mark.parametrize("out, told", [
+    ("table.txt", "cannot write: table.txt: the name of a table ends with .csv or .parquet"),
+    ("nowhere/table.csv", "cannot write: nowhere/table.csv: nowhere is no folder"),
+    ("folder.csv", "cannot write: folder.csv: it is no regular file"),
+    ("other.csv", "other.csv.runs: line 1: this is no file of a sweep's runs"),
+    ("torn.csv", "torn.csv.runs: line 2: this is no run of a sweep"),
+])
+def test_an_output_that_cannot_be_written(command, twelve, out, told):
+    (twelve / "folder.csv").mkdir()
+    (twelve / "other.csv.runs").write_text("my own file\n")
+    (twelve / "torn.csv.runs").write_text('{"zsim-tools runs": 1}\n{"key": 1}\n')
+    ended = command("sweep", "sweep.toml", "--out", out, FAKE_LOG=twelve / "log")
+    assert (ended.returncode, ended.stderr) == (2, f"zsim-tools: {told}\n")
+    assert not (twelve / "log").exists() and text_of(twelve / "other.csv.runs") == "my own file\n"
+
+
+def test_parquet_needs_its_library(command, twelve):
+    try:
+        import pyarrow  # noqa: F401
+    except ImportError:
+        ended = command("sweep", "sweep.toml", "--out", "table.parquet")
+        assert ended.returncode == 2
+        assert ended.stderr == (
+            "zsim-tools: table.parquet: Parquet needs the Python package pyarrow; tables can also be .csv\n")
+    else:
+        assert command("sweep", "sweep.toml", "--out", "table.parquet").returncode == 0
+        command("sweep", "sweep.toml", "--out", "table.csv")
+        assert zsim_tools.read_table(twelve / "table.parquet").equals(table_of(twelve))
+
+
+@pytest.mark.parametrize("zsim, told", [
+    ("./nothing", "cannot run: ./nothing: No such file or directory"),
+    ("./sweep.toml", "cannot run: ./sweep.toml: it is no program that can be executed"),
+    ("./text", "cannot run: .*/text: Exec format error"),
+])
+def test_a_missing_program(command, twelve, zsim, told):
+    (twelve / "text").write_text("no program")
+    (twelve / "text").chmod(0o755)
+    ended = command("sweep", "sweep.toml", "--out", "table.csv", "--zsim", zsim)
+    assert ended.returncode == 2 and re.fullmatch(f"zsim-tools: {told}", ended.stderr.splitlines()[-1])
+    assert not (twelve / "table.csv").exists()
+
+
+def test_a_program_that_changes_ends_the_sweep(command, twelve, fake_zsim):
+    program = twelve / "zsim"
+    program.write_text(f'#!/bin/sh\necho "# changed" >>"$0"\nexec {fake_zsim} "$@"\n')
+    program.chmod(0o755)
+    ended = command("sweep", "sweep.toml", "--out", "table.csv", "--zsim", program)
+    assert ended.returncode == 2 and "it was changed during the sweep" in ended.stderr
+
+
+def test_one_sweep_at_a_time_has_a_table(command, twelve, fake_zsim):
+    from zsim_tools.store import Store
+
+    store = Store(twelve / "table.csv.runs")
+    ended = command("sweep", "sweep.toml", "--out", "table.csv")
+    store.close()
+    assert (ended.returncode, ended.stderr) == (
+        2, "zsim-tools: cannot write: table.csv.runs: another sweep is at work on it\n")
+
+
+def test_from_python(twelve, fake_zsim):
+    report = zsim_tools.run(twelve / "machine.toml", twelve / "a.elf", zsim=fake_zsim)
+    assert (report.status, list(report.cores["misses"]), len(report.banks)) == (0, [4500], 1)
+    assert report.derived["controller_busy"] > 0
+    machine = zsim_tools.read_machine("plain").changed({"l1.ways": 0})
+    with pytest.raises(zsim_tools.RunError) as refusal:
+        zsim_tools.run(machine, "gen:5", zsim=fake_zsim)
+    assert (refusal.value.status, refusal.value.line) == (6, "zsim: machine 4 l1.ways 0")
+    table = zsim_tools.sweep(twelve / "sweep.toml", twelve / "table.csv", zsim=fake_zsim, jobs=2)
+    read = table_of(twelve)
+    assert list(read.columns) == list(table.columns) and read["misses"].equals(table["misses"])
+    assert list(read["cpi"]) == list(table["cpi"])
+
+
+def test_zsim_itself(built_zsim, twelve, repository):
+    """Runs that end, a machine that is refused, an executable that is refused, and a limit, with the real program."""
+    (twelve / "sweep.toml").write_text(f"""\
+machine = "machine.toml"
+executables = ["{repository}/examples/load.elf", "gen:5", "a.elf"]
+[axes]
+l1.ways = [1, 2, 0]
+intervals = [1, 100000]
+""")
+    (twelve / "a.elf").write_bytes((repository / "examples/load.elf").read_bytes()[:100])
+    table = zsim_tools.sweep(twelve / "sweep.toml", twelve / "table.csv", zsim=built_zsim)
+    assert os.path.exists(twelve / "table.csv") and len(table) == 18
+    assert set(table[table["l1.ways"] == 0]["line"]) == {"zsim: machine 4 l1.ways 0"}
+    ran = table[table["l1.ways"] > 0]
+    load = ran[ran["executable"].str.endswith("load.elf")]
+    assert set(load["cycles"]) == {119} and set(load["halt"]) == {"exit 9"}
+    generated = ran[ran["executable"] == "gen:5"]
+    assert list(generated["status"]) == [3, 0, 3, 0] or list(generated["status"]) == [0, 0, 0, 0]
+    assert set(ran[ran["executable"] == "a.elf"]["status"]) == {7}
+    report = zsim_tools.run("plain", repository / "examples/load.elf", zsim=built_zsim)
+    assert report.summary["cycles"] == 119 and report.machine.number("l1.ways") == 1

@@ -1,0 +1,92 @@
+"""Numbers that follow from the counters of a report. `docs/tools.md` has the formulas.
+
+A quotient with a divisor of 0 is no number (NaN).
+"""
+
+from math import nan
+
+CORE_SUMS = ("instructions", "delay", "loads", "stores", "atomics", "hits", "upgrades", "l2hits", "misses")
+
+
+def quotient(part, whole):
+    return part / whole if whole else nan
+
+
+def of_core(core):
+    """Returns the derived numbers of a core's counters, or of the sums over all cores."""
+    thousands = core["instructions"] / 1000
+    return {
+        "cpi": quotient(core["cycles"], core["instructions"]),
+        "waiting": quotient(core["delay"], core["cycles"]),
+        "hits_pki": quotient(core["hits"], thousands),
+        "upgrades_pki": quotient(core["upgrades"], thousands),
+        "l2hits_pki": quotient(core["l2hits"], thousands),
+        "l1_mpki": quotient(core["l2hits"] + core["misses"], thousands),
+        "l2_mpki": quotient(core["misses"], thousands),
+    }
+
+
+def of_component(component, cycles, occupancy):
+    """Returns the derived numbers of a bank or a controller, in a run of so many cycles.
+
+    Without an occupancy there is no busy share. An event keeps its component busy for the occupancy, and no two
+    overlap; those of the last interval may end after the last core's clock, at the cycle `free`.
+    """
+    numbers = {"wait": quotient(component["waited"], component["events"])}
+    if occupancy is not None:
+        numbers["busy"] = quotient(component["events"] * occupancy, max(cycles, component["free"]))
+    return numbers
+
+
+def bank_occupancy(machine):
+    return machine.number("l2.occupancy") if machine else None
+
+
+def controller_occupancy(machine):
+    return machine.number("controllers.occupancy") if machine else None
+
+
+def totals(report):
+    """Returns the sums over the cores, the banks and the controllers, by name."""
+    sums = {name: sum(core.counters[name] for core in report.core_list) for name in CORE_SUMS}
+    for kind, components in (("bank", report.bank_list), ("controller", report.controller_list)):
+        for name in ("events", "waited"):
+            sums[f"{kind}_{name}"] = sum(component.counters[name] for component in components)
+    return sums
+
+
+def spread(values):
+    """Returns the difference between the greatest and the least, as a share of the mean."""
+    values = list(values)
+    if any(value != value for value in values):
+        return nan
+    mean = sum(values) / len(values)
+    return (max(values) - min(values)) / mean if mean else 0.0
+
+
+def of_run(report):
+    """Returns the derived numbers of a whole run: of the sums over its cores, the spreads, the means and maxima."""
+    if report.brief:
+        one = report.summary["cores"] == 1
+        return {"cpi": quotient(report.summary["cycles"], report.summary["instructions"])} if one else {}
+    cores = [core.counters for core in report.core_list]
+    numbers = of_core({**totals(report), "cycles": sum(core["cycles"] for core in cores)})
+    numbers["instructions_spread"] = spread(core["instructions"] for core in cores)
+    numbers["cycles_spread"] = spread(core["cycles"] for core in cores)
+    numbers["cpi_spread"] = spread(of_core(core)["cpi"] for core in cores)
+    numbers |= of_kind(report, "bank", report.bank_list, bank_occupancy(report.machine))
+    numbers |= of_kind(report, "controller", report.controller_list, controller_occupancy(report.machine))
+    return numbers
+
+
+def of_kind(report, kind, components, occupancy):
+    """Returns the derived numbers of all banks, or of all controllers."""
+    events = sum(component.counters["events"] for component in components)
+    waited = sum(component.counters["waited"] for component in components)
+    numbers = {f"{kind}_wait": quotient(waited, events)}
+    if occupancy is not None:
+        cycles = report.summary["cycles"]
+        busy = [of_component(component.counters, cycles, occupancy)["busy"] for component in components]
+        numbers[f"{kind}_busy"] = sum(busy) / len(busy)
+        numbers[f"{kind}_busiest"] = max(busy)
+    return numbers

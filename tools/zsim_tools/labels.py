@@ -1,0 +1,81 @@
+"""What the columns of tables are called in plots, with their units."""
+
+import re
+
+KEYS = {
+    "cores": "cores",
+    "interval": "length of an interval (cycles)",
+    "intervals": "limit of intervals",
+    "memory.base": "first address of memory",
+    "memory.size": "memory (bytes)",
+    "memory.stack": "stack of a core (bytes)",
+    "l1.sets": "sets of the L1",
+    "l1.ways": "ways of the L1 (lines in a set)",
+    "l1.latency": "time of an L1 hit (cycles)",
+    "l2.banks": "banks of the L2",
+    "l2.sets": "sets of the L2, in all banks",
+    "l2.ways": "ways of the L2 (lines in a set)",
+    "l2.latency": "time of an L2 look-up (cycles)",
+    "l2.remote": "time to change another core's copy (cycles)",
+    "l2.fill": "time of a fill of the L2 (cycles)",
+    "l2.occupancy": "occupancy of a bank (cycles per event)",
+    "controllers.count": "memory controllers",
+    "controllers.read": "time of a read of memory (cycles)",
+    "controllers.write": "time of a write to memory (cycles)",
+    "controllers.occupancy": "occupancy of a controller (cycles per event)",
+    "domains.count": "domains",
+}
+
+NUMBERS = {
+    "intervals_run": "intervals",
+    "instructions": "instructions",
+    "cycles": "cycles",
+    "accesses": "accesses",
+    "events": "events",
+    "delay": "delay (cycles)",
+    "loads": "loads",
+    "stores": "stores",
+    "atomics": "atomics",
+    "hits": "hits in the L1",
+    "upgrades": "upgrades",
+    "l2hits": "hits in the L2",
+    "misses": "misses in the L2",
+    "waited": "waiting of events (cycles)",
+    "free": "free from (cycle)",
+    "cpi": "cycles per instruction",
+    "waiting": "waiting (share of the cycles)",
+    "hits_pki": "hits in the L1 per 1000 instructions",
+    "upgrades_pki": "upgrades per 1000 instructions",
+    "l2hits_pki": "hits in the L2 per 1000 instructions",
+    "l1_mpki": "misses in the L1 per 1000 instructions",
+    "l2_mpki": "misses in the L2 per 1000 instructions",
+    "instructions_spread": "spread of the cores' instructions (share of the mean)",
+    "cycles_spread": "spread of the cores' cycles (share of the mean)",
+    "cpi_spread": "spread of the cores' CPI (share of the mean)",
+}
+
+COMPONENTS = {
+    "events": "events of the {kinds}",
+    "waited": "waiting for the {kinds} (cycles)",
+    "wait": "waiting for the {kinds} (cycles per event)",
+    "busy": "busy share of the {kinds}, in the mean",
+    "busiest": "busy share of the busiest {kind}",
+}
+
+KINDS = {"bank": "banks", "controller": "controllers"}
+
+
+def label_of(column):
+    """Returns the label of a column, with its unit. A column that is not known here is its own label."""
+    if column in KEYS:
+        return KEYS[column]
+    if column in NUMBERS:
+        return NUMBERS[column]
+    for kind, kinds in KINDS.items():
+        for name, text in COMPONENTS.items():
+            if column == f"{kind}_{name}":
+                return text.format(kind=kind, kinds=kinds)
+    part = re.fullmatch("(core|bank|controller)([0-9]+)_(.+)", column)
+    if part and part[3] in NUMBERS:
+        return f"{part[1]} {part[2]}: {NUMBERS[part[3]]}"
+    return column

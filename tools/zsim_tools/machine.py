@@ -1,0 +1,122 @@
+"""Machine descriptions: reads one, and makes others of it by giving keys other values.
+
+What a description means and which values are in range, zsim says when it runs it. Here a key is a name with dots, as
+`l1.ways`, and it has to stand in the description. All else of the text stays, the comments too.
+"""
+
+from dataclasses import dataclass
+from functools import cached_property
+from pathlib import Path
+
+import tomlkit
+from tomlkit.exceptions import ParseError, TOMLKitError
+
+from .errors import ToolError, one_line, reason
+
+PLAIN = Path(__file__).with_name("plain.toml")
+
+
+@dataclass(frozen=True)
+class Machine:
+    """A machine description: where it comes from, its text, and the value of each key."""
+
+    name: str
+    text: str
+    values: dict
+
+    @cached_property
+    def _document(self):
+        return tomlkit.parse(self.text)
+
+    def number(self, key):
+        """Returns the integer of a key, or None where there is none."""
+        value = self.values.get(key)
+        return value if kind_of(value) == "integer" else None
+
+    def check(self, key, value, where):
+        """Raises ToolError, which names `where`, if this is no key, or the value is of another kind than the key's."""
+        if key not in self.values:
+            is_table = any(known.startswith(f"{key}.") for known in self.values)
+            what = "is a table, and not a key with a value, of" if is_table else "is no key of"
+            raise ToolError(f"{where}: {key} {what} {self.name}")
+        wanted = kind_of(self.values[key])
+        if not is_kind(value, wanted):
+            given = f"{kind_of(value)} {value!a}"
+            raise ToolError(f"{where}: {key} has the {given}, and in {self.name} it is of kind {wanted}")
+
+    def changed(self, values):
+        """Returns this machine with other values of some keys, which are given as in `{"l1.ways": 4}`."""
+        for key, value in values.items():
+            self.check(key, value, "changed")
+        before = {key: set_item(self._document, key, value) for key, value in values.items()}
+        text = self._document.as_string()
+        for key, item in before.items():
+            set_item(self._document, key, item)
+        return Machine(self.name, text, {**self.values, **values})
+
+
+def set_item(document, key, value):
+    """Gives a key of a document another value, and returns the one before."""
+    *tables, last = key.split(".")
+    table = document
+    for name in tables:
+        table = table[name]
+    before = table[last]
+    table[last] = value
+    return before
+
+
+def kind_of(value):
+    """Returns the kind of a value of TOML, in the words of messages."""
+    if isinstance(value, bool):
+        return "boolean"
+    if isinstance(value, list):
+        kinds = sorted({kind_of(element) for element in value})
+        return f"array of {' and '.join(kinds)}s" if kinds else "empty array"
+    names = {int: "integer", float: "float", str: "string", dict: "table"}
+    return next((name for kind, name in names.items() if isinstance(value, kind)), type(value).__name__)
+
+
+def is_kind(value, kind):
+    """Whether a value is of a kind. An empty array is an array of anything."""
+    return kind_of(value) == kind or (value == [] and kind.startswith("array")) or (
+        isinstance(value, list) and kind == "empty array")
+
+
+def flat(table, before=""):
+    """Returns the values of a table and of its tables, by their names with dots."""
+    values = {}
+    for name, value in table.items():
+        if isinstance(value, dict):
+            values |= flat(value, f"{before}{name}.")
+        else:
+            values[before + name] = value
+    return values
+
+
+def parse_machine(text, name):
+    """Returns the Machine of a text. ToolError names the line where the text is no TOML."""
+    try:
+        return Machine(name, text, flat(tomlkit.parse(text).unwrap()))
+    except ParseError as error:
+        raise ToolError(f"{name}: line {error.line}: no TOML: {one_line(error)}") from None
+    except TOMLKitError as error:
+        raise ToolError(f"{name}: no TOML: {one_line(error)}") from None
+
+
+def read_machine(path):
+    """Reads a machine description. `plain` is the one that is built into zsim."""
+    if str(path) == "plain":
+        return parse_machine(PLAIN.read_text(encoding="utf-8"), "plain")
+    return parse_machine(read_text(path), str(path))
+
+
+def read_text(path):
+    """Reads a file in UTF-8, or raises ToolError."""
+    try:
+        return Path(path).read_bytes().decode("utf-8")
+    except OSError as error:
+        raise ToolError(f"cannot read: {path}: {reason(error)}") from None
+    except UnicodeDecodeError as error:
+        line = error.object[: error.start].count(b"\n") + 1
+        raise ToolError(f"{path}: line {line}: no UTF-8") from None

@@ -1,0 +1,73 @@
+"""Finds zsim, and runs it once."""
+
+import os
+import shutil
+import subprocess
+from pathlib import Path
+
+from .errors import RunError, ToolError, reason
+from .machine import Machine, read_machine
+from .report import parse_report
+from .task import run_machine, run_words
+
+# The statuses with a report: every core halted, or a limit was reached.
+RAN, LIMIT = 0, 3
+
+REPOSITORY = Path(__file__).resolve().parents[2]
+
+
+def find_zsim(given=None):
+    """Returns the file name of the program.
+
+    It is the one that is given; or that of the variable ZSIM; or, where this package stands in a checkout of zsim, the
+    checkout's, which is built first if it has to be; or the command `zsim`.
+    """
+    named = given or os.environ.get("ZSIM")
+    if named:
+        found = shutil.which(named)
+        if not found:
+            raise ToolError(f"cannot run: {named}: {why_not(named)}")
+        return os.path.abspath(found)
+    if (REPOSITORY / "zsim").is_file() and (REPOSITORY / "crates/zsim_main").is_dir():
+        return built_here()
+    found = shutil.which("zsim")
+    if not found:
+        raise ToolError("cannot run: zsim: there is no such command; name the program with --zsim")
+    return os.path.abspath(found)
+
+
+def why_not(name):
+    path = Path(name)
+    return "No such file or directory" if not path.exists() else "it is no program that can be executed"
+
+
+def built_here():
+    """Returns the program of this checkout. The script beside it builds it where it has to, and says so."""
+    script, program = REPOSITORY / "zsim", REPOSITORY / "crates/zsim_main/out/zsim_main"
+    words = [script, "run", "plain", REPOSITORY / "examples/seven.elf"]
+    built = subprocess.run(words, stdin=subprocess.DEVNULL, stdout=subprocess.DEVNULL, check=False)
+    if built.returncode != RAN or not program.is_file():
+        raise ToolError(f"cannot run: {script}: it could not be built (see above); name another with --zsim")
+    return str(program)
+
+
+def run(machine, exe, zsim=None):
+    """Runs an executable on a machine, and returns the Report.
+
+    `machine` is the name of a description, `plain`, or a Machine; `exe` is a file name or `gen:N`; `zsim` is the
+    program, where it is not to be looked for. RunError, with the status and the line of standard error, says that there
+    is no report. A run that reached a limit has one, with the status 3.
+    """
+    program = find_zsim(zsim)
+    try:
+        if isinstance(machine, Machine):
+            outcome = run_machine(program, machine.text, str(exe))
+        else:
+            outcome = run_words([program, "run", str(machine), str(exe)])
+    except OSError as error:
+        raise ToolError(f"cannot run: {program}: {reason(error)}") from None
+    if outcome.status not in (RAN, LIMIT):
+        raise RunError(outcome.status, outcome.line)
+    if not isinstance(machine, Machine):
+        machine = read_machine(machine)
+    return parse_report(outcome.output, f"the report of {exe}", machine, outcome.status)

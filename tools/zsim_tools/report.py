@@ -1,0 +1,262 @@
+"""Reads the reports of zsim: from the text to its counters, or to the first line that is wrong.
+
+The form is that of `docs/report.md`. A report of 64 cores has a few hundred lines, so all is kept as it is read, and the
+data frames are made where someone asks for them.
+"""
+
+import re
+import sys
+from dataclasses import dataclass
+from pathlib import Path
+
+from . import derived
+from .errors import ToolError, reason
+
+VERSION = "1"
+
+# What the counters of a core and of a component are called in the report, in its order.
+CORE_COUNTERS = (
+    "instructions", "cycles", "delay", "loads", "stores", "atomics", "hits", "upgrades", "l2hits", "misses",
+)
+COMPONENT_COUNTERS = ("events", "waited", "free")
+SUMMARY = ("cores", "intervals", "instructions", "cycles", "accesses", "events")
+
+NUMBER = "(0|[1-9][0-9]*)"
+HALT = "(exit [0-9]+|illegal [0-9a-f]{8}|(?:misaligned|atomic|fetch|access) [0-9a-f]{16}|break|running)"
+CORE_LINE = re.compile(" ".join([f"core {NUMBER}", *(f"{name} {NUMBER}" for name in CORE_COUNTERS), f"halt {HALT}"]))
+CONSOLE_LINE = re.compile(rf'core {NUMBER} console {NUMBER} "((?:[ !#-\[\]-~]|\\x[0-9a-f]{{2}})*)"')
+COMPONENT_LINE = re.compile(
+    " ".join([f"(bank|controller) {NUMBER}", *(f"{name} {NUMBER}" for name in COMPONENT_COUNTERS)])
+)
+
+# How much of a line a message shows.
+LONGEST = 40
+
+# The data frames have integers of 64 bits. No counter of a run comes near: clocks stay below 2^58.
+GREATEST = 2**63 - 1
+
+
+@dataclass(frozen=True)
+class Core:
+    """What the report says of a core: its counters by name, why it halted, and the bytes of its console."""
+
+    number: int
+    counters: dict
+    halt: str
+    console: bytes
+
+    @property
+    def exited(self):
+        """Whether the program ended by itself, with whatever number."""
+        return self.halt.startswith("exit ")
+
+
+@dataclass(frozen=True)
+class Component:
+    """What the report says of a bank or of a controller: its counters by name."""
+
+    number: int
+    counters: dict
+
+
+@dataclass(frozen=True)
+class Report:
+    """A report of zsim. `machine`, where it is known, is the Machine of the run: the busy shares need its occupancies.
+
+    `status` is that of the run, 0 or 3, where it was run by these tools. A brief report has the summary alone.
+    """
+
+    name: str
+    summary: dict
+    core_list: tuple = ()
+    bank_list: tuple = ()
+    controller_list: tuple = ()
+    machine: object = None
+    status: int | None = None
+
+    @property
+    def brief(self):
+        return not self.core_list
+
+    @property
+    def cores(self):
+        """A data frame with a row for each core: its counters, why it halted, its console, and derived numbers."""
+        rows = [
+            {**core.counters, "halt": core.halt, "console": core.console, **derived.of_core(core.counters)}
+            for core in self.core_list
+        ]
+        return frame("core", rows)
+
+    @property
+    def banks(self):
+        """A data frame with a row for each bank of the shared cache."""
+        return self._components("bank", self.bank_list, derived.bank_occupancy(self.machine))
+
+    @property
+    def controllers(self):
+        """A data frame with a row for each memory controller."""
+        return self._components("controller", self.controller_list, derived.controller_occupancy(self.machine))
+
+    @property
+    def derived(self):
+        """The derived numbers of the whole run, by name."""
+        return derived.of_run(self)
+
+    def _components(self, kind, components, occupancy):
+        cycles = self.summary["cycles"]
+        rows = [
+            {**component.counters, **derived.of_component(component.counters, cycles, occupancy)}
+            for component in components
+        ]
+        return frame(kind, rows)
+
+
+def frame(kind, rows):
+    """Returns a data frame of rows that are numbered from 0 on."""
+    import pandas  # (a sweep of many short runs makes none, and need not wait for it)
+
+    made = pandas.DataFrame(rows)
+    made.index.name = kind
+    return made
+
+
+class Lines:
+    """The lines of a report, one after the other, with the number of the next."""
+
+    def __init__(self, name, text):
+        self.name = name
+        self.lines = text.split("\n")
+        self.next = 0
+        # What stands behind the last newline is a line that was cut off, if it is anything.
+        self.rest = self.lines.pop()
+
+    @property
+    def at_end(self):
+        return self.next == len(self.lines) and not self.rest
+
+    def fail(self, what, number=None):
+        raise ToolError(f"{self.name}: line {number or self.next + 1}: {what}")
+
+    def take(self, pattern, what):
+        """Takes the next line, and returns the match."""
+        if self.next == len(self.lines):
+            if self.rest:
+                self.fail(f"the report is cut off in this line, where {what} belongs")
+            self.fail(f"the report is cut off before this line, where {what} belongs")
+        match = re.fullmatch(pattern, self.lines[self.next])
+        if not match:
+            self.fail(f"here belongs {what}, not {shown(self.lines[self.next])}")
+        self.next += 1
+        return match
+
+    def number(self, text):
+        """Returns a number of the line that was just taken."""
+        if int(text) > GREATEST:
+            self.fail(f"the number {text} is too large", self.next)
+        return int(text)
+
+
+def shown(line):
+    """Returns a line as a message has it: between quotes, and not too long."""
+    text = ascii(line[:LONGEST])[1:-1]
+    return f'"{text}..."' if len(line) > LONGEST else f'"{text}"'
+
+
+def parse_report(text, name="report", machine=None, status=None):
+    """Returns the Report of a text. ToolError names the line that is wrong."""
+    lines = Lines(name, text)
+    take_header(lines, text)
+    summary = {}
+    for word in SUMMARY:
+        match = lines.take(f"{word} {NUMBER}", f'"{word} N"')
+        summary[word] = lines.number(match[1])
+    if lines.at_end:
+        return Report(name, summary, machine=machine, status=status)
+    cores = tuple(take_core(lines, number) for number in range(summary["cores"]))
+    banks = take_components(lines, "bank")
+    controllers = take_components(lines, "controller")
+    if not lines.at_end:
+        rest = lines.lines[lines.next] if lines.next < len(lines.lines) else lines.rest
+        lines.fail(f"the report ends before this line, not with {shown(rest)}")
+    report = Report(name, summary, cores, banks, controllers, machine, status)
+    check_sums(lines, report)
+    check_machine(report)
+    return report
+
+
+def take_header(lines, text):
+    first = text.partition("\n")[0]
+    if not text:
+        lines.fail("no report: the file is empty")
+    if not first.startswith("zsim report "):
+        lines.fail(f'no report: it begins with {shown(first)}, not with "zsim report {VERSION}"')
+    if lines.lines and first != f"zsim report {VERSION}":
+        lines.fail(f"a report of version {shown(first.removeprefix('zsim report '))}; these tools read version {VERSION}")
+    lines.take(f"zsim report {VERSION}", f'"zsim report {VERSION}"')
+
+
+def take_core(lines, number):
+    match = lines.take(CORE_LINE, f"the line of core {number}")
+    numbers = [lines.number(text) for text in match.groups()[:-1]]
+    if numbers[0] != number:
+        lines.fail(f"core {numbers[0]} where core {number} belongs", lines.next)
+    console = lines.take(CONSOLE_LINE, f"the console of core {number}")
+    written = console_bytes(console[3])
+    if int(console[1]) != number or int(console[2]) != len(written):
+        lines.fail(f"core {console[1]} wrote {console[2]} bytes, but here are {len(written)} of core {number}", lines.next)
+    return Core(number, dict(zip(CORE_COUNTERS, numbers[1:])), match[match.lastindex], written)
+
+
+def console_bytes(text):
+    return re.sub(r"\\x(..)", lambda match: chr(int(match[1], 16)), text).encode("latin-1")
+
+
+def take_components(lines, kind):
+    """Takes the lines of all banks or of all controllers, of which there is at least one."""
+    components = []
+    while not components or (lines.next < len(lines.lines) and lines.lines[lines.next].startswith(f"{kind} ")):
+        match = lines.take(COMPONENT_LINE, f"the line of {kind} {len(components)}")
+        if match[1] != kind or int(match[2]) != len(components):
+            lines.fail(f"{match[1]} {match[2]} where {kind} {len(components)} belongs", lines.next)
+        numbers = [lines.number(text) for text in match.groups()[2:]]
+        components.append(Component(len(components), dict(zip(COMPONENT_COUNTERS, numbers))))
+    return tuple(components)
+
+
+def check_sums(lines, report):
+    """The summary has the sums of what follows: a report that lost its last lines, or was changed, is refused."""
+    totals = derived.totals(report)
+    events = totals["bank_events"] + totals["controller_events"]
+    met = totals["hits"] + totals["upgrades"] + totals["l2hits"] + totals["misses"]
+    cycles = max(core.counters["cycles"] for core in report.core_list) if report.core_list else 0
+    for word, found, where in (
+        ("instructions", totals["instructions"], "the cores"),
+        ("cycles", cycles, "the cores"),
+        ("accesses", totals["loads"] + totals["stores"] + totals["atomics"], "the cores"),
+        ("accesses", met, "what the accesses of the cores found"),
+        ("events", events, "the banks and controllers"),
+    ):
+        if report.summary[word] != found:
+            number = SUMMARY.index(word) + 2
+            lines.fail(f"{word} {report.summary[word]}, but {where} below come to {found}: lines are missing", number)
+
+
+def check_machine(report):
+    """The machine, where one is given, has as many parts as the report."""
+    if report.machine is None:
+        return
+    for key, parts in (("cores", report.core_list), ("l2.banks", report.bank_list), ("controllers.count", report.controller_list)):
+        if report.machine.number(key) != len(parts):
+            has = report.machine.values.get(key)
+            raise ToolError(f"{report.name}: this is no report of {report.machine.name}: {key} is {has}, but here are {len(parts)}")
+
+
+def read_report(path, machine=None):
+    """Reads the report of a file; `-` is standard input. ToolError names the file, and the line that is wrong."""
+    name = "standard input" if str(path) == "-" else str(path)
+    try:
+        data = sys.stdin.buffer.read() if str(path) == "-" else Path(path).read_bytes()
+    except OSError as error:
+        raise ToolError(f"cannot read: {name}: {reason(error)}") from None
+    # A report is ASCII. Any other byte stands for itself in what is shown of a line that is wrong.
+    return parse_report(data.decode("latin-1"), name, machine)

@@ -1,0 +1,145 @@
+"""Tables: a row for each run of a sweep. `docs/tools.md` has the columns."""
+
+import os
+from pathlib import Path
+
+from . import derived
+from .errors import ToolError, one_line, reason
+
+ENDINGS = (".csv", ".parquet")
+TEXTS = ("executable", "line", "halt", "machine_sha256", "executable_sha256", "zsim_sha256")
+# What a table of a sweep has at least.
+NEEDED = ("executable", "status", "line")
+
+# The derived numbers, which may have a fraction. All other numbers of a table are whole.
+FRACTIONS = (
+    "cpi", "waiting", "hits_pki", "upgrades_pki", "l2hits_pki", "l1_mpki", "l2_mpki",
+    "instructions_spread", "cycles_spread", "cpi_spread",
+    "bank_wait", "bank_busy", "bank_busiest", "controller_wait", "controller_busy", "controller_busiest",
+)
+SHA256 = ("machine_sha256", "executable_sha256", "zsim_sha256")
+
+
+def numbers_of(report):
+    """Returns the columns that a report gives: of the run, derived ones, and then of each part."""
+    summary = dict(report.summary)
+    numbers = {"cores": summary.pop("cores"), "intervals_run": summary.pop("intervals"), **summary}
+    numbers |= {name: total for name, total in derived.totals(report).items() if name != "instructions"}
+    numbers |= report.derived
+    for core in report.core_list:
+        numbers |= {f"core{core.number}_{name}": value for name, value in core.counters.items()}
+        numbers[f"core{core.number}_halt"] = core.halt
+    for kind, components in (("bank", report.bank_list), ("controller", report.controller_list)):
+        for part in components:
+            numbers |= {f"{kind}{part.number}_{name}": value for name, value in part.counters.items()}
+    return numbers
+
+
+def halts_of(report):
+    """Returns why the cores halted: each reason once, in the order of the cores."""
+    return "; ".join(dict.fromkeys(core.halt for core in report.core_list))
+
+
+def make_table(rows):
+    """Returns a data frame of rows, of which some may lack columns. The hashes come last."""
+    import pandas  # (a sweep of many short runs starts them first)
+
+    columns = list(dict.fromkeys(name for row in rows for name in row if name not in SHA256))
+    table = pandas.DataFrame(rows, columns=[*columns, *SHA256])
+    for name in columns:
+        values = [row[name] for row in rows if name in row]
+        if all(isinstance(value, int) for value in values):
+            table[name] = table[name].astype("Int64")
+    return table
+
+
+def check_ending(path):
+    """Raises ToolError where no table can be written under this name: for its ending, or for want of a library."""
+    if Path(path).suffix not in ENDINGS:
+        raise ToolError(f"cannot write: {path}: the name of a table ends with {' or '.join(ENDINGS)}")
+    if Path(path).suffix == ".parquet":
+        import importlib.util
+
+        if not any(importlib.util.find_spec(name) for name in ("pyarrow", "fastparquet")):
+            raise ToolError(f"{path}: Parquet needs the Python package pyarrow; tables can also be .csv")
+
+
+def check_output(path):
+    """Raises ToolError where a file could not be written, as far as that can be told before."""
+    path = Path(path)
+    if path.exists() and not path.is_file():
+        raise ToolError(f"cannot write: {path}: it is no regular file")
+    if not path.parent.is_dir():
+        raise ToolError(f"cannot write: {path}: {path.parent} is no folder")
+
+
+def write_whole(path, write):
+    """Has a file written beside, by `write` with an open file, and then renamed. So it is there whole or not at all."""
+    check_output(path)
+    target = Path(os.path.realpath(path))
+    beside = target.with_name(f".{target.name}.{os.getpid()}")
+    try:
+        try:
+            with open(beside, "xb") as file:
+                write(file)
+            os.replace(beside, target)
+        finally:
+            beside.unlink(missing_ok=True)
+    except OSError as error:
+        raise ToolError(f"cannot write: {path}: {reason(error)}") from None
+
+
+def write_table(table, path):
+    """Writes a table as CSV or Parquet, by the ending of its name."""
+    check_ending(path)
+    if Path(path).suffix == ".parquet":
+        write_whole(path, lambda file: table.to_parquet(file, index=False))
+    else:
+        write_whole(path, lambda file: table.to_csv(file, index=False))
+
+
+def read_table(path):
+    """Reads a table that a sweep wrote, as a data frame. ToolError names the file, and what is wrong with it."""
+    import pandas
+
+    check_readable(path)
+    try:
+        if Path(path).suffix == ".parquet":
+            table = pandas.read_parquet(path)
+        else:
+            table = pandas.read_csv(path, dtype={name: "string" for name in TEXTS}, keep_default_na=False, na_values="")
+    except OSError as error:
+        raise ToolError(f"cannot read: {path}: {reason(error)}") from None
+    except Exception as error:  # (each library has exceptions of its own for a file that is none of its kind)
+        raise ToolError(f"{path}: no table: {one_line(error)}") from None
+    for name in NEEDED:
+        if name not in table.columns:
+            raise ToolError(f"{path}: no table of a sweep: it has no column {name}")
+    for name in table.columns:
+        column = table[name]
+        if name in TEXTS or name.endswith("_halt"):
+            table[name] = column.astype("string").fillna("")
+        elif name in FRACTIONS:
+            table[name] = to_numbers(path, name, column)
+        elif pandas.api.types.is_numeric_dtype(column) and (column.dropna() % 1 == 0).all():
+            table[name] = column.astype("Int64")
+    to_numbers(path, "status", table["status"])
+    return table
+
+
+def check_readable(path):
+    check = Path(path)
+    if check.suffix not in ENDINGS:
+        raise ToolError(f"{path}: no table: its name ends neither with {' nor with '.join(ENDINGS)}")
+    if check.suffix == ".parquet" and check.is_file():
+        check_ending(path)
+
+
+def to_numbers(path, name, column):
+    """Returns a column as numbers with fractions."""
+    import pandas
+
+    try:
+        return pandas.to_numeric(column).astype("Float64" if column.dtype == "Int64" else "float64")
+    except (ValueError, TypeError):
+        raise ToolError(f"{path}: column {name}: has a value that is no number") from None
