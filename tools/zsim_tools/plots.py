@@ -14,6 +14,8 @@ ENDINGS = (".png", ".svg")
 COLOURS = ("#440154", "#21908d", "#e07b00", "#3b528b", "#5dc963", "#b8627d")
 MARKERS = ("o", "s", "^", "D", "v", "P", "X", "*")
 STROKES = ("-", "--", "-.", ":")
+# How many values a message names, and how many of an axis have a tick of their own.
+MOST = 16
 INCHES = (7.0, 4.5)
 DOTS = 150
 
@@ -31,8 +33,9 @@ def selected(table, where, name):
         check_column(table, column, name)
         rows = table[table[column].astype("string") == value]
         if rows.empty:
-            known = ", ".join(map(str, sorted(set(table[column].dropna()))))
-            raise ToolError(f"{name}: no row has {column} = {value}; there are {known}")
+            known = sorted(set(table[column].dropna()))
+            told = ", ".join(map(str, known[:MOST])) + (", .." if len(known) > MOST else "")
+            raise ToolError(f"{name}: no row has {column} = {value}; there are {told}")
         table = rows
     return table
 
@@ -111,8 +114,9 @@ def title_of(rows, x, y, columns):
 
 def value_text(column, value):
     """Returns a value of an axis as legends and titles have it."""
-    return Path(value).stem if column == "executable" and not value.startswith("gen:") else f"{column} {value}" if (
-        column != "executable") else value
+    if column != "executable":
+        return f"{column} {value}"
+    return value if value.startswith("gen:") else Path(value).stem
 
 
 def line_plot(rows, x, y, columns, log_y):
@@ -157,7 +161,7 @@ def scale_x(axes, column):
     values = sorted({float(value) for value in column})
     if len(values) > 2 and values[0] > 0 and values[-1] / values[0] >= 8 and not set(ratios(values)) - {2.0, 4.0, 8.0}:
         axes.set_xscale("log", base=2)
-    if len(values) <= 16:
+    if len(values) <= MOST:
         axes.set_xticks(values, [f"{value:g}" for value in values])
         axes.minorticks_off()
 
@@ -167,8 +171,9 @@ def ratios(values):
 
 
 def heat_map(rows, x, heat, y):
-    """Draws a field for each pair of values, with its number. The darker, the more."""
+    """Draws a field for each pair of values, with its number: the darker, the more. A pair without one is hatched."""
     figure, axes = new_figure()
+    axes.patch.set(hatch="///", edgecolor="0.7")
     grid = rows.pivot(index=heat, columns=x, values=y).astype(float)
     image = axes.imshow(grid.to_numpy(), cmap="Greys", aspect="auto", origin="lower")
     axes.set_xticks(range(len(grid.columns)), [f"{value}" for value in grid.columns])

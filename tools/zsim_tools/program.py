@@ -3,6 +3,7 @@
 import os
 import shutil
 import subprocess
+from functools import cache
 from pathlib import Path
 
 from .errors import RunError, ToolError, reason
@@ -41,6 +42,7 @@ def why_not(name):
     return "No such file or directory" if not path.exists() else "it is no program that can be executed"
 
 
+@cache
 def built_here():
     """Returns the program of this checkout. The script beside it builds it where it has to, and says so."""
     script, program = REPOSITORY / "zsim", REPOSITORY / "crates/zsim_main/out/zsim_main"

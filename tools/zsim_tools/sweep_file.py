@@ -56,11 +56,12 @@ class SweepFile:
 
     def planned(self):
         """Returns all runs: each executable on the machines of all combinations, the last axis varying fastest."""
+        keys = [key for axis in self.axes for key in axis.keys]
+        template = self.machine.template(keys)
         machines = []
         for points in itertools.product(*(axis.points for axis in self.axes)):
-            keys = itertools.chain.from_iterable(axis.keys for axis in self.axes)
             values = dict(zip(keys, itertools.chain.from_iterable(points)))
-            machine = self.machine.changed(values)
+            machine = template(values)
             machines.append((values, machine, sha256(machine.text.encode("utf-8"))))
         return [Planned(*machine, executable) for executable in self.executables for machine in machines]
 

@@ -1,6 +1,7 @@
 """Sweeps: runs every combination that a file names, and makes a table with a row for each run."""
 
 import os
+import threading
 from contextlib import closing
 from dataclasses import dataclass
 
@@ -99,9 +100,10 @@ def sweep(path, out, jobs=None, scheduler=None, zsim=None, watcher=None):
         watcher.begin(len(waiting), list(ended.values()))
         try:
             if waiting:
-                with Cluster(program, scheduler) if scheduler else Here(program, jobs or os.cpu_count()) as runner:
+                with Cluster(program, scheduler) if scheduler else Here(program, jobs or len(os.sched_getaffinity(0))) as runner:
                     runner.start(waiting.values())
-                    make_table([])  # (so the library of tables is there when the runs are done, and nobody waits)
+                    # Loads the library of tables meanwhile, so that nobody waits for it when the runs are done.
+                    threading.Thread(target=make_table, args=([],)).start()
                     for run, outcome in runner.outcomes():
                         one = ended[key_of(run)] = judge(run, outcome)
                         if one.done:

@@ -9,7 +9,7 @@ from .errors import ToolError, one_line, reason
 ENDINGS = (".csv", ".parquet")
 TEXTS = ("executable", "line", "halt", "machine_sha256", "executable_sha256", "zsim_sha256")
 # What a table of a sweep has at least.
-NEEDED = ("executable", "status", "line")
+NEEDED = ("executable", "status", "line", "halt")
 
 # The derived numbers, which may have a fraction. All other numbers of a table are whole.
 FRACTIONS = (
