@@ -76,8 +76,11 @@ def main():
     parser.add_argument("executables", nargs="*", metavar="EXE", help="what they run (examples/c/sort.elf)")
     words = parser.parse_args()
     executables = words.executables or [str(TOP / "examples/c/sort.elf")]
-    print("| Executable | Runs | Alone, seconds | By the tool, seconds | Quotient | Tool's own processor seconds |")
-    print("|---|---:|---:|---:|---:|---:|")
+    print(
+        "| Executable | Runs | Alone, seconds | By the tool, seconds | Quotient | Alone, processor seconds"
+        " | Tool's own processor seconds |"
+    )
+    print("|---|---:|---:|---:|---:|---:|---:|")
     for executable in executables:
         for _ in range(words.rounds):
             with tempfile.TemporaryDirectory() as name:
@@ -87,7 +90,7 @@ def main():
                 seconds, processor = alone(words.zsim, folder, given, names, words.jobs)
                 with_tool, processor_with_tool = by_tool(words.zsim, folder, words.jobs)
             cells = [Path(executable).name, len(names), f"{seconds:.2f}", f"{with_tool:.2f}"]
-            cells += [f"{with_tool / seconds:.2f}", f"{processor_with_tool - processor:.2f}"]
+            cells += [f"{with_tool / seconds:.2f}", f"{processor:.2f}", f"{processor_with_tool - processor:.2f}"]
             print(f"| {' | '.join(map(str, cells))} |", flush=True)
 
 

@@ -1,16 +1,22 @@
 """What the documents and the examples say of the tools, and of what the tools read."""
 
 import re
+import shlex
+import shutil
 
 import pytest
-from conftest import WORKED
+from conftest import HERE, WORKED
+from test_plots import size_of, texts_of
 
 import zsim_tools
+from zsim_tools import plots
 from zsim_tools.labels import KEYS
 from zsim_tools.machine import PLAIN, parse_machine
 from zsim_tools.report import parse_report
 from zsim_tools.sweep_file import read_sweep
+from zsim_tools.sweeps import judge, row_of
 from zsim_tools.table import FRACTIONS, numbers_of
+from zsim_tools.task import run_machine
 
 
 def test_plain_is_the_built_in_machine(repository):
@@ -38,7 +44,7 @@ def test_every_column_is_in_the_documents(repository):
         assert f"`{name}`" in text
 
 
-@pytest.mark.parametrize("name, runs", [("matrix.toml", 48), ("stream.toml", 32)])
+@pytest.mark.parametrize("name, runs", [("matrix.toml", 48), ("stream.toml", 64)])
 def test_the_sweeps_of_the_examples_are_read(repository, name, runs):
     planned = read_sweep(repository / "examples/sweeps" / name).planned()
     assert len(planned) == runs and len({(run.machine_sha256, run.executable.sha256) for run in planned}) == runs
@@ -52,3 +58,75 @@ def test_the_machine_of_an_example_keeps_its_text(repository):
         assert changed.values == {**machine.values, "l1.ways": 3}
         lines, changed_lines = machine.text.splitlines(), changed.text.splitlines()
         assert len(lines) == len(changed_lines) and sum(map(str.__ne__, lines, changed_lines)) == 1
+
+
+# What stands on the plots of docs/tools.md: the labels of both axes, the title, and the legend or the fields' numbers.
+PLOTS = {
+    "matrix.png": (
+        "sets of the L1", "misses in the L1 per 1000 instructions", "",
+        ["matrix_blocked, l1.ways 1", "matrix_blocked, l1.ways 8", "matrix_naive, l1.ways 1", "matrix_naive, l1.ways 8"],
+    ),
+    "matrix_blocked.png": (
+        "ways of the L1 (lines in a set)", "sets of the L1", "matrix_blocked",
+        "171 140 136 136 156 138 136 135 150 137 84.4 6.62 147 53.6 6.61 5.27 46.8 10.6 5.27 3.69 31.5 7.4 3.6 1.4".split(),
+    ),
+    "stream.png": (
+        "occupancy of a controller (cycles per event)", "waiting (share of the cycles)", "",
+        [f"{name}, l2.banks {banks}" for name in ("stream", "stream_padded") for banks in (1, 2, 4)],
+    ),
+}
+
+
+def test_the_plots_of_the_documents(command, repository, tmp_path, monkeypatch):
+    """Draws them as the document says, from stored tables of the sweeps. A person looked at those that stand there."""
+    text = (repository / "docs/tools.md").read_text().replace("\\\n", " ")
+    lines = re.findall(r"(?m)^    tools/zsim-tools (plot (?:matrix|stream)\.csv .*)$", text)
+    assert len(lines) == len(PLOTS)
+    for name in ("matrix.csv", "stream.csv"):
+        shutil.copy(HERE / "data" / name, tmp_path)
+    figures = []
+    monkeypatch.setattr("zsim_tools.plots.save", lambda figure, out, save=plots.save: (figures.append(figure), save(figure, out)))
+    for line in lines:
+        assert command(*shlex.split(line)).returncode == 0
+        name = shlex.split(line)[-1]
+        axes = figures[-1].axes[0]
+        marks = texts_of(axes) if axes.get_legend() else [field.get_text() for field in axes.texts]
+        assert (axes.get_xlabel(), axes.get_ylabel(), axes.get_title(), marks) == PLOTS[name]
+        assert size_of(tmp_path / name) == size_of(repository / "docs/plots" / name)
+        assert f"](plots/{name})" in text
+
+
+@pytest.mark.parametrize("name, where", [
+    ("matrix", {"l1.sets": 16, "l1.ways": 8}), ("stream", {"controllers.occupancy": 32, "l2.banks": 2}),
+])
+def test_the_stored_tables_are_those_of_zsim(built_zsim, repository, tmp_path, name, where):
+    """Runs two of the runs of each sweep with the built program, and compares all that they counted."""
+    planned = read_sweep(repository / f"examples/sweeps/{name}.toml").planned()
+    table = zsim_tools.read_table(HERE / f"data/{name}.csv")
+    chosen = [run for run in planned if where.items() <= run.values.items()]
+    assert len(chosen) == 2
+    for run in chosen:
+        rows = table[(table["machine_sha256"] == run.machine_sha256) & (table["executable_sha256"] == run.executable.sha256)]
+        outcome = run_machine(built_zsim, run.machine.text, str(repository / "examples/sweeps" / run.executable.name))
+        wanted = row_of(run, judge(run, outcome), rows.iloc[0]["zsim_sha256"])
+        assert len(rows) == 1 and {name: rows.iloc[0][name] for name in wanted} == wanted
+
+
+def test_the_example_of_the_document(command, repository, tmp_path):
+    """The sweep that a new user writes, over what stands in for zsim."""
+    text = (repository / "docs/tools.md").read_text()
+    (tmp_path / "examples").symlink_to(repository / "examples")
+    (tmp_path / "mysweep.toml").write_text(re.search(r"(?s)```toml\n(.*?)```", text)[1])
+    lines = re.findall(r"(?m)^    tools/zsim-tools ((?:sweep|plot) mysweep\..*)$", text)
+    assert len(lines) == 2
+    for line in lines:
+        assert command(*shlex.split(line)).returncode == 0
+    assert len(zsim_tools.read_table(tmp_path / "mysweep.csv")) == 15 and (tmp_path / "mysweep.png").is_file()
+
+
+def test_the_python_of_the_document(repository, fake_zsim, tmp_path, monkeypatch, command):
+    text = (repository / "docs/tools.md").read_text()
+    (tmp_path / "examples").symlink_to(repository / "examples")
+    (tmp_path / "mysweep.toml").write_text(re.search(r"(?s)```toml\n(.*?)```", text)[1])
+    exec(compile(re.search(r"(?s)```python\n(.*?)```", text)[1], "docs/tools.md", "exec"), {})
+    assert (tmp_path / "mysweep.svg").is_file()

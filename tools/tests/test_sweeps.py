@@ -1,5 +1,6 @@
 """Sweeps: over a small program that stands in for zsim, and over zsim itself where it is built."""
 
+import contextlib
 import os
 import re
 import signal
@@ -84,6 +85,25 @@ def test_a_sweep_that_was_stopped_goes_on(command, fake_zsim, twelve, by):
     assert (ended.returncode, ended.stderr) == (0, "zsim-tools: table.csv: 7 runs, 5 were done before\n")
     # (the sixth was begun twice)
     assert text_of(log).count("\n") == 13 and list(table_of(twelve)["status"]) == [0] * 12
+
+
+def test_a_terminal_gets_a_bar_and_the_failures_as_they_come(fake_zsim, twelve):
+    (twelve / "sweep.toml").write_text(text_of(twelve / "sweep.toml").replace("[1, 2, 4]", "[0, 2, 4]"))
+    reader, writer = os.openpty()
+    words = [sys.executable, "-m", "zsim_tools", "sweep", "sweep.toml", "--out", "table.csv", "--jobs", "1"]
+    variables = environment(fake_zsim, TERM="xterm", COLUMNS="120")
+    with subprocess.Popen(words, cwd=twelve, env=variables, stdin=subprocess.DEVNULL, stderr=writer) as process:
+        os.close(writer)
+        said = b""
+        with contextlib.suppress(OSError):  # (which a terminal gives at its end)
+            while part := os.read(reader, 4096):
+                said += part
+    os.close(reader)
+    assert process.returncode == 3
+    text = re.sub(r"\x1b\[[0-9;?]*[A-Za-z]", "", said.decode())
+    assert "12/12 runs 0:00:" in text and "left 0:00:00" in text
+    refusal = text.index("zsim-tools: a.elf l1.sets=2 l1.ways=0: status 6: zsim: machine 4 l1.ways 0")
+    assert refusal < text.index("12/12")
 
 
 def test_what_a_kill_left_of_a_line_is_dropped(command, twelve):

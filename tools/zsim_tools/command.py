@@ -131,7 +131,7 @@ def parser():
                       help="a line for each value of COLUMN (executable); can be given again")
     kind.add_argument("--heat", metavar="AXIS", help="a map of both axes, with the number in each field")
     plot.add_argument("--where", action="append", default=[], type=condition, metavar="COLUMN=VALUE",
-                      help="plot these rows alone; can be given again")
+                      help="plot these rows alone; can be given again, also for another value of COLUMN")
     plot.add_argument("--log-y", action="store_true", help="a logarithmic scale for NUMBER")
     plot.add_argument("--title", metavar="TEXT", help="the title (what all rows have in common)")
     plot.add_argument("--out", required=True, metavar="PLOT", help="the file to write, .png or .svg by its name")
@@ -194,6 +194,8 @@ def sweep_command(words):
     from .progress import Progress
     from .sweeps import sweep
 
+    # What waits for a run to end gets its turn soon, also while libraries are loaded.
+    sys.setswitchinterval(0.0005)
     watcher = Progress(words.out)
     sweep(words.sweep, words.out, words.jobs, words.scheduler, words.zsim, watcher)
     return NOT_ALL if watcher.failures else DONE
@@ -203,10 +205,12 @@ def plot_command(words):
     from .plots import plot
     from .table import read_table
 
+    where = {}
+    for column, value in words.where:
+        where.setdefault(column, []).append(value)
     table = read_table(words.table)
     _, left_out = plot(
-        table, words.out, words.x, words.y, words.lines, words.heat, dict(words.where), words.title, words.log_y,
-        words.table,
+        table, words.out, words.x, words.y, words.lines, words.heat, where, words.title, words.log_y, words.table
     )
     if left_out:
         say(f"{left_out} of the rows are left out: their runs did not end by the program's exit")

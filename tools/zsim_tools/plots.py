@@ -28,15 +28,17 @@ def good_rows(table):
 
 
 def selected(table, where, name):
-    """Returns the rows in which each column of `where` has its value, which is given as a text."""
-    for column, value in where.items():
+    """Returns the rows in which each column of `where` has its value, or one of a list of values."""
+    for column, wanted in where.items():
         check_column(table, column, name)
-        rows = table[table[column].astype("string") == value]
-        if rows.empty:
-            known = sorted(set(table[column].dropna()))
-            told = ", ".join(map(str, known[:MOST])) + (", .." if len(known) > MOST else "")
-            raise ToolError(f"{name}: no row has {column} = {value}; there are {told}")
-        table = rows
+        known = table[column]
+        wanted = wanted if isinstance(wanted, list) else [wanted]
+        for value in wanted:
+            if not (known.astype("string") == str(value)).any():
+                values = sorted(set(known.dropna()))
+                told = ", ".join(map(str, values[:MOST])) + (", .." if len(values) > MOST else "")
+                raise ToolError(f"{name}: no row has {column} = {value}; there are {told}")
+        table = table[known.astype("string").isin(list(map(str, wanted)))]
     return table
 
 
@@ -81,7 +83,7 @@ def plot(table, out, x, y, lines=(), heat=None, where=None, title=None, log_y=Fa
 
     There is a line for each combination of values of the columns `lines`; of the executable, where none is given and
     there are several. With `heat`, another column, it is a map of x and that column instead. `where` picks rows, as in
-    `{"l1.ways": "4"}`. Returns the figure of matplotlib, and how many rows were left out since their run did not end by
+    `{"l1.sets": 64, "l1.ways": [1, 2]}`. Returns the figure of matplotlib, and how many rows were left out since their run did not end by
     the program's exit. ToolError says what is wrong with the words or the table.
     """
     if Path(out).suffix not in ENDINGS:

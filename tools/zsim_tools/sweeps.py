@@ -68,13 +68,13 @@ class Watcher:
     """Is told how a sweep gets on. This one does nothing with it."""
 
     def begin(self, runs, before):
-        """So many runs are to be done, and these were done before."""
+        """So many runs were started, and these were done before."""
 
     def ended(self, ended):
         """A run came to its end."""
 
     def end(self):
-        """No more runs come, for whatever reason."""
+        """No more runs come, for whatever reason; maybe none was begun."""
 
 
 def sweep(path, out, jobs=None, scheduler=None, zsim=None, watcher=None):
@@ -97,12 +97,15 @@ def sweep(path, out, jobs=None, scheduler=None, zsim=None, watcher=None):
     with closing(Store(f"{out}.runs")) as store:
         ended = {key_of(run): judge(run, store.runs[key_of(run)]) for run in planned if key_of(run) in store.runs}
         waiting = {key_of(run): run for run in planned if key_of(run) not in ended}
-        watcher.begin(len(waiting), list(ended.values()))
+        before = list(ended.values())
         try:
-            if waiting:
-                with Cluster(program, scheduler) if scheduler else Here(program, jobs or len(os.sched_getaffinity(0))) as runner:
+            if not waiting:
+                watcher.begin(0, before)
+            else:
+                with runner_of(program, jobs, scheduler) as runner:
                     runner.start(waiting.values())
-                    # Loads the library of tables meanwhile, so that nobody waits for it when the runs are done.
+                    # Runs go on from here, while libraries are loaded that take longer than a short run.
+                    watcher.begin(len(waiting), before)
                     threading.Thread(target=make_table, args=([],)).start()
                     for run, outcome in runner.outcomes():
                         one = ended[key_of(run)] = judge(run, outcome)
@@ -116,6 +119,11 @@ def sweep(path, out, jobs=None, scheduler=None, zsim=None, watcher=None):
             if rows:
                 write_table(table, out)
     return table
+
+
+def runner_of(program, jobs, scheduler):
+    """Returns what carries out the runs."""
+    return Cluster(program, scheduler) if scheduler else Here(program, jobs or len(os.sched_getaffinity(0)))
 
 
 def hash_of(program):

@@ -107,7 +107,8 @@ def read_table(path):
         if Path(path).suffix == ".parquet":
             table = pandas.read_parquet(path)
         else:
-            table = pandas.read_csv(path, dtype={name: "string" for name in TEXTS}, keep_default_na=False, na_values="")
+            texts = {name: "string" for name in TEXTS}
+            table = pandas.read_csv(path, dtype=texts, keep_default_na=False, na_values="", float_precision="round_trip")
     except OSError as error:
         raise ToolError(f"cannot read: {path}: {reason(error)}") from None
     except Exception as error:  # (each library has exceptions of its own for a file that is none of its kind)
