@@ -125,6 +125,7 @@ def test_diff_of_machines_with_other_parts(command, worked, repository):
     ended = command("diff", "worked.txt", repository / "crates/zsim_main/stdout", "--json")
     changes = {(change["part"], change["name"]): change for change in json.loads(ended.stdout)}
     assert changes["core 1", "misses"]["b"] is None and changes["run", "cores"]["change"] == -1
+    assert changes["core 1", "misses"]["weight"] == 0 and changes["core 1", "halt"]["weight"] is None
 
 
 def call(words, **options):

@@ -301,6 +301,9 @@ def test_from_python(twelve, fake_zsim):
     read = table_of(twelve)
     assert list(read.columns) == list(table.columns) and read["misses"].equals(table["misses"])
     assert list(read["cpi"]) == list(table["cpi"])
+    # The data frame is written as the sweep wrote its rows.
+    zsim_tools.write_table(table, twelve / "frame.csv")
+    assert text_of(twelve / "frame.csv") == text_of(twelve / "table.csv")
 
 
 def test_zsim_itself(built_zsim, twelve, repository):

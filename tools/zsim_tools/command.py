@@ -192,12 +192,10 @@ def diff_command(words):
 
 def sweep_command(words):
     from .progress import Progress
-    from .sweeps import sweep
+    from .sweeps import carry_out
 
-    # What waits for a run to end gets its turn soon, also while libraries are loaded.
-    sys.setswitchinterval(0.0005)
     watcher = Progress(words.out)
-    sweep(words.sweep, words.out, words.jobs, words.scheduler, words.zsim, watcher)
+    carry_out(words.sweep, words.out, words.jobs, words.scheduler, words.zsim, watcher)
     return NOT_ALL if watcher.failures else DONE
 
 

@@ -27,7 +27,8 @@ KIND_OF = {name: kind for kind, names in KINDS.items() for name in names}
 class Change:
     """A number, or a text, that is not the same in both reports. `relative` is the change as a share of `a`.
 
-    `weight` is the change as a share of the whole of its kind (`docs/tools.md`); that of a text is infinite.
+    `weight` is the change as a share of the whole of its kind (`docs/tools.md`); that of a text is infinite, and that of
+    a number that only one report has is 0, since the sums tell of it.
     """
 
     part: str
@@ -112,7 +113,7 @@ def change_of(part, name, one, other, whole):
     if isinstance(one, str) or isinstance(other, str):
         return Change(part, name, one, other, nan, nan, inf)
     if is_missing(one) or is_missing(other):
-        return Change(part, name, one, other, nan, nan, 1.0)
+        return Change(part, name, one, other, nan, nan, 0.0)
     change = other - one
     whole = max(abs(one), abs(other)) if whole is None else whole
     return Change(part, name, one, other, change, derived.quotient(change, one), derived.quotient(abs(change), whole))

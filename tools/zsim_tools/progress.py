@@ -1,5 +1,7 @@
 """Says on standard error how a sweep gets on: a bar and the time that is left, and failures as they come."""
 
+import sys
+
 from .sweeps import Watcher
 
 
@@ -8,19 +10,19 @@ class Progress(Watcher):
 
     def __init__(self, out):
         self.out = out
-        self.console = None
+        self.bar = None
+        self.begun = False
         self.failures = 0
         self.done = 0
 
     def begin(self, runs, before):
-        from rich.console import Console  # (the runs have begun, and need not wait for this)
-
-        self.console = Console(stderr=True, highlight=False, soft_wrap=True)
+        self.begun = True
         self.runs = runs
         self.before = len(before)
         self.failures = sum(ended.failure is not None for ended in before)
-        self.bar = bar_on(self.console)
-        self.task = self.bar and self.bar.add_task("sweep", total=runs)
+        if sys.stderr.isatty():
+            self.bar = started_bar()
+            self.task = self.bar.add_task("sweep", total=runs)
 
     def ended(self, ended):
         self.done += 1
@@ -31,7 +33,7 @@ class Progress(Watcher):
             self.bar.advance(self.task)
 
     def end(self):
-        if self.console is None:
+        if not self.begun:
             return
         if self.bar:
             self.bar.stop()
@@ -43,17 +45,19 @@ class Progress(Watcher):
 
     def say(self, line):
         """Prints a line; where there is a bar, above it."""
-        self.console.print(f"zsim-tools: {line}", markup=False, emoji=False)
+        if self.bar:
+            self.bar.console.print(f"zsim-tools: {line}", markup=False, emoji=False)
+        else:
+            print(f"zsim-tools: {line}", file=sys.stderr)
 
 
-def bar_on(console):
-    """Starts a bar on a terminal."""
-    if not console.is_terminal:
-        return None
+def started_bar():
+    # (loaded here, where the runs have begun already)
+    from rich.console import Console
     from rich.progress import BarColumn, MofNCompleteColumn, Progress, TextColumn, TimeElapsedColumn, TimeRemainingColumn
 
     columns = (TextColumn("{task.description}"), BarColumn(), MofNCompleteColumn(), TextColumn("runs"))
     times = (TimeElapsedColumn(), TextColumn("left"), TimeRemainingColumn())
-    bar = Progress(*columns, *times, console=console)
+    bar = Progress(*columns, *times, console=Console(stderr=True, highlight=False, soft_wrap=True))
     bar.start()
     return bar

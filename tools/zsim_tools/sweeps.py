@@ -1,7 +1,6 @@
 """Sweeps: runs every combination that a file names, and makes a table with a row for each run."""
 
 import os
-import threading
 from contextlib import closing
 from dataclasses import dataclass
 
@@ -11,7 +10,7 @@ from .report import Report, parse_report
 from .runners import Cluster, Here
 from .store import Store
 from .sweep_file import Planned, cell, read_sweep, sha256
-from .table import SHA256, check_ending, check_output, halts_of, make_table, numbers_of, write_table
+from .table import SHA256, check_ending, check_output, halts_of, make_table, numbers_of, write_rows
 from .task import Outcome
 
 # What a run with such a status gave depends on its inputs alone: it ran, or its words, its machine or its executable
@@ -78,12 +77,17 @@ class Watcher:
 
 
 def sweep(path, out, jobs=None, scheduler=None, zsim=None, watcher=None):
-    """Carries out the sweep of a file, and writes and returns its table.
+    """Carries out the sweep of a file, writes its table, and returns it as a data frame.
 
     Runs that the file `OUT.runs` has already are not run again. `jobs` is how many run at a time, one for each
     processor where it is not given; with `scheduler`, the address of a dask cluster, they run on its workers. If it is
     stopped by an exception, as KeyboardInterrupt, the table has the runs that are done.
     """
+    return make_table(carry_out(path, out, jobs, scheduler, zsim, watcher))
+
+
+def carry_out(path, out, jobs=None, scheduler=None, zsim=None, watcher=None):
+    """Does what `sweep` does, and returns the rows of the table."""
     check_ending(out)
     check_output(out)
     planned = read_sweep(path).planned()
@@ -104,9 +108,8 @@ def sweep(path, out, jobs=None, scheduler=None, zsim=None, watcher=None):
             else:
                 with runner_of(program, jobs, scheduler) as runner:
                     runner.start(waiting.values())
-                    # Runs go on from here, while libraries are loaded that take longer than a short run.
+                    # (runs go on from here, while a bar is loaded that takes longer than a short run)
                     watcher.begin(len(waiting), before)
-                    threading.Thread(target=make_table, args=([],)).start()
                     for run, outcome in runner.outcomes():
                         one = ended[key_of(run)] = judge(run, outcome)
                         if one.done:
@@ -115,10 +118,9 @@ def sweep(path, out, jobs=None, scheduler=None, zsim=None, watcher=None):
         finally:
             watcher.end()
             rows = [row_of(run, ended[key_of(run)], zsim_sha256) for run in planned if key_of(run) in ended]
-            table = make_table(rows)
             if rows:
-                write_table(table, out)
-    return table
+                write_rows(rows, out)
+    return rows
 
 
 def runner_of(program, jobs, scheduler):

@@ -1,5 +1,7 @@
 """Tables: a row for each run of a sweep. `docs/tools.md` has the columns."""
 
+import csv
+import io
 import os
 from pathlib import Path
 
@@ -40,17 +42,34 @@ def halts_of(report):
     return "; ".join(dict.fromkeys(core.halt for core in report.core_list))
 
 
-def make_table(rows):
-    """Returns a data frame of rows, of which some may lack columns. The hashes come last."""
-    import pandas  # (a sweep of many short runs starts them first)
+def columns_of(rows):
+    """Returns the columns of rows of which some may lack columns. The hashes come last."""
+    return [*dict.fromkeys(name for row in rows for name in row if name not in SHA256), *SHA256]
 
-    columns = list(dict.fromkeys(name for row in rows for name in row if name not in SHA256))
-    table = pandas.DataFrame(rows, columns=[*columns, *SHA256])
+
+def make_table(rows):
+    """Returns a data frame of rows."""
+    import pandas
+
+    columns = columns_of(rows)
+    table = pandas.DataFrame(rows, columns=columns)
     for name in columns:
         values = [row[name] for row in rows if name in row]
         if all(isinstance(value, int) for value in values):
             table[name] = table[name].astype("Int64")
     return table
+
+
+def write_rows(rows, path):
+    """Writes the table of rows. As CSV it is written at once, since pandas takes longer to load than many a sweep."""
+    if Path(path).suffix != ".csv":
+        return write_table(make_table(rows), path)
+    text = io.StringIO(newline="")
+    lines = csv.DictWriter(text, columns_of(rows), restval="", lineterminator="\n")
+    lines.writeheader()
+    for row in rows:
+        lines.writerow({name: "" if value != value else value for name, value in row.items()})
+    return write_whole(path, lambda file: file.write(text.getvalue().encode("utf-8")))
 
 
 def check_ending(path):
