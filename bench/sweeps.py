@@ -46,7 +46,9 @@ def write_sweep(folder, executable, runs):
     names = []
     for first, second in itertools.product(LATENCIES, others):
         names.append(folder / f"{first}_{second}.toml")
-        text = plain.replace("latency = 10\n", f"latency = {second}\n", 1).replace("latency = 1\n", f"latency = {first}\n", 1)
+        text = plain.replace("latency = 10\n", f"latency = {second}\n", 1).replace(
+            "latency = 1\n", f"latency = {first}\n", 1
+        )
         names[-1].write_text(text)
     return names
 
@@ -63,7 +65,17 @@ def by_tool(program, folder, jobs):
     """Times the sweep."""
     for left in ("table.csv", "table.csv.runs"):
         (folder / left).unlink(missing_ok=True)
-    words = [TOOL, "sweep", folder / "sweep.toml", "--out", folder / "table.csv", "--jobs", str(jobs), "--zsim", program]
+    words = [
+        TOOL,
+        "sweep",
+        folder / "sweep.toml",
+        "--out",
+        folder / "table.csv",
+        "--jobs",
+        str(jobs),
+        "--zsim",
+        program,
+    ]
     return timed(words, stderr=subprocess.DEVNULL)
 
 

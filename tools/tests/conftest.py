@@ -101,7 +101,12 @@ def command(fake_zsim, tmp_path, monkeypatch, capsys):
 
 
 def environment(zsim, **variables):
-    return {**os.environ, "PYTHONPATH": str(HERE.parent), "ZSIM": zsim, **{name: str(v) for name, v in variables.items()}}
+    return {
+        **os.environ,
+        "PYTHONPATH": str(HERE.parent),
+        "ZSIM": zsim,
+        **{name: str(v) for name, v in variables.items()},
+    }
 
 
 @pytest.fixture

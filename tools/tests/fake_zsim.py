@@ -31,8 +31,13 @@ def report(machine, executable):
     delay = machine["controllers"]["occupancy"] * misses
     instructions, cycles = 10 * TURNS * len(executable), 20 * TURNS * len(executable) + 100 * misses + delay
     text = [
-        "zsim report 1", "cores 1", "intervals 1", f"instructions {instructions}", f"cycles {cycles}",
-        f"accesses {hits + misses}", f"events {3 * misses}",
+        "zsim report 1",
+        "cores 1",
+        "intervals 1",
+        f"instructions {instructions}",
+        f"cycles {cycles}",
+        f"accesses {hits + misses}",
+        f"events {3 * misses}",
         f"core 0 instructions {instructions} cycles {cycles} delay {delay} loads {hits + misses} stores 0 atomics 0"
         f" hits {hits} upgrades 0 l2hits 0 misses {misses} halt {'break' if b'break' in executable else 'exit 0'}",
         'core 0 console 0 ""',

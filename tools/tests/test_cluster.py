@@ -30,7 +30,9 @@ def test_both_workers_have_a_part(cluster, command, twelve):
     program = twelve / "zsim"
     program.write_text(f'#!/bin/sh\necho "$PPID" >>{log}\nsleep 0.2\nexec {os.environ["ZSIM"]} "$@"\n')
     program.chmod(0o755)
-    ended = command("sweep", "sweep.toml", "--out", "table.csv", "--scheduler", cluster.scheduler_address, "--zsim", program)
+    ended = command(
+        "sweep", "sweep.toml", "--out", "table.csv", "--scheduler", cluster.scheduler_address, "--zsim", program
+    )
     assert ended.returncode == 0
     parents = log.read_text().split()
     assert len(parents) == 12 and len(set(parents)) == 2

@@ -26,19 +26,32 @@ def test_help(command):
         assert max(map(len, ended.stdout.splitlines())) <= 112
 
 
-@pytest.mark.parametrize("words, told", [
-    ([], "the following arguments are required: COMMAND (see zsim-tools --help)"),
-    (["shew"], "argument COMMAND: invalid choice: 'shew' (choose from 'show', 'diff', 'sweep', 'plot') (see zsim-tools --help)"),
-    (["show"], "the following arguments are required: REPORT (see zsim-tools show --help)"),
-    (["show", "a", "--colour"], "unrecognized arguments: --colour (see zsim-tools --help)"),
-    (["show", "a", "--json", "--csv"], "argument --csv: not allowed with argument --json (see zsim-tools show --help)"),
-    (["diff", "a"], "the following arguments are required: B (see zsim-tools diff --help)"),
-    (["sweep", "a.toml"], "the following arguments are required: --out (see zsim-tools sweep --help)"),
-    (["sweep", "a.toml", "--out", "a.csv", "--jobs", "0"],
-     "argument --jobs: 0 is no whole number of at least 1 (see zsim-tools sweep --help)"),
-    (["sweep", "a.toml", "--out", "a.csv", "--jobs", "2", "--scheduler", "a"],
-     "argument --scheduler: not allowed with argument --jobs (see zsim-tools sweep --help)"),
-])
+@pytest.mark.parametrize(
+    "words, told",
+    [
+        ([], "the following arguments are required: COMMAND (see zsim-tools --help)"),
+        (
+            ["shew"],
+            "argument COMMAND: invalid choice: 'shew' (choose from 'show', 'diff', 'sweep', 'plot') (see zsim-tools --help)",
+        ),
+        (["show"], "the following arguments are required: REPORT (see zsim-tools show --help)"),
+        (["show", "a", "--colour"], "unrecognized arguments: --colour (see zsim-tools --help)"),
+        (
+            ["show", "a", "--json", "--csv"],
+            "argument --csv: not allowed with argument --json (see zsim-tools show --help)",
+        ),
+        (["diff", "a"], "the following arguments are required: B (see zsim-tools diff --help)"),
+        (["sweep", "a.toml"], "the following arguments are required: --out (see zsim-tools sweep --help)"),
+        (
+            ["sweep", "a.toml", "--out", "a.csv", "--jobs", "0"],
+            "argument --jobs: 0 is no whole number of at least 1 (see zsim-tools sweep --help)",
+        ),
+        (
+            ["sweep", "a.toml", "--out", "a.csv", "--jobs", "2", "--scheduler", "a"],
+            "argument --scheduler: not allowed with argument --jobs (see zsim-tools sweep --help)",
+        ),
+    ],
+)
 def test_words_that_are_no_command(command, words, told):
     ended = command(*words)
     assert (ended.returncode, ended.stdout, ended.stderr) == (2, "", f"zsim-tools: usage: {told}\n")
@@ -50,9 +63,16 @@ def test_show(command, worked):
     lines = [line.split() for line in ended.stdout.splitlines()]
     assert lines[0] == ["worked.txt"]
     for line in (
-        "cpi 2.333", "waiting 7.14 %", "cycles_spread 28.57 %", "0 1000 4000 400 500 100 0 exit 0",
-        "1 2000 3000 100 600 50 50 exit 1", "mean 1500 3500 250 550 75 25", "1 1.5 3.33 % 325 5 10 20 10",
-        "least 580 5 10 5", "0 100 50 4100 0.5", "0 40 80 3900 2",
+        "cpi 2.333",
+        "waiting 7.14 %",
+        "cycles_spread 28.57 %",
+        "0 1000 4000 400 500 100 0 exit 0",
+        "1 2000 3000 100 600 50 50 exit 1",
+        "mean 1500 3500 250 550 75 25",
+        "1 1.5 3.33 % 325 5 10 20 10",
+        "least 580 5 10 5",
+        "0 100 50 4100 0.5",
+        "0 40 80 3900 2",
     ):
         assert line.split() in lines, line
 
@@ -67,7 +87,13 @@ def test_show_of_a_brief_report(command, tmp_path):
     (tmp_path / "brief.txt").write_text("".join(WORKED.splitlines(keepends=True)[:7]))
     ended = command("show", "brief.txt")
     assert [line.split() for line in ended.stdout.splitlines()][3:] == [
-        ["cores", "2"], ["intervals", "1"], ["instructions", "3000"], ["cycles", "4000"], ["accesses", "1300"], ["events", "160"]]
+        ["cores", "2"],
+        ["intervals", "1"],
+        ["instructions", "3000"],
+        ["cycles", "4000"],
+        ["accesses", "1300"],
+        ["events", "160"],
+    ]
 
 
 def test_show_as_json_and_csv_have_the_same_numbers(command, worked, repository):
@@ -82,7 +108,11 @@ def test_show_as_json_and_csv_have_the_same_numbers(command, worked, repository)
     told = {(row["report"], row["part"], row["number"], row["name"]): row["value"] for row in rows}
     for report in listed:
         parts = [("run", "", report["run"])]
-        parts += [(kind[:-1], str(n), part) for kind in ("cores", "banks", "controllers") for n, part in enumerate(report[kind])]
+        parts += [
+            (kind[:-1], str(n), part)
+            for kind in ("cores", "banks", "controllers")
+            for n, part in enumerate(report[kind])
+        ]
         for kind, number, part in parts:
             for name, value in part.items():
                 if name != "console":
@@ -91,7 +121,9 @@ def test_show_as_json_and_csv_have_the_same_numbers(command, worked, repository)
 
 
 CHANGED = (
-    WORKED.replace("cycles 4000", "cycles 4400").replace("delay 400", "delay 800").replace("waited 50", "waited 450")
+    WORKED.replace("cycles 4000", "cycles 4400")
+    .replace("delay 400", "delay 800")
+    .replace("waited 50", "waited 450")
     .replace("halt exit 1", "halt break")
 )
 
@@ -130,14 +162,23 @@ def test_diff_of_machines_with_other_parts(command, worked, repository):
 
 def call(words, **options):
     """Runs zsim-tools in a process of its own."""
-    return subprocess.run([sys.executable, "-m", "zsim_tools", *map(str, words)], env=environment("zsim"), check=False,
-                          stderr=subprocess.PIPE, text=True, **options)
+    return subprocess.run(
+        [sys.executable, "-m", "zsim_tools", *map(str, words)],
+        env=environment("zsim"),
+        check=False,
+        stderr=subprocess.PIPE,
+        text=True,
+        **options,
+    )
 
 
 def test_an_output_that_is_full(worked):
     with open("/dev/full", "w") as full:
         ended = call(["show", worked], stdout=full)
-    assert (ended.returncode, ended.stderr) == (2, "zsim-tools: cannot write: standard output: No space left on device\n")
+    assert (ended.returncode, ended.stderr) == (
+        2,
+        "zsim-tools: cannot write: standard output: No space left on device\n",
+    )
 
 
 def test_a_reader_that_is_gone(worked):
@@ -169,5 +210,7 @@ def test_missing_packages_are_named(repository):
 
 
 def test_the_library_loads_little_at_first():
-    code = "import sys, zsim_tools; zsim_tools.run; assert not {'pandas', 'matplotlib', 'distributed'} & set(sys.modules)"
+    code = (
+        "import sys, zsim_tools; zsim_tools.run; assert not {'pandas', 'matplotlib', 'distributed'} & set(sys.modules)"
+    )
     assert subprocess.run([sys.executable, "-c", code], env=environment("zsim"), check=False).returncode == 0

@@ -63,15 +63,26 @@ def test_the_machine_of_an_example_keeps_its_text(repository):
 # What stands on the plots of docs/tools.md: the labels of both axes, the title, and the legend or the fields' numbers.
 PLOTS = {
     "matrix.png": (
-        "sets of the L1", "misses in the L1 per 1000 instructions", "",
-        ["matrix_blocked, l1.ways 1", "matrix_blocked, l1.ways 8", "matrix_naive, l1.ways 1", "matrix_naive, l1.ways 8"],
+        "sets of the L1",
+        "misses in the L1 per 1000 instructions",
+        "",
+        [
+            "matrix_blocked, l1.ways 1",
+            "matrix_blocked, l1.ways 8",
+            "matrix_naive, l1.ways 1",
+            "matrix_naive, l1.ways 8",
+        ],
     ),
     "matrix_blocked.png": (
-        "ways of the L1 (lines in a set)", "sets of the L1", "matrix_blocked",
+        "ways of the L1 (lines in a set)",
+        "sets of the L1",
+        "matrix_blocked",
         "171 140 136 136 156 138 136 135 150 137 84.4 6.62 147 53.6 6.61 5.27 46.8 10.6 5.27 3.69 31.5 7.4 3.6 1.4".split(),
     ),
     "stream.png": (
-        "occupancy of a controller (cycles per event)", "waiting (share of the cycles)", "",
+        "occupancy of a controller (cycles per event)",
+        "waiting (share of the cycles)",
+        "",
         [f"{name}, l2.banks {banks}" for name in ("stream", "stream_padded") for banks in (1, 2, 4)],
     ),
 }
@@ -85,7 +96,9 @@ def test_the_plots_of_the_documents(command, repository, tmp_path, monkeypatch):
     for name in ("matrix.csv", "stream.csv"):
         shutil.copy(HERE / "data" / name, tmp_path)
     figures = []
-    monkeypatch.setattr("zsim_tools.plots.save", lambda figure, out, save=plots.save: (figures.append(figure), save(figure, out)))
+    monkeypatch.setattr(
+        "zsim_tools.plots.save", lambda figure, out, save=plots.save: (figures.append(figure), save(figure, out))
+    )
     for line in lines:
         assert command(*shlex.split(line)).returncode == 0
         name = shlex.split(line)[-1]
@@ -96,9 +109,9 @@ def test_the_plots_of_the_documents(command, repository, tmp_path, monkeypatch):
         assert f"](plots/{name})" in text
 
 
-@pytest.mark.parametrize("name, where", [
-    ("matrix", {"l1.sets": 16, "l1.ways": 8}), ("stream", {"controllers.occupancy": 32, "l2.banks": 2}),
-])
+@pytest.mark.parametrize(
+    "name, where", [("matrix", {"l1.sets": 16, "l1.ways": 8}), ("stream", {"controllers.occupancy": 32, "l2.banks": 2})]
+)
 def test_the_stored_tables_are_those_of_zsim(built_zsim, repository, tmp_path, name, where):
     """Runs two of the runs of each sweep with the built program, and compares all that they counted."""
     planned = read_sweep(repository / f"examples/sweeps/{name}.toml").planned()
@@ -106,7 +119,9 @@ def test_the_stored_tables_are_those_of_zsim(built_zsim, repository, tmp_path, n
     chosen = [run for run in planned if where.items() <= run.values.items()]
     assert len(chosen) == 2
     for run in chosen:
-        rows = table[(table["machine_sha256"] == run.machine_sha256) & (table["executable_sha256"] == run.executable.sha256)]
+        rows = table[
+            (table["machine_sha256"] == run.machine_sha256) & (table["executable_sha256"] == run.executable.sha256)
+        ]
         outcome = run_machine(built_zsim, run.machine.text, str(repository / "examples/sweeps" / run.executable.name))
         wanted = row_of(run, judge(run, outcome), rows.iloc[0]["zsim_sha256"])
         assert len(rows) == 1 and {name: rows.iloc[0][name] for name in wanted} == wanted

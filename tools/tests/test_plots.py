@@ -65,7 +65,8 @@ def test_lines_of_several_columns(table, tmp_path):
 
 def test_a_heat_map(table, tmp_path):
     figure, _ = zsim_tools.plot(
-        table, tmp_path / "a.png", "l1.ways", "l2_mpki", heat="l1.sets", where={"executable": "a.elf"})
+        table, tmp_path / "a.png", "l1.ways", "l2_mpki", heat="l1.sets", where={"executable": "a.elf"}
+    )
     axes, bar = figure.axes
     assert size_of(tmp_path / "a.png") == PIXELS
     assert (axes.get_xlabel(), axes.get_ylabel()) == ("ways of the L1 (lines in a set)", "sets of the L1")
@@ -83,38 +84,63 @@ def test_runs_that_did_not_end_by_an_exit_are_left_out(command, twelve):
     assert ended.stderr == "zsim-tools: 8 of the rows are left out: their runs did not end by the program's exit\n"
 
 
-@pytest.mark.parametrize("words, told", [
-    ("--x l1.ways --y l1_mpki --out a.png",
-     "table.csv: 2 rows have l1.ways = 1, executable = a.elf; pick a value of l1.sets with --where, or draw --lines of it"),
-    ("--x l1.way --y l1_mpki --out a.png", "table.csv: has no column l1.way; did you mean l1.ways?"),
-    ("--x l1.ways --y nothing_like_it --out a.png", "table.csv: has no column nothing_like_it"),
-    ("--x l1.ways --y halt --out a.png", "table.csv: column halt: is not of numbers"),
-    ("--x l1.ways --y cpi --lines colour --out a.png", "table.csv: has no column colour"),
-    ("--x l1.ways --y cpi --heat sets --out a.png", "table.csv: has no column sets; did you mean l1.sets?"),
-    ("--x l1.ways --y cpi --where l1.sets=3 --out a.png", "table.csv: no row has l1.sets = 3; there are 2, 4"),
-    ("--x l1.ways --y cpi --where l1.sets --out a.png",
-     "usage: argument --where: l1.sets is not COLUMN=VALUE (see zsim-tools plot --help)"),
-    ("--x l1.ways --y delay --where l1.sets=2 --out a.gif", "cannot write: a.gif: the name of a plot ends with .png or .svg"),
-    ("--x l1.ways --y delay --where l1.sets=2 --out no/a.png", "cannot write: no/a.png: no is no folder"),
-    ("--x l1.ways --y bank_waited --where l1.sets=2 --log-y --out a.png",
-     "--log-y: bank_waited has values that are not above 0"),
-    ("--x l1.ways --y cpi --lines l1.sets --heat l1.sets --out a.png",
-     "usage: argument --heat: not allowed with argument --lines (see zsim-tools plot --help)"),
-])
+@pytest.mark.parametrize(
+    "words, told",
+    [
+        (
+            "--x l1.ways --y l1_mpki --out a.png",
+            "table.csv: 2 rows have l1.ways = 1, executable = a.elf; pick a value of l1.sets with --where, or draw --lines of it",
+        ),
+        ("--x l1.way --y l1_mpki --out a.png", "table.csv: has no column l1.way; did you mean l1.ways?"),
+        ("--x l1.ways --y nothing_like_it --out a.png", "table.csv: has no column nothing_like_it"),
+        ("--x l1.ways --y halt --out a.png", "table.csv: column halt: is not of numbers"),
+        ("--x l1.ways --y cpi --lines colour --out a.png", "table.csv: has no column colour"),
+        ("--x l1.ways --y cpi --heat sets --out a.png", "table.csv: has no column sets; did you mean l1.sets?"),
+        ("--x l1.ways --y cpi --where l1.sets=3 --out a.png", "table.csv: no row has l1.sets = 3; there are 2, 4"),
+        (
+            "--x l1.ways --y cpi --where l1.sets --out a.png",
+            "usage: argument --where: l1.sets is not COLUMN=VALUE (see zsim-tools plot --help)",
+        ),
+        (
+            "--x l1.ways --y delay --where l1.sets=2 --out a.gif",
+            "cannot write: a.gif: the name of a plot ends with .png or .svg",
+        ),
+        ("--x l1.ways --y delay --where l1.sets=2 --out no/a.png", "cannot write: no/a.png: no is no folder"),
+        (
+            "--x l1.ways --y bank_waited --where l1.sets=2 --log-y --out a.png",
+            "--log-y: bank_waited has values that are not above 0",
+        ),
+        (
+            "--x l1.ways --y cpi --lines l1.sets --heat l1.sets --out a.png",
+            "usage: argument --heat: not allowed with argument --lines (see zsim-tools plot --help)",
+        ),
+    ],
+)
 def test_what_is_wrong_is_named(command, table, twelve, words, told):
     ended = command("plot", "table.csv", *words.split())
     assert (ended.returncode, ended.stderr) == (2, f"zsim-tools: {told}\n")
     assert not list(twelve.glob("*.png")) and not list(twelve.glob(".*"))
 
 
-@pytest.mark.parametrize("name, text, told", [
-    ("a.csv", None, "cannot read: a.csv: No such file or directory"),
-    ("a.csv", "", "a.csv: no table: No columns to parse from file"),
-    ("a.csv", "zsim report 1\ncores 1\n", "a.csv: no table of a sweep: it has no column executable"),
-    ("a.csv", "executable,status,line,halt,cpi\na.elf,0,,exit 0,fast\n", "a.csv: column cpi: has a value that is no number"),
-    ("a.csv", "executable,status,line,halt\na.elf,good,,exit 0\n", "a.csv: column status: has a value that is no number"),
-    ("a.txt", "text", "a.txt: no table: its name ends neither with .csv nor with .parquet"),
-])
+@pytest.mark.parametrize(
+    "name, text, told",
+    [
+        ("a.csv", None, "cannot read: a.csv: No such file or directory"),
+        ("a.csv", "", "a.csv: no table: No columns to parse from file"),
+        ("a.csv", "zsim report 1\ncores 1\n", "a.csv: no table of a sweep: it has no column executable"),
+        (
+            "a.csv",
+            "executable,status,line,halt,cpi\na.elf,0,,exit 0,fast\n",
+            "a.csv: column cpi: has a value that is no number",
+        ),
+        (
+            "a.csv",
+            "executable,status,line,halt\na.elf,good,,exit 0\n",
+            "a.csv: column status: has a value that is no number",
+        ),
+        ("a.txt", "text", "a.txt: no table: its name ends neither with .csv nor with .parquet"),
+    ],
+)
 def test_what_is_no_table_is_refused(command, tmp_path, name, text, told):
     if text is not None:
         (tmp_path / name).write_text(text)
@@ -124,7 +150,19 @@ def test_what_is_no_table_is_refused(command, tmp_path, name, text, told):
 
 def test_every_column_has_a_label_with_words(table):
     for column in table.columns:
-        if not column.endswith(("sha256", "_halt")) and column not in ("executable", "status", "line", "halt", "cycles",
-                                                                       "instructions", "cores", "accesses", "events",
-                                                                       "loads", "stores", "atomics", "upgrades"):
+        if not column.endswith(("sha256", "_halt")) and column not in (
+            "executable",
+            "status",
+            "line",
+            "halt",
+            "cycles",
+            "instructions",
+            "cores",
+            "accesses",
+            "events",
+            "loads",
+            "stores",
+            "atomics",
+            "upgrades",
+        ):
             assert label_of(column) != column, column

@@ -30,8 +30,12 @@ def reports_in(text):
 
 
 def files_with_reports(repository):
-    return [*repository.glob("crates/*/stdout"), *repository.glob("*.md"), *repository.glob("docs/*.md"),
-            *repository.glob("examples/**/*.md")]
+    return [
+        *repository.glob("crates/*/stdout"),
+        *repository.glob("*.md"),
+        *repository.glob("docs/*.md"),
+        *repository.glob("examples/**/*.md"),
+    ]
 
 
 def test_every_report_of_the_repository_is_read(repository):
@@ -57,12 +61,18 @@ def test_the_frames_have_what_the_report_says():
     assert list(report.controllers["events"]) == [40]
     assert (report.banks.index.name, report.cores.index.name) == ("bank", "core")
     assert report.summary == {
-        "cores": 2, "intervals": 1, "instructions": 3000, "cycles": 4000, "accesses": 1300, "events": 160}
+        "cores": 2,
+        "intervals": 1,
+        "instructions": 3000,
+        "cycles": 4000,
+        "accesses": 1300,
+        "events": 160,
+    }
 
 
 # By hand: core 0 has 4000 cycles and 1000 instructions, core 1 3000 and 2000. With occupancies of 8 cycles for a bank
-# and 50 for the controller, bank 0 is busy for 800 of 4100 cycles (it is free again after the last core's clock), bank 1
-# for 160 of 4000, and the controller for 2000 of 4000.
+# and 50 for the controller, bank 0 is busy for 800 of 4100 cycles (it is free again after the last core's clock),
+# bank 1 for 160 of 4000, and the controller for 2000 of 4000.
 BY_HAND = {
     "cpi": 7000 / 3000,
     "waiting": 500 / 7000,
@@ -82,8 +92,13 @@ BY_HAND = {
     "controller_busiest": 0.5,
 }
 CORES_BY_HAND = {
-    "cpi": [4.0, 1.5], "waiting": [0.1, 1 / 30], "hits_pki": [580.0, 325.0], "upgrades_pki": [5.0, 5.0],
-    "l2hits_pki": [10.0, 10.0], "l1_mpki": [15.0, 20.0], "l2_mpki": [5.0, 10.0],
+    "cpi": [4.0, 1.5],
+    "waiting": [0.1, 1 / 30],
+    "hits_pki": [580.0, 325.0],
+    "upgrades_pki": [5.0, 5.0],
+    "l2hits_pki": [10.0, 10.0],
+    "l1_mpki": [15.0, 20.0],
+    "l2_mpki": [5.0, 10.0],
 }
 
 
@@ -91,8 +106,9 @@ CORES_BY_HAND = {
 def machine():
     """The machine of the report that was worked out by hand, as far as its derived numbers go."""
     plain = zsim_tools.read_machine("plain")
-    return plain.changed({
-        "cores": 2, "l2.banks": 2, "domains.banks": [0, 0], "l2.occupancy": 8, "controllers.occupancy": 50})
+    return plain.changed(
+        {"cores": 2, "l2.banks": 2, "domains.banks": [0, 0], "l2.occupancy": 8, "controllers.occupancy": 50}
+    )
 
 
 def test_derived_numbers_are_those_by_hand(machine):
@@ -160,26 +176,46 @@ def test_a_report_cut_in_half_says_so(command, tmp_path):
     (tmp_path / "half.txt").write_text(WORKED[: len(WORKED) // 2])
     ended = command("show", "half.txt")
     assert ended.returncode == 2 and ended.stdout == ""
-    assert ended.stderr == "zsim-tools: half.txt: line 10: the report is cut off in this line, where the line of core 1 belongs\n"
+    assert (
+        ended.stderr
+        == "zsim-tools: half.txt: line 10: the report is cut off in this line, where the line of core 1 belongs\n"
+    )
 
 
-@pytest.mark.parametrize("text, told", [
-    ("", "line 1: no report: the file is empty"),
-    ("\x7fELF\x02\x01\x01", 'line 1: no report: it begins with "\\x7fELF\\x02\\x01\\x01", not with "zsim report 1"'),
-    ("zsim report 2\ncores 1\n", 'line 1: a report of version "2"; these tools read version 1'),
-    (WORKED.replace("cores 2", "cores two"), 'line 2: here belongs "cores N", not "cores two"'),
-    (WORKED.replace("cycles 4000\nacc", "cycles 04000\nacc"), 'line 5: here belongs "cycles N", not "cycles 04000"'),
-    (WORKED.replace("halt exit 1", "halt nowhere"), "line 10: here belongs the line of core 1, not"),
-    (WORKED.replace("console 3", "console 4"), "line 9: core 0 wrote 4 bytes, but here are 3 of core 0"),
-    (WORKED.replace("bank 1", "bank 2"), "line 13: bank 2 where bank 1 belongs"),
-    (WORKED.replace("core 1 instr", "core 3 instr"), "line 10: core 3 where core 1 belongs"),
-    (WORKED.replace("waited 50", "waited 99999999999999999999"), "line 12: the number 99999999999999999999 is too large"),
-    (WORKED + "status 0\n", 'line 15: the report ends before this line, not with "status 0"'),
-    (WORKED + WORKED, 'line 15: the report ends before this line, not with "zsim report 1"'),
-    (WORKED.replace("controller 0 events 40", "controller 0 events 41"),
-     "line 7: events 160, but the banks and controllers below come to 161"),
-    (WORKED.replace("hits 580", "hits 581"), "line 6: accesses 1300, but what the accesses of the cores found below"),
-])
+@pytest.mark.parametrize(
+    "text, told",
+    [
+        ("", "line 1: no report: the file is empty"),
+        (
+            "\x7fELF\x02\x01\x01",
+            'line 1: no report: it begins with "\\x7fELF\\x02\\x01\\x01", not with "zsim report 1"',
+        ),
+        ("zsim report 2\ncores 1\n", 'line 1: a report of version "2"; these tools read version 1'),
+        (WORKED.replace("cores 2", "cores two"), 'line 2: here belongs "cores N", not "cores two"'),
+        (
+            WORKED.replace("cycles 4000\nacc", "cycles 04000\nacc"),
+            'line 5: here belongs "cycles N", not "cycles 04000"',
+        ),
+        (WORKED.replace("halt exit 1", "halt nowhere"), "line 10: here belongs the line of core 1, not"),
+        (WORKED.replace("console 3", "console 4"), "line 9: core 0 wrote 4 bytes, but here are 3 of core 0"),
+        (WORKED.replace("bank 1", "bank 2"), "line 13: bank 2 where bank 1 belongs"),
+        (WORKED.replace("core 1 instr", "core 3 instr"), "line 10: core 3 where core 1 belongs"),
+        (
+            WORKED.replace("waited 50", "waited 99999999999999999999"),
+            "line 12: the number 99999999999999999999 is too large",
+        ),
+        (WORKED + "status 0\n", 'line 15: the report ends before this line, not with "status 0"'),
+        (WORKED + WORKED, 'line 15: the report ends before this line, not with "zsim report 1"'),
+        (
+            WORKED.replace("controller 0 events 40", "controller 0 events 41"),
+            "line 7: events 160, but the banks and controllers below come to 161",
+        ),
+        (
+            WORKED.replace("hits 580", "hits 581"),
+            "line 6: accesses 1300, but what the accesses of the cores found below",
+        ),
+    ],
+)
 def test_what_is_wrong_is_named(text, told):
     with pytest.raises(zsim_tools.ToolError) as refusal:
         parse_report(text, "name")

@@ -44,7 +44,13 @@ def test_a_sweep_has_a_row_for_each_run(command, twelve):
     assert table["l2_mpki"].iloc[0] == pytest.approx(50)
     assert table["machine_sha256"].nunique() == 6 and table["executable_sha256"].nunique() == 2
     assert sorted(path.name for path in twelve.iterdir()) == [
-        "a.elf", "long.elf", "machine.toml", "sweep.toml", "table.csv", "table.csv.runs"]
+        "a.elf",
+        "long.elf",
+        "machine.toml",
+        "sweep.toml",
+        "table.csv",
+        "table.csv.runs",
+    ]
 
 
 def test_a_run_that_is_done_is_not_run_again(command, twelve):
@@ -145,7 +151,8 @@ def test_what_failed_for_another_cause_is_tried_again(command, twelve):
     table = table_of(twelve)
     assert list(table["status"]) == [4] * 6 + [0] * 6
     assert set(table["line"][6:]) == {
-        'its output: line 1: no report: it begins with "Segmentation fault", not with "zsim report 1"'}
+        'its output: line 1: no report: it begins with "Segmentation fault", not with "zsim report 1"'
+    }
     assert "table.csv: 12 runs;" in command("sweep", "sweep.toml", "--out", "table.csv").stderr
 
 
@@ -157,18 +164,24 @@ def test_a_fault_of_the_program_is_told(command, twelve):
 
 
 def test_keys_that_are_tied_vary_together(command, twelve):
-    (twelve / "sweep.toml").write_text("""\
+    (twelve / "sweep.toml").write_text(
+        """\
 machine = "plain"
 executables = ["gen:5"]
 axes.controllers.occupancy = [1, 8]
 [[tied]]
 l2.banks = [1, 2]
 domains.banks = [[0], [0, 0]]
-""")
+"""
+    )
     assert command("sweep", "sweep.toml", "--out", "table.csv").returncode == 0
     table = table_of(twelve)
     assert list(zip(table["controllers.occupancy"], table["l2.banks"], table["domains.banks"])) == [
-        (1, 1, "[0]"), (1, 2, "[0, 0]"), (8, 1, "[0]"), (8, 2, "[0, 0]")]
+        (1, 1, "[0]"),
+        (1, 2, "[0, 0]"),
+        (8, 1, "[0]"),
+        (8, 2, "[0, 0]"),
+    ]
     assert table["bank1_events"].isna().tolist() == [True, False, True, False]
 
 
@@ -186,13 +199,27 @@ def test_the_machine_keeps_its_comments():
 BAD_SWEEPS = [
     ("l1.ways = [1, 2, 4]", "l1.waays = [1]", "sweep.toml: axes: l1.waays is no key of machine.toml"),
     ("l1.ways = [1, 2, 4]", "ways = [1]", "sweep.toml: axes: ways is no key of machine.toml"),
-    ("l1.sets = [2, 4]\nl1.ways = [1, 2, 4]", "l1 = [1]",
-     "sweep.toml: axes: l1 is a table, and not a key with a value, of machine.toml"),
-    ("[1, 2, 4]", '[1, "two"]', "sweep.toml: axes: l1.ways has the string 'two', and in machine.toml it is of kind integer"),
+    (
+        "l1.sets = [2, 4]\nl1.ways = [1, 2, 4]",
+        "l1 = [1]",
+        "sweep.toml: axes: l1 is a table, and not a key with a value, of machine.toml",
+    ),
+    (
+        "[1, 2, 4]",
+        '[1, "two"]',
+        "sweep.toml: axes: l1.ways has the string 'two', and in machine.toml it is of kind integer",
+    ),
     ("[1, 2, 4]", "[1, 2.0]", "sweep.toml: axes: l1.ways has the float 2.0, and in machine.toml it is of kind integer"),
-    ("[1, 2, 4]", "[true]", "sweep.toml: axes: l1.ways has the boolean True, and in machine.toml it is of kind integer"),
-    ("[1, 2, 4]", "[[1]]",
-     "sweep.toml: axes: l1.ways has the array of integers [1], and in machine.toml it is of kind integer"),
+    (
+        "[1, 2, 4]",
+        "[true]",
+        "sweep.toml: axes: l1.ways has the boolean True, and in machine.toml it is of kind integer",
+    ),
+    (
+        "[1, 2, 4]",
+        "[[1]]",
+        "sweep.toml: axes: l1.ways has the array of integers [1], and in machine.toml it is of kind integer",
+    ),
     ("[1, 2, 4]", "1", "sweep.toml: axes.l1.ways: has to be a list of values, with at least one"),
     ("[1, 2, 4]", "[]", "sweep.toml: axes.l1.ways: has to be a list of values, with at least one"),
     ("[1, 2, 4]", "[1, 2, 1]", "sweep.toml: axes: l1.ways: 1 stands twice"),
@@ -206,7 +233,11 @@ BAD_SWEEPS = [
     ('"long.elf"', '"a.elf"', "sweep.toml: executables: one stands twice"),
     ('"long.elf"', '"gen:x"', "sweep.toml: executables: gen:x: behind gen: stands a number"),
     ('"long.elf"', '"gone.elf"', "sweep.toml: executables: cannot read: gone.elf: No such file or directory"),
-    ("[axes]", "[[tied]]", "sweep.toml: tied[0]: keys that are tied have as many values each: l1.sets has 2 and l1.ways has 3"),
+    (
+        "[axes]",
+        "[[tied]]",
+        "sweep.toml: tied[0]: keys that are tied have as many values each: l1.sets has 2 and l1.ways has 3",
+    ),
     ("[axes]", "[[tied]]\nl1.sets = [1]\n[axes]", "sweep.toml: l1.sets: stands in two axes"),
 ]
 
@@ -228,13 +259,16 @@ def test_a_bad_machine_is_named_with_its_line(command, twelve):
     assert ended.returncode == 2 and ended.stderr.startswith("zsim-tools: machine.toml: line 2: no TOML: ")
 
 
-@pytest.mark.parametrize("out, told", [
-    ("table.txt", "cannot write: table.txt: the name of a table ends with .csv or .parquet"),
-    ("nowhere/table.csv", "cannot write: nowhere/table.csv: nowhere is no folder"),
-    ("folder.csv", "cannot write: folder.csv: it is no regular file"),
-    ("other.csv", "other.csv.runs: line 1: this is no file of a sweep's runs"),
-    ("torn.csv", "torn.csv.runs: line 2: this is no run of a sweep"),
-])
+@pytest.mark.parametrize(
+    "out, told",
+    [
+        ("table.txt", "cannot write: table.txt: the name of a table ends with .csv or .parquet"),
+        ("nowhere/table.csv", "cannot write: nowhere/table.csv: nowhere is no folder"),
+        ("folder.csv", "cannot write: folder.csv: it is no regular file"),
+        ("other.csv", "other.csv.runs: line 1: this is no file of a sweep's runs"),
+        ("torn.csv", "torn.csv.runs: line 2: this is no run of a sweep"),
+    ],
+)
 def test_an_output_that_cannot_be_written(command, twelve, out, told):
     (twelve / "folder.csv").mkdir()
     (twelve / "other.csv.runs").write_text("my own file\n")
@@ -251,18 +285,34 @@ def test_parquet_needs_its_library(command, twelve):
         ended = command("sweep", "sweep.toml", "--out", "table.parquet")
         assert ended.returncode == 2
         assert ended.stderr == (
-            "zsim-tools: table.parquet: Parquet needs the Python package pyarrow; tables can also be .csv\n")
+            "zsim-tools: table.parquet: Parquet needs the Python package pyarrow; tables can also be .csv\n"
+        )
     else:
         assert command("sweep", "sweep.toml", "--out", "table.parquet").returncode == 0
         command("sweep", "sweep.toml", "--out", "table.csv")
         assert zsim_tools.read_table(twelve / "table.parquet").equals(table_of(twelve))
 
 
-@pytest.mark.parametrize("zsim, told", [
-    ("./nothing", "cannot run: ./nothing: No such file or directory"),
-    ("./sweep.toml", "cannot run: ./sweep.toml: it is no program that can be executed"),
-    ("./text", "cannot run: .*/text: Exec format error"),
-])
+def test_a_name_of_parquet_goes_to_its_library(command, twelve, monkeypatch):
+    """Without the library: pandas' own form stands in for what it would write and read."""
+    import pandas
+
+    monkeypatch.setattr("importlib.util.find_spec", lambda name: name)
+    monkeypatch.setattr("pandas.DataFrame.to_parquet", lambda table, file, engine, index: table.to_pickle(file))
+    monkeypatch.setattr("pandas.read_parquet", lambda path, engine: pandas.read_pickle(path))
+    assert command("sweep", "sweep.toml", "--out", "table.parquet").returncode == 0
+    command("sweep", "sweep.toml", "--out", "table.csv")
+    pandas.testing.assert_frame_equal(zsim_tools.read_table(twelve / "table.parquet"), table_of(twelve))
+
+
+@pytest.mark.parametrize(
+    "zsim, told",
+    [
+        ("./nothing", "cannot run: ./nothing: No such file or directory"),
+        ("./sweep.toml", "cannot run: ./sweep.toml: it is no program that can be executed"),
+        ("./text", "cannot run: .*/text: Exec format error"),
+    ],
+)
 def test_a_missing_program(command, twelve, zsim, told):
     (twelve / "text").write_text("no program")
     (twelve / "text").chmod(0o755)
@@ -286,7 +336,9 @@ def test_one_sweep_at_a_time_has_a_table(command, twelve, fake_zsim):
     ended = command("sweep", "sweep.toml", "--out", "table.csv")
     store.close()
     assert (ended.returncode, ended.stderr) == (
-        2, "zsim-tools: cannot write: table.csv.runs: another sweep is at work on it\n")
+        2,
+        "zsim-tools: cannot write: table.csv.runs: another sweep is at work on it\n",
+    )
 
 
 def test_from_python(twelve, fake_zsim):
@@ -308,13 +360,15 @@ def test_from_python(twelve, fake_zsim):
 
 def test_zsim_itself(built_zsim, twelve, repository):
     """Runs that end, a machine that is refused, an executable that is refused, and a limit, with the real program."""
-    (twelve / "sweep.toml").write_text(f"""\
+    (twelve / "sweep.toml").write_text(
+        f"""\
 machine = "machine.toml"
 executables = ["{repository}/examples/load.elf", "gen:5", "a.elf"]
 [axes]
 l1.ways = [1, 2, 0]
 intervals = [1, 100000]
-""")
+"""
+    )
     (twelve / "a.elf").write_bytes((repository / "examples/load.elf").read_bytes()[:100])
     table = zsim_tools.sweep(twelve / "sweep.toml", twelve / "table.csv", zsim=built_zsim)
     assert os.path.exists(twelve / "table.csv") and len(table) == 18

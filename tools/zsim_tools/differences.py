@@ -27,8 +27,8 @@ KIND_OF = {name: kind for kind, names in KINDS.items() for name in names}
 class Change:
     """A number, or a text, that is not the same in both reports. `relative` is the change as a share of `a`.
 
-    `weight` is the change as a share of the whole of its kind (`docs/tools.md`); that of a text is infinite, and that of
-    a number that only one report has is 0, since the sums tell of it.
+    `weight` is the change as a share of the whole of its kind (`docs/tools.md`). That of a text is infinite, and that
+    of a number that only one report has is 0, since the sums tell of it.
     """
 
     part: str

@@ -94,8 +94,11 @@ def kind_of(value):
 
 def is_kind(value, kind):
     """Whether a value is of a kind. An empty array is an array of anything."""
-    return kind_of(value) == kind or (value == [] and kind.startswith("array")) or (
-        isinstance(value, list) and kind == "empty array")
+    return (
+        kind_of(value) == kind
+        or (value == [] and kind.startswith("array"))
+        or (isinstance(value, list) and kind == "empty array")
+    )
 
 
 def flat(table, before=""):

@@ -3,6 +3,7 @@
 They read in grey as well: lines differ in their markers and strokes, and the colours also in how light they are.
 """
 
+import difflib
 from pathlib import Path
 
 from .errors import ToolError
@@ -54,8 +55,6 @@ def check_column(table, column, name, numeric=False):
 
 
 def closest(word, words):
-    import difflib
-
     return next(iter(difflib.get_close_matches(word, words, 1)), None)
 
 
@@ -81,10 +80,10 @@ def axes_of(table):
 def plot(table, out, x, y, lines=(), heat=None, where=None, title=None, log_y=False, name="table"):
     """Plots column y of a table against column x, and writes it as PNG or SVG, by the ending of the name `out`.
 
-    There is a line for each combination of values of the columns `lines`; of the executable, where none is given and
-    there are several. With `heat`, another column, it is a map of x and that column instead. `where` picks rows, as in
-    `{"l1.sets": 64, "l1.ways": [1, 2]}`. Returns the figure of matplotlib, and how many rows were left out since their run did not end by
-    the program's exit. ToolError says what is wrong with the words or the table.
+    There is a line for each combination of values of the columns `lines`; of the executable, where none is given. With
+    `heat`, another column, it is a map of x and that column instead. `where` picks rows, as in `{"l1.sets": 64,
+    "l1.ways": [1, 2]}`. Returns the figure of matplotlib, and how many rows were left out since their run did not end
+    by the program's exit. ToolError says what is wrong with the words or the table.
     """
     if Path(out).suffix not in ENDINGS:
         raise ToolError(f"cannot write: {out}: the name of a plot ends with {' or '.join(ENDINGS)}")

@@ -1,7 +1,7 @@
 """Reads the reports of zsim: from the text to its counters, or to the first line that is wrong.
 
-The form is that of `docs/report.md`. A report of 64 cores has a few hundred lines, so all is kept as it is read, and the
-data frames are made where someone asks for them.
+The form is that of `docs/report.md`. A report of 64 cores has a few hundred lines, so all is kept as it is read, and
+the data frames are made where someone asks for them.
 """
 
 import re
@@ -16,7 +16,16 @@ VERSION = "1"
 
 # What the counters of a core and of a component are called in the report, in its order.
 CORE_COUNTERS = (
-    "instructions", "cycles", "delay", "loads", "stores", "atomics", "hits", "upgrades", "l2hits", "misses",
+    "instructions",
+    "cycles",
+    "delay",
+    "loads",
+    "stores",
+    "atomics",
+    "hits",
+    "upgrades",
+    "l2hits",
+    "misses",
 )
 COMPONENT_COUNTERS = ("events", "waited", "free")
 SUMMARY = ("cores", "intervals", "instructions", "cycles", "accesses", "events")
@@ -191,7 +200,9 @@ def take_header(lines, text):
     if not first.startswith("zsim report "):
         lines.fail(f'no report: it begins with {shown(first)}, not with "zsim report {VERSION}"')
     if lines.lines and first != f"zsim report {VERSION}":
-        lines.fail(f"a report of version {shown(first.removeprefix('zsim report '))}; these tools read version {VERSION}")
+        lines.fail(
+            f"a report of version {shown(first.removeprefix('zsim report '))}; these tools read version {VERSION}"
+        )
     lines.take(f"zsim report {VERSION}", f'"zsim report {VERSION}"')
 
 
@@ -203,7 +214,9 @@ def take_core(lines, number):
     console = lines.take(CONSOLE_LINE, f"the console of core {number}")
     written = console_bytes(console[3])
     if int(console[1]) != number or int(console[2]) != len(written):
-        lines.fail(f"core {console[1]} wrote {console[2]} bytes, but here are {len(written)} of core {number}", lines.next)
+        lines.fail(
+            f"core {console[1]} wrote {console[2]} bytes, but here are {len(written)} of core {number}", lines.next
+        )
     return Core(number, dict(zip(CORE_COUNTERS, numbers[1:])), match[match.lastindex], written)
 
 
@@ -245,10 +258,16 @@ def check_machine(report):
     """The machine, where one is given, has as many parts as the report."""
     if report.machine is None:
         return
-    for key, parts in (("cores", report.core_list), ("l2.banks", report.bank_list), ("controllers.count", report.controller_list)):
+    for key, parts in (
+        ("cores", report.core_list),
+        ("l2.banks", report.bank_list),
+        ("controllers.count", report.controller_list),
+    ):
         if report.machine.number(key) != len(parts):
             has = report.machine.values.get(key)
-            raise ToolError(f"{report.name}: this is no report of {report.machine.name}: {key} is {has}, but here are {len(parts)}")
+            raise ToolError(
+                f"{report.name}: this is no report of {report.machine.name}: {key} is {has}, but here are {len(parts)}"
+            )
 
 
 def read_report(path, machine=None):

@@ -50,7 +50,10 @@ class Here:
             name = run.executable.name
             if run.executable.data is not None and name not in files:
                 files[name] = Path(self.folder.name) / f"{len(files)}.elf"
-                files[name].write_bytes(run.executable.data)
+                try:
+                    files[name].write_bytes(run.executable.data)
+                except OSError as error:
+                    raise ToolError(f"cannot write: {files[name]}: {reason(error)}") from None
             self.futures[self.pool.submit(self._run, run, str(files.get(name, name)))] = run
 
     def outcomes(self):

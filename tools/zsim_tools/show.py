@@ -54,7 +54,9 @@ def show_csv(reports):
         for kind, number, numbers in parts_of(report):
             for name, value in numbers.items():
                 value = plain_number(value)
-                lines.writerow([report.name, kind, "" if number is None else number, name, "" if value is None else value])
+                lines.writerow(
+                    [report.name, kind, "" if number is None else number, name, "" if value is None else value]
+                )
 
 
 def show_tables(reports):

@@ -1,6 +1,7 @@
 """Tables: a row for each run of a sweep. `docs/tools.md` has the columns."""
 
 import csv
+import importlib.util
 import io
 import os
 from pathlib import Path
@@ -15,9 +16,22 @@ NEEDED = ("executable", "status", "line", "halt")
 
 # The derived numbers, which may have a fraction. All other numbers of a table are whole.
 FRACTIONS = (
-    "cpi", "waiting", "hits_pki", "upgrades_pki", "l2hits_pki", "l1_mpki", "l2_mpki",
-    "instructions_spread", "cycles_spread", "cpi_spread",
-    "bank_wait", "bank_busy", "bank_busiest", "controller_wait", "controller_busy", "controller_busiest",
+    "cpi",
+    "waiting",
+    "hits_pki",
+    "upgrades_pki",
+    "l2hits_pki",
+    "l1_mpki",
+    "l2_mpki",
+    "instructions_spread",
+    "cycles_spread",
+    "cpi_spread",
+    "bank_wait",
+    "bank_busy",
+    "bank_busiest",
+    "controller_wait",
+    "controller_busy",
+    "controller_busiest",
 )
 SHA256 = ("machine_sha256", "executable_sha256", "zsim_sha256")
 
@@ -76,11 +90,8 @@ def check_ending(path):
     """Raises ToolError where no table can be written under this name: for its ending, or for want of a library."""
     if Path(path).suffix not in ENDINGS:
         raise ToolError(f"cannot write: {path}: the name of a table ends with {' or '.join(ENDINGS)}")
-    if Path(path).suffix == ".parquet":
-        import importlib.util
-
-        if not any(importlib.util.find_spec(name) for name in ("pyarrow", "fastparquet")):
-            raise ToolError(f"{path}: Parquet needs the Python package pyarrow; tables can also be .csv")
+    if Path(path).suffix == ".parquet" and importlib.util.find_spec("pyarrow") is None:
+        raise ToolError(f"{path}: Parquet needs the Python package pyarrow; tables can also be .csv")
 
 
 def check_output(path):
@@ -112,7 +123,7 @@ def write_table(table, path):
     """Writes a table as CSV or Parquet, by the ending of its name."""
     check_ending(path)
     if Path(path).suffix == ".parquet":
-        write_whole(path, lambda file: table.to_parquet(file, index=False))
+        write_whole(path, lambda file: table.to_parquet(file, engine="pyarrow", index=False))
     else:
         write_whole(path, lambda file: table.to_csv(file, index=False))
 
@@ -124,10 +135,12 @@ def read_table(path):
     check_readable(path)
     try:
         if Path(path).suffix == ".parquet":
-            table = pandas.read_parquet(path)
+            table = pandas.read_parquet(path, engine="pyarrow")
         else:
             texts = {name: "string" for name in TEXTS}
-            table = pandas.read_csv(path, dtype=texts, keep_default_na=False, na_values="", float_precision="round_trip")
+            table = pandas.read_csv(
+                path, dtype=texts, keep_default_na=False, na_values="", float_precision="round_trip"
+            )
     except OSError as error:
         raise ToolError(f"cannot read: {path}: {reason(error)}") from None
     except Exception as error:  # (each library has exceptions of its own for a file that is none of its kind)

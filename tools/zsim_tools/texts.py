@@ -10,8 +10,16 @@ from rich.text import Text
 
 # Derived numbers that are shares, shown as percent.
 SHARES = (
-    "waiting", "busy", "bank_busy", "bank_busiest", "controller_busy", "controller_busiest",
-    "instructions_spread", "cycles_spread", "cpi_spread", "spread",
+    "waiting",
+    "busy",
+    "bank_busy",
+    "bank_busiest",
+    "controller_busy",
+    "controller_busiest",
+    "instructions_spread",
+    "cycles_spread",
+    "cpi_spread",
+    "spread",
 )
 # Where the output is no terminal, nothing is folded to the width of one.
 WIDE = 10_000
