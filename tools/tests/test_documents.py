@@ -15,7 +15,7 @@ from zsim_tools.machine import PLAIN, parse_machine
 from zsim_tools.report import parse_report
 from zsim_tools.sweep_file import read_sweep
 from zsim_tools.sweeps import judge, row_of
-from zsim_tools.table import FRACTIONS, numbers_of
+from zsim_tools.table import FRACTIONS, SHA256, numbers_of
 from zsim_tools.task import run_machine
 
 
@@ -119,12 +119,16 @@ def test_the_stored_tables_are_those_of_zsim(built_zsim, repository, tmp_path, n
     chosen = [run for run in planned if where.items() <= run.values.items()]
     assert len(chosen) == 2
     for run in chosen:
-        rows = table[
-            (table["machine_sha256"] == run.machine_sha256) & (table["executable_sha256"] == run.executable.sha256)
-        ]
         outcome = run_machine(built_zsim, run.machine.text, str(repository / "examples/sweeps" / run.executable.name))
-        wanted = row_of(run, judge(run, outcome), rows.iloc[0]["zsim_sha256"])
-        assert len(rows) == 1 and {name: rows.iloc[0][name] for name in wanted} == wanted
+        wanted = row_of(run, judge(run, outcome), "")
+        rows = table[
+            (table[[*run.values, "executable"]] == [wanted[key] for key in (*run.values, "executable")]).all(axis=1)
+        ]
+        assert len(rows) == 1
+        found = rows.iloc[0]
+        assert {key: found[key] for key in wanted if key not in SHA256} == {
+            key: value for key, value in wanted.items() if key not in SHA256
+        }
 
 
 def test_the_example_of_the_document(command, repository, tmp_path):
