@@ -51,11 +51,28 @@ def repository():
 
 @pytest.fixture(scope="session")
 def built_zsim():
-    """The program of this checkout, or the one that the variable ZSIM names. It is not built for a test."""
-    program = Path(os.environ.get("ZSIM", BUILT))
-    if not os.access(program, os.X_OK):
-        pytest.skip(f"zsim is not built ({program})")
-    return str(program)
+    """The program that the variable ZSIM names, or that of this checkout. It is not built for a test."""
+    named = os.environ.get("ZSIM")
+    if named:
+        return named
+    if not os.access(BUILT, os.X_OK):
+        pytest.skip(f"zsim is not built: there is no {BUILT}")
+    newer = newer_source()
+    if newer:
+        pytest.skip(f"zsim is not built: {newer} is newer than {BUILT}")
+    return str(BUILT)
+
+
+def newer_source():
+    """Returns a source that is newer than the program, if there is one, as the script `zsim` looks for it."""
+    built = BUILT.stat().st_mtime_ns
+    for folder, folders, files in os.walk(REPOSITORY / "crates"):
+        folders[:] = [name for name in folders if name not in ("out", "must-fail", "zsim_tests")]
+        for name in files:
+            path = Path(folder, name)
+            if path.stat().st_mtime_ns > built:
+                return path
+    return None
 
 
 @pytest.fixture(scope="session")
