@@ -1,7 +1,7 @@
 /* Loads and stores each of another line, of more lines than the caches of `plain` hold: all miss. */
 #include "zsim.h"
 
-#define TURNS 488
+#define TURNS 470
 #define LINES 8192
 #define WORDS 8
 

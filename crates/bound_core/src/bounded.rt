@@ -147,7 +147,7 @@ impl BoundCore {
     /// A turn in the interval that ends at cycle `end`: local instructions, and then one access
     /// through the port. Ended exactly where the core halted, or its clock reached the end with no
     /// instruction in progress.
-    #[inline]
+    #[inline(always)]
     pub fn turn<P: Program, X: Expand, Q: Port>(
         &mut self,
         program: &P,
@@ -225,6 +225,7 @@ impl BoundCore {
     }
 
     // Makes the access that the core waits for.
+    #[inline(always)]
     #[tactic(auto, unfolding(crate::specs::Timed::after_access))]
     fn access<X: Expand, Q: Port>(&mut self, x: &X, port: &mut Q, request: Request) -> Entry
         requires asked { asks self.old.timed ≡ Some request }

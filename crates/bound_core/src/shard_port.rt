@@ -4,6 +4,7 @@ ghost use Rattle.bound_core.specs.ShardPort.{base_in, base_of, room_of, size_in,
 ghost use Rattle.bound_core.specs.ShardWorld.{begun_world, restarted, serve};
 
 use crate::Port;
+use division::remainder;
 use shard::Shard;
 use std::alloc::Global;
 use std::marker::Model;
@@ -105,9 +106,9 @@ impl Port for ShardPort {
 
     ghost told = { λ p. None };
 
-    #[inline]
+    #[inline(always)]
     fn access(&mut self, start: Cycle, request: Request) -> Entry {
-        let number = (request.line() % self.shards.len() as u64) as usize;
+        let number = remainder(request.line(), self.shards.len() as u64) as usize;
         let core = usize::from(self.core);
         let entry = self.shards[number].serve(self.core, start, self.stamps[core], request);
         self.stamps[core] = entry.stamp;

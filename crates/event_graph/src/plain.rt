@@ -3,6 +3,7 @@ ghost use Rattle.machine_desc.specs.Machine.{IsL1, IsL2, IsControllers};
 
 use crate::{Expand, Piece};
 use component::Kind;
+use division::remainder;
 use machine_desc::{Controllers, L1, L2, Machine};
 use zs_num::{Entry, Outcome};
 
@@ -40,14 +41,15 @@ impl Plain {
     fn bank(&self, e: &Entry) -> u16
         ensures { result ≡ bank_of self.now.l2 e.now }
     {
-        (e.request.line() % u64::from(self.l2.banks)) as u16
+        remainder(e.request.line(), u64::from(self.l2.banks)) as u16
     }
 
     /// The controller behind the bank of an access.
     fn controller(&self, e: &Entry) -> u16
         ensures { result ≡ controller_of self.now.l2 self.now.controllers e.now }
     {
-        self.l2.banks + self.bank(e) % self.controllers.count
+        let number = remainder(u64::from(self.bank(e)), u64::from(self.controllers.count));
+        self.l2.banks + number as u16
     }
 
     fn look_up(&self, e: &Entry, others: bool) -> Piece

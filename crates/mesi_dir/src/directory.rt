@@ -1,5 +1,5 @@
 // A directory: its tags in one list, and beside each the row of its line.
-ghost use Rattle.std.specs.Prelude.{◌≡◌, ◌≢◌, ℕ, ◌<◌, ◌≤◌, ◌↔◌, ◌&&◌, ◌||◌, not, false, true, if◌then◌else◌, [], length, nat_eq, IsTrue, IfOk, IfSome, Some, None};
+ghost use Rattle.std.specs.Prelude.{◌≡◌, ◌≢◌, ℕ, ◌<◌, ◌≤◌, ◌↔◌, ◌&&◌, ◌||◌, not, false, true, if◌then◌else◌, [], length, nat_eq, IsTrue, IfOk, IfSome, IfNone, Some, None};
 ghost use Rattle.std.specs.List.{position};
 ghost use Rattle.mesi_dir.specs.LineMap.{nobody, sharing_of, is_among, is_sharer, owner_of, owner_without, HasOther, HasRoom, IsSharing, IsLineMap, KeepsOthers};
 ghost use Rattle.mesi_dir.specs.Rows.{sharing_in};
@@ -54,7 +54,10 @@ impl Directory {
         ensures value { result ≡ is_sharer self.now line core }
         ensures is_map { IsLineMap self.now }
     {
-        self.row(line).sharers.has(core)
+        match self.found(line) {
+            Some(row) => row.sharers.has(core),
+            None => false,
+        }
     }
 
     /// The core that may write a line.
@@ -62,7 +65,10 @@ impl Directory {
         ensures owner { result ≡ owner_of self.now line }
         ensures is_map { IsLineMap self.now }
     {
-        self.row(line).owner
+        match self.found(line) {
+            Some(row) => row.owner,
+            None => None,
+        }
     }
 
     /// Whether another core than this one has a line.
@@ -119,9 +125,21 @@ impl Directory {
         ensures row { sharing_in result ≡ sharing_of self.now line }
         ensures is_map { IsLineMap self.now }
     {
-        match place_of(&self.tags, line) {
-            Some(place) => self.rows[place],
+        match self.found(line) {
+            Some(row) => *row,
             None => Row::NOBODY,
+        }
+    }
+
+    // The row of a line that some core has, in place.
+    fn found(&self, line: u64) -> Option<&Row>
+        ensures some { IfSome result (λ row. sharing_in row.now ≡ sharing_of self.now line) }
+        ensures none { IfNone result (sharing_of self.now line ≡ nobody) }
+        ensures is_map { IsLineMap self.now }
+    {
+        match place_of(&self.tags, line) {
+            Some(place) => Some(&self.rows[place]),
+            None => None,
         }
     }
 

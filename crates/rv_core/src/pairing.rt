@@ -22,13 +22,14 @@ pub fn is_paired(pairing: Option<Pairing>, addr: u64, width: u8) -> bool
     }
 }
 
-/// The pairing that an access leaves.
-pub fn pairing_after(pairing: Option<Pairing>, request: Request) -> Option<Pairing>
-    ensures { result ≡ pairing_after pairing request }
+/// Makes the pairing what an access leaves. It is written only where the access changes it.
+#[inline(always)]
+pub fn pair(pairing: &mut Option<Pairing>, request: Request)
+    ensures { pairing.new ≡ pairing_after pairing.old request }
 {
     match request {
-        Request::Lr { addr, width } => Some(Pairing { addr, width }),
-        Request::Sc { .. } => None,
-        Request::Load { .. } | Request::Store { .. } | Request::Amo { .. } => pairing,
+        Request::Lr { addr, width } => *pairing = Some(Pairing { addr, width }),
+        Request::Sc { .. } => *pairing = None,
+        Request::Load { .. } | Request::Store { .. } | Request::Amo { .. } => {}
     }
 }

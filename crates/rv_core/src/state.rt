@@ -11,7 +11,7 @@ ghost use Rattle.rv_core.specs.Sound.{EndsInRegister, IsSound};
 ghost use Rattle.rv_core.specs.Step.{answered, console_byte, initial_core, is_free, replies_with};
 
 use crate::memory_range::MemoryRange;
-use crate::pairing::{Pairing, is_paired, pairing_after};
+use crate::pairing::{Pairing, is_paired, pair};
 use crate::progress::{Destination, Progress, Reply};
 use crate::replies::{received, reply_to};
 use crate::{Fetched, Program, Why};
@@ -275,7 +275,7 @@ impl Core {
                 upper,
                 destination,
             } => {
-                self.pairing = pairing_after(self.pairing, next);
+                pair(&mut self.pairing, next);
                 self.progress = Progress::Last {
                     next: upper,
                     lower: kept(destination, reply_to(&next, reply)),
@@ -289,7 +289,7 @@ impl Core {
                 destination,
             } => {
                 self.progress = Progress::Idle;
-                self.pairing = pairing_after(self.pairing, next);
+                pair(&mut self.pairing, next);
                 self.end(lower, reply_to(&next, reply), destination);
                 None
             }

@@ -188,6 +188,24 @@ module _ (c : Caches) (core line : ℕ) where
   pub drops_none : ((o : ℕ) → o ≢ core → letter_at c o line ≡ I) → DropsOthers c c core line
   drops_none none = record { gone = none; own = λ q. refl; others = λ x q apart. refl; l2 = refl }
 
+  -- where this core does not have it
+  pub absent_dropped : HaveCopies c → letter_at c core line ≡ I → in_own_set_of core line (without line) c ≡ c
+  absent_dropped copies none =
+      let sets : List (List (ℕ × Letter)) = get_or c.l1 core [] in
+      let same : in_set_of c.shards line (without line) sets ≡ sets = in_set_same c.shards line (without line) sets (without_absent line (copies_at c core line) (copies core line none)) in
+      ap (λ (l1 : List (List (List (ℕ × Letter)))). record c { l1 = l1 }) (ap (λ (made : List (List (ℕ × Letter))). set c.l1 core made) same ∙ set-get_or c.l1 core [])
+
+  pub absent_changes : letter_at c core line ≡ I → ChangesOne c c core line I
+  absent_changes none = λ x q.
+      elim (cases_eq core x) as (λ _. letter_at c x q ≡ cond (nat_eq core x) (cond (nat_eq line q) I (letter_at c x q)) (letter_at c x q)) [
+        | inl e ↦
+            elim (cases_eq line q) as (λ _. letter_at c x q ≡ cond (nat_eq core x) (cond (nat_eq line q) I (letter_at c x q)) (letter_at c x q)) [
+              | inl h ↦ rw (eq-eqb core x e, eq-eqb line q h, ← e, ← h) none
+              | inr h ↦ rw (eq-eqb core x e, ne_eqb line q h) refl
+            ]
+        | inr e ↦ rw (ne_eqb core x e) refl
+      ]
+
   pub cores_changed : (change : Letter → Letter) → length (others_changed change core line c).l1 ≡ length c.l1
   cores_changed change = others_length change core line c
 

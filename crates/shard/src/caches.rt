@@ -15,6 +15,7 @@ mod tests;
 
 use cache_set::Letter;
 use core_cache::CoreCache;
+use division::{quotient, remainder};
 use shared_set::SharedSet;
 use std::alloc::Global;
 use std::marker::Model;
@@ -71,6 +72,7 @@ impl CacheLists {
     }
 
     /// The letter that a core has for a line. It is I for a core that the caches don't know.
+    #[inline(always)]
     pub(crate) fn letter(&self, core: u16, line: u64) -> Letter
         ensures { result ≡ letter_at self.now core line }
     {
@@ -97,11 +99,12 @@ impl CacheLists {
     }
 
     // The number of a line's set in the L2.
+    #[inline(always)]
     fn place(&self, line: u64) -> usize
         ensures place { result ≡ set_number self.now.shards line self.now.l2 }
         ensures within { result < length self.now.l2 }
     {
-        (line / self.shards % self.l2.len() as u64) as usize
+        remainder(quotient(line, self.shards), self.l2.len() as u64) as usize
     }
 }
 

@@ -18,7 +18,7 @@ pub(crate) struct MarkedBytes {
 impl MarkedBytes {
     /// Serves an access of a core to the bytes from a place on, and answers its reply.
     #[tactic(auto, unfolding(crate::specs::Marks::reply_from, crate::specs::Marks::bytes_after, crate::specs::Marks::marks_after))]
-    #[inline]
+    #[inline(always)]
     pub(crate) fn serve(&mut self, core: u16, place: usize, request: Request) -> u64
         requires core { core < length self.old.marks }
         requires some { 1 ≤ width_of request }

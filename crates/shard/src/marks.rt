@@ -74,7 +74,7 @@ impl Marks {
     }
 
     /// Ends the marks of the other cores in the line that a core wrote to.
-    #[inline]
+    #[inline(always)]
     pub(crate) fn end_others(&mut self, core: u16, addr: u64)
         ensures value { self.new ≡ after_write core addr self.old }
         ensures cores { length self.new ≡ length self.old }

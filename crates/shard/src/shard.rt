@@ -10,6 +10,7 @@ use crate::filling::first_bytes;
 use crate::marked_bytes::MarkedBytes;
 use crate::marks::Marks;
 use cache_set::Letter;
+use division::quotient;
 use elf_load::Image;
 use machine_desc::Machine;
 use std::alloc::Global;
@@ -98,7 +99,7 @@ impl Shard {
 
     /// Serves an access of a core, whose own last stamp is `last`, at the core's clock `start`.
     #[tactic(auto, unfolding(crate::specs::Served::CanServe, crate::specs::Served::reply_of, crate::specs::Served::met_by, crate::specs::Served::after))]
-    #[inline]
+    #[inline(always)]
     pub fn serve(&mut self, core: u16, start: Cycle, last: Stamp, request: Request) -> Entry
         requires core { HasCore self.old core }
         requires can { CanServe self.old request }
@@ -180,12 +181,13 @@ impl Shard {
     }
 
     // Where a byte of memory stands among those of the shard, if its line is one of the shard's.
+    #[inline(always)]
     fn place(&self, addr: u64) -> usize
         requires begins { self.now.base ≤ addr }
         requires ends { addr < self.now.base + self.now.size }
         ensures place { result ≡ place_of self.now.caches.shards self.now.base addr }
         ensures within { result + 64 ≤ length self.now.bytes + addr % 64 }
     {
-        (LINE * (addr / LINE / self.count - self.below) + addr % LINE) as usize
+        (LINE * (quotient(addr / LINE, self.count) - self.below) + addr % LINE) as usize
     }
 }

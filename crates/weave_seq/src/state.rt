@@ -67,7 +67,12 @@ impl State {
         requires taken { slice_index self.old.waits fired.number ≡ FIRED }
         ensures { self.new ≡ record { times = slice_set self.old.times fired.number fired; waits = self.old.waits } }
     {
-        self.times[fired.number as usize] = fired;
+        // Field by field: the bytes between the fields are not moved along.
+        self.times[fired.number as usize] = Fired {
+            number: fired.number,
+            start: fired.start,
+            finish: fired.finish,
+        };
     }
 
     /// A parent of the event has fired: the event starts at this cycle or later, and waits for one

@@ -37,6 +37,7 @@ impl CacheLists {
 
     /// A line that a core has is the most recently used of its set, with a letter that tells the
     /// directory nothing new.
+    #[inline(always)]
     pub(super) fn keep_first(&mut self, core: u16, line: u64, letter: Letter)
         requires core { core < length self.old.l1 }
         requires there { IsTrue (is_held (letter_at self.old core line)) }

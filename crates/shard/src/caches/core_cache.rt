@@ -6,6 +6,7 @@ ghost use Rattle.shard.specs.Lines.{in_set_of, set_number};
 ghost use Rattle.shard.specs.CacheLayout.{ChangesLetter, HasCopies, copies_of, letter_without, own_letter};
 
 use cache_set::{Letter, Set};
+use division::{quotient, remainder};
 use std::alloc::Global;
 use std::marker::Model;
 use zs_num::NoMemory;
@@ -44,6 +45,7 @@ impl CoreCache {
     }
 
     /// The core's letter for a line.
+    #[inline(always)]
     pub(crate) fn letter(&self, line: u64) -> Letter
         ensures letter { result ≡ own_letter self.now line }
         ensures copies { HasCopies self.now }
@@ -65,6 +67,7 @@ impl CoreCache {
     }
 
     /// Gives a line that is there another letter, and makes it the most recently used.
+    #[inline(always)]
     pub(crate) fn keep_first(&mut self, line: u64, letter: Letter)
         requires there { IsTrue (is_held (own_letter self.old line)) }
         requires held { IsTrue (is_held letter) }
@@ -124,11 +127,12 @@ impl CoreCache {
     }
 
     // The number of a line's set.
+    #[inline(always)]
     fn place(&self, line: u64) -> usize
         ensures place { result ≡ set_number self.now.shards line self.now.sets }
         ensures within { result < length self.now.sets }
     {
-        (line / self.shards % self.sets.len() as u64) as usize
+        remainder(quotient(line, self.shards), self.sets.len() as u64) as usize
     }
 }
 

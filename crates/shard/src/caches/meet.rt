@@ -9,6 +9,7 @@ use zs_num::{Outcome, Request};
 
 impl CacheLists {
     /// How the caches meet an access of a core, and what it does to them.
+    #[inline(always)]
     pub(crate) fn meet(&mut self, core: u16, request: Request) -> Outcome
         requires { core < length self.old.l1 }
         ensures outcome { result ≡ outcome_of self.old core request }
@@ -19,6 +20,7 @@ impl CacheLists {
     }
 
     // How they meet a read or a write of a line.
+    #[inline(always)]
     fn meet_line(&mut self, core: u16, line: u64, write: bool) -> Outcome
         requires { core < length self.old.l1 }
         ensures outcome { result ≡ met_at self.old core line write }
@@ -35,6 +37,7 @@ impl CacheLists {
     }
 
     // The core has the line with a letter that allows the access.
+    #[inline(always)]
     fn hit(&mut self, core: u16, line: u64, own: Letter, write: bool) -> Outcome
         requires core { core < length self.old.l1 }
         requires own { letter_at self.old core line ≡ own }
@@ -47,6 +50,7 @@ impl CacheLists {
     }
 
     // The core has the line in S, and writes it.
+    #[inline(never)]
     fn upgrade(&mut self, core: u16, line: u64) -> Outcome
         requires core { core < length self.old.l1 }
         requires own { letter_at self.old core line ≡ Letter.S }
@@ -61,6 +65,7 @@ impl CacheLists {
     }
 
     // The core does not have the line.
+    #[inline(never)]
     fn bring(&mut self, core: u16, line: u64, write: bool) -> Outcome
         requires core { core < length self.old.l1 }
         requires own { letter_at self.old core line ≡ Letter.I }

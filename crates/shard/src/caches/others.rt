@@ -83,7 +83,9 @@ impl CacheLists {
         ensures letters { DropsAll self.old self.new line }
     {
         self.drop_others(core, line);
-        self.drop_copy(core, line);
+        if self.holds(core, line) {
+            self.drop_copy(core, line);
+        }
     }
 
     /// Another core that has a line in M or E has it in S.

@@ -1,5 +1,5 @@
 use Rattle.std.proofs.Common.{rules, ◌≡◌, ◌<◌, ◌≤◌, ◌+◌, ◌-◌, ◌^◌, ℕ, length, map, refl, sym, ap, ◌∙◌, subst, arith}
-use Rattle.std.specs.Prelude.{◌%◌, slice_index, slice_set}
+use Rattle.std.specs.Prelude.{slice_index, slice_set}
 use Rattle.zs_num.specs.Request.{IsServable}
 use Rattle.zs_num.specs.declared.entry.Entry.{Entry}
 use Rattle.bound_core.specs.ShardPort.{IsShardAt, IsShardPort, ShardPortState, base_of, greatest_stamp, room_of, size_of}
@@ -39,13 +39,13 @@ pub invariant_of-self : goal.invariant_of-self
 invariant_of-self c =
     let w : ShardWorld = record { shards = c.self.inside.shards.items; stamps = c.self.inside.stamps.items } in
     let port : IsShardPort (record { world = w; core = c.self.inside.core }) = record { shards = c.self.invariant.shards; core_is = c.self.invariant.core_is } in
-    let number : c.line.result % c.len.result ≡ number_for w.shards c.args.request = search rules in
+    let number : c.remainder-number.result ≡ number_for w.shards c.args.request = search rules in
     let is : c.index_mut.result.now ≡ shard_for w.shards c.args.request =
     shard_is w c.self.inside.core c.args.start c.args.request c.index_mut.result.now _ port.shards.some number c.index_mut.ensures.value
     in
     let at = port.shards.each (number_for w.shards c.args.request) (shard_for w.shards c.args.request) (shard_there w c.self.inside.core c.args.start c.args.request port.shards.some) in
     let kept = c.serve-entry.ensures in
-    let left : IsShardAt (length w.shards) (length w.stamps) (c.line.result % c.len.result) (base_of w) (size_of w) c.serve-entry.new.self = record {
+    let left : IsShardAt (length w.shards) (length w.stamps) (c.remainder-number.result) (base_of w) (size_of w) c.serve-entry.new.self = record {
       number_is = kept.number ∙ (ap (λ (s : ShardState). s.number) is ∙ (at.number_is ∙ sym number));
       count = kept.shards ∙ (ap (λ (s : ShardState). s.caches.shards) is ∙ at.count);
       cores_known = kept.cores ∙ (ap (λ (s : ShardState). length s.marks) is ∙ at.cores_known);
@@ -58,7 +58,7 @@ pub returns-clause-gives : goal.returns-clause-gives
 returns-clause-gives c =
     let w : ShardWorld = record { shards = c.self.inside.shards.items; stamps = c.self.inside.stamps.items } in
     let core = c.self.inside.core in
-    let number : c.line.result % c.len.result ≡ number_for w.shards c.args.request = search rules in
+    let number : c.remainder-number.result ≡ number_for w.shards c.args.request = search rules in
     let is : c.index_mut.result.now ≡ shard_for w.shards c.args.request =
     shard_is w core c.args.start c.args.request c.index_mut.result.now _ c.self.invariant.shards.some number c.index_mut.ensures.value
     in
@@ -81,7 +81,7 @@ pub returns-clause-room : goal.returns-clause-room
 returns-clause-room c =
     let w : ShardWorld = record { shards = c.self.inside.shards.items; stamps = c.self.inside.stamps.items } in
     let core = c.self.inside.core in
-    let number : c.line.result % c.len.result ≡ number_for w.shards c.args.request = search rules in
+    let number : c.remainder-number.result ≡ number_for w.shards c.args.request = search rules in
     let is : c.index_mut.result.now ≡ shard_for w.shards c.args.request =
     shard_is w core c.args.start c.args.request c.index_mut.result.now _ c.self.invariant.shards.some number c.index_mut.ensures.value
     in
@@ -95,7 +95,7 @@ returns-clause-room c =
     let grown : greatest_stamp (left (number_for w.shards c.args.request) core) ≤ greatest_stamp w + 1 =
     greatest_after w core c.args.start c.args.request entry c.serve-entry.new.self c.self.invariant.shards.some served c.serve-entry.ensures.last
     in
-    let same : greatest_stamp (left (c.line.result % c.len.result) c.from-core.result) ≡ greatest_stamp (left (number_for w.shards c.args.request) core) =
+    let same : greatest_stamp (left (c.remainder-number.result) c.from-core.result) ≡ greatest_stamp (left (number_for w.shards c.args.request) core) =
     ap (λ (n : ℕ). greatest_stamp (left n c.from-core.result)) number ∙ ap (λ (at : ℕ). greatest_stamp (left (number_for w.shards c.args.request) at)) c.from-core.ensures
     in
     let before : greatest_stamp c.args.self.now.world ≡ greatest_stamp w = ap (λ (p : ShardPortState). greatest_stamp p.world) (sym c.self.view_is) in

@@ -1,16 +1,6 @@
-use Rattle.std.proofs.Common.{◌≡◌, ℕ, Option, Some, None, sym, ap, ◌∙◌, arith}
-use Rattle.std.specs.List.{position}
-use Rattle.std.specs.Prelude.{nat_eq}
+use Rattle.std.proofs.Common.{◌≡◌, sym, ◌∙◌}
 use Rattle.mesi_dir.proofs.Calls.{zeros_are_nobody}
-use Rattle.mesi_dir.proofs.Rows.{row_some, row_none}
 use Rattle.mesi_dir.proofs.directory.Directory.row.Goals as goal
 
-pub returns-in-Some-clause-row : goal.returns-in-Some-clause-row
-returns-in-Some-clause-row c =
-    let at : position (nat_eq c.args.line) c.self.inside.tags.items ≡ Some c.in-Some.place = cc in
-    rw (← c.self.view_is) (row_some c.self.invariant c.args.line at c.index.result.now c.index.ensures)
-
 pub returns-in-None-clause-row : goal.returns-in-None-clause-row
-returns-in-None-clause-row c =
-    let at : position (nat_eq c.args.line) c.self.inside.tags.items ≡ None = cc in
-    rw (← c.self.view_is, row_none c.self.invariant c.args.line at) zeros_are_nobody
+returns-in-None-clause-row c = zeros_are_nobody ∙ sym c.in-None.ensures.none
