@@ -116,13 +116,13 @@ impl<'a> DecodedProgram<'a> {
 
     // What the slot of an address holds, if `near` leads to it.
     #[inline(always)]
-    fn slot_at(&self, near: usize, pc: u64) -> Option<Fetched>
-        ensures value { IfSome result (λ fetched. fetched ≡ fetched_at self.now pc) }
-        ensures registers { IfSome result HasRegisters }
+    fn slot_at(&self, near: usize, pc: u64) -> Option<&Fetched>
+        ensures value { IfSome result (λ fetched. fetched.now ≡ fetched_at self.now pc) }
+        ensures registers { IfSome result (λ fetched. HasRegisters fetched.now) }
     {
         let place = (pc / WORD).wrapping_add(near as u64);
         match self.slots.get(place as usize) {
-            Some(slot) if slot.pc == pc => Some(slot.fetched),
+            Some(slot) if slot.pc == pc => Some(&slot.fetched),
             _ => None,
         }
     }
@@ -132,7 +132,7 @@ impl Program for DecodedProgram<'_> {
     ghost image = { λ p. p };
 
     #[inline(always)]
-    fn decoded_at(&self, near: usize, pc: u64) -> Option<Inst> {
+    fn decoded_at(&self, near: usize, pc: u64) -> Option<&Inst> {
         match self.slot_at(near, pc) {
             Some(Fetched::Instruction(inst)) => Some(inst),
             _ => None,
@@ -146,7 +146,7 @@ impl Program for DecodedProgram<'_> {
             }
         }
         match self.slot_at(*near, pc) {
-            Some(fetched) => fetched,
+            Some(fetched) => *fetched,
             None => self.image.fetch(&mut 0, pc),
         }
     }

@@ -12,12 +12,12 @@ impl Core {
     /// so that what depends on the name is settled there.
     #[inline(always)]
     #[tactic(auto, unfolding(crate::specs::Effect::effect))]
-    pub(crate) fn execute(&mut self, inst: Inst) -> bool
+    pub(crate) fn execute(&mut self, inst: &Inst) -> bool
         requires free { IsTrue (is_free self.old) }
-        requires rd { inst.rd < 32 }
-        requires rs1 { inst.rs1 < 32 }
-        requires rs2 { inst.rs2 < 32 }
-        ensures value { self.new ≡ effect inst.name inst self.old }
+        requires rd { inst.now.rd < 32 }
+        requires rs1 { inst.now.rs1 < 32 }
+        requires rs2 { inst.now.rs2 < 32 }
+        ensures value { self.new ≡ effect inst.now.name inst.now self.old }
         ensures free { result ≡ is_free self.new }
     {
         let immediate = inst.imm.cast_unsigned();

@@ -58,20 +58,27 @@ impl Core {
         ensures free { result ≡ is_free self.new }
         ensures sound { IsSound self.old }
     {
-        let inst = match self.decoded(program) {
-            Some(inst) => inst,
-            None => match self.decode(program) {
-                Some(inst) => inst,
-                None => return false,
-            },
-        };
-        self.execute(inst)
+        match self.decoded(program) {
+            Some(inst) => self.execute(inst),
+            None => self.decode_and_execute(program),
+        }
     }
 
-    // The instruction at pc, where the program does not have it decoded. Where there is none, the core
-    // halts.
+    // Where the program does not have the instruction decoded.
     #[cold]
     #[inline(never)]
+    fn decode_and_execute<P: Program>(&mut self, program: &P) -> bool
+        requires { IsTrue (is_free self.old) }
+        ensures value { self.new ≡ executed (P.image program.now) self.old }
+        ensures free { result ≡ is_free self.new }
+    {
+        match self.decode(program) {
+            Some(inst) => self.execute(&inst),
+            None => false,
+        }
+    }
+
+    // The instruction at pc, as it is decoded. Where there is none, the core halts.
     fn decode<P: Program>(&mut self, program: &P) -> Option<Inst>
         ensures found { IfSome result (λ inst. fetched_at (P.image program.now) self.old.pc ≡ Fetched.Instruction inst) }
         ensures registers { IfSome result (λ inst. HasRegisters (Fetched.Instruction inst)) }
