@@ -1,6 +1,6 @@
 // A step of a core: its next instruction, up to its first access if it has one.
 ghost use Rattle.std.specs.Prelude.{◌≡◌, ◌<◌, false, IfNone, IfSome, IsTrue, OnSome};
-ghost use Rattle.rv_core.specs.Effect.{goes_on, halts};
+ghost use Rattle.rv_core.specs.Effect.{effect, goes_on, halts};
 ghost use Rattle.rv_core.specs.Fetch.{fetched_at, HasRegisters};
 ghost use Rattle.rv_core.specs.Sound.{IsServedAsk, IsSound};
 ghost use Rattle.rv_core.specs.Step.{advanced, asked, executed, is_free};
@@ -60,25 +60,29 @@ impl Core {
     {
         match self.decoded(program) {
             Some(inst) => self.execute(inst),
-            None => self.decode_and_execute(program),
+            None => match self.decode(program) {
+                Some(inst) => self.execute_apart(&inst),
+                None => false,
+            },
         }
     }
 
-    // Where the program does not have the instruction decoded.
-    #[cold]
+    // Executes an instruction that the program does not have decoded. It stands apart, so that the loop
+    // over those that are decoded has one copy of all arms.
     #[inline(never)]
-    fn decode_and_execute<P: Program>(&mut self, program: &P) -> bool
-        requires { IsTrue (is_free self.old) }
-        ensures value { self.new ≡ executed (P.image program.now) self.old }
+    fn execute_apart(&mut self, inst: &Inst) -> bool
+        requires free { IsTrue (is_free self.old) }
+        requires registers { HasRegisters (Fetched.Instruction inst.now) }
+        ensures value { self.new ≡ effect inst.now.name inst.now self.old }
         ensures free { result ≡ is_free self.new }
     {
-        match self.decode(program) {
-            Some(inst) => self.execute(&inst),
-            None => false,
-        }
+        self.execute(inst)
     }
 
-    // The instruction at pc, as it is decoded. Where there is none, the core halts.
+    // The instruction at pc, where the program does not have it decoded. Where there is none, the core
+    // halts.
+    #[cold]
+    #[inline(never)]
     fn decode<P: Program>(&mut self, program: &P) -> Option<Inst>
         ensures found { IfSome result (λ inst. fetched_at (P.image program.now) self.old.pc ≡ Fetched.Instruction inst) }
         ensures registers { IfSome result (λ inst. HasRegisters (Fetched.Instruction inst)) }
