@@ -6,6 +6,7 @@ ghost use Rattle.rv_core.specs.Sound.{IsServedAsk, IsSound};
 ghost use Rattle.rv_core.specs.Step.{advanced, asked, executed, is_free};
 
 use crate::{Ask, Core, Fetched, Program, Why};
+use elf_load::Image;
 use rv_decode::Inst;
 
 impl Core {
@@ -59,7 +60,7 @@ impl Core {
         ensures sound { IsSound self.old }
     {
         match self.decoded(program) {
-            Some(inst) => self.execute(inst),
+            Some(inst) => self.execute::<P>(inst),
             None => match self.decode(program) {
                 Some(inst) => self.execute_apart(&inst),
                 None => false,
@@ -67,8 +68,7 @@ impl Core {
         }
     }
 
-    // Executes an instruction that the program does not have decoded. It stands apart, so that the loop
-    // over those that are decoded has one copy of all arms.
+    // Executes an instruction that the program does not have decoded.
     #[inline(never)]
     fn execute_apart(&mut self, inst: &Inst) -> bool
         requires free { IsTrue (is_free self.old) }
@@ -76,7 +76,7 @@ impl Core {
         ensures value { self.new ≡ effect inst.now.name inst.now self.old }
         ensures free { result ≡ is_free self.new }
     {
-        self.execute(inst)
+        self.execute::<Image>(inst)
     }
 
     // The instruction at pc, where the program does not have it decoded. Where there is none, the core
