@@ -11,7 +11,7 @@ use Rattle.elf_load.specs.MemoryImage.{MemoryImage}
 use Rattle.flat_memory.specs.FlatMemory.{MemoryState, after, memory_number, reply_of}
 use Rattle.flat_memory.specs.Laws.{does_write}
 use Rattle.rv_core.specs.declared.program.Fetched.TheVariants.{Instruction}
-use Rattle.rv_core.specs.Accesses.{is_in_memory, low_bytes, sign_extended}
+use Rattle.rv_core.specs.Accesses.{is_in_memory, low_bytes, sign_extended_bytes}
 use Rattle.rv_core.specs.CoreState.{CoreState}
 use Rattle.rv_core.specs.Effect.{address, effect, goes_on, register}
 use Rattle.rv_core.specs.Fetch.{fetched_at}
@@ -80,7 +80,7 @@ pub data IsLoad : Name → (width : ℕ) → (signed : Bool) → Type 0 where
 
 -- a number of so many bytes, sign-extended or zero-extended to 64 bits
 abbrev pub extended : (width : ℕ) → (signed : Bool) → (number : ℕ) → ℕ
-extended width signed number = if signed then sign_extended width number else number
+extended width signed number = if signed then sign_extended_bytes width number else number
 
 -- the byte at an address
 abbrev pub memory_byte : MemoryState → (addr : ℕ) → ℕ

@@ -38,6 +38,10 @@ after_instruction image c = let next = executed image c.core in record {
   console = c.console;
 }
 
+-- the core with so many instructions more on its count, of a cycle each
+abbrev pub ahead : (counted : ℕ) → TimedCore → TimedCore
+ahead counted c = record c { clock = c.clock + counted; instructions = c.instructions + counted }
+
 -- whether the core goes on by itself: it comes to an instruction before the interval ends
 abbrev pub goes_on_alone : (end : ℕ) → TimedCore → Bool
 goes_on_alone end c = is_free c.core && nat_lt c.clock end

@@ -5,7 +5,7 @@ ghost use Rattle.machine_desc.specs.Machine.{IsMachine};
 ghost use Rattle.rv_core.specs.Sound.{IsSound};
 ghost use Rattle.rv_core.specs.Step.{cost, is_free};
 ghost use Rattle.bound_core.specs.Port.{Gains};
-ghost use Rattle.bound_core.specs.Timed.{after_access, after_instruction, asks, delayed, first_core, goes_on_alone, latest, most_accesses, ran_to};
+ghost use Rattle.bound_core.specs.Timed.{after_access, after_instruction, ahead, asks, delayed, first_core, goes_on_alone, latest, most_accesses, ran_to};
 ghost use Rattle.bound_core.specs.Turn.{IfTook, IsOver, RunsToEnd, TurnsAs};
 
 use crate::{Port, Turned};
@@ -273,29 +273,34 @@ impl BoundCore {
         ensures memory { self.new.timed.core.memory ≡ self.old.timed.core.memory }
         ensures spare { self.new.spare ≡ self.old.spare }
     {
+        let most = end.saturating_sub(self.clock);
+        let mut counted = 0;
         let mut goes_on = self.core.is_free();
-        while goes_on && self.clock < end {
-            goes_on = self.step(program);
+        while goes_on && counted < most {
+            goes_on = self.step(program, &mut counted);
         }
+        self.clock += counted;
+        self.instructions += counted;
     }
 
-    // Executes one instruction, up to its first access if it has one. It answers whether the core comes
-    // to a next instruction.
+    // Executes one instruction, up to its first access if it has one, and counts it. It answers whether
+    // the core comes to a next instruction. The clock and the count of instructions stay behind, by
+    // what was counted: so the loop has them at hand, and not in memory.
     #[inline(always)]
     #[tactic(auto, unfolding(crate::specs::Timed::after_instruction))]
-    fn step<P: Program>(&mut self, program: &P) -> bool
+    fn step<P: Program>(&mut self, program: &P, counted: &mut u64) -> bool
         requires free { IsTrue (is_free self.old.timed.core) }
-        requires clock { self.old.timed.clock < 2 ^ 64 - 1 }
-        ensures value { self.new.timed ≡ after_instruction (P.image program.now) self.old.timed }
+        requires few { counted.old < 2 ^ 64 - 1 }
+        ensures value { ahead counted.new self.new.timed ≡ after_instruction (P.image program.now) (ahead counted.old self.old.timed) }
         ensures free { result ≡ is_free self.new.timed.core }
+        ensures clock { self.new.timed.clock ≡ self.old.timed.clock }
         ensures number { self.new.number ≡ self.old.number }
         ensures memory { self.new.timed.core.memory ≡ self.old.timed.core.memory }
         ensures spare { self.new.spare ≡ self.old.spare }
     {
         let goes_on = self.core.step(program);
         if goes_on || is_counted(self.core.halted()) {
-            self.clock += 1;
-            self.instructions += 1;
+            *counted += 1;
         }
         goes_on
     }

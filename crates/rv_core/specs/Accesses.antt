@@ -59,8 +59,8 @@ joined [] = 0
 joined (reply ∷ replies) = reply.number + 2 ^ (8 * reply.width) * joined replies
 
 -- The number of so many bytes, sign-extended to 64 bits: where its highest bit is set, all bits above are.
-unfoldable pub sign_extended : (width number : ℕ) → ℕ
-sign_extended width number =
+unfoldable pub sign_extended_bytes : (width number : ℕ) → ℕ
+sign_extended_bytes width number =
     if nat_lt number (2 ^ (8 * width - 1)) then number else (number + (2 ^ 64 - 2 ^ (8 * width))) % 2 ^ 64
 
 -- an access that memory can serve

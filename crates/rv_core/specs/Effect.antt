@@ -16,7 +16,7 @@ use Rattle.rv_core.specs.declared.progress.Destination.{Destination}
 use Rattle.rv_core.specs.declared.progress.Reply.{Reply}
 use Rattle.rv_core.specs.declared.why.Why.{Why}
 use Rattle.rv_core.specs.declared.why.Why.TheVariants.{Exit, Misaligned, AtomicAlign, Access, Break}
-use Rattle.rv_core.specs.Accesses.{byte_loads, is_in_memory, joined, load_requests, low_bytes, sign_extended, store_requests}
+use Rattle.rv_core.specs.Accesses.{byte_loads, is_in_memory, joined, load_requests, low_bytes, sign_extended_bytes, store_requests}
 use Rattle.rv_core.specs.CoreState.{CoreState, Ending, ToRegister, ToConsole, ToNothing}
 use Rattle.rv_core.specs.Pairing.{is_paired}
 
@@ -50,7 +50,7 @@ halts why core = record core { halted = Some why }
 -- the number that replies give a register: it is sign-extended where it is signed, and else zero-extended
 abbrev pub received : Destination → List Reply → ℕ
 received destination replies =
-    let number = joined replies % 2 ^ 64 in if destination.signed then sign_extended destination.width number else number
+    let number = joined replies % 2 ^ 64 in if destination.signed then sign_extended_bytes destination.width number else number
 
 -- The last reply has come. The bytes of a write call are on the console by then, and a0 (x10) gets their count.
 unfoldable pub ended : Ending → List Reply → CoreState → CoreState

@@ -3,7 +3,7 @@ use Rattle.std.specs.Prelude.{◌≡◌, ℕ, ◌<◌, Option, Some, None}
 use Rattle.rv_decode.specs.declared.inst.Inst.{Inst}
 use Rattle.rv_decode.specs.InstructionTable.{decoded}
 use Rattle.elf_load.specs.MemoryImage.{MemoryImage, fetched}
-use Rattle.rv_core.specs.declared.decoded_program.Slot.{Slot}
+use Rattle.rv_core.specs.declared.decoded_program.DecodedWord.{DecodedWord}
 use Rattle.rv_core.specs.declared.program.Fetched.{Fetched}
 use Rattle.rv_core.specs.declared.program.Fetched.TheVariants.{Outside, NoInstruction, Instruction}
 
@@ -27,6 +27,6 @@ HasRegisters Outside = Unit {0}
 HasRegisters (NoInstruction word) = Unit {0}
 HasRegisters (Instruction inst) = (inst.rd < 32) × (inst.rs1 < 32) × (inst.rs2 < 32)
 
--- a slot holds what the program has at its address
-abbrev pub IsKnown : MemoryImage → Slot → Type 0
-IsKnown image slot = (slot.fetched ≡ fetched_at image slot.pc) × HasRegisters slot.fetched
+-- a decoded word is what the program has at its address
+abbrev pub IsKnown : MemoryImage → DecodedWord → Type 0
+IsKnown image word = (word.fetched ≡ fetched_at image word.pc) × HasRegisters word.fetched

@@ -11,13 +11,13 @@ use rv_decode::{Inst, Name};
 impl Core {
     /// The operation of this name, of rs1 and the immediate.
     #[inline(always)]
-    pub(crate) fn compute_with_immediate(&mut self, name: Name, inst: Inst) -> bool
+    pub(crate) fn compute_with_immediate(&mut self, name: Name, inst: &Inst) -> bool
         requires name { IsTrue (is_arithmetic name) }
         requires free { IsTrue (is_free self.old) }
-        requires rd { inst.rd < 32 }
-        requires rs1 { inst.rs1 < 32 }
-        requires rs2 { inst.rs2 < 32 }
-        ensures value { self.new ≡ computes_immediate name inst self.old }
+        requires rd { inst.now.rd < 32 }
+        requires rs1 { inst.now.rs1 < 32 }
+        requires rs2 { inst.now.rs2 < 32 }
+        ensures value { self.new ≡ computes_immediate name inst.now self.old }
         ensures free { result ≡ is_free self.new }
     {
         let result = alu(name, self.reg(inst.rs1), inst.imm.cast_unsigned());
@@ -26,13 +26,13 @@ impl Core {
 
     /// The operation of this name, of rs1 and rs2.
     #[inline(always)]
-    pub(crate) fn compute(&mut self, name: Name, inst: Inst) -> bool
+    pub(crate) fn compute(&mut self, name: Name, inst: &Inst) -> bool
         requires name { IsTrue (is_arithmetic name) }
         requires free { IsTrue (is_free self.old) }
-        requires rd { inst.rd < 32 }
-        requires rs1 { inst.rs1 < 32 }
-        requires rs2 { inst.rs2 < 32 }
-        ensures value { self.new ≡ computes name inst self.old }
+        requires rd { inst.now.rd < 32 }
+        requires rs1 { inst.now.rs1 < 32 }
+        requires rs2 { inst.now.rs2 < 32 }
+        ensures value { self.new ≡ computes name inst.now self.old }
         ensures free { result ≡ is_free self.new }
     {
         let result = alu(name, self.reg(inst.rs1), self.reg(inst.rs2));

@@ -14,12 +14,12 @@ use zs_num::{AmoOp, Request};
 
 impl Core {
     /// A load-reserved of so many bytes.
-    pub(crate) fn load_reserved(&mut self, width: u8, inst: Inst) -> bool
+    pub(crate) fn load_reserved(&mut self, width: u8, inst: &Inst) -> bool
         requires free { IsTrue (is_free self.old) }
         requires width { (width ≡ 4) ⊎ (width ≡ 8) }
-        requires rd { inst.rd < 32 }
-        requires rs1 { inst.rs1 < 32 }
-        ensures value { self.new ≡ load_reserved width inst self.old }
+        requires rd { inst.now.rd < 32 }
+        requires rs1 { inst.now.rs1 < 32 }
+        ensures value { self.new ≡ load_reserved width inst.now self.old }
         ensures free { result ≡ is_free self.new }
     {
         let addr = self.reg(inst.rs1);
@@ -27,13 +27,13 @@ impl Core {
     }
 
     /// A store-conditional of so many bytes.
-    pub(crate) fn store_conditional(&mut self, width: u8, inst: Inst) -> bool
+    pub(crate) fn store_conditional(&mut self, width: u8, inst: &Inst) -> bool
         requires free { IsTrue (is_free self.old) }
         requires width { (width ≡ 4) ⊎ (width ≡ 8) }
-        requires rd { inst.rd < 32 }
-        requires rs1 { inst.rs1 < 32 }
-        requires rs2 { inst.rs2 < 32 }
-        ensures value { self.new ≡ store_conditional width inst self.old }
+        requires rd { inst.now.rd < 32 }
+        requires rs1 { inst.now.rs1 < 32 }
+        requires rs2 { inst.now.rs2 < 32 }
+        ensures value { self.new ≡ store_conditional width inst.now self.old }
         ensures free { result ≡ is_free self.new }
     {
         let addr = self.reg(inst.rs1);
@@ -47,13 +47,13 @@ impl Core {
     }
 
     /// An atomic read-modify-write of so many bytes.
-    pub(crate) fn update(&mut self, op: AmoOp, width: u8, inst: Inst) -> bool
+    pub(crate) fn update(&mut self, op: AmoOp, width: u8, inst: &Inst) -> bool
         requires free { IsTrue (is_free self.old) }
         requires width { (width ≡ 4) ⊎ (width ≡ 8) }
-        requires rd { inst.rd < 32 }
-        requires rs1 { inst.rs1 < 32 }
-        requires rs2 { inst.rs2 < 32 }
-        ensures value { self.new ≡ updates op width inst self.old }
+        requires rd { inst.now.rd < 32 }
+        requires rs1 { inst.now.rs1 < 32 }
+        requires rs2 { inst.now.rs2 < 32 }
+        ensures value { self.new ≡ updates op width inst.now self.old }
         ensures free { result ≡ is_free self.new }
     {
         let request = Request::Amo {

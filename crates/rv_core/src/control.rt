@@ -11,10 +11,10 @@ use rv_decode::{Inst, Name};
 impl Core {
     /// JAL.
     #[inline(always)]
-    pub(crate) fn jump(&mut self, inst: Inst) -> bool
+    pub(crate) fn jump(&mut self, inst: &Inst) -> bool
         requires free { IsTrue (is_free self.old) }
-        requires rd { inst.rd < 32 }
-        ensures value { self.new ≡ jumps inst.rd (relative inst self.old) self.old }
+        requires rd { inst.now.rd < 32 }
+        ensures value { self.new ≡ jumps inst.now.rd (relative inst.now self.old) self.old }
         ensures free { result ≡ is_free self.new }
     {
         self.jump_to(inst.rd, self.pc().wrapping_add(inst.imm.cast_unsigned()))
@@ -22,11 +22,11 @@ impl Core {
 
     /// JALR, which clears the lowest bit of its target.
     #[inline(always)]
-    pub(crate) fn jump_by_register(&mut self, inst: Inst) -> bool
+    pub(crate) fn jump_by_register(&mut self, inst: &Inst) -> bool
         requires free { IsTrue (is_free self.old) }
-        requires rd { inst.rd < 32 }
-        requires rs1 { inst.rs1 < 32 }
-        ensures value { self.new ≡ jumps inst.rd (even (address inst self.old)) self.old }
+        requires rd { inst.now.rd < 32 }
+        requires rs1 { inst.now.rs1 < 32 }
+        ensures value { self.new ≡ jumps inst.now.rd (even (address inst.now self.old)) self.old }
         ensures free { result ≡ is_free self.new }
     {
         let target = self.reg(inst.rs1).wrapping_add(inst.imm.cast_unsigned());
@@ -36,13 +36,13 @@ impl Core {
     /// The branch of this name. Where it is not taken, its target is not looked at.
     #[inline(always)]
     #[tactic(auto, unfolding(crate::specs::Effect::branches))]
-    pub(crate) fn branch(&mut self, name: Name, inst: Inst) -> bool
+    pub(crate) fn branch(&mut self, name: Name, inst: &Inst) -> bool
         requires name { IsTrue (is_branch name) }
         requires free { IsTrue (is_free self.old) }
-        requires rd { inst.rd < 32 }
-        requires rs1 { inst.rs1 < 32 }
-        requires rs2 { inst.rs2 < 32 }
-        ensures value { self.new ≡ branches name inst self.old }
+        requires rd { inst.now.rd < 32 }
+        requires rs1 { inst.now.rs1 < 32 }
+        requires rs2 { inst.now.rs2 < 32 }
+        ensures value { self.new ≡ branches name inst.now self.old }
         ensures free { result ≡ is_free self.new }
     {
         if taken(name, self.reg(inst.rs1), self.reg(inst.rs2)) {

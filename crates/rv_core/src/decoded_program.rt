@@ -17,12 +17,13 @@ const WORD: u64 = 4;
 
 /// What the program has at an address.
 #[derive(Clone, Copy, Debug)]
-pub struct Slot {
+pub struct DecodedWord {
     pub pc: u64,
     pub fetched: Fetched,
 }
 
-/// The words of one segment: so many slots, from a place on, are of the addresses from the first on.
+/// The words of one segment: `count` of them, from a place on, are of the addresses
+/// from the first on.
 #[derive(Clone, Copy, Debug)]
 struct Span {
     first: u64,
@@ -36,7 +37,7 @@ impl Span {
         pc.wrapping_sub(self.first) / WORD < self.count as u64
     }
 
-    // What leads from a word's number in all addresses to its slot.
+    // What leads from a word's number in all addresses to its place.
     fn near(&self) -> usize {
         self.place.wrapping_sub((self.first / WORD) as usize)
     }
@@ -47,7 +48,7 @@ impl Span {
 #[derive(Drop)]
 pub struct DecodedProgram<'a> {
     image: &'a Image,
-    slots: Vec<Slot>,
+    words: Vec<DecodedWord>,
     spans: Vec<Span>,
 }
 
@@ -60,7 +61,7 @@ impl<'a> Model for DecodedProgram<'a> {
 
     ghost view = { λ p. p.image.now };
 
-    ghost invariant = { λ p. All (IsKnown p.image.now) p.slots.items };
+    ghost invariant = { λ p. All (IsKnown p.image.now) p.words.items };
 }
 
 impl<'a> DecodedProgram<'a> {
@@ -70,7 +71,7 @@ impl<'a> DecodedProgram<'a> {
     {
         let mut program = DecodedProgram {
             image,
-            slots: Vec::new(alloc),
+            words: Vec::new(alloc),
             spans: Vec::new(alloc),
         };
         for segment in image.segments() {
@@ -90,10 +91,10 @@ impl<'a> DecodedProgram<'a> {
         let skipped = (WORD - segment.vaddr % WORD) % WORD;
         let first = segment.vaddr.wrapping_add(skipped);
         let bytes = segment.bytes.as_slice().len();
-        let words = bytes.saturating_sub(skipped as usize) / WORD as usize;
-        let place = self.slots.len();
-        let count = words.min(MOST_WORDS.saturating_sub(place));
-        self.slots.reserve(count)?;
+        let whole = bytes.saturating_sub(skipped as usize) / WORD as usize;
+        let place = self.words.len();
+        let count = whole.min(MOST_WORDS.saturating_sub(place));
+        self.words.reserve(count)?;
         self.spans.push(Span {
             first,
             place,
@@ -110,19 +111,19 @@ impl<'a> DecodedProgram<'a> {
         ensures { self.new ≡ self.old }
     {
         let fetched = self.image.fetch(&mut 0, pc);
-        self.slots.push(Slot { pc, fetched })?;
+        self.words.push(DecodedWord { pc, fetched })?;
         Ok(())
     }
 
-    // What the slot of an address holds, if `near` leads to it.
+    // What the word of an address is, if `near` leads to it.
     #[inline(always)]
-    fn slot_at(&self, near: usize, pc: u64) -> Option<Fetched>
-        ensures value { IfSome result (λ fetched. fetched ≡ fetched_at self.now pc) }
-        ensures registers { IfSome result HasRegisters }
+    fn word_at(&self, near: usize, pc: u64) -> Option<&Fetched>
+        ensures value { IfSome result (λ fetched. fetched.now ≡ fetched_at self.now pc) }
+        ensures registers { IfSome result (λ fetched. HasRegisters fetched.now) }
     {
         let place = (pc / WORD).wrapping_add(near as u64);
-        match self.slots.get(place as usize) {
-            Some(slot) if slot.pc == pc => Some(slot.fetched),
+        match self.words.get(place as usize) {
+            Some(word) if word.pc == pc => Some(&word.fetched),
             _ => None,
         }
     }
@@ -132,8 +133,8 @@ impl Program for DecodedProgram<'_> {
     ghost image = { λ p. p };
 
     #[inline(always)]
-    fn decoded_at(&self, near: usize, pc: u64) -> Option<Inst> {
-        match self.slot_at(near, pc) {
+    fn decoded_at(&self, near: usize, pc: u64) -> Option<&Inst> {
+        match self.word_at(near, pc) {
             Some(Fetched::Instruction(inst)) => Some(inst),
             _ => None,
         }
@@ -145,8 +146,8 @@ impl Program for DecodedProgram<'_> {
                 *near = span.near();
             }
         }
-        match self.slot_at(*near, pc) {
-            Some(fetched) => fetched,
+        match self.word_at(*near, pc) {
+            Some(fetched) => *fetched,
             None => self.image.fetch(&mut 0, pc),
         }
     }

@@ -9,15 +9,16 @@ use zs_num::AmoOp;
 
 impl Core {
     /// Executes an instruction, up to its first access if it has one. Each name has an arm of its own,
-    /// so that what depends on the name is settled there.
+    /// so that what depends on the name is settled there. The type `T` means nothing: each caller takes
+    /// another, and the compiler then sets all arms into the loop of the one that has a loop.
     #[inline(always)]
     #[tactic(auto, unfolding(crate::specs::Effect::effect))]
-    pub(crate) fn execute(&mut self, inst: Inst) -> bool
+    pub(crate) fn execute<T>(&mut self, inst: &Inst) -> bool
         requires free { IsTrue (is_free self.old) }
-        requires rd { inst.rd < 32 }
-        requires rs1 { inst.rs1 < 32 }
-        requires rs2 { inst.rs2 < 32 }
-        ensures value { self.new ≡ effect inst.name inst self.old }
+        requires rd { inst.now.rd < 32 }
+        requires rs1 { inst.now.rs1 < 32 }
+        requires rs2 { inst.now.rs2 < 32 }
+        ensures value { self.new ≡ effect inst.now.name inst.now self.old }
         ensures free { result ≡ is_free self.new }
     {
         let immediate = inst.imm.cast_unsigned();

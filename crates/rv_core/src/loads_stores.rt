@@ -16,13 +16,13 @@ const LINE: u64 = 64;
 impl Core {
     /// A load of so many bytes: one access, or two where it crosses a line.
     #[tactic(auto, unfolding(crate::specs::Accesses::load_requests, crate::specs::Effect::accesses))]
-    pub(crate) fn load(&mut self, width: u8, signed: bool, inst: Inst) -> bool
+    pub(crate) fn load(&mut self, width: u8, signed: bool, inst: &Inst) -> bool
         requires free { IsTrue (is_free self.old) }
         requires some { 1 ≤ width }
         requires few { width ≤ 8 }
-        requires rd { inst.rd < 32 }
-        requires rs1 { inst.rs1 < 32 }
-        ensures value { self.new ≡ loads width signed inst self.old }
+        requires rd { inst.now.rd < 32 }
+        requires rs1 { inst.now.rs1 < 32 }
+        ensures value { self.new ≡ loads width signed inst.now self.old }
         ensures free { result ≡ is_free self.new }
     {
         let addr = self.reg(inst.rs1).wrapping_add(inst.imm.cast_unsigned());
@@ -51,13 +51,13 @@ impl Core {
     /// A store of the lowest bytes of rs2: one access, or two where it crosses a line, of which the
     /// lower line gets the lower bytes.
     #[tactic(auto, unfolding(crate::specs::Accesses::store_requests, crate::specs::Effect::accesses))]
-    pub(crate) fn store(&mut self, width: u8, inst: Inst) -> bool
+    pub(crate) fn store(&mut self, width: u8, inst: &Inst) -> bool
         requires free { IsTrue (is_free self.old) }
         requires some { 1 ≤ width }
         requires few { width ≤ 8 }
-        requires rs1 { inst.rs1 < 32 }
-        requires rs2 { inst.rs2 < 32 }
-        ensures value { self.new ≡ stores width inst self.old }
+        requires rs1 { inst.now.rs1 < 32 }
+        requires rs2 { inst.now.rs2 < 32 }
+        ensures value { self.new ≡ stores width inst.now self.old }
         ensures free { result ≡ is_free self.new }
     {
         let addr = self.reg(inst.rs1).wrapping_add(inst.imm.cast_unsigned());

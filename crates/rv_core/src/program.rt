@@ -22,9 +22,9 @@ pub trait Program {
     ghost image: { Self → MemoryImage };
 
     /// The instruction at an address, if it is decoded already. `near` is what `fetch` keeps.
-    fn decoded_at(&self, near: usize, pc: u64) -> Option<Inst>
-        ensures value { IfSome result (λ inst. fetched_at (image self.now) pc ≡ Fetched.Instruction inst) }
-        ensures registers { IfSome result (λ inst. HasRegisters (Fetched.Instruction inst)) };
+    fn decoded_at(&self, near: usize, pc: u64) -> Option<&Inst>
+        ensures value { IfSome result (λ inst. fetched_at (image self.now) pc ≡ Fetched.Instruction inst.now) }
+        ensures registers { IfSome result (λ inst. HasRegisters (Fetched.Instruction inst.now)) };
 
     /// What the program has at an address. `near` is any number: the program keeps in it where it
     /// looks first.
@@ -37,7 +37,7 @@ impl Program for Image {
     ghost image = { λ i. i };
 
     #[inline(always)]
-    fn decoded_at(&self, _near: usize, _pc: u64) -> Option<Inst> {
+    fn decoded_at(&self, _near: usize, _pc: u64) -> Option<&Inst> {
         None
     }
 

@@ -1,7 +1,7 @@
 // The number that the replies of an instruction's accesses make.
 ghost use Rattle.std.specs.Prelude.{◌≡◌, ◌++◌, ◌∷◌, [], ◌%◌, ◌^◌, ◌<◌, ◌≤◌, option_to_list};
 ghost use Rattle.zs_num.specs.Request.{width_of};
-ghost use Rattle.rv_core.specs.Accesses.{high_bytes, joined, low_bytes, reply_to, sign_extended};
+ghost use Rattle.rv_core.specs.Accesses.{high_bytes, joined, low_bytes, reply_to, sign_extended_bytes};
 ghost use Rattle.rv_core.specs.Effect.{received};
 ghost use Rattle.rv_core.specs.Progress.{ending_of, IsNarrow};
 ghost use Rattle.rv_core.specs.Step.{replies_with};
@@ -54,7 +54,7 @@ pub fn received(lower: Option<Reply>, last: Reply, destination: Destination) -> 
 {
     let number = joined(lower, last);
     if destination.signed {
-        sign_extended(destination.width, number)
+        sign_extended_bytes(destination.width, number)
     } else {
         number
     }
@@ -74,11 +74,11 @@ fn joined(lower: Option<Reply>, last: Reply) -> u64
 
 // The number of so many bytes, sign-extended.
 #[inline(always)]
-#[tactic(auto, using(crate::proofs::SignExtension::extended), unfolding(crate::specs::Accesses::sign_extended))]
-fn sign_extended(width: u8, number: u64) -> u64
+#[tactic(auto, using(crate::proofs::SignExtension::extended), unfolding(crate::specs::Accesses::sign_extended_bytes))]
+fn sign_extended_bytes(width: u8, number: u64) -> u64
     requires some { 1 ≤ width }
     requires few { width ≤ 8 }
-    ensures { result ≡ sign_extended width number }
+    ensures { result ≡ sign_extended_bytes width number }
 {
     let half = 1 << (8 * width - 1);
     if number < half {

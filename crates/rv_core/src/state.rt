@@ -128,9 +128,9 @@ impl Core {
 
     /// The instruction at pc, if the program has it decoded already.
     #[inline(always)]
-    pub(crate) fn decoded<P: Program>(&self, program: &P) -> Option<Inst>
-        ensures value { IfSome result (λ inst. fetched_at (P.image program.now) self.now.pc ≡ Fetched.Instruction inst) }
-        ensures registers { IfSome result (λ inst. HasRegisters (Fetched.Instruction inst)) }
+    pub(crate) fn decoded<'p, P: Program>(&self, program: &'p P) -> Option<&'p Inst>
+        ensures value { IfSome result (λ inst. fetched_at (P.image program.now) self.now.pc ≡ Fetched.Instruction inst.now) }
+        ensures registers { IfSome result (λ inst. HasRegisters (Fetched.Instruction inst.now)) }
         ensures sound { IsSound self.now }
     {
         program.decoded_at(self.near, self.pc)

@@ -1,11 +1,12 @@
 // A step of a core: its next instruction, up to its first access if it has one.
 ghost use Rattle.std.specs.Prelude.{◌≡◌, ◌<◌, false, IfNone, IfSome, IsTrue, OnSome};
-ghost use Rattle.rv_core.specs.Effect.{goes_on, halts};
+ghost use Rattle.rv_core.specs.Effect.{effect, goes_on, halts};
 ghost use Rattle.rv_core.specs.Fetch.{fetched_at, HasRegisters};
 ghost use Rattle.rv_core.specs.Sound.{IsServedAsk, IsSound};
 ghost use Rattle.rv_core.specs.Step.{advanced, asked, executed, is_free};
 
 use crate::{Ask, Core, Fetched, Program, Why};
+use elf_load::Image;
 use rv_decode::Inst;
 
 impl Core {
@@ -58,14 +59,24 @@ impl Core {
         ensures free { result ≡ is_free self.new }
         ensures sound { IsSound self.old }
     {
-        let inst = match self.decoded(program) {
-            Some(inst) => inst,
+        match self.decoded(program) {
+            Some(inst) => self.execute::<P>(inst),
             None => match self.decode(program) {
-                Some(inst) => inst,
-                None => return false,
+                Some(inst) => self.execute_apart(&inst),
+                None => false,
             },
-        };
-        self.execute(inst)
+        }
+    }
+
+    // Executes an instruction that the program does not have decoded.
+    #[inline(never)]
+    fn execute_apart(&mut self, inst: &Inst) -> bool
+        requires free { IsTrue (is_free self.old) }
+        requires registers { HasRegisters (Fetched.Instruction inst.now) }
+        ensures value { self.new ≡ effect inst.now.name inst.now self.old }
+        ensures free { result ≡ is_free self.new }
+    {
+        self.execute::<Image>(inst)
     }
 
     // The instruction at pc, where the program does not have it decoded. Where there is none, the core

@@ -1,7 +1,7 @@
 -- what is left to run leads to the same end
-use Rattle.std.proofs.Common.{◌≡◌, ◌≤◌, ◌+◌, ◌-◌, ◌*◌, max}
+use Rattle.std.proofs.Common.{◌≡◌, ◌≤◌, ◌+◌, ◌-◌, ◌*◌}
 use Rattle.rv_core.specs.Step.{is_free}
-use Rattle.bound_core.specs.Timed.{ran_to}
+use Rattle.bound_core.specs.Timed.{ahead, ran_to}
 use Rattle.bound_core.proofs.Instructions.{going}
 use Rattle.bound_core.proofs.bounded.BoundCore.run_local.Given as goal
 
@@ -10,13 +10,14 @@ invariant-loop-goes_on g l =
     let image = g.P.Program.image l.program in
     record {
       free : l.goes_on ≡ is_free l.self.timed.core;
-      same_end : ran_to image l.end l.self.timed ≡ ran_to image l.end l.initial.self.timed;
-      begun : l.initial.self.timed.clock ≤ l.self.timed.clock;
-      within : l.self.timed.clock ≤ max l.initial.self.timed.clock l.end;
+      same_end : ran_to image l.end (ahead l.counted l.self.timed) ≡ ran_to image l.end l.initial.self.timed;
+      few : l.counted ≤ l.most;
+      most : l.most ≡ l.end - l.initial.self.timed.clock;
+      clock : l.self.timed.clock ≡ l.initial.self.timed.clock;
       number : l.self.number ≡ l.initial.self.number;
       memory : l.self.timed.core.memory ≡ l.initial.self.timed.core.memory;
       spare : l.self.spare ≡ l.initial.self.spare;
     }
 
 abbrev pub decreases-loop-goes_on : goal.decreases-loop-goes_on
-decreases-loop-goes_on g l = 2 * (l.end - l.self.timed.clock) + going l.goes_on
+decreases-loop-goes_on g l = 2 * (l.most - l.counted) + going l.goes_on

@@ -1,11 +1,11 @@
 use Rattle.std.proofs.Common.{◌≡◌, ◌-◌, ◌*◌, ◌^◌, ◌<◌, ◌≤◌, nat_lt, false, rules, arith}
 use Rattle.std.proofs.lemmas.Nat.{pow_below}
-use Rattle.rv_core.specs.Accesses.{sign_extended}
+use Rattle.rv_core.specs.Accesses.{sign_extended_bytes}
 use Rattle.rv_core.proofs.SignExtension.{extended}
-use Rattle.rv_core.proofs.replies.sign_extended.Goals as goal
+use Rattle.rv_core.proofs.replies.sign_extended_bytes.Goals as goal
 
 pub returns-else-number-half : goal.returns-else-number-half
-unfolding sign_extended
+unfolding sign_extended_bytes
 returns-else-number-half c =
     let few : 8 * c.args.width - 1 < 64 = omega arith in
     let fits : 2 ^ (8 * c.args.width - 1) < 2 ^ 64 = pow_below (8 * c.args.width - 1) 64 few in
