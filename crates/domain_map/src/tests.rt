@@ -100,6 +100,7 @@ fn two_misses_cross_four_times(rt: HostRuntime) -> Result<(), Fail> {
     let parts = split(rt.alloc(), &graph, &m)?;
     assert_eq!(rt; parts.domains(), 2);
     assert_eq!(rt; (parts.domain(0), parts.domain(1)), (0, 1));
+    assert_eq!(rt; parts.places(), [0, 1].as_slice());
     assert_eq!(rt; parts.events(0), [0, 2, 3, 5].as_slice());
     assert_eq!(rt; parts.events(1), [1, 4].as_slice());
     let wanted = [
