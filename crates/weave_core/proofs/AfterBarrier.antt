@@ -17,7 +17,8 @@ use Rattle.weave_core.proofs.LeastBy.{IsLeast, next_there, some_next}
 use Rattle.weave_core.proofs.Updates.{floor_below}
 use Rattle.weave_core.proofs.First.{IsFirst}
 use Rattle.weave_core.proofs.Firing.{IsOrder, before_fired, before_start, fired_before, start_by_all}
-use Rattle.weave_core.proofs.Knowledge.{IsPlaced, IsReady, is_ready, latency_there, parent_of_crossing, placed, ready_start}
+use Rattle.weave_core.proofs.Joined.{latency_there, parent_of_crossing}
+use Rattle.weave_core.proofs.ReadyEvents.{IsPlaced, IsReady, is_ready, placed, ready_start}
 use Rattle.weave_core.proofs.Steps.{Holds, bounds_of}
 use Rattle.weave_core.proofs.Barriers.{first_left_ready, is_left, left_test, left_is}
 

@@ -21,7 +21,7 @@ use Rattle.weave_core.specs.DomainMachine.{DomainState, arrival_of, bound_of, cy
 use Rattle.weave_core.specs.Layout.{AreHere, AreStubs, Stands, known_words, missing_at, no_event, pending, unknown_into}
 use Rattle.weave_core.specs.Stubs.{IsFirstStub, NoneOpen, arrival_at}
 use Rattle.weave_core.specs.Waits.{IsFirstReady, NoneReady, Waits, key_of}
-use Rattle.weave_core.proofs.Knowledge.{at_event}
+use Rattle.weave_core.proofs.Joined.{at_event}
 use Rattle.weave_core.proofs.Lists.{all_from, and_true, both, from_enum, get_below, get_there, not_true, or_left, or_right}
 use Rattle.weave_core.proofs.Readiness.{first_next, none_next}
 use Rattle.weave_core.proofs.Words.{all_known, eq_is, is_eq, none_unknown, word_known}

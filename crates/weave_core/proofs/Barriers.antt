@@ -19,7 +19,9 @@ use Rattle.weave_core.proofs.LeastBy.{next_there, some_next, start_upto}
 use Rattle.weave_core.proofs.Updates.{floors_after}
 use Rattle.weave_core.proofs.First.{IsFirst, first_of}
 use Rattle.weave_core.proofs.Firing.{IsOrder, before_start, fired_before, start_by_all, start_is}
-use Rattle.weave_core.proofs.Knowledge.{IsReady, first_pending, is_pending, is_ready, parent_before, parent_of_crossing, pending_is, pending_test, ready_start}
+use Rattle.weave_core.proofs.Joined.{parent_before, parent_of_crossing}
+use Rattle.weave_core.proofs.PendingEvents.{first_pending, is_pending, pending_is, pending_test}
+use Rattle.weave_core.proofs.ReadyEvents.{IsReady, is_ready, ready_start}
 use Rattle.weave_core.proofs.Steps.{Holds, Stands, bounds_of}
 
 -- a list element's domain is among the numbered domains

@@ -13,7 +13,7 @@ use Rattle.weave_core.specs.Children.{CanTell, tell_all, tell_child}
 use Rattle.weave_core.specs.DomainMachine.{DomainState}
 use Rattle.weave_core.specs.Layout.{AreHere, IsChildren, Stands, fired_in, hit_after, hits, latest_to, links_to, missing_at, own_after, pending, told_into}
 use Rattle.weave_core.specs.Waits.{Waits, is_fired_wait}
-use Rattle.weave_core.proofs.Knowledge.{at_event}
+use Rattle.weave_core.proofs.Joined.{at_event}
 use Rattle.weave_core.proofs.Lists.{get_below, get_there, test_cases}
 use Rattle.weave_core.proofs.Looked.{fired_told, unknown_few}
 use Rattle.weave_core.proofs.Updates.{get_set_other, get_set_same}

@@ -18,7 +18,8 @@ use Rattle.weave_core.proofs.Fronts.{fold-push, front_kept, front_next}
 use Rattle.weave_core.proofs.Updates.{get_set_other, get_set_same}
 use Rattle.weave_core.proofs.First.{IsFirst}
 use Rattle.weave_core.proofs.Firing.{IsOrder, finding, fired_before, from_domain}
-use Rattle.weave_core.proofs.Knowledge.{IsNextHere, eq_test, is_pending, may_fire, pending_is, pending_test, test_eq}
+use Rattle.weave_core.proofs.Joined.{eq_test, test_eq}
+use Rattle.weave_core.proofs.PendingEvents.{IsNextHere, is_pending, may_fire, pending_is, pending_test}
 use Rattle.weave_core.proofs.Steps.{Holds, Stands, bounds_of}
 
 -- each event's finish is what its component computed, after the events of its own that fired before

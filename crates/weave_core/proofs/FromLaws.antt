@@ -21,7 +21,7 @@ use Rattle.weave_core.proofs.Whole.{domain_there, follows, from_rest}
 use Rattle.weave_core.specs.SoundDomain.{IsNextEntry, IsSoundDomain}
 use Rattle.weave_core.proofs.AfterBarrier.{may_fire_first}
 use Rattle.weave_core.specs.Soundness.{AreSoundBounds, AreSoundWords, IsSoundFloor}
-use Rattle.weave_core.proofs.Knowledge.{sound_bounds}
+use Rattle.weave_core.proofs.Joined.{sound_bounds}
 use Rattle.weave_core.proofs.Solutions.{bounds_back, floor_alike, words_alike}
 use Rattle.weave_core.proofs.SoundDomains.{sound_follow}
 

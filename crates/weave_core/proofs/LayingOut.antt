@@ -18,7 +18,7 @@ use Rattle.weave_core.specs.DomainMachine.{is_exact}
 use Rattle.weave_core.specs.LaidOut.{FitsDomain, at_rest_with}
 use Rattle.weave_core.specs.Layout.{AreHere, AreStubs, Stands, fired_in, known_words, missing_at, no_event, own_after, pending, start_at, told_into, unknown_into, word_of}
 use Rattle.weave_core.proofs.Crossings.{Joins, joins}
-use Rattle.weave_core.proofs.Knowledge.{at_event}
+use Rattle.weave_core.proofs.Joined.{at_event}
 use Rattle.weave_core.proofs.Lists.{In, at_in, find_some, from_filter, get_below, get_there, in_at, in_filter}
 use Rattle.weave_core.proofs.Looked.{same_enum, unknown_few}
 use Rattle.weave_core.proofs.Words.{apart_eq, eq_is, is_eq, told_most}

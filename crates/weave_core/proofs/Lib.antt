@@ -4,7 +4,9 @@ mod LeastBy
 mod Crossings
 mod First
 mod Firing
-mod Knowledge
+mod Joined
+mod ReadyEvents
+mod PendingEvents
 mod Updates
 mod Steps
 mod Fires
@@ -19,6 +21,10 @@ mod Keys
 mod Readied
 mod Indexing
 mod Queued
+mod ByFloor
+mod ByWord
+mod Retold
+mod Filled
 mod Chaining
 mod Words
 mod Readiness

@@ -13,7 +13,8 @@ use Rattle.weave_core.specs.Soundness.{AreSoundBounds, AreSoundWords}
 use Rattle.weave_core.proofs.Lists.{get_take, last_at}
 use Rattle.weave_core.proofs.Fronts.{filter_front, front_kept, front_next}
 use Rattle.weave_core.proofs.Firing.{IsOrder}
-use Rattle.weave_core.proofs.Knowledge.{IsNextHere, eq_test, may_fire, pending_is}
+use Rattle.weave_core.proofs.Joined.{eq_test}
+use Rattle.weave_core.proofs.PendingEvents.{IsNextHere, may_fire, pending_is}
 use Rattle.weave_core.proofs.Fires.{IsServed, gap_component, gap_domain}
 use Rattle.weave_core.proofs.Solutions.{bounds_alike, order_alike, words_alike}
 use Rattle.weave_core.proofs.Whole.{narrowed}

@@ -18,7 +18,8 @@ use Rattle.weave_core.specs.Interleavings.{of_domain}
 use Rattle.weave_core.proofs.Lists.{both, finding_option, test_cases, not_true}
 use Rattle.weave_core.proofs.Updates.{read_after}
 use Rattle.weave_core.proofs.Firing.{IsOrder, all_known, finding, finish_is, fired_before, from_domain}
-use Rattle.weave_core.proofs.Knowledge.{latency_there, limit_holds, parent_of_crossing, test_eq, sound_bounds}
+use Rattle.weave_core.proofs.Joined.{latency_there, parent_of_crossing, sound_bounds, test_eq}
+use Rattle.weave_core.proofs.PendingEvents.{limit_holds}
 
 -- what holds of each element holds after one was written
 pub written : {X : Type 0} (Q : ℕ → X → Type 0) (xs : List X) (i : ℕ) (v d : X) → Q i v → ((j : ℕ) → Q j (get_or xs j d)) → (j : ℕ) → Q j (get_or (set xs i v) j d)

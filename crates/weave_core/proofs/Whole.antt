@@ -16,7 +16,7 @@ use Rattle.weave_core.specs.Soundness.{IsSoundWord}
 use Rattle.weave_core.specs.Interleavings.{FollowsTheWeave, IsFront, of_domain}
 use Rattle.weave_core.proofs.Fronts.{filter_front}
 use Rattle.weave_core.proofs.Firing.{IsOrder}
-use Rattle.weave_core.proofs.Knowledge.{eq_test, test_eq}
+use Rattle.weave_core.proofs.Joined.{eq_test, test_eq}
 use Rattle.weave_core.proofs.Steps.{Holds, Stands, looks, publishes, raises}
 use Rattle.weave_core.proofs.Fires.{IsServed, fires}
 use Rattle.weave_core.proofs.Barriers.{barriers}

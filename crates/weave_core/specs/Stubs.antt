@@ -1,5 +1,5 @@
 -- The crossings into a domain, and the queue of those whose finish is not known.
-use Rattle.std.specs.Prelude.{◌≡◌, ◌≤◌, ◌<◌, ◌+◌, ◌-◌, ◌^◌, ℕ, true, false, max, List, [], ◌∷◌, length, slice_get, Some}
+use Rattle.std.specs.Prelude.{◌≡◌, ◌≤◌, ◌<◌, ◌+◌, ◌-◌, ◌^◌, ◌⊎◌, ℕ, Bool, true, false, max, nat_lt, List, [], ◌∷◌, length, slice_get, Some}
 use Rattle.std.specs.List.{Contains}
 use Rattle.std.specs.Option.{option_map_or}
 use Rattle.zs_num.specs.declared.time.Key.{Key}
@@ -43,13 +43,26 @@ pub record IsFirstStub (v : Stubs) (k : Key) : Type 0 where
 abbrev pub NoneOpen : Stubs → Type 0
 NoneOpen v = (place : ℕ) (s : Stub) → slice_get v.stubs place ≡ Some s → is_exact s.word ≡ true
 
--- Each stub whose finish isn't known has a key that isn't too late, and no stub has two.
-pub record IsKeyed (stubs : List Stub) (floor : ℕ) (queue : ReadyKeys) : Type 0 where
-  pub within : (k : Key) → Contains queue.keys k → k.number < length stubs
+-- the least time from the floor to its child's start
+abbrev pub reach_of : Stub → ℕ
+reach_of s = s.latency + s.delay
+
+-- what its child can't start before is said by its word, and not by the floor
+abbrev pub is_ahead : (floor : ℕ) → Stub → Bool
+is_ahead floor s = nat_lt (floor + s.latency) (cycle_of s.word)
+
+-- Each stub whose finish isn't known has a key in one of two queues: by its reach, or one that isn't later than its arrival.
+-- No stub has two.
+pub record IsKeyed (stubs : List Stub) (floor : ℕ) (by_floor by_word : ReadyKeys) : Type 0 where
   pub covers : (place : ℕ) (s : Stub) → slice_get stubs place ≡ Some s → is_exact s.word ≡ false
-      → (start : ℕ) × ((start ≤ arrival_at floor s) × Contains queue.keys (key_of start place))
-  pub once : (k other : Key) → Contains queue.keys k → Contains queue.keys other → k.number ≡ other.number → k ≡ other
-  pub room : length queue.keys ≤ queue.room
+      → Contains by_floor.keys (key_of (reach_of s) place)
+      ⊎ ((start : ℕ) × ((start ≤ arrival_at floor s) × Contains by_word.keys (key_of start place)))
+  pub reaches : (k : Key) → Contains by_floor.keys k → (s : Stub) × ((slice_get stubs k.number ≡ Some s) × (k.start ≡ reach_of s))
+  pub within : (k : Key) → Contains by_word.keys k → k.number < length stubs
+  pub once : (k other : Key) → Contains by_word.keys k → Contains by_word.keys other → k.number ≡ other.number → k ≡ other
+  pub apart : (k other : Key) → Contains by_floor.keys k → Contains by_word.keys other → k.number ≡ other.number → ⊥
+  pub floor_room : length by_floor.keys + length by_word.keys ≤ by_floor.room
+  pub word_room : length by_floor.keys + length by_word.keys ≤ by_word.room
 
 -- the arrival of the stub at a place
 abbrev pub arrival_in : List Stub → (floor place : ℕ) → ℕ
@@ -60,16 +73,22 @@ abbrev pub slack : List Stub → (floor : ℕ) → List Key → ℕ
 slack stubs floor [] = 0
 slack stubs floor (k ∷ keys) = 1 + (arrival_in stubs floor k.number - k.start) + slack stubs floor keys
 
--- the first key is that of a stub whose finish isn't known, at its arrival
-abbrev pub IsCurrent : List Stub → (floor : ℕ) → ReadyKeys → Type 0
-IsCurrent stubs floor queue =
-    (k : Key) (s : Stub) → slice_get queue.keys 0 ≡ Some k → slice_get stubs k.number ≡ Some s → (is_exact s.word ≡ false) × (k.start ≡ arrival_at floor s)
+-- the first key by reach is that of a stub whose finish isn't known, and whose arrival the floor decides
+abbrev pub IsFloorCurrent : List Stub → (floor : ℕ) → ReadyKeys → Type 0
+IsFloorCurrent stubs floor by_floor =
+    (k : Key) (s : Stub) → slice_get by_floor.keys 0 ≡ Some k → slice_get stubs k.number ≡ Some s → (is_exact s.word ≡ false) × (is_ahead floor s ≡ false)
 
-pub record IsQueued (stubs : List Stub) (floor : ℕ) (queue : ReadyKeys) : Type 0 where
+-- the first key by word is that of a stub whose finish isn't known, at its arrival
+abbrev pub IsWordCurrent : List Stub → (floor : ℕ) → ReadyKeys → Type 0
+IsWordCurrent stubs floor by_word =
+    (k : Key) (s : Stub) → slice_get by_word.keys 0 ≡ Some k → slice_get stubs k.number ≡ Some s → (is_exact s.word ≡ false) × (k.start ≡ arrival_at floor s)
+
+pub record IsQueued (stubs : List Stub) (floor : ℕ) (by_floor by_word : ReadyKeys) : Type 0 where
   pub small : AreSmallStubs stubs
   pub floor_small : floor ≤ 2 ^ 62
-  pub keyed : IsKeyed stubs floor queue
-  pub current : IsCurrent stubs floor queue
+  pub keyed : IsKeyed stubs floor by_floor by_word
+  pub floor_current : IsFloorCurrent stubs floor by_floor
+  pub word_current : IsWordCurrent stubs floor by_word
 
 -- a stub of the crossing is among them, and their numbers rise
 pub record IsSearched (stubs : List Stub) (crossing : ℕ) : Type 0 where

@@ -100,6 +100,10 @@ pub begin-requires-2-clause-small : goal.begin-requires-2-clause-small
 begin-requires-2-clause-small c =
     λ place s h. (c.in_ok-stubs.ensures.stubs.each place s h).1.1.1.1.small
 
+pub begin-requires-2-clause-untold : goal.begin-requires-2-clause-untold
+begin-requires-2-clause-untold c =
+    λ place s h. (c.in_ok-stubs.ensures.stubs.each place s h).1.1.1.1.word
+
 pub returns : goal.returns
 returns c =
     let here : c.in_ok-here.here.items ≡ map (λ (n : ℕ). get_or c.args.g.now n no_event) c.events.result.now =

@@ -4,7 +4,7 @@ use Rattle.std.proofs.lemmas.Option.{get_or_from_slice_get}
 use Rattle.event_graph.specs.declared.event.Event.{Event}
 use Rattle.weave_core.specs.DomainMachine.{latency_of}
 use Rattle.weave_core.specs.Layout.{no_event}
-use Rattle.weave_core.proofs.Knowledge.{latency_there}
+use Rattle.weave_core.proofs.Joined.{latency_there}
 use Rattle.weave_core.proofs.prepare.stub_of.Goals as goal
 
 pub latency-requires : goal.latency-requires

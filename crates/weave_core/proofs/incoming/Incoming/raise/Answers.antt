@@ -2,7 +2,7 @@
 use Rattle.std.proofs.Common.{◌≡◌, List, ap, sym, subst, arith}
 use Rattle.weave_core.specs.declared.incoming.Stub.{Stub}
 use Rattle.weave_core.specs.Stubs.{AreSmallStubs, IsKeyed, Stubs}
-use Rattle.weave_core.proofs.Queued.{keyed_raised}
+use Rattle.weave_core.proofs.Retold.{keyed_raised}
 use Rattle.weave_core.proofs.incoming.Incoming.raise.Goals as goal
 
 pub settle-requires-clause-small : goal.settle-requires-clause-small
@@ -11,5 +11,5 @@ settle-requires-clause-small c = subst AreSmallStubs (sym c.deref.ensures.value)
 pub settle-requires-clause-keyed : goal.settle-requires-clause-keyed
 settle-requires-clause-keyed c =
     let floor : c.self.inside.floor ≡ c.args.self.now.floor = ap (λ (v : Stubs). v.floor) c.self.view_is in
-    subst (λ (xs : List Stub). IsKeyed xs c.args.floor c.self.inside.queue) (sym c.deref.ensures.value)
-    (keyed_raised c.self.inside.stubs.items c.self.inside.floor c.self.inside.queue c.self.invariant.keyed c.args.floor (omega (arith, floor, c.requires.floor)))
+    subst (λ (xs : List Stub). IsKeyed xs c.args.floor c.self.inside.by_floor c.self.inside.by_word) (sym c.deref.ensures.value)
+    (keyed_raised c.self.inside.stubs.items c.self.inside.floor c.self.inside.by_floor c.self.inside.by_word c.self.invariant.keyed c.args.floor (omega (arith, floor, c.requires.floor)))
