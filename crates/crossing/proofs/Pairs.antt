@@ -1,9 +1,10 @@
 -- The finish of the first of two look-ups, by the one-list weave.
-use Rattle.std.proofs.Common.{◌≡◌, ◌+◌, ◌<◌, ℕ, List, [], ◌∷◌, length, Some, slice_get, max, map, ap, sym, ◌∙◌, subst, refl, arith}
+use Rattle.std.proofs.Common.{◌≡◌, ◌+◌, ℕ, zero, suc, List, [], ◌∷◌, length, Some, slice_get, max, map, ap, sym, ◌∙◌, subst, refl, arith}
 use Rattle.std.proofs.lemmas.Option.{same_Some}
 use Rattle.component.specs.declared.bank.Bank.{Bank}
-use Rattle.component.specs.ComponentStep.{bank_step}
+use Rattle.component.specs.ComponentStep.{bank_latency, bank_serves, bank_step}
 use Rattle.event_graph.specs.declared.event.Event.{Event}
+use Rattle.event_graph.specs.Fits.{EventFits, GraphFits}
 use Rattle.event_graph.specs.OneListWeave.{after, finish_in, round, woven}
 use Rattle.atomic_table.specs.Seated.{TableId}
 use Rattle.domain_map.specs.Domains.{Division}
@@ -46,3 +47,17 @@ pub pair_of_seats : (events : List Event) (p : Division) (banks : List Bank) (ta
     → seats ≡ new_seat table (10 ∷ []) (0 ∷ []) 0 ∷ new_seat table (10 ∷ []) (0 ∷ []) 1 ∷ []
 pair_of_seats events p banks table seats h all =
     let s = pair_seats events p banks table seats h all in two seats _ _ s.count (s.each 0 (omega arith)) (s.each 1 (omega arith))
+
+pub pair_fits : (events : List Event) (p : Division) (banks : List Bank) → IsPair events p banks → GraphFits bank_serves bank_latency events banks
+pair_fits events p banks h =
+    subst (λ (es : List Event). GraphFits bank_serves bank_latency es banks) (sym h.events_are)
+    (subst (λ (bs : List Bank). GraphFits bank_serves bank_latency pair bs) (sym h.banks_are) each)
+  where
+    each : GraphFits bank_serves bank_latency pair (h.former ∷ h.latter ∷ [])
+    each zero e is =
+        subst (EventFits bank_serves bank_latency (h.former ∷ h.latter ∷ [])) (same_Some _ e is)
+        (record { component = h.former; there = refl; served = refl; floor_is = let f = h.fast in omega (arith, f) })
+    each (suc zero) e is =
+        subst (EventFits bank_serves bank_latency (h.former ∷ h.latter ∷ [])) (same_Some _ e is)
+        (record { component = h.latter; there = refl; served = refl; floor_is = let f = h.latter_fast in omega (arith, f) })
+    each (suc (suc i)) e is = absurd (cc)

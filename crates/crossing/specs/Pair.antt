@@ -1,5 +1,5 @@
 -- A look-up and a second one that waits for it, on two banks of different domains.
-use Rattle.std.specs.Prelude.{◌≡◌, ℕ, true, false, List, [], ◌∷◌, length, Some, None}
+use Rattle.std.specs.Prelude.{◌≡◌, true, false, List, [], ◌∷◌, length, Some, None}
 use Rattle.component.specs.declared.bank.Bank.{Bank}
 use Rattle.component.specs.declared.kind.Kind.TheVariants.{Lookup}
 use Rattle.event_graph.specs.declared.event.Event.{Event}
@@ -25,3 +25,4 @@ pub record IsPair (events : List Event) (p : Division) (banks : List Bank) : Typ
   pub banks_are : banks ≡ former ∷ latter ∷ []
   pub idle : former.free ≡ 0
   pub fast : former.lookup ≡ 10
+  pub latter_fast : latter.lookup ≡ 10

@@ -1,8 +1,6 @@
 // Two events that a crossing joins.
 ghost use Rattle.std.specs.Prelude.{◌≡◌, ◌+◌, [], ◌∷◌, IfOk, IsTrue, Some, None, true, false};
 ghost use Rattle.machine_desc.specs.Machine.{IsMachine};
-ghost use Rattle.component.specs.ComponentStep.{bank_latency, bank_serves};
-ghost use Rattle.event_graph.specs.Fits.{GraphFits};
 ghost use Rattle.domain_map.specs.Domains.{Divides};
 ghost use Rattle.crossing.specs.Pair.{IsPair, pair};
 ghost use Rattle.crossing.specs.Seats.{new_seat};
@@ -133,7 +131,6 @@ fn found_by_the_second(
     comps: &Comps<Bank>,
 ) -> Result<[Word; 3], NoMemory>
     requires pair { IsPair g.now p.now comps.now }
-    requires fits { GraphFits bank_serves bank_latency g.now comps.now }
     requires divides { Divides g.now p.now }
 {
     let (crossings, mut seats) = Crossings::make(alloc, g, p, comps)?;
@@ -152,8 +149,11 @@ fn a_look_finds_the_finish_once_it_is_published(rt: HostRuntime) -> Result<(), F
     let graph = graph(alloc)?;
     let parts = split(alloc, &graph, &machine(alloc)?)?;
     let comps = Comps::of(vec![in alloc; bank(), bank()]?);
-    assert!(rt; is_one_crossing(&parts));
-    let words = found_by_the_second(alloc, &graph, &parts, &comps)?;
+    let words = if is_one_crossing(&parts) {
+        found_by_the_second(alloc, &graph, &parts, &comps)?
+    } else {
+        [Word::Bound(0); 3]
+    };
     assert_eq!(rt; words, [Word::Bound(0), Word::Bound(7), Word::Exact(10)]);
     Ok(())
 }
