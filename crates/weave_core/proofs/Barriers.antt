@@ -1,5 +1,5 @@
 -- A barrier's floor is no later than the start of any unfired event.
-use Rattle.std.proofs.Common.{◌≡◌, ◌+◌, ◌<◌, ◌≤◌, ℕ, zero, suc, Bool, true, not, ◌&&◌, ◌||◌, leb, List, [], ◌∷◌, length, map, get_or, take, Option, Some, is_some, slice_get, sym, ◌∙◌, ap, subst, refl, inl, inr, arith}
+use Rattle.std.proofs.Common.{◌≡◌, ◌+◌, ◌<◌, ◌≤◌, ℕ, zero, suc, Bool, true, false, not, ◌&&◌, ◌||◌, leb, List, [], ◌∷◌, length, map, get_or, take, Option, Some, is_some, slice_get, sym, ◌∙◌, ap, subst, refl, inl, inr, arith}
 use Rattle.std.proofs.lemmas.List.{length-map}
 use Rattle.std.proofs.lemmas.Bool.{false≢true, cases_lt}
 use Rattle.std.proofs.lemmas.Bool.Decides.{nat_tests}
@@ -22,7 +22,7 @@ use Rattle.weave_core.proofs.Firing.{IsOrder, before_start, fired_before, start_
 use Rattle.weave_core.proofs.Joined.{parent_before, parent_of_crossing}
 use Rattle.weave_core.proofs.PendingEvents.{first_pending, is_pending, pending_is, pending_test}
 use Rattle.weave_core.proofs.ReadyEvents.{IsReady, is_ready, ready_start}
-use Rattle.weave_core.proofs.Steps.{Holds, Stands, bounds_of}
+use Rattle.weave_core.proofs.Steps.{AreFronts, Holds, Stands, bounds_from, fronts}
 
 -- a list element's domain is among the numbered domains
 in_starts : (events : List Event) (p : Division) (n d : ℕ) (xs : List DomainState) (own : DomainState) (b : Event × ℕ) → slice_get xs d ≡ Some own
@@ -47,7 +47,20 @@ at_domain (x ∷ xs) (suc d) l = at_domain xs d (omega arith)
 module _ {C : Type 0} (stepped : C → Kind → ℕ → C × ℕ) (events : List Event) (p : Division) (comps : List C) (all : List Timed)
     (o : IsOrder events all) (div : Divides events p)
     (here : (k : ℕ) (x : Timed) → slice_get all k ≡ Some x → domain_of p.places x.event < length p.events) where
-  module _ (s : MachineState C) (h : Holds stepped events p comps all o div s) (settled : every_crossing events p (is_settled events p stepped s) ≡ true) where
+  -- a crossing of a fired parent is resolved
+  pub settled_is : (s : MachineState C) → every_crossing events p (is_settled events p stepped s) ≡ true → (number : ℕ) (x : Crossing) → slice_get p.crossings number ≡ Some x
+      → is_fired (state_of s x.source).fired x.parent ≡ true → is_exact (word_at (state_of s x.target).known number) ≡ true
+  settled_is s settled number x there fired =
+      let t : (not (is_fired (state_of s x.source).fired x.parent) || (is_exact (word_at s.words number) && is_exact (word_at (state_of s x.target).known number))) ≡ true =
+      all_in (λ (at : ℕ × Crossing). is_settled events p stepped s at.0 at.1) (enumerate_from 0 p.crossings) (number, x) settled (in_enum p.crossings number x there)
+      in
+      elim (either (not (is_fired (state_of s x.source).fired x.parent)) _ t) [
+        | inl n ↦ absurd (false≢true (sym (not_true (is_fired (state_of s x.source).fired x.parent) n) ∙ fired))
+        | inr a ↦ (both (is_exact (word_at s.words number)) (is_exact (word_at (state_of s x.target).known number)) a).1
+      ]
+
+  module _ (s : MachineState C) (h : AreFronts stepped events p comps all o div s)
+      (resolved : (number : ℕ) (x : Crossing) → slice_get p.crossings number ≡ Some x → is_fired (state_of s x.source).fired x.parent ≡ true → is_exact (word_at (state_of s x.target).known number) ≡ true) where
     -- the event's domain has it yet to fire
     abbrev pub is_left : ℕ → Timed → Bool
     is_left k x = leb (h.cut (domain_of p.places x.event)) k
@@ -58,39 +71,27 @@ module _ {C : Type 0} (stepped : C → Kind → ℕ → C × ℕ) (events : List
     pub left_is : (k : ℕ) (x : Timed) → is_left k x ≡ true → h.cut (domain_of p.places x.event) ≤ k
     left_is k x t = grind (arith, nat_tests)
 
-    -- a crossing of a fired parent is resolved
-    resolved : (number : ℕ) (x : Crossing) → slice_get p.crossings number ≡ Some x → is_fired (state_of s x.source).fired x.parent ≡ true
-        → is_exact (word_at (state_of s x.target).known number) ≡ true
-    resolved number x there fired =
-        let t : (not (is_fired (state_of s x.source).fired x.parent) || (is_exact (word_at s.words number) && is_exact (word_at (state_of s x.target).known number))) ≡ true =
-        all_in (λ (at : ℕ × Crossing). is_settled events p stepped s at.0 at.1) (enumerate_from 0 p.crossings) (number, x) settled (in_enum p.crossings number x there)
-        in
-        elim (either (not (is_fired (state_of s x.source).fired x.parent)) _ t) [
-          | inl n ↦ absurd (false≢true (sym (not_true (is_fired (state_of s x.source).fired x.parent) n) ∙ fired))
-          | inr a ↦ (both (is_exact (word_at s.words number)) (is_exact (word_at (state_of s x.target).known number)) a).1
-        ]
-
     -- the first event that is left is ready in its domain
     pub first_left_ready : (k : ℕ) (x : Timed) → IsFirst is_left all k x
         → is_ready_in events p (domain_of p.places x.event) (state_of s (domain_of p.places x.event)) x.event ≡ true
     first_left_ready k x f =
         let d : ℕ = domain_of p.places x.event in
         let own = h.domains (domain_of p.places x.event) in
-        let first : IsFirst (is_pending events p all o div (domain_of p.places x.event) (h.cut (domain_of p.places x.event)) (state_of s (domain_of p.places x.event)) own.fired own.known (bounds_of stepped events p comps all o div _ _ _ _ own)) all k x =
+        let first : IsFirst (is_pending events p all o div (domain_of p.places x.event) (h.cut (domain_of p.places x.event)) (state_of s (domain_of p.places x.event)) own.fired own.known (bounds_from stepped events p comps all o div _ _ _ own)) all k x =
         record {
           there = f.there;
-          passes = pending_test events p all o div (domain_of p.places x.event) (h.cut (domain_of p.places x.event)) (state_of s (domain_of p.places x.event)) own.fired own.known (bounds_of stepped events p comps all o div _ _ _ _ own) k x refl (left_is k x f.passes);
+          passes = pending_test events p all o div (domain_of p.places x.event) (h.cut (domain_of p.places x.event)) (state_of s (domain_of p.places x.event)) own.fired own.known (bounds_from stepped events p comps all o div _ _ _ own) k x refl (left_is k x f.passes);
           before = λ j y l e.
-              elim (test_cases (is_pending events p all o div (domain_of p.places x.event) (h.cut (domain_of p.places x.event)) (state_of s (domain_of p.places x.event)) own.fired own.known (bounds_of stepped events p comps all o div _ _ _ _ own) j y)) [
+              elim (test_cases (is_pending events p all o div (domain_of p.places x.event) (h.cut (domain_of p.places x.event)) (state_of s (domain_of p.places x.event)) own.fired own.known (bounds_from stepped events p comps all o div _ _ _ own) j y)) [
                 | inr fails_it ↦ fails_it
                 | inl passes_it ↦
-                    let is = pending_is events p all o div (domain_of p.places x.event) (h.cut (domain_of p.places x.event)) (state_of s (domain_of p.places x.event)) own.fired own.known (bounds_of stepped events p comps all o div _ _ _ _ own) j y passes_it in
+                    let is = pending_is events p all o div (domain_of p.places x.event) (h.cut (domain_of p.places x.event)) (state_of s (domain_of p.places x.event)) own.fired own.known (bounds_from stepped events p comps all o div _ _ _ own) j y passes_it in
                     let cut : h.cut (domain_of p.places y.event) ≡ h.cut (domain_of p.places x.event) = ap h.cut is.0 in
                     absurd (false≢true (sym (f.before j y l e) ∙ left_test j y (omega (arith, is.1, cut))))
               ];
         }
         in
-        elim (first_pending events p all o div (domain_of p.places x.event) (h.cut (domain_of p.places x.event)) (state_of s (domain_of p.places x.event)) own.fired own.known (bounds_of stepped events p comps all o div _ _ _ _ own) k x first) [
+        elim (first_pending events p all o div (domain_of p.places x.event) (h.cut (domain_of p.places x.event)) (state_of s (domain_of p.places x.event)) own.fired own.known (bounds_from stepped events p comps all o div _ _ _ own) k x first) [
           | inl ready ↦ ready
           | inr a ↦
               let q : (i : ℕ) × ((w : Timed) × ((i < k) × ((slice_get all i ≡ Some w) × ((w.event.number ≡ a.crossing.parent) × (a.crossing.source ≡ domain_of p.places w.event))))) =
@@ -116,6 +117,23 @@ module _ {C : Type 0} (stepped : C → Kind → ℕ → C × ℕ) (events : List
               absurd (false≢true (sym a.unknown ∙ exact))
         ]
 
+    -- while an event is left, some domain has one ready
+    pub some_start : (k : ℕ) (x : Timed) → IsFirst is_left all k x → (start : ℕ) × (least_ready_start events p stepped s ≡ Some start)
+    some_start k x f =
+        let ready = first_left_ready k x f in
+        let i : In x.event events = at_in x.event events x.event.number (o.event k x f.there) in
+        let b : (b : Event × ℕ) × (next_in events p (domain_of p.places x.event) (state_of s (domain_of p.places x.event)) ≡ Some b) =
+        next_there (is_ready_in events p (domain_of p.places x.event) (state_of s (domain_of p.places x.event)))
+        (λ e. start_of (known_finish events p (domain_of p.places x.event) (state_of s (domain_of p.places x.event))) e) events x.event i ready
+        in
+        let below : domain_of p.places x.event < length s.domains = omega (arith, here k x f.there, h.count) in
+        let m : In b.0.1 (ready_starts events p (enumerate_from 0 s.domains)) =
+        in_starts events p 0 (domain_of p.places x.event) s.domains (state_of s (domain_of p.places x.event)) b.0 (at_domain s.domains (domain_of p.places x.event) below)
+        (ap (λ n. next_in events p n (state_of s (domain_of p.places x.event))) (zero_plus (domain_of p.places x.event)) ∙ b.1)
+        in
+        let v : (v : ℕ) × ((least (ready_starts events p (enumerate_from 0 s.domains)) ≡ Some v) × (v ≤ b.0.1)) = least_le (ready_starts events p (enumerate_from 0 s.domains)) b.0.1 m in
+        (v.0, v.1.0)
+
     -- no event that is left starts before the least start of a ready event
     pub least_start : (start : ℕ) → least_ready_start events p stepped s ≡ Some start → (k : ℕ) (x : Timed) → slice_get all k ≡ Some x
         → h.cut (domain_of p.places x.event) ≤ k → start ≤ x.start
@@ -132,11 +150,11 @@ module _ {C : Type 0} (stepped : C → Kind → ℕ → C × ℕ) (events : List
         let l = some_next (is_ready_in events p (domain_of p.places f.1.0.event) (state_of s (domain_of p.places f.1.0.event)))
         (λ e. start_of (known_finish events p (domain_of p.places f.1.0.event) (state_of s (domain_of p.places f.1.0.event))) e) events b.0 b.1
         in
-        let r : IsReady events p all o div (domain_of p.places f.1.0.event) (h.cut (domain_of p.places f.1.0.event)) (state_of s (domain_of p.places f.1.0.event)) own.fired own.known (bounds_of stepped events p comps all o div _ _ _ _ own) f.1.0.event =
-        is_ready events p all o div (domain_of p.places f.1.0.event) (h.cut (domain_of p.places f.1.0.event)) (state_of s (domain_of p.places f.1.0.event)) own.fired own.known (bounds_of stepped events p comps all o div _ _ _ _ own) f.1.0.event ready
+        let r : IsReady events p all o div (domain_of p.places f.1.0.event) (h.cut (domain_of p.places f.1.0.event)) (state_of s (domain_of p.places f.1.0.event)) own.fired own.known (bounds_from stepped events p comps all o div _ _ _ own) f.1.0.event =
+        is_ready events p all o div (domain_of p.places f.1.0.event) (h.cut (domain_of p.places f.1.0.event)) (state_of s (domain_of p.places f.1.0.event)) own.fired own.known (bounds_from stepped events p comps all o div _ _ _ own) f.1.0.event ready
         in
         let at : start_of (known_finish events p (domain_of p.places f.1.0.event) (state_of s (domain_of p.places f.1.0.event))) f.1.0.event ≡ f.1.0.start =
-        ready_start events p all o div (domain_of p.places f.1.0.event) (h.cut (domain_of p.places f.1.0.event)) (state_of s (domain_of p.places f.1.0.event)) own.fired own.known (bounds_of stepped events p comps all o div _ _ _ _ own)
+        ready_start events p all o div (domain_of p.places f.1.0.event) (h.cut (domain_of p.places f.1.0.event)) (state_of s (domain_of p.places f.1.0.event)) own.fired own.known (bounds_from stepped events p comps all o div _ _ _ own)
         f.1.0.event.number f.1.0.event r (o.event f.0 f.1.0 f.1.1.1.there)
         ∙ sym (start_by_all events all o f.0 f.1.0 f.1.1.1.there)
         in
@@ -162,6 +180,29 @@ module _ {C : Type 0} (stepped : C → Kind → ℕ → C × ℕ) (events : List
         in
         omega (arith, same, v.1.1, upto, at, order)
 
+    -- the parent of a crossing that a domain hasn't resolved starts no earlier
+    pub floor_holds : (start : ℕ) → least_ready_start events p stepped s ≡ Some start → (d number : ℕ) (x : Crossing) → slice_get p.crossings number ≡ Some x → x.target ≡ d
+        → is_exact (word_at (state_of s d).known number) ≡ false → start ≤ start_in all x.parent
+    floor_holds start is d number x there target unknown =
+        let q = parent_of_crossing events p all o div number x there in
+        let started : start_in all x.parent ≡ q.1.0.start = ap (start_in all) (sym q.1.1.1.0) ∙ start_is events all o q.0 q.1.0 q.1.1.0 in
+        let left : h.cut (domain_of p.places q.1.0.event) ≤ q.0 =
+        elim (cases_lt q.0 (h.cut (domain_of p.places q.1.0.event))) [
+          | inr b ↦ b
+          | inl less ↦
+              let fired : is_fired (of_domain p.places (domain_of p.places q.1.0.event) (take (h.cut (domain_of p.places q.1.0.event)) all)) q.1.0.event.number ≡ true =
+              fired_before events all o p.places (domain_of p.places q.1.0.event) (h.cut (domain_of p.places q.1.0.event)) q.0 q.1.0 less q.1.1.0 refl
+              in
+              let known : is_fired (state_of s x.source).fired x.parent ≡ true =
+              ap (λ n. is_fired (state_of s n).fired x.parent) q.1.1.1.1
+              ∙ (ap (λ (xs : List Timed). is_fired xs x.parent) (h.domains (domain_of p.places q.1.0.event)).fired
+              ∙ (ap (is_fired (of_domain p.places (domain_of p.places q.1.0.event) (take (h.cut (domain_of p.places q.1.0.event)) all))) (sym q.1.1.1.0) ∙ fired))
+              in
+              absurd (false≢true (sym unknown ∙ (ap (λ n. is_exact (word_at (state_of s n).known number)) (sym target) ∙ resolved number x there known)))
+        ]
+        in
+        omega (arith, started, least_start start is q.0 q.1.0 q.1.1.0 left)
+
   pub barriers : (s : MachineState C) → Holds stepped events p comps all o div s → is_allowed events p stepped s barrier ≡ true
       → Holds stepped events p comps all o div (effect_of events p stepped s barrier)
   barriers s h allowed =
@@ -181,25 +222,7 @@ module _ {C : Type 0} (stepped : C → Kind → ℕ → C × ℕ) (events : List
                     fired = (h.domains d).fired;
                     known = (h.domains d).known;
                     floor = record {
-                      each = λ number x there target unknown.
-                          let q = parent_of_crossing events p all o div number x there in
-                          let start : start_in all x.parent ≡ q.1.0.start = ap (start_in all) (sym q.1.1.1.0) ∙ start_is events all o q.0 q.1.0 q.1.1.0 in
-                          let left : h.cut (domain_of p.places q.1.0.event) ≤ q.0 =
-                          elim (cases_lt q.0 (h.cut (domain_of p.places q.1.0.event))) [
-                            | inr b ↦ b
-                            | inl less ↦
-                                let fired : is_fired (of_domain p.places (domain_of p.places q.1.0.event) (take (h.cut (domain_of p.places q.1.0.event)) all)) q.1.0.event.number ≡ true =
-                                fired_before events all o p.places (domain_of p.places q.1.0.event) (h.cut (domain_of p.places q.1.0.event)) q.0 q.1.0 less q.1.1.0 refl
-                                in
-                                let known : is_fired (state_of s x.source).fired x.parent ≡ true =
-                                ap (λ n. is_fired (state_of s n).fired x.parent) q.1.1.1.1
-                                ∙ (ap (λ (xs : List Timed). is_fired xs x.parent) (h.domains (domain_of p.places q.1.0.event)).fired
-                                ∙ (ap (is_fired (of_domain p.places (domain_of p.places q.1.0.event) (take (h.cut (domain_of p.places q.1.0.event)) all))) (sym q.1.1.1.0) ∙ fired))
-                                in
-                                absurd (false≢true (sym unknown ∙ (ap (λ n. is_exact (word_at (state_of s n).known number)) (sym target) ∙ resolved s h a.0 number x there known)))
-                          ]
-                          in
-                          omega (arith, start, least_start s h a.0 m.0 m.1 q.0 q.1.0 q.1.1.0 left);
+                      each = λ number x there target unknown. floor_holds s (fronts stepped events p comps all o div s h) (settled_is s a.0) m.0 m.1 d number x there target unknown;
                     };
                     kept = (h.domains d).kept;
                   })

@@ -1,5 +1,5 @@
 -- The order in which the weave fires its events, from the laws of the one-list weave.
-use Rattle.std.proofs.Common.{◌≡◌, ◌+◌, ◌<◌, ◌≤◌, ℕ, suc, Bool, true, false, not, ◌&&◌, IsTrue, List, [], ◌∷◌, ◌++◌, length, map, get_or, take, Option, Some, None, slice_get, IsPermutation, sym, ◌∙◌, ap, subst, refl, arith}
+use Rattle.std.proofs.Common.{◌≡◌, ◌+◌, ◌<◌, ◌≤◌, ℕ, suc, Bool, true, false, not, ◌&&◌, IsTrue, List, [], ◌∷◌, ◌++◌, length, map, get_or, take, Option, Some, None, is_some, slice_get, IsPermutation, sym, ◌∙◌, ap, subst, refl, arith}
 use Rattle.std.proofs.lemmas.List.{length-map, take_more}
 use Rattle.std.proofs.lemmas.List.Sorted.{Contains-permutation, length_permutation}
 use Rattle.std.proofs.lemmas.Option.{same_Some, none-some, get_or_from_slice_get, slice_get-map}
@@ -12,7 +12,8 @@ use Rattle.event_graph.specs.Numbered.{IsNumbered}
 use Rattle.event_graph.specs.OneListWeave.{Timed, after, is_before, is_fired, is_parent_fired, weave, woven}
 use Rattle.event_graph.specs.TimingSolution.{IsInOrder, IsSolution, after_serving, of_component}
 use Rattle.domain_map.specs.Domains.{Division, domain_of}
-use Rattle.weave_core.specs.DomainMachine.{DomainState, Step, after_steps, at_rest, barrier, fire, is_allowed, is_clear, latency_of, next_in, state_of, take_step}
+use Rattle.weave_core.specs.AtBarrier.{AreSoundDomains, AreTold, IsFirstLeft, MayGoOn, least_start_of, own_at}
+use Rattle.weave_core.specs.DomainMachine.{DomainState, MachineState, Step, after_steps, at_rest, barrier, every_crossing, fire, is_allowed, is_clear, is_settled, latency_of, least_ready_start, next_in, state_of, take_step, with_floor}
 use Rattle.weave_core.specs.Interleavings.{FollowsTheWeave, IsDivided, IsFirstUnfired}
 use Rattle.weave_core.proofs.Lists.{both, get_below, not_true, contained, contains, last_same}
 use Rattle.weave_core.proofs.Firing.{IsOrder}
@@ -20,6 +21,9 @@ use Rattle.weave_core.proofs.Fires.{IsServed}
 use Rattle.weave_core.proofs.Whole.{domain_there, follows, from_rest}
 use Rattle.weave_core.specs.SoundDomain.{IsNextEntry, IsSoundDomain}
 use Rattle.weave_core.proofs.AfterBarrier.{may_fire_first}
+use Rattle.weave_core.proofs.AtBarriers.{floors_hold, may_go_on}
+use Rattle.weave_core.proofs.Barriers.{settled_is}
+use Rattle.weave_core.proofs.Steps.{fronts}
 use Rattle.weave_core.specs.Soundness.{AreSoundBounds, AreSoundWords, IsSoundFloor}
 use Rattle.weave_core.proofs.Joined.{sound_bounds}
 use Rattle.weave_core.proofs.Solutions.{bounds_back, floor_alike, words_alike}
@@ -153,8 +157,11 @@ module _ {C : Type 0} (serves : C → Kind → Bool) (floor : C → Kind → ℕ
         → (is_allowed events p stepped (take_step events p stepped (after_steps events p stepped (at_rest p comps) steps) barrier) (fire (domain_of p.places x.event)) ≡ true)
         × (next_in events p (domain_of p.places x.event) (state_of (take_step events p stepped (after_steps events p stepped (at_rest p comps) steps) barrier) (domain_of p.places x.event)) ≡ Some (x.event, x.start))
     goes_on steps x allowed first =
-        may_fire_first stepped events p comps (weave stepped events comps).fired order_of d.divides here (after_steps events p stepped (at_rest p comps) steps)
-        (from_rest stepped events p comps (weave stepped events comps).fired order_of d.divides served_of here steps) allowed first.index x first.there first.unfired first.before
+        let s : MachineState C = after_steps events p stepped (at_rest p comps) steps in
+        may_fire_first stepped events p comps (weave stepped events comps).fired order_of d.divides here s
+        (fronts stepped events p comps (weave stepped events comps).fired order_of d.divides s (from_rest stepped events p comps (weave stepped events comps).fired order_of d.divides served_of here steps))
+        (settled_is stepped events p comps (weave stepped events comps).fired order_of d.divides here s (both (every_crossing events p (is_settled events p stepped s)) (is_some (least_ready_start events p stepped s)) allowed).0)
+        first.index x first.there first.unfired first.before allowed
 
     pub sound_next : (timed : List Timed) (solution : IsSolution stepped events comps timed) → timed ≡ woven stepped events comps → (domain : ℕ) (own : DomainState) (next : Event × ℕ)
         → IsSoundDomain stepped events p comps timed solution domain own → next_in events p domain own ≡ Some next → is_clear events p domain own next.1 ≡ true
@@ -168,3 +175,14 @@ module _ {C : Type 0} (serves : C → Kind → Bool) (floor : C → Kind → ℕ
         bounds_back stepped events comps order_of timed is p domain own
         (sound_bounds events p (weave stepped events comps).fired order_of d.divides domain own (words_alike stepped events comps order_of timed is p own.known known)
         (floor_alike stepped events comps order_of timed is p domain own floor))
+
+    pub floors_at_barrier : (timed : List Timed) (solution : IsSolution stepped events comps timed) → timed ≡ woven stepped events comps → (owns : List DomainState) (start : ℕ)
+        → AreSoundDomains stepped events p comps timed solution owns → AreTold p owns → least_start_of events p owns ≡ Some start
+        → (domain : ℕ) → IsSoundFloor timed p domain (with_floor start (own_at owns domain))
+    floors_at_barrier timed solution is owns start h told least domain =
+        floors_hold stepped events p comps order_of d.divides here in_order timed solution is owns h told start least domain
+
+    pub first_goes_on : (timed : List Timed) (solution : IsSolution stepped events comps timed) → timed ≡ woven stepped events comps → (owns : List DomainState) (index : ℕ) (x : Timed)
+        → AreSoundDomains stepped events p comps timed solution owns → AreTold p owns → IsFirstLeft stepped events p comps owns index x → MayGoOn events p owns x
+    first_goes_on timed solution is owns index x h told first =
+        may_go_on stepped events p comps order_of d.divides here in_order timed solution is owns h told index x first

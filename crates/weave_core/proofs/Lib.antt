@@ -13,6 +13,7 @@ mod Fires
 mod Barriers
 mod Whole
 mod AfterBarrier
+mod AtBarriers
 mod Solutions
 mod SoundDomains
 mod FromLaws

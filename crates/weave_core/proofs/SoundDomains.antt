@@ -20,7 +20,7 @@ use Rattle.weave_core.proofs.Solutions.{bounds_alike, order_alike, words_alike}
 use Rattle.weave_core.proofs.Whole.{narrowed}
 
 -- a front of a filtered list is what a front of the list leaves
-front_cut : {X : Type 0} (test : X → Bool) (xs : List X) (n : ℕ) → (cut : ℕ) × (take n (filter test xs) ≡ filter test (take cut xs))
+pub front_cut : {X : Type 0} (test : X → Bool) (xs : List X) (n : ℕ) → (cut : ℕ) × (take n (filter test xs) ≡ filter test (take cut xs))
 front_cut test [] zero = (0, refl)
 front_cut test [] (suc n) = (0, refl)
 front_cut test (x ∷ xs) zero = (0, refl)

@@ -42,6 +42,20 @@ module _ {C : Type 0} (stepped : C → Kind → ℕ → C × ℕ) (events : List
   pub bounds_of : (words : List Word) (cut domain : ℕ) (own : DomainState) → Stands words cut domain own → AreSoundBounds events all p domain own
   bounds_of words cut domain own h = sound_bounds events p all o div domain own h.known h.floor
 
+  -- the same, whatever the words are
+  pub record Sits (cut domain : ℕ) (own : DomainState) : Type 0 where
+    pub fired : own.fired ≡ of_domain p.places domain (take cut all)
+    pub known : AreSoundWords all p own.known
+    pub floor : IsSoundFloor all p domain own
+
+  pub record AreFronts (s : MachineState C) : Type 0 where
+    pub count : length s.domains ≡ length p.events
+    pub cut : ℕ → ℕ
+    pub domains : (domain : ℕ) → Sits (cut domain) domain (state_of s domain)
+
+  pub bounds_from : (cut domain : ℕ) (own : DomainState) → Sits cut domain own → AreSoundBounds events all p domain own
+  bounds_from cut domain own h = sound_bounds events p all o div domain own h.known h.floor
+
   -- a word is sound, and exact only where the parent has fired
   pub record IsTrueWord (cut : ℕ → ℕ) (number : ℕ) (w : Word) : Type 0 where
     pub sound : (x : Crossing) → slice_get p.crossings number ≡ Some x → IsSoundWord all x w
@@ -55,6 +69,13 @@ module _ {C : Type 0} (stepped : C → Kind → ℕ → C × ℕ) (events : List
     pub words : (number : ℕ) → IsTrueWord cut number (word_at s.words number)
     pub comps_are : (number : ℕ) → slice_get s.comps number
         ≡ option_map (λ c. after_serving stepped c (of_component number (take (cut (domain_at p.places number)) all))) (slice_get comps number)
+
+  abbrev pub fronts : (s : MachineState C) → Holds s → AreFronts s
+  fronts s h = record {
+    count = h.count;
+    cut = h.cut;
+    domains = λ d. record { fired = (h.domains d).fired; known = (h.domains d).known; floor = (h.domains d).floor };
+  }
 
   given : (s : MachineState C) (number : ℕ) (test : Crossing → Bool) → is_crossing events p stepped number test ≡ true
       → (x : Crossing) × ((slice_get p.crossings number ≡ Some x) × (test x ≡ true))

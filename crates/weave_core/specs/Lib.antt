@@ -1,4 +1,5 @@
 pub mod Answer
+pub mod AtBarrier
 pub mod Beginning
 pub mod Children
 pub mod DomainCalls

@@ -1,4 +1,5 @@
 //! Laws over the definitions alone, each the contract of a function that does nothing.
+ghost use Rattle.weave_core.specs.AtBarrier.{BarrierFloorsHold, BarriersAdvance};
 ghost use Rattle.weave_core.specs.Following.{FirstFollows, FiresFollow, FloorsFollow, TellsFollow};
 ghost use Rattle.weave_core.specs.Interleavings.{Interleavings, Progress};
 ghost use Rattle.weave_core.specs.SoundDomain.{SoundDomainsFollow, SoundFloorsBound};
@@ -86,4 +87,34 @@ pub fn fires_follow<C: Component>()
     ensures { FiresFollow C.serves C.floor C.stepped }
 {
     sound_domains_follow::<C>();
+}
+
+/// Where the domains keep to a solution of the timing rules, and each knows the finish of every parent
+/// that another one fired, the least start of a ready event is a sound floor for all of them.
+pub fn barrier_floors_hold<C: Component>()
+    ensures { BarrierFloorsHold C.serves C.floor C.stepped }
+{
+    event_graph::laws::each_event_fires_once::<C>();
+    event_graph::laws::events_fire_in_order::<C>();
+    event_graph::laws::the_least_ready_event_fires::<C>();
+    event_graph::laws::each_round_fires_the_next_event::<C>();
+    event_graph::laws::rounds_fire_the_first_events::<C>();
+    event_graph::laws::components_serve_their_own_events::<C>();
+    event_graph::laws::graphs_keep_fitting::<C>();
+    event_graph::laws::weave_is_the_one_solution::<C>();
+}
+
+/// In the same state, while an event is unfired, some domain has one ready; and at that floor the domain
+/// with the first unfired event of the one-list weave may fire that event.
+pub fn barriers_advance<C: Component>()
+    ensures { BarriersAdvance C.serves C.floor C.stepped }
+{
+    event_graph::laws::each_event_fires_once::<C>();
+    event_graph::laws::events_fire_in_order::<C>();
+    event_graph::laws::the_least_ready_event_fires::<C>();
+    event_graph::laws::each_round_fires_the_next_event::<C>();
+    event_graph::laws::rounds_fire_the_first_events::<C>();
+    event_graph::laws::components_serve_their_own_events::<C>();
+    event_graph::laws::graphs_keep_fitting::<C>();
+    event_graph::laws::weave_is_the_one_solution::<C>();
 }

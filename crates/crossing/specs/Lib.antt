@@ -1,0 +1,4 @@
+pub mod Inside
+pub mod Pair
+pub mod Rule
+pub mod Seats

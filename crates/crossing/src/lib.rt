@@ -1,0 +1,14 @@
+//! The words by which the domains of the weave tell each other the finishes of their events.
+#![tactic(auto)]
+
+mod crossings;
+mod knows;
+mod make;
+mod plays;
+mod seat;
+
+pub use crossings::Crossings;
+pub use seat::DomainSeat;
+
+#[cfg(test)]
+mod tests;

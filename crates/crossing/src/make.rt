@@ -1,0 +1,72 @@
+// How the words of the crossings are made.
+ghost use Rattle.std.specs.Prelude.{◌≡◌, ◌≤◌, ◌<◌, ◌+◌, ◌-◌, ◌*◌, ◌^◌, [], IfOk, length, map, vec_len, replicate};
+ghost use Rattle.std.specs.Vec.{vec_capacity};
+ghost use Rattle.event_graph.specs.Fits.{GraphFits};
+ghost use Rattle.domain_map.specs.Domains.{Divides};
+ghost use Rattle.crossing.specs.Rule.{untold};
+ghost use Rattle.crossing.specs.Seats.{AreSeats, finishes_of, owners_of};
+
+use crate::crossings::Crossings;
+use crate::knows::{Place, Words};
+use crate::plays::{Finishes, Next, Say};
+use crate::seat::DomainSeat;
+use component::{Component, Comps};
+use domain_map::Parts;
+use event_graph::Graph;
+use std::alloc::Global;
+use std::marker::Brand;
+use zs_num::NoMemory;
+
+impl Crossings {
+    /// A word for each crossing of a graph that was split, which says nothing yet, and the seats of
+    /// the domains by their numbers. The finish that a crossing stands for is that of its parent in
+    /// the one-list weave of the graph from these components: contracts speak of it, and nothing of
+    /// it is computed.
+    pub fn make<C: Component>(
+        alloc: Global,
+        g: &Graph,
+        p: &Parts,
+        comps: &Comps<C>,
+    ) -> Result<(Crossings, Vec<DomainSeat>), NoMemory>
+        requires fits { GraphFits C.serves C.floor g.now comps.now }
+        requires divides { Divides g.now p.now }
+        ensures { IfOk result (λ made. AreSeats made.0 (finishes_of C.stepped g.now p.now comps.now) (owners_of p.now) (length p.now.events) made.1.items) }
+    {
+        let count = p.crossings().len();
+        if count > u32::MAX as usize {
+            return Err(NoMemory);
+        }
+        let domains = p.domains();
+        let seats = Vec::with_capacity(alloc, usize::from(domains))?;
+        let zeros = vec![in alloc; 0; 16 * count + 1]?;
+        let (words, first) = Words::of_words(alloc, &zeros, &(count as u64))?;
+        let seats = seated::<C, Brand>(&words, first, domains, seats, g, p, comps);
+        Ok((Crossings { words }, seats))
+    }
+}
+
+/// Tells the first seat the finishes and the owners, and gives each domain its seat.
+fn seated<C: Component, F: Finishes>(
+    words: &Words,
+    mut first: Place,
+    domains: u16,
+    mut seats: Vec<DomainSeat>,
+    graph: &Graph,
+    parts: &Parts,
+    comps: &Comps<C>,
+) -> Vec<DomainSeat>
+    requires empty { seats.items ≡ [] }
+    requires room { domains ≤ vec_capacity seats }
+    requires table { first.table_id ≡ words.now.shared.table_id }
+    requires count { words.now.shared.table_id.words ≡ 16 * length F.owners + 1 }
+    requires key { words.now.shared.key ≡ length F.owners }
+    requires untold { first.me ≡ (untold, []) }
+    ensures { AreSeats words.now.shared.table_id F.finishes F.owners domains result.items }
+{
+    words.shared.load::<Say<F>>(&mut first, 0);
+    for domain in 0..domains {
+        let place = words.shared.split_seat::<Next>(&mut first);
+        seats.push_reserved(DomainSeat { place });
+    }
+    seats
+}

@@ -1,0 +1,15 @@
+-- The least start of a ready event is no later than the start of any unfired event.
+use Rattle.weave_core.proofs.FromLaws.{floors_at_barrier}
+use Rattle.weave_core.proofs.laws.barrier_floors_hold.Goals as goal
+
+pub returns : goal.returns
+returns g c = λ events p comps timed solution owns start d h told least domain.
+    floors_at_barrier g.C.Component.serves g.C.Component.floor g.C.Component.stepped g.met.C.Component.floor_at_least_one g.met.C.Component.floor_holds events comps d.numbered
+    (c.each_event_fires_once.ensures events comps d.numbered d.fits)
+    (c.events_fire_in_order.ensures events comps d.numbered d.fits)
+    (λ index x h. c.the_least_ready_event_fires.ensures events comps index x d.numbered d.fits h)
+    (λ rounds l. c.each_round_fires_the_next_event.ensures events comps rounds d.numbered d.fits l)
+    (λ rounds. c.rounds_fire_the_first_events.ensures events comps rounds d.numbered d.fits)
+    (λ rounds number. c.components_serve_their_own_events.ensures events comps rounds number d.numbered d.fits)
+    (λ rounds. c.graphs_keep_fitting.ensures events comps rounds d.numbered d.fits)
+    p d timed solution ((c.weave_is_the_one_solution.ensures events comps timed d.numbered d.fits).0 solution) owns start h told least domain
