@@ -1,16 +1,5 @@
-pub mod BoundPhase
-pub mod Cores
-pub mod IntervalWeave
-pub mod NextInterval
 pub mod Numbers
-pub mod OneSchedule
 pub mod Outcome
 pub mod Pieces
-pub mod PortTurns
-pub mod RecordedOrder
-pub mod RunCores
-pub mod RunEnds
-pub mod RunSoFar
-pub mod Shards
 pub mod SimpleOptions
 pub mod TwoReads

@@ -10,8 +10,8 @@ use Rattle.zsim.specs.declared.ended.Status.TheVariants as status
 use Rattle.zsim.specs.declared.ended.Which.TheVariants as which
 use Rattle.zsim.specs.CommandLine.{Command, command_of, is_brief}
 use Rattle.zsim.specs.Ended.{Gives, HasCause, IsCut, IsDecided, IsOutcome, IsReported, IsStopped, Keeps, KeepsInputs, Leaves, Reports}
-use Rattle.zsim.specs.Results.{Results}
-use Rattle.zsim.specs.ReferenceRun.{IsLegalSoFar, IsRunOf}
+use Rattle.replay.specs.ReferenceRun.{IsLegalSoFar, IsRunOf}
+use Rattle.replay.specs.Results.{Results}
 use Rattle.zsim.specs.Seen.{Seen, FileFailed, GainedNothing, NoFileFailed, NoPutFailed, PutFailed, SameNames}
 use Rattle.zsim.specs.Setup.{machine_by, loaded_on, setup_by, setup_of, with_exe}
 use Rattle.zsim.specs.Steps.{Answers, RanCut, RanWhole, RunsAs}

@@ -1,23 +1,22 @@
 -- What the answer of a call tells: each status with its cause, what was kept, and what was written.
-use Rattle.std.specs.Prelude.{◌≡◌, ◌⊎◌, ℕ, List, [], Option, Some, None, IsSomeAnd, IsOk, IsOkAnd, Ok, Err, MatchResult}
+use Rattle.std.specs.Prelude.{◌≡◌, ◌⊎◌, ℕ, Bool, if◌then◌else◌, List, [], Option, Some, None, IsSomeAnd, IsOk, IsOkAnd, Ok, Err, MatchResult}
 use Rattle.machine_desc.specs.declared.machine.Machine.{Machine}
 use Rattle.machine_desc.specs.declared.plain.TheConstants.{PLAIN}
 use Rattle.elf_write.specs.File.{file_of}
 use Rattle.gen_prog.specs.Generated.{generated_image}
+use Rattle.replay.specs.ReferenceRun.{IsLegalSoFar, IsRunOf}
+use Rattle.replay.specs.Results.{Results}
 use Rattle.zsim.specs.declared.ended.Kept.{Kept}
 use Rattle.zsim.specs.declared.ended.Said.{Said}
 use Rattle.zsim.specs.declared.ended.Said.TheVariants as said
 use Rattle.zsim.specs.declared.ended.Status.{Status}
 use Rattle.zsim.specs.declared.ended.Status.TheVariants as status
-use Rattle.zsim.specs.declared.results.RunEnd.{RunEnd}
-use Rattle.zsim.specs.declared.results.RunEnd.TheVariants.{Halted, Limit}
 use Rattle.zsim.specs.declared.ended.Which.TheVariants as which
 use Rattle.zsim.specs.CommandLine.{Command, Exe, command_of, exe_file, file, generated, is_brief}
 use Rattle.zsim.specs.ErrorLine.{error_line}
 use Rattle.zsim.specs.Limits.{exe_limit, machine_limit}
-use Rattle.zsim.specs.ReferenceRun.{IsLegalSoFar, IsRunOf}
-use Rattle.zsim.specs.Results.{Results, report_of}
-use Rattle.zsim.specs.Schedule.{IntervalLists}
+use Rattle.access_log.specs.Schedule.{IntervalLists}
+use Rattle.zsim.specs.Report.{report_of}
 use Rattle.zsim.specs.Seen.{FilesSeen, Seen, SinkSeen, FailedToReadInput, FileFailed, Gained, GainedNothing, GainedPrefix, NoFileFailed, NoPutFailed, PutFailed, SameNames, WasRead}
 use Rattle.zsim.specs.Setup.{Setup, machine_by, setup_of}
 
@@ -109,14 +108,13 @@ pub record IsStopped (words : List (List ℕ)) (kept : Kept) : Type 0 where
   pub run : IsLegalSoFar setup.machine setup.image kept.schedule.lists
 
 -- the status of a run that was reported whole
-abbrev pub status_at : RunEnd → Status
-status_at Halted = status.Ran
-status_at Limit = status.Limit
+abbrev pub status_at : (limit : Bool) → Status
+status_at limit = if limit then status.Limit else status.Ran
 
 -- standard output gained the whole report of the run, whose end the status tells
 abbrev pub IsReported : Status → Seen → Kept → Type 0
 IsReported s seen kept =
-    (r : Results) × (run : Gives seen.words kept r) × (s ≡ status_at r.ending) × Gained seen.out (report_of run.setup.machine (is_brief seen.words) r)
+    (r : Results) × (run : Gives seen.words kept r) × (s ≡ status_at r.limit) × Gained seen.out (report_of run.setup.machine (is_brief seen.words) r)
 
 -- it gained a prefix of the report
 abbrev pub IsCut : Seen → Kept → Type 0

@@ -1,15 +1,9 @@
 pub mod CommandLine
 pub mod Options
-pub mod Results
-pub mod Schedule
+pub mod Report
 pub mod Limits
-pub mod Port
-pub mod ReferenceRun
-pub mod IntervalWeave
-pub mod Simulation
 pub mod ErrorLine
 pub mod Seen
 pub mod Setup
 pub mod Ended
 pub mod Steps
-pub mod Laws

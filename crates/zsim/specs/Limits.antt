@@ -1,4 +1,4 @@
--- The limits of what is read and of a run, as numbers.
+-- The limits of what is read, as numbers.
 use Rattle.std.specs.Prelude.{ℕ, ◌^◌}
 
 -- the most bytes of a machine description
@@ -8,16 +8,3 @@ machine_limit = 2 ^ 20
 -- the most bytes of an executable
 abbrev pub exe_limit : ℕ
 exe_limit = 2 ^ 26
-
--- the most accesses of a run
-abbrev pub access_limit : ℕ
-access_limit = 2 ^ 26
-
--- the latest cycle of a clock or a component at which an interval may begin
-abbrev pub cycle_limit : ℕ
-cycle_limit = 2 ^ 56
-
--- The most accesses of a core in an interval, beyond one a cycle: an instruction that accesses memory many times may
--- begin in the last cycle.
-abbrev pub room_beyond : ℕ
-room_beyond = 258

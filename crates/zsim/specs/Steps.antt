@@ -3,14 +3,15 @@
 use Rattle.std.specs.Prelude.{◌≡◌, ◌⊎◌, ℕ, Bool, List, Option, Result, Ok, Err}
 use Rattle.elf_load.specs.MemoryImage.{MemoryImage}
 use Rattle.machine_desc.specs.declared.machine.Machine.{Machine}
+use Rattle.replay.specs.ReferenceRun.{IsLegalSoFar, IsRunOf}
+use Rattle.replay.specs.Results.{Results}
 use Rattle.zs_host.specs.declared.files.FileFail.{FileFail}
 use Rattle.zs_host.specs.declared.files.FileFail.TheVariants as file
 use Rattle.zsim.specs.declared.ended.Status.{Status}
 use Rattle.zsim.specs.declared.ended.Status.TheVariants as status
 use Rattle.zsim.specs.declared.ended.Which.TheVariants as which
 use Rattle.zsim.specs.Ended.{status_at}
-use Rattle.zsim.specs.ReferenceRun.{IsLegalSoFar, IsRunOf}
-use Rattle.zsim.specs.Results.{Results, report_of}
+use Rattle.zsim.specs.Report.{report_of}
 use Rattle.zsim.specs.Seen.{FilesSeen, SinkSeen, FailedToReadInput, NoFileFailed, Gained, GainedNothing, GainedPrefix, NoPutFailed, PutFailed}
 use Rattle.zsim.specs.Setup.{Setup}
 
@@ -39,7 +40,7 @@ Answers machine (Err _) setup = ⊥
 -- the run of an image was reported, as brief as it was asked for
 abbrev pub RanWhole : Status → Machine → (brief : Bool) → MemoryImage → (lists : List (List ℕ)) → (out : SinkSeen) → Type 0
 RanWhole s machine brief image lists out =
-    (r : Results) × IsRunOf machine image lists r × (s ≡ status_at r.ending) × Gained out (report_of machine brief r)
+    (r : Results) × IsRunOf machine image lists r × (s ≡ status_at r.limit) × Gained out (report_of machine brief r)
 
 -- a prefix of its report was put
 abbrev pub RanCut : Machine → (brief : Bool) → MemoryImage → (lists : List (List ℕ)) → (out : SinkSeen) → Type 0

@@ -1,7 +1,7 @@
 // What the top call answers.
 ghost use Rattle.std.specs.Prelude.{◌≡◌};
 
-use crate::Schedule;
+use access_log::Schedule;
 use elf_load::BadElf;
 use machine_desc::BadMachine;
 use zs_num::Bytes;

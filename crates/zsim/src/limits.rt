@@ -1,18 +1,7 @@
-// The limits of what is read, and of a run.
-use zs_num::Cycle;
+// The limits of what is read.
 
 /// The limit of a machine description, in bytes.
 pub const MACHINE_LIMIT: usize = 1 << 20;
 
 /// The limit of an executable, in bytes.
 pub const EXE_LIMIT: usize = 1 << 26;
-
-/// The limit of the accesses of a run.
-pub const ACCESS_LIMIT: u64 = 1 << 26;
-
-/// The latest cycle of a clock or a component at which an interval may begin.
-pub const CYCLE_LIMIT: Cycle = 1 << 56;
-
-/// The room for accesses of a core in an interval, beyond one a cycle: an instruction that accesses
-/// memory many times may begin in the last cycle.
-pub const ROOM_BEYOND: u64 = 258;

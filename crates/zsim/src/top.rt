@@ -1,22 +1,23 @@
 // The call that does all that the program does.
 ghost use Rattle.std.specs.Prelude.{◌≡◌, ◌⊎◌, [], IfOk, None, map, string_bytes};
 ghost use Rattle.machine_desc.specs.Machine.{IsMachine};
+ghost use Rattle.replay.specs.ReferenceRun.{IsRunOf};
+ghost use Rattle.replay.specs.Results.{HasCounts, Results};
 ghost use Rattle.zsim.specs.Ended.{status_at, Gives, IsOutcome, KeepsNothing, Says};
-ghost use Rattle.zsim.specs.ReferenceRun.{IsRunOf};
 ghost use Rattle.zsim.specs.CommandLine.{command_of};
-ghost use Rattle.zsim.specs.Simulation.{HasCounts};
-ghost use Rattle.zsim.specs.Results.{Results, report_of};
+ghost use Rattle.zsim.specs.Report.{report_of};
 ghost use Rattle.zsim.specs.Seen.{files_seen, sink_seen};
 ghost use Rattle.zsim.specs.Steps.{RunsAs};
 
 use crate::command_line::command_of;
 use crate::error_line::error_line;
 use crate::put::put_all;
-use crate::results::{RunEnd, RunResults};
 use crate::setup::{check_exe, check_machine, read_exe, read_machine};
-use crate::{Ended, Kept, Said, Schedule, Status, running};
+use crate::{Ended, Kept, Said, Status};
+use access_log::Schedule;
 use elf_load::Image;
 use machine_desc::Machine;
+use replay::{Final, run};
 use std::alloc::{AllocError, Global};
 use zs_host::{FileFail, Files, Gate, Sink, SinkFail};
 use zs_num::{Bytes, NoMemory};
@@ -120,7 +121,7 @@ fn run_and_report<O: Sink>(
     ensures run { RunsAs result machine.now brief image.now schedule.new.lists (sink_seen O.tells O.bytes O.faults out.old out.new) }
     ensures untouched { (out.new ≡ out.old) ⊎ ((r : Results) × IsRunOf machine.now image.now schedule.new.lists r) }
 {
-    let results = match running::run(alloc, machine, image, schedule) {
+    let results = match run(alloc, machine, image, schedule) {
         Ok(results) => results,
         Err(NoMemory) => return Status::NoMemory,
     };
@@ -129,7 +130,7 @@ fn run_and_report<O: Sink>(
         Err(NoMemory) => return Status::NoMemory,
     };
     match put_all(alloc, out, text.as_slice()) {
-        Ok(()) => status_of(results.ending),
+        Ok(()) => status_of(results.limit),
         Err(SinkFail::Failed) => Status::WriteFault,
         Err(SinkFail::NoMemory) => Status::NoMemory,
     }
@@ -139,7 +140,7 @@ fn run_and_report<O: Sink>(
 fn report_of(
     alloc: Global,
     machine: &Machine,
-    results: &RunResults,
+    results: &Final,
     brief: bool,
 ) -> Result<Bytes, NoMemory>
     requires { HasCounts machine.now results.now }
@@ -156,13 +157,10 @@ fn report_of(
 }
 
 // The status of a run that was reported whole.
-fn status_of(ending: RunEnd) -> Status
-    ensures { result ≡ status_at ending }
+fn status_of(limit: bool) -> Status
+    ensures { result ≡ status_at limit }
 {
-    match ending {
-        RunEnd::Halted => Status::Ran,
-        RunEnd::Limit => Status::Limit,
-    }
+    if limit { Status::Limit } else { Status::Ran }
 }
 
 // Says on standard error how the call ended.

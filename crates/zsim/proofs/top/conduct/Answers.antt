@@ -2,7 +2,7 @@
 use Rattle.std.proofs.Common.{◌≡◌, map, string_bytes, rules, Some, Ok, option_map, refl, sym, ◌∙◌, ap}
 use Rattle.zsim.specs.declared.ended.Kept.{Kept}
 use Rattle.zsim.specs.CommandLine.{command_told}
-use Rattle.zsim.specs.Schedule.{IntervalLists}
+use Rattle.access_log.specs.Schedule.{IntervalLists}
 use Rattle.zsim.specs.Seen.{Seen, files_seen, sink_seen}
 use Rattle.zsim.specs.Setup.{loaded_on}
 use Rattle.zsim.proofs.Outcome.{HasInputs, outcome_of_exe, outcome_of_run, untouched_or_run}

@@ -1,0 +1,136 @@
+-- What holds of cores, and of their states in time.
+use Rattle.std.proofs.Common.{◌≡◌, ℕ, zero, suc, ◌+◌, ◌<◌, ◌≤◌, nat_lt, Bool, ◌||◌, List, [], ◌∷◌, ◌++◌, get_or, length, map, slice_index, All, Some, refl, sym, ◌∙◌, ap, subst, inl, inr, arith}
+use Rattle.std.specs.Prelude.{is_some, slice_get}
+use Rattle.std.specs.List.{enumerate_from, list_all, list_any, range_with_len}
+use Rattle.std.specs.Option.{option_map}
+use Rattle.std.proofs.lemmas.List.{get_or-map, length-map}
+use Rattle.std.proofs.lemmas.List.Elements.{All-cons, All-head, All-nil, All-tail}
+use Rattle.std.proofs.lemmas.List.FromFn.{length-enumerate_from, length-range_with_len}
+use Rattle.std.proofs.lemmas.List.Folds.{list_all-map}
+use Rattle.std.proofs.lemmas.Option.{get_or_from_slice_get, slice_get-get_or, slice_get-map, slice_get_within}
+use Rattle.rv_core.specs.CoreState.{CoreState}
+use Rattle.bound_core.specs.Timed.{NumberedCore, TimedCore, delayed}
+use Rattle.bound_core.specs.Turn.{IsOver}
+use Rattle.replay.specs.Limits.{cycle_limit}
+use Rattle.replay.specs.ReferenceRun.{all_delayed}
+use Rattle.replay.specs.Simulation.{AreNumbered, timed_of}
+
+pub get_mapped : {A B : Type 0} (f : A → B) (xs : List A) (i : ℕ) (x : A) → slice_get xs i ≡ Some x → slice_get (map f xs) i ≡ Some (f x)
+get_mapped f xs i x here = slice_get-map f xs i ∙ ap (option_map f) here
+
+-- what holds of each core holds of all their states in time, and the other way round
+pub all_timed : (P : TimedCore → Type 0) (cores : List NumberedCore) → ((i : ℕ) (c : NumberedCore) → slice_get cores i ≡ Some c → P c.timed) → All P (timed_of cores)
+all_timed P cores each = λ k d below.
+    let core : NumberedCore = record { number = 0; timed = d; spare = 0 } in
+    let within : k < length cores = omega (arith, below, length-map cores (λ (c : NumberedCore). c.timed)) in
+    subst P (sym (get_or-map (λ (c : NumberedCore). c.timed) cores k core d within)) (each k (get_or cores k core) (slice_get-get_or cores k core within))
+
+pub each_timed : (P : TimedCore → Type 0) (cores : List NumberedCore) → All P (timed_of cores) → (i : ℕ) (c : NumberedCore) → slice_get cores i ≡ Some c → i < length cores → P c.timed
+each_timed P cores all i c here below =
+    let there = get_mapped (λ (x : NumberedCore). x.timed) cores i c here in
+    subst P (get_or_from_slice_get (timed_of cores) i c.timed c.timed there) (all i c.timed (omega (arith, below, length-map cores (λ (x : NumberedCore). x.timed))))
+
+pub each_clock : (most : ℕ) (cores : List NumberedCore) → All (λ c. c.clock ≤ most) (timed_of cores) → All (λ c. c.timed.clock ≤ most) cores
+each_clock most cores all = λ k d below.
+    let own = get_or-map (λ (c : NumberedCore). c.timed) cores k d d.timed below in
+    subst (λ (t : TimedCore). t.clock ≤ most) own (all k d.timed (omega (arith, below, length-map cores (λ (c : NumberedCore). c.timed))))
+
+-- ---- cores that waited
+
+abbrev waited : (delays : List ℕ) → (from : ℕ) → List TimedCore → List TimedCore
+waited delays from cores = map (λ at. delayed (slice_index delays at.0) at.1) (enumerate_from from cores)
+
+pub delayed_many : (delays : List ℕ) (cores : List TimedCore) → length (all_delayed delays cores) ≡ length cores
+delayed_many delays cores = length-map (enumerate_from 0 cores) (λ at. delayed (slice_index delays at.0) at.1) ∙ length-enumerate_from 0 cores
+
+same_from : (delays : List ℕ) (from : ℕ) (cores : List TimedCore) → map (λ c. c.core) (waited delays from cores) ≡ map (λ c. c.core) cores
+same_from delays from [] = refl
+same_from delays from (c ∷ cores) = ap (λ (states : List CoreState). c.core ∷ states) (same_from delays (from + 1) cores)
+
+-- to wait changes no core's own state
+pub delayed_same : (delays : List ℕ) (cores : List TimedCore) → map (λ c. c.core) (all_delayed delays cores) ≡ map (λ c. c.core) cores
+delayed_same delays cores = same_from delays 0 cores
+
+over_later : (end by : ℕ) (c : TimedCore) → IsOver end c → IsOver end (delayed by c)
+over_later end by c over = record {
+  idle = over.idle;
+  over = elim over.over [
+    | inl halted ↦ inl halted
+    | inr late ↦ inr (omega (arith, late))
+  ];
+}
+
+over_from : (end : ℕ) (delays : List ℕ) (from : ℕ) (cores : List TimedCore) → All (IsOver end) cores → All (IsOver end) (waited delays from cores)
+over_from end delays from [] all = All-nil (IsOver end)
+over_from end delays from (c ∷ cores) all =
+    All-cons (IsOver end) (delayed (slice_index delays from) c) (waited delays (from + 1) cores) (over_later end (slice_index delays from) c (All-head (IsOver end) c cores all))
+    (over_from end delays (from + 1) cores (All-tail (IsOver end) c cores all))
+
+-- a core that came to the end of an interval is there after it waited
+pub delayed_over : (end : ℕ) (delays : List ℕ) (cores : List TimedCore) → All (IsOver end) cores → All (IsOver end) (all_delayed delays cores)
+delayed_over end delays cores all = over_from end delays 0 cores all
+
+-- ---- tests of cores
+
+list_any_map : {X Y : Type 0} (test : X → Bool) (f : Y → X) (ys : List Y) → list_any test (map f ys) ≡ list_any (λ y. test (f y)) ys
+list_any_map test f [] = refl
+list_any_map test f (y ∷ ys) = ap (λ (rest : Bool). test (f y) || rest) (list_any_map test f ys)
+
+pub halted_each : (cores : List NumberedCore) → list_all (λ c. is_some c.core.halted) (timed_of cores) ≡ list_all (λ c. is_some c.timed.core.halted) cores
+halted_each cores = list_all-map (λ (c : TimedCore). is_some c.core.halted) (λ (c : NumberedCore). c.timed) cores
+
+pub late_each : (cores : List NumberedCore) → list_any (λ c. nat_lt cycle_limit c.clock) (timed_of cores) ≡ list_any (λ c. nat_lt cycle_limit c.timed.clock) cores
+late_each cores = list_any_map (λ (c : TimedCore). nat_lt cycle_limit c.clock) (λ (c : NumberedCore). c.timed) cores
+
+-- ---- cores that wait one after the other
+
+many_wait : (delays : List ℕ) (from : ℕ) (before after : List NumberedCore) → length after ≡ length before
+    → ((k : ℕ) (d : NumberedCore) → k < length before → (get_or after k d).timed ≡ delayed (slice_index delays (from + k)) (get_or before k d).timed)
+    → timed_of after ≡ waited delays from (timed_of before)
+many_wait delays from [] [] same each = refl
+many_wait delays from [] (y ∷ ys) same each = absurd (omega (arith, same))
+many_wait delays from (x ∷ xs) [] same each = absurd (omega (arith, same))
+many_wait delays from (x ∷ xs) (y ∷ ys) same each =
+    let here : from + 0 ≡ from = omega arith in
+    let first : y.timed ≡ delayed (slice_index delays from) x.timed = each 0 x (omega arith) ∙ ap (λ (n : ℕ). delayed (slice_index delays n) x.timed) here in
+    let rest : timed_of ys ≡ waited delays (from + 1) (timed_of xs) =
+    many_wait delays (from + 1) xs ys (omega (arith, same)) (λ k d below.
+    let next : from + suc k ≡ from + 1 + k = omega arith in
+    each (suc k) d (omega (arith, below)) ∙ ap (λ (n : ℕ). delayed (slice_index delays n) (get_or xs k d).timed) next)
+    in
+    ap (λ (c : TimedCore). c ∷ timed_of ys) first ∙ ap (λ (cs : List TimedCore). delayed (slice_index delays from) x.timed ∷ cs) rest
+
+pub all_waited : (delays : List ℕ) (before after : List NumberedCore) → length after ≡ length before
+    → ((k : ℕ) (d : NumberedCore) → k < length before → (get_or after k d).timed ≡ delayed (slice_index delays k) (get_or before k d).timed)
+    → timed_of after ≡ all_delayed delays (timed_of before)
+all_waited delays before after same each =
+    many_wait delays 0 before after same (λ k d below.
+    let here : k ≡ 0 + k = omega arith in
+    each k d below ∙ ap (λ (n : ℕ). delayed (slice_index delays n) (get_or before k d).timed) here)
+
+pub same_numbers : (before after : List NumberedCore) → length after ≡ length before → ((k : ℕ) (d : NumberedCore) → (get_or after k d).number ≡ (get_or before k d).number)
+    → AreNumbered before → AreNumbered after
+same_numbers before after same each numbered = λ i c here.
+    let below : i < length before = omega (arith, slice_get_within after i c here, same) in
+    let own : get_or after i c ≡ c = get_or_from_slice_get after i c c here in
+    ap (λ (x : NumberedCore). x.number) (sym own) ∙ each i c ∙ numbered i (get_or before i c) (slice_get-get_or before i c below)
+
+in_range : (from n i : ℕ) → i < n → get_or (range_with_len from n) i 0 ≡ from + i
+in_range from zero i below = absurd (omega (arith, below))
+in_range from (suc n) zero below = omega arith
+in_range from (suc n) (suc i) below = omega (arith, in_range (from + 1) n i (omega (arith, below)))
+
+-- numbers in order, from 0 on
+pub numbered_from : (n : ℕ) (cores : List NumberedCore) → map (λ c. c.number) cores ≡ range_with_len 0 n → AreNumbered cores
+numbered_from n cores in_order = λ i c here.
+    let many : length cores ≡ n = sym (length-map cores (λ (x : NumberedCore). x.number)) ∙ ap length in_order ∙ length-range_with_len 0 n in
+    let below : i < n = omega (arith, slice_get_within cores i c here, many) in
+    let there : slice_get (range_with_len 0 n) i ≡ Some c.number = ap (λ (ns : List ℕ). slice_get ns i) (sym in_order) ∙ get_mapped (λ (x : NumberedCore). x.number) cores i c here in
+    omega (arith, get_or_from_slice_get (range_with_len 0 n) i c.number 0 there, in_range 0 n i below)
+
+one_longer : (from n next : ℕ) → from + n ≡ next → range_with_len from (suc n) ≡ range_with_len from n ++ next ∷ []
+one_longer from zero next is = let same : from ≡ next = omega (arith, is) in ap (λ (k : ℕ). k ∷ []) same
+one_longer from (suc n) next is = ap (λ (ns : List ℕ). from ∷ ns) (one_longer (from + 1) n next (omega (arith, is)))
+
+pub range_more : (from n next : ℕ) → from + n ≡ next → range_with_len from (n + 1) ≡ range_with_len from n ++ next ∷ []
+range_more from n next is = let longer : n + 1 ≡ suc n = omega arith in ap (range_with_len from) longer ∙ one_longer from n next is

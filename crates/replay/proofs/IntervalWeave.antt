@@ -1,0 +1,71 @@
+-- What an interval's accesses and its machine bring to the weave.
+use Rattle.std.proofs.Common.{◌≡◌, ℕ, ◌+◌, ◌*◌, ◌^◌, ◌<◌, ◌≤◌, List, length, map, All, sym, subst, ap, ◌∙◌, arith}
+use Rattle.std.specs.Prelude.{sum_by}
+use Rattle.zs_num.specs.declared.entry.Entry.{Entry}
+use Rattle.machine_desc.specs.declared.machine.Machine.{Machine}
+use Rattle.machine_desc.specs.Machine.{IsMachine}
+use Rattle.component.specs.declared.comp.Comp.{Comp}
+use Rattle.component.specs.ComponentStep.{comp_greatest, comp_latency, comp_serves, comp_step, free_of}
+use Rattle.component.specs.Components.{AreComponents}
+use Rattle.event_graph.specs.declared.event.Event.{Event}
+use Rattle.event_graph.specs.declared.fired.Fired.{Fired}
+use Rattle.event_graph.specs.declared.plain.Plain.{Plain}
+use Rattle.event_graph.specs.EventGraph.{all_events}
+use Rattle.event_graph.specs.Fits.{GraphFits}
+use Rattle.event_graph.specs.Laws.{MachineStepsStaySmall, PlainAccessesHaveFewEvents, PlainGraphsFit}
+use Rattle.event_graph.specs.Near.{AreNear}
+use Rattle.event_graph.specs.Numbered.{IsNumbered}
+use Rattle.event_graph.specs.OneListWeave.{AreSmallSteps, fired_of, woven}
+use Rattle.event_graph.specs.Timing.{pieces_of}
+use Rattle.feedback.specs.FeedbackDelay.{feedback_delays}
+use Rattle.stats.specs.Counts.{Interval}
+use Rattle.replay.specs.IntervalWeave.{IsPlainOf}
+use Rattle.replay.specs.ReferenceRun.{woven_interval}
+
+-- an earliest start that is below one bound is below a later one
+pub near_by : (base other delay : ℕ) (events : List Event) → base ≤ other → AreNear base delay events → AreNear other delay events
+near_by base other delay events up near i e at =
+    let n = near i e at in
+    record { min_start = omega (arith, n.min_start, up); first = n.first; second = n.second }
+
+module _ (machine : Machine) (ok : IsMachine machine) (plain : Plain) (is : IsPlainOf machine plain) (comps : List Comp) (are : AreComponents machine comps) (entries : List Entry)
+    (graph : List Event) (made : graph ≡ all_events (pieces_of plain.l1 plain.l2 plain.controllers) entries) where
+  -- the events are those of the machine
+  pub same_events : graph ≡ all_events (pieces_of machine.l1 machine.l2 machine.controllers) entries
+  same_events =
+      made
+      ∙ ap (λ l1. all_events (pieces_of l1 plain.l2 plain.controllers) entries) is.l1
+      ∙ ap (λ l2. all_events (pieces_of machine.l1 l2 plain.controllers) entries) is.l2
+      ∙ ap (λ controllers. all_events (pieces_of machine.l1 machine.l2 controllers) entries) is.controllers
+
+  pub fits : PlainGraphsFit → GraphFits comp_serves comp_latency graph comps
+  fits law = subst (λ g. GraphFits comp_serves comp_latency g comps) (sym same_events) (law machine comps entries ok are)
+
+  -- at most four for each access
+  pub count : PlainAccessesHaveFewEvents → length (all_events (pieces_of plain.l1 plain.l2 plain.controllers) entries) ≡ sum_by (λ e. length (pieces_of plain.l1 plain.l2 plain.controllers e)) entries
+      → length graph ≤ 4 * length entries
+  count law counted =
+      let few : sum_by (λ e. length (pieces_of plain.l1 plain.l2 plain.controllers e)) entries ≤ 4 * length entries = law plain.l1 plain.l2 plain.controllers entries in
+      let all : length graph ≡ length (all_events (pieces_of plain.l1 plain.l2 plain.controllers) entries) = ap length made in
+      omega (arith, few, all, counted)
+
+  -- the events of an interval begin before cycle 2^36 + 2^20, and its components are free by cycle 2^56, so that no sum of
+  -- the weave reaches 2^62
+  pub steps_are_small : MachineStepsStaySmall → All (λ c. free_of c ≤ 2 ^ 56) comps → IsNumbered graph → GraphFits comp_serves comp_latency graph comps
+      → AreNear (2 ^ 36 + 2 ^ 20) (2 ^ 36 + 2 ^ 20) (all_events (pieces_of plain.l1 plain.l2 plain.controllers) entries) → length graph ≤ 4 * length entries → length entries ≤ 2 ^ 20
+      → AreSmallSteps comp_step comp_greatest graph comps
+  steps_are_small law free numbered fit near count few =
+      let near_graph : AreNear (2 ^ 36 + 2 ^ 20) (2 ^ 36 + 2 ^ 20) graph = subst (λ g. AreNear (2 ^ 36 + 2 ^ 20) (2 ^ 36 + 2 ^ 20) g) (sym made) near in
+      law machine comps graph (2 ^ 56) (2 ^ 36 + 2 ^ 20) ok are free numbered fit (near_by (2 ^ 36 + 2 ^ 20) (2 ^ 56) (2 ^ 36 + 2 ^ 20) graph (omega arith) near_graph) (omega (arith, count, few))
+
+-- few accesses have few events
+pub few_events : PlainAccessesHaveFewEvents → (plain : Plain) (entries : List Entry) → length entries ≤ 2 ^ 20
+    → sum_by (λ e. length (pieces_of plain.l1 plain.l2 plain.controllers e)) entries < 2 ^ 32
+few_events law plain entries few = omega (arith, law plain.l1 plain.l2 plain.controllers entries, few)
+
+-- the weave is what is recorded of the interval
+pub is_woven : (machine : Machine) (comps : List Comp) (entries : List Entry) (graph : List Event) (fired : List Fired) (delays : List ℕ)
+    → graph ≡ all_events (pieces_of machine.l1 machine.l2 machine.controllers) entries → fired ≡ map fired_of (woven comp_step graph comps) → delays ≡ feedback_delays graph fired machine.cores
+    → (let i : Interval = record { entries = entries; events = graph; fired = fired; delays = delays } in i) ≡ woven_interval machine comps entries
+unfolding woven_interval
+is_woven machine comps entries graph fired delays are weave feedback = cc

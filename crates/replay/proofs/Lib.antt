@@ -1,0 +1,11 @@
+pub mod BoundPhase
+pub mod Cores
+pub mod IntervalWeave
+pub mod NextInterval
+pub mod OneSchedule
+pub mod PortTurns
+pub mod RecordedOrder
+pub mod RunCores
+pub mod RunEnds
+pub mod RunSoFar
+pub mod Shards

@@ -1,0 +1,378 @@
+-- A run goes on interval by interval.
+use Rattle.std.proofs.Common.{◌≡◌, ◌≢◌, ◌⊎◌, ℕ, zero, suc, ◌+◌, ◌*◌, ◌^◌, ◌==◌, ◌<◌, ◌≤◌, nat_lt, get_or, Bool, false, ◌||◌, List, [], ◌∷◌, ◌++◌, length, map, Option, Some, None, Ok, All, refl, sym, ◌∙◌, ap, subst, inl, inr, arith}
+use Rattle.std.specs.Prelude.{IsSome, replicate, slice_get}
+use Rattle.std.specs.List.{list_any, enumerate_from, fold, range_with_len}
+use Rattle.std.proofs.lemmas.Bool.{or_parts}
+use Rattle.std.proofs.lemmas.Bool.Decides.{nat_tests}
+use Rattle.std.proofs.lemmas.List.{length-append, length-map, length-replicate}
+use Rattle.std.proofs.lemmas.List.Elements.{All-map, All-push}
+use Rattle.std.proofs.lemmas.List.FromFn.{length-enumerate_from, length-map-range_with_len}
+use Rattle.std.proofs.lemmas.List.Sums.{sum_by_push}
+use Rattle.std.proofs.lemmas.Option.{slice_get-get_or, slice_get_within}
+use Rattle.zs_num.specs.declared.entry.Entry.{Entry}
+use Rattle.elf_load.specs.MemoryImage.{MemoryImage}
+use Rattle.machine_desc.specs.declared.machine.Machine.{Machine}
+use Rattle.machine_desc.specs.Components.{component_count}
+use Rattle.machine_desc.specs.Machine.{IsMachine}
+use Rattle.component.specs.declared.comp.Comp.{Comp}
+use Rattle.component.specs.ComponentStep.{comp_step, free_of}
+use Rattle.component.specs.Components.{AreComponents, AreFresh}
+use Rattle.event_graph.specs.OneListWeave.{comps_after}
+use Rattle.stats.specs.Counts.{Counts, Interval, added, comp_total, core_total, counts_of, Fits, total_accesses, total_events}
+use Rattle.stats.specs.Laws.{CountersAreSums, SumsFit, WasRun}
+use Rattle.rv_core.specs.declared.why.Why.{Why}
+use Rattle.rv_core.specs.Step.{initial_core}
+use Rattle.shard.specs.Served.{ShardState, after}
+use Rattle.bound_core.specs.History.{after_history}
+use Rattle.bound_core.specs.Intervals.{NextIntervalBegins}
+use Rattle.bound_core.specs.MachineOfShards.{HistoriesAreRunsOfTheMachine, IsCoreOf, IsRunOfTheMachine, StandForMachine}
+use Rattle.bound_core.specs.MachineWorld.{MachineWorld, serve}
+use Rattle.bound_core.specs.ReferenceMachine.{BoundState, bound_phase}
+use Rattle.bound_core.specs.ShardPort.{base_of, size_of}
+use Rattle.bound_core.specs.ShardWorld.{ShardWorld, begun_world, no_shard, restarted}
+use Rattle.bound_core.specs.Timed.{NumberedCore, TimedCore, first_core}
+use Rattle.bound_core.specs.Turn.{IsOver}
+use Rattle.access_log.specs.History.{bank_of_entry, core_of_entry, each_after, numbered}
+use Rattle.access_log.specs.Laws.{CoresDecideTheOrder, RecordedOrderKeepsTheStamps, StampsRise}
+use Rattle.access_log.specs.RecordedOrder.{no_stamps, recorded_order}
+use Rattle.replay.specs.Limits.{access_limit, cycle_limit}
+use Rattle.replay.specs.declared.simulation.Simulation.{Simulation}
+use Rattle.replay.specs.Port.{LoggedPortState}
+use Rattle.replay.specs.ReferenceRun.{RunState, access_room, after_interval, after_weave, all_delayed, at_limit, begun, end_of, first_state, has_ended, have_halted, time_of, world_of, woven_after, woven_interval}
+use Rattle.replay.specs.Simulation.{AreNumbered, GoesOn, HasRoom, IsBounded, IsCounted, IsReady, LeadsTo, StandsFor, begun_shards, cores_of}
+use Rattle.replay.proofs.Cores.{delayed_many, delayed_over, delayed_same, each_timed}
+use Rattle.replay.proofs.RecordedOrder.{recorded_again}
+
+-- as many are there after their entries as before
+each_many : {X : Type 0} (step : X → Entry → X) (number_of : Entry → ℕ) (entries : List Entry) (xs : List X) → length (each_after step number_of entries xs) ≡ length xs
+each_many step number_of entries xs =
+    length-map (enumerate_from 0 xs) (λ at. fold step at.1 (numbered number_of at.0 entries)) ∙ length-enumerate_from 0 xs
+
+not_more : (most n : ℕ) → nat_lt most n ≡ false → n ≤ most
+not_more most n test = grind (arith, nat_tests)
+
+not_same : (a b : ℕ) → (a == b) ≡ false → a ≢ b
+not_same a b test same = grind (arith, nat_tests)
+
+none_late : {X : Type 0} (time : X → ℕ) (xs : List X) → list_any (λ x. nat_lt cycle_limit (time x)) xs ≡ false → All (λ x. time x ≤ 2 ^ 56) xs
+none_late time [] none k d below = absurd (omega (arith, below))
+none_late time (x ∷ xs) none zero d below =
+    not_more cycle_limit (time x) (or_parts (nat_lt cycle_limit (time x)) (list_any (λ y. nat_lt cycle_limit (time y)) xs) none).0
+none_late time (x ∷ xs) none (suc k) d below =
+    none_late time xs (or_parts (nat_lt cycle_limit (time x)) (list_any (λ y. nat_lt cycle_limit (time y)) xs) none).1 k d (omega (arith, below))
+
+-- what holds where no limit is reached
+pub record IsBelowLimits (machine : Machine) (intervals accesses : ℕ) (cores : List TimedCore) (comps : List Comp) : Type 0 where
+  pub intervals_left : intervals ≢ machine.intervals
+  pub accesses_left : accesses + access_room machine ≤ 2 ^ 26
+  pub clocks_left : All (λ c. c.clock ≤ 2 ^ 56) cores
+  pub free_left : All (λ c. free_of c ≤ 2 ^ 56) comps
+
+below_limits : (machine : Machine) (intervals accesses : ℕ) (cores : List TimedCore) (comps : List Comp) → at_limit machine intervals accesses cores comps ≡ false → IsBelowLimits machine intervals accesses cores comps
+unfolding at_limit
+below_limits machine intervals accesses cores comps below =
+    let most = accesses + access_room machine in
+    let late = list_any (λ c. nat_lt cycle_limit (free_of c)) comps in
+    let clock_late = list_any (λ (c : TimedCore). nat_lt cycle_limit c.clock) cores in
+    let three = or_parts (intervals == machine.intervals || nat_lt access_limit most || clock_late) late below in
+    let two = or_parts (intervals == machine.intervals || nat_lt access_limit most) clock_late three.0 in
+    let one = or_parts (intervals == machine.intervals) (nat_lt access_limit most) two.0 in
+    let intervals_test : (intervals == machine.intervals) ≡ false = one.0 in
+    let accesses_test : nat_lt access_limit most ≡ false = one.1 in
+    record {
+      intervals_left = not_same intervals machine.intervals intervals_test;
+      accesses_left = not_more access_limit most accesses_test;
+      clocks_left = none_late (λ (c : TimedCore). c.clock) cores two.1;
+      free_left = none_late free_of comps three.1;
+    }
+
+-- where the run goes on
+pub goes_on : (machine : Machine) (s : RunState) → has_ended machine s ≡ false → IsBelowLimits machine (length s.intervals) (total_accesses s.intervals) s.cores s.comps
+goes_on machine s on =
+    let limit = at_limit machine (length s.intervals) (total_accesses s.intervals) s.cores s.comps in
+    below_limits machine (length s.intervals) (total_accesses s.intervals) s.cores s.comps (or_parts (have_halted s.cores) limit on).1
+
+-- a core that is not halted has come to the end of the last interval
+came : (halted : Option Why) (from clock : ℕ) → halted ≡ None → IsSome halted ⊎ (from ≤ clock) → from ≤ clock
+came None from clock is (inl some) = cc
+came None from clock is (inr here) = here
+came (Some why) from clock is come = cc
+
+pub counted_cores : (cores : ℕ) (comps : List Comp) (intervals : List Interval) → length (counts_of cores comps intervals).core_counts ≡ cores
+unfolding counts_of
+counted_cores cores comps intervals = length-map-range_with_len (core_total intervals) 0 cores
+
+pub counted_comps : (cores : ℕ) (comps : List Comp) (intervals : List Interval) → length (counts_of cores comps intervals).comp_counts ≡ length comps
+unfolding counts_of
+counted_comps cores comps intervals =
+    length-map (enumerate_from 0 comps) (λ at. comp_total intervals at.0 at.1) ∙ length-enumerate_from 0 comps
+
+module _ (machine : Machine) (end : ℕ) (s : RunState) (p : Simulation) (g : GoesOn machine end s p) where
+  abbrev shards : List ShardState
+  shards = map restarted p.port.world.shards
+
+  first_shard : slice_get shards 0 ≡ Some (get_or shards 0 no_shard)
+  first_shard = slice_get-get_or shards 0 no_shard g.come.stand.some
+
+  base_is : base_of (begun_shards machine p) ≡ g.come.stand.memory.base
+  base_is = g.come.stand.stand.are.base 0 (get_or shards 0 no_shard) first_shard
+
+  size_is : size_of (begun_shards machine p) ≡ length g.come.stand.memory.bytes
+  size_is = g.come.stand.stand.are.size 0 (get_or shards 0 no_shard) first_shard
+
+  below : IsBelowLimits machine (length s.intervals) (total_accesses s.intervals) s.cores s.comps
+  below = goes_on machine s g.on
+
+  -- what holds of all cores
+  each : (P : TimedCore → Type 0) → All P s.cores → (i : ℕ) (c : NumberedCore) → slice_get p.cores.items i ≡ Some c → P c.timed
+  each P all i c here = each_timed P p.cores.items (subst (All P) g.come.cores all) i c here (slice_get_within p.cores.items i c here)
+
+  pub is_ready : (i : ℕ) (c : NumberedCore) → slice_get p.cores.items i ≡ Some c → IsReady machine end (base_of (begun_shards machine p)) (size_of (begun_shards machine p)) c.timed
+  is_ready i c here =
+      let over = each (IsOver (length s.intervals * machine.interval)) g.come.over i c here in
+      let own = each (IsCoreOf g.come.stand.memory.base (length g.come.stand.memory.bytes)) g.come.stand.cores_are i c here in
+      record {
+        idle = over.idle;
+        clock = each (λ t. t.clock ≤ 2 ^ 56) below.clocks_left i c here;
+        left = λ running.
+            let from : length s.intervals * machine.interval ≤ c.timed.clock = came c.timed.core.halted (length s.intervals * machine.interval) c.timed.clock running over.over in
+            omega (arith, from, g.ends);
+        base_is = own.base_is ∙ sym base_is;
+        size_is = own.size_is ∙ sym size_is;
+      }
+
+  pub has_room : HasRoom machine end p
+  has_room =
+      let come = g.come in
+      record {
+        ready = is_ready;
+        count = sym (length-map p.cores.items (λ (c : NumberedCore). c.timed)) ∙ ap length (sym come.cores) ∙ come.count;
+        numbered = come.numbered;
+        stamps = come.stamps;
+        some = omega (arith, come.stand.some, length-map p.port.world.shards restarted);
+        free = subst (λ (comps : List Comp). All (λ c. free_of c ≤ 2 ^ 56) comps) (sym come.comps) below.free_left;
+        components = subst (AreComponents machine) (sym come.comps) come.counted.components;
+        cores = ap (λ (counts : Counts). length counts.core_counts) come.counters ∙ counted_cores machine.cores s.comps s.intervals;
+        comps = ap (λ (counts : Counts). length counts.comp_counts) come.counters ∙ counted_comps machine.cores s.comps s.intervals ∙ come.counted.components.count;
+      }
+
+-- an interval that was run, and what it adds to the sums
+module _ (machine : Machine) (ok : IsMachine machine) (end : ℕ) (s : RunState) (p : Simulation) (g : GoesOn machine end s p)
+    (i : Interval) (was_run : WasRun i) (few_events : length i.events ≤ 4 * length i.entries) (few : length i.entries ≤ access_room machine) where
+  more_accesses : total_accesses (s.intervals ++ i ∷ []) ≡ total_accesses s.intervals + length i.entries
+  more_accesses = sum_by_push (λ (j : Interval). length j.entries) s.intervals i
+
+  more_events : total_events (s.intervals ++ i ∷ []) ≡ total_events s.intervals + length i.events
+  more_events = sum_by_push (λ (j : Interval). length j.events) s.intervals i
+
+  left : total_accesses s.intervals + access_room machine ≤ 2 ^ 26
+  left = (goes_on machine s g.on).accesses_left
+
+  pub accesses_stay : total_accesses (s.intervals ++ i ∷ []) ≤ 2 ^ 26
+  accesses_stay = omega (arith, more_accesses, left, few)
+
+  pub events_stay : total_events (s.intervals ++ i ∷ []) ≤ 4 * total_accesses (s.intervals ++ i ∷ [])
+  events_stay = omega (arith, more_accesses, more_events, g.come.counted.events, few_events)
+
+  pub one_longer : length (s.intervals ++ i ∷ []) ≡ length s.intervals + 1
+  one_longer = omega (arith, length-append s.intervals (i ∷ []))
+
+  pub all_run : All WasRun (s.intervals ++ i ∷ [])
+  all_run = All-push WasRun s.intervals i g.come.counted.were_run was_run
+
+  -- the counts with the interval are the sums with it
+  pub summed : CountersAreSums → (comps : List Comp) → AreComponents machine comps → added p.counters i comps ≡ counts_of machine.cores comps (s.intervals ++ i ∷ [])
+  summed law comps are =
+      let long : length s.comps ≡ length comps = g.come.counted.components.count ∙ sym are.count in
+      ap (λ (c : Counts). added c i comps) g.come.counters ∙ law machine.cores s.comps comps s.intervals i long
+
+  pub fits_more : CountersAreSums → SumsFit → (comps : List Comp) → AreComponents machine comps → Fits (added p.counters i comps)
+  fits_more law fit comps are =
+      let intervals : length s.intervals ≤ 2 ^ 20 = omega (arith, g.come.counted.within, ok.intervals.1) in
+      let accesses : total_accesses (s.intervals ++ i ∷ []) < 2 ^ 64 = omega (arith, accesses_stay) in
+      let events : total_events (s.intervals ++ i ∷ []) ≤ 2 ^ 60 = omega (arith, accesses_stay, events_stay) in
+      let long : length (s.intervals ++ i ∷ []) ≤ 2 ^ 60 = omega (arith, one_longer, intervals) in
+      subst Fits (sym (summed law comps are)) (fit machine.cores comps (s.intervals ++ i ∷ []) accesses events long all_run)
+
+-- after the weave of a bound phase, whose record is i
+abbrev pub woven_next : RunState → BoundState MachineWorld → Interval → RunState
+woven_next s b i = record {
+  cores = all_delayed i.delays b.cores;
+  memory = b.world.memory;
+  caches = b.world.caches;
+  comps = comps_after comp_step i.events s.comps;
+  intervals = s.intervals ++ i ∷ [];
+}
+
+weave_after : (machine : Machine) (s : RunState) (b : BoundState MachineWorld) (i : Interval) → i ≡ woven_interval machine s.comps (recorded_order b.entries)
+    → after_weave machine s b ≡ woven_next s b i
+unfolding after_weave
+weave_after machine s b i is = ap (λ (j : Interval). woven_next s b j) (sym is)
+
+-- the laws of what a bound phase leaves
+pub record Laws (time : Entry → ℕ) (image : MemoryImage) (end : ℕ) : Type 0 where
+  pub runs : HistoriesAreRunsOfTheMachine time image end
+  pub next : NextIntervalBegins
+  pub rise : StampsRise
+  pub keep : RecordedOrderKeepsTheStamps
+  pub decide : CoresDecideTheOrder
+  pub sums : CountersAreSums
+
+-- after its bound phase, the weave and the feedback, the run is an interval further
+module _ (machine : Machine) (ok : IsMachine machine) (image : MemoryImage) (end : ℕ) (s : RunState) (p q : Simulation) (g : GoesOn machine end s p)
+    (entries : List Entry) (b : IsBounded machine image end p q entries) (laws : Laws (time_of machine) image end)
+    (i : Interval) (is : i ≡ woven_interval machine s.comps entries) (same : i.entries ≡ entries) (was_run : WasRun i) (few_events : length i.events ≤ 4 * length i.entries)
+    (are : AreComponents machine (comps_after comp_step i.events s.comps)) where
+  few : length i.entries ≤ access_room machine
+  few = omega (arith, ap length same, b.few)
+
+  abbrev before : List ShardState
+  before = map restarted p.port.world.shards
+
+  abbrev time : Entry → ℕ
+  time = time_of machine
+
+  many : length (cores_of p) ≡ machine.cores
+  many = ap length (sym g.come.cores) ∙ g.come.count
+
+  -- ---- the machine of one thread
+
+  stand : StandForMachine (cores_of p) (begun_world (length (cores_of p)) before) (world_of machine s)
+  stand =
+      subst (λ (n : ℕ). StandForMachine (cores_of p) (begun_world n before) (world_of machine s)) (sym many)
+      (subst (λ (cores : List TimedCore). StandForMachine cores (begun_shards machine p) (world_of machine s)) g.come.cores g.come.stand)
+
+  run : IsRunOfTheMachine time image end (cores_of p) before b.taken (world_of machine s)
+  run = laws.runs (cores_of p) before b.taken (world_of machine s) b.history stand
+
+  abbrev next : RunState
+  next = woven_next s run.left i
+
+  phase : bound_phase serve time image (end_of machine s) (map (λ e. e.core) entries) (begun machine s) ≡ Ok run.left
+  phase =
+      ap (λ (stop : ℕ). bound_phase serve time image stop (map (λ (e : Entry). e.core) entries) (begun machine s)) (sym g.ends)
+      ∙ ap (λ (es : List Entry). bound_phase serve time image end (map (λ (e : Entry). e.core) es) (begun machine s)) b.in_order
+      ∙ ap (λ (cores : List TimedCore). let from : BoundState MachineWorld = record { cores = cores; world = world_of machine s; entries = [] } in bound_phase serve time image end (map (λ (e : Entry). e.core) (recorded_order b.taken)) from) g.come.cores
+      ∙ run.phase
+
+  in_order : recorded_order run.left.entries ≡ entries
+  in_order =
+      ap recorded_order run.entries_are
+      ∙ recorded_again laws.rise laws.keep laws.decide (length before) (length (cores_of p)) b.taken b.history.some b.history.known b.history.stamped
+      ∙ sym b.in_order
+
+  leads : after_interval machine image s (map (λ e. e.core) entries) ≡ Ok next
+  leads =
+      ap (woven_after machine s) phase
+      ∙ ap Ok (weave_after machine s run.left i (is ∙ ap (woven_interval machine s.comps) (sym in_order)))
+
+  -- ---- its cores
+
+  cores_are : run.left.cores ≡ cores_of q
+  cores_are = run.cores_are ∙ ap (λ (state : BoundState ShardWorld). state.cores) (sym b.left)
+
+  world_is : (after_history time image end (cores_of p) before b.taken).world ≡ q.port.world
+  world_is = ap (λ (state : BoundState ShardWorld). state.world) (sym b.left)
+
+  left_many : length run.left.cores ≡ machine.cores
+  left_many = ap length cores_are ∙ length-map q.cores.items (λ (c : NumberedCore). c.timed) ∙ b.count
+
+  later_many : length (all_delayed i.delays run.left.cores) ≡ machine.cores
+  later_many = delayed_many i.delays run.left.cores ∙ left_many
+
+  -- ---- its shards
+
+  stamps_many : length q.port.world.stamps ≡ machine.cores
+  stamps_many =
+      ap (λ (w : ShardWorld). length w.stamps) (sym world_is)
+      ∙ each_many (λ (stamp : ℕ) (e : Entry). e.stamp) core_of_entry b.taken (replicate (length (cores_of p)) 0)
+      ∙ length-replicate (length (cores_of p)) 0 ∙ many
+
+  shards_many : length q.port.world.shards ≡ machine.l2.banks
+  shards_many =
+      ap (λ (w : ShardWorld). length w.shards) (sym world_is)
+      ∙ each_many after (bank_of_entry (length before)) b.taken before
+      ∙ length-map p.port.world.shards restarted ∙ g.come.banks
+
+  stands_next : StandForMachine next.cores (begun_world machine.cores (map restarted q.port.world.shards)) (world_of machine next)
+  stands_next =
+      let later = all_delayed i.delays run.left.cores in
+      let left = run.left.world in
+      let at : StandForMachine run.left.cores q.port.world left = subst (λ (w : ShardWorld). StandForMachine run.left.cores w left) world_is run.stand in
+      let began = laws.next run.left.cores later q.port.world left at (delayed_same i.delays run.left.cores) in
+      let world_with : (banks cores : ℕ) → MachineWorld = λ banks cores. record { memory = left.memory; caches = left.caches; stamps = no_stamps banks cores } in
+      subst (λ (banks : ℕ). StandForMachine later (begun_world machine.cores (map restarted q.port.world.shards)) (world_with banks machine.cores)) shards_many
+      (subst (λ (cores : ℕ). StandForMachine later (begun_world cores (map restarted q.port.world.shards)) (world_with (length q.port.world.shards) cores)) later_many began)
+
+  -- ---- the sums
+
+  next_counted : IsCounted machine next
+  next_counted =
+      let longer = one_longer machine ok end s p g i was_run few_events few in
+      let below_most : length s.intervals ≢ machine.intervals = (goes_on machine s g.on).intervals_left in
+      record {
+        components = are;
+        within = omega (arith, longer, below_most, g.come.counted.within);
+        accesses = accesses_stay machine ok end s p g i was_run few_events few;
+        events = events_stay machine ok end s p g i was_run few_events few;
+        were_run = all_run machine ok end s p g i was_run few_events few;
+      }
+
+  -- the cores waited, and are still behind the end of the interval
+  next_over : All (IsOver (length (s.intervals ++ i ∷ []) * machine.interval)) next.cores
+  next_over =
+      let longer = one_longer machine ok end s p g i was_run few_events few in
+      let end_is : end ≡ length (s.intervals ++ i ∷ []) * machine.interval = subst (λ n. end ≡ n * machine.interval) (sym longer) g.ends in
+      let over : All (IsOver end) run.left.cores = subst (All (IsOver end)) (sym cores_are) b.over in
+      subst (λ (n : ℕ). All (IsOver n) next.cores) end_is (delayed_over end i.delays run.left.cores over)
+
+  pub leads_on : (r : Simulation) → cores_of r ≡ all_delayed i.delays (cores_of q) → AreNumbered r.cores.items → r.port ≡ q.port
+      → r.comps ≡ comps_after comp_step i.events s.comps → r.counters ≡ added p.counters i r.comps
+      → LeadsTo machine image s (map (λ e. e.core) entries) r
+  leads_on r cores numbered port comps counters =
+      let are_next : AreComponents machine r.comps = subst (AreComponents machine) (sym comps) are in
+      record {
+        state = next;
+        after = leads;
+        longer = one_longer machine ok end s p g i was_run few_events few;
+        come = record {
+          cores = ap (all_delayed i.delays) cores_are ∙ sym cores;
+          count = later_many;
+          numbered = numbered;
+          stamps = ap (λ (x : LoggedPortState). length x.world.stamps) port ∙ stamps_many;
+          banks = ap (λ (x : LoggedPortState). length x.world.shards) port ∙ shards_many;
+          stand = subst (λ (x : LoggedPortState). StandForMachine next.cores (begun_world machine.cores (map restarted x.world.shards)) (world_of machine next)) (sym port) stands_next;
+          comps = comps;
+          counters = counters ∙ summed machine ok end s p g i was_run few_events few laws.sums r.comps are_next ∙ ap (λ (parts : List Comp). counts_of machine.cores parts (s.intervals ++ i ∷ [])) comps;
+          over = next_over;
+          counted = next_counted;
+        };
+      }
+
+-- before the first interval
+pub first_counted : (machine : Machine) (image : MemoryImage) (comps : List Comp) → AreFresh machine comps → IsCounted machine (first_state machine image comps)
+first_counted machine image comps fresh = record {
+  components = fresh.are;
+  within = omega arith;
+  accesses = omega arith;
+  events = omega arith;
+  were_run = λ k d below. absurd (omega arith);
+}
+
+first_over : (machine : Machine) (image : MemoryImage) (number : ℕ) → IsOver 0 (first_core machine image number)
+unfolding initial_core
+first_over machine image number = record { idle = refl; over = inr (omega arith) }
+
+pub all_first_over : (machine : Machine) (image : MemoryImage) → All (IsOver (0 * machine.interval)) (map (first_core machine image) (range_with_len 0 machine.cores))
+all_first_over machine image =
+    let none : 0 ≡ 0 * machine.interval = omega arith in
+    subst (λ (n : ℕ). All (IsOver n) (map (first_core machine image) (range_with_len 0 machine.cores))) none
+    (All-map (IsOver 0) (first_core machine image) (range_with_len 0 machine.cores) (λ k d below. first_over machine image (get_or (range_with_len 0 machine.cores) k d)))
+
+-- how many cores and components are counted
+pub counts_come : (machine : Machine) (s : RunState) (p : Simulation) → StandsFor machine s p
+    → (length p.counters.core_counts ≡ machine.cores) × (length p.counters.comp_counts ≡ component_count machine)
+counts_come machine s p come = (
+  ap (λ (counts : Counts). length counts.core_counts) come.counters ∙ counted_cores machine.cores s.comps s.intervals,
+  ap (λ (counts : Counts). length counts.comp_counts) come.counters ∙ counted_comps machine.cores s.comps s.intervals ∙ come.counted.components.count,
+)

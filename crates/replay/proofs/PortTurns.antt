@@ -1,0 +1,144 @@
+-- The turns of a core through a port to the shards.
+use Rattle.std.proofs.Common.{◌≡◌, ℕ, ◌+◌, ◌-◌, ◌^◌, ◌≤◌, max, min, nat_lt, false, List, [], ◌∷◌, ◌++◌, length, All, Option, Some, None, refl, sym, ◌∙◌, ap, subst, inl, inr, arith, rules}
+use Rattle.std.specs.Prelude.{IsSome, slice_get, slice_set}
+use Rattle.std.proofs.lemmas.Bool.{cases_lt}
+use Rattle.std.proofs.lemmas.List.{append-nil, length-set}
+use Rattle.zs_num.specs.declared.entry.Entry.{Entry}
+use Rattle.zs_num.specs.declared.request.Request.{Request}
+use Rattle.elf_load.specs.MemoryImage.{MemoryImage}
+use Rattle.machine_desc.specs.declared.machine.Machine.{Machine}
+use Rattle.event_graph.specs.declared.plain.Plain.{Plain}
+use Rattle.event_graph.specs.Timing.{time_by}
+use Rattle.bound_core.specs.Laws.{AnswersAsWorld, moved}
+use Rattle.bound_core.specs.Reaching.{Reaches}
+use Rattle.bound_core.specs.ReferenceMachine.{BoundState}
+use Rattle.bound_core.specs.ShardPort.{base_of, room_of, size_of}
+use Rattle.bound_core.specs.ShardWorld.{ShardWorld, serve}
+use Rattle.bound_core.specs.Timed.{NumberedCore, TimedCore, latest, left_of_instruction, most_accesses}
+use Rattle.bound_core.specs.Turn.{IsOver, RunsToEnd, TurnsToEnd}
+use Rattle.bound_core.proofs.Accesses.{clock_within, latest_small}
+use Rattle.bound_core.proofs.Lists.{set_same}
+use Rattle.bound_core.proofs.Reaching.{by_turns}
+use Rattle.replay.specs.IntervalWeave.{IsPlainOf}
+use Rattle.replay.specs.Port.{LoggedPortState, gives}
+use Rattle.replay.specs.ReferenceRun.{time_of}
+use Rattle.replay.specs.Simulation.{HasRun, IsReady}
+
+-- ---- the port
+
+abbrev pub told : LoggedPortState → Option (List Entry)
+told p = Some p.entries
+
+abbrev world : LoggedPortState → ShardWorld
+world p = p.world
+
+served_core : (w : ShardWorld) (core start : ℕ) (request : Request) → (serve w core start request).0.core ≡ core
+unfolding serve
+served_core w core start request = refl
+
+served_stamps : (w : ShardWorld) (core start : ℕ) (request : Request) → length (serve w core start request).1.stamps ≡ length w.stamps
+unfolding serve
+served_stamps w core start request = length-set w.stamps core _
+
+answers : AnswersAsWorld gives world serve
+answers port port_after start request e given =
+    let core : e.core ≡ port.core = ap (λ (answer : Entry × ShardWorld). answer.0.core) given ∙ served_core port.world port.core start request in
+    given ∙ ap (λ (n : ℕ). serve port.world n start request) (sym core)
+
+stamps_stay : (time : Entry → ℕ) (image : MemoryImage) (end : ℕ) (entries : List Entry) (p q : LoggedPortState) (before after : TimedCore)
+    → TurnsToEnd time image end gives entries p q before after → length q.world.stamps ≡ length p.world.stamps
+stamps_stay time image end [] p q before after turns = ap (λ (port : LoggedPortState). length port.world.stamps) turns.same
+stamps_stay time image end (e ∷ entries) p q before after turns =
+    let next = turns.0 in
+    let one = turns.1.1.0 in
+    stamps_stay time image end entries next q turns.1.0 after turns.1.1.1
+    ∙ ap (λ (answer : Entry × ShardWorld). length answer.1.stamps) one.given
+    ∙ served_stamps p.world p.core _ one.request
+
+-- the times of the expansion are those of the machine
+pub same_times : (machine : Machine) (plain : Plain) → IsPlainOf machine plain → (let times : Entry → ℕ = λ e. time_by plain.l1 plain.l2 plain.controllers e.outcome in times) ≡ time_of machine
+same_times machine plain is =
+    ap (λ l1. let times : Entry → ℕ = λ e. time_by l1 plain.l2 plain.controllers e.outcome in times) is.l1
+    ∙ ap (λ l2. let times : Entry → ℕ = λ e. time_by machine.l1 l2 plain.controllers e.outcome in times) is.l2
+    ∙ ap (λ controllers. let times : Entry → ℕ = λ e. time_by machine.l1 machine.l2 controllers e.outcome in times) is.controllers
+
+-- ---- a core that waits for nothing
+
+none_past : (end : ℕ) (c : TimedCore) → end ≤ c.clock → c.core.instruction ≡ None → most_accesses end c ≡ 0
+unfolding most_accesses
+none_past end c late idle = let past : nat_lt c.clock end ≡ false = search rules in rw (past, idle) refl
+
+latest_idle : (end : ℕ) (c : TimedCore) → c.core.instruction ≡ None → latest end c ≤ max c.clock end + 2 ^ 28
+latest_idle end c idle =
+    let none : left_of_instruction c.core.instruction ≡ 0 = ap left_of_instruction idle in
+    latest_small end c (omega (arith, none))
+
+starts_small : (end : ℕ) (c : TimedCore) (entries : List Entry) → c.core.instruction ≡ None → end ≤ 2 ^ 34 → All (λ e. e.start ≤ latest end c) entries → length entries ≤ most_accesses end c
+    → All (λ e. e.start ≤ 2 ^ 36) entries
+starts_small end c entries idle small starts few = λ k d below.
+    elim (cases_lt c.clock end) [
+      | inl early ↦ omega (arith, starts k d below, latest_idle end c idle, early, small)
+      | inr late ↦ absurd (omega (arith, below, few, none_past end c late idle))
+    ]
+
+-- ---- a core in an interval
+
+module _ (machine : Machine) (image : MemoryImage) (end : ℕ) (core : NumberedCore) (port : LoggedPortState) (ready : IsReady machine end (base_of port.world) (size_of port.world) core.timed) where
+  -- one that has halted does nothing
+  module _ (s t : BoundState ShardWorld) (here : slice_get t.cores core.number ≡ Some core.timed) (same : t.world ≡ port.world) where
+    not_moved : t ≡ moved t core.number core.timed port.world []
+    not_moved =
+        ap (λ (cores : List TimedCore). let u : BoundState ShardWorld = record { cores = cores; world = t.world; entries = t.entries } in u) (sym (set_same t.cores core.number core.timed here))
+        ∙ ap (λ (w : ShardWorld). let u : BoundState ShardWorld = record { cores = slice_set t.cores core.number core.timed; world = w; entries = t.entries } in u) same
+        ∙ ap (λ (entries : List Entry). let u : BoundState ShardWorld = record { cores = slice_set t.cores core.number core.timed; world = port.world; entries = entries } in u) (sym (append-nil t.entries))
+
+    still : (numbers : List ℕ) → Reaches serve (time_of machine) image end s numbers t
+        → Reaches serve (time_of machine) image end s (numbers ++ []) (moved t core.number core.timed port.world [])
+    still numbers reaches =
+        subst (λ (u : BoundState ShardWorld). Reaches serve (time_of machine) image end s (numbers ++ []) u) not_moved
+        (subst (λ (ns : List ℕ). Reaches serve (time_of machine) image end s ns t) (sym (append-nil numbers)) reaches)
+
+  pub halted_stays : IsSome core.timed.core.halted → HasRun machine image end core core port port
+  halted_stays halted = record {
+    entries = [];
+    gained = sym (append-nil port.entries);
+    leads = λ s t numbers reaches here same. still s t here same numbers reaches;
+    starts = λ k d below. absurd (omega (arith, below));
+    few = omega arith;
+    over = record { idle = ready.idle; over = inl halted };
+    clock = omega (arith, ready.clock);
+    number = refl;
+    base = refl;
+    size = refl;
+    stamps = refl;
+    room = omega arith;
+  }
+
+  pub ran_to_end : end ≤ 2 ^ 34 → core.timed.core.halted ≡ None → (chosen last : LoggedPortState) (after : NumberedCore) → chosen.world ≡ port.world → chosen.entries ≡ port.entries → chosen.room ≡ port.room
+      → RunsToEnd (time_of machine) image end gives told core.number chosen last core.timed after.timed
+      → IsOver end after.timed → latest end after.timed ≤ latest end core.timed → after.number ≡ core.number
+      → most_accesses end core.timed ≤ end - core.timed.clock + 256
+      → base_of last.world ≡ base_of chosen.world → size_of last.world ≡ size_of chosen.world
+      → min (room_of chosen.world) chosen.room ≤ min (room_of last.world) last.room + most_accesses end core.timed
+      → HasRun machine image end core after port last
+  ran_to_end small running chosen last after same_world same_entries same_room ran over not_later number most base size room =
+      let left : end - core.timed.clock ≤ machine.interval = ready.left running in
+      let gained : last.entries ≡ chosen.entries ++ ran.entries = cc in
+      let before : min (room_of chosen.world) chosen.room ≡ min (room_of port.world) port.room =
+      ap (λ (w : ShardWorld). min (room_of w) chosen.room) same_world ∙ ap (min (room_of port.world)) same_room
+      in
+      record {
+        entries = ran.entries;
+        gained = gained ∙ ap (λ (entries : List Entry). entries ++ ran.entries) same_entries;
+        leads = λ s t numbers reaches here same.
+            by_turns gives world serve (time_of machine) image end s t numbers chosen last core.timed after.timed reaches answers core.number ran.entries here (same ∙ sym same_world) ran.cores ran.turns;
+        starts = starts_small end core.timed ran.entries ready.idle small ran.starts ran.few;
+        few = omega (arith, ran.few, most, left);
+        over = over;
+        clock = omega (arith, clock_within end after.timed, not_later, latest_idle end core.timed ready.idle, ready.clock, small);
+        number = number;
+        base = base ∙ ap base_of same_world;
+        size = size ∙ ap size_of same_world;
+        stamps = stamps_stay (time_of machine) image end ran.entries chosen last core.timed after.timed ran.turns ∙ ap (λ (w : ShardWorld). length w.stamps) same_world;
+        room = omega (arith, room, before, most, left);
+      }

@@ -1,0 +1,26 @@
+-- What a run gives where it ends.
+use Rattle.std.proofs.Common.{◌≡◌, ◌∙◌, ℕ, length, Bool, ap, not, refl, sym}
+use Rattle.machine_desc.specs.declared.machine.Machine.{Machine}
+use Rattle.stats.specs.Counts.{Counts}
+use Rattle.replay.specs.declared.simulation.Simulation.{Simulation}
+use Rattle.replay.specs.Simulation.{StandsFor, cores_of}
+use Rattle.replay.specs.ReferenceRun.{RunState, have_halted, results_of}
+use Rattle.replay.specs.Results.{HasCounts, Results}
+use Rattle.replay.proofs.NextInterval.{counts_come}
+
+module _ (machine : Machine) (s : RunState) (p : Simulation) (come : StandsFor machine s p) where
+  pub results_are : (halted : Bool) → halted ≡ have_halted (cores_of p) → (k : ℕ) → length s.intervals ≡ k
+      → (let r : Results = record { cores = cores_of p; counts = p.counters; intervals = k; limit = not halted } in r) ≡ results_of machine s
+  results_are halted is k length_is =
+      let count : k ≡ length s.intervals = sym length_is in
+      rw (is, count, come.counters, sym come.cores) refl
+
+  -- what the report asks of them
+  pub counted_results : (r : Results) → r.cores ≡ cores_of p → r.counts ≡ p.counters → HasCounts machine r
+  counted_results r cores counts =
+      let there = counts_come machine s p come in
+      record {
+        cores = ap length cores ∙ ap length (sym come.cores) ∙ come.count;
+        core_counts = ap (λ (c : Counts). length c.core_counts) counts ∙ there.0;
+        comp_counts = ap (λ (c : Counts). length c.comp_counts) counts ∙ there.1;
+      }

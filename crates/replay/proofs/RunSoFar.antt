@@ -1,0 +1,117 @@
+-- A run from its start up to now.
+use Rattle.std.proofs.Common.{◌≡◌, ◌≢◌, ◌<◌, ◌≤◌, ℕ, ◌+◌, ◌*◌, List, [], ◌∷◌, ◌++◌, length, Bool, true, false, if◌then◌else◌, Result, Ok, Err, refl, sym, ◌∙◌, ap, arith}
+use Rattle.std.specs.Prelude.{OnErr}
+use Rattle.std.proofs.lemmas.List.{length-append}
+use Rattle.elf_load.specs.MemoryImage.{MemoryImage}
+use Rattle.machine_desc.specs.declared.machine.Machine.{Machine}
+use Rattle.component.specs.declared.comp.Comp.{Comp}
+use Rattle.component.specs.Components.{AreFresh}
+use Rattle.stats.specs.Counts.{Counts, Interval, counts_of, total_accesses}
+use Rattle.replay.specs.declared.simulation.Simulation.{Simulation}
+use Rattle.bound_core.specs.Timed.{TimedCore}
+use Rattle.replay.specs.Simulation.{GoesOn, LeadsTo, StandsFor, cores_of}
+use Rattle.replay.specs.ReferenceRun.{RunState, after_interval, after_intervals, first_state, has_ended, has_ended_at, IsLegalSoFar, continued, reference_run, results_at, results_of, Illegal, next_place}
+use Rattle.replay.proofs.NextInterval.{goes_on}
+
+-- the code has come to where the run is after the intervals of this schedule
+pub record HasRun (machine : Machine) (image : MemoryImage) (lists : List (List ℕ)) (p : Simulation) : Type 0 where
+  pub comps : List Comp
+  pub fresh : AreFresh machine comps
+  pub state : RunState
+  pub reached : after_intervals machine image (first_state machine image comps) lists ≡ Ok state
+  pub as_long : length state.intervals ≡ length lists
+  pub come : StandsFor machine state p
+
+pub counted_accesses : (cores : ℕ) (comps : List Comp) (intervals : List Interval) → (counts_of cores comps intervals).accesses ≡ total_accesses intervals
+unfolding counts_of
+counted_accesses cores comps intervals = refl
+
+-- the accesses that the code has counted
+pub accesses_are : (machine : Machine) (s : RunState) (p : Simulation) → StandsFor machine s p → p.counters.accesses ≡ total_accesses s.intervals
+accesses_are machine s p come = ap (λ (c : Counts). c.accesses) come.counters ∙ counted_accesses machine.cores s.comps s.intervals
+
+-- whether the run has ended, by what the code has
+pub same_ending : (machine : Machine) (s : RunState) (p : Simulation) → StandsFor machine s p → (k : ℕ) → length s.intervals ≡ k
+    → has_ended_at machine k p.counters.accesses (cores_of p) p.comps ≡ has_ended machine s
+same_ending machine s p come k as_long =
+    ap (λ (n : ℕ). has_ended_at machine n p.counters.accesses (cores_of p) p.comps) (sym as_long)
+    ∙ ap (λ (n : ℕ). has_ended_at machine (length s.intervals) n (cores_of p) p.comps) (accesses_are machine s p come)
+    ∙ ap (λ (cores : List TimedCore). has_ended_at machine (length s.intervals) (total_accesses s.intervals) cores p.comps) (sym come.cores)
+    ∙ ap (λ (comps : List Comp). has_ended_at machine (length s.intervals) (total_accesses s.intervals) s.cores comps) come.comps
+
+-- the run goes on with an interval that ends then
+pub goes_to : (machine : Machine) (s : RunState) (p : Simulation) → StandsFor machine s p → (k end : ℕ) → length s.intervals ≡ k → end ≡ (k + 1) * machine.interval
+    → has_ended_at machine k p.counters.accesses (cores_of p) p.comps ≡ false → GoesOn machine end s p
+goes_to machine s p come k end as_long ends on = record {
+  come = come;
+  on = sym (same_ending machine s p come k as_long) ∙ on;
+  ends = ends ∙ ap (λ (n : ℕ). (n + 1) * machine.interval) (sym as_long);
+}
+
+-- what a test let pass, where the result is there
+passed : (test : Bool) (rest : Result RunState Illegal) (stop : Illegal) (t : RunState) → (if test then Err stop else rest) ≡ Ok t → (test ≡ false) × (rest ≡ Ok t)
+passed false rest stop t e = (refl, e)
+passed true rest stop t e = cc
+
+-- one more interval, with the run at t after those before
+one_interval : (machine : Machine) (image : MemoryImage) (s : RunState) (lists : List (List ℕ)) (t u : RunState) (turns : List ℕ)
+    → after_intervals machine image s lists ≡ Ok t → has_ended machine t ≡ false → after_interval machine image t turns ≡ Ok u → after_intervals machine image s (lists ++ turns ∷ []) ≡ Ok u
+one_interval machine image s [] t u turns at on after =
+    let same : s ≡ t = cc in
+    let goes : has_ended machine s ≡ false = ap (has_ended machine) same ∙ on in
+    let leads : after_interval machine image s turns ≡ Ok u = ap (λ (r : RunState). after_interval machine image r turns) same ∙ after in
+    rw (goes, leads) refl
+one_interval machine image s (first ∷ lists) t u turns at on after =
+    let parts = passed (has_ended machine s) (continued (λ r. after_intervals machine image r lists) (after_interval machine image s first)) (next_place s) t at in
+    let rest : (o : Result RunState Illegal) → continued (λ r. after_intervals machine image r lists) o ≡ Ok t → continued (λ r. after_intervals machine image r (lists ++ turns ∷ [])) o ≡ Ok u =
+    λ o. elim o as (λ v. continued (λ r. after_intervals machine image r lists) v ≡ Ok t → continued (λ r. after_intervals machine image r (lists ++ turns ∷ [])) v ≡ Ok u) [
+      | Err illegal ↦ λ e. cc
+      | Ok r ↦ λ e. one_interval machine image r lists t u turns e on after
+    ]
+    in
+    rw parts.0 (rest (after_interval machine image s first) parts.1)
+
+-- the run is an interval further, and its schedule a list longer
+pub further : (machine : Machine) (image : MemoryImage) (lists : List (List ℕ)) (p q : Simulation) (h : HasRun machine image lists p) (turns : List ℕ) → has_ended machine h.state ≡ false
+    → LeadsTo machine image h.state turns q → HasRun machine image (lists ++ turns ∷ []) q
+further machine image lists p q h turns on leads = record {
+  comps = h.comps;
+  fresh = h.fresh;
+  state = leads.state;
+  reached = one_interval machine image (first_state machine image h.comps) lists h.state leads.state turns h.reached on leads.after;
+  as_long = omega (arith, leads.longer, h.as_long, length-append lists (turns ∷ []));
+  come = leads.come;
+}
+
+-- what the run gives where it ends
+pub ends_with : (machine : Machine) (image : MemoryImage) (lists : List (List ℕ)) (p : Simulation) (h : HasRun machine image lists p) → has_ended machine h.state ≡ true
+    → reference_run machine image h.comps lists ≡ Ok (results_of machine h.state)
+ends_with machine image lists p h ends =
+    ap (continued (results_at machine)) h.reached ∙ ap (λ (ended : Bool). if ended then Ok (results_of machine h.state) else Err (next_place h.state)) ends
+
+-- a fact, where there is an error and where there is none
+pub on_err : {T E : Type 0} (P : Type 0) (r : Result T E) → P → OnErr r P
+on_err P (Ok x) p = tt
+on_err P (Err e) p = p
+
+-- the schedule has legal lists up to where the code has come
+pub legal_so_far : (machine : Machine) (image : MemoryImage) (lists : List (List ℕ)) (p : Simulation) → HasRun machine image lists p → IsLegalSoFar machine image lists
+legal_so_far machine image lists p h = record { comps = h.comps; fresh = h.fresh; state = h.state; reached = h.reached }
+
+pub nothing_run : (machine : Machine) (image : MemoryImage) (lists : List (List ℕ)) → lists ≡ [] → (comps : List Comp) → AreFresh machine comps → IsLegalSoFar machine image lists
+nothing_run machine image lists none comps fresh = record {
+  comps = comps;
+  fresh = fresh;
+  state = first_state machine image comps;
+  reached = ap (after_intervals machine image (first_state machine image comps)) none;
+}
+
+-- a run that goes on, and what the code needs of it
+module _ (machine : Machine) (image : MemoryImage) (lists : List (List ℕ)) (p : Simulation) (h : HasRun machine image lists p) (k end : ℕ) (count : length lists ≡ k) (ends : end ≡ k * machine.interval) where
+  pub goes : has_ended_at machine k p.counters.accesses (cores_of p) p.comps ≡ false → GoesOn machine (end + machine.interval) h.state p
+  goes on = goes_to machine h.state p h.come k (end + machine.interval) (h.as_long ∙ count) (omega (arith, ends)) on
+
+  pub below_limit : (on : has_ended_at machine k p.counters.accesses (cores_of p) p.comps ≡ false) → k ≤ machine.intervals → k < machine.intervals
+  below_limit on within =
+      let left : length h.state.intervals ≢ machine.intervals = (goes_on machine h.state (goes on).on).intervals_left in
+      omega (arith, left, h.as_long, count)

@@ -1,0 +1,20 @@
+-- the run has come to where the intervals of the schedule lead
+use Rattle.std.proofs.Common.{◌≡◌, ◌≤◌, ◌-◌, ◌*◌, ◌^◌, length}
+use Rattle.replay.specs.IntervalWeave.{IsPlainOf}
+use Rattle.replay.proofs.RunSoFar.{HasRun}
+use Rattle.replay.proofs.running.run.Given as goal
+
+abbrev pub invariant-loop-alloc : goal.invariant-loop-alloc
+invariant-loop-alloc l = record {
+  run : HasRun l.machine l.image l.schedule.lists l.simulation;
+  plain : IsPlainOf l.machine l.plain;
+  count : length l.schedule.lists ≡ l.k;
+  end : l.end ≡ l.k * l.machine.interval;
+  small : l.end ≤ 10000 * l.k;
+  within : l.k ≤ l.machine.intervals;
+  accesses : l.simulation.counters.accesses ≤ 2 ^ 26;
+  cores : l.schedule.cores ≡ l.initial.schedule.cores;
+}
+
+abbrev pub decreases-loop-alloc : goal.decreases-loop-alloc
+decreases-loop-alloc l = l.machine.intervals - l.k

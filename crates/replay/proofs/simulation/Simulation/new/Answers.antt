@@ -1,0 +1,44 @@
+use Rattle.std.proofs.Common.{◌≡◌, List, map, length, refl, sym, ap, ◌∙◌, subst}
+use Rattle.std.specs.List.{range_with_len}
+use Rattle.std.proofs.lemmas.List.{length-replicate}
+use Rattle.std.proofs.lemmas.List.FromFn.{length-map-range_with_len}
+use Rattle.shard.specs.Served.{ShardState}
+use Rattle.shard.specs.StandsFor.{new_shards}
+use Rattle.bound_core.specs.MachineOfShards.{StandForMachine}
+use Rattle.bound_core.specs.MachineWorld.{first_world}
+use Rattle.bound_core.specs.ShardWorld.{ShardWorld, begun_world, restarted}
+use Rattle.bound_core.specs.Timed.{first_core}
+use Rattle.replay.proofs.Cores.{numbered_from}
+use Rattle.replay.proofs.NextInterval.{all_first_over, first_counted}
+use Rattle.replay.proofs.Shards.{new_again, new_count}
+use Rattle.replay.proofs.simulation.Simulation.new.Goals as goal
+
+pub returns : goal.returns
+returns c =
+    let machine = c.args.machine.now in
+    let image = c.args.image.now in
+    let comps = c.in_ok-components.field-0 in
+    let fresh = c.in_ok-components.ensures in
+    let cores = c.in_ok-first_cores.ensures in
+    let world = c.in_ok-new.ensures in
+    let new : List ShardState = new_shards machine image in
+    let shards : map restarted (map restarted new) ≡ new = ap (map restarted) (new_again machine image) ∙ new_again machine image in
+    let stand : StandForMachine (map (first_core machine image) (range_with_len 0 machine.cores)) (begun_world machine.cores new) (first_world machine image) =
+    c.intervals_begin.ensures.first machine image c.requires.machine c.requires.base c.requires.size
+    in
+    let at : map restarted (c.in_ok-new.field-0).world.shards ≡ new = ap (λ (w : ShardWorld). map restarted w.shards) world ∙ shards in (
+      comps,
+      fresh,
+      record {
+        cores = sym cores.timed;
+        count = length-map-range_with_len (first_core machine image) 0 machine.cores;
+        numbered = numbered_from machine.cores (c.in_ok-first_cores.field-0).items cores.numbered;
+        stamps = ap (λ (w : ShardWorld). length w.stamps) world ∙ length-replicate machine.cores 0;
+        banks = ap (λ (w : ShardWorld). length w.shards) world ∙ ap length (new_again machine image) ∙ new_count machine image;
+        stand = subst (λ (ss : List ShardState). StandForMachine (map (first_core machine image) (range_with_len 0 machine.cores)) (begun_world machine.cores ss) (first_world machine image)) (sym at) stand;
+        comps = refl;
+        counters = c.in_ok-new-2.ensures ∙ sym (c.nothing_is_counted_first.ensures machine comps fresh);
+        over = all_first_over machine image;
+        counted = first_counted machine image comps fresh;
+      },
+    )

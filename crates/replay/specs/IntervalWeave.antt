@@ -1,0 +1,47 @@
+-- What the weave of an interval gives.
+use Rattle.std.specs.Prelude.{◌≡◌, ◌*◌, ◌<◌, ◌≤◌, ◌^◌, List, length}
+use Rattle.std.specs.List.{All}
+use Rattle.zs_num.specs.declared.entry.Entry.{Entry}
+use Rattle.machine_desc.specs.declared.machine.Machine.{Machine}
+use Rattle.machine_desc.specs.Components.{component_count}
+use Rattle.component.specs.declared.comp.Comp.{Comp}
+use Rattle.component.specs.ComponentStep.{comp_greatest, comp_latency, comp_serves, comp_step}
+use Rattle.event_graph.specs.declared.event.Event.{Event}
+use Rattle.event_graph.specs.declared.plain.Plain.{Plain}
+use Rattle.event_graph.specs.EventGraph.{all_events}
+use Rattle.event_graph.specs.Fits.{GraphFits}
+use Rattle.event_graph.specs.Numbered.{IsNumbered}
+use Rattle.event_graph.specs.OneListWeave.{AreSmallSteps}
+use Rattle.event_graph.specs.Timing.{pieces_of}
+use Rattle.event_graph.specs.Timely.{AreTimely}
+use Rattle.stats.specs.Counts.{Interval}
+use Rattle.replay.specs.declared.weaving.Woven.{Woven}
+use Rattle.replay.specs.ReferenceRun.{woven_interval}
+
+-- the expansion of this machine
+pub record IsPlainOf (machine : Machine) (plain : Plain) : Type 0 where
+  pub l1 : plain.l1 ≡ machine.l1
+  pub l2 : plain.l2 ≡ machine.l2
+  pub controllers : plain.controllers ≡ machine.controllers
+
+-- the events of these accesses, and what the weave asks of them
+pub record AreEventsOf (machine : Machine) (comps : List Comp) (entries : List Entry) (graph : List Event) : Type 0 where
+  pub are : graph ≡ all_events (pieces_of machine.l1 machine.l2 machine.controllers) entries
+  pub numbered : IsNumbered graph
+  pub fits : GraphFits comp_serves comp_latency graph comps
+  pub small : AreSmallSteps comp_step comp_greatest graph comps
+  pub cores : All (λ e. e.core < machine.cores) graph
+  pub few : length graph ≤ 4 * length entries
+
+-- the interval as it is counted
+abbrev pub interval_of : List Entry → Woven → Interval
+interval_of entries w = record { entries = entries; events = w.graph; fired = w.fired; delays = w.delays }
+
+-- the weave of these accesses on these components, with what holds of every weave
+pub record IsWeaveOf (machine : Machine) (comps : List Comp) (entries : List Entry) (w : Woven) : Type 0 where
+  pub is : interval_of entries w ≡ woven_interval machine comps entries
+  pub timely : AreTimely w.graph w.fired
+  pub delays : length w.delays ≡ machine.cores
+  pub delays_small : All (λ d. d ≤ 2 ^ 62) w.delays
+  pub there : All (λ e. e.component < component_count machine) w.graph
+  pub few : length w.graph ≤ 4 * length entries

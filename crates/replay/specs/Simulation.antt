@@ -1,0 +1,161 @@
+-- A run between two intervals as the code keeps it: its shards stand for memory and the caches, and its counts for the
+-- intervals, which it does not keep.
+use Rattle.std.specs.Prelude.{◌≡◌, ℕ, ◌+◌, ◌-◌, ◌*◌, ◌^◌, ◌<◌, ◌≤◌, min, false, List, ◌++◌, length, map, slice_get, Some, None, Ok, All}
+use Rattle.zs_num.specs.declared.entry.Entry.{Entry}
+use Rattle.elf_load.specs.MemoryImage.{MemoryImage}
+use Rattle.machine_desc.specs.declared.machine.Machine.{Machine}
+use Rattle.machine_desc.specs.Components.{component_count}
+use Rattle.component.specs.ComponentStep.{free_of}
+use Rattle.component.specs.Components.{AreComponents}
+use Rattle.bound_core.specs.History.{IsHistory, after_history}
+use Rattle.bound_core.specs.MachineOfShards.{StandForMachine}
+use Rattle.bound_core.specs.Laws.{moved}
+use Rattle.bound_core.specs.Reaching.{Reaches}
+use Rattle.bound_core.specs.ReferenceMachine.{BoundState}
+use Rattle.bound_core.specs.ShardPort.{base_of, room_of, size_of}
+use Rattle.bound_core.specs.ShardWorld.{ShardWorld, begun_world, restarted, serve}
+use Rattle.bound_core.specs.Timed.{NumberedCore, TimedCore}
+use Rattle.bound_core.specs.Turn.{IsOver}
+use Rattle.access_log.specs.RecordedOrder.{recorded_order}
+use Rattle.stats.specs.Counts.{counts_of, total_accesses, total_events}
+use Rattle.stats.specs.Laws.{WasRun}
+use Rattle.replay.specs.declared.simulation.Simulation.{Simulation}
+use Rattle.replay.specs.Limits.{room_beyond}
+use Rattle.replay.specs.Port.{LoggedPortState}
+use Rattle.replay.specs.ReferenceRun.{RunState, access_room, after_interval, end_of, has_ended, time_of, world_of}
+
+-- ---- cores and shards
+
+abbrev pub timed_of : List NumberedCore → List TimedCore
+timed_of cores = map (λ c. c.timed) cores
+
+-- the cores of a run in time
+abbrev pub cores_of : Simulation → List TimedCore
+cores_of p = timed_of p.cores.items
+
+-- each has the number of its place
+abbrev pub AreNumbered : List NumberedCore → Type 0
+AreNumbered cores = (i : ℕ) (c : NumberedCore) → slice_get cores i ≡ Some c → c.number ≡ i
+
+-- the shards before the first access of an interval
+abbrev pub begun_shards : Machine → Simulation → ShardWorld
+begun_shards machine p = begun_world machine.cores (map restarted p.port.world.shards)
+
+-- ---- between two intervals
+
+-- the sums of a run
+pub record IsCounted (machine : Machine) (s : RunState) : Type 0 where
+  pub components : AreComponents machine s.comps
+  pub within : length s.intervals ≤ machine.intervals
+  pub accesses : total_accesses s.intervals ≤ 2 ^ 26
+  pub events : total_events s.intervals ≤ 4 * total_accesses s.intervals
+  pub were_run : All WasRun s.intervals
+
+-- The code has come to this point of a run. Its cores have come to the end of the last interval.
+pub record StandsFor (machine : Machine) (s : RunState) (p : Simulation) : Type 0 where
+  pub cores : s.cores ≡ cores_of p
+  pub count : length s.cores ≡ machine.cores
+  pub numbered : AreNumbered p.cores.items
+  pub stamps : length p.port.world.stamps ≡ machine.cores
+  pub banks : length p.port.world.shards ≡ machine.l2.banks
+  pub stand : StandForMachine s.cores (begun_shards machine p) (world_of machine s)
+  pub comps : p.comps ≡ s.comps
+  pub counters : p.counters ≡ counts_of machine.cores s.comps s.intervals
+  pub over : All (IsOver (length s.intervals * machine.interval)) s.cores
+  pub counted : IsCounted machine s
+
+-- the run goes on with an interval that ends then
+pub record GoesOn (machine : Machine) (end : ℕ) (s : RunState) (p : Simulation) : Type 0 where
+  pub come : StandsFor machine s p
+  pub on : has_ended machine s ≡ false
+  pub ends : end ≡ end_of machine s
+
+-- ---- an interval
+
+-- What the bound phase asks of a core, with this memory: a core that is not halted has come to the end of the last
+-- interval.
+pub record IsReady (machine : Machine) (end base size : ℕ) (c : TimedCore) : Type 0 where
+  pub idle : c.core.instruction ≡ None
+  pub clock : c.clock ≤ 2 ^ 56
+  pub left : c.core.halted ≡ None → end - c.clock ≤ machine.interval
+  pub base_is : c.core.memory.base ≡ base
+  pub size_is : c.core.memory.size ≡ size
+
+-- a bound phase on its way, with these cores and this port
+abbrev pub phase_of : List NumberedCore → LoggedPortState → BoundState ShardWorld
+phase_of cores port = record { cores = timed_of cores; world = port.world; entries = port.entries }
+
+-- how many accesses a core has in an interval at most
+abbrev pub core_room : Machine → ℕ
+core_room machine = machine.interval + room_beyond
+
+-- The turns of a core through a port, up to the end of the interval: wherever a bound phase has come to, they lead it on.
+pub record HasRun (machine : Machine) (image : MemoryImage) (end : ℕ) (core core_after : NumberedCore) (port port_after : LoggedPortState) : Type 0 where
+  -- those of the turns
+  pub entries : List Entry
+  pub gained : port_after.entries ≡ port.entries ++ entries
+  pub leads : (s t : BoundState ShardWorld) (numbers : List ℕ) → Reaches serve (time_of machine) image end s numbers t
+      → slice_get t.cores core.number ≡ Some core.timed → t.world ≡ port.world
+      → Reaches serve (time_of machine) image end s (numbers ++ map (λ e. e.core) entries) (moved t core.number core_after.timed port_after.world entries)
+  pub starts : All (λ e. e.start ≤ 2 ^ 36) entries
+  pub few : length entries ≤ core_room machine
+  pub over : IsOver end core_after.timed
+  pub clock : core_after.timed.clock ≤ 2 ^ 57
+  pub number : core_after.number ≡ core.number
+  pub base : base_of port_after.world ≡ base_of port.world
+  pub size : size_of port_after.world ≡ size_of port.world
+  pub stamps : length port_after.world.stamps ≡ length port.world.stamps
+  pub room : min (room_of port.world) port.room ≤ min (room_of port_after.world) port_after.room + core_room machine
+
+-- So many of the cores ran to the end of the interval, one after the other, through a port without an access.
+pub record HaveRun (machine : Machine) (image : MemoryImage) (end ran : ℕ) (cores cores_after : List NumberedCore) (port port_after : LoggedPortState) : Type 0 where
+  pub reaches : Reaches serve (time_of machine) image end (phase_of cores port) (map (λ e. e.core) port_after.entries) (phase_of cores_after port_after)
+  pub starts : All (λ e. e.start ≤ 2 ^ 36) port_after.entries
+  pub few : length port_after.entries ≤ ran * core_room machine
+  pub count : length cores_after ≡ length cores
+  pub numbered : AreNumbered cores_after
+  pub over : (i : ℕ) (c : NumberedCore) → i < ran → slice_get cores_after i ≡ Some c → IsOver end c.timed
+  pub clocks : (i : ℕ) (c : NumberedCore) → i < ran → slice_get cores_after i ≡ Some c → c.timed.clock ≤ 2 ^ 57
+  pub rest : (i : ℕ) → ran ≤ i → slice_get cores_after i ≡ slice_get cores i
+  pub base : base_of port_after.world ≡ base_of port.world
+  pub size : size_of port_after.world ≡ size_of port.world
+  pub stamps : length port_after.world.stamps ≡ length port.world.stamps
+  pub room : min (room_of port.world) port.room ≤ min (room_of port_after.world) port_after.room + ran * core_room machine
+
+-- what an interval asks of the numbers of a run that goes on
+pub record HasRoom (machine : Machine) (end : ℕ) (p : Simulation) : Type 0 where
+  pub ready : (i : ℕ) (c : NumberedCore) → slice_get p.cores.items i ≡ Some c → IsReady machine end (base_of (begun_shards machine p)) (size_of (begun_shards machine p)) c.timed
+  pub count : length p.cores.items ≡ machine.cores
+  pub numbered : AreNumbered p.cores.items
+  pub stamps : length p.port.world.stamps ≡ machine.cores
+  pub some : 0 < length p.port.world.shards
+  pub free : All (λ c. free_of c ≤ 2 ^ 56) p.comps
+  pub components : AreComponents machine p.comps
+  pub cores : length p.counters.core_counts ≡ machine.cores
+  pub comps : length p.counters.comp_counts ≡ component_count machine
+
+-- what the cores of a run have come to at the end of the bound phase, with the shards after these accesses
+abbrev pub bound_state : Simulation → List Entry → BoundState ShardWorld
+bound_state p entries = record { cores = cores_of p; world = p.port.world; entries = entries }
+
+-- The bound phase of an interval on this machine, from one point of the code to another. The turns took these accesses in
+-- some order.
+pub record IsBounded (machine : Machine) (image : MemoryImage) (end : ℕ) (before after : Simulation) (entries : List Entry) : Type 0 where
+  pub taken : List Entry
+  pub history : IsHistory (time_of machine) image end (cores_of before) (map restarted before.port.world.shards) taken
+  pub left : bound_state after taken ≡ after_history (time_of machine) image end (cores_of before) (map restarted before.port.world.shards) taken
+  pub in_order : entries ≡ recorded_order taken
+  pub cores : All (λ e. e.core < machine.cores) entries
+  pub starts : All (λ e. e.start ≤ 2 ^ 36) entries
+  pub few : length entries ≤ access_room machine
+  pub clocks : All (λ c. c.clock ≤ 2 ^ 57) (cores_of after)
+  pub count : length after.cores.items ≡ machine.cores
+  pub numbered : AreNumbered after.cores.items
+  pub over : All (IsOver end) (cores_of after)
+
+-- an interval under these turns leads on from there
+pub record LeadsTo (machine : Machine) (image : MemoryImage) (s : RunState) (turns : List ℕ) (p : Simulation) : Type 0 where
+  pub state : RunState
+  pub after : after_interval machine image s turns ≡ Ok state
+  pub longer : length state.intervals ≡ length s.intervals + 1
+  pub come : StandsFor machine state p

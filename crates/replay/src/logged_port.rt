@@ -1,0 +1,117 @@
+// The accesses of cores to shards, and a log of them.
+ghost use Rattle.std.specs.Prelude.{◌≡◌, ◌≤◌, ◌<◌, [], length, map, min, Some, IfOk, OnOk};
+ghost use Rattle.machine_desc.specs.Machine.{IsMachine};
+ghost use Rattle.shard.specs.StandsFor.{new_shards};
+ghost use Rattle.bound_core.specs.ShardPort.{base_of, room_of, size_of};
+ghost use Rattle.bound_core.specs.ShardWorld.{begun_world, restarted};
+ghost use Rattle.replay.specs.Port.{gives};
+
+use bound_core::{Port, ShardPort};
+use elf_load::Image;
+use machine_desc::Machine;
+use shard::Shard;
+use std::alloc::Global;
+use std::marker::Model;
+use std::mem;
+use zs_num::{Cycle, Entry, NoMemory, Request};
+
+/// The shards of a machine, and the accesses that they served in an interval, in the order of the turns.
+#[derive(Drop)]
+pub struct LoggedPort {
+    port: ShardPort,
+    entries: Vec<Entry>,
+}
+
+impl Model for LoggedPort {
+    ghost use Rattle.std.specs.Prelude.{◌-◌, vec_len, vec_capacity};
+    ghost use Rattle.replay.specs.Port.{LoggedPortState};
+
+    ghost Value = { LoggedPortState };
+
+    ghost view = { λ p. record { world = p.port.world; core = p.port.core; entries = p.entries.items; room = vec_capacity p.entries - vec_len p.entries } };
+}
+
+impl LoggedPort {
+    /// The shards of a machine as an executable was loaded into them, without room for an access.
+    pub fn new(alloc: Global, machine: &Machine, image: &Image) -> Result<Self, NoMemory>
+        requires machine { IsMachine machine.now }
+        requires base { image.now.base ≡ machine.now.memory.base }
+        requires size { image.now.size ≡ machine.now.memory.size }
+        ensures { IfOk result (λ p. p.world ≡ begun_world machine.now.cores (map restarted (new_shards machine.now image.now))) }
+    {
+        let shards = shards_of(alloc, machine, image)?;
+        match ShardPort::new(alloc, shards, machine.cores) {
+            Ok(port) => Ok(LoggedPort {
+                port,
+                entries: Vec::new(alloc),
+            }),
+            Err((NoMemory, _shards)) => Err(NoMemory),
+        }
+    }
+
+    /// Makes it ready for an interval: without an access, and with room for so many in the buffer of
+    /// this list.
+    pub fn begin(&mut self, room: usize, mut list: Vec<Entry>) -> Result<(), NoMemory>
+        ensures world { OnOk result (self.new.world ≡ begun_world (length self.old.world.stamps) (map restarted self.old.world.shards)) }
+        ensures none { OnOk result (self.new.entries ≡ []) }
+        ensures room { OnOk result (room ≤ self.new.room) }
+    {
+        list.clear();
+        list.reserve(room)?;
+        self.port.restart();
+        self.entries = list;
+        Ok(())
+    }
+
+    /// Names the core whose accesses follow.
+    pub fn choose(&mut self, core: u16)
+        requires { core < length self.old.world.stamps }
+        ensures { self.new ≡ record self.old { core = core } }
+    {
+        self.port.choose(core);
+    }
+
+    /// Hands the accesses out, and keeps none.
+    pub fn take_entries(&mut self, alloc: Global) -> Vec<Entry>
+        ensures entries { result.items ≡ self.old.entries }
+        ensures none { self.new.entries ≡ [] }
+        ensures world { self.new.world ≡ self.old.world }
+    {
+        mem::replace(&mut self.entries, Vec::new(alloc))
+    }
+}
+
+impl Port for LoggedPort {
+    ghost core = { λ p. p.core };
+
+    ghost base = { λ p. base_of p.world };
+
+    ghost size = { λ p. size_of p.world };
+
+    ghost room = { λ p. min (room_of p.world) p.room };
+
+    ghost gives = { gives };
+
+    ghost told = { λ p. Some p.entries };
+
+    #[inline]
+    fn access(&mut self, start: Cycle, request: Request) -> Entry {
+        let entry = self.port.access(start, request);
+        self.entries.push_reserved(entry);
+        entry
+    }
+}
+
+// The shards of a machine, in order of their numbers.
+fn shards_of(alloc: Global, machine: &Machine, image: &Image) -> Result<Vec<Shard>, NoMemory>
+    requires machine { IsMachine machine.now }
+    requires base { image.now.base ≡ machine.now.memory.base }
+    requires size { image.now.size ≡ machine.now.memory.size }
+    ensures { IfOk result (λ shards. shards.items ≡ new_shards machine.now image.now) }
+{
+    let mut shards = Vec::new(alloc);
+    for number in 0..machine.l2.banks {
+        shards.push(Shard::new(alloc, machine, number, image)?)?;
+    }
+    Ok(shards)
+}

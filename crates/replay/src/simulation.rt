@@ -1,0 +1,286 @@
+// A run between two intervals.
+ghost use Rattle.std.specs.Prelude.{◌≡◌, ◌+◌, ◌-◌, ◌*◌, ◌<◌, ◌≤◌, ◌^◌, min, ℕ, [], All, Some, IfOk, OnOk, is_some, length, map, nat_lt, slice_get};
+ghost use Rattle.std.specs.List.{list_all, list_any, range_with_len};
+ghost use Rattle.machine_desc.specs.declared.machine.Machine.{Machine};
+ghost use Rattle.machine_desc.specs.Machine.{IsMachine};
+ghost use Rattle.component.specs.ComponentStep.{free_of};
+ghost use Rattle.component.specs.Components.{AreFresh};
+ghost use Rattle.bound_core.specs.ShardPort.{base_of, room_of, size_of};
+ghost use Rattle.bound_core.specs.Timed.{NumberedCore, first_core};
+ghost use Rattle.replay.specs.ReferenceRun.{RunState, access_room, all_delayed, at_limit, first_state, has_ended_at, have_halted, results_of};
+ghost use Rattle.replay.specs.Limits.{cycle_limit};
+ghost use Rattle.replay.specs.Simulation.{AreNumbered, GoesOn, HasRoom, HasRun, HaveRun, IsBounded, IsReady, LeadsTo, StandsFor, cores_of, timed_of};
+ghost use Rattle.replay.specs.IntervalWeave.{IsPlainOf};
+
+use crate::Final;
+use crate::limits::{ACCESS_LIMIT, CYCLE_LIMIT, ROOM_BEYOND};
+use crate::logged_port::LoggedPort;
+use crate::weaving::weave_interval;
+use access_log::sort;
+use bound_core::BoundCore;
+use component::{Comp, Comps, components};
+use elf_load::Image;
+use event_graph::Plain;
+use machine_desc::Machine;
+use rv_core::DecodedProgram;
+use stats::Counters;
+use std::alloc::Global;
+use zs_num::{Cycle, Entries, Entry, NoMemory};
+
+/// A run between two intervals: its cores in order of their numbers, their port to the shards, its
+/// components and what was counted.
+#[derive(Drop)]
+pub struct Simulation {
+    cores: Vec<BoundCore>,
+    port: LoggedPort,
+    comps: Comps<Comp>,
+    counters: Counters,
+}
+
+impl Simulation {
+    /// A run before its first interval.
+    pub fn new(alloc: Global, machine: &Machine, image: &Image) -> Result<Self, NoMemory>
+        requires machine { IsMachine machine.now }
+        requires base { image.now.base ≡ machine.now.memory.base }
+        requires size { image.now.size ≡ machine.now.memory.size }
+        ensures { IfOk result (λ p. (comps : _) × AreFresh machine.now comps × StandsFor machine.now (first_state machine.now image.now comps) p) }
+    {
+        stats::laws::nothing_is_counted_first();
+        bound_core::laws::intervals_begin();
+        Ok(Simulation {
+            cores: first_cores(alloc, machine, image)?,
+            port: LoggedPort::new(alloc, machine, image)?,
+            comps: components(alloc, machine)?,
+            counters: Counters::new(alloc, machine)?,
+        })
+    }
+
+    /// Whether the run has ended before interval k: every core has halted, or a limit is reached.
+    pub fn has_ended(&self, machine: &Machine, k: u32) -> bool
+        requires machine { IsMachine machine.now }
+        requires accesses { self.now.counters.accesses ≤ 2 ^ 26 }
+        ensures { result ≡ has_ended_at machine.now k self.now.counters.accesses (cores_of self.now) self.now.comps }
+    {
+        self.has_halted() || self.is_at_limit(machine, k)
+    }
+
+    // Whether every core has halted.
+    #[tactic(auto, using(crate::proofs::Cores::halted_each))]
+    fn has_halted(&self) -> bool
+        ensures { result ≡ have_halted (cores_of self.now) }
+    {
+        have_halted(&self.cores)
+    }
+
+    // Whether a limit is reached before interval k.
+    #[tactic(auto, using(crate::proofs::Cores::late_each), unfolding(crate::specs::ReferenceRun::at_limit))]
+    fn is_at_limit(&self, machine: &Machine, k: u32) -> bool
+        requires machine { IsMachine machine.now }
+        requires accesses { self.now.counters.accesses ≤ 2 ^ 26 }
+        ensures { result ≡ at_limit machine.now k self.now.counters.accesses (cores_of self.now) self.now.comps }
+    {
+        k == machine.intervals
+            || self.counters.accesses() + access_room(machine) > ACCESS_LIMIT
+            || is_one_clock_late(&self.cores)
+            || is_one_late(self.comps.as_slice())
+    }
+
+    /// Runs the interval that ends at cycle `end`, at most 2^34. Answers its accesses, which go into
+    /// the buffer of the list.
+    pub fn interval(
+        &mut self,
+        alloc: Global,
+        machine: &Machine,
+        program: &DecodedProgram<'_>,
+        plain: &Plain,
+        end: Cycle,
+        list: Vec<Entry>,
+    ) -> Result<Entries, NoMemory>
+        requires machine { IsMachine machine.now }
+        requires plain { IsPlainOf machine.now plain.now }
+        requires end { end ≤ 2 ^ 34 }
+        requires room { HasRoom machine.now end self.old }
+        requires goes_on { (s : RunState) × GoesOn machine.now end s self.old }
+        ensures leads { IfOk result (λ entries. (s : RunState) → GoesOn machine.now end s self.old → LeadsTo machine.now program.now s (map (λ e. e.core) entries) self.new) }
+        ensures cores { IfOk result (λ entries. All (λ e. e.core < machine.now.cores) entries) }
+        ensures few { IfOk result (λ entries. length entries < 2 ^ 32) }
+    {
+        stats::laws::counters_are_sums();
+        stats::laws::sums_fit();
+        bound_core::laws::histories_are_runs_of_the_machine();
+        bound_core::laws::intervals_begin();
+        access_log::laws::recorded_order_keeps_the_stamps();
+        access_log::laws::stamps_rise();
+        access_log::laws::cores_decide_the_order();
+        let entries = self.bound(alloc, machine, program, plain, end, list)?;
+        let woven = weave_interval(alloc, machine, plain, &entries, &mut self.comps)?;
+        delay_all(&mut self.cores, woven.delays.as_slice());
+        self.counters.add(
+            &entries,
+            &woven.graph,
+            &woven.fired,
+            &woven.delays,
+            &self.comps,
+        );
+        Ok(entries)
+    }
+
+    // The bound phase of an interval. Answers its accesses.
+    fn bound(
+        &mut self,
+        alloc: Global,
+        machine: &Machine,
+        program: &DecodedProgram<'_>,
+        plain: &Plain,
+        end: Cycle,
+        list: Vec<Entry>,
+    ) -> Result<Entries, NoMemory>
+        requires machine { IsMachine machine.now }
+        requires plain { IsPlainOf machine.now plain.now }
+        requires end { end ≤ 2 ^ 34 }
+        requires room { HasRoom machine.now end self.old }
+        ensures bounded { IfOk result (IsBounded machine.now program.now end self.old self.new) }
+        ensures comps { self.new.comps ≡ self.old.comps }
+        ensures counters { self.new.counters ≡ self.old.counters }
+    {
+        bound_core::laws::phases_are_histories();
+        access_log::laws::stamps_rise();
+        self.port.begin(access_room(machine) as usize, list)?;
+        run_cores(
+            machine,
+            program,
+            plain,
+            end,
+            &mut self.cores,
+            &mut self.port,
+        )?;
+        let mut entries = self.port.take_entries(alloc);
+        sort(&mut entries);
+        Ok(Entries::of(entries))
+    }
+
+    /// What the run gives where it ends before interval k.
+    pub fn results(self, k: u32) -> Final
+        ensures results { (machine : Machine) (s : RunState) → StandsFor machine s self → length s.intervals ≡ k → result ≡ results_of machine s }
+        ensures cores { result.cores ≡ cores_of self }
+        ensures counts { result.counts ≡ self.counters }
+    {
+        let limit = !self.has_halted();
+        Final {
+            cores: self.cores,
+            counters: self.counters,
+            intervals: k,
+            limit,
+        }
+    }
+}
+
+// The cores of a machine before their first instruction, in order of their numbers.
+fn first_cores(alloc: Global, machine: &Machine, image: &Image) -> Result<Vec<BoundCore>, NoMemory>
+    requires machine { IsMachine machine.now }
+    ensures timed { IfOk result (λ cores. timed_of cores.items ≡ map (first_core machine.now image.now) (range_with_len 0 machine.now.cores)) }
+    ensures numbered { IfOk result (λ cores. map (λ c. c.number) cores.items ≡ range_with_len 0 machine.now.cores) }
+{
+    let mut cores = Vec::new(alloc);
+    for number in 0..machine.cores {
+        cores.push(BoundCore::new(alloc, machine, image, number)?)?;
+    }
+    Ok(cores)
+}
+
+// Runs the cores to the end of the interval, one after the other.
+fn run_cores(
+    machine: &Machine,
+    program: &DecodedProgram<'_>,
+    plain: &Plain,
+    end: Cycle,
+    cores: &mut [BoundCore],
+    port: &mut LoggedPort,
+) -> Result<(), NoMemory>
+    requires machine { IsMachine machine.now }
+    requires plain { IsPlainOf machine.now plain.now }
+    requires end { end ≤ 2 ^ 34 }
+    requires count { length cores.old ≡ machine.now.cores }
+    requires ready { (i : ℕ) (c : NumberedCore) → slice_get cores.old i ≡ Some c → IsReady machine.now end (base_of port.old.world) (size_of port.old.world) c.timed }
+    requires numbered { AreNumbered cores.old }
+    requires stamps { length port.old.world.stamps ≡ machine.now.cores }
+    requires none { port.old.entries ≡ [] }
+    requires room { access_room machine.now ≤ min (room_of port.old.world) port.old.room }
+    ensures { OnOk result (HaveRun machine.now program.now end machine.now.cores cores.old cores.new port.old port.new) }
+{
+    for (number, core) in cores.iter_mut().enumerate() {
+        run_core(machine, program, plain, end, core, number as u16, port)?;
+    }
+    Ok(())
+}
+
+// Runs the core of this number to the end of the interval. One that has halted stays as it is.
+fn run_core(
+    machine: &Machine,
+    program: &DecodedProgram<'_>,
+    plain: &Plain,
+    end: Cycle,
+    core: &mut BoundCore,
+    number: u16,
+    port: &mut LoggedPort,
+) -> Result<(), NoMemory>
+    requires machine { IsMachine machine.now }
+    requires plain { IsPlainOf machine.now plain.now }
+    requires end { end ≤ 2 ^ 34 }
+    requires ready { IsReady machine.now end (base_of port.old.world) (size_of port.old.world) core.old.timed }
+    requires number { core.old.number ≡ number }
+    requires known { number < length port.old.world.stamps }
+    requires room { machine.now.interval + 258 ≤ min (room_of port.old.world) port.old.room }
+    ensures { OnOk result (HasRun machine.now program.now end core.old core.new port.old port.new) }
+{
+    if core.halted().is_some() {
+        return Ok(());
+    }
+    core.reserve(machine.interval)?;
+    port.choose(number);
+    core.run_one(program, plain, end, port);
+    Ok(())
+}
+
+// Each core waits for the cycles of its number.
+fn delay_all(cores: &mut [BoundCore], delays: &[u64])
+    requires count { length delays.now ≡ length cores.old }
+    requires clocks { All (λ c. c.timed.clock ≤ 2 ^ 57) cores.old }
+    requires delays { All (λ d. d ≤ 2 ^ 62) delays.now }
+    ensures timed { timed_of cores.new ≡ all_delayed delays.now (timed_of cores.old) }
+    ensures numbered { AreNumbered cores.old → AreNumbered cores.new }
+{
+    for (number, core) in cores.iter_mut().enumerate() {
+        core.delay(delays[number]);
+    }
+}
+
+// The room for the accesses of all cores in an interval.
+fn access_room(machine: &Machine) -> u64
+    requires { IsMachine machine.now }
+    ensures value { result ≡ access_room machine.now }
+    ensures small { result ≤ 2 ^ 20 }
+{
+    u64::from(machine.cores) * (machine.interval + ROOM_BEYOND)
+}
+
+// Whether every core has halted.
+fn have_halted(cores: &[BoundCore]) -> bool
+    ensures { result ≡ list_all (λ c. is_some c.timed.core.halted) cores.now }
+{
+    cores.iter().all(|c| c.halted().is_some())
+}
+
+// Whether the clock of a core is too late for another interval.
+fn is_one_clock_late(cores: &[BoundCore]) -> bool
+    ensures { result ≡ list_any (λ c. nat_lt cycle_limit c.timed.clock) cores.now }
+{
+    cores.iter().any(|c| c.clock() > CYCLE_LIMIT)
+}
+
+// Whether a component is busy for too long for another interval.
+fn is_one_late(comps: &[Comp]) -> bool
+    ensures { result ≡ list_any (λ c. nat_lt cycle_limit (free_of c)) comps.now }
+{
+    comps.iter().any(|c| c.free() > CYCLE_LIMIT)
+}

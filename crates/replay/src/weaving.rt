@@ -1,0 +1,92 @@
+// The weave of an interval: its events, when they fired, and the delays of the cores.
+ghost use Rattle.std.specs.Prelude.{◌≡◌, ◌<◌, ◌≤◌, ◌^◌, All, IfOk, OnOk, length};
+ghost use Rattle.machine_desc.specs.Machine.{IsMachine};
+ghost use Rattle.component.specs.ComponentStep.{comp_step, free_of};
+ghost use Rattle.component.specs.Components.{AreComponents};
+ghost use Rattle.event_graph.specs.OneListWeave.{comps_after};
+ghost use Rattle.replay.specs.ReferenceRun.{woven_interval};
+ghost use Rattle.replay.specs.IntervalWeave.{AreEventsOf, IsPlainOf, IsWeaveOf};
+
+use component::{Comp, Comps};
+use event_graph::{FiredList, Graph, Plain, build};
+use feedback::{Delays, delays};
+use machine_desc::Machine;
+use std::alloc::Global;
+use weave_seq::weave_seq;
+use zs_num::{Entries, NoMemory};
+
+/// What the weave of an interval gives.
+#[derive(Drop)]
+pub struct Woven {
+    /// The events of the interval's accesses.
+    pub graph: Graph,
+    /// When they fired.
+    pub fired: FiredList,
+    /// How many cycles each core waited.
+    pub delays: Delays,
+}
+
+/// Weaves the events of an interval's accesses, and moves the components on. Where memory runs out,
+/// the components may have moved on or not.
+#[tactic(auto, unfolding(crate::specs::ReferenceRun::woven_interval))]
+pub fn weave_interval(
+    alloc: Global,
+    machine: &Machine,
+    plain: &Plain,
+    entries: &Entries,
+    comps: &mut Comps<Comp>,
+) -> Result<Woven, NoMemory>
+    requires machine { IsMachine machine.now }
+    requires plain { IsPlainOf machine.now plain.now }
+    requires components { AreComponents machine.now comps.old }
+    requires free { All (λ c. free_of c ≤ 2 ^ 56) comps.old }
+    requires cores { All (λ e. e.core < machine.now.cores) entries.now }
+    requires starts { All (λ e. e.start ≤ 2 ^ 36) entries.now }
+    requires few { length entries.now ≤ 2 ^ 20 }
+    ensures weave { IfOk result (IsWeaveOf machine.now comps.old entries.now) }
+    ensures comps { OnOk result (comps.new ≡ comps_after comp_step (woven_interval machine.now comps.old entries.now).events comps.old) }
+    ensures components { OnOk result (AreComponents machine.now comps.new) }
+{
+    event_graph::laws::fitting_events_are_there::<Comp>();
+    event_graph::laws::machine_components_stay();
+    event_graph::laws::events_take_their_time::<Comp>();
+    feedback::laws::timely_events_are_woven();
+    feedback::laws::delays_are_small();
+    let graph = events_of(alloc, machine, plain, entries, comps)?;
+    let fired = weave_seq(alloc, &graph, comps)?;
+    let delays = delays(alloc, &graph, &fired, machine.cores)?;
+    Ok(Woven {
+        graph,
+        fired,
+        delays,
+    })
+}
+
+// The events of an interval's accesses, ready for the weave.
+fn events_of(
+    alloc: Global,
+    machine: &Machine,
+    plain: &Plain,
+    entries: &Entries,
+    comps: &Comps<Comp>,
+) -> Result<Graph, NoMemory>
+    requires machine { IsMachine machine.now }
+    requires plain { IsPlainOf machine.now plain.now }
+    requires components { AreComponents machine.now comps.now }
+    requires free { All (λ c. free_of c ≤ 2 ^ 56) comps.now }
+    requires cores { All (λ e. e.core < machine.now.cores) entries.now }
+    requires starts { All (λ e. e.start ≤ 2 ^ 36) entries.now }
+    requires few { length entries.now ≤ 2 ^ 20 }
+    ensures { IfOk result (AreEventsOf machine.now comps.now entries.now) }
+{
+    event_graph::laws::plain_graphs_fit();
+    event_graph::laws::plain_accesses_have_few_events();
+    event_graph::laws::events_are_counted::<Plain>();
+    event_graph::laws::events_keep_their_cores::<Plain>();
+    event_graph::laws::events_begin_with_their_accesses::<Plain>();
+    event_graph::laws::machine_steps_stay_small();
+    let graph = build(alloc, plain, entries, machine.cores)?;
+    // Its events are numbered in order, as the type keeps.
+    let _numbered = graph.events();
+    Ok(graph)
+}
