@@ -1,8 +1,11 @@
-// Texts that are longer than any that a run writes here.
-use crate::Status;
+// The longest lines on standard error, and a run that is recorded.
 use crate::error_line::error_line;
+use crate::{Ended, Status, zsim};
 use elf_load::BadElf;
+use std::alloc::Global;
 use std::test::Fail;
+use zs_host::{Files, MemFiles, MemSink, OpenGate};
+use zs_num::NoMemory;
 
 #[test]
 fn the_longest_error_lines_are_written_whole(rt: HostRuntime) -> Result<(), Fail> {
@@ -18,5 +21,43 @@ fn the_longest_error_lines_are_written_whole(rt: HostRuntime) -> Result<(), Fail
         usage.as_str(),
         "zsim: usage: zsim run MACHINE EXE [--workers N] [--record NAME] [--brief] or zsim replay MACHINE EXE --schedule NAME [--brief]\n"
     );
+    Ok(())
+}
+
+// The answer of a call, and what it wrote.
+#[derive(Drop)]
+struct Called {
+    ended: Ended,
+    out: MemSink,
+    err: MemSink,
+}
+
+fn call(alloc: Global, words: &[&str], files: &mut MemFiles) -> Result<Called, NoMemory> {
+    let mut out = MemSink::new(alloc, usize::MAX, &[])?;
+    let mut err = MemSink::new(alloc, usize::MAX, &[])?;
+    let mut owned = Vec::new(alloc);
+    for word in words {
+        owned.push(String::from_str(alloc, word)?)?;
+    }
+    let ended = zsim(alloc, &owned, files, &mut out, &mut err, &OpenGate);
+    Ok(Called { ended, out, err })
+}
+
+#[test]
+fn a_run_with_record_writes_its_schedule(rt: HostRuntime) -> Result<(), Fail> {
+    let alloc = rt.alloc();
+    let mut files = MemFiles::new(alloc, &[])?;
+    let ran = call(
+        alloc,
+        &["run", "plain", "gen:5", "--record", "s"],
+        &mut files,
+    )?;
+    assert_eq!(rt; ran.ended.status.number(), 0);
+    let file = files.read(alloc, "s", usize::MAX);
+    let Ok(file) = file else {
+        return Err(Fail);
+    };
+    let expected = schedule_file::write(alloc, &ran.ended.kept.schedule)?;
+    assert_eq!(rt; file.as_slice(), expected.as_slice());
     Ok(())
 }
