@@ -4,7 +4,7 @@ use crate::{Ended, Status, zsim};
 use elf_load::BadElf;
 use std::alloc::Global;
 use std::test::Fail;
-use zs_host::{Files, MemFiles, MemSink, OpenGate};
+use zs_host::{FileFail, Files, MemFiles, MemSink, OpenGate};
 use zs_num::NoMemory;
 
 #[test]
@@ -53,11 +53,27 @@ fn a_run_with_record_writes_its_schedule(rt: HostRuntime) -> Result<(), Fail> {
         &mut files,
     )?;
     assert_eq!(rt; ran.ended.status.number(), 0);
-    let file = files.read(alloc, "s", usize::MAX);
-    let Ok(file) = file else {
-        return Err(Fail);
-    };
+    let file = files.read(alloc, "s", usize::MAX)?;
     let expected = schedule_file::write(alloc, &ran.ended.kept.schedule)?;
     assert_eq!(rt; file.as_slice(), expected.as_slice());
+    Ok(())
+}
+
+// The write is the first call on the files here, since neither input has a file.
+#[test]
+fn a_schedule_that_cannot_be_written_leaves_the_report_whole(rt: HostRuntime) -> Result<(), Fail> {
+    let alloc = rt.alloc();
+    let mut files = MemFiles::new(alloc, &[0])?;
+    let failed = call(
+        alloc,
+        &["run", "plain", "gen:5", "--record", "s"],
+        &mut files,
+    )?;
+    assert_eq!(rt; failed.ended.status.number(), 5);
+    assert_eq!(rt; failed.err.bytes(), b"zsim: cannot write\n".as_slice());
+    let whole = call(alloc, &["run", "plain", "gen:5"], &mut files)?;
+    assert_eq!(rt; whole.ended.status.number(), 0);
+    assert_eq!(rt; failed.out.bytes(), whole.out.bytes());
+    assert_eq!(rt; files.read(alloc, "s", 1).err(), Some(FileFail::Failed));
     Ok(())
 }
