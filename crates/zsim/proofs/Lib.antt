@@ -1,5 +1,6 @@
+pub mod Endings
+pub mod FilesSoFar
 pub mod Numbers
-pub mod Outcome
 pub mod Pieces
+pub mod RunsAs
 pub mod SimpleOptions
-pub mod TwoReads

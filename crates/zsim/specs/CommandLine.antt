@@ -1,16 +1,18 @@
 -- The command that a list of words stands for. The words are those after the program's name, as bytes.
-use Rattle.std.specs.Prelude.{ℕ, ◌^◌, nat_eq, nat_le, nat_lt, Bool, false, not, ◌&&◌, ◌||◌, if◌then◌else◌, List, [], ◌∷◌, drop, codes, Option, Some, None, is_some, option_map, option_and_then}
+use Rattle.std.specs.Prelude.{ℕ, ◌^◌, nat_eq, nat_le, nat_lt, Bool, false, not, ◌&&◌, ◌||◌, if◌then◌else◌, List, [], ◌∷◌, drop, codes, Option, Some, None, option_map, option_and_then}
 use Rattle.std.specs.Char.{is_ascii_digit}
 use Rattle.std.specs.List.{list_all, starts_with}
 use Rattle.std.specs.Option.{option_map_or}
 use Rattle.std.specs.Str.{bytes_eq}
 use Rattle.std.specs.Str.Parse.{digits_value}
 use Rattle.clap.specs.Walk.{is_empty}
-use Rattle.clap.specs.Words.{Row, first_of}
+use Rattle.clap.specs.Words.{App, Row, first_of}
 use Rattle.zsim.specs.declared.command_line.Asked.{Asked as ToldAsked}
 use Rattle.zsim.specs.declared.command_line.Command.{Command as ToldCommand}
 use Rattle.zsim.specs.declared.command_line.Exe.{Exe as ToldExe}
-use Rattle.zsim.specs.declared.command_line.Exe.TheVariants as told
+use Rattle.zsim.specs.declared.command_line.Exe.TheVariants as told_exe
+use Rattle.zsim.specs.declared.command_line.Task.{Task as ToldTask}
+use Rattle.zsim.specs.declared.command_line.Task.TheVariants as told_task
 use Rattle.zsim.specs.Options.{matched_by, replay_options, run_options}
 
 -- what is to be executed: a file of this name, or the program that the generator makes of a number
@@ -18,17 +20,19 @@ pub data Exe : Type 0 where
   file : List ℕ → Exe
   generated : ℕ → Exe
 
--- what the words ask for: a run, or a replay of a schedule
+-- what is to be done with the executable
+pub data Task : Type 0 where
+  -- It is run, by so many threads. The schedule of the run may be written to the file of this name.
+  run : (workers : ℕ) → (record_to : Option (List ℕ)) → Task
+  -- it is run under the schedule of the file of this name
+  replay : (schedule : List ℕ) → Task
+
+-- What the words ask for. The number of threads has no part in what is answered.
 pub record Asked : Type 0 where
   -- the name of the machine's file, or None for the built-in machine
   pub machine : Option (List ℕ)
   pub exe : Exe
-  -- how many threads are to do the work
-  pub workers : ℕ
-  -- the name of the file for the schedule of a run
-  pub record_to : Option (List ℕ)
-  -- the name of the schedule that is replayed
-  pub schedule : Option (List ℕ)
+  pub task : Task
   -- only the summary is reported
   pub brief : Bool
 
@@ -36,25 +40,34 @@ pub record Asked : Type 0 where
 pub record Command : Type 0 where
   pub machine : Option (List ℕ)
   pub exe : Exe
+  -- the name of the file to which its schedule is to be written
+  pub record_to : Option (List ℕ)
   pub brief : Bool
 
 -- the same as the code keeps them, by references to the words
 abbrev pub exe_told : ToldExe → Exe
-exe_told (told.File name) = file name.now
-exe_told (told.Generated n) = generated n
+exe_told (told_exe.File name) = file name.now
+exe_told (told_exe.Generated n) = generated n
+
+abbrev pub task_told : ToldTask → Task
+task_told (told_task.Run workers record_to) = run workers (option_map (λ name. name.now) record_to)
+task_told (told_task.Replay schedule) = replay schedule.now
 
 abbrev pub asked_told : ToldAsked → Asked
 asked_told a = record {
   machine = option_map (λ name. name.now) a.machine;
   exe = exe_told a.exe;
-  workers = a.workers;
-  record_to = option_map (λ name. name.now) a.record_to;
-  schedule = option_map (λ name. name.now) a.schedule;
+  task = task_told a.task;
   brief = a.brief;
 }
 
 abbrev pub command_told : ToldCommand → Command
-command_told c = record { machine = option_map (λ name. name.now) c.machine; exe = exe_told c.exe; brief = c.brief }
+command_told c = record {
+  machine = option_map (λ name. name.now) c.machine;
+  exe = exe_told c.exe;
+  record_to = option_map (λ name. name.now) c.record_to;
+  brief = c.brief;
+}
 
 -- decimal digits, without a leading zero
 unfoldable pub is_decimal : List ℕ → Bool
@@ -82,43 +95,50 @@ unfoldable pub workers_of : Option (List ℕ) → Option ℕ
 workers_of None = Some 1
 workers_of (Some word) = option_and_then up_to_64 (number_of word)
 
-abbrev pub asked_with : Option (List ℕ) → Option Exe → Option ℕ → List Row → Option Asked
-asked_with (Some machine) (Some exe) (Some workers) rows = Some (record {
+-- a run has a number of workers, and the name of a file for its schedule if one is given
+abbrev pub run_of : List Row → Option Task
+run_of rows = option_map (λ workers. run workers (first_of (codes "record") rows)) (workers_of (first_of (codes "workers") rows))
+
+abbrev pub replay_of : List Row → Option Task
+replay_of rows = option_map replay (first_of (codes "schedule") rows)
+
+abbrev pub asked_with : (machine : Option (List ℕ)) → Option Exe → Option Task → (brief : Option (List ℕ)) → Option Asked
+asked_with (Some machine) (Some exe) (Some task) brief = Some (record {
   machine = machine_of machine;
   exe = exe;
-  workers = workers;
-  record_to = first_of (codes "record") rows;
-  schedule = first_of (codes "schedule") rows;
-  brief = option_map_or (bytes_eq (codes "true")) (first_of (codes "brief") rows) false;
+  task = task;
+  brief = option_map_or (bytes_eq (codes "true")) brief false;
 })
-asked_with _ _ _ rows = None
+asked_with _ _ _ brief = None
 
--- what the matched words ask for, where their values are well formed
-unfoldable pub asked_by : List Row → Option Asked
-asked_by rows = asked_with (first_of (codes "machine") rows) (option_and_then exe_of (first_of (codes "exe") rows)) (workers_of (first_of (codes "workers") rows)) rows
+-- what the matched words ask for beside a task, where their values are well formed
+unfoldable pub asked_by : List Row → Option Task → Option Asked
+asked_by rows task =
+    asked_with (first_of (codes "machine") rows) (option_and_then exe_of (first_of (codes "exe") rows)) task (first_of (codes "brief") rows)
 
--- what the words ask for, where they are a command
+-- what words ask for which `clap` is to match with these options
+abbrev pub asked_after : App → (task_of : List Row → Option Task) → List (List ℕ) → Option Asked
+asked_after options task_of words = option_and_then (λ rows. asked_by rows (task_of rows)) (matched_by options words)
+
+-- what the words ask for, where they are well formed
 unfoldable pub asked_of : List (List ℕ) → Option Asked
 asked_of [] = None
 asked_of (verb ∷ words) =
-    if bytes_eq verb (codes "run") then option_and_then asked_by (matched_by run_options words)
-    else if bytes_eq verb (codes "replay") then option_and_then asked_by (matched_by replay_options words)
+    if bytes_eq verb (codes "run") then asked_after run_options run_of words
+    else if bytes_eq verb (codes "replay") then asked_after replay_options replay_of words
     else None
 
--- What can be done of what the words ask for: a run whose schedule is not written to a file. Its number of workers has no
--- part in what it answers.
+-- What can be done of what the words ask for: a run. A replay cannot be carried out yet.
+abbrev pub runnable_as : Asked → Task → Option Command
+runnable_as asked (run workers record_to) = Some (record { machine = asked.machine; exe = asked.exe; record_to = record_to; brief = asked.brief })
+runnable_as asked (replay schedule) = None
+
 abbrev pub runnable : Asked → Option Command
-runnable asked =
-    if is_some asked.record_to || is_some asked.schedule then None
-    else Some (record { machine = asked.machine; exe = asked.exe; brief = asked.brief })
+runnable asked = runnable_as asked asked.task
 
 -- the command that the words are, if they are one that can be carried out
 unfoldable pub command_of : List (List ℕ) → Option Command
 command_of words = option_and_then runnable (asked_of words)
-
--- the words ask for the summary alone
-abbrev pub is_brief : List (List ℕ) → Bool
-is_brief words = option_map_or (λ command. command.brief) (command_of words) false
 
 -- the name of the executable's file, if it has one
 abbrev pub exe_file : Exe → Option (List ℕ)

@@ -1,23 +1,34 @@
--- What the answer of a call tells: each status with its cause, what was kept, and what was written.
-use Rattle.std.specs.Prelude.{◌≡◌, ◌⊎◌, ℕ, Bool, if◌then◌else◌, List, [], Option, Some, None, IsSomeAnd, IsOk, IsOkAnd, Ok, Err, MatchResult}
+-- What the answer of a call tells whose words are a command: what was kept, the cause of each status, and what was written
+-- to standard output and to the file of a schedule. And what it says on standard error.
+use Rattle.std.specs.Prelude.{◌≡◌, ◌⊎◌, ℕ, Bool, if◌then◌else◌, List, [], Option, Some, None, IsSomeAnd, IsOk, IsOkAnd, Ok, Err, MatchOption, MatchResult}
+use Rattle.access_log.specs.Schedule.{IntervalLists}
 use Rattle.machine_desc.specs.declared.machine.Machine.{Machine}
 use Rattle.machine_desc.specs.declared.plain.TheConstants.{PLAIN}
-use Rattle.elf_write.specs.File.{file_of}
+use Rattle.elf_write.specs.File.{file_of as executable_of}
 use Rattle.gen_prog.specs.Generated.{generated_image}
 use Rattle.replay.specs.ReferenceRun.{IsLegalSoFar, IsRunOf}
 use Rattle.replay.specs.Results.{Results}
+use Rattle.schedule_file.specs.ScheduleFile.{file_of}
 use Rattle.zsim.specs.declared.ended.Kept.{Kept}
 use Rattle.zsim.specs.declared.ended.Said.{Said}
 use Rattle.zsim.specs.declared.ended.Said.TheVariants as said
 use Rattle.zsim.specs.declared.ended.Status.{Status}
 use Rattle.zsim.specs.declared.ended.Status.TheVariants as status
 use Rattle.zsim.specs.declared.ended.Which.TheVariants as which
-use Rattle.zsim.specs.CommandLine.{Command, Exe, command_of, exe_file, file, generated, is_brief}
+use Rattle.zsim.specs.CommandLine.{Command, Exe, exe_file, file, generated}
 use Rattle.zsim.specs.ErrorLine.{error_line}
 use Rattle.zsim.specs.Limits.{exe_limit, machine_limit}
 use Rattle.zsim.specs.Report.{report_of}
-use Rattle.zsim.specs.Seen.{FilesSeen, Seen, SinkSeen, FailedToReadInput, FileFailed, Gained, GainedNothing, GainedPrefix, NoFileFailed, NoPutFailed, PutFailed, SameNames, WasRead}
+use Rattle.zsim.specs.Seen.{FilesSeen, SinkSeen, FailedToReadInput, FailedToWrite, FileFailed, Gained, GainedNothing, GainedPrefix, NoFileFailed, NoPutFailed, PutFailed, SameNames, WasCut, WasRead, WasWritten}
 use Rattle.zsim.specs.Setup.{Setup, machine_by, setup_of}
+
+-- The command of a call, and what it saw of its files and of standard output. Standard error stands apart.
+pub record Seen : Type 0 where
+  pub command : Command
+  pub files : FilesSeen
+  pub out : SinkSeen
+
+-- ---- what is kept
 
 -- this text of a machine is that of its file, or the built-in one
 abbrev pub IsMachineText : FilesSeen → Option (List ℕ) → List ℕ → Type 0
@@ -27,69 +38,65 @@ IsMachineText files (Some name) text = WasRead files name machine_limit text
 -- these bytes of an executable are those of its file, or the program that is generated for this machine
 abbrev pub IsExeOf : FilesSeen → Machine → Exe → List ℕ → Type 0
 IsExeOf files machine (file name) bytes = WasRead files name exe_limit bytes
-IsExeOf files machine (generated n) bytes = bytes ≡ file_of (generated_image n machine.memory.base)
+IsExeOf files machine (generated n) bytes = bytes ≡ executable_of (generated_image n machine.memory.base)
 
--- What is kept: nothing yet, the text of the machine, or this and the executable.
+-- no interval yet, for so many cores
+abbrev pub no_intervals : (cores : ℕ) → IntervalLists
+no_intervals cores = record { cores = cores; lists = [] }
+
+-- nothing was read
 pub record KeepsNothing (kept : Kept) : Type 0 where
   pub machine : kept.machine ≡ []
   pub exe : kept.exe ≡ []
-  pub lists : kept.schedule.lists ≡ []
+  pub sched_file : kept.sched_file ≡ []
+  pub schedule : kept.schedule ≡ no_intervals 0
 
-pub record KeepsMachine (seen : Seen) (kept : Kept) : Type 0 where
-  pub machine : IsSomeAnd (command_of seen.words) (λ command. IsMachineText seen.files command.machine kept.machine)
+-- the text of the machine was read
+pub record KeepsText (seen : Seen) (kept : Kept) : Type 0 where
+  pub machine : IsMachineText seen.files seen.command.machine kept.machine
   pub exe : kept.exe ≡ []
-  pub lists : kept.schedule.lists ≡ []
+  pub sched_file : kept.sched_file ≡ []
+  pub schedule : kept.schedule ≡ no_intervals 0
 
-pub record KeepsInputs (seen : Seen) (kept : Kept) : Type 0 where
-  pub machine : IsSomeAnd (command_of seen.words) (λ command. IsMachineText seen.files command.machine kept.machine)
-  pub exe : IsSomeAnd (command_of seen.words) (λ command. IsOkAnd (machine_by kept.machine) (λ machine. IsExeOf seen.files machine command.exe kept.exe))
+-- and it passed its checks
+pub record KeepsMachine (seen : Seen) (kept : Kept) : Type 0 where
+  pub machine : IsMachineText seen.files seen.command.machine kept.machine
+  pub exe : kept.exe ≡ []
+  pub sched_file : kept.sched_file ≡ []
+  pub schedule : IsOkAnd (machine_by kept.machine) (λ machine. kept.schedule ≡ no_intervals machine.cores)
 
--- It goes as far as the steps that were reached. Where the schedule has an interval, the inputs are kept.
+-- and the executable was read
+pub record KeepsExe (seen : Seen) (kept : Kept) : Type 0 where
+  pub machine : IsMachineText seen.files seen.command.machine kept.machine
+  pub exe : IsOkAnd (machine_by kept.machine) (λ machine. IsExeOf seen.files machine seen.command.exe kept.exe)
+  pub sched_file : kept.sched_file ≡ []
+  pub cores : IsOkAnd (machine_by kept.machine) (λ machine. kept.schedule.cores ≡ machine.cores)
+
+-- what is kept goes as far as the steps that were reached
 abbrev pub Keeps : Status → Seen → Kept → Type 0
-Keeps status.Usage seen kept = KeepsNothing kept
+Keeps status.Ran seen kept = KeepsExe seen kept
+Keeps status.Limit seen kept = KeepsExe seen kept
+Keeps status.Usage seen kept = ⊥
 Keeps status.ReadFault seen kept = KeepsNothing kept ⊎ KeepsMachine seen kept
-Keeps status.NoMemory seen kept = KeepsNothing kept ⊎ KeepsMachine seen kept ⊎ KeepsInputs seen kept
-Keeps status.Ran seen kept = KeepsInputs seen kept
-Keeps status.Limit seen kept = KeepsInputs seen kept
-Keeps status.WriteFault seen kept = KeepsInputs seen kept
-Keeps (status.BadMachine bad) seen kept = KeepsMachine seen kept
-Keeps (status.BadElf bad) seen kept = KeepsInputs seen kept
-Keeps (status.TooLong which.Machine) seen kept = KeepsMachine seen kept
-Keeps (status.TooLong which.Exe) seen kept = KeepsInputs seen kept
+Keeps status.WriteFault seen kept = KeepsExe seen kept
+Keeps (status.BadMachine bad) seen kept = KeepsText seen kept
+Keeps (status.BadElf bad) seen kept = KeepsExe seen kept
+Keeps (status.TooLong which.Machine) seen kept = KeepsText seen kept
+Keeps (status.TooLong which.Exe) seen kept = KeepsExe seen kept
+Keeps status.NoMemory seen kept = KeepsNothing kept ⊎ KeepsText seen kept ⊎ KeepsMachine seen kept ⊎ KeepsExe seen kept
 
--- no file and no put failed
-pub record NothingFailed (seen : Seen) : Type 0 where
-  pub files : NoFileFailed seen.files
-  pub out : NoPutFailed seen.out
-
--- A read failed: that of the machine's file, before anything was kept; or that of the executable, for a machine that
--- passed its checks.
-abbrev pub CouldNotRead : FilesSeen → Kept → Command → Type 0
-CouldNotRead files kept command =
-    (KeepsNothing kept × FailedToReadInput files command.machine) ⊎ (IsOk (machine_by kept.machine) × FailedToReadInput files (exe_file command.exe))
-
--- The cause of each status. A fault that was counted is always told: no other status comes where one was.
-abbrev pub HasCause : Status → Seen → Kept → Type 0
-HasCause status.Usage seen kept = (setup_of seen.words kept ≡ Err status.Usage) × NothingFailed seen
-HasCause status.ReadFault seen kept = IsSomeAnd (command_of seen.words) (CouldNotRead seen.files kept) × NoPutFailed seen.out
-HasCause (status.TooLong which) seen kept = (setup_of seen.words kept ≡ Err (status.TooLong which)) × NothingFailed seen
-HasCause (status.BadMachine bad) seen kept = (setup_of seen.words kept ≡ Err (status.BadMachine bad)) × NothingFailed seen
-HasCause (status.BadElf bad) seen kept = (setup_of seen.words kept ≡ Err (status.BadElf bad)) × NothingFailed seen
-HasCause status.WriteFault seen kept = IsOk (setup_of seen.words kept) × NoFileFailed seen.files × PutFailed seen.out
-HasCause status.Ran seen kept = IsOk (setup_of seen.words kept) × NothingFailed seen
-HasCause status.Limit seen kept = IsOk (setup_of seen.words kept) × NothingFailed seen
-HasCause status.NoMemory seen kept = NothingFailed seen
+-- ---- the run, and its report
 
 -- what the run of the kept inputs gives under the kept schedule
-pub record Gives (words : List (List ℕ)) (kept : Kept) (results : Results) : Type 0 where
+pub record Gives (kept : Kept) (results : Results) : Type 0 where
   pub setup : Setup
-  pub is : setup_of words kept ≡ Ok setup
+  pub is : setup_of kept ≡ Ok setup
   pub run : IsRunOf setup.machine setup.image kept.schedule.lists results
 
--- the kept schedule is legal for the run of the kept inputs as far as it goes
-pub record IsStopped (words : List (List ℕ)) (kept : Kept) : Type 0 where
+-- the run stopped in an interval, and the kept schedule is legal as far as it goes
+pub record IsStopped (kept : Kept) : Type 0 where
   pub setup : Setup
-  pub is : setup_of words kept ≡ Ok setup
+  pub is : setup_of kept ≡ Ok setup
   pub run : IsLegalSoFar setup.machine setup.image kept.schedule.lists
 
 -- the status of a run that was reported whole
@@ -99,55 +106,107 @@ status_at limit = if limit then status.Limit else status.Ran
 -- standard output gained the whole report of the run, whose end the status tells
 abbrev pub IsReported : Status → Seen → Kept → Type 0
 IsReported s seen kept =
-    (r : Results) × (run : Gives seen.words kept r) × (s ≡ status_at r.limit) × Gained seen.out (report_of run.setup.machine (is_brief seen.words) r)
+    (r : Results) × (run : Gives kept r) × (s ≡ status_at r.limit) × Gained seen.out (report_of run.setup.machine seen.command.brief r)
 
--- it gained a prefix of the report
+-- the run came to its end, and standard output gained nothing of the report
+abbrev pub IsUnreported : Seen → Kept → Type 0
+IsUnreported seen kept = ((r : Results) × Gives kept r) × GainedNothing seen.out
+
+-- standard output gained a part of the report, from its front
 abbrev pub IsCut : Seen → Kept → Type 0
-IsCut seen kept =
-    (r : Results) × (run : Gives seen.words kept r) × GainedPrefix seen.out (report_of run.setup.machine (is_brief seen.words) r)
+IsCut seen kept = (r : Results) × (run : Gives kept r) × GainedPrefix seen.out (report_of run.setup.machine seen.command.brief r)
 
+-- standard output gained the whole report, but what was to follow failed
+abbrev pub IsWhole : Seen → Kept → Type 0
+IsWhole seen kept = (r : Results) × (run : Gives kept r) × Gained seen.out (report_of run.setup.machine seen.command.brief r)
+
+-- the kept schedule was written to the file that the command names for it, if it names one
+abbrev pub IsRecorded : Seen → Kept → Type 0
+IsRecorded seen kept = MatchOption (seen.command.record_to) (SameNames seen.files) (λ name. WasWritten seen.files name (file_of kept.schedule))
+
+-- the command names a file for the schedule, and its writing was cut short
+abbrev pub IsRecordCut : Seen → Kept → Type 0
+IsRecordCut seen kept = IsSomeAnd (seen.command.record_to) (λ name. WasCut seen.files name (file_of kept.schedule))
+
+-- ---- the cause of each status
+
+-- no file and no put failed
+pub record NothingFailed (seen : Seen) : Type 0 where
+  pub files : NoFileFailed seen.files
+  pub out : NoPutFailed seen.out
+
+-- A read failed: that of the machine's file, before anything was kept; or that of the executable, for a machine that
+-- passed its checks.
+abbrev pub CouldNotRead : Seen → Kept → Type 0
+CouldNotRead seen kept =
+    (KeepsNothing kept × FailedToReadInput seen.files seen.command.machine) ⊎ (KeepsMachine seen kept × FailedToReadInput seen.files (exe_file seen.command.exe))
+
+-- A put failed, or else the write of the schedule's file.
+abbrev pub CouldNotWrite : Seen → Type 0
+CouldNotWrite seen = (NoFileFailed seen.files × PutFailed seen.out) ⊎ (IsSomeAnd (seen.command.record_to) (FailedToWrite seen.files) × NoPutFailed seen.out)
+
+-- A fault that was counted is always told: no other status comes where one was.
+abbrev pub HasCause : Status → Seen → Kept → Type 0
+HasCause status.Ran seen kept = IsOk (setup_of kept) × NothingFailed seen
+HasCause status.Limit seen kept = IsOk (setup_of kept) × NothingFailed seen
+HasCause status.Usage seen kept = ⊥
+HasCause status.ReadFault seen kept = CouldNotRead seen kept × NoPutFailed seen.out
+HasCause status.WriteFault seen kept = IsOk (setup_of kept) × CouldNotWrite seen
+HasCause (status.BadMachine bad) seen kept = (setup_of kept ≡ Err (status.BadMachine bad)) × NothingFailed seen
+HasCause (status.BadElf bad) seen kept = (setup_of kept ≡ Err (status.BadElf bad)) × NothingFailed seen
+HasCause (status.TooLong which) seen kept = (setup_of kept ≡ Err (status.TooLong which)) × NothingFailed seen
+HasCause status.NoMemory seen kept = NothingFailed seen
+
+-- ---- what was written
+
+-- Standard output gained nothing, and the kept schedule has no interval: no run was begun.
+abbrev pub IsNotBegun : Seen → Kept → Type 0
+IsNotBegun seen kept = (kept.schedule.lists ≡ []) × GainedNothing seen.out
+
+-- What standard output gained. Where memory ran out, that was before the run, in an interval, behind it, in a put, or when
+-- the report was whole.
 abbrev pub Reports : Status → Seen → Kept → Type 0
 Reports status.Ran seen kept = IsReported status.Ran seen kept
 Reports status.Limit seen kept = IsReported status.Limit seen kept
-Reports _ seen kept = Unit {0}
+Reports status.Usage seen kept = ⊥
+Reports status.ReadFault seen kept = IsNotBegun seen kept
+Reports status.WriteFault seen kept = (PutFailed seen.out × IsCut seen kept) ⊎ (FileFailed seen.files × IsWhole seen kept)
+Reports (status.BadMachine bad) seen kept = IsNotBegun seen kept
+Reports (status.BadElf bad) seen kept = IsNotBegun seen kept
+Reports (status.TooLong which) seen kept = IsNotBegun seen kept
+Reports status.NoMemory seen kept = IsNotBegun seen kept ⊎ (IsStopped kept × GainedNothing seen.out) ⊎ IsUnreported seen kept ⊎ IsCut seen kept ⊎ IsWhole seen kept
 
--- What standard output gained, and what the schedule is, where the report is not whole. Where memory ran out, that was
--- before the first interval, in an interval or before the first put, or in a put.
-abbrev pub Leaves : Status → Seen → Kept → Type 0
-Leaves status.Ran seen kept = Unit {0}
-Leaves status.Limit seen kept = Unit {0}
-Leaves status.WriteFault seen kept = IsCut seen kept
-Leaves status.NoMemory seen kept = (((kept.schedule.lists ≡ []) ⊎ IsStopped seen.words kept) × GainedNothing seen.out) ⊎ IsCut seen kept
-Leaves status.Usage seen kept = (kept.schedule.lists ≡ []) × GainedNothing seen.out
-Leaves status.ReadFault seen kept = (kept.schedule.lists ≡ []) × GainedNothing seen.out
-Leaves (status.BadMachine bad) seen kept = (kept.schedule.lists ≡ []) × GainedNothing seen.out
-Leaves (status.BadElf bad) seen kept = (kept.schedule.lists ≡ []) × GainedNothing seen.out
-Leaves (status.TooLong which) seen kept = (kept.schedule.lists ≡ []) × GainedNothing seen.out
+-- Which names changed: none but that of the schedule's file, and this one not before the report was whole.
+abbrev pub Records : Status → Seen → Kept → Type 0
+Records status.Ran seen kept = IsRecorded seen kept
+Records status.Limit seen kept = IsRecorded seen kept
+Records status.WriteFault seen kept = (PutFailed seen.out × SameNames seen.files) ⊎ (FileFailed seen.files × IsWhole seen kept × IsRecordCut seen kept)
+Records status.NoMemory seen kept = SameNames seen.files ⊎ (IsWhole seen kept × IsRecordCut seen kept)
+Records _ seen kept = SameNames seen.files
 
--- Where nothing failed, the inputs decide: the whole report of their run or their refusal, unless memory ran out.
+-- ---- all of it
+
+-- Where nothing failed, the inputs decide: their run is reported and recorded, or they are refused, unless memory ran out.
 abbrev pub IsDecided : Status → Seen → Kept → Type 0
-IsDecided s seen kept =
-    (s ≡ status.NoMemory) ⊎ MatchResult (setup_of seen.words kept) (λ setup. IsReported s seen kept) (λ refusal. s ≡ refusal)
+IsDecided s seen kept = (s ≡ status.NoMemory) ⊎ MatchResult (setup_of kept) (λ setup. IsReported s seen kept × IsRecorded seen kept) (λ refusal. s ≡ refusal)
 
--- What a status and what was kept tell of the call. Nothing of it reads standard error, which has no say in the status.
-pub record IsOutcome (seen : Seen) (s : Status) (k : Kept) : Type 0 where
-  -- Usage comes exactly where the words are no command, unless memory ran out
-  pub usage : s ≡ status.Usage → command_of seen.words ≡ None
-  pub no_command : command_of seen.words ≡ None → (s ≡ status.Usage) ⊎ (s ≡ status.NoMemory)
+-- How a call ended whose words are a command: what its status and what it kept tell. Nothing of it reads standard error,
+-- which has no say in the status.
+pub record HasEnded (seen : Seen) (s : Status) (k : Kept) : Type 0 where
   -- what was read is kept
   pub kept : Keeps s seen k
-  pub kept_sched_file : k.sched_file ≡ []
-  pub kept_cores : k.schedule.cores ≡ 1
   -- each status has its cause, and each fault its status
   pub refusals : HasCause s seen k
   -- the report is that of the one-thread machine under the kept schedule
   pub report : Reports s seen k
-  -- where the report is not whole, standard output gained nothing or a prefix of it
-  pub prefix : Leaves s seen k
-  -- no name changes
-  pub files : SameNames seen.files
+  -- the kept schedule is written where the command says so, and nothing else is
+  pub files : Records s seen k
   -- where no file and no put failed, the inputs decide
   pub complete : ¬ FileFailed seen.files → ¬ PutFailed seen.out → IsDecided s seen k
+
+-- where the words are no command, nothing was read, and the status says so, unless memory ran out
+abbrev pub IsNoCommand : Status → Kept → Type 0
+IsNoCommand s kept = ((s ≡ status.Usage) ⊎ (s ≡ status.NoMemory)) × KeepsNothing kept
 
 -- What was said on standard error: the whole line of the status, or a prefix of it where the stream failed or memory ran
 -- out. A fault that was counted is always told.

@@ -1,9 +1,10 @@
 -- What a call saw of the world outside it: files by name and streams that take bytes, before and after it.
-use Rattle.std.specs.Prelude.{◌≡◌, ℕ, ◌+◌, ◌<◌, ◌≤◌, Bool, IsTrue, List, ◌++◌, length, take, Option, Some, None}
+use Rattle.std.specs.Prelude.{◌≡◌, ◌≢◌, ℕ, ◌+◌, ◌<◌, ◌≤◌, Bool, IsTrue, List, ◌++◌, length, take, Option, Some, None}
 use Rattle.std.specs.Option.{option_map}
 use Rattle.zs_host.specs.Faults.{Rose}
 use Rattle.zs_host.specs.declared.fault.Fault.{Fault}
-use Rattle.zs_host.specs.declared.fault.Operation.TheVariants.{Read}
+use Rattle.zs_host.specs.declared.fault.Operation.TheVariants.{Read, Write}
+use Rattle.zs_host.specs.Files.{HoldsOrCut}
 
 pub record FilesSeen : Type 0 where
   -- whether they tell what their names hold
@@ -26,12 +27,6 @@ pub record SinkSeen : Type 0 where
   -- how many puts had failed
   pub faults_before : ℕ
   pub faults_after : ℕ
-
--- The words of a call, its files and its standard output. Standard error stands apart.
-pub record Seen : Type 0 where
-  pub words : List (List ℕ)
-  pub files : FilesSeen
-  pub out : SinkSeen
 
 -- what files of any type tell before and after a call
 abbrev pub files_seen : {F : Type 0} → (tells : Bool) → (contents : F → List ℕ → Option (List ℕ)) → (faults : F → ℕ) → (latest : F → Option Fault) → (before after : F) → FilesSeen
@@ -59,6 +54,16 @@ sink_seen tells bytes faults before after = record {
 abbrev pub SameNames : FilesSeen → Type 0
 SameNames files = IsTrue files.tells → (name : List ℕ) → files.held_after name ≡ files.held_before name
 
+-- a name was made to hold these bytes, and no other name changed
+pub record WasWritten (files : FilesSeen) (name bytes : List ℕ) : Type 0 where
+  pub held : IsTrue files.tells → files.held_after name ≡ Some bytes
+  pub others : IsTrue files.tells → (other : List ℕ) → other ≢ name → files.held_after other ≡ files.held_before other
+
+-- it holds what it held, or the first of these bytes, and no other name changed
+pub record WasCut (files : FilesSeen) (name bytes : List ℕ) : Type 0 where
+  pub held : IsTrue files.tells → HoldsOrCut (files.held_before name) bytes (files.held_after name)
+  pub others : IsTrue files.tells → (other : List ℕ) → other ≢ name → files.held_after other ≡ files.held_before other
+
 -- no call on the files failed
 pub record NoFileFailed (files : FilesSeen) : Type 0 where
   pub faults : files.faults_after ≡ files.faults_before
@@ -72,6 +77,11 @@ FileFailed files = Rose files.faults_before files.faults_after
 pub record FailedToRead (files : FilesSeen) (name : List ℕ) : Type 0 where
   pub failed : FileFailed files
   pub latest : files.latest_after ≡ Some (record { operation = Read; name = name })
+
+-- a call on the files failed, and the latest that did was to write to this name
+pub record FailedToWrite (files : FilesSeen) (name : List ℕ) : Type 0 where
+  pub failed : FileFailed files
+  pub latest : files.latest_after ≡ Some (record { operation = Write; name = name })
 
 -- these are the first bytes that the name held, up to a limit and one byte more
 pub record WasRead (files : FilesSeen) (name : List ℕ) (limit : ℕ) (bytes : List ℕ) : Type 0 where

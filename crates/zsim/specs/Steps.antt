@@ -1,65 +1,95 @@
 -- What the private steps of a call promise to the call. It serves their contracts alone: no clause of a public function
 -- cites it.
-use Rattle.std.specs.Prelude.{◌≡◌, ◌⊎◌, ℕ, Bool, List, [], Option, Result, Ok, Err}
+use Rattle.std.specs.Prelude.{◌≡◌, ◌⊎◌, ℕ, Bool, List, [], Option, Some, None, Result, Ok, Err, IsSomeAnd, MatchOption, option_map}
+use Rattle.access_log.specs.Schedule.{IntervalLists}
 use Rattle.elf_load.specs.MemoryImage.{MemoryImage}
 use Rattle.machine_desc.specs.declared.machine.Machine.{Machine}
 use Rattle.replay.specs.ReferenceRun.{IsLegalSoFar, IsRunOf}
 use Rattle.replay.specs.Results.{Results}
+use Rattle.schedule_file.specs.ScheduleFile.{file_of}
 use Rattle.zs_host.specs.declared.files.FileFail.{FileFail}
-use Rattle.zs_host.specs.declared.files.FileFail.TheVariants as file
-use Rattle.zsim.specs.declared.ended.Kept.{Kept}
+use Rattle.zs_host.specs.declared.files.FileFail.TheVariants as fail
 use Rattle.zsim.specs.declared.ended.Status.{Status}
 use Rattle.zsim.specs.declared.ended.Status.TheVariants as status
-use Rattle.zsim.specs.declared.ended.Which.TheVariants as which
+use Rattle.zsim.specs.declared.outputs.OutputFile.{OutputFile}
 use Rattle.zsim.specs.Ended.{status_at}
 use Rattle.zsim.specs.Report.{report_of}
-use Rattle.zsim.specs.Seen.{FilesSeen, SinkSeen, FailedToReadInput, NoFileFailed, Gained, GainedNothing, GainedPrefix, NoPutFailed, PutFailed}
-use Rattle.zsim.specs.Setup.{Setup}
+use Rattle.zsim.specs.Seen.{FilesSeen, SinkSeen, FailedToReadInput, FailedToWrite, NoFileFailed, Gained, GainedNothing, GainedPrefix, NoPutFailed, PutFailed, SameNames, WasCut, WasWritten}
 
--- what is kept before the first step; the schedule is for one core
-pub record IsEmpty (kept : Kept) : Type 0 where
-  pub machine : kept.machine ≡ []
-  pub exe : kept.exe ≡ []
-  pub sched_file : kept.sched_file ≡ []
-  pub lists : kept.schedule.lists ≡ []
-  pub cores : kept.schedule.cores ≡ 1
+-- ---- inputs
 
 -- What the read of an input with this name answered: it took no fault, or the name could not be read.
 abbrev pub Reads : Result (List ℕ) FileFail → FilesSeen → Option (List ℕ) → Type 0
 Reads (Ok bytes) files name = NoFileFailed files
-Reads (Err file.NoMemory) files name = NoFileFailed files
-Reads (Err file.Failed) files name = FailedToReadInput files name
+Reads (Err fail.NoMemory) files name = NoFileFailed files
+Reads (Err fail.Failed) files name = FailedToReadInput files name
 
--- The checks of a machine description answered its machine, or the refusal, unless memory ran out.
-abbrev pub AnswersMachine : Result Machine Status → Result Machine Status → Type 0
-AnswersMachine (Ok machine) answer = answer ≡ Ok machine
-AnswersMachine (Err status.NoMemory) answer = Unit {0}
-AnswersMachine (Err (status.BadMachine bad)) answer = answer ≡ Err (status.BadMachine bad)
-AnswersMachine (Err (status.TooLong which.Machine)) answer = answer ≡ Err (status.TooLong which.Machine)
-AnswersMachine (Err _) answer = ⊥
+-- the status where an input was not read
+abbrev pub status_of_read : FileFail → Status
+status_of_read fail.Failed = status.ReadFault
+status_of_read fail.NoMemory = status.NoMemory
 
--- The checks of an executable answered the image of this setup, or the refusal, unless memory ran out.
-abbrev pub Answers : Machine → Result MemoryImage Status → Result Setup Status → Type 0
-Answers machine (Ok image) setup = setup ≡ Ok (record { machine = machine; image = image })
-Answers machine (Err status.NoMemory) setup = Unit {0}
-Answers machine (Err (status.BadElf bad)) setup = setup ≡ Err (status.BadElf bad)
-Answers machine (Err (status.TooLong which.Exe)) setup = setup ≡ Err (status.TooLong which.Exe)
-Answers machine (Err _) setup = ⊥
+-- what checks answered by which this comes of an input, unless memory ran out
+abbrev pub Checks : {A : Type 0} → Result A Status → (checked : Result A Status) → Type 0
+Checks (Ok x) checked = checked ≡ Ok x
+Checks (Err s) checked = (s ≡ status.NoMemory) ⊎ (checked ≡ Err s)
 
--- the run of an image was reported, as brief as it was asked for
-abbrev pub RanWhole : Status → Machine → (brief : Bool) → MemoryImage → (lists : List (List ℕ)) → (out : SinkSeen) → Type 0
-RanWhole s machine brief image lists out =
-    (r : Results) × IsRunOf machine image lists r × (s ≡ status_at r.limit) × Gained out (report_of machine brief r)
+-- no call on the files failed, and no name changed
+pub record IsQuiet (files : FilesSeen) : Type 0 where
+  pub no_fault : NoFileFailed files
+  pub names : SameNames files
 
--- a prefix of its report was put
-abbrev pub RanCut : Machine → (brief : Bool) → MemoryImage → (lists : List (List ℕ)) → (out : SinkSeen) → Type 0
-RanCut machine brief image lists out = (r : Results) × IsRunOf machine image lists r × GainedPrefix out (report_of machine brief r)
+-- An input was not taken: it could not be read; memory ran out; or it was read, and refused.
+abbrev pub IsNotTaken : {A : Type 0} → (IsText : FilesSeen → List ℕ → Type 0) → (checked : List ℕ → Result A Status) → (name : Option (List ℕ)) → Status → FilesSeen → List ℕ → Type 0
+IsNotTaken IsText checked name s files text =
+    ((s ≡ status.ReadFault) × (text ≡ []) × FailedToReadInput files name × SameNames files)
+    ⊎ ((s ≡ status.NoMemory) × ((text ≡ []) ⊎ IsText files text) × IsQuiet files)
+    ⊎ ((checked text ≡ Err s) × IsText files text × IsQuiet files)
 
--- what each status says of the run of an image
-abbrev pub RunsAs : Status → Machine → (brief : Bool) → MemoryImage → (lists : List (List ℕ)) → (out : SinkSeen) → Type 0
-RunsAs status.Ran machine brief image lists out = RanWhole status.Ran machine brief image lists out × NoPutFailed out
-RunsAs status.Limit machine brief image lists out = RanWhole status.Limit machine brief image lists out × NoPutFailed out
-RunsAs status.WriteFault machine brief image lists out = RanCut machine brief image lists out × PutFailed out
-RunsAs status.NoMemory machine brief image lists out =
-    ((IsLegalSoFar machine image lists × GainedNothing out) ⊎ RanCut machine brief image lists out) × NoPutFailed out
-RunsAs _ machine brief image lists out = ⊥
+-- what came of an input that was to be read and checked, with the text that is kept of it
+abbrev pub Takes : {A : Type 0} → (IsText : FilesSeen → List ℕ → Type 0) → (checked : List ℕ → Result A Status) → (name : Option (List ℕ)) → Result A Status → FilesSeen → List ℕ → Type 0
+Takes IsText checked name (Ok x) files text = (checked text ≡ Ok x) × IsText files text × IsQuiet files
+Takes IsText checked name (Err s) files text = IsNotTaken IsText checked name s files text
+
+-- ---- outputs
+
+-- nothing was written, and nothing failed
+pub record IsUntouched (files : FilesSeen) (out : SinkSeen) : Type 0 where
+  pub quiet : IsQuiet files
+  pub no_put : NoPutFailed out
+  pub nothing : GainedNothing out
+
+-- a file that is to be written
+pub record NamedFile : Type 0 where
+  pub name : List ℕ
+  pub bytes : List ℕ
+
+abbrev pub named_file : (name bytes : List ℕ) → NamedFile
+named_file name bytes = record { name = name; bytes = bytes }
+
+-- the same as the code keeps it, by a reference to the words
+abbrev pub file_told : OutputFile → NamedFile
+file_told f = named_file f.name.now f.bytes
+
+-- what a write of a file came to, if there is one
+abbrev pub Writes : {T : Type 0} → Result T FileFail → Option NamedFile → FilesSeen → Type 0
+Writes (Ok x) file files = NoFileFailed files × MatchOption file (SameNames files) (λ f. WasWritten files f.name f.bytes)
+Writes (Err fail.NoMemory) file files = NoFileFailed files × IsSomeAnd file (λ f. WasCut files f.name f.bytes)
+Writes (Err fail.Failed) file files = IsSomeAnd file (λ f. FailedToWrite files f.name × WasCut files f.name f.bytes)
+
+-- How far the outputs came: both were written, the report and behind it a file, if there is one; the report was cut short;
+-- or the file was.
+abbrev pub Finishes : Status → (limit : Bool) → (text : List ℕ) → Option NamedFile → FilesSeen → SinkSeen → Type 0
+Finishes s limit text file files out =
+    ((s ≡ status_at limit) × Gained out text × NoPutFailed out × NoFileFailed files × MatchOption file (SameNames files) (λ f. WasWritten files f.name f.bytes))
+    ⊎ ((s ≡ status.WriteFault) × GainedPrefix out text × PutFailed out × IsQuiet files)
+    ⊎ ((s ≡ status.NoMemory) × GainedPrefix out text × NoPutFailed out × IsQuiet files)
+    ⊎ ((s ≡ status.WriteFault) × Gained out text × NoPutFailed out × IsSomeAnd file (λ f. FailedToWrite files f.name × WasCut files f.name f.bytes))
+    ⊎ ((s ≡ status.NoMemory) × Gained out text × NoPutFailed out × NoFileFailed files × IsSomeAnd file (λ f. WasCut files f.name f.bytes))
+
+-- what the run of an image came to, of which the schedule is to be written to a file, if one is named
+abbrev pub RunsAs : Status → Machine → MemoryImage → (brief : Bool) → (name : Option (List ℕ)) → IntervalLists → FilesSeen → SinkSeen → Type 0
+RunsAs s machine image brief name schedule files out =
+    ((s ≡ status.NoMemory) × IsLegalSoFar machine image schedule.lists × IsUntouched files out)
+    ⊎ ((s ≡ status.NoMemory) × ((r : Results) × IsRunOf machine image schedule.lists r) × IsUntouched files out)
+    ⊎ ((r : Results) × IsRunOf machine image schedule.lists r × Finishes s r.limit (report_of machine brief r) (option_map (λ n. named_file n (file_of schedule)) name) files out)

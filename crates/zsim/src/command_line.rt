@@ -3,7 +3,8 @@ ghost use Rattle.std.specs.Prelude.{◌≡◌, map, option_map, string_bytes, If
 ghost use Rattle.std.specs.Char.{is_ascii_digit};
 ghost use Rattle.std.specs.List.{list_all};
 ghost use Rattle.clap.specs.Words.{first_of, found_of, rows_of};
-ghost use Rattle.zsim.specs.CommandLine.{asked_by, asked_of, asked_told, command_of, command_told, exe_of, exe_told, is_decimal, machine_of, number_of, runnable, workers_of};
+ghost use Rattle.zsim.specs.CommandLine.{asked_after, asked_by, asked_of, asked_told, command_of, command_told, exe_of, exe_told, is_decimal, machine_of, number_of, replay_of, run_of, runnable, task_told, workers_of};
+ghost use Rattle.zsim.specs.Options.{replay_options, run_options};
 
 use crate::options::{matched_by, replay_options, run_options};
 use clap::ArgMatches;
@@ -18,18 +19,30 @@ pub enum Exe<'w> {
     Generated(u64),
 }
 
-// What the words ask for: a run, or a replay of a schedule.
+// What is to be done with the executable.
+#[derive(Clone, Copy)]
+enum Task<'w> {
+    /// It is run. Its schedule may be written to a file.
+    Run {
+        /// How many threads are to do the work, from 1 to 64.
+        workers: u16,
+        /// The name of the file for the schedule.
+        record_to: Option<&'w str>,
+    },
+    /// It is run under the schedule of a file.
+    Replay {
+        /// The name of the file.
+        schedule: &'w str,
+    },
+}
+
+// What the words ask for.
 #[derive(Clone, Copy)]
 struct Asked<'w> {
     /// The name of the machine's file, or None for the built-in machine.
     machine: Option<&'w str>,
     exe: Exe<'w>,
-    /// How many threads are to do the work, from 1 to 64.
-    workers: u16,
-    /// The name of the file for the schedule of a run.
-    record_to: Option<&'w str>,
-    /// The name of the schedule that is replayed.
-    schedule: Option<&'w str>,
+    task: Task<'w>,
     /// Only the summary is reported.
     brief: bool,
 }
@@ -40,6 +53,8 @@ pub struct Command<'w> {
     /// The name of the machine's file, or None for the built-in machine.
     pub machine: Option<&'w str>,
     pub exe: Exe<'w>,
+    /// The name of the file to which its schedule is to be written.
+    pub record_to: Option<&'w str>,
     /// Only the summary is reported.
     pub brief: bool,
 }
@@ -59,14 +74,15 @@ pub fn command_of(alloc: Global, words: &[String]) -> Result<Option<Command<'_>>
 fn runnable(asked: Asked<'_>) -> Option<Command<'_>>
     ensures { option_map command_told result ≡ runnable (asked_told asked.entry) }
 {
-    if asked.record_to.is_some() || asked.schedule.is_some() {
-        return None;
+    match asked.task {
+        Task::Run { record_to, .. } => Some(Command {
+            machine: asked.machine,
+            exe: asked.exe,
+            record_to,
+            brief: asked.brief,
+        }),
+        Task::Replay { .. } => None,
     }
-    Some(Command {
-        machine: asked.machine,
-        exe: asked.exe,
-        brief: asked.brief,
-    })
 }
 
 // What the words ask for, where they are well formed.
@@ -77,31 +93,64 @@ fn asked_of(alloc: Global, words: &[String]) -> Result<Option<Asked<'_>>, AllocE
     let Some((verb, words)) = words.split_first() else {
         return Ok(None);
     };
-    let options = match verb.as_str() {
-        "run" => run_options(alloc)?,
-        "replay" => replay_options(alloc)?,
-        _ => return Ok(None),
-    };
-    match matched_by(options, words)? {
-        Some(matches) => Ok(asked_by(&matches)),
+    match verb.as_str() {
+        "run" => asked_after_run(alloc, words),
+        "replay" => asked_after_replay(alloc, words),
+        _ => Ok(None),
+    }
+}
+
+// What the words after `run` ask for.
+fn asked_after_run(alloc: Global, words: &[String]) -> Result<Option<Asked<'_>>, AllocError>
+    ensures { IfOk result (λ asked. option_map asked_told asked ≡ asked_after run_options run_of (map string_bytes words.now)) }
+{
+    match matched_by(run_options(alloc)?, words)? {
+        Some(matches) => Ok(asked_by(&matches, run_of(&matches))),
         None => Ok(None),
     }
 }
 
-// What the matched words ask for, where their values are well formed.
+// What the words after `replay` ask for.
+fn asked_after_replay(alloc: Global, words: &[String]) -> Result<Option<Asked<'_>>, AllocError>
+    ensures { IfOk result (λ asked. option_map asked_told asked ≡ asked_after replay_options replay_of (map string_bytes words.now)) }
+{
+    match matched_by(replay_options(alloc)?, words)? {
+        Some(matches) => Ok(asked_by(&matches, replay_of(&matches))),
+        None => Ok(None),
+    }
+}
+
+// A run, where its number of workers is well formed.
+fn run_of<'w>(matches: &ArgMatches<'w>) -> Option<Task<'w>>
+    ensures { option_map task_told result ≡ run_of (rows_of (found_of matches.now)) }
+{
+    Some(Task::Run {
+        workers: workers_of(value(matches, "workers"))?,
+        record_to: value(matches, "record"),
+    })
+}
+
+// A replay, where the schedule is named.
+fn replay_of<'w>(matches: &ArgMatches<'w>) -> Option<Task<'w>>
+    ensures { option_map task_told result ≡ replay_of (rows_of (found_of matches.now)) }
+{
+    Some(Task::Replay {
+        schedule: value(matches, "schedule")?,
+    })
+}
+
+// What the matched words ask for beside a task, where their values are well formed.
 #[tactic(auto, unfolding(crate::specs::CommandLine::asked_by))]
-fn asked_by<'w>(matches: &ArgMatches<'w>) -> Option<Asked<'w>>
-    ensures { option_map asked_told result ≡ asked_by (rows_of (found_of matches.now)) }
+fn asked_by<'w>(matches: &ArgMatches<'w>, task: Option<Task<'w>>) -> Option<Asked<'w>>
+    ensures { option_map asked_told result ≡ asked_by (rows_of (found_of matches.now)) (option_map task_told task.entry) }
 {
     let machine = value(matches, "machine")?;
     let exe = exe_of(value(matches, "exe")?)?;
-    let workers = workers_of(value(matches, "workers"))?;
+    let task = task?;
     Some(Asked {
         machine: machine_of(machine),
         exe,
-        workers,
-        record_to: value(matches, "record"),
-        schedule: value(matches, "schedule"),
+        task,
         brief: matches!(value(matches, "brief"), Some("true")),
     })
 }

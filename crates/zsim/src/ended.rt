@@ -25,7 +25,7 @@ pub enum Status {
     Usage,
     /// The machine or the executable could not be read.
     ReadFault,
-    /// The output could not be written.
+    /// The report or the schedule could not be written.
     WriteFault,
     /// The machine description fails this check first.
     BadMachine(BadMachine),

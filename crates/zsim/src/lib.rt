@@ -6,6 +6,7 @@ mod ended;
 mod error_line;
 mod limits;
 mod options;
+mod outputs;
 mod put;
 mod setup;
 #[cfg(test)]

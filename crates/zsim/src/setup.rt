@@ -1,25 +1,73 @@
 // What a call is to run: the machine and the executable, each read and checked.
-ghost use Rattle.std.specs.Prelude.{◌≡◌, codes, IfOk, option_map};
+ghost use Rattle.std.specs.Prelude.{◌≡◌, [], IfOk, option_map};
 ghost use Rattle.machine_desc.specs.Machine.{IsMachine};
 ghost use Rattle.zsim.specs.CommandLine.{exe_file, exe_told};
 ghost use Rattle.zsim.specs.Ended.{IsExeOf, IsMachineText};
 ghost use Rattle.zsim.specs.Seen.{files_seen, SameNames};
-ghost use Rattle.zsim.specs.Setup.{loaded_on, machine_by, with_one_core};
-ghost use Rattle.zsim.specs.Steps.{Answers, AnswersMachine, Reads};
+ghost use Rattle.zsim.specs.Setup.{image_by, machine_by};
+ghost use Rattle.zsim.specs.Steps.{Checks, Reads, Takes, status_of_read};
 
 use crate::command_line::Exe;
 use crate::limits::{EXE_LIMIT, MACHINE_LIMIT};
 use crate::{Status, Which};
 use elf_load::{Image, LoadFail, load};
 use gen_prog::generate;
-use machine_desc::{BadMachine, KeyName, Machine, MachineFail, PLAIN, read};
-use std::alloc::{AllocError, Global};
+use machine_desc::{Machine, MachineFail, PLAIN};
+use std::alloc::Global;
 use zs_host::{FileFail, Files};
 use zs_num::Bytes;
 
-/// The text of the machine: the first bytes of the file of this name, up to the limit and one more;
-/// or the built-in text, where there is no name.
-pub fn read_machine<F: Files>(
+/// Reads and checks the machine. Its text is kept, from the file of this name or the built-in one.
+pub fn take_machine<F: Files>(
+    alloc: Global,
+    name: Option<&str>,
+    files: &mut F,
+    text: &mut Bytes,
+) -> Result<Machine, Status>
+    requires { text.old ≡ [] }
+    ensures takes { Takes (λ seen. IsMachineText seen (option_map (λ n. n.now) name.entry)) machine_by (option_map (λ n. n.now) name.entry) result (files_seen F.tells F.contents F.faults F.latest files.old files.new) text.new }
+    ensures valid { IfOk result IsMachine }
+{
+    match read_machine(alloc, name, files) {
+        Ok(read) => *text = read,
+        Err(fail) => return Err(status_of_read(fail)),
+    }
+    check_machine(alloc, text.as_slice())
+}
+
+/// Reads and checks the executable. Its bytes are kept, from its file or as they are generated.
+pub fn take_exe<F: Files>(
+    alloc: Global,
+    machine: &Machine,
+    exe: Exe<'_>,
+    files: &mut F,
+    bytes: &mut Bytes,
+) -> Result<Image, Status>
+    requires machine { IsMachine machine.now }
+    requires nothing { bytes.old ≡ [] }
+    ensures takes { Takes (λ seen. IsExeOf seen machine.now (exe_told exe.entry)) (image_by machine.now) (exe_file (exe_told exe.entry)) result (files_seen F.tells F.contents F.faults F.latest files.old files.new) bytes.new }
+    ensures memory { IfOk result (λ image. (image.base ≡ machine.now.memory.base) × (image.size ≡ machine.now.memory.size)) }
+{
+    match read_exe(alloc, machine, exe, files) {
+        Ok(read) => *bytes = read,
+        Err(fail) => return Err(status_of_read(fail)),
+    }
+    check_exe(alloc, machine, bytes.as_slice())
+}
+
+// The status where an input was not read.
+fn status_of_read(fail: FileFail) -> Status
+    ensures { result ≡ status_of_read fail }
+{
+    match fail {
+        FileFail::Failed => Status::ReadFault,
+        FileFail::NoMemory => Status::NoMemory,
+    }
+}
+
+// The text of the machine: the first bytes of the file of this name, up to the limit and one more; or
+// the built-in text, where there is no name.
+fn read_machine<F: Files>(
     alloc: Global,
     name: Option<&str>,
     files: &mut F,
@@ -34,55 +82,9 @@ pub fn read_machine<F: Files>(
     }
 }
 
-/// The machine of a description, or the refusal of the first check that fails: its length, and then
-/// the checks of the description.
-#[tactic(auto, unfolding(crate::specs::Setup::machine_by))]
-pub fn check_machine(alloc: Global, text: &[u8]) -> Result<Machine, Status>
-    ensures answer { AnswersMachine result (machine_by text.now) }
-    ensures valid { IfOk result IsMachine }
-    ensures one { IfOk result (λ machine. machine.cores ≡ 1) }
-{
-    if text.len() > MACHINE_LIMIT {
-        return Err(Status::TooLong(Which::Machine));
-    }
-    match read(alloc, text) {
-        Ok(machine) => with_one_core(alloc, machine),
-        Err(MachineFail::Bad(bad)) => Err(Status::BadMachine(bad)),
-        Err(MachineFail::NoMemory) => Err(Status::NoMemory),
-    }
-}
-
-// A machine of one core. One of several cores is refused: none can be run yet.
-fn with_one_core(alloc: Global, machine: Machine) -> Result<Machine, Status>
-    requires { IsMachine machine }
-    ensures answer { AnswersMachine result (with_one_core machine) }
-    ensures valid { IfOk result IsMachine }
-    ensures one { IfOk result (λ machine. machine.cores ≡ 1) }
-{
-    if machine.cores == 1 {
-        return Ok(machine);
-    }
-    match cores_key(alloc) {
-        Ok(key) => Err(Status::BadMachine(BadMachine::Range {
-            key,
-            value: i64::from(machine.cores),
-        })),
-        Err(AllocError) => Err(Status::NoMemory),
-    }
-}
-
-// The key of the number of cores.
-fn cores_key(alloc: Global) -> Result<KeyName, AllocError>
-    ensures { IfOk result (λ key. key ≡ codes "cores") }
-{
-    let text = String::from_str(alloc, "cores")?;
-    let _utf8 = text.as_str();
-    Ok(KeyName::of(text.into_bytes()))
-}
-
-/// The bytes of the executable: the first of its file, up to the limit and one more; or those of the
-/// program that is generated for this machine.
-pub fn read_exe<F: Files>(
+// The bytes of the executable: the first of its file, up to the limit and one more; or those of the
+// program that is generated for this machine.
+fn read_exe<F: Files>(
     alloc: Global,
     machine: &Machine,
     exe: Exe<'_>,
@@ -99,12 +101,29 @@ pub fn read_exe<F: Files>(
     }
 }
 
-/// The image of an executable, or the refusal of the first check that fails: its length, and then
-/// the checks of its file format.
-#[tactic(auto, unfolding(crate::specs::Setup::loaded_on))]
-pub fn check_exe(alloc: Global, machine: &Machine, exe: &[u8]) -> Result<Image, Status>
+// The machine of a description, or the refusal of the first check that fails: its length, and then the
+// checks of the description.
+#[tactic(auto, unfolding(crate::specs::Setup::machine_by))]
+fn check_machine(alloc: Global, text: &[u8]) -> Result<Machine, Status>
+    ensures answer { Checks result (machine_by text.now) }
+    ensures valid { IfOk result IsMachine }
+{
+    if text.len() > MACHINE_LIMIT {
+        return Err(Status::TooLong(Which::Machine));
+    }
+    match machine_desc::read(alloc, text) {
+        Ok(machine) => Ok(machine),
+        Err(MachineFail::Bad(bad)) => Err(Status::BadMachine(bad)),
+        Err(MachineFail::NoMemory) => Err(Status::NoMemory),
+    }
+}
+
+// The image of an executable, or the refusal of the first check that fails: its length, and then the
+// checks of its file format.
+#[tactic(auto, unfolding(crate::specs::Setup::image_by))]
+fn check_exe(alloc: Global, machine: &Machine, exe: &[u8]) -> Result<Image, Status>
     requires { IsMachine machine.now }
-    ensures answer { Answers machine.now result (loaded_on machine.now exe.now) }
+    ensures answer { Checks result (image_by machine.now exe.now) }
     ensures memory { IfOk result (λ image. (image.base ≡ machine.now.memory.base) × (image.size ≡ machine.now.memory.size)) }
 {
     if exe.len() > EXE_LIMIT {

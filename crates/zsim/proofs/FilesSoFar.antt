@@ -1,0 +1,121 @@
+-- What holds of a call's files after two parts of it, of which the first changed nothing.
+use Rattle.std.proofs.Common.{◌≡◌, ◌⊎◌, ◌≢◌, ℕ, ◌+◌, Bool, List, [], Option, Some, None, Result, IsTrue, take, sym, ◌∙◌, ap, subst, inl, inr}
+use Rattle.std.specs.Option.{option_map}
+use Rattle.std.specs.Prelude.{IsSomeAnd, MatchOption}
+use Rattle.zs_host.specs.declared.fault.Fault.{Fault}
+use Rattle.zs_host.specs.Faults.{Rose}
+use Rattle.zs_host.specs.Files.{HoldsOrCut}
+use Rattle.machine_desc.specs.declared.machine.Machine.{Machine}
+use Rattle.zsim.specs.declared.ended.Status.{Status}
+use Rattle.zsim.specs.CommandLine.{Exe, file, generated}
+use Rattle.zsim.specs.Ended.{IsExeOf, IsMachineText}
+use Rattle.zsim.specs.Limits.{exe_limit}
+use Rattle.zsim.specs.Seen.{FilesSeen, SinkSeen, FailedToReadInput, FailedToWrite, FileFailed, NoFileFailed, SameNames, WasCut, WasRead, WasWritten, files_seen}
+use Rattle.zsim.specs.Steps.{Finishes, IsNotTaken, IsQuiet, IsUntouched, NamedFile, RunsAs}
+use Rattle.access_log.specs.Schedule.{IntervalLists}
+use Rattle.elf_load.specs.MemoryImage.{MemoryImage}
+
+-- where a call on the files failed, one did
+pub failed_input : (files : FilesSeen) (name : Option (List ℕ)) → FailedToReadInput files name → FileFailed files
+failed_input files None failed = absurd failed
+failed_input files (Some name) failed = failed.failed
+
+module _ {F : Type 0} (tells : Bool) (contents : F → List ℕ → Option (List ℕ)) (faults : F → ℕ) (latest : F → Option Fault) (before between after : F) where
+  abbrev first : FilesSeen
+  first = files_seen tells contents faults latest before between
+
+  abbrev second : FilesSeen
+  second = files_seen tells contents faults latest between after
+
+  abbrev both : FilesSeen
+  both = files_seen tells contents faults latest before after
+
+  -- what was read first stays read
+  pub text_stays : (name : Option (List ℕ)) (text : List ℕ) → IsMachineText first name text → IsMachineText both name text
+  text_stays None text is = is
+  text_stays (Some name) text read = record { held = read.held; most = read.most }
+
+  pub exe_stays : (machine : Machine) (exe : Exe) (bytes : List ℕ) → IsExeOf first machine exe bytes → IsExeOf both machine exe bytes
+  exe_stays machine (file name) bytes read = record { held = read.held; most = read.most }
+  exe_stays machine (generated n) bytes is = is
+
+  module _ (quiet : IsQuiet first) where
+    names : SameNames second → SameNames both
+    names same = λ told name. same told name ∙ quiet.names told name
+
+    no_fault : NoFileFailed second → NoFileFailed both
+    no_fault none = record { faults = none.faults ∙ quiet.no_fault.faults; latest = none.latest ∙ quiet.no_fault.latest }
+
+    pub still_quiet : IsQuiet second → IsQuiet both
+    still_quiet then_quiet = record { no_fault = no_fault then_quiet.no_fault; names = names then_quiet.names }
+
+    failed : FileFailed second → FileFailed both
+    failed rose = subst (λ (n : ℕ). Rose n (faults after)) quiet.no_fault.faults rose
+
+    input_failed : (name : Option (List ℕ)) → FailedToReadInput second name → FailedToReadInput both name
+    input_failed None none = none
+    input_failed (Some name) not_read = record { failed = failed not_read.failed; latest = not_read.latest }
+
+    -- what was read then
+    pub was_read : (name : List ℕ) (limit : ℕ) (bytes : List ℕ) → WasRead second name limit bytes → WasRead both name limit bytes
+    was_read name limit bytes read = record {
+      held = λ told. ap (option_map (take (limit + 1))) (sym (quiet.names told name)) ∙ read.held told;
+      most = read.most;
+    }
+
+    pub exe_was_read : (machine : Machine) (exe : Exe) (bytes : List ℕ) → IsExeOf second machine exe bytes → IsExeOf both machine exe bytes
+    exe_was_read machine (file name) bytes read = was_read name exe_limit bytes read
+    exe_was_read machine (generated n) bytes is = is
+
+    -- an input was taken then, or not
+    pub not_taken : {A : Type 0} (IsText : FilesSeen → List ℕ → Type 0) (checked : List ℕ → Result A Status) (name : Option (List ℕ)) (s : Status) (text : List ℕ)
+        → ((bytes : List ℕ) → IsText second bytes → IsText both bytes) → IsNotTaken IsText checked name s second text → IsNotTaken IsText checked name s both text
+    not_taken IsText checked name s text lift (inl (is, none, not_read, same)) = inl (is, none, input_failed name not_read, names same)
+    not_taken IsText checked name s text lift (inr (inl (is, inl none, then_quiet))) = inr (inl (is, inl none, still_quiet then_quiet))
+    not_taken IsText checked name s text lift (inr (inl (is, inr some, then_quiet))) = inr (inl (is, inr (lift text some), still_quiet then_quiet))
+    not_taken IsText checked name s text lift (inr (inr (refused, is, then_quiet))) = inr (inr (refused, lift text is, still_quiet then_quiet))
+
+    -- a file was written then, or not
+    pub failed_to_write : (name : List ℕ) → FailedToWrite second name → FailedToWrite both name
+    failed_to_write name not_written = record { failed = failed not_written.failed; latest = not_written.latest }
+
+    pub was_written : (name bytes : List ℕ) → WasWritten second name bytes → WasWritten both name bytes
+    was_written name bytes written = record {
+      held = written.held;
+      others = λ told other unlike. written.others told other unlike ∙ quiet.names told other;
+    }
+
+    pub was_cut : (name bytes : List ℕ) → WasCut second name bytes → WasCut both name bytes
+    was_cut name bytes cut = record {
+      held = λ told. subst (λ (held : Option (List ℕ)). HoldsOrCut held bytes (contents after name)) (quiet.names told name) (cut.held told);
+      others = λ told other unlike. cut.others told other unlike ∙ quiet.names told other;
+    }
+
+    -- the outputs came as far
+    whole_later : (target : Option NamedFile) → MatchOption target (SameNames second) (λ f. WasWritten second f.name f.bytes) → MatchOption target (SameNames both) (λ f. WasWritten both f.name f.bytes)
+    whole_later None same = names same
+    whole_later (Some f) written = was_written f.name f.bytes written
+
+    cut_later : (target : Option NamedFile) → IsSomeAnd target (λ f. WasCut second f.name f.bytes) → IsSomeAnd target (λ f. WasCut both f.name f.bytes)
+    cut_later None none = absurd none
+    cut_later (Some f) cut = was_cut f.name f.bytes cut
+
+    failed_later : (target : Option NamedFile) → IsSomeAnd target (λ f. FailedToWrite second f.name × WasCut second f.name f.bytes) → IsSomeAnd target (λ f. FailedToWrite both f.name × WasCut both f.name f.bytes)
+    failed_later None none = absurd none
+    failed_later (Some f) is = (failed_to_write f.name is.0, was_cut f.name f.bytes is.1)
+
+    finishes_later : (s : Status) (limit : Bool) (text : List ℕ) (target : Option NamedFile) (out : SinkSeen) → Finishes s limit text target second out → Finishes s limit text target both out
+    finishes_later s limit text target out (inl (is, whole, no_put, none, written)) = inl (is, whole, no_put, no_fault none, whole_later target written)
+    finishes_later s limit text target out (inr (inl (is, part, put, then_quiet))) = inr (inl (is, part, put, still_quiet then_quiet))
+    finishes_later s limit text target out (inr (inr (inl (is, part, no_put, then_quiet)))) = inr (inr (inl (is, part, no_put, still_quiet then_quiet)))
+    finishes_later s limit text target out (inr (inr (inr (inl (is, whole, no_put, not_written))))) = inr (inr (inr (inl (is, whole, no_put, failed_later target not_written))))
+    finishes_later s limit text target out (inr (inr (inr (inr (is, whole, no_put, none, cut))))) = inr (inr (inr (inr (is, whole, no_put, no_fault none, cut_later target cut))))
+
+    untouched_later : (out : SinkSeen) → IsUntouched second out → IsUntouched both out
+    untouched_later out untouched = record { quiet = still_quiet untouched.quiet; no_put = untouched.no_put; nothing = untouched.nothing }
+
+    pub runs_later : (s : Status) (machine : Machine) (image : MemoryImage) (brief : Bool) (name : Option (List ℕ)) (schedule : IntervalLists) (out : SinkSeen)
+        → RunsAs s machine image brief name schedule second out → RunsAs s machine image brief name schedule both out
+    runs_later s machine image brief name schedule out (inl (is, legal, untouched)) = inl (is, legal, untouched_later out untouched)
+    runs_later s machine image brief name schedule out (inr (inl (is, run, untouched))) = inr (inl (is, run, untouched_later out untouched))
+    runs_later s machine image brief name schedule out (inr (inr (r, run, finishes))) = inr (inr (r, run, finishes_later s r.limit _ _ out finishes))

@@ -1,0 +1,89 @@
+-- Each way in which a command comes to its end.
+use Rattle.std.proofs.Common.{◌≡◌, ◌⊎◌, Some, None, Ok, option_map, refl, sym, ap, rules, ◌∙◌, inl, inr}
+use Rattle.access_log.specs.Schedule.{IntervalLists}
+use Rattle.zsim.specs.declared.ended.Kept.{Kept}
+use Rattle.zsim.specs.CommandLine.{command_told, exe_file, exe_told}
+use Rattle.zsim.specs.Ended.{IsExeOf, KeepsExe, Seen}
+use Rattle.zsim.specs.Seen.{files_seen, sink_seen}
+use Rattle.zsim.specs.Setup.{Setup, image_by, setup_of}
+use Rattle.zsim.proofs.Endings.{IsBefore, exe_not_taken, machine_not_taken, ran, untouched_or_run}
+use Rattle.zsim.proofs.FilesSoFar.{exe_stays, exe_was_read, not_taken, runs_later, still_quiet, text_stays}
+use Rattle.zsim.proofs.top.carry_out.Given as given
+use Rattle.zsim.proofs.top.carry_out.Goals as goal
+
+-- the machine was not taken
+pub returns-in-Err-clause-ended : goal.returns-in-Err-clause-ended
+returns-in-Err-clause-ended g c =
+    let files = g.F.Files in
+    let sink = g.O.Sink in
+    let seen : Seen = record {
+      command = command_told c.args.command.now;
+      files = files_seen files.tells files.contents files.faults files.latest c.args.files.now c.take_machine.new.files;
+      out = sink_seen sink.tells sink.bytes sink.faults c.args.out.now c.args.out.now;
+    } in
+    let kept : Kept = record { machine = c.take_machine.new.text; exe = c.args.kept.now.exe; sched_file = c.args.kept.now.sched_file; schedule = c.args.kept.now.schedule } in
+    let before : IsBefore seen kept = record { lists = ap (λ (l : IntervalLists). l.lists) c.requires.schedule; out = refl; nothing = λ _. refl } in
+    machine_not_taken seen kept before c.in-Err.status c.in-Err.ensures.takes c.requires.exe c.requires.sched_file c.requires.schedule
+
+-- the executable was not taken
+pub returns-in-Err-take_exe-clause-ended : goal.returns-in-Err-take_exe-clause-ended
+returns-in-Err-take_exe-clause-ended g c =
+    let files = g.F.Files in
+    let sink = g.O.Sink in
+    let seen : Seen = record {
+      command = command_told c.args.command.now;
+      files = files_seen files.tells files.contents files.faults files.latest c.args.files.now c.take_exe.new.files;
+      out = sink_seen sink.tells sink.bytes sink.faults c.args.out.now c.args.out.now;
+    } in
+    let kept : Kept = record { machine = c.take_machine.new.text; exe = c.take_exe.new.bytes; sched_file = c.args.kept.now.sched_file; schedule = c.new.result } in
+    let before : IsBefore seen kept = record { lists = ap (λ (l : IntervalLists). l.lists) c.new.ensures; out = refl; nothing = λ _. refl } in
+    let taken = c.in-Ok.ensures.takes in
+    let exe = exe_told c.args.command.now.exe in
+    let text = text_stays files.tells files.contents files.faults files.latest c.args.files.now c.take_machine.new.files c.take_exe.new.files
+    (option_map (λ name. name.now) c.args.command.now.machine) c.take_machine.new.text taken.1 in
+    let not = not_taken files.tells files.contents files.faults files.latest c.args.files.now c.take_machine.new.files c.take_exe.new.files taken.2
+    (λ seen. IsExeOf seen c.in-Ok.machine exe) (image_by c.in-Ok.machine) (exe_file exe) c.in-Err-take_exe.status c.take_exe.new.bytes
+    (exe_was_read files.tells files.contents files.faults files.latest c.args.files.now c.take_machine.new.files c.take_exe.new.files taken.2 c.in-Ok.machine exe)
+    c.in-Err-take_exe.ensures.takes in
+    exe_not_taken seen kept before c.in-Ok.machine taken.0 text c.in-Err-take_exe.status not c.requires.sched_file c.new.ensures
+
+-- the executable was run
+pub returns-clause-ended : goal.returns-clause-ended
+returns-clause-ended g c =
+    let files = g.F.Files in
+    let sink = g.O.Sink in
+    let start = c.args.files.now in
+    let read = c.take_machine.new.files in
+    let loaded = c.take_exe.new.files in
+    let end = c.run_and_report.new.files in
+    let seen : Seen = record {
+      command = command_told c.args.command.now;
+      files = files_seen files.tells files.contents files.faults files.latest start end;
+      out = sink_seen sink.tells sink.bytes sink.faults c.args.out.now c.run_and_report.new.out;
+    } in
+    let kept : Kept = record { machine = c.take_machine.new.text; exe = c.take_exe.new.bytes; sched_file = c.args.kept.now.sched_file; schedule = c.run_and_report.new.schedule } in
+    let machine = c.in-Ok.machine in
+    let image = c.in-Ok-take_exe.image in
+    let first = c.in-Ok.ensures.takes in
+    let second = c.in-Ok-take_exe.ensures.takes in
+    let quiet = still_quiet files.tells files.contents files.faults files.latest start read loaded first.2 second.2 in
+    let exe = exe_told c.args.command.now.exe in
+    let setup : Setup = record { machine = machine; image = image } in
+    let setup_is : setup_of kept ≡ Ok setup = rw (first.0, second.0) refl in
+    let text = text_stays files.tells files.contents files.faults files.latest start read end (option_map (λ name. name.now) c.args.command.now.machine) kept.machine first.1 in
+    let bytes = exe_was_read files.tells files.contents files.faults files.latest start read loaded first.2 machine exe kept.exe second.1 in
+    let bytes_stay = exe_stays files.tells files.contents files.faults files.latest start loaded end machine exe kept.exe bytes in
+    let cores : kept.schedule.cores ≡ machine.cores = c.run_and_report.ensures.cores ∙ ap (λ (l : IntervalLists). l.cores) c.new.ensures in
+    let keeps : KeepsExe seen kept = record { machine = text; exe = rw first.0 bytes_stay; sched_file = c.requires.sched_file; cores = rw first.0 cores } in
+    let runs = runs_later files.tells files.contents files.faults files.latest start loaded end quiet c.run_and_report.result machine image c.args.command.now.brief
+    (option_map (λ name. name.now) c.args.command.now.record_to) kept.schedule seen.out c.run_and_report.ensures.run in
+    ran seen kept keeps setup setup_is c.run_and_report.result runs
+
+pub returns-clause-untouched : goal.returns-clause-untouched
+returns-clause-untouched g c =
+    let kept : Kept = record { machine = c.take_machine.new.text; exe = c.take_exe.new.bytes; sched_file = c.args.kept.now.sched_file; schedule = c.run_and_report.new.schedule } in
+    let first = c.in-Ok.ensures.takes in
+    let second = c.in-Ok-take_exe.ensures.takes in
+    let setup : Setup = record { machine = c.in-Ok.machine; image = c.in-Ok-take_exe.image } in
+    let setup_is : setup_of kept ≡ Ok setup = rw (first.0, second.0) refl in
+    untouched_or_run kept setup setup_is c.args.out.now c.run_and_report.new.out c.run_and_report.ensures.untouched
