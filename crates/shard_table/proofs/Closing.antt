@@ -12,7 +12,7 @@ use Rattle.std.proofs.lemmas.List.Elements.{All-cons, All-head, All-nil, All-tai
 use Rattle.std.proofs.lemmas.Option.{same_Some}
 use Rattle.atomic_table.specs.Table.{Final, Seen, State}
 use Rattle.zs_num.specs.declared.entry.Entry.{Entry}
-use Rattle.access_log.specs.History.{AreStamped, HasSameFilters, bank_of_entry, core_of_entry, each_after, numbered, of_bank, of_core}
+use Rattle.access_log.specs.History.{AreRising, AreStamped, HasSameFilters, bank_of_entry, core_of_entry, each_after, numbered, of_bank, of_core}
 use Rattle.access_log.specs.Laws.{CoresDecideTheOrder, EachHasItsOwn, RecordedOrderKeepsTheStamps, StampsRise}
 use Rattle.access_log.specs.RecordedOrder.{no_stamps, recorded_order}
 use Rattle.shard.specs.Served.{ShardState, after}
@@ -233,4 +233,6 @@ is_whole rise decide keep own_by t some_shards id v seats words xs hold parts al
       left = left t.shards t.cores t.room s r id v at hold each some_shards rise decide keep own_by xs final.3 final.4
           ∙ ap (λ (es : List Entry). each_after after (bank_of_entry (length t.shards)) es t.shards) (sym same);
       stamped = subst (AreStamped (length t.shards) (no_stamps (length t.shards) t.cores)) (sym order) stamps.0;
+      rise = λ core. subst (AreRising 0) (sym (ap (of_core core) (flat_seats seats ∙ ap lists (sym parts)) ∙ same_cores t.shards t.cores t.room s r id v at hold each core))
+          ((rise (length t.shards) t.cores r.history some_shards r.accesses.known r.accesses.stamped).0 core);
     }

@@ -3,7 +3,7 @@ use Rattle.std.specs.Prelude.{◌≡◌, ◌≢◌, ℕ, ◌+◌, ◌<◌, max, 
 use Rattle.std.specs.List.{flat_map}
 use Rattle.zs_num.specs.declared.entry.Entry.{Entry}
 use Rattle.zs_num.specs.declared.request.Request.{Request}
-use Rattle.access_log.specs.History.{AreStamped, bank_of, bank_of_entry, each_after, latest_of, of_bank, of_core}
+use Rattle.access_log.specs.History.{AreRising, AreStamped, bank_of, bank_of_entry, each_after, latest_of, of_bank, of_core}
 use Rattle.access_log.specs.RecordedOrder.{no_stamps, recorded_order}
 use Rattle.atomic_table.specs.Seated.{TableId}
 use Rattle.shard.specs.Served.{ShardState, after, met_by, reply_of, resumed}
@@ -84,15 +84,21 @@ pub record AreAllSeats (t : TableState) (seats : List SeatState) : Type 0 where
   pub of_table : All (IsSeatOf t) seats
   pub each : (core : ℕ) → core < t.cores → (place : ℕ) × (seat : SeatState) × (slice_get seats place ≡ Some seat) × (seat.core ≡ core)
 
+-- the entries of all seats, one seat after the other
+abbrev pub all_of : List SeatState → List Entry
+all_of seats = flat_map (λ seat. seat.entries) seats
+
 -- What the accesses of all cores are, by their recorded order: those of each core in its own order, and those of each shard in the
 -- order in which it served them. Each shard gave them their replies and outcomes, one after the other, and is what they left.
+-- Stamps rise in each core.
 pub record AreWhole (t : TableState) (entries : List Entry) (seats : List SeatState) (shards : List ShardState) : Type 0 where
   pub known : All (λ e. e.core < t.cores) entries
   pub own : All (λ seat. of_core seat.core entries ≡ seat.entries) seats
   pub served : (number : ℕ) (shard : ShardState) → slice_get t.shards number ≡ Some shard → AreServedBy shard (of_bank (length t.shards) number entries)
   pub left : shards ≡ each_after after (bank_of_entry (length t.shards)) entries t.shards
   pub stamped : AreStamped (length t.shards) (no_stamps (length t.shards) t.cores) entries
+  pub rise : (core : ℕ) → AreRising 0 (of_core core (all_of seats))
 
 -- the entries of all seats in recorded order
 abbrev pub recorded : List SeatState → List Entry
-recorded seats = recorded_order (flat_map (λ seat. seat.entries) seats)
+recorded seats = recorded_order (all_of seats)
