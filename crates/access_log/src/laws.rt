@@ -1,5 +1,5 @@
 //! Laws over the definitions alone, each the contract of a function that does nothing.
-ghost use Rattle.access_log.specs.Laws.{CoresDecideTheOrder, EachHasItsOwn, OneMoreIsStamped, RecordedOrderKeepsTheStamps, RisingListsStay, StampsRise};
+ghost use Rattle.access_log.specs.Laws.{CoresDecideTheOrder, EachHasItsOwn, OneMoreIsStamped, RecordedOrderKeepsTheStamps, RisingListsStay, RisingStampsAreDistinct, StampsRise};
 
 /// What was stamped in the order in which the turns were taken is stamped by the same rule in recorded
 /// order, and each core and each bank has the same entries in the same order.
@@ -30,4 +30,9 @@ pub fn rising_lists_stay()
 /// The recorded order is the same for all ways of putting the lists of the cores together.
 pub fn cores_decide_the_order()
     ensures { CoresDecideTheOrder }
+{}
+
+/// Where stamps rise in each core, no two entries have the same stamp and core.
+pub fn rising_stamps_are_distinct()
+    ensures { RisingStampsAreDistinct }
 {}

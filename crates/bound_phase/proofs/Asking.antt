@@ -1,0 +1,29 @@
+-- What a core of a machine asks can be asked of the machine's shards.
+use Rattle.std.proofs.Common.{◌≡◌, ◌<◌, ◌%◌, ℕ, zero, suc, List, [], ◌∷◌, length, sym, ◌∙◌, ap, refl, subst, arith, mod-lt}
+use Rattle.std.specs.Prelude.{slice_get, Some}
+use Rattle.zs_num.specs.declared.request.Request.{Request}
+use Rattle.zs_num.specs.Request.{IsServable, line_of}
+use Rattle.access_log.specs.History.{bank_of}
+use Rattle.shard.specs.Served.{CanServe, ShardState}
+use Rattle.shard_table.specs.Lives.{MayAsk}
+use Rattle.bound_core.specs.ShardPort.{AreShardsOf, IsShardAt}
+
+pub some_at : {X : Type 0} (xs : List X) (i : ℕ) → i < length xs → (x : X) × (slice_get xs i ≡ Some x)
+some_at [] i within = absurd (omega (arith, within))
+some_at (x ∷ xs) zero within = (x, refl)
+some_at (x ∷ xs) (suc i) within = some_at xs i (omega (arith, within))
+
+can_serve : (shards cores number base size : ℕ) (shard : ShardState) (request : Request) → IsShardAt shards cores number base size shard → number ≡ line_of request % shards
+    → IsServable base size request → CanServe shard request
+unfolding CanServe
+can_serve shards cores number base size shard request at is servable = (
+  subst (λ (n : ℕ). IsServable n shard.size request) (sym at.base_is) (subst (λ (n : ℕ). IsServable base n request) (sym at.size_is) servable),
+  ap (λ (n : ℕ). line_of request % n) at.count ∙ (sym is ∙ sym at.number_is),
+)
+
+pub may_ask : (cores core base size : ℕ) (shards : List ShardState) (request : Request) → AreShardsOf cores shards base size → core < cores → IsServable base size request → MayAsk shards core request
+may_ask cores core base size shards request are known servable =
+    let number : ℕ = bank_of (length shards) request in
+    let found = some_at shards number (mod-lt (line_of request) are.some) in
+    let at = are.each number found.0 found.1 in
+    (found.0, found.1, subst (λ (n : ℕ). core < n) (sym at.cores_known) known, can_serve (length shards) cores number base size found.0 request at refl servable)

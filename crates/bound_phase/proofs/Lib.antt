@@ -1,0 +1,9 @@
+pub mod Asking
+pub mod Running
+pub mod Rows
+pub mod Shares
+pub mod Returns
+pub mod Whole
+pub mod Ending
+pub mod Turns
+pub mod Seated

@@ -1,0 +1,63 @@
+-- The cores of a machine are seated at a table of its shards.
+use Rattle.std.proofs.Common.{◌≡◌, ℕ, ◌+◌, ◌^◌, ◌≤◌, List, ◌++◌, All, length, drop, map, take, sym, ◌∙◌, ap, subst, arith}
+use Rattle.std.specs.Prelude.{IsNone}
+use Rattle.std.proofs.Math.Seq.{take-append_seam}
+use Rattle.std.proofs.lemmas.List.{length-map}
+use Rattle.machine_desc.specs.declared.machine.Machine.{Machine}
+use Rattle.shard.specs.Served.{ShardState}
+use Rattle.shard_table.specs.Access.{AreNewSeats, SeatState, TableState}
+use Rattle.bound_core.specs.ShardPort.{AreShardsOf, IsShardAt}
+use Rattle.bound_core.specs.ShardWorld.{restarted}
+use Rattle.bound_core.specs.Timed.{NumberedCore, TimedCore}
+use Rattle.bound_phase.specs.Bounds.{AreSeated, CanBound, HaveRoom, IsAtStart, timed_of}
+use Rattle.bound_phase.proofs.Ending.{all_here, made_at}
+use Rattle.bound_phase.proofs.Whole.{agreed_at}
+
+-- what is written back to a list is the whole list
+pub written_back : {X : Type 0} (n : ℕ) (new old : List X) → length new ≡ n → take n (new ++ drop (length new) old) ≡ new
+written_back n new old is = ap (λ (k : ℕ). take k (new ++ drop (length new) old)) (sym is) ∙ take-append_seam new (drop (length new) old)
+
+-- room on the console is nothing of a core's state
+moved : (m : Machine) (end : ℕ) (x c : NumberedCore) → c.timed ≡ x.timed → IsAtStart m end x → IsAtStart m end c
+moved m end x c same start = record {
+  idle = ap (λ (t : TimedCore). t.core.instruction) same ∙ start.idle;
+  base = ap (λ (t : TimedCore). t.core.memory.base) same ∙ start.base;
+  size = ap (λ (t : TimedCore). t.core.memory.size) same ∙ start.size;
+  near = λ runs. let before = start.near (subst (λ (t : TimedCore). IsNone t.core.halted) same runs) in let clock = ap (λ (t : TimedCore). t.clock) same in omega (arith, before, clock);
+  clock = subst (λ (t : TimedCore). t.clock ≤ 2 ^ 60) (sym same) start.clock;
+}
+
+shards_restarted : (cores base size : ℕ) (shards : List ShardState) → AreShardsOf cores shards base size → AreShardsOf cores (map restarted shards) base size
+shards_restarted cores base size shards are = record {
+  some = (let n = length-map shards restarted in let one = are.some in omega (arith, n, one));
+  each = λ number shard at.
+      let x = made_at restarted shards number shard at in
+      let it = are.each number x.0 x.1 in
+      subst (λ (s : ShardState). IsShardAt (length (map restarted shards)) cores number base size s) x.2 (record {
+        number_is = it.number_is;
+        count = it.count ∙ sym (length-map shards restarted);
+        cores_known = it.cores_known;
+        base_is = it.base_is;
+        size_is = it.size_is;
+      });
+}
+
+pub seated : (m : Machine) (end : ℕ) (t : TableState) (first cores : List NumberedCore) (shards : List ShardState) (seats : List SeatState) → CanBound m end first shards
+    → length cores ≡ length first → timed_of cores ≡ timed_of first → map (λ c. c.number) cores ≡ map (λ c. c.number) first → All (HaveRoom (m.interval + 258)) cores
+    → t.cores ≡ m.cores → t.shards ≡ map restarted shards → t.room ≡ m.interval + 258 → AreNewSeats t seats → AreSeated m end t cores seats
+seated m end t first cores shards seats can size timed numbers room cores_are shards_are room_is new = record {
+  count = size ∙ (can.count ∙ sym cores_are);
+  cores_are = cores_are;
+  ready = λ number c at.
+      let x = agreed_at (λ (y : NumberedCore). y.timed) first cores number c timed at in
+      let y = agreed_at (λ (z : NumberedCore). z.number) first cores number c numbers at in (
+        moved m end x.0 c x.2 (all_here (IsAtStart m end) first number x.0 can.at_start x.1),
+        all_here (HaveRoom (m.interval + 258)) cores number c room at,
+        y.2 ∙ can.numbers number y.0 y.1,
+      );
+  seats_new = new;
+  shards =
+      subst (λ (n : ℕ). AreShardsOf n t.shards m.memory.base m.memory.size) (sym cores_are)
+      (subst (λ (xs : List ShardState). AreShardsOf m.cores xs m.memory.base m.memory.size) (sym shards_are) (shards_restarted m.cores m.memory.base m.memory.size shards can.shards_are));
+  room = room_is;
+}

@@ -1,0 +1,55 @@
+-- The bound phase of an interval by several workers.
+use Rattle.std.specs.Prelude.{◌≡◌, ℕ, ◌+◌, ◌^◌, ◌≤◌, List, length, map, slice_get, All, None, Some, IsNone}
+use Rattle.zs_num.specs.declared.entry.Entry.{Entry}
+use Rattle.machine_desc.specs.declared.machine.Machine.{Machine}
+use Rattle.elf_load.specs.MemoryImage.{MemoryImage}
+use Rattle.shard.specs.Served.{ShardState}
+use Rattle.shard_table.specs.Access.{AreNewSeats, SeatState, TableState}
+use Rattle.access_log.specs.RecordedOrder.{recorded_order}
+use Rattle.bound_core.specs.History.{IsHistory, after_history}
+use Rattle.bound_core.specs.ShardPort.{AreShardsOf}
+use Rattle.bound_core.specs.ShardWorld.{restarted}
+use Rattle.bound_core.specs.Timed.{NumberedCore, TimedCore}
+
+abbrev pub timed_of : List NumberedCore → List TimedCore
+timed_of cores = map (λ c. c.timed) cores
+
+-- A core of this machine between two instructions. Unless it has halted, the interval that ends at `end` is one of the machine's
+-- length at most from its clock.
+pub record IsAtStart (m : Machine) (end : ℕ) (c : NumberedCore) : Type 0 where
+  pub idle : c.timed.core.instruction ≡ None
+  pub base : c.timed.core.memory.base ≡ m.memory.base
+  pub size : c.timed.core.memory.size ≡ m.memory.size
+  pub near : IsNone c.timed.core.halted → end ≤ c.timed.clock + m.interval
+  pub clock : c.timed.clock ≤ 2 ^ 60
+
+-- The cores and the shards of a machine, in order of their numbers, before an interval.
+pub record CanBound (m : Machine) (end : ℕ) (cores : List NumberedCore) (shards : List ShardState) : Type 0 where
+  pub count : length cores ≡ m.cores
+  pub numbers : (number : ℕ) (c : NumberedCore) → slice_get cores number ≡ Some c → c.number ≡ number
+  pub at_start : All (IsAtStart m end) cores
+  pub shards_are : AreShardsOf m.cores shards m.memory.base m.memory.size
+  pub banks : length shards ≡ m.l2.banks
+
+-- The entries, in recorded order, are a history of the interval, whatever the order in which the cores took their turns; the
+-- cores and the shards are what it leaves.
+pub record IsBound (time : Entry → ℕ) (image : MemoryImage) (end : ℕ) (cores : List NumberedCore) (shards : List ShardState)
+    (cores_after : List NumberedCore) (shards_after : List ShardState) (entries : List Entry) : Type 0 where
+  pub history : IsHistory time image end (timed_of cores) (map restarted shards) entries
+  pub in_order : recorded_order entries ≡ entries
+  pub cores_are : timed_of cores_after ≡ (after_history time image end (timed_of cores) (map restarted shards) entries).cores
+  pub numbers : map (λ c. c.number) cores_after ≡ map (λ c. c.number) cores
+  pub shards_are : shards_after ≡ (after_history time image end (timed_of cores) (map restarted shards) entries).world.shards
+
+-- there is room for so many bytes on the console
+abbrev pub HaveRoom : ℕ → NumberedCore → Type 0
+HaveRoom room c = room ≤ c.spare
+
+-- the cores have room for what they write, and new seats at a table of the machine's shards
+pub record AreSeated (m : Machine) (end : ℕ) (t : TableState) (cores : List NumberedCore) (seats : List SeatState) : Type 0 where
+  pub count : length cores ≡ t.cores
+  pub cores_are : t.cores ≡ m.cores
+  pub ready : (number : ℕ) (c : NumberedCore) → slice_get cores number ≡ Some c → IsAtStart m end c × HaveRoom (m.interval + 258) c × (c.number ≡ number)
+  pub seats_new : AreNewSeats t seats
+  pub shards : AreShardsOf t.cores t.shards m.memory.base m.memory.size
+  pub room : t.room ≡ m.interval + 258

@@ -1,0 +1,4 @@
+pub mod Member
+pub mod Crew
+pub mod Shares
+pub mod Bounds

@@ -1,0 +1,34 @@
+-- What one core of a worker does in an interval.
+use Rattle.std.specs.Prelude.{◌≡◌, ℕ, ◌+◌, ◌-◌, ◌^◌, ◌<◌, ◌≤◌, [], length, None, IsNone}
+use Rattle.std.specs.List.{fold}
+use Rattle.zs_num.specs.declared.entry.Entry.{Entry}
+use Rattle.machine_desc.specs.declared.machine.Memory.{Memory}
+use Rattle.elf_load.specs.MemoryImage.{MemoryImage}
+use Rattle.shard_table.specs.Access.{IsSameSeat, IsSeatOf, TableState}
+use Rattle.bound_core.specs.History.{AreTurnsOf, after_turn}
+use Rattle.bound_core.specs.ShardPort.{AreShardsOf}
+use Rattle.bound_core.specs.Timed.{ran_to}
+use Rattle.bound_phase.specs.declared.member.Member.{Member}
+
+-- The core can run to cycle `end` by its seat at this table.
+pub record CanRun (t : TableState) (memory : Memory) (end : ℕ) (m : Member) : Type 0 where
+  pub of_table : IsSeatOf t m.seat
+  pub core_is : m.seat.core ≡ m.core.number
+  pub new : m.seat.entries ≡ []
+  pub idle : m.core.timed.core.instruction ≡ None
+  pub base : m.core.timed.core.memory.base ≡ memory.base
+  pub size : m.core.timed.core.memory.size ≡ memory.size
+  pub shards : AreShardsOf t.cores t.shards memory.base memory.size
+  pub known : m.core.number < t.cores
+  pub room : IsNone m.core.timed.core.halted → end - m.core.timed.clock + 258 ≤ t.room
+  pub spare : IsNone m.core.timed.core.halted → end - m.core.timed.clock + 258 ≤ m.core.spare
+  pub clock : m.core.timed.clock ≤ 2 ^ 60
+  pub end_is : end ≤ 2 ^ 60
+
+-- It has run there: its accesses are its turns, and it is where they have left it.
+pub record HasRun (time : Entry → ℕ) (image : MemoryImage) (end : ℕ) (t : TableState) (before after : Member) : Type 0 where
+  pub number : after.core.number ≡ before.core.number
+  pub same_seat : IsSameSeat before.seat after.seat
+  pub turns : AreTurnsOf time image end before.core.timed after.seat.entries
+  pub left : after.core.timed ≡ ran_to image end (fold (after_turn time image end) before.core.timed after.seat.entries)
+  pub few : length after.seat.entries ≤ t.room

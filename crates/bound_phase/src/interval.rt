@@ -1,0 +1,188 @@
+//! The bound phase of an interval.
+ghost use Rattle.std.specs.Prelude.{◌≡◌, ◌<◌, ◌≤◌, ◌+◌, ◌^◌, ◌*◌, [], All, length, map, vec_capacity, IfOk, IfErr, OnOk};
+ghost use Rattle.machine_desc.specs.Machine.{IsMachine};
+ghost use Rattle.bound_phase.specs.Bounds.{AreSeated, CanBound, HaveRoom, IsBound};
+ghost use Rattle.bound_phase.specs.Shares.{AreEmpty, HaveReturned, mates};
+
+use crate::crew::{Crew, work_all};
+use crate::hiring::{crews, hire, let_go};
+use access_log::Merger;
+use bound_core::BoundCore;
+use event_graph::Expand;
+use machine_desc::Machine;
+use rv_core::Program;
+use shard::Shard;
+use shard_table::{CoreSeat, ShardTable};
+use std::alloc::Global;
+use std::sync::Wait;
+use std::thread::Threads;
+use zs_host::Gate;
+use zs_num::{Cycle, Entries, NoMemory};
+
+/// What a core can access in an interval, beside one access for each cycle.
+const BESIDE_CYCLES: u32 = 258;
+
+/// Cores and shards at the end of an interval, and the accesses of all cores in recorded order.
+#[derive(Drop)]
+pub struct Bounded {
+    pub cores: Vec<BoundCore>,
+    pub shards: Vec<Shard>,
+    pub entries: Entries,
+}
+
+/// Runs the cores to the end of the interval, cycle `end`, by so many workers: each runs the cores whose
+/// number is its own modulo the number of workers, in ascending order. Before each access, when it has
+/// no shard's turn, a worker passes the gate. Where memory runs out, cores and shards come back as they
+/// were, with no entries; no access was made then.
+pub fn bound<R: Threads + Wait + Sync, G: Gate, P: Program + Sync, X: Expand + Sync>(
+    rt: &R,
+    alloc: Global,
+    machine: &Machine,
+    program: &P,
+    x: &X,
+    mut cores: Vec<BoundCore>,
+    shards: Vec<Shard>,
+    end: Cycle,
+    workers: u16,
+    gate: &G,
+) -> Result<Bounded, (NoMemory, Bounded)>
+    requires machine { IsMachine machine.now }
+    requires can { CanBound machine.now end cores.items shards.items }
+    requires end { end ≤ 2 ^ 60 }
+    requires workers { (0 < workers) × (workers ≤ 64) }
+    ensures bound { IfOk result (λ b. IsBound (X.time x.now) (P.image program.now) end cores.items shards.items b.cores.items b.shards.items b.entries) }
+    ensures cores { IfErr result (λ back. (map (λ c. c.timed) back.1.cores.items ≡ map (λ c. c.timed) cores.items) × (map (λ c. c.number) back.1.cores.items ≡ map (λ c. c.number) cores.items)) }
+    ensures shards { IfErr result (λ back. back.1.shards.items ≡ shards.items) }
+    ensures none { IfErr result (λ back. back.1.entries ≡ []) }
+{
+    access_log::laws::rising_stamps_are_distinct();
+    access_log::laws::rising_lists_stay();
+    access_log::laws::cores_decide_the_order();
+    let Ok(memory) = Memory::new(alloc, machine, &mut cores, workers) else {
+        return Err((NoMemory, no_entries(alloc, cores, shards)));
+    };
+    let Memory {
+        mut crews,
+        mut back,
+        mut seats_back,
+        merger,
+    } = memory;
+    let room = machine.interval as u32 + BESIDE_CYCLES;
+    match ShardTable::make(alloc, shards, machine.cores, room) {
+        Ok((table, seats)) => {
+            take_turns(
+                rt,
+                gate,
+                &table,
+                program,
+                x,
+                machine,
+                end,
+                cores,
+                seats,
+                &mut crews,
+                &mut back,
+                &mut seats_back,
+            );
+            let (shards, logs) = table.close(seats_back);
+            let entries = merger.merge(&logs);
+            Ok(Bounded {
+                cores: back,
+                shards,
+                entries,
+            })
+        }
+        Err((_, shards)) => Err((NoMemory, no_entries(alloc, cores, shards))),
+    }
+}
+
+// All cores run to the end of the interval, and come back in order of their numbers with their seats.
+fn take_turns<R: Threads + Wait + Sync, G: Gate, P: Program + Sync, X: Expand + Sync>(
+    rt: &R,
+    gate: &G,
+    table: &ShardTable,
+    program: &P,
+    x: &X,
+    machine: &Machine,
+    end: Cycle,
+    cores: Vec<BoundCore>,
+    seats: Vec<CoreSeat>,
+    crews: &mut [Crew],
+    back: &mut Vec<BoundCore>,
+    seats_back: &mut Vec<CoreSeat>,
+)
+    requires machine { IsMachine machine.now }
+    requires end { end ≤ 2 ^ 60 }
+    requires hired { AreSeated machine.now end table.now cores.items seats.items }
+    requires crews { (0 < length crews.old) × (length crews.old ≤ 64) × All (AreEmpty machine.now.cores) crews.old }
+    requires back { (back.old.items ≡ []) × (machine.now.cores ≤ vec_capacity back.old) }
+    requires seats_back { (seats_back.old.items ≡ []) × (machine.now.cores ≤ vec_capacity seats_back.old) }
+    ensures { HaveReturned (X.time x.now) (P.image program.now) end table.now (mates cores.items seats.items) back.new.items seats_back.new.items }
+{
+    hire(cores, seats, crews);
+    work_all(rt, gate, table, program, x, &machine.memory, end, crews);
+    let_go(crews, machine.cores, back, seats_back);
+}
+
+// Cores and shards as they were handed in.
+fn no_entries(alloc: Global, cores: Vec<BoundCore>, shards: Vec<Shard>) -> Bounded
+    ensures { result ≡ record { cores = cores; shards = shards; entries = [] } }
+{
+    Bounded {
+        cores,
+        shards,
+        entries: Entries::of(Vec::new(alloc)),
+    }
+}
+
+// All memory that a bound phase takes, beside that of the table.
+struct Memory {
+    crews: Vec<Crew>,
+    back: Vec<BoundCore>,
+    seats_back: Vec<CoreSeat>,
+    merger: Merger,
+}
+
+impl Memory {
+    fn new(
+        alloc: Global,
+        machine: &Machine,
+        cores: &mut [BoundCore],
+        workers: u16,
+    ) -> Result<Self, NoMemory>
+        requires machine { IsMachine machine.now }
+        requires count { length cores.old ≡ machine.now.cores }
+        requires workers { (0 < workers) × (workers ≤ 64) }
+        ensures count { length cores.new ≡ length cores.old }
+        ensures timed { map (λ c. c.timed) cores.new ≡ map (λ c. c.timed) cores.old }
+        ensures number { map (λ c. c.number) cores.new ≡ map (λ c. c.number) cores.old }
+        ensures spare { OnOk result (All (HaveRoom (machine.now.interval + 258)) cores.new) }
+        ensures crews { IfOk result (λ m. (0 < length m.crews.items) × (length m.crews.items ≤ 64) × All (AreEmpty machine.now.cores) m.crews.items) }
+        ensures back { IfOk result (λ m. (m.back.items ≡ []) × (machine.now.cores ≤ vec_capacity m.back)) }
+        ensures seats { IfOk result (λ m. (m.seats_back.items ≡ []) × (machine.now.cores ≤ vec_capacity m.seats_back)) }
+        ensures merger { IfOk result (λ m. m.merger ≡ machine.now.cores * (machine.now.interval + 258)) }
+    {
+        reserve_all(cores, machine.interval)?;
+        let room = machine.interval as u32 + BESIDE_CYCLES;
+        Ok(Memory {
+            crews: crews(alloc, workers.min(machine.cores), machine.cores)?,
+            back: Vec::with_capacity(alloc, usize::from(machine.cores))?,
+            seats_back: Vec::with_capacity(alloc, usize::from(machine.cores))?,
+            merger: Merger::with_room(alloc, u32::from(machine.cores) * room)?,
+        })
+    }
+}
+
+// Makes room on the console of each core for what it can write in the interval.
+fn reserve_all(cores: &mut [BoundCore], interval: u64) -> Result<(), NoMemory>
+    requires { interval ≤ 10000 }
+    ensures count { length cores.new ≡ length cores.old }
+    ensures timed { map (λ c. c.timed) cores.new ≡ map (λ c. c.timed) cores.old }
+    ensures number { map (λ c. c.number) cores.new ≡ map (λ c. c.number) cores.old }
+    ensures spare { OnOk result (All (HaveRoom (interval + 258)) cores.new) }
+{
+    for i in 0..cores.len() {
+        cores[i].reserve(interval)?;
+    }
+    Ok(())
+}

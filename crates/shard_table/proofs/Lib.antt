@@ -1,0 +1,10 @@
+pub mod Ends
+pub mod Seats
+pub mod Taking
+pub mod Giving
+pub mod Seating
+pub mod Closing
+pub mod Making
+pub mod Joining
+pub mod Turning
+pub mod Hiring

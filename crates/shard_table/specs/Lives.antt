@@ -1,0 +1,34 @@
+-- The accesses that a shard serves, one after the other.
+use Rattle.std.specs.Prelude.{◌≡◌, ℕ, ◌<◌, ◌≤◌, List, [], ◌∷◌, length, slice_get, All, Some}
+use Rattle.std.specs.List.{fold}
+use Rattle.zs_num.specs.declared.entry.Entry.{Entry}
+use Rattle.zs_num.specs.declared.request.Request.{Request}
+use Rattle.access_log.specs.History.{AreStamped, bank_of, of_bank, of_core}
+use Rattle.access_log.specs.RecordedOrder.{no_stamps}
+use Rattle.shard.specs.Served.{CanServe, HasCore, ShardState, after, met_by, reply_of}
+
+-- the shard gives these entries their replies and their outcomes, one after the other
+abbrev pub AreServedBy : ShardState → List Entry → Type 0
+AreServedBy shard [] = Unit {0}
+AreServedBy shard (e ∷ entries) = (e.reply ≡ reply_of shard e) × (e.outcome ≡ met_by shard e) × AreServedBy (after shard e) entries
+
+-- the shard after them
+abbrev pub after_all : ShardState → List Entry → ShardState
+after_all shard entries = fold after shard entries
+
+-- what a core can ask of these shards
+abbrev pub MayAsk : List ShardState → (core : ℕ) → Request → Type 0
+MayAsk shards core request =
+    (shard : ShardState) × (slice_get shards (bank_of (length shards) request) ≡ Some shard) × HasCore shard core × CanServe shard request
+
+-- shards in order of their numbers, before the first access
+abbrev pub AreNew : List ShardState → Type 0
+AreNew shards = (number : ℕ) (shard : ShardState) → slice_get shards number ≡ Some shard → (shard.number ≡ number) × (shard.last ≡ 0)
+
+-- The accesses of cores to new shards, in the order in which their turns ended.
+pub record AreAccesses (shards : List ShardState) (cores room : ℕ) (history : List Entry) : Type 0 where
+  pub known : All (λ e. e.core < cores) history
+  pub served : (number : ℕ) (shard : ShardState) → slice_get shards number ≡ Some shard → AreServedBy shard (of_bank (length shards) number history)
+  pub stamped : AreStamped (length shards) (no_stamps (length shards) cores) history
+  pub low : All (λ e. e.stamp ≤ length history) history
+  pub fits : (core : ℕ) → length (of_core core history) ≤ room

@@ -1,0 +1,65 @@
+-- What holds between any two steps on the table. There is one history of accesses, in the order in which their turns ended, which
+-- nothing stores. What a seat logs are those of its core, and what a shard has become is what its own have made of it.
+use Rattle.std.specs.Prelude.{◌≡◌, ℕ, ◌+◌, ◌*◌, ◌<◌, ◌⊎◌, List, [], ◌∷◌, length, slice_get, slice_index, All, Some}
+use mathlib.Core.Option.{some}
+use lib.ListN.{get_elem?}
+use Rattle.zs_num.specs.declared.entry.Entry.{Entry}
+use Rattle.access_log.specs.History.{of_bank, of_core}
+use Rattle.atomic_table.specs.Table.{State}
+use Rattle.shard.specs.Served.{ShardState}
+use Rattle.shard_table.specs.declared.view.View.{View}
+use Rattle.shard_table.specs.declared.view.Part.{Part}
+use Rattle.shard_table.specs.declared.view.Served.{Served}
+use Rattle.shard_table.specs.Lives.{AreAccesses, AreNew, after_all}
+
+-- the word of a shard's turn
+abbrev pub word_of : (shard : ℕ) → ℕ
+word_of shard = 16 * shard
+
+-- among these are the accesses of the core
+abbrev pub Has : (core : ℕ) → List Part → Type 0
+Has core [] = ⊥
+Has core (part ∷ parts) = (part.core ≡ core) ⊎ Has core parts
+
+-- no core twice
+abbrev pub AreDistinct : List Part → Type 0
+AreDistinct [] = Unit {0}
+AreDistinct (part ∷ parts) = (Has part.core parts → ⊥) × AreDistinct parts
+
+-- no two seats have the same core
+abbrev pub AreApart : List View → Type 0
+AreApart views = (place other core : ℕ) (v w : View) → get_elem? views place ≡ some v → get_elem? views other ≡ some w
+    → Has core v.parts → Has core w.parts → place ≡ other
+
+-- the first seat knows that no core has a seat or accesses from the number of seats made on
+abbrev pub AreFresh : List Entry → List View → Type 0
+AreFresh history views = (place : ℕ) (v : View) → get_elem? views place ≡ some v → 0 < v.made
+    → All (λ e. e.core < v.made) history
+    × ((other core : ℕ) (w : View) → get_elem? views other ≡ some w → Has core w.parts → core < v.made)
+
+module _ (shards : List ShardState) (cores room : ℕ) where
+  -- what a seat knows is true of the history and the words
+  pub record IsTrueOf (history : List Entry) (words : List ℕ) (v : View) : Type 0 where
+    pub opening : 0 < length v.parts → (v.shards ≡ shards) × (v.cores ≡ cores) × (v.room ≡ room)
+    pub parts : All (λ part. (part.core < cores) × (part.list ≡ of_core part.core history)) v.parts
+    pub distinct : AreDistinct v.parts
+    pub hold : (served : Served) → v.hold ≡ Some served
+        → (part : Part) × (v.parts ≡ part ∷ []) × (served.shard < length shards)
+        × (slice_index words (word_of served.shard) ≡ part.core + 1) × (served.list ≡ of_bank (length shards) served.shard history)
+    pub first : 0 < v.made → Has 0 v.parts
+
+  pub record AreTurns (s : State ShardState View) : Type 0 where
+    pub history : List Entry
+    pub begins : AreNew shards
+    pub accesses : AreAccesses shards cores room history
+    pub words : length s.words ≡ 16 * length shards
+    pub homes : length s.homes ≡ length shards
+    -- where nobody has its turn, a shard is at home as its accesses have left it
+    pub home : (number : ℕ) (shard : ShardState) → slice_get shards number ≡ Some shard → slice_index s.words (word_of number) ≡ 0
+        → get_elem? s.homes number ≡ some (some (after_all shard (of_bank (length shards) number history)))
+    -- else some seat has it
+    pub busy : (number : ℕ) → number < length shards → 0 < slice_index s.words (word_of number)
+        → (place : ℕ) × (v : View) × (served : Served) × (get_elem? s.views place ≡ some v) × (v.hold ≡ Some served) × (served.shard ≡ number)
+    pub seats : (place : ℕ) (v : View) → get_elem? s.views place ≡ some v → IsTrueOf history s.words v
+    pub apart : AreApart s.views
+    pub fresh : AreFresh history s.views

@@ -1,0 +1,67 @@
+-- What a seat knows, and how that changes.
+use Rattle.std.specs.Prelude.{ℕ, ◌+◌, List, [], ◌∷◌, ◌++◌, Some, None}
+use Rattle.zs_num.specs.declared.entry.Entry.{Entry}
+use Rattle.shard.specs.Served.{ShardState}
+use Rattle.shard_table.specs.declared.view.View.{View}
+use Rattle.shard_table.specs.declared.view.Part.{Part}
+use Rattle.shard_table.specs.declared.view.Served.{Served}
+use Rattle.shard_table.specs.declared.view.Found.{Found}
+
+abbrev pub nothing_found : Found
+nothing_found = record { shard = 0; word = 0; count = 0 }
+
+abbrev pub nothing_served : Served
+nothing_served = record { shard = 0; list = [] }
+
+-- no access of a core yet
+abbrev pub new_part : (core : ℕ) → Part
+new_part core = record { core = core; list = [] }
+
+-- what the first seat knows at first: it is core 0's
+abbrev pub first_view : List ShardState → (cores room : ℕ) → View
+first_view shards cores room = record {
+  shards = shards;
+  cores = cores;
+  room = room;
+  made = 1;
+  parts = new_part 0 ∷ [];
+  hold = None;
+  found = nothing_found;
+  noted = nothing_served;
+}
+
+-- ---- a turn
+
+-- the turn of a shard was taken, which has served these accesses
+abbrev pub holding : View → (shard : ℕ) → List Entry → View
+holding v shard list = record v { hold = Some (record { shard = shard; list = list }) }
+
+-- another core had the turn of the shard
+abbrev pub refused : View → (shard word : ℕ) → View
+refused v shard word = record v { found = record { shard = shard; word = word; count = v.found.count + 1 } }
+
+-- the turn was given back after an access of the seat's core
+abbrev pub given : View → Part → Served → Entry → View
+given v part served e = record v {
+  parts = record part { list = part.list ++ e ∷ [] } ∷ [];
+  hold = None;
+  noted = record served { list = served.list ++ e ∷ [] };
+}
+
+-- ---- seats
+
+-- the first seat has made a seat more
+abbrev pub one_more : View → View
+one_more v = record v { made = v.made + 1 }
+
+-- which is the next core's
+abbrev pub next_seat : View → View
+next_seat v = record v { made = 0; parts = new_part v.made ∷ []; hold = None; found = nothing_found; noted = nothing_served }
+
+-- one seat for the cores of both
+abbrev pub both : View → View → View
+both v w = record v { parts = v.parts ++ w.parts }
+
+-- what is left of the other
+abbrev pub spent : View
+spent = record { shards = []; cores = 0; room = 0; made = 0; parts = []; hold = None; found = nothing_found; noted = nothing_served }

@@ -1,0 +1,35 @@
+//! What holds between any two steps on the table.
+//! Word 16 s is 0 where nobody has the turn of shard s, and c + 1 where core c has it. Slot s is the
+//! shard. The factor keeps the words of two shards 128 bytes apart.
+ghost use Rattle.std.specs.Prelude.{ℕ};
+
+use crate::view::View;
+use atomic_table::{Seat, Shared, Table, TableRule};
+use shard::Shard;
+use std::alloc::Global;
+use std::snapshot::Snapshot;
+
+/// What the table is told when it is made.
+#[derive(Drop)]
+pub struct Opening {
+    pub shards: Snapshot<Vec<Shard>>,
+    pub cores: u16,
+    pub room: u32,
+}
+
+pub struct Turns;
+
+impl TableRule<Shard, View, Opening> for Turns {
+    ghost use Rattle.shard_table.specs.Views.{first_view};
+    ghost use Rattle.shard_table.specs.Rule.{AreTurns};
+
+    ghost holds = { λ key s. AreTurns key.shards.value.items key.cores key.room s };
+
+    ghost first = { λ key. first_view key.shards.value.items key.cores key.room };
+}
+
+pub type Words = Table<Shard, View, Opening, Turns, Global>;
+
+pub type Bench = Shared<Shard, View, Opening, Turns>;
+
+pub type Place = Seat<Shard, View>;

@@ -1,0 +1,41 @@
+//! What a seat at the table knows. No value of these types is made: they are what proofs say of a seat.
+//! An array of length 0 stands for a list of any length.
+use shard::Shard;
+use zs_num::Entry;
+
+/// The accesses of a core, in its order.
+pub struct Part {
+    pub core: u64,
+    pub list: [Entry; 0],
+}
+
+/// The accesses to a shard, in the order in which it served them.
+pub struct Served {
+    pub shard: u64,
+    pub list: [Entry; 0],
+}
+
+/// The latest word that a seat found with another core's turn in it, and how many it found so far.
+pub struct Found {
+    pub shard: u64,
+    pub word: u64,
+    pub count: u64,
+}
+
+/// What a seat knows.
+pub struct View {
+    /// The shards before the first access.
+    pub shards: [Shard; 0],
+    pub cores: u64,
+    /// How many accesses a core can make.
+    pub room: u64,
+    /// How many seats were made, where it is the first.
+    pub made: u64,
+    /// The accesses of the cores whose seat it is.
+    pub parts: [Part; 0],
+    /// The shard whose turn it has, with the accesses to it.
+    pub hold: Option<Served>,
+    pub found: Found,
+    /// The shard of its latest access, with the accesses to it up to that one.
+    pub noted: Served,
+}
