@@ -6,9 +6,8 @@
 #define ACCOUNTS 8
 #define OPENING 1000
 
-/* The transfers of each core. */
-#ifndef TURNS
-#define TURNS 60
+#ifndef TRANSFERS
+#define TRANSFERS 240
 #endif
 
 /* A lock and what it protects, in one line. */
@@ -40,8 +39,9 @@ int main(long number, long count)
         for (size_t i = 0; i < ACCOUNTS; i++)
             accounts[i].balance = OPENING;
     wait_for_all(&barrier, cores);
-    for (uint64_t turn = 0; turn < TURNS; turn++) {
-        uint64_t random = mixed(core * TURNS + turn);
+    uint64_t end = first_item(TRANSFERS, core + 1, cores);
+    for (uint64_t i = first_item(TRANSFERS, core, cores); i < end; i++) {
+        uint64_t random = mixed(i);
         uint64_t from = random % ACCOUNTS;
         uint64_t to = (from + 1 + random / ACCOUNTS % (ACCOUNTS - 1)) % ACCOUNTS;
         transfer(from, to, (int64_t)(random >> 56));
@@ -53,7 +53,7 @@ int main(long number, long count)
         money += accounts[i].balance;
         transfers += accounts[i].transfers;
     }
-    if (money != ACCOUNTS * OPENING || transfers != TURNS * cores)
+    if (money != ACCOUNTS * OPENING || transfers != TRANSFERS)
         return 1;
     if (core == 0) {
         print_number(transfers);
