@@ -19,8 +19,6 @@ use Rattle.zsim.specs.Steps.{Answers, RanCut, RanWhole, RunsAs}
 -- what holds of a call that read both inputs, and whose machine passed its checks
 pub record HasInputs (seen : Seen) (k : Kept) (machine : Machine) (asked : Command) : Type 0 where
   pub inputs : KeepsInputs seen k
-  pub sched_file : k.sched_file ≡ []
-  pub cores : k.schedule.cores ≡ 1
   pub no_fault : NoFileFailed seen.files
   pub names : SameNames seen.files
   pub is : command_of seen.words ≡ Some asked
@@ -45,8 +43,6 @@ module _ (seen : Seen) (k : Kept) (machine : Machine) (asked : Command) (has : H
     usage = λ is. absurd (other is);
     no_command = λ none. absurd (command none);
     kept = keeps;
-    kept_sched_file = has.sched_file;
-    kept_cores = has.cores;
     refusals = cause;
     report = reports;
     prefix = leaves;
@@ -64,7 +60,7 @@ module _ (seen : Seen) (k : Kept) (machine : Machine) (asked : Command) (has : H
       let refusal : setup_of seen.words k ≡ Err (status.TooLong which.Exe) = setup_is ∙ is in
       outcome (status.TooLong which.Exe) (λ e. cc) has.inputs (refusal, record { files = has.no_fault; out = none }) tt (lists, nothing) (λ _ _. inr (rw refusal refl))
   outcome_of_exe status.NoMemory is lists none nothing =
-      outcome status.NoMemory (λ e. cc) (inr (inr has.inputs)) (record { files = has.no_fault; out = none }) tt (inl (inl lists, nothing)) (λ _ _. inl refl)
+      outcome status.NoMemory (λ e. cc) (inr (inr (inr has.inputs))) (record { files = has.no_fault; out = none }) tt (inl (inl lists, nothing)) (λ _ _. inl refl)
   outcome_of_exe (status.TooLong which.Machine) is lists none nothing = absurd is
   outcome_of_exe (status.BadMachine bad) is lists none nothing = absurd is
   outcome_of_exe status.Usage is lists none nothing = absurd is
@@ -106,9 +102,9 @@ module _ (seen : Seen) (k : Kept) (machine : Machine) (asked : Command) (has : H
     outcome_of_run status.WriteFault (part, failed) =
         outcome status.WriteFault (λ e. cc) has.inputs (sound, has.no_fault, failed) tt (cut part) (λ _ no. absurd (no failed))
     outcome_of_run status.NoMemory (inl before, none) =
-        outcome status.NoMemory (λ e. cc) (inr (inr has.inputs)) (record { files = has.no_fault; out = none }) tt (inl (inr (stopped before.0), before.1)) (λ _ _. inl refl)
+        outcome status.NoMemory (λ e. cc) (inr (inr (inr has.inputs))) (record { files = has.no_fault; out = none }) tt (inl (inr (stopped before.0), before.1)) (λ _ _. inl refl)
     outcome_of_run status.NoMemory (inr part, none) =
-        outcome status.NoMemory (λ e. cc) (inr (inr has.inputs)) (record { files = has.no_fault; out = none }) tt (inr (cut part)) (λ _ _. inl refl)
+        outcome status.NoMemory (λ e. cc) (inr (inr (inr has.inputs))) (record { files = has.no_fault; out = none }) tt (inr (cut part)) (λ _ _. inl refl)
     outcome_of_run status.Usage r = absurd r
     outcome_of_run status.ReadFault r = absurd r
     outcome_of_run (status.BadMachine bad) r = absurd r

@@ -13,8 +13,9 @@ use Rattle.zsim.proofs.Outcome.{HasInputs}
 
 -- the inputs that the words ask for are kept
 keeps : (seen : Seen) (k : Kept) (machine : Machine) (asked : Command) → command_of seen.words ≡ Some asked → machine_by k.machine ≡ Ok machine
-    → IsMachineText seen.files asked.machine k.machine → IsExeOf seen.files machine asked.exe k.exe → KeepsInputs seen k
-keeps seen k machine asked is machine_is text exe = record { machine = rw is text; exe = rw (is, machine_is) exe }
+    → IsMachineText seen.files asked.machine k.machine → IsExeOf seen.files machine asked.exe k.exe → k.sched_file ≡ [] → k.schedule.cores ≡ machine.cores → KeepsInputs seen k
+keeps seen k machine asked is machine_is text exe sched_file cores =
+    record { machine = rw is text; exe = rw (is, machine_is) exe; sched_file = sched_file; cores = rw machine_is cores }
 
 module _ {F : Type 0} (tells : Bool) (contents : F → List ℕ → Option (List ℕ)) (faults : F → ℕ) (latest : F → Option Fault) (before between after : F) where
   abbrev first : FilesSeen
@@ -52,12 +53,10 @@ module _ {F : Type 0} (tells : Bool) (contents : F → List ℕ → Option (List
   pub has_inputs : (words : List (List ℕ)) (out : SinkSeen) (k : Kept) (machine : Machine) (asked : Command) → command_of words ≡ Some asked
       → SameNames first → SameNames second → NoFileFailed first → NoFileFailed second
       → IsMachineText first asked.machine k.machine → IsExeOf second machine asked.exe k.exe
-      → k.sched_file ≡ [] → k.schedule.cores ≡ 1 → machine_by k.machine ≡ Ok machine
+      → k.sched_file ≡ [] → k.schedule.cores ≡ machine.cores → machine_by k.machine ≡ Ok machine
       → HasInputs (record { words = words; files = both; out = out }) k machine asked
   has_inputs words out k machine asked is same then_same none then_none text exe sched_file cores machine_is = record {
-    inputs = keeps (record { words = words; files = both; out = out }) k machine asked is machine_is (text_stays asked.machine k.machine text) (exe_stays same machine asked.exe k.exe exe);
-    sched_file = sched_file;
-    cores = cores;
+    inputs = keeps (record { words = words; files = both; out = out }) k machine asked is machine_is (text_stays asked.machine k.machine text) (exe_stays same machine asked.exe k.exe exe) sched_file cores;
     no_fault = none_failed none then_none;
     names = names_stay same then_same;
     is = is;

@@ -17,6 +17,7 @@ use Rattle.zsim.specs.ErrorLine.{error_line}
 use Rattle.zsim.specs.Limits.{exe_limit, machine_limit}
 use Rattle.zsim.specs.ReferenceRun.{IsLegalSoFar, IsRunOf}
 use Rattle.zsim.specs.Results.{Results, report_of}
+use Rattle.zsim.specs.Schedule.{IntervalLists}
 use Rattle.zsim.specs.Seen.{FilesSeen, Seen, SinkSeen, FailedToReadInput, FileFailed, Gained, GainedNothing, GainedPrefix, NoFileFailed, NoPutFailed, PutFailed, SameNames, WasRead}
 use Rattle.zsim.specs.Setup.{Setup, machine_by, setup_of}
 
@@ -30,32 +31,46 @@ abbrev pub IsExeOf : FilesSeen → Machine → Exe → List ℕ → Type 0
 IsExeOf files machine (file name) bytes = WasRead files name exe_limit bytes
 IsExeOf files machine (generated n) bytes = bytes ≡ file_of (generated_image n machine.memory.base)
 
--- What is kept: nothing yet, the text of the machine, or this and the executable.
+-- no interval yet, for so many cores
+abbrev pub no_intervals : (cores : ℕ) → IntervalLists
+no_intervals cores = record { cores = cores; lists = [] }
+
+-- What is kept: nothing yet, the text of a machine, a machine that passed its checks, or this and the executable.
 pub record KeepsNothing (kept : Kept) : Type 0 where
   pub machine : kept.machine ≡ []
   pub exe : kept.exe ≡ []
-  pub lists : kept.schedule.lists ≡ []
+  pub sched_file : kept.sched_file ≡ []
+  pub schedule : kept.schedule ≡ no_intervals 0
+
+pub record KeepsText (seen : Seen) (kept : Kept) : Type 0 where
+  pub machine : IsSomeAnd (command_of seen.words) (λ command. IsMachineText seen.files command.machine kept.machine)
+  pub exe : kept.exe ≡ []
+  pub sched_file : kept.sched_file ≡ []
+  pub schedule : kept.schedule ≡ no_intervals 0
 
 pub record KeepsMachine (seen : Seen) (kept : Kept) : Type 0 where
   pub machine : IsSomeAnd (command_of seen.words) (λ command. IsMachineText seen.files command.machine kept.machine)
   pub exe : kept.exe ≡ []
-  pub lists : kept.schedule.lists ≡ []
+  pub sched_file : kept.sched_file ≡ []
+  pub schedule : IsOkAnd (machine_by kept.machine) (λ machine. kept.schedule ≡ no_intervals machine.cores)
 
 pub record KeepsInputs (seen : Seen) (kept : Kept) : Type 0 where
   pub machine : IsSomeAnd (command_of seen.words) (λ command. IsMachineText seen.files command.machine kept.machine)
   pub exe : IsSomeAnd (command_of seen.words) (λ command. IsOkAnd (machine_by kept.machine) (λ machine. IsExeOf seen.files machine command.exe kept.exe))
+  pub sched_file : kept.sched_file ≡ []
+  pub cores : IsOkAnd (machine_by kept.machine) (λ machine. kept.schedule.cores ≡ machine.cores)
 
--- It goes as far as the steps that were reached. Where the schedule has an interval, the inputs are kept.
+-- It goes as far as the steps that were reached.
 abbrev pub Keeps : Status → Seen → Kept → Type 0
 Keeps status.Usage seen kept = KeepsNothing kept
 Keeps status.ReadFault seen kept = KeepsNothing kept ⊎ KeepsMachine seen kept
-Keeps status.NoMemory seen kept = KeepsNothing kept ⊎ KeepsMachine seen kept ⊎ KeepsInputs seen kept
+Keeps status.NoMemory seen kept = KeepsNothing kept ⊎ KeepsText seen kept ⊎ KeepsMachine seen kept ⊎ KeepsInputs seen kept
 Keeps status.Ran seen kept = KeepsInputs seen kept
 Keeps status.Limit seen kept = KeepsInputs seen kept
 Keeps status.WriteFault seen kept = KeepsInputs seen kept
-Keeps (status.BadMachine bad) seen kept = KeepsMachine seen kept
+Keeps (status.BadMachine bad) seen kept = KeepsText seen kept
 Keeps (status.BadElf bad) seen kept = KeepsInputs seen kept
-Keeps (status.TooLong which.Machine) seen kept = KeepsMachine seen kept
+Keeps (status.TooLong which.Machine) seen kept = KeepsText seen kept
 Keeps (status.TooLong which.Exe) seen kept = KeepsInputs seen kept
 
 -- no file and no put failed
@@ -138,8 +153,6 @@ pub record IsOutcome (seen : Seen) (s : Status) (k : Kept) : Type 0 where
   pub no_command : command_of seen.words ≡ None → (s ≡ status.Usage) ⊎ (s ≡ status.NoMemory)
   -- what was read is kept
   pub kept : Keeps s seen k
-  pub kept_sched_file : k.sched_file ≡ []
-  pub kept_cores : k.schedule.cores ≡ 1
   -- each status has its cause, and each fault its status
   pub refusals : HasCause s seen k
   -- the report is that of the one-thread machine under the kept schedule

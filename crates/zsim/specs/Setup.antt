@@ -1,8 +1,7 @@
 -- What a call is to run. The steps that decide it are the words, the machine and the executable, each of which is read,
 -- tested for its length and checked; the first that refuses decides.
-use Rattle.std.specs.Prelude.{ℕ, pos, ◌==◌, nat_lt, if◌then◌else◌, List, length, codes, Option, Some, None, Result, Ok, Err}
+use Rattle.std.specs.Prelude.{ℕ, nat_lt, if◌then◌else◌, List, length, Option, Some, None, Result, Ok, Err}
 use Rattle.machine_desc.specs.declared.errors.BadMachine.{BadMachine}
-use Rattle.machine_desc.specs.declared.errors.BadMachine.TheVariants.{Range}
 use Rattle.machine_desc.specs.declared.machine.Machine.{Machine}
 use Rattle.machine_desc.specs.Description.{machine_of}
 use Rattle.elf_load.specs.MemoryImage.{MemoryImage}
@@ -20,13 +19,9 @@ pub record Setup : Type 0 where
   pub machine : Machine
   pub image : MemoryImage
 
--- a machine of several cores is refused: none can be run yet
-abbrev pub with_one_core : Machine → Result Machine Status
-with_one_core machine = if machine.cores == 1 then Ok machine else Err (status.BadMachine (Range (codes "cores") (pos machine.cores)))
-
 -- the answer of the checks of a machine description
 abbrev pub with_machine : Result Machine BadMachine → Result Machine Status
-with_machine (Ok machine) = with_one_core machine
+with_machine (Ok machine) = Ok machine
 with_machine (Err bad) = Err (status.BadMachine bad)
 
 -- The machine of a description, or the refusal of the first check that fails. The first check is of the length.

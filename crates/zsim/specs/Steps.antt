@@ -1,11 +1,10 @@
 -- What the private steps of a call promise to the call. It serves their contracts alone: no clause of a public function
 -- cites it.
-use Rattle.std.specs.Prelude.{◌≡◌, ◌⊎◌, ℕ, Bool, List, [], Option, Result, Ok, Err}
+use Rattle.std.specs.Prelude.{◌≡◌, ◌⊎◌, ℕ, Bool, List, Option, Result, Ok, Err}
 use Rattle.elf_load.specs.MemoryImage.{MemoryImage}
 use Rattle.machine_desc.specs.declared.machine.Machine.{Machine}
 use Rattle.zs_host.specs.declared.files.FileFail.{FileFail}
 use Rattle.zs_host.specs.declared.files.FileFail.TheVariants as file
-use Rattle.zsim.specs.declared.ended.Kept.{Kept}
 use Rattle.zsim.specs.declared.ended.Status.{Status}
 use Rattle.zsim.specs.declared.ended.Status.TheVariants as status
 use Rattle.zsim.specs.declared.ended.Which.TheVariants as which
@@ -14,14 +13,6 @@ use Rattle.zsim.specs.ReferenceRun.{IsLegalSoFar, IsRunOf}
 use Rattle.zsim.specs.Results.{Results, report_of}
 use Rattle.zsim.specs.Seen.{FilesSeen, SinkSeen, FailedToReadInput, NoFileFailed, Gained, GainedNothing, GainedPrefix, NoPutFailed, PutFailed}
 use Rattle.zsim.specs.Setup.{Setup}
-
--- what is kept before the first step; the schedule is for one core
-pub record IsEmpty (kept : Kept) : Type 0 where
-  pub machine : kept.machine ≡ []
-  pub exe : kept.exe ≡ []
-  pub sched_file : kept.sched_file ≡ []
-  pub lists : kept.schedule.lists ≡ []
-  pub cores : kept.schedule.cores ≡ 1
 
 -- What the read of an input with this name answered: it took no fault, or the name could not be read.
 abbrev pub Reads : Result (List ℕ) FileFail → FilesSeen → Option (List ℕ) → Type 0

@@ -1,10 +1,10 @@
 // What a call is to run: the machine and the executable, each read and checked.
-ghost use Rattle.std.specs.Prelude.{◌≡◌, codes, IfOk, option_map};
+ghost use Rattle.std.specs.Prelude.{◌≡◌, IfOk, option_map};
 ghost use Rattle.machine_desc.specs.Machine.{IsMachine};
 ghost use Rattle.zsim.specs.CommandLine.{exe_file, exe_told};
 ghost use Rattle.zsim.specs.Ended.{IsExeOf, IsMachineText};
 ghost use Rattle.zsim.specs.Seen.{files_seen, SameNames};
-ghost use Rattle.zsim.specs.Setup.{loaded_on, machine_by, with_one_core};
+ghost use Rattle.zsim.specs.Setup.{loaded_on, machine_by};
 ghost use Rattle.zsim.specs.Steps.{Answers, AnswersMachine, Reads};
 
 use crate::command_line::Exe;
@@ -12,8 +12,8 @@ use crate::limits::{EXE_LIMIT, MACHINE_LIMIT};
 use crate::{Status, Which};
 use elf_load::{Image, LoadFail, load};
 use gen_prog::generate;
-use machine_desc::{BadMachine, KeyName, Machine, MachineFail, PLAIN, read};
-use std::alloc::{AllocError, Global};
+use machine_desc::{Machine, MachineFail, PLAIN, read};
+use std::alloc::Global;
 use zs_host::{FileFail, Files};
 use zs_num::Bytes;
 
@@ -40,44 +40,15 @@ pub fn read_machine<F: Files>(
 pub fn check_machine(alloc: Global, text: &[u8]) -> Result<Machine, Status>
     ensures answer { AnswersMachine result (machine_by text.now) }
     ensures valid { IfOk result IsMachine }
-    ensures one { IfOk result (λ machine. machine.cores ≡ 1) }
 {
     if text.len() > MACHINE_LIMIT {
         return Err(Status::TooLong(Which::Machine));
     }
     match read(alloc, text) {
-        Ok(machine) => with_one_core(alloc, machine),
+        Ok(machine) => Ok(machine),
         Err(MachineFail::Bad(bad)) => Err(Status::BadMachine(bad)),
         Err(MachineFail::NoMemory) => Err(Status::NoMemory),
     }
-}
-
-// A machine of one core. One of several cores is refused: none can be run yet.
-fn with_one_core(alloc: Global, machine: Machine) -> Result<Machine, Status>
-    requires { IsMachine machine }
-    ensures answer { AnswersMachine result (with_one_core machine) }
-    ensures valid { IfOk result IsMachine }
-    ensures one { IfOk result (λ machine. machine.cores ≡ 1) }
-{
-    if machine.cores == 1 {
-        return Ok(machine);
-    }
-    match cores_key(alloc) {
-        Ok(key) => Err(Status::BadMachine(BadMachine::Range {
-            key,
-            value: i64::from(machine.cores),
-        })),
-        Err(AllocError) => Err(Status::NoMemory),
-    }
-}
-
-// The key of the number of cores.
-fn cores_key(alloc: Global) -> Result<KeyName, AllocError>
-    ensures { IfOk result (λ key. key ≡ codes "cores") }
-{
-    let text = String::from_str(alloc, "cores")?;
-    let _utf8 = text.as_str();
-    Ok(KeyName::of(text.into_bytes()))
 }
 
 /// The bytes of the executable: the first of its file, up to the limit and one more; or those of the

@@ -1,13 +1,13 @@
 // The call that does all that the program does.
 ghost use Rattle.std.specs.Prelude.{◌≡◌, ◌⊎◌, [], IfOk, None, map, string_bytes};
 ghost use Rattle.machine_desc.specs.Machine.{IsMachine};
-ghost use Rattle.zsim.specs.Ended.{status_at, Gives, IsOutcome, Says};
+ghost use Rattle.zsim.specs.Ended.{status_at, Gives, IsOutcome, KeepsNothing, Says};
 ghost use Rattle.zsim.specs.ReferenceRun.{IsRunOf};
 ghost use Rattle.zsim.specs.CommandLine.{command_of};
 ghost use Rattle.zsim.specs.Simulation.{HasCounts};
 ghost use Rattle.zsim.specs.Results.{Results, report_of};
 ghost use Rattle.zsim.specs.Seen.{files_seen, sink_seen};
-ghost use Rattle.zsim.specs.Steps.{IsEmpty, RunsAs};
+ghost use Rattle.zsim.specs.Steps.{RunsAs};
 
 use crate::command_line::command_of;
 use crate::error_line::error_line;
@@ -47,7 +47,7 @@ pub fn zsim<F: Files, O: Sink, E: Sink, G: Gate>(
         machine: Bytes::of(Vec::new(alloc)),
         exe: Bytes::of(Vec::new(alloc)),
         sched_file: Bytes::of(Vec::new(alloc)),
-        schedule: Schedule::new(alloc, 1),
+        schedule: Schedule::new(alloc, 0),
     };
     let status = conduct(alloc, words, files, out, &mut kept);
     let said = say(alloc, err, &status);
@@ -62,7 +62,7 @@ fn conduct<F: Files, O: Sink>(
     out: &mut O,
     kept: &mut Kept,
 ) -> Status
-    requires { IsEmpty kept.old }
+    requires { KeepsNothing kept.old }
     ensures outcome { IsOutcome (record { words = map string_bytes words.now; files = files_seen F.tells F.contents F.faults F.latest files.old files.new; out = sink_seen O.tells O.bytes O.faults out.old out.new }) result kept.new }
     ensures untouched_files { command_of (map string_bytes words.now) ≡ None → files.new ≡ files.old }
     ensures untouched_output { (out.new ≡ out.old) ⊎ ((r : Results) × Gives (map string_bytes words.now) kept.new r) }
@@ -81,6 +81,7 @@ fn conduct<F: Files, O: Sink>(
         Ok(machine) => machine,
         Err(status) => return status,
     };
+    kept.schedule = Schedule::new(alloc, machine.cores);
     match read_exe(alloc, &machine, command.exe, files) {
         Ok(bytes) => kept.exe = bytes,
         Err(FileFail::Failed) => return Status::ReadFault,
@@ -111,11 +112,10 @@ fn run_and_report<O: Sink>(
     schedule: &mut Schedule,
 ) -> Status
     requires machine { IsMachine machine.now }
-    requires one { machine.now.cores ≡ 1 }
     requires base { image.now.base ≡ machine.now.memory.base }
     requires size { image.now.size ≡ machine.now.memory.size }
     requires empty { schedule.old.lists ≡ [] }
-    requires cores_known { schedule.old.cores ≡ 1 }
+    requires cores { schedule.old.cores ≡ machine.now.cores }
     ensures cores { schedule.new.cores ≡ schedule.old.cores }
     ensures run { RunsAs result machine.now brief image.now schedule.new.lists (sink_seen O.tells O.bytes O.faults out.old out.new) }
     ensures untouched { (out.new ≡ out.old) ⊎ ((r : Results) × IsRunOf machine.now image.now schedule.new.lists r) }

@@ -2,6 +2,7 @@
 use Rattle.std.proofs.Common.{◌≡◌, map, string_bytes, rules, Some, Ok, option_map, refl, sym, ◌∙◌, ap}
 use Rattle.zsim.specs.declared.ended.Kept.{Kept}
 use Rattle.zsim.specs.CommandLine.{command_told}
+use Rattle.zsim.specs.Schedule.{IntervalLists}
 use Rattle.zsim.specs.Seen.{Seen, files_seen, sink_seen}
 use Rattle.zsim.specs.Setup.{loaded_on}
 use Rattle.zsim.proofs.Outcome.{HasInputs, outcome_of_exe, outcome_of_run, untouched_or_run}
@@ -34,7 +35,7 @@ module _ (g : given.Over) (c : goal.After-drop-machine-in-Ok-check_exe-2 g) wher
       seen.words seen.out kept c.in-Ok-check_machine.machine (command_told c.in-Ok-Some.command) (sym c.in-Ok-Some.ensures ∙ ap (option_map command_told) asked)
       c.in-Ok.ensures.names c.in-Ok-read_exe.ensures.names c.in-Ok.ensures.faults c.in-Ok-read_exe.ensures.faults
       c.in-Ok.ensures.text c.in-Ok-read_exe.ensures.exe
-      c.requires.sched_file (c.run_and_report.ensures.cores ∙ c.requires.cores) (search rules)
+      c.requires.sched_file (c.run_and_report.ensures.cores ∙ ap (λ (l : IntervalLists). l.cores) c.new.ensures) (search rules)
 
   loads : loaded_on c.in-Ok-check_machine.machine kept.exe ≡ Ok (record { machine = c.in-Ok-check_machine.machine; image = c.in-Ok-check_exe.image })
   loads = search rules
@@ -60,7 +61,7 @@ module _ (g : given.Over) (c : goal.After-drop-machine-3 g) where
       }
 
   abbrev refused_kept : Kept
-  refused_kept = record { machine = c.in-Ok.text; exe = c.in-Ok-read_exe.bytes; sched_file = c.args.kept.now.sched_file; schedule = c.args.kept.now.schedule }
+  refused_kept = record { machine = c.in-Ok.text; exe = c.in-Ok-read_exe.bytes; sched_file = c.args.kept.now.sched_file; schedule = c.new.result }
 
   refused_asked : c.in-Ok-Some.field-0 ≡ Some c.in-Ok-Some.command
   refused_asked = search rules
@@ -72,9 +73,9 @@ module _ (g : given.Over) (c : goal.After-drop-machine-3 g) where
       refused_seen.words refused_seen.out refused_kept c.in-Ok-check_machine.machine (command_told c.in-Ok-Some.command) (sym c.in-Ok-Some.ensures ∙ ap (option_map command_told) refused_asked)
       c.in-Ok.ensures.names c.in-Ok-read_exe.ensures.names c.in-Ok.ensures.faults c.in-Ok-read_exe.ensures.faults
       c.in-Ok.ensures.text c.in-Ok-read_exe.ensures.exe
-      c.requires.sched_file c.requires.cores (search rules)
+      c.requires.sched_file (ap (λ (l : IntervalLists). l.cores) c.new.ensures) (search rules)
 
 pub returns-clause-outcome : goal.returns-clause-outcome
 returns-clause-outcome g c =
     outcome_of_exe (refused_seen g c) (refused_kept g c) c.in-Ok-check_machine.machine (command_told c.in-Ok-Some.command) (refused_has g c) c.in-Err-check_exe.status
-    (search rules) c.requires.lists refl (λ _. refl)
+    (search rules) (ap (λ (l : IntervalLists). l.lists) c.new.ensures) refl (λ _. refl)
