@@ -40,16 +40,16 @@ HEADINGS = [
     "Program", "Instructions", "Accesses", "Seconds", "Million instructions/s", "Million accesses/s",
     "qemu, seconds", "zsim / qemu", "Cachegrind, seconds", "zsim / cachegrind",
 ]
-# The crates of each part of zsim, by whose functions perf shares a run's user time. What the compiler builds into a caller
-# counts for the caller: much of the caches is built into the execution, and much of the weave into the run.
+# What the names of each part's functions begin with: perf shares a run's user time by them. What the compiler builds
+# into a caller counts for the caller, as much of the caches for the execution, and much of the weave for the run.
 PARTS = {
-    "Execution": ["bound_core", "rv_core", "rv_decode", "rv_alu"],
-    "Caches": ["shard", "cache_set", "mesi_dir"],
-    "Recorded order": ["access_log"],
-    "Graph": ["event_graph"],
-    "Weave": ["weave_seq", "component", "feedback"],
-    "Counters": ["stats"],
-    "Run": ["zsim", "replay"],
+    "Execution": ("bound_core::", "rv_core::", "rv_decode::", "rv_alu::"),
+    "Caches": ("shard::", "cache_set::", "mesi_dir::"),
+    "Recorded order": ("access_log::", "core::slice::sort"),
+    "Graph": ("event_graph::",),
+    "Weave": ("weave_seq::", "component::", "feedback::"),
+    "Counters": ("stats::",),
+    "Run": ("zsim::", "replay::"),
 }
 
 PARALLEL_HEADINGS = [
@@ -158,22 +158,22 @@ def parallel_row(name, cores, runs, folder):
     return [name, str(cores), *speed_cells(seconds, report)]
 
 
-def shares_row(name, cores, folder):
+def shares_row(program, cores, folder):
     """Returns the cells of how a run's time is shared among the parts of zsim, in percent."""
     if not shutil.which("perf"):
-        return [name, str(cores), "perf is not installed"]
+        return [program, str(cores), "perf is not installed"]
     data = os.path.join(folder, "perf.data")
-    words = [PROGRAM, "run", server_with(cores, folder), os.path.join(HERE, f"{name}.elf"), "--brief"]
+    words = [PROGRAM, "run", server_with(cores, folder), os.path.join(HERE, f"{program}.elf"), "--brief"]
     subprocess.run(["perf", "record", "-q", "-F", "999", "-o", data, *words], capture_output=True, check=False)
     report = ["perf", "report", "-i", data, "--stdio", "-q", "-F", "overhead,symbol"]
     lines = subprocess.run(report, capture_output=True, text=True, check=False).stdout.splitlines()
-    found = [re.match(r"\s*([0-9.]+)%\s+\[\.\]\s+(\w*)", line) for line in lines]
+    found = [re.match(r"\s*([0-9.]+)%\s+\[\.\]\s+(\S*)", line) for line in lines]
     samples = [(float(match[1]), match[2]) for match in found if match]
     total = sum(share for share, _ in samples)
     if total == 0:
-        return [name, str(cores), "perf found nothing"]
-    shares = [sum(share for share, crate in samples if crate in crates) for crates in PARTS.values()]
-    return [name, str(cores), *(f"{100 * share / total:.0f}" for share in [*shares, total - sum(shares)])]
+        return [program, str(cores), "perf found nothing"]
+    shares = [sum(share for share, name in samples if name.startswith(fronts)) for fronts in PARTS.values()]
+    return [program, str(cores), *(f"{100 * share / total:.0f}" for share in [*shares, total - sum(shares)])]
 
 
 def machine():
