@@ -1,9 +1,12 @@
 #!/usr/bin/env python3
-"""Times zsim on the programs of this folder, and prints a table in the form of docs/performance.md.
+"""Times zsim on the programs of this folder, and prints tables in the form of docs/performance.md.
 
-    bench/bench.py [--runs N] [NAME..]
+    bench/bench.py [--runs N] [--shares] [NAME..]
 
 Each time is the user time of the best of N runs (3, if not given). Instructions and accesses are those of the report.
+Programs of one core run on `plain`. Those that share their work run on examples/machines/server.toml, with 1, 4 and 16
+of its cores; for each of these runs --shares also prints how its time is shared among the parts of zsim, by perf.
+
 Where qemu-riscv64 is installed, it runs the same executable. Where valgrind, make and a C compiler are, cachegrind runs
 the native twin of each C program: the same source, compiled for the machine at hand. Of both, the time that they take
 for a program that does nothing is subtracted.
@@ -27,12 +30,32 @@ PROGRAM = os.path.join(TOP, "crates/zsim_main/out/zsim_main")
 
 LOOPS = ["loop8", "loop800", "loop4000"]
 C_PROGRAMS = ["bytecode", "sort", "hits", "misses"]
-PROGRAMS = LOOPS + C_PROGRAMS
+PARALLEL = ["sum", "lock", "matrix", "histogram"]
+PROGRAMS = LOOPS + C_PROGRAMS + PARALLEL
+
+SERVER = os.path.join(TOP, "examples/machines/server.toml")
+CORES = [1, 4, 16]
 
 HEADINGS = [
     "Program", "Instructions", "Accesses", "Seconds", "Million instructions/s", "Million accesses/s",
     "qemu, seconds", "zsim / qemu", "Cachegrind, seconds", "zsim / cachegrind",
 ]
+# What the names of each part's functions begin with: perf shares a run's user time by them. What the compiler builds
+# into a caller counts for the caller, as much of the caches for the execution, and much of the weave for the run.
+PARTS = {
+    "Execution": ("bound_core::", "rv_core::", "rv_decode::", "rv_alu::"),
+    "Caches": ("shard::", "cache_set::", "mesi_dir::"),
+    "Recorded order": ("access_log::", "core::slice::sort"),
+    "Graph": ("event_graph::",),
+    "Weave": ("weave_seq::", "component::", "feedback::"),
+    "Counters": ("stats::",),
+    "Run": ("zsim::", "replay::"),
+}
+
+PARALLEL_HEADINGS = [
+    "Program", "Cores", "Instructions", "Accesses", "Seconds", "Million instructions/s", "Million accesses/s",
+]
+SHARES_HEADINGS = ["Program", "Cores", *(f"{part}, %" for part in PARTS), "Other, %"]
 
 
 def user_time(words):
@@ -102,10 +125,55 @@ def row(name, runs, nothing):
         return [name, f"halts: {why}"]
     qemu = less(seconds_of(by_qemu(name, runs)), nothing[0])
     cachegrind = less(seconds_of(by_cachegrind(name, runs)), nothing[1]) if name in C_PROGRAMS else None
+    return [name, *speed_cells(seconds, report), *cells_of(seconds, qemu), *cells_of(seconds, cachegrind)]
+
+
+def speed_cells(seconds, report):
+    """Returns the cells of how much a run did, in which time, and how fast that is."""
     instructions, accesses = number(report, "instructions"), number(report, "accesses")
     speeds = [f"{instructions / seconds / 1e6:.1f}", f"{accesses / seconds / 1e6:.2f}"]
-    counts = [str(instructions), str(accesses), f"{seconds:.2f}"]
-    return [name, *counts, *speeds, *cells_of(seconds, qemu), *cells_of(seconds, cachegrind)]
+    return [str(instructions), str(accesses), f"{seconds:.2f}", *speeds]
+
+
+def server_with(cores, folder):
+    """Writes the description of the server with so many cores, and returns its name."""
+    with open(SERVER, encoding="utf-8") as file:
+        text = re.sub(r"(?m)^cores = \d+$", f"cores = {cores}", file.read())
+    name = os.path.join(folder, f"server{cores}.toml")
+    with open(name, "w", encoding="utf-8") as file:
+        file.write(text)
+    return name
+
+
+def parallel_row(name, cores, runs, folder):
+    """Returns the cells of a program's row on so many cores."""
+    words = [PROGRAM, "run", server_with(cores, folder), os.path.join(HERE, f"{name}.elf")]
+    result = best_time(words, runs)
+    if not result:
+        return [name, str(cores), "zsim failed"]
+    seconds, report = result
+    wrong = [why for why in re.findall(r"(?m)^core \d+ .* halt (.*)$", report) if why != "exit 0"]
+    if wrong:
+        return [name, str(cores), f"halts: {wrong[0]}"]
+    return [name, str(cores), *speed_cells(seconds, report)]
+
+
+def shares_row(program, cores, folder):
+    """Returns the cells of how a run's time is shared among the parts of zsim, in percent."""
+    if not shutil.which("perf"):
+        return [program, str(cores), "perf is not installed"]
+    data = os.path.join(folder, "perf.data")
+    words = [PROGRAM, "run", server_with(cores, folder), os.path.join(HERE, f"{program}.elf"), "--brief"]
+    subprocess.run(["perf", "record", "-q", "-F", "999", "-o", data, *words], capture_output=True, check=False)
+    report = ["perf", "report", "-i", data, "--stdio", "-q", "-F", "overhead,symbol"]
+    lines = subprocess.run(report, capture_output=True, text=True, check=False).stdout.splitlines()
+    found = [re.match(r"\s*([0-9.]+)%\s+\[\.\]\s+(\S*)", line) for line in lines]
+    samples = [(float(match[1]), match[2]) for match in found if match]
+    total = sum(share for share, _ in samples)
+    if total == 0:
+        return [program, str(cores), "perf found nothing"]
+    shares = [sum(share for share, name in samples if name.startswith(fronts)) for fronts in PARTS.values()]
+    return [program, str(cores), *(f"{100 * share / total:.0f}" for share in [*shares, total - sum(shares)])]
 
 
 def machine():
@@ -124,10 +192,20 @@ def commit():
     return git("rev-parse", "--short", "HEAD") + (" and changes" if git("status", "--porcelain") else "")
 
 
+def print_table(headings, left, rows):
+    """Prints a table, each row when it is there. The first columns are aligned to the left."""
+    print(f"| {' | '.join(headings)} |")
+    print("|" + "---|" * left + "---:|" * (len(headings) - left))
+    for cells in rows:
+        print(f"| {' | '.join(cells + [''] * (len(headings) - len(cells)))} |", flush=True)
+    print()
+
+
 def main():
     parser = argparse.ArgumentParser(description=__doc__.partition("\n")[0])
     parser.add_argument("--runs", type=int, default=3, metavar="N", help="the best of N runs counts (3)")
     parser.add_argument("names", nargs="*", metavar="NAME", help=f"of {', '.join(PROGRAMS)}; all, if none is given")
+    parser.add_argument("--shares", action="store_true", help="also prints the shares of the parts of zsim, by perf")
     words = parser.parse_args()
     unknown = [name for name in words.names if name not in PROGRAMS]
     if unknown:
@@ -140,12 +218,18 @@ def main():
 
     load = os.getloadavg()[0]
     print(f"{datetime.date.today()}, commit {commit()}, {machine()}, {os.cpu_count()} processors, load {load:.1f}\n")
-    print(f"| {' | '.join(HEADINGS)} |")
-    print("|---|" + "---:|" * (len(HEADINGS) - 1))
-    nothing = [seconds_of(tool("nothing", words.runs)) for tool in (by_qemu, by_cachegrind)]
-    for name in words.names or PROGRAMS:
-        cells = row(name, words.runs, nothing)
-        print(f"| {' | '.join(cells + [''] * (len(HEADINGS) - len(cells)))} |", flush=True)
+    names = words.names or PROGRAMS
+    alone = [name for name in names if name not in PARALLEL]
+    together = [name for name in names if name in PARALLEL]
+    if alone:
+        nothing = [seconds_of(tool("nothing", words.runs)) for tool in (by_qemu, by_cachegrind)]
+        print_table(HEADINGS, 1, (row(name, words.runs, nothing) for name in alone))
+    with tempfile.TemporaryDirectory() as folder:
+        runs = [(name, cores) for name in together for cores in CORES]
+        if runs:
+            print_table(PARALLEL_HEADINGS, 1, (parallel_row(*run, words.runs, folder) for run in runs))
+        if runs and words.shares:
+            print_table(SHARES_HEADINGS, 1, (shares_row(*run, folder) for run in runs))
 
 
 if __name__ == "__main__":

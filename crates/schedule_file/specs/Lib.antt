@@ -1,1 +1,2 @@
 pub mod ScheduleFile
+pub mod Laws

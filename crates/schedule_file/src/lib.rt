@@ -3,6 +3,7 @@
 #![tactic(auto)]
 
 mod bad_schedule;
+pub mod laws;
 mod reader;
 mod writer;
 

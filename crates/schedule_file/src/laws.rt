@@ -1,0 +1,13 @@
+//! Laws over the definitions alone, each the contract of a function that does nothing.
+ghost use Rattle.schedule_file.specs.Laws.{EachFileIsWrittenAgain, EachScheduleIsReadAgain};
+
+/// What is read from the file of a schedule of at most 64 cores is that schedule, so no two schedules
+/// have one file.
+pub fn each_schedule_is_read_again()
+    ensures { EachScheduleIsReadAgain }
+{}
+
+/// The file of what is read from bytes is these bytes, so no two files say the same.
+pub fn each_file_is_written_again()
+    ensures { EachFileIsWrittenAgain }
+{}

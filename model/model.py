@@ -1,0 +1,725 @@
+#!/usr/bin/env python3
+"""A model of the machine, written from the documents and not from the code: it computes what the cases must answer.
+
+    model/model.py            compares the stored output with what the model answers
+    model/model.py --write    writes what it answers into the stored output
+
+It is plain and slow: flat memory, lists of lines, one core after the other, and one list of events. It runs and replays
+executables. It checks no words, executables or descriptions: the cases about those keep the answers that are stored.
+Run it at the top of the repository.
+"""
+
+import heapq
+import os
+import re
+import struct
+import sys
+import tomllib
+
+TESTS = "crates/zsim_tests"
+DATA = os.path.join(TESTS, "data")
+MACHINE_PAGE = "docs/machine-description.md"
+
+MASK = 2**64 - 1
+ECALL, EBREAK = 0x00000073, 0x00100073
+
+
+def signed(number, bits=64):
+    """Returns the low bits as a signed number."""
+    number &= (1 << bits) - 1
+    return number - (1 << bits) if number >> (bits - 1) else number
+
+
+def word(number):
+    """Returns the low 32 bits, sign-extended to 64."""
+    return signed(number, 32) & MASK
+
+
+# ---- executables
+
+
+class Image:
+    """The segments of an executable, in memory from `base` on."""
+
+    def __init__(self, file, base, size):
+        self.base = base
+        self.memory = bytearray(size)
+        self.executable = []
+        self.entry, headers = struct.unpack_from("<QQ", file, 24)
+        (count,) = struct.unpack_from("<H", file, 56)
+        for i in range(count):
+            kind, flags, offset, vaddr, _, filesz, memsz, _ = struct.unpack_from("<IIQQQQQQ", file, headers + 56 * i)
+            if kind == 1 and memsz > 0:
+                self.memory[vaddr - base : vaddr - base + filesz] = file[offset : offset + filesz]
+                if flags & 1:
+                    self.executable.append((vaddr, vaddr + memsz))
+        self.loaded = bytes(self.memory)
+
+    def word(self, pc):
+        """Returns the word at an address as it was loaded. None where no segment is executable there."""
+        if any(begin <= pc and pc + 4 <= end for begin, end in self.executable):
+            return struct.unpack_from("<I", self.loaded, pc - self.base)[0]
+        return None
+
+
+def elf(words):
+    """Returns an executable of these words, at 0x10000."""
+    code = b"".join(struct.pack("<I", w) for w in words)
+    header = struct.pack("<4sBBB9xHHIQQQIHHHHHH", b"\x7fELF", 2, 1, 1, 2, 243, 1, 0x10000, 64, 0, 0, 64, 56, 1, 0, 0, 0)
+    return header + struct.pack("<IIQQQQQQ", 1, 7, 120, 0x10000, 0x10000, len(code), len(code), 1) + code
+
+
+# ---- instructions
+
+
+def divided(a, b, bits):
+    """Returns quotient and remainder of signed numbers, rounded toward zero."""
+    if b == 0:
+        return -1, a
+    quotient = abs(a) // abs(b)
+    if (a < 0) != (b < 0):
+        quotient = -quotient
+    return signed(quotient, bits), a - quotient * b
+
+
+def multiplied(funct3, a, b, bits):
+    """Returns what the instructions of the extension M compute."""
+    left, right = signed(a, bits), signed(b, bits)
+    return [
+        lambda: left * right,
+        lambda: left * right >> bits,
+        lambda: left * b >> bits,
+        lambda: a * b >> bits,
+        lambda: divided(left, right, bits)[0],
+        lambda: a // b if b else -1,
+        lambda: divided(left, right, bits)[1],
+        lambda: a % b if b else a,
+    ][funct3]()
+
+
+def computed(funct3, funct7, a, b, bits):
+    """Returns the result of an arithmetic instruction on so many bits. None where there is no such instruction."""
+    a, b = a & ((1 << bits) - 1), b & ((1 << bits) - 1)
+    amount = b % bits
+    if funct7 == 1 and (bits == 64 or funct3 in (0, 4, 5, 6, 7)):
+        result = multiplied(funct3, a, b, bits)
+    elif funct7 == 0x20 and funct3 in (0, 5):
+        result = a - b if funct3 == 0 else signed(a, bits) >> amount
+    elif funct7 == 0 and (bits == 64 or funct3 in (0, 1, 5)):
+        less = signed(a, bits) < signed(b, bits)
+        result = [a + b, a << amount, int(less), int(a < b), a ^ b, a >> amount, a | b, a & b][funct3]
+    else:
+        return None
+    return word(result) if bits == 32 else result & MASK
+
+
+ATOMICS = {
+    0b00001: lambda old, value, bits: value,
+    0b00000: lambda old, value, bits: old + value,
+    0b00100: lambda old, value, bits: old ^ value,
+    0b01100: lambda old, value, bits: old & value,
+    0b01000: lambda old, value, bits: old | value,
+    0b10000: lambda old, value, bits: min(old, value, key=lambda n: signed(n, bits)),
+    0b10100: lambda old, value, bits: max(old, value, key=lambda n: signed(n, bits)),
+    0b11000: lambda old, value, bits: min(old, value),
+    0b11100: lambda old, value, bits: max(old, value),
+}
+LR, SC = 0b00010, 0b00011
+
+
+class Halt(Exception):
+    """A core halts, for the reason that the report tells."""
+
+
+class Core:
+    """A core. Its instructions are generators: each yields the accesses that it makes, and is sent their replies."""
+
+    def __init__(self, number, machine, image):
+        memory = machine["memory"]
+        self.number, self.image = number, image
+        self.end = memory["base"] + memory["size"]
+        self.x = [0] * 32
+        self.x[10], self.x[11], self.x[2] = number, machine["cores"], self.end - number * memory["stack"]
+        self.pc = image.entry
+        self.clock = self.instructions = self.delay = 0
+        self.halt = self.instruction = self.request = None
+        self.console = bytearray()
+
+    def count(self):
+        self.instructions += 1
+        self.clock += 1
+
+    def set(self, register, number):
+        if register:
+            self.x[register] = number & MASK
+
+    def in_memory(self, address, width):
+        return self.image.base <= address and address + width <= self.end
+
+    def jump(self, target):
+        if target % 4:
+            raise Halt(f"misaligned {target:016x}")
+        return target
+
+    def execute(self):
+        w = self.image.word(self.pc)
+        if w is None:
+            raise Halt(f"fetch {self.pc:016x}")
+        opcode, rd, funct3, funct7 = w & 0x7F, w >> 7 & 31, w >> 12 & 7, w >> 25
+        a, b = self.x[w >> 15 & 31], self.x[w >> 20 & 31]
+        immediate = signed(w >> 20, 12)
+        after, result = (self.pc + 4) & MASK, None
+        illegal = Halt(f"illegal {w:08x}")
+        if opcode in (0x37, 0x17):
+            result = signed(w & 0xFFFFF000, 32) + (self.pc if opcode == 0x17 else 0)
+        elif opcode == 0x6F:
+            offset = w >> 31 << 20 | (w >> 12 & 0xFF) << 12 | (w >> 20 & 1) << 11 | (w >> 21 & 0x3FF) << 1
+            result, after = after, self.jump((self.pc + signed(offset, 21)) & MASK)
+        elif opcode == 0x67 and funct3 == 0:
+            result, after = after, self.jump((a + immediate) & MASK & ~1)
+        elif opcode == 0x63 and funct3 not in (2, 3):
+            low, high = (signed(a), signed(b)) if funct3 in (4, 5) else (a, b)
+            holds = [low == high, low != high, None, None, low < high, low >= high, low < high, low >= high][funct3]
+            offset = w >> 31 << 12 | (w >> 7 & 1) << 11 | (w >> 25 & 0x3F) << 5 | (w >> 8 & 15) << 1
+            if holds:
+                after = self.jump((self.pc + signed(offset, 13)) & MASK)
+        elif opcode == 0x13:
+            if funct3 in (1, 5):
+                result = computed(funct3, w >> 26 << 1, a, w >> 20 & 63, 64)
+                if result is None or w >> 26 == 0x10 and funct3 == 1 or w >> 26 not in (0, 0x10):
+                    raise illegal
+            else:
+                result = computed(funct3, 0, a, immediate & MASK, 64)
+        elif opcode == 0x1B:
+            result = word(a + immediate) if funct3 == 0 else None
+            if funct3 in (1, 5) and funct7 != 1:
+                result = computed(funct3, funct7, a, w >> 20 & 31, 32)
+            if result is None:
+                raise illegal
+        elif opcode in (0x33, 0x3B):
+            result = computed(funct3, funct7, a, b, 64 if opcode == 0x33 else 32)
+            if result is None:
+                raise illegal
+        elif opcode == 0x03 and funct3 != 7:
+            result = yield from self.load((a + immediate) & MASK, 1 << (funct3 & 3), funct3 < 4)
+        elif opcode == 0x23 and funct3 < 4:
+            yield from self.store((a + signed(w >> 25 << 5 | rd, 12)) & MASK, 1 << funct3, b)
+            rd = 0
+        elif opcode == 0x2F and funct3 in (2, 3):
+            kind = w >> 27
+            if kind not in (LR, SC, *ATOMICS) or kind == LR and w >> 20 & 31:
+                raise illegal
+            result = yield from self.atomic(kind, a, 1 << funct3, b)
+        elif w == ECALL:
+            yield from self.call()
+        elif w == EBREAK:
+            raise Halt("break")
+        elif not (opcode == 0x0F and funct3 == 0):
+            raise illegal
+        if opcode not in (0x03, 0x23, 0x2F) and w != ECALL:
+            self.count()
+        if result is not None:
+            self.set(rd, result)
+        self.pc = after
+
+    def parts(self, address, width):
+        """Returns the parts of a load or a store, one for each line, after it is counted."""
+        if not self.in_memory(address, width):
+            raise Halt(f"access {address:016x}")
+        self.count()
+        first = min(width, 64 - address % 64)
+        return [(address, first), (address + first, width - first)][: 1 if first == width else 2]
+
+    def load(self, address, width, extend):
+        number, bits = 0, 0
+        for part, size in self.parts(address, width):
+            number |= (yield "load", part, size, 0) << bits
+            bits += 8 * size
+        return signed(number, bits) if extend else number
+
+    def store(self, address, width, number):
+        for part, size in self.parts(address, width):
+            yield "store", part, size, number & ((1 << 8 * size) - 1)
+            number >>= 8 * size
+
+    def atomic(self, kind, address, width, number):
+        if address % width:
+            raise Halt(f"atomic {address:016x}")
+        self.parts(address, width)
+        reply = yield kind, address, width, number & ((1 << 8 * width) - 1)
+        return reply if kind == SC else signed(reply, 8 * width)
+
+    def call(self):
+        self.count()
+        x = self.x
+        if x[17] in (93, 94):
+            raise Halt(f"exit {x[10]}")
+        if x[17] != 64 or x[10] not in (1, 2):
+            x[10] = -38 & MASK
+            return
+        count = min(x[12], 256)
+        if count and not self.in_memory(x[11], count):
+            x[10] = -14 & MASK
+            return
+        for i in range(count):
+            self.console.append((yield "load", x[11] + i, 1, 0))
+        x[10] = count
+
+    def next_request(self, end):
+        """Executes up to the next access, and returns it. None where the core halts, or ends its interval."""
+        while self.request is None and self.halt is None and self.clock < end:
+            self.instruction = self.execute()
+            self.go_on(None)
+        return self.request
+
+    def go_on(self, reply):
+        try:
+            self.request = self.instruction.send(reply)
+        except StopIteration:
+            self.request = None
+        except Halt as why:
+            self.request, self.halt = None, str(why)
+
+
+# ---- the machine
+
+
+class Machine:
+    """Cores, memory, the lists of the caches, and the components."""
+
+    def __init__(self, machine, file):
+        self.machine = machine
+        self.l1, self.l2, self.controllers = machine["l1"], machine["l2"], machine["controllers"]
+        self.image = Image(file, machine["memory"]["base"], machine["memory"]["size"])
+        self.cores = [Core(number, machine, self.image) for number in range(machine["cores"])]
+        self.reservations = [None] * len(self.cores)
+        self.own = [{} for _ in self.cores]  # of each core: the lines of each set, [line, letter], most recent first
+        self.shared = {}  # the lines of each set, [line, dirty]
+        components = self.l2["banks"] + self.controllers["count"]
+        self.free, self.served, self.waited = [0] * components, [0] * components, [0] * components
+        self.counts = [dict.fromkeys(COUNTS, 0) for _ in self.cores]
+        self.accesses = self.events = 0
+        self.schedule = []
+
+    # what memory replies
+
+    def reply(self, core, request):
+        kind, address, width, value = request
+        place, line = address - self.image.base, address // 64
+        old = int.from_bytes(self.image.memory[place : place + width], "little")
+        if kind == "load":
+            return old
+        if kind == LR:
+            self.reservations[core] = address, width
+            return old
+        if kind == SC:
+            stores = self.reservations[core] == (address, width)
+            self.reservations[core] = None
+            if not stores:
+                return 1
+        elif kind != "store":
+            value = ATOMICS[kind](old, value, 8 * width) & ((1 << 8 * width) - 1)
+        self.image.memory[place : place + width] = value.to_bytes(width, "little")
+        for other, reservation in enumerate(self.reservations):
+            if other != core and reservation and reservation[0] // 64 == line:
+                self.reservations[other] = None
+        return old if kind in ATOMICS else 0
+
+    # how the caches meet an access
+
+    def own_set(self, core, line):
+        return self.own[core].setdefault(line % self.l1["sets"], [])
+
+    def copy(self, core, line):
+        return next((entry for entry in self.own_set(core, line) if entry[0] == line), None)
+
+    def shared_entry(self, line):
+        return next((entry for entry in self.shared.setdefault(line % self.l2["sets"], []) if entry[0] == line), None)
+
+    def evict(self, lines):
+        """Takes the last line out of a set of the shared cache, and tells whether it was dirty anywhere."""
+        line, dirty = lines.pop()
+        for core in range(len(self.cores)):
+            copy = self.copy(core, line)
+            if copy:
+                dirty = dirty or copy[1] == "M"
+                self.own_set(core, line).remove(copy)
+        return dirty
+
+    def meet(self, core, line, writes):
+        """Returns the outcome of an access, and whether others have to change, or a dirty line leaves."""
+        copy, entry = self.copy(core, line), self.shared_entry(line)
+        letter = copy[1] if copy else "I"
+        others = [other for n in range(len(self.cores)) if n != core for other in [self.copy(n, line)] if other]
+        lines = self.shared[line % self.l2["sets"]]
+        if letter in ("M", "E") or letter == "S" and not writes:
+            outcome = "hits", False
+        elif entry is None:
+            outcome = "misses", len(lines) == self.l2["ways"] and self.evict(lines)
+            entry = [line, False]
+            lines.insert(0, entry)
+        else:
+            changes = bool(others) if writes else any(other[1] != "S" for other in others)
+            outcome = "upgrades" if letter == "S" else "l2hits", changes
+            lines.remove(entry)
+            lines.insert(0, entry)
+        if outcome[0] != "hits":
+            entry[1] = entry[1] or any(other[1] == "M" for other in others)
+            for n in range(len(self.cores)):
+                other = n != core and self.copy(n, line)
+                if other and writes:
+                    self.own_set(n, line).remove(other)
+                elif other:
+                    other[1] = "S"
+        own = self.own_set(core, line)
+        if copy:
+            own.remove(copy)
+        elif len(own) == self.l1["ways"]:
+            victim = own.pop()
+            if victim[1] == "M":
+                self.shared_entry(victim[0])[1] = True
+        own.insert(0, [line, "M" if writes else letter if copy else "S" if others else "E"])
+        return outcome
+
+    # time
+
+    def memory_time(self, dirty_victim):
+        return max(self.controllers["read"], self.controllers["write"] if dirty_victim else 0)
+
+    def time(self, outcome, flag):
+        time = self.l1["latency"]
+        if outcome == "hits":
+            return time
+        time += self.l2["latency"]
+        if outcome == "misses":
+            return time + self.memory_time(flag) + self.l2["fill"]
+        return time + (self.l2["remote"] if flag else 0)
+
+    # an interval
+
+    def turn(self, core, stamps, entries):
+        """Makes the access that a core asks for."""
+        request, start = core.request, core.clock
+        kind, line = request[0], request[1] // 64
+        bank = line % self.l2["banks"]
+        outcome, flag = self.meet(core.number, line, kind not in ("load", LR))
+        stamp = max(stamps["bank", bank], stamps["core", core.number]) + 1
+        stamps["bank", bank] = stamps["core", core.number] = stamp
+        entries.append((stamp, core.number, start, bank, outcome, flag))
+        counts = self.counts[core.number]
+        counts[{"load": "loads", "store": "stores"}.get(kind, "atomics")] += 1
+        counts[outcome] += 1
+        core.clock += self.time(outcome, flag)
+        core.go_on(self.reply(core.number, request))
+
+    def bound(self, end, turns):
+        """Runs an interval to its end, and returns its accesses. Of turns that are not legal, the place where."""
+        entries = []
+        stamps = {("bank", bank): 0 for bank in range(self.l2["banks"])}
+        stamps |= {("core", number): 0 for number in range(len(self.cores))}
+        if turns is None:
+            for core in self.cores:
+                while core.next_request(end) is not None:
+                    self.turn(core, stamps, entries)
+        else:
+            for place, number in enumerate(turns):
+                if self.cores[number].next_request(end) is None:
+                    return place
+                self.turn(self.cores[number], stamps, entries)
+            if any([core.next_request(end) is not None for core in self.cores]):
+                return len(turns)
+        return sorted(entries)
+
+    def events_of(self, entries):
+        """Returns the events (core, component, latency, start, parents), and the last critical one of each core."""
+        events, last = [], {}
+
+        def add(core, component, latency, start, parents):
+            events.append((core, component, latency, start, parents))
+            return len(events) - 1
+
+        for _, core, start, bank, outcome, flag in entries:
+            if outcome == "hits":
+                continue
+            start += self.l1["latency"]
+            remote = self.l2["remote"] if flag and outcome != "misses" else 0
+            first = add(core, bank, self.l2["latency"] + remote, start, [last[core]] if core in last else [])
+            last[core] = first
+            if outcome == "misses":
+                controller = self.l2["banks"] + bank % self.controllers["count"]
+                start += self.l2["latency"]
+                before = [add(core, controller, self.controllers["read"], start, [first])]
+                if flag:
+                    before.append(add(core, controller, self.controllers["write"], start, [first]))
+                last[core] = add(core, bank, self.l2["fill"], start + self.memory_time(flag), before)
+        return events, last
+
+    def weave(self, entries):
+        """Fires the events of an interval, and delays the cores."""
+        events, last = self.events_of(entries)
+        starts, finishes = [event[3] for event in events], [0] * len(events)
+        waits, children = [len(event[4]) for event in events], [[] for _ in events]
+        for number, (*_, start, parents) in enumerate(events):
+            for parent in parents:
+                children[parent].append((number, max(0, start - events[parent][3] - events[parent][2])))
+        ready = [(starts[number], number) for number, wait in enumerate(waits) if wait == 0]
+        heapq.heapify(ready)
+        while ready:
+            start, number = heapq.heappop(ready)
+            _, component, latency, _, _ = events[number]
+            served = max(start, self.free[component])
+            of_bank = component < self.l2["banks"]
+            self.free[component] = served + (self.l2 if of_bank else self.controllers)["occupancy"]
+            self.served[component] += 1
+            self.waited[component] += served - start
+            finishes[number] = served + latency
+            for child, delay in children[number]:
+                starts[child] = max(starts[child], finishes[number] + delay)
+                waits[child] -= 1
+                if waits[child] == 0:
+                    heapq.heappush(ready, (starts[child], child))
+        for core, number in last.items():
+            delay = finishes[number] - events[number][3] - events[number][2]
+            self.cores[core].delay += delay
+            self.cores[core].clock += delay
+        self.events += len(events)
+
+    def is_over(self):
+        """Tells how the run ends before the next interval: None where it goes on."""
+        intervals, interval = len(self.schedule), self.machine["interval"]
+        if all(core.halt for core in self.cores):
+            return "ran"
+        room = len(self.cores) * (interval + 258)
+        latest = max([core.clock for core in self.cores] + self.free)
+        if intervals == self.machine["intervals"] or self.accesses + room > 2**26 or latest > 2**56:
+            return "limit"
+        return None
+
+    def run(self, schedule=None):
+        """Runs, or replays a schedule. Returns how it ended, or the interval and the place that are not legal."""
+        while not self.is_over():
+            interval = len(self.schedule)
+            if schedule is not None and interval == len(schedule):
+                return interval, 0
+            entries = self.bound((interval + 1) * self.machine["interval"], schedule and schedule[interval])
+            if isinstance(entries, int):
+                return interval, entries
+            self.schedule.append([entry[1] for entry in entries])
+            self.accesses += len(entries)
+            self.weave(entries)
+        if schedule is not None and len(self.schedule) < len(schedule):
+            return len(self.schedule), 0
+        return self.is_over()
+
+
+COUNTS = ["loads", "stores", "atomics", "hits", "upgrades", "l2hits", "misses"]
+
+
+def report(run, brief):
+    """Returns the report of a run."""
+    cores = run.cores
+    summary = {
+        "cores": len(cores),
+        "intervals": len(run.schedule),
+        "instructions": sum(core.instructions for core in cores),
+        "cycles": max(core.clock for core in cores),
+        "accesses": run.accesses,
+        "events": run.events,
+    }
+    lines = ["zsim report 1", *(f"{label} {number}" for label, number in summary.items())]
+    if not brief:
+        for core in cores:
+            counts = " ".join(f"{label} {number}" for label, number in run.counts[core.number].items())
+            front = f"core {core.number} instructions {core.instructions} cycles {core.clock} delay {core.delay}"
+            lines.append(f"{front} {counts} halt {core.halt or 'running'}")
+            lines.append(f'core {core.number} console {len(core.console)} "{escaped(core.console)}"')
+        banks = run.l2["banks"]
+        for n, free in enumerate(run.free):
+            name = f"bank {n}" if n < banks else f"controller {n - banks}"
+            lines.append(f"{name} events {run.served[n]} waited {run.waited[n]} free {free}")
+    return "".join(line + "\n" for line in lines)
+
+
+def escaped(text):
+    return "".join(chr(byte) if 0x20 <= byte <= 0x7E and byte not in b'"\\' else f"\\x{byte:02x}" for byte in text)
+
+
+# ---- schedule files
+
+
+class BadSchedule(Exception):
+    """The number of what is wrong with a file, and what it names."""
+
+
+def schedule_file(cores, lists):
+    header = struct.pack("<4sIII", b"ZSCH", 1, cores, len(lists))
+    return header + b"".join(struct.pack("<I", len(turns)) + bytes(turns) for turns in lists)
+
+
+def schedule_of(file, cores):
+    """Returns the lists of a schedule file for so many cores."""
+
+    def field(at, count):
+        if at + count > len(file):
+            raise BadSchedule(f"1 {at}")
+        return file[at : at + count]
+
+    def number(at):
+        return int.from_bytes(field(at, 4), "little")
+
+    if field(0, 4) != b"ZSCH":
+        raise BadSchedule("2")
+    if number(4) != 1:
+        raise BadSchedule(f"3 {number(4)}")
+    if number(8) != cores:
+        raise BadSchedule(f"4 {number(8)}")
+    lists, at = [], 16
+    while len(lists) < number(12):
+        turns = list(field(at + 4, number(at)))
+        strangers = [place for place, core in enumerate(turns) if core >= cores]
+        if strangers:
+            raise BadSchedule(f"5 {len(lists)} {strangers[0]}")
+        lists.append(turns)
+        at += 4 + len(turns)
+    if at != len(file):
+        raise BadSchedule(f"6 {at}")
+    return lists
+
+
+# ---- cases
+
+
+def beside(name):
+    with open(os.path.join(DATA, name), "rb") as file:
+        return file.read()
+
+
+def built_in():
+    """Returns the text of the built-in machine, from its page."""
+    with open(MACHINE_PAGE, encoding="utf-8") as file:
+        return re.search(r"(?s)```toml\n(version = 1\n.*?)```", file.read())[1]
+
+
+def changed(changes):
+    """Returns the built-in machine with changes."""
+    swaps = [change.split("->") for change in changes.split(";") if "->" in change]
+    table = {old.strip(): "\n".join(line.strip() for line in new.split("|")) for old, new in swaps}
+    return "\n".join(table.get(line.strip(), line.strip()) for line in built_in().splitlines())
+
+
+def generated(number):
+    """Returns the program of a number, of which docs/programs.md says what it does."""
+    mask = 8 * (2 ** (4 + number % 5) - 1)
+    code = [int(w, 16) for w in GENERATED.split()]
+    code[13] |= mask << 20
+    data = struct.pack("<QQ", number, 100 + number % 9901)
+    words = [*code, *[0] * (1024 - len(code)), *struct.unpack("<4I", data)]
+    return elf(words)
+
+
+# The 28 instructions, but for the mask in the fourteenth.
+GENERATED = """
+    00001297 0002b303 0082b383 00a30333 00136313 00100493 00d31413 00834333 00735413 00834333 01131413 00834333 00835413
+    00047413 00540433 04040413 00337593 00058863 00959a63 0094362f 0100006f 00643023 0080006f 00043603 fff38393 fa039ae3
+    05d00893 00000073
+"""
+
+
+def words_of(text):
+    return elf([int(w, 16) for w in text.split()])
+
+
+SEVEN = words_of("00700513 05D00893 00000073")
+STATUS = {"ran": "status 0\n", "limit": "zsim: stopped at the limit\nstatus 3\n"}
+
+
+class Cases:
+    """What the cases answer, and the names that they hold."""
+
+    def __init__(self):
+        self.held = {}
+
+    def answer(self, case):
+        """Returns what a case answers. None where the model does not tell."""
+        kind, _, rest = case.partition(" ")
+        if kind == "#":
+            return case + "\n"
+        if kind == "hold":
+            return self.hold(*rest.split(" ", 2))
+        if kind == "show":
+            return rest + "".join(f" {byte:02x}" for byte in self.held[rest]) + "\n"
+        if kind in ("call", "files"):
+            return self.call(rest.replace("=", " ").split(), self.held.__getitem__ if kind == "call" else beside)
+        if kind == "example":
+            return self.call(["run", "plain", rest], beside)
+        if kind == "machine" and " : " in rest:
+            changes, _, code = rest.partition(" : ")
+            return self.call(["run", "m", "A"], {"m": changed(changes).encode(), "A": words_of(code)}.__getitem__)
+        if kind == "code":
+            return self.call(["run", "plain", "A"], {"A": words_of(rest)}.__getitem__)
+        return None
+
+    def hold(self, name, kind, rest=""):
+        self.held[name] = {
+            "machine": lambda: changed(rest).encode(),
+            "code": lambda: words_of(rest),
+            "bytes": lambda: bytes(int(w, 16) for w in rest.split()),
+            "file": lambda: beside(rest),
+        }[kind]()
+        return ""
+
+    def call(self, words, read):
+        command, machine, name, *options = [word for word in words if word != "--brief"]
+        if machine.startswith("--"):
+            command, *options, machine, name = [word for word in words if word != "--brief"]
+        options = dict(zip(options[::2], options[1::2]))
+        description = tomllib.loads(built_in() if machine == "plain" else read(machine).decode())
+        run = Machine(description, generated(int(name[4:])) if name.startswith("gen:") else read(name))
+        try:
+            lists = schedule_of(read(options["--schedule"]), description["cores"]) if command == "replay" else None
+        except BadSchedule as wrong:
+            return f"zsim: schedule {wrong}\nstatus 9\n"
+        ended = run.run(lists)
+        if isinstance(ended, tuple):
+            return f"zsim: schedule 7 {ended[0]} {ended[1]}\nstatus 9\n"
+        if "--record" in options:
+            self.held[options["--record"]] = schedule_file(description["cores"], run.schedule)
+        return report(run, "--brief" in words) + STATUS[ended]
+
+
+def stored_answers(cases, text):
+    """Returns what is stored for each case."""
+    lines, answers = text.splitlines(keepends=True), []
+    for case in cases:
+        count = 1
+        if case.startswith("hold "):
+            count = 0
+        elif not case.startswith(("#", "describe ", "show ")):
+            while not lines[count - 1].startswith("status "):
+                count += 1
+        answers.append("".join(lines[:count]))
+        del lines[:count]
+    return answers
+
+
+def main():
+    with open(os.path.join(DATA, "cases"), encoding="utf-8") as file:
+        cases = file.read().splitlines()
+    stored = os.path.join(TESTS, "stdout")
+    with open(stored, encoding="utf-8") as file:
+        present = stored_answers(cases, file.read())
+    model = Cases()
+    answers = [model.answer(case) for case in cases]
+    wrong = [n for n, answer in enumerate(answers) if answer not in (None, present[n])]
+    for n in wrong:
+        print(f"case {n + 1}: {cases[n]}", f"stored:\n{present[n]}", f"model:\n{answers[n]}", sep="\n")
+    told = sum(answer is not None for answer in answers)
+    print(f"{told} of {len(cases)} cases told by the model, {len(wrong)} of them otherwise than stored")
+    if "--write" in sys.argv[1:]:
+        with open(stored, "w", encoding="utf-8") as file:
+            file.writelines(old if new is None else new for old, new in zip(present, answers))
+    return 1 if wrong else 0
+
+
+if __name__ == "__main__":
+    sys.exit(main())
