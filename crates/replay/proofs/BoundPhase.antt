@@ -7,7 +7,7 @@ use Rattle.zs_num.specs.declared.entry.Entry.{Entry}
 use Rattle.elf_load.specs.MemoryImage.{MemoryImage}
 use Rattle.machine_desc.specs.declared.machine.Machine.{Machine}
 use Rattle.shard.specs.Served.{ShardState}
-use Rattle.access_log.specs.Laws.{StampsRise}
+use Rattle.access_log.specs.Laws.{RisingStampsAreDistinct, StampsRise}
 use Rattle.access_log.specs.Logs.{HaveDistinctKeys}
 use Rattle.access_log.specs.RecordedOrder.{recorded_order}
 use Rattle.bound_core.specs.History.{IsHistory, after_history, begun}
@@ -22,7 +22,7 @@ use Rattle.replay.specs.Port.{LoggedPortState}
 use Rattle.replay.specs.ReferenceRun.{time_of}
 use Rattle.replay.specs.Simulation.{AreNumbered, HaveRun, IsBounded, phase_of, timed_of}
 use Rattle.replay.proofs.Cores.{all_timed}
-use Rattle.replay.proofs.RecordedOrder.{all_recorded, distinct_keys, length_recorded}
+use Rattle.replay.proofs.RecordedOrder.{all_recorded, length_recorded}
 
 -- `was` are the shards before the interval, and `port` is ready for its first access
 module _ (machine : Machine) (image : MemoryImage) (end : ℕ) (cores after : List NumberedCore) (was : List ShardState) (port last : LoggedPortState)
@@ -70,8 +70,8 @@ module _ (machine : Machine) (image : MemoryImage) (end : ℕ) (cores after : Li
   known = subst (λ (n : ℕ). All (λ (e : Entry). e.core < n) last.entries) many history.known
 
   -- no two accesses have the same stamp and core
-  pub keys : StampsRise → HaveDistinctKeys last.entries
-  keys rise = distinct_keys last.entries (rise (length shards) (length (timed_of cores)) last.entries history.some history.known history.stamped).0
+  pub keys : RisingStampsAreDistinct → StampsRise → HaveDistinctKeys last.entries
+  keys distinct rise = distinct last.entries (rise (length shards) (length (timed_of cores)) last.entries history.some history.known history.stamped).0
 
   pub bounded : (p q : Simulation) → p.cores.items ≡ cores → p.port.world.shards ≡ was → q.cores.items ≡ after → q.port.world ≡ last.world
       → (entries : List Entry) → entries ≡ recorded_order last.entries → IsBounded machine image end p q entries

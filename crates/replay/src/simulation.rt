@@ -144,6 +144,7 @@ impl Simulation {
         ensures counters { self.new.counters ≡ self.old.counters }
     {
         bound_core::laws::phases_are_histories();
+        access_log::laws::rising_stamps_are_distinct();
         access_log::laws::stamps_rise();
         self.port.begin(access_room(machine) as usize, list)?;
         run_cores(

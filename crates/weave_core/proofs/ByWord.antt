@@ -230,9 +230,11 @@ floor_current_put stubs floor by_floor reached k s current is there unknown behi
     by_k same =
         let stub : s ≡ t = same_Some s t (sym there ∙ (ap (λ (z : Key). slice_get stubs z.number) same ∙ at)) in
         (ap (λ (z : Stub). is_exact z.word) (sym stub) ∙ unknown, ap (is_ahead floor) (sym stub) ∙ behind)
+
     by_test : (y : Key) (rest : List Key) → by_floor.keys ≡ y ∷ rest → (b : Bool) → slice_get (cond b (k ∷ y ∷ rest) (y ∷ put k rest)) 0 ≡ Some g → (is_exact t.word ≡ false) × (is_ahead floor t ≡ false)
     by_test y rest keys true h = by_k (same_Some k g h)
     by_test y rest keys false h = current g t (ap (λ (ks : List Key). slice_get ks 0) keys ∙ h) at
+
     by_first : (keys : List Key) → by_floor.keys ≡ keys → slice_get (put k keys) 0 ≡ Some g → (is_exact t.word ≡ false) × (is_ahead floor t ≡ false)
     by_first [] same h = by_k (same_Some k g h)
     by_first (y ∷ rest) same h = by_test y rest same (is_before k y) h

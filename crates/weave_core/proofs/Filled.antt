@@ -77,5 +77,6 @@ module _ (stubs : List Stub) where
       where
         none_told : (k : Key) → Contains by_word.keys k → ⊥
         none_told k h = has_in [] k (subst (λ (q : ReadyKeys). Contains q.keys k) empty h)
+
         not_below : (n : ℕ) → nat_lt (0 + n) 0 ≡ false
         not_below n = grind (arith, nat_tests)

@@ -21,7 +21,6 @@ use Rattle.weave_core.proofs.Crossings.{Joins, crossing_at, crossing_of, joins}
 use Rattle.weave_core.proofs.First.{IsFirst, first_of}
 use Rattle.weave_core.proofs.Firing.{IsOrder, all_known, before_start, finding, finish_is, fired_before, from_domain, parent_at, start_after_parent, start_by_all, start_is, unfired_from}
 
-
 -- words
 
 pub sound_cycle : (all : List Timed) (x : Crossing) (w : Word) → IsSoundWord all x w → cycle_of w ≤ finish_in all x.parent

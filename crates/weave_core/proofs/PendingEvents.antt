@@ -20,7 +20,6 @@ use Rattle.weave_core.proofs.LeastBy.{IsLeast, next_there, some_next, start_upto
 use Rattle.weave_core.proofs.Crossings.{Joins, crossing_at, crossing_of, joins}
 use Rattle.weave_core.proofs.First.{IsFirst, first_of}
 use Rattle.weave_core.proofs.Firing.{IsOrder, all_known, before_start, finding, finish_is, fired_before, from_domain, parent_at, start_after_parent, start_by_all, start_is, unfired_from}
-
 use Rattle.weave_core.proofs.Joined.{at_event, child_slot, eq_test, joined, less_is, test_eq}
 use Rattle.weave_core.proofs.ReadyEvents.{IsPlaced, IsReady, is_ready, placed, ready_start, sound_arrival}
 

@@ -79,4 +79,3 @@ small_told stubs place s word small there l other t at =
           subst IsSmallStub is (record { delay = (small place s there).delay; latency = (small place s there).latency; cycle = l })
       | inr apart ↦ small other t (sym (get_set_other stubs place other (told_word word s) apart) ∙ at)
     ]
-

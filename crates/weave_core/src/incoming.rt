@@ -141,7 +141,12 @@ impl Incoming {
         ensures { (s : Stub) → slice_get self.old.stubs place ≡ Some s → self.new ≡ record self.old { stubs = slice_set self.old.stubs place (told_word word s) } }
     {
         self.stubs[place as usize].word = word;
-        settle(&self.stubs, self.floor, &mut self.by_floor, &mut self.by_word);
+        settle(
+            &self.stubs,
+            self.floor,
+            &mut self.by_floor,
+            &mut self.by_word,
+        );
     }
 
     /// Another floor, which is no lower.
@@ -151,7 +156,12 @@ impl Incoming {
         ensures { self.new ≡ record self.old { floor = floor } }
     {
         self.floor = floor;
-        settle(&self.stubs, self.floor, &mut self.by_floor, &mut self.by_word);
+        settle(
+            &self.stubs,
+            self.floor,
+            &mut self.by_floor,
+            &mut self.by_word,
+        );
     }
 }
 

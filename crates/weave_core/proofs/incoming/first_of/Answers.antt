@@ -29,9 +29,9 @@ pub returns-in-None-default-clause-first : goal.returns-in-None-default-clause-f
 returns-in-None-default-clause-first c =
     if_some c.first-key.result (IsFirstStub (record { stubs = c.args.stubs.now; floor = c.args.floor }))
     (λ k e.
-        first_by_word c.args.stubs.now c.args.floor c.args.by_floor.now c.args.by_word.now c.requires.queued k (sym c.first-key.ensures.first ∙ e)
-        (λ g h. absurd (none-some g (sym (sym c.first.ensures.first ∙ c.in-None-default.is-0) ∙ h)))
-        c.first.ensures.ascending c.first-key.ensures.ascending)
+    first_by_word c.args.stubs.now c.args.floor c.args.by_floor.now c.args.by_word.now c.requires.queued k (sym c.first-key.ensures.first ∙ e)
+    (λ g h. absurd (none-some g (sym (sym c.first.ensures.first ∙ c.in-None-default.is-0) ∙ h)))
+    c.first.ensures.ascending c.first-key.ensures.ascending)
 
 pub returns-in-None-default-clause-none : goal.returns-in-None-default-clause-none
 returns-in-None-default-clause-none c =
@@ -61,6 +61,6 @@ returns-in-Some-Some-clause-first c =
           subst (λ (k : Key). IsFirstStub (record { stubs = c.args.stubs.now; floor = c.args.floor }) k) (sym is)
           (first_by_word c.args.stubs.now c.args.floor c.args.by_floor.now c.args.by_word.now c.requires.queued c.in-Some-Some.other b
           (λ g h. subst (λ (k : Key). is_before (key_of (c.args.floor + k.start) k.number) c.in-Some-Some.other ≡ false) (same_Some c.in-Some-Some.key g (sym a ∙ h))
-              (subst (λ (k : Key). is_before k c.in-Some-Some.other ≡ false) c.after_floor-in-Some-Some.ensures (subst (λ (k : Key). is_before c.after_floor-in-Some-Some.result k ≡ false) is c.earlier.ensures.least.0)))
+          (subst (λ (k : Key). is_before k c.in-Some-Some.other ≡ false) c.after_floor-in-Some-Some.ensures (subst (λ (k : Key). is_before c.after_floor-in-Some-Some.result k ≡ false) is c.earlier.ensures.least.0)))
           c.first.ensures.ascending c.first-key.ensures.ascending)
     ]

@@ -45,7 +45,7 @@ sort-requires c =
     let count : length cores ≡ machine.cores = ap length c.deref_mut.ensures.value ∙ c.requires.room.count in
     let last = c.run_cores.new.port in
     let distinct = keys machine c.args.program.now c.args.end cores c.run_cores.new.cores p.port.world.shards c.begin.new.self last
-    begun c.in_ok-begin.ensures.none count c.requires.room.some c.in_ok-run_cores.ensures (c.phases_are_histories.ensures (time_of machine) c.args.program.now c.args.end) c.stamps_rise.ensures
+    begun c.in_ok-begin.ensures.none count c.requires.room.some c.in_ok-run_cores.ensures (c.phases_are_histories.ensures (time_of machine) c.args.program.now c.args.end) c.rising_stamps_are_distinct.ensures c.stamps_rise.ensures
     in
     subst HaveDistinctKeys (sym c.take_entries-entries.ensures.entries) distinct
 
