@@ -1,6 +1,8 @@
 //! The bound phase of an interval by several workers: each runs its cores to the end of the interval,
 //! and their accesses go to shards that all share. Whatever the order in which they take their turns at
 //! the shards, the accesses in recorded order are those of the machine of one thread.
+#![tactic(auto)]
+
 mod crew;
 mod hiring;
 mod interval;
