@@ -2,6 +2,8 @@
 //! access of its own by taking the shard's turn, which one core at a time can have. Whatever the order
 //! in which the turns are taken, the accesses are those of plain shards, one after the other in
 //! recorded order.
+#![tactic(auto)]
+
 mod memory;
 mod plays;
 mod rule;
