@@ -53,6 +53,7 @@ fn a_run_with_record_writes_its_schedule(rt: HostRuntime) -> Result<(), Fail> {
         &mut files,
     )?;
     assert_eq!(rt; ran.ended.status.number(), 0);
+    assert_eq!(rt; ran.ended.kept.schedule.cores(), 1);
     let file = files.read(alloc, "s", usize::MAX)?;
     let expected = schedule_file::write(alloc, &ran.ended.kept.schedule)?;
     assert_eq!(rt; file.as_slice(), expected.as_slice());
