@@ -1,5 +1,6 @@
 pub mod BoundPhase
 pub mod Cores
+pub mod HandedOn
 pub mod IntervalWeave
 pub mod NextInterval
 pub mod OneSchedule
@@ -9,3 +10,5 @@ pub mod RunCores
 pub mod RunEnds
 pub mod RunSoFar
 pub mod Shards
+pub mod TakingTurns
+pub mod TurnsBegin

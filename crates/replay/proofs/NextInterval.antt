@@ -1,5 +1,5 @@
 -- A run goes on interval by interval.
-use Rattle.std.proofs.Common.{◌≡◌, ◌≢◌, ◌⊎◌, ℕ, zero, suc, ◌+◌, ◌*◌, ◌^◌, ◌==◌, ◌<◌, ◌≤◌, nat_lt, get_or, Bool, false, ◌||◌, List, [], ◌∷◌, ◌++◌, length, map, Option, Some, None, Ok, All, refl, sym, ◌∙◌, ap, subst, inl, inr, arith}
+use Rattle.std.proofs.Common.{◌≡◌, ◌≢◌, ◌⊎◌, ℕ, zero, suc, ◌+◌, ◌*◌, ◌^◌, ◌==◌, ◌<◌, ◌≤◌, nat_lt, get_or, false, ◌||◌, List, [], ◌∷◌, ◌++◌, length, map, Option, Some, None, Result, Ok, Err, All, refl, sym, ◌∙◌, ap, subst, inl, inr, arith}
 use Rattle.std.specs.Prelude.{IsSome, replicate, slice_get}
 use Rattle.std.specs.List.{list_any, enumerate_from, fold, range_with_len}
 use Rattle.std.proofs.lemmas.Bool.{or_parts}
@@ -25,23 +25,25 @@ use Rattle.rv_core.specs.Step.{initial_core}
 use Rattle.shard.specs.Served.{ShardState, after}
 use Rattle.bound_core.specs.History.{after_history}
 use Rattle.bound_core.specs.Intervals.{NextIntervalBegins}
-use Rattle.bound_core.specs.MachineOfShards.{HistoriesAreRunsOfTheMachine, IsCoreOf, IsRunOfTheMachine, StandForMachine}
+use Rattle.bound_core.specs.History as history
+use Rattle.bound_core.specs.HistoryLaws.{PhasesAreHistories}
+use Rattle.bound_core.specs.MachineOfShards.{IsCoreOf, ShardsDoAsTheMachine, StandForMachine}
 use Rattle.bound_core.specs.MachineWorld.{MachineWorld, serve}
 use Rattle.bound_core.specs.ReferenceMachine.{BoundState, bound_phase}
 use Rattle.bound_core.specs.ShardPort.{base_of, size_of}
+use Rattle.bound_core.specs.ShardWorld as served
 use Rattle.bound_core.specs.ShardWorld.{ShardWorld, begun_world, no_shard, restarted}
+use Rattle.bound_core.specs.Simulation.{AreRelated, EndAlike}
 use Rattle.bound_core.specs.Timed.{NumberedCore, TimedCore, first_core}
 use Rattle.bound_core.specs.Turn.{IsOver}
 use Rattle.access_log.specs.History.{bank_of_entry, core_of_entry, each_after, numbered}
-use Rattle.access_log.specs.Laws.{CoresDecideTheOrder, RecordedOrderKeepsTheStamps, StampsRise}
 use Rattle.access_log.specs.RecordedOrder.{no_stamps, recorded_order}
 use Rattle.replay.specs.Limits.{access_limit, cycle_limit}
 use Rattle.replay.specs.declared.simulation.Simulation.{Simulation}
 use Rattle.replay.specs.Port.{LoggedPortState}
 use Rattle.replay.specs.ReferenceRun.{RunState, access_room, after_interval, after_weave, all_delayed, at_limit, begun, end_of, first_state, has_ended, have_halted, time_of, world_of, woven_after, woven_interval}
-use Rattle.replay.specs.Simulation.{AreNumbered, GoesOn, HasRoom, IsBounded, IsCounted, IsReady, LeadsTo, StandsFor, begun_shards, cores_of}
+use Rattle.replay.specs.Simulation.{AreNumbered, GoesOn, HasRoom, IsBounded, IsCounted, IsReady, LeadsTo, StandsFor, begun_shards, bound_state, cores_of}
 use Rattle.replay.proofs.Cores.{delayed_many, delayed_over, delayed_same, each_timed}
-use Rattle.replay.proofs.RecordedOrder.{recorded_again}
 
 -- as many are there after their entries as before
 each_many : {X : Type 0} (step : X → Entry → X) (number_of : Entry → ℕ) (entries : List Entry) (xs : List X) → length (each_after step number_of entries xs) ≡ length xs
@@ -211,96 +213,125 @@ weave_after machine s b i is = ap (λ (j : Interval). woven_next s b j) (sym is)
 
 -- the laws of what a bound phase leaves
 pub record Laws (time : Entry → ℕ) (image : MemoryImage) (end : ℕ) : Type 0 where
-  pub runs : HistoriesAreRunsOfTheMachine time image end
+  pub alike : ShardsDoAsTheMachine time image end
+  pub histories : PhasesAreHistories time image end
   pub next : NextIntervalBegins
-  pub rise : StampsRise
-  pub keep : RecordedOrderKeepsTheStamps
-  pub decide : CoresDecideTheOrder
   pub sums : CountersAreSums
 
--- after its bound phase, the weave and the feedback, the run is an interval further
-module _ (machine : Machine) (ok : IsMachine machine) (image : MemoryImage) (end : ℕ) (s : RunState) (p q : Simulation) (g : GoesOn machine end s p)
-    (entries : List Entry) (b : IsBounded machine image end p q entries) (laws : Laws (time_of machine) image end)
-    (i : Interval) (is : i ≡ woven_interval machine s.comps entries) (same : i.entries ≡ entries) (was_run : WasRun i) (few_events : length i.events ≤ 4 * length i.entries)
-    (are : AreComponents machine (comps_after comp_step i.events s.comps)) where
-  few : length i.entries ≤ access_room machine
-  few = omega (arith, ap length same, b.few)
+-- ---- the machine of one thread
 
+ok_alike : (u : BoundState ShardWorld) (o : Result (BoundState MachineWorld) ℕ) → EndAlike StandForMachine (Ok u) o → (t : BoundState MachineWorld) × (o ≡ Ok t) × AreRelated StandForMachine u t
+ok_alike u (Ok t) related = (t, refl, related)
+ok_alike u (Err place) related = absurd related
+
+err_alike : (place : ℕ) (o : Result (BoundState MachineWorld) ℕ) → EndAlike StandForMachine (Err place) o → o ≡ Err place
+err_alike place (Ok t) related = absurd related
+err_alike place (Err other) related = ap Err related
+
+-- the bound phase of the next interval, over the shards and on the machine
+module _ (machine : Machine) (image : MemoryImage) (end : ℕ) (s : RunState) (p : Simulation) (g : GoesOn machine end s p) (turns : List ℕ) where
   abbrev before : List ShardState
   before = map restarted p.port.world.shards
 
-  abbrev time : Entry → ℕ
-  time = time_of machine
+  abbrev shard_phase : Result (BoundState ShardWorld) ℕ
+  shard_phase = bound_phase served.serve (time_of machine) image end turns (history.begun (cores_of p) before)
+
+  abbrev machine_phase : Result (BoundState MachineWorld) ℕ
+  machine_phase = bound_phase serve (time_of machine) image (end_of machine s) turns (begun machine s)
 
   many : length (cores_of p) ≡ machine.cores
   many = ap length (sym g.come.cores) ∙ g.come.count
-
-  -- ---- the machine of one thread
 
   stand : StandForMachine (cores_of p) (begun_world (length (cores_of p)) before) (world_of machine s)
   stand =
       subst (λ (n : ℕ). StandForMachine (cores_of p) (begun_world n before) (world_of machine s)) (sym many)
       (subst (λ (cores : List TimedCore). StandForMachine cores (begun_shards machine p) (world_of machine s)) g.come.cores g.come.stand)
 
-  run : IsRunOfTheMachine time image end (cores_of p) before b.taken (world_of machine s)
-  run = laws.runs (cores_of p) before b.taken (world_of machine s) b.history stand
+  alike : ShardsDoAsTheMachine (time_of machine) image end → EndAlike StandForMachine shard_phase machine_phase
+  alike law =
+      let from : BoundState MachineWorld = record { cores = cores_of p; world = world_of machine s; entries = [] } in
+      let end_alike : EndAlike StandForMachine shard_phase (bound_phase serve (time_of machine) image end turns from) =
+      law (history.begun (cores_of p) before) from (record { cores = refl; entries = refl; worlds = stand }) turns 0
+      in
+      let at_end : EndAlike StandForMachine shard_phase (bound_phase serve (time_of machine) image (end_of machine s) turns from) =
+      subst (λ (stop : ℕ). EndAlike StandForMachine shard_phase (bound_phase serve (time_of machine) image stop turns from)) g.ends end_alike
+      in
+      subst (λ (cores : List TimedCore). EndAlike StandForMachine shard_phase (let b : BoundState MachineWorld = record { cores = cores; world = world_of machine s; entries = [] } in bound_phase serve (time_of machine) image (end_of machine s) turns b)) (sym g.come.cores) at_end
+
+  -- a place that is not legal over the shards is not legal
+  pub not_legal : ShardsDoAsTheMachine (time_of machine) image end → (place : ℕ) → shard_phase ≡ Err place
+      → after_interval machine image s turns ≡ Err (record { interval = length s.intervals; place = place })
+  not_legal law place is =
+      ap (woven_after machine s) (err_alike place machine_phase (subst (λ (o : Result (BoundState ShardWorld) ℕ). EndAlike StandForMachine o machine_phase) is (alike law)))
+
+  pub legal : ShardsDoAsTheMachine (time_of machine) image end → (u : BoundState ShardWorld) → shard_phase ≡ Ok u
+      → (t : BoundState MachineWorld) × (machine_phase ≡ Ok t) × AreRelated StandForMachine u t
+  legal law u is = ok_alike u machine_phase (subst (λ (o : Result (BoundState ShardWorld) ℕ). EndAlike StandForMachine o machine_phase) is (alike law))
+
+-- after its bound phase, the weave and the feedback, the run is an interval further
+module _ (machine : Machine) (ok : IsMachine machine) (image : MemoryImage) (end : ℕ) (s : RunState) (p q : Simulation) (g : GoesOn machine end s p)
+    (turns : List ℕ) (entries : List Entry) (b : IsBounded machine image end p turns q entries) (laws : Laws (time_of machine) image end)
+    (i : Interval) (is : i ≡ woven_interval machine s.comps entries) (same : i.entries ≡ entries) (was_run : WasRun i) (few_events : length i.events ≤ 4 * length i.entries)
+    (are : AreComponents machine (comps_after comp_step i.events s.comps)) where
+  few : length i.entries ≤ access_room machine
+  few = omega (arith, ap length same, b.few)
+
+  run : (t : BoundState MachineWorld) × (machine_phase machine image end s p g turns ≡ Ok t) × AreRelated StandForMachine (bound_state q b.taken) t
+  run = legal machine image end s p g turns laws.alike (bound_state q b.taken) b.phase
+
+  abbrev came_to : BoundState MachineWorld
+  came_to = run.0
 
   abbrev next : RunState
-  next = woven_next s run.left i
+  next = woven_next s came_to i
 
-  phase : bound_phase serve time image (end_of machine s) (map (λ e. e.core) entries) (begun machine s) ≡ Ok run.left
-  phase =
-      ap (λ (stop : ℕ). bound_phase serve time image stop (map (λ (e : Entry). e.core) entries) (begun machine s)) (sym g.ends)
-      ∙ ap (λ (es : List Entry). bound_phase serve time image end (map (λ (e : Entry). e.core) es) (begun machine s)) b.in_order
-      ∙ ap (λ (cores : List TimedCore). let from : BoundState MachineWorld = record { cores = cores; world = world_of machine s; entries = [] } in bound_phase serve time image end (map (λ (e : Entry). e.core) (recorded_order b.taken)) from) g.come.cores
-      ∙ run.phase
+  in_order : recorded_order came_to.entries ≡ entries
+  in_order = ap recorded_order run.2.entries ∙ sym b.in_order
 
-  in_order : recorded_order run.left.entries ≡ entries
-  in_order =
-      ap recorded_order run.entries_are
-      ∙ recorded_again laws.rise laws.keep laws.decide (length before) (length (cores_of p)) b.taken b.history.some b.history.known b.history.stamped
-      ∙ sym b.in_order
-
-  leads : after_interval machine image s (map (λ e. e.core) entries) ≡ Ok next
+  leads : after_interval machine image s turns ≡ Ok next
   leads =
-      ap (woven_after machine s) phase
-      ∙ ap Ok (weave_after machine s run.left i (is ∙ ap (woven_interval machine s.comps) (sym in_order)))
+      ap (woven_after machine s) run.1
+      ∙ ap Ok (weave_after machine s came_to i (is ∙ ap (woven_interval machine s.comps) (sym in_order)))
 
   -- ---- its cores
 
-  cores_are : run.left.cores ≡ cores_of q
-  cores_are = run.cores_are ∙ ap (λ (state : BoundState ShardWorld). state.cores) (sym b.left)
+  cores_are : came_to.cores ≡ cores_of q
+  cores_are = run.2.cores
 
-  world_is : (after_history time image end (cores_of p) before b.taken).world ≡ q.port.world
-  world_is = ap (λ (state : BoundState ShardWorld). state.world) (sym b.left)
-
-  left_many : length run.left.cores ≡ machine.cores
+  left_many : length came_to.cores ≡ machine.cores
   left_many = ap length cores_are ∙ length-map q.cores.items (λ (c : NumberedCore). c.timed) ∙ b.count
 
-  later_many : length (all_delayed i.delays run.left.cores) ≡ machine.cores
-  later_many = delayed_many i.delays run.left.cores ∙ left_many
+  later_many : length (all_delayed i.delays came_to.cores) ≡ machine.cores
+  later_many = delayed_many i.delays came_to.cores ∙ left_many
 
   -- ---- its shards
+
+  abbrev was : List ShardState
+  was = map restarted p.port.world.shards
+
+  world_is : (after_history (time_of machine) image end (cores_of p) was b.taken).world ≡ q.port.world
+  world_is =
+      let found = laws.histories (cores_of p) was turns (bound_state q b.taken) g.come.stand.some (All-map (λ (shard : ShardState). shard.last ≡ 0) restarted p.port.world.shards (λ k d below. refl)) b.phase in
+      ap (λ (state : BoundState ShardWorld). state.world) (sym found.2)
 
   stamps_many : length q.port.world.stamps ≡ machine.cores
   stamps_many =
       ap (λ (w : ShardWorld). length w.stamps) (sym world_is)
       ∙ each_many (λ (stamp : ℕ) (e : Entry). e.stamp) core_of_entry b.taken (replicate (length (cores_of p)) 0)
-      ∙ length-replicate (length (cores_of p)) 0 ∙ many
+      ∙ length-replicate (length (cores_of p)) 0 ∙ many machine image end s p g turns
 
   shards_many : length q.port.world.shards ≡ machine.l2.banks
   shards_many =
       ap (λ (w : ShardWorld). length w.shards) (sym world_is)
-      ∙ each_many after (bank_of_entry (length before)) b.taken before
+      ∙ each_many after (bank_of_entry (length was)) b.taken was
       ∙ length-map p.port.world.shards restarted ∙ g.come.banks
 
   stands_next : StandForMachine next.cores (begun_world machine.cores (map restarted q.port.world.shards)) (world_of machine next)
   stands_next =
-      let later = all_delayed i.delays run.left.cores in
-      let left = run.left.world in
-      let at : StandForMachine run.left.cores q.port.world left = subst (λ (w : ShardWorld). StandForMachine run.left.cores w left) world_is run.stand in
-      let began = laws.next run.left.cores later q.port.world left at (delayed_same i.delays run.left.cores) in
-      let world_with : (banks cores : ℕ) → MachineWorld = λ banks cores. record { memory = left.memory; caches = left.caches; stamps = no_stamps banks cores } in
+      let later = all_delayed i.delays came_to.cores in
+      let at : StandForMachine came_to.cores q.port.world came_to.world = subst (λ (cores : List TimedCore). StandForMachine cores q.port.world came_to.world) (sym cores_are) run.2.worlds in
+      let began = laws.next came_to.cores later q.port.world came_to.world at (delayed_same i.delays came_to.cores) in
+      let world_with : (banks cores : ℕ) → MachineWorld = λ banks cores. record { memory = came_to.world.memory; caches = came_to.world.caches; stamps = no_stamps banks cores } in
       subst (λ (banks : ℕ). StandForMachine later (begun_world machine.cores (map restarted q.port.world.shards)) (world_with banks machine.cores)) shards_many
       (subst (λ (cores : ℕ). StandForMachine later (begun_world cores (map restarted q.port.world.shards)) (world_with (length q.port.world.shards) cores)) later_many began)
 
@@ -323,12 +354,12 @@ module _ (machine : Machine) (ok : IsMachine machine) (image : MemoryImage) (end
   next_over =
       let longer = one_longer machine ok end s p g i was_run few_events few in
       let end_is : end ≡ length (s.intervals ++ i ∷ []) * machine.interval = subst (λ n. end ≡ n * machine.interval) (sym longer) g.ends in
-      let over : All (IsOver end) run.left.cores = subst (All (IsOver end)) (sym cores_are) b.over in
-      subst (λ (n : ℕ). All (IsOver n) next.cores) end_is (delayed_over end i.delays run.left.cores over)
+      let over : All (IsOver end) came_to.cores = subst (All (IsOver end)) (sym cores_are) b.over in
+      subst (λ (n : ℕ). All (IsOver n) next.cores) end_is (delayed_over end i.delays came_to.cores over)
 
   pub leads_on : (r : Simulation) → cores_of r ≡ all_delayed i.delays (cores_of q) → AreNumbered r.cores.items → r.port ≡ q.port
       → r.comps ≡ comps_after comp_step i.events s.comps → r.counters ≡ added p.counters i r.comps
-      → LeadsTo machine image s (map (λ e. e.core) entries) r
+      → LeadsTo machine image s turns r
   leads_on r cores numbered port comps counters =
       let are_next : AreComponents machine r.comps = subst (AreComponents machine) (sym comps) are in
       record {

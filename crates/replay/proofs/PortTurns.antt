@@ -29,18 +29,18 @@ use Rattle.replay.specs.Simulation.{HasRun, IsReady}
 abbrev pub told : LoggedPortState → Option (List Entry)
 told p = Some p.entries
 
-abbrev world : LoggedPortState → ShardWorld
+abbrev pub world : LoggedPortState → ShardWorld
 world p = p.world
 
 served_core : (w : ShardWorld) (core start : ℕ) (request : Request) → (serve w core start request).0.core ≡ core
 unfolding serve
 served_core w core start request = refl
 
-served_stamps : (w : ShardWorld) (core start : ℕ) (request : Request) → length (serve w core start request).1.stamps ≡ length w.stamps
+pub served_stamps : (w : ShardWorld) (core start : ℕ) (request : Request) → length (serve w core start request).1.stamps ≡ length w.stamps
 unfolding serve
 served_stamps w core start request = length-set w.stamps core _
 
-answers : AnswersAsWorld gives world serve
+pub answers : AnswersAsWorld gives world serve
 answers port port_after start request e given =
     let core : e.core ≡ port.core = ap (λ (answer : Entry × ShardWorld). answer.0.core) given ∙ served_core port.world port.core start request in
     given ∙ ap (λ (n : ℕ). serve port.world n start request) (sym core)
@@ -68,7 +68,7 @@ none_past : (end : ℕ) (c : TimedCore) → end ≤ c.clock → c.core.instructi
 unfolding most_accesses
 none_past end c late idle = let past : nat_lt c.clock end ≡ false = search rules in rw (past, idle) refl
 
-latest_idle : (end : ℕ) (c : TimedCore) → c.core.instruction ≡ None → latest end c ≤ max c.clock end + 2 ^ 28
+pub latest_idle : (end : ℕ) (c : TimedCore) → c.core.instruction ≡ None → latest end c ≤ max c.clock end + 2 ^ 28
 latest_idle end c idle =
     let none : left_of_instruction c.core.instruction ≡ 0 = ap left_of_instruction idle in
     latest_small end c (omega (arith, none))

@@ -1,16 +1,11 @@
 -- What recorded order keeps of the accesses of an interval.
-use Rattle.std.proofs.Common.{◌≡◌, ◌≢◌, ℕ, ◌+◌, ◌<◌, false, List, [], ◌∷◌, length, All, refl, subst, arith, inl, inr}
-use Rattle.std.specs.List.{AllByRecursion, IsDistinct}
-use Rattle.std.proofs.lemmas.Bool.{cases_Bool, cases_eq}
-use Rattle.std.proofs.lemmas.Bool.Decides.{nat_tests}
+use Rattle.std.proofs.Common.{◌≡◌, ℕ, ◌+◌, ◌<◌, List, [], ◌∷◌, length, All, refl, arith, inl, inr}
+use Rattle.std.proofs.lemmas.Bool.{cases_Bool}
 use Rattle.std.proofs.lemmas.List.Elements.{All-cons, All-head, All-nil, All-tail}
 use Rattle.zs_num.specs.declared.entry.Entry.{Entry}
-use Rattle.access_log.specs.History.{AreRising, AreStamped, core_of_entry, of_core}
+use Rattle.access_log.specs.History.{AreStamped}
 use Rattle.access_log.specs.Laws.{CoresDecideTheOrder, RecordedOrderKeepsTheStamps, StampsRise}
-use Rattle.access_log.specs.Logs.{HaveDistinctKeys, have_same_key}
 use Rattle.access_log.specs.RecordedOrder.{comes_before, no_stamps, placed, recorded_order}
-use Rattle.access_log.proofs.Filters.{other_first, own_first}
-use Rattle.access_log.proofs.Rising.{rising_less}
 
 -- ---- the same accesses
 

@@ -24,7 +24,7 @@ use Rattle.replay.specs.Simulation.{AreNumbered, HasRun, HaveRun, IsReady, core_
 
 -- ---- lists
 
-get_other : {A : Type 0} (xs : List A) (i k : ℕ) (x : A) → k ≢ i → slice_get (slice_set xs i x) k ≡ slice_get xs k
+pub get_other : {A : Type 0} (xs : List A) (i k : ℕ) (x : A) → k ≢ i → slice_get (slice_set xs i x) k ≡ slice_get xs k
 get_other [] i k x other = refl
 get_other (y ∷ ys) zero zero x other = absurd (other refl)
 get_other (y ∷ ys) zero (suc k) x other = refl
@@ -35,7 +35,7 @@ get_mapped : {A B : Type 0} (f : A → B) (xs : List A) (i : ℕ) (x : A) → sl
 get_mapped f xs i x here = slice_get-map f xs i ∙ ap (option_map f) here
 
 -- what is there after one was set
-set_cases : {A : Type 0} (xs : List A) (i k : ℕ) (x y z : A) → slice_get xs i ≡ Some x → slice_get (slice_set xs i y) k ≡ Some z → (P : A → Type 0) → (k ≡ i → P y) → (k ≢ i → slice_get xs k ≡ Some z → P z) → P z
+pub set_cases : {A : Type 0} (xs : List A) (i k : ℕ) (x y z : A) → slice_get xs i ≡ Some x → slice_get (slice_set xs i y) k ≡ Some z → (P : A → Type 0) → (k ≡ i → P y) → (k ≢ i → slice_get xs k ≡ Some z → P z) → P z
 set_cases xs i k x y z here found P own other =
     elim (cases_eq k i) as (λ _. P z) [
       | inl same ↦

@@ -53,23 +53,25 @@ passed : (test : Bool) (rest : Result RunState Illegal) (stop : Illegal) (t : Ru
 passed false rest stop t e = (refl, e)
 passed true rest stop t e = cc
 
--- one more interval, with the run at t after those before
-one_interval : (machine : Machine) (image : MemoryImage) (s : RunState) (lists : List (List ℕ)) (t u : RunState) (turns : List ℕ)
-    → after_intervals machine image s lists ≡ Ok t → has_ended machine t ≡ false → after_interval machine image t turns ≡ Ok u → after_intervals machine image s (lists ++ turns ∷ []) ≡ Ok u
-one_interval machine image s [] t u turns at on after =
+-- more intervals, with the run at t after those before
+more_intervals : (machine : Machine) (image : MemoryImage) (s : RunState) (lists : List (List ℕ)) (t : RunState) (more : List (List ℕ))
+    → after_intervals machine image s lists ≡ Ok t → after_intervals machine image s (lists ++ more) ≡ after_intervals machine image t more
+more_intervals machine image s [] t more at =
     let same : s ≡ t = cc in
-    let goes : has_ended machine s ≡ false = ap (has_ended machine) same ∙ on in
-    let leads : after_interval machine image s turns ≡ Ok u = ap (λ (r : RunState). after_interval machine image r turns) same ∙ after in
-    rw (goes, leads) refl
-one_interval machine image s (first ∷ lists) t u turns at on after =
+    ap (λ (r : RunState). after_intervals machine image r more) same
+more_intervals machine image s (first ∷ lists) t more at =
     let parts = passed (has_ended machine s) (continued (λ r. after_intervals machine image r lists) (after_interval machine image s first)) (next_place s) t at in
-    let rest : (o : Result RunState Illegal) → continued (λ r. after_intervals machine image r lists) o ≡ Ok t → continued (λ r. after_intervals machine image r (lists ++ turns ∷ [])) o ≡ Ok u =
-    λ o. elim o as (λ v. continued (λ r. after_intervals machine image r lists) v ≡ Ok t → continued (λ r. after_intervals machine image r (lists ++ turns ∷ [])) v ≡ Ok u) [
+    let rest : (o : Result RunState Illegal) → continued (λ r. after_intervals machine image r lists) o ≡ Ok t → continued (λ r. after_intervals machine image r (lists ++ more)) o ≡ after_intervals machine image t more =
+    λ o. elim o as (λ v. continued (λ r. after_intervals machine image r lists) v ≡ Ok t → continued (λ r. after_intervals machine image r (lists ++ more)) v ≡ after_intervals machine image t more) [
       | Err illegal ↦ λ e. cc
-      | Ok r ↦ λ e. one_interval machine image r lists t u turns e on after
+      | Ok r ↦ λ e. more_intervals machine image r lists t more e
     ]
     in
     rw parts.0 (rest (after_interval machine image s first) parts.1)
+
+one_interval : (machine : Machine) (image : MemoryImage) (s : RunState) (lists : List (List ℕ)) (t u : RunState) (turns : List ℕ)
+    → after_intervals machine image s lists ≡ Ok t → has_ended machine t ≡ false → after_interval machine image t turns ≡ Ok u → after_intervals machine image s (lists ++ turns ∷ []) ≡ Ok u
+one_interval machine image s lists t u turns at on after = more_intervals machine image s lists t (turns ∷ []) at ∙ (rw (on, after) refl)
 
 -- the run is an interval further, and its schedule a list longer
 pub further : (machine : Machine) (image : MemoryImage) (lists : List (List ℕ)) (p q : Simulation) (h : HasRun machine image lists p) (turns : List ℕ) → has_ended machine h.state ≡ false
@@ -88,6 +90,28 @@ pub ends_with : (machine : Machine) (image : MemoryImage) (lists : List (List �
     → reference_run machine image h.comps lists ≡ Ok (results_of machine h.state)
 ends_with machine image lists p h ends =
     ap (continued (results_at machine)) h.reached ∙ ap (λ (ended : Bool). if ended then Ok (results_of machine h.state) else Err (next_place h.state)) ends
+
+-- ---- a schedule that is not legal
+
+-- it ends, and the run goes on
+pub ends_too_soon : (machine : Machine) (image : MemoryImage) (lists : List (List ℕ)) (p : Simulation) (h : HasRun machine image lists p) → has_ended machine h.state ≡ false
+    → reference_run machine image h.comps lists ≡ Err (next_place h.state)
+ends_too_soon machine image lists p h on =
+    ap (continued (results_at machine)) h.reached ∙ ap (λ (ended : Bool). if ended then Ok (results_of machine h.state) else Err (next_place h.state)) on
+
+-- the run has ended, and it goes on
+pub goes_too_far : (machine : Machine) (image : MemoryImage) (lists : List (List ℕ)) (turns : List ℕ) (rest : List (List ℕ)) (p : Simulation) (h : HasRun machine image lists p) → has_ended machine h.state ≡ true
+    → reference_run machine image h.comps (lists ++ turns ∷ rest) ≡ Err (next_place h.state)
+goes_too_far machine image lists turns rest p h ended =
+    let here : after_intervals machine image h.state (turns ∷ rest) ≡ Err (next_place h.state) = rw ended refl in
+    ap (continued (results_at machine)) (more_intervals machine image (first_state machine image h.comps) lists h.state (turns ∷ rest) h.reached ∙ here)
+
+-- a place of its next list is not legal
+pub stops_at : (machine : Machine) (image : MemoryImage) (lists : List (List ℕ)) (turns : List ℕ) (rest : List (List ℕ)) (p : Simulation) (h : HasRun machine image lists p) → has_ended machine h.state ≡ false
+    → (illegal : Illegal) → after_interval machine image h.state turns ≡ Err illegal → reference_run machine image h.comps (lists ++ turns ∷ rest) ≡ Err illegal
+stops_at machine image lists turns rest p h on illegal stops =
+    let here : after_intervals machine image h.state (turns ∷ rest) ≡ Err illegal = rw (on, stops) refl in
+    ap (continued (results_at machine)) (more_intervals machine image (first_state machine image h.comps) lists h.state (turns ∷ rest) h.reached ∙ here)
 
 -- a fact, where there is an error and where there is none
 pub on_err : {T E : Type 0} (P : Type 0) (r : Result T E) → P → OnErr r P

@@ -1,10 +1,13 @@
 -- What is true of the runs of every machine.
-use Rattle.std.specs.Prelude.{◌≡◌, ℕ, List}
+use Rattle.std.specs.Prelude.{◌≡◌, ◌⊎◌, ℕ, List, Result, Ok, Err}
 use Rattle.elf_load.specs.MemoryImage.{MemoryImage}
 use Rattle.machine_desc.specs.declared.machine.Machine.{Machine}
 use Rattle.machine_desc.specs.Machine.{IsMachine}
 use Rattle.replay.specs.ReferenceRun.{IsRunOf}
+use Rattle.replay.specs.Replay.{Replays}
 use Rattle.replay.specs.Results.{Results}
+use Rattle.replay.specs.declared.replay_fail.ReplayFail.{ReplayFail}
+use Rattle.replay.specs.declared.replay_fail.ReplayFail.TheVariants.{NoMemory}
 
 -- a run under a schedule gives one result
 abbrev pub ResultsAreOne : Type 0
@@ -20,3 +23,8 @@ OneCoreHasASchedule = (machine : Machine) (image : MemoryImage) → IsMachine ma
 abbrev pub OneCoreHasNoOtherSchedule : Type 0
 OneCoreHasNoOtherSchedule = (machine : Machine) (image : MemoryImage) (lists others : List (List ℕ)) (results other_results : Results) → machine.cores ≡ 1
     → IsRunOf machine image lists results → IsRunOf machine image others other_results → lists ≡ others
+
+-- A replay of the schedule under which a run gave its results gives the same results, unless memory runs out.
+abbrev pub ReplaysGiveTheSame : Type 0
+ReplaysGiveTheSame = (machine : Machine) (image : MemoryImage) (lists : List (List ℕ)) (results : Results) (answer : Result Results ReplayFail)
+    → IsRunOf machine image lists results → Replays machine image lists answer → (answer ≡ Ok results) ⊎ (answer ≡ Err NoMemory)

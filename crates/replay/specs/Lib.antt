@@ -2,6 +2,8 @@ pub mod Results
 pub mod Limits
 pub mod Port
 pub mod ReferenceRun
+pub mod Replay
 pub mod IntervalWeave
 pub mod Simulation
+pub mod Turns
 pub mod Laws

@@ -168,6 +168,12 @@ pub record IsRunOf (machine : Machine) (image : MemoryImage) (lists : List (List
   pub fresh : AreFresh machine comps
   pub gives : reference_run machine image comps lists ≡ Ok results
 
+-- The schedule is not legal for the run of an image, and this is the first place that is not.
+pub record IsIllegalAt (machine : Machine) (image : MemoryImage) (lists : List (List ℕ)) (illegal : Illegal) : Type 0 where
+  pub comps : List Comp
+  pub fresh : AreFresh machine comps
+  pub gives : reference_run machine image comps lists ≡ Err illegal
+
 -- the schedule has a legal list for each of the first intervals of a run, as many as it has lists; the run may go on
 pub record IsLegalSoFar (machine : Machine) (image : MemoryImage) (lists : List (List ℕ)) : Type 0 where
   pub comps : List Comp

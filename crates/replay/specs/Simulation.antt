@@ -7,11 +7,11 @@ use Rattle.machine_desc.specs.declared.machine.Machine.{Machine}
 use Rattle.machine_desc.specs.Components.{component_count}
 use Rattle.component.specs.ComponentStep.{free_of}
 use Rattle.component.specs.Components.{AreComponents}
-use Rattle.bound_core.specs.History.{IsHistory, after_history}
+use Rattle.bound_core.specs.History.{begun}
 use Rattle.bound_core.specs.MachineOfShards.{StandForMachine}
 use Rattle.bound_core.specs.Laws.{moved}
 use Rattle.bound_core.specs.Reaching.{Reaches}
-use Rattle.bound_core.specs.ReferenceMachine.{BoundState}
+use Rattle.bound_core.specs.ReferenceMachine.{BoundState, bound_phase}
 use Rattle.bound_core.specs.ShardPort.{base_of, room_of, size_of}
 use Rattle.bound_core.specs.ShardWorld.{ShardWorld, begun_world, restarted, serve}
 use Rattle.bound_core.specs.Timed.{NumberedCore, TimedCore}
@@ -138,12 +138,10 @@ pub record HasRoom (machine : Machine) (end : ℕ) (p : Simulation) : Type 0 whe
 abbrev pub bound_state : Simulation → List Entry → BoundState ShardWorld
 bound_state p entries = record { cores = cores_of p; world = p.port.world; entries = entries }
 
--- The bound phase of an interval on this machine, from one point of the code to another. The turns took these accesses in
--- some order.
-pub record IsBounded (machine : Machine) (image : MemoryImage) (end : ℕ) (before after : Simulation) (entries : List Entry) : Type 0 where
+-- The bound phase of an interval under these turns, from one point of the code to another.
+pub record IsBounded (machine : Machine) (image : MemoryImage) (end : ℕ) (before : Simulation) (turns : List ℕ) (after : Simulation) (entries : List Entry) : Type 0 where
   pub taken : List Entry
-  pub history : IsHistory (time_of machine) image end (cores_of before) (map restarted before.port.world.shards) taken
-  pub left : bound_state after taken ≡ after_history (time_of machine) image end (cores_of before) (map restarted before.port.world.shards) taken
+  pub phase : bound_phase serve (time_of machine) image end turns (begun (cores_of before) (map restarted before.port.world.shards)) ≡ Ok (bound_state after taken)
   pub in_order : entries ≡ recorded_order taken
   pub cores : All (λ e. e.core < machine.cores) entries
   pub starts : All (λ e. e.start ≤ 2 ^ 36) entries
@@ -152,6 +150,15 @@ pub record IsBounded (machine : Machine) (image : MemoryImage) (end : ℕ) (befo
   pub count : length after.cores.items ≡ machine.cores
   pub numbered : AreNumbered after.cores.items
   pub over : All (IsOver end) (cores_of after)
+
+-- The run has the bound phase of its next interval behind it, under these turns and with these entries.
+pub record HasBounded (machine : Machine) (image : MemoryImage) (s : RunState) (turns : List ℕ) (p : Simulation) (entries : List Entry) : Type 0 where
+  pub end : ℕ
+  pub before : Simulation
+  pub goes_on : GoesOn machine end s before
+  pub bounded : IsBounded machine image end before turns p entries
+  pub comps : p.comps ≡ before.comps
+  pub counters : p.counters ≡ before.counters
 
 -- an interval under these turns leads on from there
 pub record LeadsTo (machine : Machine) (image : MemoryImage) (s : RunState) (turns : List ℕ) (p : Simulation) : Type 0 where

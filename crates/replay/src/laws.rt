@@ -1,5 +1,5 @@
 //! Laws over the definitions alone, each the contract of a function that does nothing.
-ghost use Rattle.replay.specs.Laws.{OneCoreHasASchedule, OneCoreHasNoOtherSchedule, ResultsAreOne};
+ghost use Rattle.replay.specs.Laws.{OneCoreHasASchedule, OneCoreHasNoOtherSchedule, ReplaysGiveTheSame, ResultsAreOne};
 
 use component::laws::{fresh_components_are_one, fresh_components_are_there};
 
@@ -7,6 +7,14 @@ use component::laws::{fresh_components_are_one, fresh_components_are_there};
 /// and the schedule.
 pub fn results_are_one()
     ensures { ResultsAreOne }
+{
+    fresh_components_are_one();
+}
+
+/// A run keeps a schedule, and a replay of that schedule gives what the run gave: the same cores, the
+/// same counts, as many intervals, and the same end. So the one's report is the other's.
+pub fn replays_give_the_same()
+    ensures { ReplaysGiveTheSame }
 {
     fresh_components_are_one();
 }

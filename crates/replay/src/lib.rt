@@ -5,12 +5,17 @@
 pub mod laws;
 mod limits;
 mod logged_port;
+mod replay_fail;
+mod replaying;
 mod results;
 mod running;
 mod simulation;
 #[cfg(test)]
 mod tests;
+mod turns;
 mod weaving;
 
+pub use replay_fail::ReplayFail;
+pub use replaying::replay;
 pub use results::Final;
 pub use running::run;

@@ -2,10 +2,13 @@
 ghost use Rattle.std.specs.Prelude.{◌≡◌, ◌≤◌, ◌<◌, [], length, map, min, Some, IfOk, OnOk};
 ghost use Rattle.machine_desc.specs.Machine.{IsMachine};
 ghost use Rattle.shard.specs.StandsFor.{new_shards};
+ghost use Rattle.access_log.specs.Logs.{HaveDistinctKeys};
+ghost use Rattle.access_log.specs.RecordedOrder.{recorded_order};
 ghost use Rattle.bound_core.specs.ShardPort.{base_of, room_of, size_of};
 ghost use Rattle.bound_core.specs.ShardWorld.{begun_world, restarted};
 ghost use Rattle.replay.specs.Port.{gives};
 
+use access_log::sort;
 use bound_core::{Port, ShardPort};
 use elf_load::Image;
 use machine_desc::Machine;
@@ -13,7 +16,7 @@ use shard::Shard;
 use std::alloc::Global;
 use std::marker::Model;
 use std::mem;
-use zs_num::{Cycle, Entry, NoMemory, Request};
+use zs_num::{Cycle, Entries, Entry, NoMemory, Request};
 
 /// The shards of a machine, and the accesses that they served in an interval, in the order of the turns.
 #[derive(Drop)]
@@ -71,13 +74,16 @@ impl LoggedPort {
         self.port.choose(core);
     }
 
-    /// Hands the accesses out, and keeps none.
-    pub fn take_entries(&mut self, alloc: Global) -> Vec<Entry>
-        ensures entries { result.items ≡ self.old.entries }
+    /// Hands the accesses out in recorded order, and keeps none.
+    pub fn take_sorted(&mut self, alloc: Global) -> Entries
+        requires { HaveDistinctKeys self.old.entries }
+        ensures entries { result ≡ recorded_order self.old.entries }
         ensures none { self.new.entries ≡ [] }
         ensures world { self.new.world ≡ self.old.world }
     {
-        mem::replace(&mut self.entries, Vec::new(alloc))
+        let mut entries = mem::replace(&mut self.entries, Vec::new(alloc));
+        sort(&mut entries);
+        Entries::of(entries)
     }
 }
 

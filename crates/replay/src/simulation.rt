@@ -1,22 +1,29 @@
 // A run between two intervals.
-ghost use Rattle.std.specs.Prelude.{◌≡◌, ◌+◌, ◌-◌, ◌*◌, ◌<◌, ◌≤◌, ◌^◌, min, ℕ, [], All, Some, IfOk, OnOk, is_some, length, map, nat_lt, slice_get};
+ghost use Rattle.std.specs.Prelude.{◌≡◌, ◌+◌, ◌-◌, ◌*◌, ◌<◌, ◌≤◌, ◌^◌, min, ℕ, List, [], All, Some, Err, IfErr, IfOk, OnOk, is_some, length, map, nat_lt, slice_get};
 ghost use Rattle.std.specs.List.{list_all, list_any, range_with_len};
 ghost use Rattle.machine_desc.specs.declared.machine.Machine.{Machine};
+ghost use Rattle.machine_desc.specs.Components.{component_count};
 ghost use Rattle.machine_desc.specs.Machine.{IsMachine};
+ghost use Rattle.elf_load.specs.MemoryImage.{MemoryImage};
 ghost use Rattle.component.specs.ComponentStep.{free_of};
 ghost use Rattle.component.specs.Components.{AreFresh};
+ghost use Rattle.bound_core.specs.History.{begun};
+ghost use Rattle.bound_core.specs.ReferenceMachine.{bound_phase};
 ghost use Rattle.bound_core.specs.ShardPort.{base_of, room_of, size_of};
+ghost use Rattle.bound_core.specs.ShardWorld.{restarted, serve};
 ghost use Rattle.bound_core.specs.Timed.{NumberedCore, first_core};
-ghost use Rattle.replay.specs.ReferenceRun.{RunState, access_room, all_delayed, at_limit, first_state, has_ended_at, have_halted, results_of};
+ghost use Rattle.replay.specs.ReferenceRun.{RunState, access_room, after_interval, all_delayed, at_limit, first_state, has_ended_at, have_halted, results_of, time_of};
 ghost use Rattle.replay.specs.Limits.{cycle_limit};
-ghost use Rattle.replay.specs.Simulation.{AreNumbered, GoesOn, HasRoom, HasRun, HaveRun, IsBounded, IsReady, LeadsTo, StandsFor, cores_of, timed_of};
+ghost use Rattle.replay.specs.Replay.{IfIllegal};
+ghost use Rattle.replay.specs.Simulation.{AreNumbered, GoesOn, HasBounded, HasRoom, HasRun, HaveRun, IsBounded, IsReady, LeadsTo, StandsFor, cores_of, phase_of, timed_of};
+ghost use Rattle.replay.specs.Turns.{HaveTurned};
 ghost use Rattle.replay.specs.IntervalWeave.{IsPlainOf};
 
-use crate::Final;
 use crate::limits::{ACCESS_LIMIT, CYCLE_LIMIT, ROOM_BEYOND};
 use crate::logged_port::LoggedPort;
+use crate::turns::take_turns;
 use crate::weaving::weave_interval;
-use access_log::sort;
+use crate::{Final, ReplayFail};
 use bound_core::BoundCore;
 use component::{Comp, Comps, components};
 use elf_load::Image;
@@ -85,8 +92,8 @@ impl Simulation {
             || is_one_late(self.comps.as_slice())
     }
 
-    /// Runs the interval that ends at cycle `end`, at most 2^34. Answers its accesses, which go into
-    /// the buffer of the list.
+    /// Runs the interval that ends at cycle `end`, at most 2^34: the cores one after the other, each to
+    /// the interval's end. Answers its accesses, which go into the buffer of the list.
     pub fn interval(
         &mut self,
         alloc: Global,
@@ -105,27 +112,41 @@ impl Simulation {
         ensures cores { IfOk result (λ entries. All (λ e. e.core < machine.now.cores) entries) }
         ensures few { IfOk result (λ entries. length entries < 2 ^ 32) }
     {
-        stats::laws::counters_are_sums();
-        stats::laws::sums_fit();
-        bound_core::laws::histories_are_runs_of_the_machine();
-        bound_core::laws::intervals_begin();
-        access_log::laws::recorded_order_keeps_the_stamps();
-        access_log::laws::stamps_rise();
-        access_log::laws::cores_decide_the_order();
         let entries = self.bound(alloc, machine, program, plain, end, list)?;
-        let woven = weave_interval(alloc, machine, plain, &entries, &mut self.comps)?;
-        delay_all(&mut self.cores, woven.delays.as_slice());
-        self.counters.add(
-            &entries,
-            &woven.graph,
-            &woven.fired,
-            &woven.delays,
-            &self.comps,
-        );
+        self.weave(alloc, machine, plain, &entries)?;
         Ok(entries)
     }
 
-    // The bound phase of an interval. Answers its accesses.
+    /// Runs interval k, which ends at cycle `end`, at most 2^34, under a list of turns. Answers the
+    /// buffer of the list, or the first place of the turns that is not legal.
+    pub fn interval_under(
+        &mut self,
+        alloc: Global,
+        machine: &Machine,
+        program: &DecodedProgram<'_>,
+        plain: &Plain,
+        end: Cycle,
+        k: u32,
+        turns: &[u16],
+        list: Vec<Entry>,
+    ) -> Result<Vec<Entry>, ReplayFail>
+        requires machine { IsMachine machine.now }
+        requires plain { IsPlainOf machine.now plain.now }
+        requires end { end ≤ 2 ^ 34 }
+        requires known { All (λ number. number < machine.now.cores) turns.now }
+        requires few { length turns.now < 2 ^ 32 }
+        requires room { HasRoom machine.now end self.old }
+        requires goes_on { (s : RunState) × GoesOn machine.now end s self.old }
+        ensures leads { OnOk result ((s : RunState) → GoesOn machine.now end s self.old → LeadsTo machine.now program.now s turns.now self.new) }
+        ensures illegal { IfErr result (λ fail. IfIllegal fail (λ at. (at.interval ≡ k) × ((s : RunState) → GoesOn machine.now end s self.old → after_interval machine.now program.now s turns.now ≡ Err (record { interval = length s.intervals; place = at.place })))) }
+    {
+        bound_core::laws::shards_do_as_the_machine();
+        let entries = self.bound_under(alloc, machine, program, plain, end, k, turns, list)?;
+        self.weave(alloc, machine, plain, &entries)?;
+        Ok(entries.into_list())
+    }
+
+    // The bound phase of an interval, the cores one after the other. Answers its accesses.
     fn bound(
         &mut self,
         alloc: Global,
@@ -139,13 +160,17 @@ impl Simulation {
         requires plain { IsPlainOf machine.now plain.now }
         requires end { end ≤ 2 ^ 34 }
         requires room { HasRoom machine.now end self.old }
-        ensures bounded { IfOk result (IsBounded machine.now program.now end self.old self.new) }
+        ensures bounded { IfOk result (λ entries. IsBounded machine.now program.now end self.old (map (λ e. e.core) entries) self.new entries) }
         ensures comps { self.new.comps ≡ self.old.comps }
         ensures counters { self.new.counters ≡ self.old.counters }
     {
         bound_core::laws::phases_are_histories();
+        bound_core::laws::histories_are_phases();
+        bound_core::laws::recorded_order_is_a_history();
         access_log::laws::rising_stamps_are_distinct();
         access_log::laws::stamps_rise();
+        access_log::laws::recorded_order_keeps_the_stamps();
+        access_log::laws::cores_decide_the_order();
         self.port.begin(access_room(machine) as usize, list)?;
         run_cores(
             machine,
@@ -155,9 +180,80 @@ impl Simulation {
             &mut self.cores,
             &mut self.port,
         )?;
-        let mut entries = self.port.take_entries(alloc);
-        sort(&mut entries);
-        Ok(Entries::of(entries))
+        Ok(self.port.take_sorted(alloc))
+    }
+
+    // The bound phase of interval k under a list of turns. Answers its accesses.
+    fn bound_under(
+        &mut self,
+        alloc: Global,
+        machine: &Machine,
+        program: &DecodedProgram<'_>,
+        plain: &Plain,
+        end: Cycle,
+        k: u32,
+        turns: &[u16],
+        list: Vec<Entry>,
+    ) -> Result<Entries, ReplayFail>
+        requires machine { IsMachine machine.now }
+        requires plain { IsPlainOf machine.now plain.now }
+        requires end { end ≤ 2 ^ 34 }
+        requires known { All (λ number. number < machine.now.cores) turns.now }
+        requires few { length turns.now < 2 ^ 32 }
+        requires room { HasRoom machine.now end self.old }
+        ensures bounded { IfOk result (IsBounded machine.now program.now end self.old turns.now self.new) }
+        ensures illegal { IfErr result (λ fail. IfIllegal fail (λ at. (at.interval ≡ k) × (bound_phase serve (time_of machine.now) program.now end turns.now (begun (cores_of self.old) (map restarted self.old.port.world.shards)) ≡ Err at.place))) }
+        ensures comps { self.new.comps ≡ self.old.comps }
+        ensures counters { self.new.counters ≡ self.old.counters }
+    {
+        bound_core::laws::phases_are_histories();
+        access_log::laws::rising_stamps_are_distinct();
+        access_log::laws::stamps_rise();
+        self.port.begin(access_room(machine) as usize, list)?;
+        run_turns(
+            machine,
+            program,
+            plain,
+            end,
+            k,
+            turns,
+            &mut self.cores,
+            &mut self.port,
+        )?;
+        Ok(self.port.take_sorted(alloc))
+    }
+
+    // The weave of an interval and its feedback, after the bound phase that had these accesses.
+    fn weave(
+        &mut self,
+        alloc: Global,
+        machine: &Machine,
+        plain: &Plain,
+        entries: &Entries,
+    ) -> Result<(), NoMemory>
+        requires machine { IsMachine machine.now }
+        requires plain { IsPlainOf machine.now plain.now }
+        requires bounded { (image : MemoryImage) × (s : RunState) × (turns : List ℕ) × HasBounded machine.now image s turns self.old entries.now }
+        requires core_counts { length self.old.counters.core_counts ≡ machine.now.cores }
+        requires comp_counts { length self.old.counters.comp_counts ≡ component_count machine.now }
+        requires cores { All (λ e. e.core < machine.now.cores) entries.now }
+        ensures { OnOk result ((image : MemoryImage) (s : RunState) (turns : List ℕ) → HasBounded machine.now image s turns self.old entries.now → LeadsTo machine.now image s turns self.new) }
+    {
+        stats::laws::counters_are_sums();
+        stats::laws::sums_fit();
+        bound_core::laws::shards_do_as_the_machine();
+        bound_core::laws::phases_are_histories();
+        bound_core::laws::intervals_begin();
+        let woven = weave_interval(alloc, machine, plain, entries, &mut self.comps)?;
+        delay_all(&mut self.cores, woven.delays.as_slice());
+        self.counters.add(
+            entries,
+            &woven.graph,
+            &woven.fired,
+            &woven.delays,
+            &self.comps,
+        );
+        Ok(())
     }
 
     /// What the run gives where it ends before interval k.
@@ -240,6 +336,51 @@ fn run_core(
     core.reserve(machine.interval)?;
     port.choose(number);
     core.run_one(program, plain, end, port);
+    Ok(())
+}
+
+// Runs the cores to the end of interval k under a list of turns.
+fn run_turns(
+    machine: &Machine,
+    program: &DecodedProgram<'_>,
+    plain: &Plain,
+    end: Cycle,
+    k: u32,
+    turns: &[u16],
+    cores: &mut [BoundCore],
+    port: &mut LoggedPort,
+) -> Result<(), ReplayFail>
+    requires machine { IsMachine machine.now }
+    requires plain { IsPlainOf machine.now plain.now }
+    requires end { end ≤ 2 ^ 34 }
+    requires known { All (λ number. number < machine.now.cores) turns.now }
+    requires few { length turns.now < 2 ^ 32 }
+    requires count { length cores.old ≡ machine.now.cores }
+    requires ready { (i : ℕ) (c : NumberedCore) → slice_get cores.old i ≡ Some c → IsReady machine.now end (base_of port.old.world) (size_of port.old.world) c.timed }
+    requires numbered { AreNumbered cores.old }
+    requires stamps { length port.old.world.stamps ≡ machine.now.cores }
+    requires none { port.old.entries ≡ [] }
+    requires room { access_room machine.now ≤ min (room_of port.old.world) port.old.room }
+    ensures turned { OnOk result (HaveTurned machine.now program.now end turns.now cores.old cores.new port.old port.new) }
+    ensures illegal { IfErr result (λ fail. IfIllegal fail (λ at. (at.interval ≡ k) × (bound_phase serve (time_of machine.now) program.now end turns.now (phase_of cores.old port.old) ≡ Err at.place))) }
+{
+    reserve_all(machine, cores)?;
+    match take_turns(program, plain, end, turns, cores, port) {
+        Ok(()) => Ok(()),
+        Err(place) => Err(ReplayFail::Illegal { interval: k, place }),
+    }
+}
+
+// Each core gets room on its console for an interval.
+fn reserve_all(machine: &Machine, cores: &mut [BoundCore]) -> Result<(), NoMemory>
+    requires { IsMachine machine.now }
+    ensures timed { OnOk result (timed_of cores.new ≡ timed_of cores.old) }
+    ensures numbered { OnOk result (AreNumbered cores.old → AreNumbered cores.new) }
+    ensures spare { OnOk result ((i : ℕ) (c : NumberedCore) → slice_get cores.new i ≡ Some c → machine.now.interval + 258 ≤ c.spare) }
+{
+    for number in 0..cores.len() {
+        cores[number].reserve(machine.interval)?;
+    }
     Ok(())
 }
 

@@ -62,8 +62,8 @@ pub fn weave_interval(
     })
 }
 
-// The events of an interval's accesses, ready for the weave.
-fn events_of(
+/// The events of an interval's accesses, ready for the weave.
+pub fn events_of(
     alloc: Global,
     machine: &Machine,
     plain: &Plain,

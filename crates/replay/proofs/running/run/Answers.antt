@@ -1,4 +1,4 @@
-use Rattle.std.proofs.Common.{◌≡◌, ℕ, ◌+◌, ◌-◌, ◌<◌, List, ◌++◌, ◌∷◌, [], length, map, Some, Ok, sym, ◌∙◌, ap, refl, subst, arith, rules, All, true, false}
+use Rattle.std.proofs.Common.{◌≡◌, ℕ, ◌+◌, ◌-◌, ◌<◌, List, ◌++◌, ◌∷◌, [], length, map, Ok, sym, ◌∙◌, ap, refl, subst, arith, rules, All, true, false}
 use Rattle.std.proofs.lemmas.List.{length-append}
 use Rattle.zs_num.specs.declared.entry.Entry.{Entry}
 use Rattle.elf_load.specs.MemoryImage.{MemoryImage}

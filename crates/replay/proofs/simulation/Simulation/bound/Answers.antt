@@ -2,14 +2,15 @@ use Rattle.std.proofs.Common.{◌≡◌, ◌-◌, ◌^◌, ◌≤◌, ℕ, List,
 use Rattle.std.specs.Prelude.{slice_get}
 use Rattle.std.specs.Vec.{with_items}
 use Rattle.std.proofs.lemmas.List.{with_items_is}
-use Rattle.access_log.specs.Logs.{HaveDistinctKeys}
-use Rattle.access_log.specs.RecordedOrder.{recorded_order}
+use Rattle.zs_num.specs.declared.entry.Entry.{Entry}
+use Rattle.bound_core.specs.History.{begun}
 use Rattle.bound_core.specs.ShardPort.{base_of, room_of, size_of}
 use Rattle.bound_core.specs.ShardWorld.{ShardWorld, begun_world, restarted}
 use Rattle.bound_core.specs.Timed.{NumberedCore}
+use Rattle.replay.specs.declared.simulation.Simulation.{Simulation}
 use Rattle.replay.specs.ReferenceRun.{access_room, time_of}
-use Rattle.replay.specs.Simulation.{IsReady}
-use Rattle.replay.proofs.BoundPhase.{bounded, keys}
+use Rattle.replay.specs.Simulation.{HaveRun, IsReady, timed_of}
+use Rattle.replay.proofs.BoundPhase.{OrderLaws, all_after, all_clocks, all_over, bounded, from_start, in_recorded_order, keys, ran_phase}
 use Rattle.replay.proofs.Shards.{begun_room}
 use Rattle.replay.proofs.simulation.Simulation.bound.Goals as goal
 
@@ -34,34 +35,58 @@ run_cores-requires-clause-room c =
     let small : access_room machine ≤ 2 ^ 20 = omega (arith, value, c.access_room.ensures.small) in
     omega (arith, far, room, small)
 
-pub sort-requires : goal.sort-requires
-sort-requires c =
+pub take_sorted-requires : goal.take_sorted-requires
+take_sorted-requires c =
     let p = c.args.self.now in
     let machine = c.args.machine.now in
-    let begun : c.begin.new.self.world ≡ begun_world machine.cores (map restarted p.port.world.shards) =
-    c.in_ok-begin.ensures.world ∙ ap (λ (n : ℕ). begun_world n (map restarted p.port.world.shards)) c.requires.room.stamps
+    let image = c.args.program.now in
+    let was = p.port.world.shards in
+    let port = c.begin.new.self in
+    let begins : port.world ≡ begun_world machine.cores (map restarted was) =
+    c.in_ok-begin.ensures.world ∙ ap (λ (n : ℕ). begun_world n (map restarted was)) c.requires.room.stamps
     in
     let cores = c.deref_mut.result.now in
-    let count : length cores ≡ machine.cores = ap length c.deref_mut.ensures.value ∙ c.requires.room.count in
+    let after = c.run_cores.new.cores in
     let last = c.run_cores.new.port in
-    let distinct = keys machine c.args.program.now c.args.end cores c.run_cores.new.cores p.port.world.shards c.begin.new.self last
-    begun c.in_ok-begin.ensures.none count c.requires.room.some c.in_ok-run_cores.ensures (c.phases_are_histories.ensures (time_of machine) c.args.program.now c.args.end) c.rising_stamps_are_distinct.ensures c.stamps_rise.ensures
+    let count : length cores ≡ machine.cores = ap length c.deref_mut.ensures.value ∙ c.requires.room.count in
+    let phase = ran_phase machine image c.args.end cores after port last count c.in_ok-run_cores.ensures (begun (timed_of cores) (map restarted was))
+    (from_start cores was port machine.cores begins c.in_ok-begin.ensures.none count)
     in
-    subst HaveDistinctKeys (sym c.take_entries-entries.ensures.entries) distinct
+    keys machine image c.args.end cores after was last (map (λ (e : Entry). e.core) last.entries) count c.requires.room.some phase
+    (c.phases_are_histories.ensures (time_of machine) image c.args.end) c.rising_stamps_are_distinct.ensures c.stamps_rise.ensures
 
 pub returns-clause-bounded : goal.returns-clause-bounded
 returns-clause-bounded c =
     let p = c.args.self.now in
     let machine = c.args.machine.now in
-    let begun : c.begin.new.self.world ≡ begun_world machine.cores (map restarted p.port.world.shards) =
-    c.in_ok-begin.ensures.world ∙ ap (λ (n : ℕ). begun_world n (map restarted p.port.world.shards)) c.requires.room.stamps
+    let image = c.args.program.now in
+    let end = c.args.end in
+    let was = p.port.world.shards in
+    let port = c.begin.new.self in
+    let begins : port.world ≡ begun_world machine.cores (map restarted was) =
+    c.in_ok-begin.ensures.world ∙ ap (λ (n : ℕ). begun_world n (map restarted was)) c.requires.room.stamps
     in
     let cores = c.deref_mut.result.now in
+    let after = c.run_cores.new.cores in
+    let last = c.run_cores.new.port in
+    let h : HaveRun machine image end machine.cores cores after port last = c.in_ok-run_cores.ensures in
+    let turns : List ℕ = map (λ (e : Entry). e.core) last.entries in
     let count : length cores ≡ machine.cores = ap length c.deref_mut.ensures.value ∙ c.requires.room.count in
-    let taken = c.take_entries-entries.ensures in
-    let long : length c.run_cores.new.cores ≡ p.cores.len = omega (arith, c.run_cores.auto.cores, ap length c.deref_mut.ensures.value, p.cores.ok.0) in
-    bounded machine c.args.program.now c.args.end cores c.run_cores.new.cores p.port.world.shards c.begin.new.self c.run_cores.new.port
-    begun c.in_ok-begin.ensures.none count c.requires.room.some c.in_ok-run_cores.ensures (c.phases_are_histories.ensures (time_of machine) c.args.program.now c.args.end)
-    p (record { cores = with_items p.cores c.run_cores.new.cores; port = c.take_entries-entries.new.self; comps = p.comps; counters = p.counters })
-    (sym c.deref_mut.ensures.value) refl (with_items_is p.cores c.run_cores.new.cores long) taken.world c.of.result
-    (c.of.ensures ∙ c.sort.ensures ∙ ap recorded_order taken.entries)
+    let phase = ran_phase machine image end cores after port last count h (begun (timed_of cores) (map restarted was)) (from_start cores was port machine.cores begins c.in_ok-begin.ensures.none count) in
+    let taken = c.take_sorted.ensures in
+    let long : length after ≡ p.cores.len = omega (arith, c.run_cores.auto.cores, ap length c.deref_mut.ensures.value, p.cores.ok.0) in
+    let laws : OrderLaws (time_of machine) image end = record {
+      histories = c.phases_are_histories.ensures (time_of machine) image end;
+      phases = c.histories_are_phases.ensures (time_of machine) image end;
+      recorded = c.recorded_order_is_a_history.ensures (time_of machine) image end;
+      rise = c.stamps_rise.ensures;
+      keep = c.recorded_order_keeps_the_stamps.ensures;
+      decide = c.cores_decide_the_order.ensures;
+    }
+    in
+    let q : Simulation = record { cores = with_items p.cores after; port = c.take_sorted.new.self; comps = p.comps; counters = p.counters } in
+    let b = bounded machine image end cores after was last turns count c.requires.room.some phase laws.histories h.starts (omega (arith, h.few))
+    (all_clocks machine image end cores after port last count h) (all_after machine image end cores after port last count h) h.numbered (all_over machine image end cores after port last count h)
+    p q (sym c.deref_mut.ensures.value) refl (with_items_is p.cores after long) taken.world c.take_sorted.result taken.entries
+    in
+    in_recorded_order machine image end p q turns c.take_sorted.result c.requires.room.some laws b

@@ -1,0 +1,19 @@
+-- the run has come to where the first intervals of the schedule lead
+use Rattle.std.proofs.Common.{◌≡◌, ◌≤◌, ◌-◌, ◌*◌, ◌^◌, length, take}
+use Rattle.replay.specs.IntervalWeave.{IsPlainOf}
+use Rattle.replay.proofs.RunSoFar.{HasRun}
+use Rattle.replay.proofs.replaying.replay.Given as goal
+
+abbrev pub invariant-loop-alloc : goal.invariant-loop-alloc
+invariant-loop-alloc l = record {
+  run : HasRun l.machine l.image (take l.k l.schedule.lists) l.simulation;
+  plain : IsPlainOf l.machine l.plain;
+  count : l.k ≤ length l.schedule.lists;
+  end : l.end ≡ l.k * l.machine.interval;
+  small : l.end ≤ 10000 * l.k;
+  within : l.k ≤ l.machine.intervals;
+  accesses : l.simulation.counters.accesses ≤ 2 ^ 26;
+}
+
+abbrev pub decreases-loop-alloc : goal.decreases-loop-alloc
+decreases-loop-alloc l = length l.schedule.lists - l.k

@@ -1,0 +1,59 @@
+// The run of an executable under a schedule that is handed in.
+ghost use Rattle.std.specs.Prelude.{◌≡◌, IfOk};
+ghost use Rattle.machine_desc.specs.Machine.{IsMachine};
+ghost use Rattle.replay.specs.Replay.{Replays};
+ghost use Rattle.replay.specs.Results.{HasCounts};
+
+use crate::simulation::Simulation;
+use crate::{Final, ReplayFail};
+use access_log::Schedule;
+use component::laws::fresh_components_are_there;
+use elf_load::Image;
+use event_graph::Plain;
+use machine_desc::Machine;
+use rv_core::DecodedProgram;
+use std::alloc::Global;
+
+/// Runs an image under a schedule: in each interval the cores take their turns in the order of its
+/// list. Illegal names the first place of the schedule that is not legal for the run.
+pub fn replay(
+    alloc: Global,
+    machine: &Machine,
+    image: &Image,
+    schedule: &Schedule,
+) -> Result<Final, ReplayFail>
+    requires machine { IsMachine machine.now }
+    requires base { image.now.base ≡ machine.now.memory.base }
+    requires size { image.now.size ≡ machine.now.memory.size }
+    requires cores { schedule.now.cores ≡ machine.now.cores }
+    ensures gives { Replays machine.now image.now schedule.now.lists result }
+    ensures counted { IfOk result (HasCounts machine.now) }
+{
+    fresh_components_are_there();
+    let plain = Plain::of(machine);
+    let program = DecodedProgram::of(alloc, image)?;
+    let mut simulation = Simulation::new(alloc, machine, image)?;
+    let mut list = Vec::new(alloc);
+    let lists = schedule.intervals();
+    let mut k = 0;
+    let mut end = 0;
+    while !simulation.has_ended(machine, k) {
+        if k == lists {
+            return Err(ReplayFail::Illegal {
+                interval: k,
+                place: 0,
+            });
+        }
+        end += machine.interval;
+        let turns = schedule.list(k);
+        list = simulation.interval_under(alloc, machine, &program, &plain, end, k, turns, list)?;
+        k += 1;
+    }
+    if k < lists {
+        return Err(ReplayFail::Illegal {
+            interval: k,
+            place: 0,
+        });
+    }
+    Ok(simulation.results(k))
+}
