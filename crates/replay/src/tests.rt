@@ -2,8 +2,8 @@
 ghost use Rattle.std.specs.Prelude.{◌≡◌, ◌<◌, ◌≤◌, ◌^◌, All, IfOk, length};
 ghost use Rattle.machine_desc.specs.Plain.{plain_machine};
 
-use crate::run;
 use crate::weaving::weave_interval;
+use crate::{Final, ReplayFail, replay, run};
 use access_log::Schedule;
 use component::components;
 use elf_load::load;
@@ -230,5 +230,78 @@ fn a_long_run_keeps_a_list_for_each_interval(rt: HostRuntime) -> Result<(), Fail
     assert_eq!(rt; results.limit, true);
     assert_eq!(rt; results.intervals, 70_000);
     assert_eq!(rt; schedule.intervals(), 70_000);
+    Ok(())
+}
+
+// ld x5, -8(x2); addi x17, x0, 93; ecall
+static ONE_LOAD: [u32; 8] = [0xFF81_3283, 0x05D0_0893, 0x0000_0073, 0, 0, 0, 0, 0];
+
+// The replay of one load on each of two cores, which take these turns in one interval.
+fn replay_loads(alloc: Global, turns: &[u16]) -> Result<Result<Final, ReplayFail>, Fail>
+    requires cores { All (λ core. core < 2) turns.now }
+    requires few { length turns.now < 2 ^ 32 }
+{
+    let file = file_of(alloc, &ONE_LOAD)?;
+    let mut machine = plain(alloc)?;
+    machine.cores = 2;
+    let image = load(alloc, &file, machine.memory.base, machine.memory.size)?;
+    let mut schedule = Schedule::new(alloc, 2);
+    schedule.push(Vec::from_slice(alloc, turns)?)?;
+    Ok(replay(alloc, &machine, &image, &schedule))
+}
+
+fn clocks(alloc: Global, run: &Final) -> Result<Vec<u64>, NoMemory> {
+    let mut clocks = Vec::new(alloc);
+    for core in &run.cores {
+        clocks.push(core.clock())?;
+    }
+    Ok(clocks)
+}
+
+// Whichever core comes first reads memory at once; the other waits for the bank and the controller.
+#[test]
+fn the_schedule_decides_which_core_waits(rt: HostRuntime) -> Result<(), Fail> {
+    let alloc = rt.alloc();
+    let ascending = replay_loads(alloc, &[0, 1])??;
+    assert_eq!(rt;
+        clocks(alloc, &ascending)?.as_slice(),
+        [116, 136].as_slice()
+    );
+    let descending = replay_loads(alloc, &[1, 0])??;
+    assert_eq!(rt;
+        clocks(alloc, &descending)?.as_slice(),
+        [136, 116].as_slice()
+    );
+    Ok(())
+}
+
+// A core has no access left, a core still has one after the last place.
+#[test]
+fn the_first_place_that_is_not_legal_is_named(rt: HostRuntime) -> Result<(), Fail> {
+    let alloc = rt.alloc();
+    let again = replay_loads(alloc, &[0, 0])?.err();
+    assert_eq!(rt;
+        again,
+        Some(ReplayFail::Illegal {
+            interval: 0,
+            place: 1
+        })
+    );
+    let after = replay_loads(alloc, &[0, 1, 0])?.err();
+    assert_eq!(rt;
+        after,
+        Some(ReplayFail::Illegal {
+            interval: 0,
+            place: 2
+        })
+    );
+    let few = replay_loads(alloc, &[0])?.err();
+    assert_eq!(rt;
+        few,
+        Some(ReplayFail::Illegal {
+            interval: 0,
+            place: 1
+        })
+    );
     Ok(())
 }
