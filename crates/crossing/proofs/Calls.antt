@@ -8,8 +8,8 @@ use Rattle.atomic_table.specs.Seated.{TableId}
 use Rattle.atomic_table.specs.Table.{Me, Allows, Splits, step}
 use Rattle.crossing.specs.declared.knows.Knows.{Knows}
 use Rattle.crossing.specs.Inside.{IsPlace, seat_value}
-use Rattle.crossing.specs.Rule.{Finds, Found, Holds, IsTrueNumber, Says, Wrote, fresh, next_seat, untold, with_noted, with_one_more}
-use Rattle.crossing.specs.Seats.{AreSeats, IsTrueOf, Looked, MayWrite, SeatValue, new_seat, number_of, with_written}
+use Rattle.crossing.specs.Rule.{Finds, Found, Holds, IsTrueNumber, TellsFirstSeat, Wrote, fresh, seat_of_next_domain, untold, with_noted, with_one_more}
+use Rattle.crossing.specs.Seats.{AreSeats, IsTrueOfFinish, Looked, MayWrite, SeatValue, kept_number, new_seat, with_written}
 use Rattle.crossing.proofs.Steps.{finding, saying, splitting, writing}
 
 module _ (table : TableId) (me : Me (Unit {0}) Knows) (is : IsPlace table me) where
@@ -42,11 +42,11 @@ pub written : (table : TableId) (me after : Me (Unit {0}) Knows) (slots x n : �
     → seat_value table after.0 ≡ with_written (seat_value table me.0) x n
 written table me after slots x n wrote = ap (λ (m : Me (Unit {0}) Knows). seat_value table m.0) (wrote x refl)
 
-true_word : (finish : ℕ) (w : Word) → IsTrueNumber finish (number_of w) → IsTrueOf finish w
+true_word : (finish : ℕ) (w : Word) → IsTrueNumber finish (kept_number w) → IsTrueOfFinish finish w
 true_word finish (Bound b) h = let u = h.upto in omega (arith, u)
 true_word finish (Exact f) h = let e = h.exact (omega arith) in omega (arith, e)
 
-pub found_word : (table : TableId) (me after : Me (Unit {0}) Knows) (slots x n : ℕ) (w : Word) → number_of w ≡ n → Found (step slots (16 * x + 16) 0 0 none) me n after
+pub found_word : (table : TableId) (me after : Me (Unit {0}) Knows) (slots x n : ℕ) (w : Word) → kept_number w ≡ n → Found (step slots (16 * x + 16) 0 0 none) me n after
     → Looked (seat_value table me.0) (seat_value table after.0) x w
 found_word table me after slots x n w is found =
     let all = subst (λ k. (after ≡ (with_noted me.0 x k, me.1)) × Finds me.0 x k) (sym is) (found x refl) in
@@ -71,11 +71,11 @@ pub odd_is : (n : ℕ) → n % 2 ≢ 0 → 2 * (n / 2) + 1 ≡ n
 odd_is n e = omega arith
 
 pub can_say : (k slots id : ℕ) (me : Me (Unit {0}) Knows) (finishes owners : List ℕ) → me ≡ (untold, []) → k ≡ length owners
-    → Allows (Holds k) slots id me 0 (λ n. n) (Says finishes owners (step slots 0 0 0 none) me)
+    → Allows (Holds k) slots id me 0 (λ n. n) (TellsFirstSeat finishes owners (step slots 0 0 0 none) me)
 can_say k slots id me finishes owners is count =
-    subst (λ (m : Me (Unit {0}) Knows). Allows (Holds k) slots id m 0 (λ n. n) (Says finishes owners (step slots 0 0 0 none) m)) (sym is) (saying k slots id finishes owners count)
+    subst (λ (m : Me (Unit {0}) Knows). Allows (Holds k) slots id m 0 (λ n. n) (TellsFirstSeat finishes owners (step slots 0 0 0 none) m)) (sym is) (saying k slots id finishes owners count)
 
-pub can_split : (k id : ℕ) (v : Knows) (finishes owners : List ℕ) (domain : ℕ) → v ≡ fresh finishes owners true domain → Splits (Holds k) id v (with_one_more v) (next_seat v)
+pub can_split : (k id : ℕ) (v : Knows) (finishes owners : List ℕ) (domain : ℕ) → v ≡ fresh finishes owners true domain → Splits (Holds k) id v (with_one_more v) (seat_of_next_domain v)
 can_split k id v finishes owners domain is = splitting k id v (ap (λ (z : Knows). z.told) is) (ap (λ (z : Knows). z.makes) is)
 
 -- the seats with one more
@@ -104,6 +104,6 @@ one_more table finishes owners domain seats seat all is = record {
 }
 
 pub seat_made : (table : TableId) (place : Me (Unit {0}) Knows) (finishes owners : List ℕ) (domain : ℕ) (first : Me (Unit {0}) Knows)
-    → first ≡ (fresh finishes owners true domain, []) → place ≡ (next_seat first.0, []) → seat_value table place.0 ≡ new_seat table finishes owners domain
+    → first ≡ (fresh finishes owners true domain, []) → place ≡ (seat_of_next_domain first.0, []) → seat_value table place.0 ≡ new_seat table finishes owners domain
 seat_made table place finishes owners domain first is made =
-    ap (λ (m : Me (Unit {0}) Knows). seat_value table m.0) made ∙ ap (λ (m : Me (Unit {0}) Knows). seat_value table (next_seat m.0)) is
+    ap (λ (m : Me (Unit {0}) Knows). seat_value table m.0) made ∙ ap (λ (m : Me (Unit {0}) Knows). seat_value table (seat_of_next_domain m.0)) is

@@ -7,7 +7,7 @@ use Rattle.std.proofs.lemmas.List.{get_or-set_same, get_or-set_other, get_or-rep
 use Rattle.atomic_table.specs.Table.{State, step, keeps, stepped, Allows, Splits}
 use Rattle.atomic_table.proofs.Lists.{at_set}
 use Rattle.crossing.specs.declared.knows.Knows.{Knows}
-use Rattle.crossing.specs.Rule.{AreCrossings, Found, Finds, Holds, IsSeat, IsTrueNumber, Says, Wrote, fresh, next_seat, number_at, untold, with_noted, with_one_more, with_wrote}
+use Rattle.crossing.specs.Rule.{AreCrossings, Found, Finds, Holds, IsCrossingSeat, IsTrueNumber, TellsFirstSeat, Wrote, fresh, seat_of_next_domain, crossing_number, untold, with_noted, with_one_more, with_wrote}
 
 abbrev Table : Type 0
 Table = State (Unit {0}) Knows
@@ -15,7 +15,7 @@ Table = State (Unit {0}) Knows
 -- lists
 
 number_after : (words : List ℕ) (x y n : ℕ) → 16 * x + 16 < length words
-    → ((y ≡ x) × (number_at (set words (16 * x + 16) n) y ≡ n)) ⊎ ((y ≢ x) × (number_at (set words (16 * x + 16) n) y ≡ number_at words y))
+    → ((y ≡ x) × (crossing_number (set words (16 * x + 16) n) y ≡ n)) ⊎ ((y ≢ x) × (crossing_number (set words (16 * x + 16) n) y ≡ crossing_number words y))
 number_after words x y n l =
     elim (cases_eq y x) [
       | inl same ↦ inl (same, ap (λ k. get_or (set words (16 * x + 16) n) (16 * k + 16) 0) same ∙ get_or-set_same words (16 * x + 16) n 0 l)
@@ -53,39 +53,39 @@ only a b (suc j) e = absurd (some-ne-none b (sym e))
 module _ (s : Table) (id : ℕ) (v : Knows) (r : AreCrossings v.finishes v.owners s) (at : get_elem? s.views id ≡ some v) (x n : ℕ)
     (there : x < length v.owners) (owner : get_or v.owners x 0 ≡ v.domain) (seat : v.makes ≡ false) (even : get_or v.wrote x 0 % 2 ≡ 0)
     (rises : get_or v.wrote x 0 ≤ n) (is_true : IsTrueNumber (get_or v.finishes x 0) n) where
-  mine : IsSeat v.finishes v.owners s.words v
+  mine : IsCrossingSeat v.finishes v.owners s.words v
   mine = r.seats id v at
 
   inside : 16 * x + 16 < length s.words
   inside = let w = r.wide in omega arith
 
-  was : number_at s.words x ≡ get_or v.wrote x 0
+  was : crossing_number s.words x ≡ get_or v.wrote x 0
   was = mine.own seat x there owner
 
   abbrev words' : List ℕ
   words' = set s.words (16 * x + 16) n
 
-  below' : (u : Knows) → IsSeat v.finishes v.owners s.words u → (y : ℕ) → y < length v.owners → get_or u.noted y 0 ≤ number_at words' y
+  below' : (u : Knows) → IsCrossingSeat v.finishes v.owners s.words u → (y : ℕ) → y < length v.owners → get_or u.noted y 0 ≤ crossing_number words' y
   below' u k y l =
       elim (number_after s.words x y n inside) [
         | inl here ↦
-            let b : get_or u.noted x 0 ≤ number_at s.words x = k.below x there in
+            let b : get_or u.noted x 0 ≤ crossing_number s.words x = k.below x there in
             let m : get_or u.noted y 0 ≡ get_or u.noted x 0 = ap (λ i. get_or u.noted i 0) here.0 in
             omega (arith, here.1, b, m, was, rises)
         | inr other ↦ let b = k.below y l in omega (arith, other.1, b)
       ]
 
-  exact' : (u : Knows) → IsSeat v.finishes v.owners s.words u → (y : ℕ) → y < length v.owners → get_or u.noted y 0 % 2 ≡ 1 → get_or u.noted y 0 ≡ number_at words' y
+  exact' : (u : Knows) → IsCrossingSeat v.finishes v.owners s.words u → (y : ℕ) → y < length v.owners → get_or u.noted y 0 % 2 ≡ 1 → get_or u.noted y 0 ≡ crossing_number words' y
   exact' u k y l odd =
       elim (number_after s.words x y n inside) [
         | inl here ↦
             let m : get_or u.noted y 0 ≡ get_or u.noted x 0 = ap (λ i. get_or u.noted i 0) here.0 in
-            let e : get_or u.noted x 0 ≡ number_at s.words x = k.exact x there (ap (λ i. i % 2) (sym m) ∙ odd) in
+            let e : get_or u.noted x 0 ≡ crossing_number s.words x = k.exact x there (ap (λ i. i % 2) (sym m) ∙ odd) in
             absurd (omega (arith, e, was, even, odd, m))
         | inr other ↦ k.exact y l odd ∙ sym other.1
       ]
 
-  other_seat : (j : ℕ) (u : Knows) → j ≢ id → get_elem? s.views j ≡ some u → IsSeat v.finishes v.owners words' u
+  other_seat : (j : ℕ) (u : Knows) → j ≢ id → get_elem? s.views j ≡ some u → IsCrossingSeat v.finishes v.owners words' u
   other_seat j u apart there_u =
       let k = r.seats j u there_u in
       let differs : u.domain ≢ v.domain = λ e. apart (r.apart j id u v there_u at e) in
@@ -111,7 +111,7 @@ module _ (s : Table) (id : ℕ) (v : Knows) (r : AreCrossings v.finishes v.owner
             ];
       }
 
-  own_seat : IsSeat v.finishes v.owners words' (with_wrote v x n)
+  own_seat : IsCrossingSeat v.finishes v.owners words' (with_wrote v x n)
   own_seat = record {
     told_is = mine.told_is;
     finishes_are = refl;
@@ -137,7 +137,7 @@ module _ (s : Table) (id : ℕ) (v : Knows) (r : AreCrossings v.finishes v.owner
         ];
     seats = λ j u e.
         elim (at_set s.views id j (with_wrote v x n) u e) [
-          | inl here ↦ subst (IsSeat v.finishes v.owners words') here.1 own_seat
+          | inl here ↦ subst (IsCrossingSeat v.finishes v.owners words') here.1 own_seat
           | inr other ↦ other_seat j u other.0 other.1
         ];
     apart = λ i j a b e f same. r.apart i j (was_at i a e).0 (was_at j b f).0 (was_at i a e).1 (was_at j b f).1 (sym (was_at i a e).2 ∙ (same ∙ (was_at j b f).2));
@@ -158,35 +158,35 @@ module _ (s : Table) (id : ℕ) (v : Knows) (r : AreCrossings v.finishes v.owner
 -- A look.
 
 module _ (s : Table) (id : ℕ) (v : Knows) (r : AreCrossings v.finishes v.owners s) (at : get_elem? s.views id ≡ some v) (x : ℕ) (there : x < length v.owners) (seat : v.makes ≡ false) where
-  own_note : IsSeat v.finishes v.owners s.words v → IsSeat v.finishes v.owners s.words (with_noted v x (number_at s.words x))
+  own_note : IsCrossingSeat v.finishes v.owners s.words v → IsCrossingSeat v.finishes v.owners s.words (with_noted v x (crossing_number s.words x))
   own_note k =
       let l : x < length v.noted = (let w = k.wide.1 in omega arith) in
       record {
         told_is = k.told_is;
         finishes_are = refl;
         owners_are = refl;
-        wide = (k.wide.0, length-set v.noted x (number_at s.words x) ∙ k.wide.1, length-set v.looks x (get_or v.looks x 0 + 1) ∙ k.wide.2);
+        wide = (k.wide.0, length-set v.noted x (crossing_number s.words x) ∙ k.wide.1, length-set v.looks x (get_or v.looks x 0 + 1) ∙ k.wide.2);
         below = λ y m.
-            elim (at_after v.noted x y (number_at s.words x) l) [
-              | inl here ↦ let e : number_at s.words y ≡ number_at s.words x = ap (number_at s.words) here.0 in omega (arith, here.1, e)
+            elim (at_after v.noted x y (crossing_number s.words x) l) [
+              | inl here ↦ let e : crossing_number s.words y ≡ crossing_number s.words x = ap (crossing_number s.words) here.0 in omega (arith, here.1, e)
               | inr other ↦ let b = k.below y m in omega (arith, other.1, b)
             ];
         exact = λ y m odd.
-            elim (at_after v.noted x y (number_at s.words x) l) [
-              | inl here ↦ here.1 ∙ ap (number_at s.words) (sym here.0)
+            elim (at_after v.noted x y (crossing_number s.words x) l) [
+              | inl here ↦ here.1 ∙ ap (crossing_number s.words) (sym here.0)
               | inr other ↦ other.1 ∙ k.exact y m (ap (λ i. i % 2) (sym other.1) ∙ odd)
             ];
         own = k.own;
         next = k.next;
       }
 
-  looks : AreCrossings v.finishes v.owners record { words = s.words; homes = s.homes; views = set s.views id (with_noted v x (number_at s.words x)) }
+  looks : AreCrossings v.finishes v.owners record { words = s.words; homes = s.homes; views = set s.views id (with_noted v x (crossing_number s.words x)) }
   looks = record {
     wide = r.wide;
     is_true = r.is_true;
     seats = λ j u e.
-        elim (at_set s.views id j (with_noted v x (number_at s.words x)) u e) [
-          | inl here ↦ subst (IsSeat v.finishes v.owners s.words) here.1 (own_note (r.seats id v at))
+        elim (at_set s.views id j (with_noted v x (crossing_number s.words x)) u e) [
+          | inl here ↦ subst (IsCrossingSeat v.finishes v.owners s.words) here.1 (own_note (r.seats id v at))
           | inr other ↦ r.seats j u other.1
         ];
     apart = λ i j a b e f same. r.apart i j (was_at i a e).0 (was_at j b f).0 (was_at i a e).1 (was_at j b f).1 (sym (was_at i a e).2 ∙ (same ∙ (was_at j b f).2));
@@ -196,15 +196,15 @@ module _ (s : Table) (id : ℕ) (v : Knows) (r : AreCrossings v.finishes v.owner
         omega (arith, c, p.2, q.2);
   }
     where
-      was_at : (j : ℕ) (u : Knows) → get_elem? (set s.views id (with_noted v x (number_at s.words x))) j ≡ some u
+      was_at : (j : ℕ) (u : Knows) → get_elem? (set s.views id (with_noted v x (crossing_number s.words x))) j ≡ some u
           → (a : Knows) × (get_elem? s.views j ≡ some a) × (u.domain ≡ a.domain) × (u.makes ≡ a.makes)
       was_at j u e =
-          elim (at_set s.views id j (with_noted v x (number_at s.words x)) u e) [
+          elim (at_set s.views id j (with_noted v x (crossing_number s.words x)) u e) [
             | inl here ↦ (v, ap (get_elem? s.views) here.0 ∙ at, ap (λ (k : Knows). k.domain) (sym here.1), ap (λ (k : Knows). k.makes) (sym here.1))
             | inr other ↦ (u, other.1, refl, refl)
           ]
 
-  finds : Finds v x (number_at s.words x)
+  finds : Finds v x (crossing_number s.words x)
   finds =
       let k = r.seats id v at in
       record {
@@ -219,11 +219,11 @@ module _ (s : Table) (id : ℕ) (v : Knows) (r : AreCrossings v.finishes v.owner
 module _ (s : Table) (id : ℕ) (v : Knows) (r : AreCrossings v.finishes v.owners s) (at : get_elem? s.views id ≡ some v) (makes : v.makes ≡ true) where
   abbrev Origin : ℕ → Knows → Type 0
   Origin j u =
-      ((j ≡ id) × (u ≡ with_one_more v)) ⊎ (((j ≢ id) × (get_elem? s.views j ≡ some u)) ⊎ ((j ≡ length s.views) × (u ≡ next_seat v)))
+      ((j ≡ id) × (u ≡ with_one_more v)) ⊎ (((j ≢ id) × (get_elem? s.views j ≡ some u)) ⊎ ((j ≡ length s.views) × (u ≡ seat_of_next_domain v)))
 
-  origin : (j : ℕ) (u : Knows) → get_elem? (set s.views id (with_one_more v) ++ next_seat v ∷ []) j ≡ some u → Origin j u
+  origin : (j : ℕ) (u : Knows) → get_elem? (set s.views id (with_one_more v) ++ seat_of_next_domain v ∷ []) j ≡ some u → Origin j u
   origin j u e =
-      elim (at_end (set s.views id (with_one_more v)) (next_seat v) u j e) [
+      elim (at_end (set s.views id (with_one_more v)) (seat_of_next_domain v) u j e) [
         | inr last ↦ inr (inr (last.0 ∙ length-set s.views id (with_one_more v), last.1))
         | inl there ↦
             elim (at_set s.views id j (with_one_more v) u there) [
@@ -246,7 +246,7 @@ module _ (s : Table) (id : ℕ) (v : Knows) (r : AreCrossings v.finishes v.owner
       let b = others_below j u apart e in
       omega (arith, a, b)
 
-  first_stays : IsSeat v.finishes v.owners s.words (with_one_more v)
+  first_stays : IsCrossingSeat v.finishes v.owners s.words (with_one_more v)
   first_stays =
       let k = r.seats id v at in
       record {
@@ -260,7 +260,7 @@ module _ (s : Table) (id : ℕ) (v : Knows) (r : AreCrossings v.finishes v.owner
         next = λ m y l e. k.next makes y l (omega (arith, e));
       }
 
-  new_seat_is : IsSeat v.finishes v.owners s.words (next_seat v)
+  new_seat_is : IsCrossingSeat v.finishes v.owners s.words (seat_of_next_domain v)
   new_seat_is =
       let k = r.seats id v at in
       record {
@@ -274,17 +274,17 @@ module _ (s : Table) (id : ℕ) (v : Knows) (r : AreCrossings v.finishes v.owner
         next = λ m. absurd (false≢true m);
       }
 
-  splits : AreCrossings v.finishes v.owners record { words = s.words; homes = s.homes; views = set s.views id (with_one_more v) ++ next_seat v ∷ [] }
+  splits : AreCrossings v.finishes v.owners record { words = s.words; homes = s.homes; views = set s.views id (with_one_more v) ++ seat_of_next_domain v ∷ [] }
   splits = record {
     wide = r.wide;
     is_true = r.is_true;
     seats = λ j u e.
         elim (origin j u e) [
-          | inl first ↦ subst (IsSeat v.finishes v.owners s.words) (sym first.1) first_stays
+          | inl first ↦ subst (IsCrossingSeat v.finishes v.owners s.words) (sym first.1) first_stays
           | inr rest ↦
               elim rest [
                 | inl other ↦ r.seats j u other.1
-                | inr new ↦ subst (IsSeat v.finishes v.owners s.words) (sym new.1) new_seat_is
+                | inr new ↦ subst (IsCrossingSeat v.finishes v.owners s.words) (sym new.1) new_seat_is
               ]
         ];
     apart = λ i j a b e f same. differ i j a b (origin i a e) (origin j b f) same;
@@ -299,22 +299,22 @@ module _ (s : Table) (id : ℕ) (v : Knows) (r : AreCrossings v.finishes v.owner
       differ i j a b (inl p) (inr (inl q)) same =
           let l = others_below j b q.0 q.1 in let d = domain_of a (with_one_more v) p.1 in absurd (omega (arith, l, d, same))
       differ i j a b (inl p) (inr (inr q)) same =
-          let d = domain_of a (with_one_more v) p.1 in let n = domain_of b (next_seat v) q.1 in absurd (omega (arith, d, n, same))
+          let d = domain_of a (with_one_more v) p.1 in let n = domain_of b (seat_of_next_domain v) q.1 in absurd (omega (arith, d, n, same))
       differ i j a b (inr (inl p)) (inl q) same =
           let l = others_below i a p.0 p.1 in let d = domain_of b (with_one_more v) q.1 in absurd (omega (arith, l, d, same))
       differ i j a b (inr (inl p)) (inr (inl q)) same = r.apart i j a b p.1 q.1 same
       differ i j a b (inr (inl p)) (inr (inr q)) same =
-          let l = others_below i a p.0 p.1 in let n = domain_of b (next_seat v) q.1 in absurd (omega (arith, l, n, same))
+          let l = others_below i a p.0 p.1 in let n = domain_of b (seat_of_next_domain v) q.1 in absurd (omega (arith, l, n, same))
       differ i j a b (inr (inr p)) (inl q) same =
-          let n = domain_of a (next_seat v) p.1 in let d = domain_of b (with_one_more v) q.1 in absurd (omega (arith, d, n, same))
+          let n = domain_of a (seat_of_next_domain v) p.1 in let d = domain_of b (with_one_more v) q.1 in absurd (omega (arith, d, n, same))
       differ i j a b (inr (inr p)) (inr (inl q)) same =
-          let l = others_below j b q.0 q.1 in let n = domain_of a (next_seat v) p.1 in absurd (omega (arith, l, n, same))
+          let l = others_below j b q.0 q.1 in let n = domain_of a (seat_of_next_domain v) p.1 in absurd (omega (arith, l, n, same))
       differ i j a b (inr (inr p)) (inr (inr q)) same = p.0 ∙ sym q.0
 
       upto : (j : ℕ) (b : Knows) → Origin j b → b.domain ≤ v.domain + 1
       upto j b (inl q) = let d = domain_of b (with_one_more v) q.1 in omega (arith, d)
       upto j b (inr (inl q)) = let l = others_below j b q.0 q.1 in omega (arith, l)
-      upto j b (inr (inr q)) = let n = domain_of b (next_seat v) q.1 in omega (arith, n)
+      upto j b (inr (inr q)) = let n = domain_of b (seat_of_next_domain v) q.1 in omega (arith, n)
 
       count : (i j : ℕ) (a b : Knows) → Origin i a → a.makes ≡ true → Origin j b → b.domain ≤ a.domain
       count i j a b (inl p) m q = let d = domain_of a (with_one_more v) p.1 in omega (arith, upto j b q, d)
@@ -331,7 +331,7 @@ module _ (finishes owners : List ℕ) where
   begins s words = record {
     wide = ap length words ∙ length-replicate (16 * length owners + 1) 0;
     is_true = λ x l. subst (IsTrueNumber (get_or finishes x 0)) (sym (zero_at x l)) (record { upto = omega arith; exact = λ odd. absurd (omega (arith, odd)) });
-    seats = λ i u e. subst (IsSeat finishes owners s.words) (sym (only (fresh finishes owners true 0) u i e).1) seat;
+    seats = λ i u e. subst (IsCrossingSeat finishes owners s.words) (sym (only (fresh finishes owners true 0) u i e).1) seat;
     apart = λ i j a b e f same. (only (fresh finishes owners true 0) a i e).0 ∙ sym (only (fresh finishes owners true 0) b j f).0;
     counted = λ i j a b e m f.
         let p = ap (λ (k : Knows). k.domain) (only (fresh finishes owners true 0) a i e).1 in
@@ -339,10 +339,10 @@ module _ (finishes owners : List ℕ) where
         omega (arith, p, q);
   }
     where
-      zero_at : (x : ℕ) → x < length owners → number_at s.words x ≡ 0
-      zero_at x l = ap (λ (ws : List ℕ). number_at ws x) words ∙ get_or-replicate (16 * length owners + 1) (16 * x + 16) 0 0 (omega arith)
+      zero_at : (x : ℕ) → x < length owners → crossing_number s.words x ≡ 0
+      zero_at x l = ap (λ (ws : List ℕ). crossing_number ws x) words ∙ get_or-replicate (16 * length owners + 1) (16 * x + 16) 0 0 (omega arith)
 
-      seat : IsSeat finishes owners s.words (fresh finishes owners true 0)
+      seat : IsCrossingSeat finishes owners s.words (fresh finishes owners true 0)
       seat = record {
         told_is = refl;
         finishes_are = refl;
@@ -371,7 +371,7 @@ made_for k s id v (inr m) at told =
     )
 
 pub saying : (k slots id : ℕ) (finishes owners : List ℕ) → k ≡ length owners
-    → Allows (Holds k) slots id (untold, []) 0 (λ n. n) (Says finishes owners (step slots 0 0 0 none) (untold, []))
+    → Allows (Holds k) slots id (untold, []) 0 (λ n. n) (TellsFirstSeat finishes owners (step slots 0 0 0 none) (untold, []))
 saying k slots id finishes owners count s (inr m) sized at small = absurd (false≢true (m.crossed.seats id untold at).told_is)
 saying k slots id finishes owners count s (inl b) sized at small =
     let place : id ≡ 0 = (only untold untold id (subst (λ (vs : List Knows). get_elem? vs id ≡ some untold) b.views at)).0 in
@@ -405,7 +405,7 @@ pub finding : (k slots id : ℕ) (v : Knows) (x : ℕ) → v.told ≡ true → v
     → Allows (Holds k) slots id (v, []) (16 * x + 16) (λ n. n) (Found (step slots (16 * x + 16) 0 0 none) (v, []))
 finding k slots id v x told seat there s held sized at small =
     let m = made_for k s id v held at told in
-    let n : ℕ = number_at s.words x in
+    let n : ℕ = crossing_number s.words x in
     let crossed : AreCrossings v.finishes v.owners (stepped s (16 * x + 16) n id [] (with_noted v x n) keeps) =
     subst (λ (ws : List ℕ). AreCrossings v.finishes v.owners record { words = ws; homes = s.homes; views = set s.views id (with_noted v x n) }) (sym (same_words s (16 * x + 16)))
     (looks s id v m.1 at x there seat)
@@ -417,7 +417,7 @@ finding k slots id v x told seat there s held sized at small =
       λ y e. let same : x ≡ y = omega (arith, e) in (ap (λ i. (with_noted v i n, [])) same, subst (λ i. Finds v i n) same (finds s id v m.1 at x there seat)),
     )
 
-pub splitting : (k id : ℕ) (v : Knows) → v.told ≡ true → v.makes ≡ true → Splits (Holds k) id v (with_one_more v) (next_seat v)
+pub splitting : (k id : ℕ) (v : Knows) → v.told ≡ true → v.makes ≡ true → Splits (Holds k) id v (with_one_more v) (seat_of_next_domain v)
 splitting k id v told makes s held at =
     let m = made_for k s id v held at told in
     inr (record { finishes = v.finishes; owners = v.owners; count = m.0; crossed = splits s id v m.1 at makes })

@@ -13,7 +13,7 @@ pair =
     ∷ []
 
 -- the crossing between them is the only one, and the banks are idle and take 10 cycles
-pub record IsPair (events : List Event) (p : Division) (banks : List Bank) : Type 0 where
+pub record IsPairOfEvents (events : List Event) (p : Division) (banks : List Bank) : Type 0 where
   pub events_are : events ≡ pair
   pub domains_are : length p.events ≡ 2
   pub crossing : Crossing

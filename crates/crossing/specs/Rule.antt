@@ -6,8 +6,8 @@ use Rattle.atomic_table.specs.Table.{State, Step, Me}
 use Rattle.crossing.specs.declared.knows.Knows.{Knows}
 
 -- The word of crossing x is word 16 x + 16, so that two of them share no pair of cache lines. Word 0 is written by nobody.
-abbrev pub number_at : List ℕ → (x : ℕ) → ℕ
-number_at words x = slice_index words (16 * x + 16)
+abbrev pub crossing_number : List ℕ → (x : ℕ) → ℕ
+crossing_number words x = slice_index words (16 * x + 16)
 
 -- before the first step
 abbrev pub untold : Knows
@@ -34,22 +34,22 @@ pub record IsTrueNumber (finish n : ℕ) : Type 0 where
 module _ (finishes owners : List ℕ) where
   -- A seat knows the finishes and owners. What it found isn't above the word, and an exact one is the word; the word of a
   -- crossing that it owns is what it last wrote. The words of domains whose seats aren't made yet say nothing.
-  pub record IsSeat (words : List ℕ) (v : Knows) : Type 0 where
+  pub record IsCrossingSeat (words : List ℕ) (v : Knows) : Type 0 where
     pub told_is : v.told ≡ true
     pub finishes_are : v.finishes ≡ finishes
     pub owners_are : v.owners ≡ owners
     pub wide : (length v.wrote ≡ length owners) × (length v.noted ≡ length owners) × (length v.looks ≡ length owners)
-    pub below : (x : ℕ) → x < length owners → slice_index v.noted x ≤ number_at words x
-    pub exact : (x : ℕ) → x < length owners → slice_index v.noted x % 2 ≡ 1 → slice_index v.noted x ≡ number_at words x
-    pub own : v.makes ≡ false → (x : ℕ) → x < length owners → slice_index owners x ≡ v.domain → number_at words x ≡ slice_index v.wrote x
-    pub next : v.makes ≡ true → (x : ℕ) → x < length owners → v.domain ≤ slice_index owners x → number_at words x ≡ 0
+    pub below : (x : ℕ) → x < length owners → slice_index v.noted x ≤ crossing_number words x
+    pub exact : (x : ℕ) → x < length owners → slice_index v.noted x % 2 ≡ 1 → slice_index v.noted x ≡ crossing_number words x
+    pub own : v.makes ≡ false → (x : ℕ) → x < length owners → slice_index owners x ≡ v.domain → crossing_number words x ≡ slice_index v.wrote x
+    pub next : v.makes ≡ true → (x : ℕ) → x < length owners → v.domain ≤ slice_index owners x → crossing_number words x ≡ 0
 
   -- Each word is true of its crossing's finish, no two seats are one domain's, and the domains whose seats are made are below
   -- the next.
   pub record AreCrossings (s : State (Unit {0}) Knows) : Type 0 where
     pub wide : length s.words ≡ 16 * length owners + 1
-    pub is_true : (x : ℕ) → x < length owners → IsTrueNumber (slice_index finishes x) (number_at s.words x)
-    pub seats : (i : ℕ) (v : Knows) → get_elem? s.views i ≡ some v → IsSeat s.words v
+    pub is_true : (x : ℕ) → x < length owners → IsTrueNumber (slice_index finishes x) (crossing_number s.words x)
+    pub seats : (i : ℕ) (v : Knows) → get_elem? s.views i ≡ some v → IsCrossingSeat s.words v
     pub apart : (i j : ℕ) (v w : Knows) → get_elem? s.views i ≡ some v → get_elem? s.views j ≡ some w → v.domain ≡ w.domain → i ≡ j
     pub counted : (i j : ℕ) (v w : Knows) → get_elem? s.views i ≡ some v → v.makes ≡ true → get_elem? s.views j ≡ some w → w.domain ≤ v.domain
 
@@ -69,8 +69,8 @@ Holds crossings s = IsBegun crossings s ⊎ IsMade crossings s
 
 -- What the steps tell.
 
-abbrev pub Says : (finishes owners : List ℕ) → Step (Unit {0}) → Me (Unit {0}) Knows → ℕ → Me (Unit {0}) Knows → Type 0
-Says finishes owners st m n after = after ≡ (fresh finishes owners true 0, m.1)
+abbrev pub TellsFirstSeat : (finishes owners : List ℕ) → Step (Unit {0}) → Me (Unit {0}) Knows → ℕ → Me (Unit {0}) Knows → Type 0
+TellsFirstSeat finishes owners st m n after = after ≡ (fresh finishes owners true 0, m.1)
 
 abbrev pub with_wrote : Knows → (x n : ℕ) → Knows
 with_wrote v x n = record v { wrote = slice_set v.wrote x n }
@@ -94,5 +94,5 @@ Found st m n after = (x : ℕ) → st.word ≡ 16 * x + 16 → (after ≡ (with_
 abbrev pub with_one_more : Knows → Knows
 with_one_more v = record v { domain = v.domain + 1 }
 
-abbrev pub next_seat : Knows → Knows
-next_seat v = fresh v.finishes v.owners false v.domain
+abbrev pub seat_of_next_domain : Knows → Knows
+seat_of_next_domain v = fresh v.finishes v.owners false v.domain

@@ -9,13 +9,13 @@ use Rattle.event_graph.specs.OneListWeave.{finish_in, woven}
 use Rattle.domain_map.specs.Domains.{Division}
 
 -- The number by which a word is kept.
-abbrev pub number_of : Word → ℕ
-number_of (Bound b) = 2 * b
-number_of (Exact f) = 2 * f + 1
+abbrev pub kept_number : Word → ℕ
+kept_number (Bound b) = 2 * b
+kept_number (Exact f) = 2 * f + 1
 
 -- The word that is kept as a number.
-abbrev pub word_of : ℕ → Word
-word_of n = (if n % 2 == 0 then Bound (n / 2) else Exact (n / 2))
+abbrev pub word_kept_as : ℕ → Word
+word_kept_as n = (if n % 2 == 0 then Bound (n / 2) else Exact (n / 2))
 
 -- Whose seat it is and at which crossings; the finish of each crossing's parent and the domain that it comes from; and of
 -- each crossing's word what this seat last wrote to it, what it last found in it, and how often it looked.
@@ -68,15 +68,15 @@ abbrev pub with_found : SeatValue → (x n : ℕ) → SeatValue
 with_found s x n = record s { noted = slice_set s.noted x n; looks = slice_set s.looks x (slice_index s.looks x + 1) }
 
 -- an exact word is the finish, and a bound is at most that
-abbrev pub IsTrueOf : (finish : ℕ) → Word → Type 0
-IsTrueOf finish (Bound b) = b ≤ finish
-IsTrueOf finish (Exact f) = f ≡ finish
+abbrev pub IsTrueOfFinish : (finish : ℕ) → Word → Type 0
+IsTrueOfFinish finish (Bound b) = b ≤ finish
+IsTrueOfFinish finish (Exact f) = f ≡ finish
 
 -- What a look found: the word that the seat now notes, after one look more. It is true of the crossing's finish, it doesn't
 -- fall, an exact word stays, and the owner finds what it last wrote.
 pub record Looked (old new : SeatValue) (x : ℕ) (word : Word) : Type 0 where
-  pub new_is : new ≡ with_found old x (number_of word)
-  pub is_true : IsTrueOf (slice_index old.finishes x) word
-  pub no_fall : slice_index old.noted x ≤ number_of word
-  pub exact_stays : slice_index old.noted x % 2 ≡ 1 → number_of word ≡ slice_index old.noted x
-  pub own : slice_index old.owners x ≡ old.domain → number_of word ≡ slice_index old.wrote x
+  pub new_is : new ≡ with_found old x (kept_number word)
+  pub is_true : IsTrueOfFinish (slice_index old.finishes x) word
+  pub no_fall : slice_index old.noted x ≤ kept_number word
+  pub exact_stays : slice_index old.noted x % 2 ≡ 1 → kept_number word ≡ slice_index old.noted x
+  pub own : slice_index old.owners x ≡ old.domain → kept_number word ≡ slice_index old.wrote x

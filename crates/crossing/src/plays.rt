@@ -1,5 +1,5 @@
 // What each step on a word tells the seat that makes it.
-ghost use Rattle.crossing.specs.Rule.{Says, Wrote, Found, with_one_more, next_seat};
+ghost use Rattle.crossing.specs.Rule.{TellsFirstSeat, Wrote, Found, with_one_more, seat_of_next_domain};
 
 use crate::knows::Knows;
 use atomic_table::{Play, Split};
@@ -29,7 +29,7 @@ pub(crate) struct Say<F> {
 }
 
 impl<F: Finishes> Play<(), Knows> for Say<F> {
-    ghost then = { Says F.finishes F.owners };
+    ghost then = { TellsFirstSeat F.finishes F.owners };
 }
 
 /// The owner writes a word.
@@ -52,5 +52,5 @@ pub(crate) struct Next;
 impl Split<Knows> for Next {
     ghost left = { with_one_more };
 
-    ghost right = { next_seat };
+    ghost right = { seat_of_next_domain };
 }

@@ -2,7 +2,7 @@
 ghost use Rattle.std.specs.Prelude.{◌≡◌, ◌+◌, [], ◌∷◌, IfOk, IsTrue, Some, None, true, false};
 ghost use Rattle.machine_desc.specs.Machine.{IsMachine};
 ghost use Rattle.domain_map.specs.Domains.{Divides};
-ghost use Rattle.crossing.specs.Pair.{IsPair, pair};
+ghost use Rattle.crossing.specs.Pair.{IsPairOfEvents, pair};
 ghost use Rattle.crossing.specs.Seats.{new_seat};
 ghost use Rattle.domain_map.specs.declared.crossing.Crossing.{Crossing};
 
@@ -130,7 +130,7 @@ fn found_by_the_second(
     p: &Parts,
     comps: &Comps<Bank>,
 ) -> Result<[Word; 3], NoMemory>
-    requires pair { IsPair g.now p.now comps.now }
+    requires pair { IsPairOfEvents g.now p.now comps.now }
     requires divides { Divides g.now p.now }
 {
     let (crossings, mut seats) = Crossings::make(alloc, g, p, comps)?;

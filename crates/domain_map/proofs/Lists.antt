@@ -11,11 +11,11 @@ use Rattle.event_graph.specs.declared.event.Event.{Event}
 use Rattle.event_graph.specs.declared.event.Parent.{Parent}
 use Rattle.domain_map.specs.declared.crossing.Crossing.{Crossing}
 use Rattle.domain_map.specs.Domains.{Divides, crossings_into, crossings_into_all, domain_of, events_in}
-use Rattle.domain_map.specs.Inside.{list_at, lists_of, with_event, with_number}
+use Rattle.domain_map.specs.Inside.{list_at, lists_of, with_event_number, with_event_of_domain}
 
 -- a push to one of the lists
 pub pushed : (lists : List (Vec ℕ Global)) (domain number : ℕ) (list longer : Vec ℕ Global) → domain < length lists → list ≡ get_or lists domain list
-    → longer.items ≡ list.items ++ number ∷ [] → lists_of (set lists domain longer) ≡ with_number (lists_of lists) domain number
+    → longer.items ≡ list.items ++ number ∷ [] → lists_of (set lists domain longer) ≡ with_event_number (lists_of lists) domain number
 pushed lists domain number list longer below read is =
     map-set (λ (v : Vec ℕ Global). v.items) lists domain longer
     ∙ ap (λ (xs : List ℕ). set (lists_of lists) domain xs)
@@ -37,12 +37,12 @@ events_in-more places events i e domain below =
 
 -- a number behind those of its domain, seen at any domain
 at_domain : (lists : List (List ℕ)) (of domain number : ℕ) → domain < length lists
-    → list_at lists domain ++ cond (eqb of domain) (number ∷ []) [] ≡ list_at (with_number lists of number) domain
+    → list_at lists domain ++ cond (eqb of domain) (number ∷ []) [] ≡ list_at (with_event_number lists of number) domain
 at_domain lists of domain number below =
     elim (eqb_tells of domain) [
       | inl same ↦
           ap (λ t. list_at lists domain ++ cond t (number ∷ []) []) same.0
-          ∙ sym (ap (λ d. list_at (with_number lists d number) domain) same.1
+          ∙ sym (ap (λ d. list_at (with_event_number lists d number) domain) same.1
           ∙ get_or-set_same lists domain (list_at lists domain ++ number ∷ []) [] below)
       | inr apart ↦
           ap (λ t. list_at lists domain ++ cond t (number ∷ []) []) apart.0
@@ -53,7 +53,7 @@ at_domain lists of domain number below =
 -- the event is put behind those of its domain, and the other domains stay
 pub each_more : (places : List ℕ) (lists : List (List ℕ)) (events : List Event) (i : ℕ) (e : Event) (domain : ℕ) → i < length events
     → slice_get events i ≡ Some e → domain < length lists → list_at lists domain ≡ events_in places (take i events) domain
-    → list_at (with_event places lists e) domain ≡ events_in places (take (i + 1) events) domain
+    → list_at (with_event_of_domain places lists e) domain ≡ events_in places (take (i + 1) events) domain
 each_more places lists events i e domain below is there so_far =
     sym (events_in-more places events i e domain below
     ∙ (ap (λ (x : Event). events_in places (take i events) domain ++ cond (eqb (domain_of places x) domain) (x.number ∷ []) []) (get_or_from_slice_get events i e e is)

@@ -14,7 +14,7 @@ abbrev pub division_of : Inside → Division
 division_of p = record { places = p.places.items; events = lists_of p.lists.items; crossings = p.crossings.items }
 
 -- the count is that of the domains, and each component's domain is there
-pub record IsWhole (p : Inside) : Type 0 where
+pub record IsWholeDivision (p : Inside) : Type 0 where
   pub count : length (lists_of p.lists.items) ≡ p.count
   pub there : HasDomains (division_of p)
 
@@ -23,8 +23,8 @@ abbrev pub list_at : List (List ℕ) → (domain : ℕ) → List ℕ
 list_at lists domain = slice_index_or lists domain []
 
 -- with a number behind those of a domain, and with an event behind those of its own
-abbrev pub with_number : List (List ℕ) → (domain number : ℕ) → List (List ℕ)
-with_number lists domain number = slice_set lists domain (list_at lists domain ++ number ∷ [])
+abbrev pub with_event_number : List (List ℕ) → (domain number : ℕ) → List (List ℕ)
+with_event_number lists domain number = slice_set lists domain (list_at lists domain ++ number ∷ [])
 
-abbrev pub with_event : List ℕ → List (List ℕ) → Event → List (List ℕ)
-with_event places lists e = with_number lists (domain_of places e) e.number
+abbrev pub with_event_of_domain : List ℕ → List (List ℕ) → Event → List (List ℕ)
+with_event_of_domain places lists e = with_event_number lists (domain_of places e) e.number

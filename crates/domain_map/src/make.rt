@@ -3,7 +3,7 @@ ghost use Rattle.std.specs.Prelude.{◌≡◌, ◌+◌, ◌<◌, ◌^◌, ◌++�
 ghost use Rattle.machine_desc.specs.Machine.{IsMachine};
 ghost use Rattle.event_graph.specs.Numbered.{IsNumbered};
 ghost use Rattle.domain_map.specs.Domains.{Divides, IsSplit, crossing_from, crossings_into, domain_of as the_domain_of, domain_of_number as the_domain_of_number};
-ghost use Rattle.domain_map.specs.Inside.{lists_of, with_event, with_number};
+ghost use Rattle.domain_map.specs.Inside.{lists_of, with_event_number, with_event_of_domain};
 
 use crate::{Crossing, Parts};
 use event_graph::{Event, Graph, Parent};
@@ -80,7 +80,7 @@ fn add_event(
     requires component { event.now.component < length places.now }
     requires first { IfSome event.now.first (λ p. p.number < length events.now) }
     requires second { IfSome event.now.second (λ p. p.number < length events.now) }
-    ensures event { OnOk result (lists_of lists.new.items ≡ with_event places.now (lists_of lists.old.items) event.now) }
+    ensures event { OnOk result (lists_of lists.new.items ≡ with_event_of_domain places.now (lists_of lists.old.items) event.now) }
     ensures crossings { OnOk result (crossings.new.items ≡ crossings.old.items ++ crossings_into places.now events.now event.now) }
 {
     push_number(lists, domain_of(places, event), event.number)?;
@@ -92,7 +92,7 @@ fn add_event(
 /// Puts a number behind those of its domain.
 fn push_number(lists: &mut Vec<Vec<u32>>, domain: u16, number: u32) -> Result<(), NoMemory>
     requires { domain < vec_len lists.old }
-    ensures pushed { OnOk result (lists_of lists.new.items ≡ with_number (lists_of lists.old.items) domain number) }
+    ensures pushed { OnOk result (lists_of lists.new.items ≡ with_event_number (lists_of lists.old.items) domain number) }
 {
     let list = &mut lists[usize::from(domain)];
     list.push(number)?;

@@ -20,11 +20,11 @@ impl Model for Parts {
 
     ghost Value = { Division };
 
-    ghost use Rattle.domain_map.specs.Inside.{division_of, IsWhole};
+    ghost use Rattle.domain_map.specs.Inside.{division_of, IsWholeDivision};
 
     ghost view = { division_of };
 
-    ghost invariant = { IsWhole };
+    ghost invariant = { IsWholeDivision };
 }
 
 impl Parts {

@@ -6,30 +6,30 @@ use Rattle.elf_load.specs.declared.bad_elf.BadElf.{BadElf}
 use Rattle.elf_load.specs.declared.bad_elf.BadElf.TheVariants as bad
 use Rattle.elf_load.specs.declared.header.Header.{Header}
 use Rattle.elf_load.specs.declared.header.ProgramHeader.{ProgramHeader}
-use Rattle.elf_load.specs.Checks.{unless, first_pair, header_fault, segment_fault, file_fault, memory_fault, overlap_fault, is_past_file, is_past_memory, overlaps, is_entered}
+use Rattle.elf_load.specs.Checks.{fault_unless, first_pair, header_fault, segment_fault, file_fault, memory_fault, overlap_fault, is_past_file, is_past_memory, overlaps, is_entered}
 use Rattle.elf_load.specs.Header.{header_of, program_headers}
-use Rattle.elf_load.specs.Image.{image_in, fault_of, image_of}
+use Rattle.elf_load.specs.Image.{image_in, elf_fault, image_of}
 use Rattle.elf_load.proofs.Lists.{position-None, option_or-None, option_map-None}
 
 pub short : (file : List ℕ) (base size : ℕ) → length file < 64 → image_of file base size ≡ Err bad.Short
-unfolding image_of fault_of
+unfolding image_of elf_fault
 short file base size h = rw (lt-leb 64 (length file) h) refl
 
 module _ (file : List ℕ) (base size : ℕ) (h : Header) (long : 64 ≤ length file) (read : h ≡ header_of file) where
   pub header_refused : (fault : BadElf) → Some fault ≡ header_fault h (length file) → image_of file base size ≡ Err fault
-  unfolding image_of fault_of
+  unfolding image_of elf_fault
   header_refused fault e = rw (le-leb 64 (length file) long, ← read, ← e) refl
 
   module _ (passed : None ≡ header_fault h (length file)) (ps : List ProgramHeader) (table : ps ≡ program_headers file h) where
     pub segment_refused : (fault : BadElf) → Some fault ≡ segment_fault ps h.entry (length file) base size → image_of file base size ≡ Err fault
-    unfolding image_of fault_of
+    unfolding image_of elf_fault
     segment_refused fault e = rw (le-leb 64 (length file) long, ← read, ← passed, ← table, ← e) refl
 
     pub accepted : None ≡ segment_fault ps h.entry (length file) base size → image_of file base size ≡ Ok (image_in file h ps base size)
-    unfolding image_of fault_of
+    unfolding image_of elf_fault
     accepted e = rw (le-leb 64 (length file) long, ← read, ← passed, ← table, ← e) refl
 
-pub unless-None : (test : Bool) (fault : BadElf) → unless test fault ≡ None → test ≡ true
+pub unless-None : (test : Bool) (fault : BadElf) → fault_unless test fault ≡ None → test ≡ true
 unless-None true fault h = refl
 unless-None false fault h = cc
 

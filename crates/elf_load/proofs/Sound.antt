@@ -6,7 +6,7 @@ use Rattle.elf_load.specs.declared.header.Header.{Header}
 use Rattle.elf_load.specs.declared.header.ProgramHeader.{ProgramHeader}
 use Rattle.elf_load.specs.Checks.{is_loaded, is_past_file, is_past_memory, overlaps, is_entered, first_pair}
 use Rattle.elf_load.specs.Image.{segment_of, segments_of, image_in}
-use Rattle.elf_load.specs.MemoryImage.{IsSound, is_within, is_placed, do_overlap, are_apart, covers, fetched}
+use Rattle.elf_load.specs.MemoryImage.{IsSoundImage, is_within, is_placed, do_overlap, are_apart, covers, fetched}
 use Rattle.elf_load.proofs.Lists.{position-None, option_or-None, option_map-None}
 use Rattle.elf_load.proofs.Faults.{Passes}
 
@@ -106,7 +106,7 @@ length-segments_of file (p ∷ ps) =
       | inr skipped ↦ rw skipped (omega arith)
     ]
 
-pub sound : (file : List ℕ) (h : Header) (ps : List ProgramHeader) (base size : ℕ) → base + size ≤ 2 ^ 48 → length ps ≤ 128 → Passes ps h.entry (length file) base size → IsSound (image_in file h ps base size)
+pub sound : (file : List ℕ) (h : Header) (ps : List ProgramHeader) (base size : ℕ) → base + size ≤ 2 ^ 48 → length ps ≤ 128 → Passes ps h.entry (length file) base size → IsSoundImage (image_in file h ps base size)
 sound file h ps base size reach few checks = record {
   reach = reach;
   few = omega (arith, length-segments_of file ps);

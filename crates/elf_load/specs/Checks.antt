@@ -11,8 +11,8 @@ use Rattle.elf_load.specs.declared.header.ProgramHeader.{ProgramHeader}
 use Rattle.elf_load.specs.MemoryImage.{is_within, do_meet}
 
 -- the fault, unless the test passes
-abbrev pub unless : Bool → BadElf → Option BadElf
-unless test fault = if test then None else Some fault
+abbrev pub fault_unless : Bool → BadElf → Option BadElf
+fault_unless test fault = if test then None else Some fault
 
 -- the first fault of a list of checks
 abbrev pub first_fault : List (Option BadElf) → Option BadElf
@@ -29,12 +29,12 @@ has_table h len =
 -- RISC-V, that needs neither compressed instructions nor a floating-point ABI
 unfoldable pub header_fault : Header → ℕ → Option BadElf
 header_fault h len = first_fault (
-    unless (h.magic == elf_magic) bad.Magic
-    ∷ unless ((h.class == elfclass64) && (h.encoding == elfdata2lsb)) bad.ClassOrData
-    ∷ unless (h.type_ == et_exec) bad.Type_
-    ∷ unless (h.machine == em_riscv) bad.Machine
-    ∷ unless (bit_and h.flags (bit_or ef_riscv_rvc ef_riscv_float_abi) == 0) bad.Flags
-    ∷ unless (has_table h len) bad.Headers
+    fault_unless (h.magic == elf_magic) bad.Magic
+    ∷ fault_unless ((h.class == elfclass64) && (h.encoding == elfdata2lsb)) bad.ClassOrData
+    ∷ fault_unless (h.type_ == et_exec) bad.Type_
+    ∷ fault_unless (h.machine == em_riscv) bad.Machine
+    ∷ fault_unless (bit_and h.flags (bit_or ef_riscv_rvc ef_riscv_float_abi) == 0) bad.Flags
+    ∷ fault_unless (has_table h len) bad.Headers
     ∷ [])
 
 -- for an executable that is linked as it is loaded
@@ -85,9 +85,9 @@ overlap_fault ps = option_map (λ pair. bad.Overlap pair.0 pair.1) (first_pair o
 -- the first check of the program headers that fails, in a file of this length
 unfoldable pub segment_fault : List ProgramHeader → (entry len base size : ℕ) → Option BadElf
 segment_fault ps entry len base size = first_fault (
-    unless (not (list_any is_dynamic ps)) bad.Dynamic
+    fault_unless (not (list_any is_dynamic ps)) bad.Dynamic
     ∷ file_fault ps len
     ∷ memory_fault ps base size
     ∷ overlap_fault ps
-    ∷ unless ((entry % 4 == 0) && list_any (is_entered entry) ps) bad.Entry
+    ∷ fault_unless ((entry % 4 == 0) && list_any (is_entered entry) ps) bad.Entry
     ∷ [])

@@ -9,7 +9,7 @@ use Rattle.elf_load.specs.declared.bad_elf.LoadFail.TheVariants as fail
 use Rattle.elf_load.specs.declared.header.Header.{Header}
 use Rattle.elf_load.specs.declared.header.ProgramHeader.{ProgramHeader}
 use Rattle.elf_load.specs.declared.segment.Segment.{Segment}
-use Rattle.elf_load.specs.Checks.{unless, header_fault, segment_fault, is_loaded, is_executable}
+use Rattle.elf_load.specs.Checks.{fault_unless, header_fault, segment_fault, is_loaded, is_executable}
 use Rattle.elf_load.specs.Header.{header_of, program_headers}
 use Rattle.elf_load.specs.MemoryImage.{MemoryImage}
 
@@ -31,10 +31,10 @@ abbrev pub image_in : List ℕ → Header → List ProgramHeader → (base size 
 image_in file h ps base size = record { base = base; size = size; entry = h.entry; segments = segments_of file ps }
 
 -- the first check of a file that fails: of its length, of the ELF header, of the program headers
-unfoldable pub fault_of : List ℕ → (base size : ℕ) → Option BadElf
-fault_of file base size =
+unfoldable pub elf_fault : List ℕ → (base size : ℕ) → Option BadElf
+elf_fault file base size =
     let h = header_of file in
-    option_or (unless (nat_le header_len (length file)) bad.Short)
+    option_or (fault_unless (nat_le header_len (length file)) bad.Short)
     (option_or (header_fault h (length file))
     (segment_fault (program_headers file h) h.entry (length file) base size))
 
@@ -47,10 +47,10 @@ image_unless (Some fault) image = Err fault
 unfoldable pub image_of : List ℕ → (base size : ℕ) → Result MemoryImage BadElf
 image_of file base size =
     let h = header_of file in
-    image_unless (fault_of file base size) (image_in file h (program_headers file h) base size)
+    image_unless (elf_fault file base size) (image_in file h (program_headers file h) base size)
 
 -- the call answers the image or the first check that fails, unless memory runs out
-abbrev pub Answers : Result MemoryImage LoadFail → Result MemoryImage BadElf → Type 0
-Answers (Ok image) read = read ≡ Ok image
-Answers (Err (fail.Bad b)) read = read ≡ Err b
-Answers (Err fail.NoMemory) read = Unit {0}
+abbrev pub AnswersImage : Result MemoryImage LoadFail → Result MemoryImage BadElf → Type 0
+AnswersImage (Ok image) read = read ≡ Ok image
+AnswersImage (Err (fail.Bad b)) read = read ≡ Err b
+AnswersImage (Err fail.NoMemory) read = Unit {0}

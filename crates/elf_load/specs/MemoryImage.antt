@@ -62,7 +62,7 @@ are_apart (segment ∷ segments) = not (list_any (do_overlap segment) segments) 
 
 -- What every image keeps: memory ends at 2^48 at most, there are at most 128 segments, each is placed in memory apart
 -- from the others, and the first instruction lies in an executable one.
-pub record IsSound (image : MemoryImage) : Type 0 where
+pub record IsSoundImage (image : MemoryImage) : Type 0 where
   pub reach : image.base + image.size ≤ 2 ^ 48
   pub few : length image.segments ≤ most_headers
   pub placed : IsTrue (list_all (is_placed image.base image.size) image.segments)

@@ -1,7 +1,7 @@
 // What memory holds when an executable was loaded.
 ghost use Rattle.std.specs.Prelude.{◌≡◌, ◌≤◌, ◌<◌, ◌+◌, ◌&&◌, ℕ, length, slice_index, IsTrue};
 ghost use Rattle.elf_load.specs.Copying.{byte_over};
-ghost use Rattle.elf_load.specs.MemoryImage.{byte_at, bytes_from, covers, fetched, word_in, IsSound};
+ghost use Rattle.elf_load.specs.MemoryImage.{byte_at, bytes_from, covers, fetched, word_in, IsSoundImage};
 
 use crate::Segment;
 use crate::range::is_within;
@@ -19,7 +19,7 @@ pub struct Image {
 }
 
 impl Model for Image {
-    ghost use Rattle.elf_load.specs.MemoryImage.{MemoryImage, IsSound};
+    ghost use Rattle.elf_load.specs.MemoryImage.{MemoryImage, IsSoundImage};
 
     ghost Value = { MemoryImage };
 
@@ -27,13 +27,13 @@ impl Model for Image {
         record { base = i.base; size = i.size; entry = i.entry; segments = i.segments.items } };
 
     ghost invariant = { λ i.
-        IsSound (record { base = i.base; size = i.size; entry = i.entry; segments = i.segments.items }) };
+        IsSoundImage (record { base = i.base; size = i.size; entry = i.entry; segments = i.segments.items }) };
 }
 
 impl Image {
     /// An image of these segments, which it takes over.
     pub fn make(base: u64, size: u64, entry: u64, segments: Vec<Segment>) -> Self
-        requires { IsSound (record {
+        requires { IsSoundImage (record {
           base = base;
           size = size;
           entry = entry;
@@ -57,7 +57,7 @@ impl Image {
     /// The address of the first byte of memory.
     pub fn base(&self) -> u64
         ensures value { result ≡ self.now.base }
-        ensures sound { IsSound self.now }
+        ensures sound { IsSoundImage self.now }
     {
         self.base
     }

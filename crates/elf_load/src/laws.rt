@@ -4,7 +4,7 @@ ghost use Rattle.std.specs.Prelude.{◌≡◌, ◌↔◌, ◌+◌, ◌^◌, ◌�
 ghost use Rattle.elf_load.specs.Checks.{overlap_fault, overlaps};
 ghost use Rattle.elf_load.specs.Image.{image_of};
 ghost use Rattle.elf_load.specs.Meaning.{IsAmong, IsLeastPair};
-ghost use Rattle.elf_load.specs.MemoryImage.{do_meet, IsSound, MemoryImage};
+ghost use Rattle.elf_load.specs.MemoryImage.{do_meet, IsSoundImage, MemoryImage};
 ghost use Rattle.elf_load.specs.declared.bad_elf.BadElf.TheVariants as bad;
 ghost use Rattle.elf_load.specs.declared.header.ProgramHeader.{ProgramHeader};
 
@@ -24,7 +24,7 @@ pub fn least_overlap()
 /// The image of a file is sound, and has the memory for which it was read.
 pub fn images()
     ensures sound { (file : List ℕ) (base size : ℕ) (image : MemoryImage) → base + size ≤ 2 ^ 48
-        → image_of file base size ≡ Ok image → IsSound image }
+        → image_of file base size ≡ Ok image → IsSoundImage image }
     ensures memory { (file : List ℕ) (base size : ℕ) (image : MemoryImage)
         → image_of file base size ≡ Ok image → (image.base ≡ base) × (image.size ≡ size) }
 {}

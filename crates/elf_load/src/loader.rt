@@ -2,7 +2,7 @@
 ghost use Rattle.std.specs.Prelude.{◌≡◌, ◌≤◌, ◌+◌, ◌^◌, length, false, IfOk};
 ghost use Rattle.std.specs.List.{list_any};
 ghost use Rattle.elf_load.specs.Checks.{is_past_file};
-ghost use Rattle.elf_load.specs.Image.{image_of, segment_of, segments_of, Answers};
+ghost use Rattle.elf_load.specs.Image.{image_of, segment_of, segments_of, AnswersImage};
 
 use crate::checks::{header_fault, is_executable, is_loaded, segment_fault};
 use crate::constants::HEADER_LEN;
@@ -15,7 +15,7 @@ use zs_num::{Bytes, NoMemory};
 /// it fails.
 pub fn load(alloc: Global, file: &[u8], base: u64, size: u64) -> Result<Image, LoadFail>
     requires { base + size ≤ 2 ^ 48 }
-    ensures answer { Answers result (image_of file.now base size) }
+    ensures answer { AnswersImage result (image_of file.now base size) }
     ensures memory { IfOk result (λ image. (image.base ≡ base) × (image.size ≡ size)) }
 {
     if file.len() < HEADER_LEN {

@@ -6,11 +6,11 @@ use Rattle.std.proofs.lemmas.List.{append_assoc}
 use Rattle.elf_load.specs.declared.segment.Segment.{Segment}
 use Rattle.elf_load.specs.Checks.{has_table, header_fault, segment_fault}
 use Rattle.elf_load.specs.Header.{header_of, program_headers}
-use Rattle.elf_load.specs.Image.{image_of, image_in, fault_of, segments_of}
-use Rattle.elf_load.specs.MemoryImage.{MemoryImage, IsSound, is_placed, fetched, covers}
+use Rattle.elf_load.specs.Image.{image_of, image_in, elf_fault, segments_of}
+use Rattle.elf_load.specs.MemoryImage.{MemoryImage, IsSoundImage, is_placed, fetched, covers}
 use Rattle.elf_load.specs.declared.header.Header.{Header}
 use Rattle.elf_load.specs.declared.header.ProgramHeader.{ProgramHeader}
-use Rattle.elf_write.specs.File.{fields_bytes, header_fields, table_bytes, contents, file_of}
+use Rattle.elf_write.specs.File.{fields_bytes, header_fields, table_bytes, contents, executable_of}
 use Rattle.elf_write.proofs.Fields.{length-fields_bytes}
 use Rattle.elf_write.proofs.Written.{written_header, header_of-written}
 use Rattle.elf_write.proofs.Table.{place_of, written_table, headers_from-written, length-table_bytes}
@@ -40,11 +40,11 @@ entry_fits (segment ∷ segments) entry base size reach placed h =
 
 -- a file whose headers pass the checks is read as their image
 accepted : (file : List ℕ) (base size : ℕ) (h : Header) (ps : List ProgramHeader) → 64 ≤ length file → h ≡ header_of file → None ≡ header_fault h (length file) → ps ≡ program_headers file h → None ≡ segment_fault ps h.entry (length file) base size → image_of file base size ≡ Ok (image_in file h ps base size)
-unfolding image_of fault_of
+unfolding image_of elf_fault
 accepted file base size h ps long read passed listed sound = rw (le-leb 64 (length file) long, ← read, ← passed, ← listed, ← sound) refl
 
-pub image_of-file_of : (image : MemoryImage) → IsSound image → image_of (file_of image) image.base image.size ≡ Ok image
-unfolding file_of program_headers
+pub image_of-file_of : (image : MemoryImage) → IsSoundImage image → image_of (executable_of image) image.base image.size ≡ Ok image
+unfolding executable_of program_headers
 image_of-file_of image sound =
     let segments = image.segments in
     let count : ℕ = length segments in
@@ -81,8 +81,8 @@ short_segments (segment ∷ segments) base size (suc k) d reach placed l =
     short_segments segments base size k d reach (and_parts _ _ placed).1 (omega arith)
 
 -- what is written in three steps is the file
-pub file_of-written : (image : MemoryImage) (entry : ℕ) (segments : List Segment) (start headed listed whole : List ℕ) → entry ≡ image.entry → segments ≡ image.segments → start ≡ [] → headed ≡ start ++ fields_bytes (header_fields entry (length segments)) → listed ≡ headed ++ table_bytes segments (64 + 56 * length segments) → whole ≡ listed ++ contents segments → whole ≡ file_of image
-unfolding file_of
+pub file_of-written : (image : MemoryImage) (entry : ℕ) (segments : List Segment) (start headed listed whole : List ℕ) → entry ≡ image.entry → segments ≡ image.segments → start ≡ [] → headed ≡ start ++ fields_bytes (header_fields entry (length segments)) → listed ≡ headed ++ table_bytes segments (64 + 56 * length segments) → whole ≡ listed ++ contents segments → whole ≡ executable_of image
+unfolding executable_of
 file_of-written image entry segments start headed listed whole e s none h t w =
     let header : List ℕ = fields_bytes (header_fields entry (length segments)) in
     let table : List ℕ = table_bytes segments (64 + 56 * length segments) in

@@ -57,8 +57,8 @@ abbrev pub contents : List Segment → List ℕ
 contents segments = flat_map (λ segment. segment.bytes) segments
 
 -- the file of an image: the ELF header, the program headers, and the bytes of the segments without gaps
-unfoldable pub file_of : MemoryImage → List ℕ
-file_of image =
+unfoldable pub executable_of : MemoryImage → List ℕ
+executable_of image =
     let count = length image.segments in
     fields_bytes (header_fields image.entry count)
     ++ (table_bytes image.segments (header_len + program_header_len * count) ++ contents image.segments)

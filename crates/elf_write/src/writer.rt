@@ -1,7 +1,7 @@
 // Writes the file of an image: the headers, and then the bytes of the segments without gaps.
 ghost use Rattle.std.specs.Prelude.{◌≡◌, ◌≤◌, ◌+◌, ◌*◌, ◌^◌, ◌++◌, length, All, Ok, IfOk, OnOk};
 ghost use Rattle.elf_load.specs.Image.{image_of};
-ghost use Rattle.elf_write.specs.File.{contents, fields_bytes, file_of, header_fields, table_bytes};
+ghost use Rattle.elf_write.specs.File.{contents, executable_of, fields_bytes, header_fields, table_bytes};
 
 use crate::field::write_fields;
 use crate::headers::{header_fields, program_header_fields};
@@ -12,7 +12,7 @@ use zs_num::{Bytes, NoMemory};
 
 /// The executable that is loaded as this image.
 pub fn write(alloc: Global, image: &Image) -> Result<Bytes, NoMemory>
-    ensures layout { IfOk result (λ bytes. bytes ≡ file_of image.now) }
+    ensures layout { IfOk result (λ bytes. bytes ≡ executable_of image.now) }
     ensures read_again { IfOk result (λ bytes.
         image_of bytes image.now.base image.now.size ≡ Ok image.now) }
 {

@@ -3,7 +3,7 @@ use Rattle.std.proofs.Common.{◌≡◌, ℕ, zero, suc, List, set, Option, Some
 use Rattle.std.specs.Prelude.{slice_get}
 use Rattle.component.specs.declared.kind.Kind.{Kind}
 use Rattle.event_graph.specs.declared.event.Event.{Event}
-use Rattle.event_graph.specs.OneListWeave.{Weave, after, fire, least_ready, round, served}
+use Rattle.event_graph.specs.OneListWeave.{Weave, after_rounds, fire, least_ready, round, served}
 
 module _ {C : Type 0} (stepped : C → Kind → ℕ → C × ℕ) (P : List C → Type 0)
     (keeps : (comps : List C) (number : ℕ) (c : C) (kind : Kind) (start : ℕ) → P comps → slice_get comps number ≡ Some c → P (set comps number (stepped c kind start).0)) where
@@ -19,7 +19,7 @@ module _ {C : Type 0} (stepped : C → Kind → ℕ → C × ℕ) (P : List C �
   unfolding round
   round_keeps events w h = fire_keeps w h (least_ready w.fired events)
 
-  pub after_keeps : (events : List Event) (comps : List C) → P comps → (rounds : ℕ) → P (after stepped events comps rounds).comps
-  unfolding after
+  pub after_keeps : (events : List Event) (comps : List C) → P comps → (rounds : ℕ) → P (after_rounds stepped events comps rounds).comps
+  unfolding after_rounds
   after_keeps events comps h zero = h
-  after_keeps events comps h (suc rounds) = round_keeps events (after stepped events comps rounds) (after_keeps events comps h rounds)
+  after_keeps events comps h (suc rounds) = round_keeps events (after_rounds stepped events comps rounds) (after_keeps events comps h rounds)

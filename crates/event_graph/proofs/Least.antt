@@ -5,7 +5,7 @@ use Rattle.std.proofs.lemmas.Bool.{and_from, and_parts, cases_eq, cond_both, fal
 use Rattle.event_graph.specs.declared.event.Event.{Event}
 use Rattle.event_graph.specs.Firing.{IsNext}
 use Rattle.event_graph.specs.Numbered.{IsNumbered}
-use Rattle.event_graph.specs.OneListWeave.{Timed, earlier, finish_in, is_before, is_fired, is_parent_fired, is_ready, least_ready, start_of}
+use Rattle.event_graph.specs.OneListWeave.{Timed, earlier, finish_in, is_event_before, is_fired, is_parent_fired, is_ready, least_ready, start_of}
 use Rattle.event_graph.proofs.FindFired.{AreParentsFired}
 use Rattle.event_graph.proofs.Lists.{In, contains_in, in_at, in_contains}
 use Rattle.event_graph.proofs.Order.{before_from_not, not_before_from, not_before_itself, not_before_trans}
@@ -37,7 +37,7 @@ pub record IsLeast (fired : List Timed) (events : List Event) (e : Event) (s : �
   pub member : In e events
   pub ready : is_ready fired e ≡ true
   pub start_is : s ≡ start_of (finish_in fired) e
-  pub least : (y : Event) → In y events → is_ready fired y ≡ true → is_before y (start_of (finish_in fired) y) e s ≡ false
+  pub least : (y : Event) → In y events → is_ready fired y ≡ true → is_event_before y (start_of (finish_in fired) y) e s ≡ false
 
 pub least_none : (fired : List Timed) (events : List Event) → least_ready fired events ≡ None → (y : Event) → In y events → is_ready fired y ≡ false
 least_none fired [] h y m = absurd m
@@ -58,26 +58,26 @@ skip fired e es r f l = record {
 
 -- it is ready, and none of the rest is earlier
 first : (fired : List Timed) (e : Event) (es : List Event) → is_ready fired e ≡ true
-    → ((y : Event) → In y es → is_ready fired y ≡ true → is_before y (start_of (finish_in fired) y) e (start_of (finish_in fired) e) ≡ false)
+    → ((y : Event) → In y es → is_ready fired y ≡ true → is_event_before y (start_of (finish_in fired) y) e (start_of (finish_in fired) e) ≡ false)
     → IsLeast fired (e ∷ es) e (start_of (finish_in fired) e)
 first fired e es t h = record {
   member = inl refl;
   ready = t;
   start_is = refl;
   least = λ y m k. elim m [
-    | inl same ↦ subst (λ z. is_before z (start_of (finish_in fired) z) e (start_of (finish_in fired) e) ≡ false) same (not_before_itself e (start_of (finish_in fired) e))
+    | inl same ↦ subst (λ z. is_event_before z (start_of (finish_in fired) z) e (start_of (finish_in fired) e) ≡ false) same (not_before_itself e (start_of (finish_in fired) e))
     | inr rest ↦ h y rest k
   ];
 }
 
 -- it is ready, and the least of the rest is earlier
-other : (fired : List Timed) (e : Event) (es : List Event) (b : Event × ℕ) → is_before b.0 b.1 e (start_of (finish_in fired) e) ≡ true → IsLeast fired es b.0 b.1 → IsLeast fired (e ∷ es) b.0 b.1
+other : (fired : List Timed) (e : Event) (es : List Event) (b : Event × ℕ) → is_event_before b.0 b.1 e (start_of (finish_in fired) e) ≡ true → IsLeast fired es b.0 b.1 → IsLeast fired (e ∷ es) b.0 b.1
 other fired e es b t l = record {
   member = inr l.member;
   ready = l.ready;
   start_is = l.start_is;
   least = λ y m k. elim m [
-    | inl same ↦ subst (λ z. is_before z (start_of (finish_in fired) z) b.0 b.1 ≡ false) same (not_before_from b.0 b.1 e (start_of (finish_in fired) e) t)
+    | inl same ↦ subst (λ z. is_event_before z (start_of (finish_in fired) z) b.0 b.1 ≡ false) same (not_before_from b.0 b.1 e (start_of (finish_in fired) e) t)
     | inr rest ↦ l.least y rest k
   ];
 }
@@ -89,7 +89,7 @@ head fired e es t None is ih r k =
     subst (λ (z : Event × ℕ). IsLeast fired (e ∷ es) z.0 z.1) same (first fired e es t (λ y m h. absurd (false≢true (sym (least_none fired es is y m) ∙ h))))
 head fired e es t (Some b) is ih r k =
     let l : IsLeast fired es b.0 b.1 = ih b refl in
-    cond_both (is_before b.0 b.1 e (start_of (finish_in fired) e)) b (e, start_of (finish_in fired) e) (λ z. Some z ≡ Some r → IsLeast fired (e ∷ es) r.0 r.1)
+    cond_both (is_event_before b.0 b.1 e (start_of (finish_in fired) e)) b (e, start_of (finish_in fired) e) (λ z. Some z ≡ Some r → IsLeast fired (e ∷ es) r.0 r.1)
     (λ before q. let same : b ≡ r = cc in subst (λ (z : Event × ℕ). IsLeast fired (e ∷ es) z.0 z.1) same (other fired e es b before l))
     (λ before q.
     let same : (e, start_of (finish_in fired) e) ≡ r = cc in
@@ -106,7 +106,7 @@ least_some fired (e ∷ es) r h =
     h
 
 least_is_by : (fired : List Timed) (events : List Event) (e : Event) → In e events → is_ready fired e ≡ true
-    → ((y : Event) → In y events → is_ready fired y ≡ true → (y ≡ e) ⊎ (is_before e (start_of (finish_in fired) e) y (start_of (finish_in fired) y) ≡ true))
+    → ((y : Event) → In y events → is_ready fired y ≡ true → (y ≡ e) ⊎ (is_event_before e (start_of (finish_in fired) e) y (start_of (finish_in fired) y) ≡ true))
     → (o : Option (Event × ℕ)) → least_ready fired events ≡ o → o ≡ Some (e, start_of (finish_in fired) e)
 least_is_by fired events e m t h None is = absurd (false≢true (sym (least_none fired events is e m) ∙ t))
 least_is_by fired events e m t h (Some r) is =
@@ -116,12 +116,12 @@ least_is_by fired events e m t h (Some r) is =
           let s : r.1 ≡ start_of (finish_in fired) e = l.start_is ∙ ap (λ z. start_of (finish_in fired) z) same in
           ap (λ z. Some z) (pair_same r e (start_of (finish_in fired) e) same s)
       | inr before ↦
-          absurd (false≢true (sym (l.least e m t) ∙ subst (λ n. is_before e (start_of (finish_in fired) e) r.0 n ≡ true) (sym l.start_is) before))
+          absurd (false≢true (sym (l.least e m t) ∙ subst (λ n. is_event_before e (start_of (finish_in fired) e) r.0 n ≡ true) (sym l.start_is) before))
     ]
 
 -- an event that is ready, and before each other ready one, is the least
 pub least_is : (fired : List Timed) (events : List Event) (e : Event) → In e events → is_ready fired e ≡ true
-    → ((y : Event) → In y events → is_ready fired y ≡ true → (y ≡ e) ⊎ (is_before e (start_of (finish_in fired) e) y (start_of (finish_in fired) y) ≡ true))
+    → ((y : Event) → In y events → is_ready fired y ≡ true → (y ≡ e) ⊎ (is_event_before e (start_of (finish_in fired) e) y (start_of (finish_in fired) y) ≡ true))
     → least_ready fired events ≡ Some (e, start_of (finish_in fired) e)
 least_is fired events e m t h = least_is_by fired events e m t h (least_ready fired events) refl
 

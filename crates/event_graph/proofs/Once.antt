@@ -11,7 +11,7 @@ use Rattle.component.specs.declared.kind.Kind.{Kind}
 use Rattle.event_graph.specs.declared.event.Event.{Event}
 use Rattle.event_graph.specs.Firing.{IsRound}
 use Rattle.event_graph.specs.Numbered.{IsNumbered}
-use Rattle.event_graph.specs.OneListWeave.{Timed, after, is_fired, least_ready, served, weave}
+use Rattle.event_graph.specs.OneListWeave.{Timed, after_rounds, is_fired, least_ready, served, weave}
 use Rattle.event_graph.proofs.FindFired.{find_push_other, is_fired_from_in}
 use Rattle.event_graph.proofs.Least.{IsLeast, least_some, next_from_least, ready_parts}
 use Rattle.event_graph.proofs.Lists.{In, get_within, in_at, in_push}
@@ -102,7 +102,7 @@ one_more_done events left rest fired x all now =
 module _ {C : Type 0} (serves : C → Kind → Bool) (stepped : C → Kind → ℕ → C × ℕ) (events : List Event) (comps : List C)
     (lawful : IsLawful serves stepped) (numbered : IsNumbered events) (fits : (e : Event) → In e events → IsServed serves comps e) where
   abbrev fired_after : ℕ → List Timed
-  fired_after n = (after stepped events comps n).fired
+  fired_after n = (after_rounds stepped events comps n).fired
 
   -- a round fires the least ready event, or none is ready
   record Fires (n : ℕ) (r : Event × ℕ) : Type 0 where
@@ -115,17 +115,17 @@ module _ {C : Type 0} (serves : C → Kind → Bool) (stepped : C → Kind → �
   fires : (n : ℕ) (r : Event × ℕ) → least_ready (fired_after n) events ≡ Some r → Fires n r
   fires n r is =
       let l : IsLeast (fired_after n) events r.0 r.1 = least_some (fired_after n) events r is in
-      let f : IsServed serves (after stepped events comps n).comps r.0 = (holds serves stepped events comps lawful numbered fits n).are_served r.0 l.member in
+      let f : IsServed serves (after_rounds stepped events comps n).comps r.0 = (holds serves stepped events comps lawful numbered fits n).are_served r.0 l.member in
       record {
         next = record { event = r.0; start = r.1; finish = (stepped f.0 r.0.kind r.1).1 };
         event = refl;
         start = refl;
         least = l;
-        fired = ap (λ v. v.fired) (after_more serves stepped events comps n) ∙ ap (λ v. v.fired) (round_fires serves stepped events comps (after stepped events comps n) r f.0 is f.1.0);
+        fired = ap (λ v. v.fired) (after_more serves stepped events comps n) ∙ ap (λ v. v.fired) (round_fires serves stepped events comps (after_rounds stepped events comps n) r f.0 is f.1.0);
       }
 
   fires_none : (n : ℕ) → least_ready (fired_after n) events ≡ None → fired_after (suc n) ≡ fired_after n
-  fires_none n is = ap (λ v. v.fired) (after_more serves stepped events comps n ∙ round_stays serves stepped events comps (after stepped events comps n) is)
+  fires_none n is = ap (λ v. v.fired) (after_more serves stepped events comps n ∙ round_stays serves stepped events comps (after_rounds stepped events comps n) is)
 
   -- what fired and what didn't are all events
   once_by : (n : ℕ) → IsPermutation events (events_of (fired_after n) ++ unfired_among (fired_after n) events) → (o : Option (Event × ℕ)) → least_ready (fired_after n) events ≡ o
@@ -215,14 +215,14 @@ module _ {C : Type 0} (serves : C → Kind → Bool) (stepped : C → Kind → �
       (subst (λ e. IsLeast (fired_after n) events e f.next.start) (sym f.event) (subst (λ s. IsLeast (fired_after n) events r.0.0 s) (sym f.start) f.least))
 
   -- a round while an event is unfired
-  pub round_at : (n : ℕ) → n < length events → (x : Timed) × (c : C) × IsRound serves stepped events (after stepped events comps n) (after stepped events comps (suc n)) x c
+  pub round_at : (n : ℕ) → n < length events → (x : Timed) × (c : C) × IsRound serves stepped events (after_rounds stepped events comps n) (after_rounds stepped events comps (suc n)) x c
   round_at n l =
       let count : length (fired_after n) ≡ n = counted n (omega (arith, l)) in
       let r : (r : Event × ℕ) × (least_ready (fired_after n) events ≡ Some r) = some_ready n l count (least_ready (fired_after n) events) refl in
       let m : IsLeast (fired_after n) events r.0.0 r.0.1 = least_some (fired_after n) events r.0 r.1 in
-      let f : IsServed serves (after stepped events comps n).comps r.0.0 = (holds serves stepped events comps lawful numbered fits n).are_served r.0.0 m.member in
-      let next : after stepped events comps (suc n) ≡ served stepped (after stepped events comps n) r.0.0 r.0.1 (Some f.0) =
-      after_more serves stepped events comps n ∙ round_fires serves stepped events comps (after stepped events comps n) r.0 f.0 r.1 f.1.0
+      let f : IsServed serves (after_rounds stepped events comps n).comps r.0.0 = (holds serves stepped events comps lawful numbered fits n).are_served r.0.0 m.member in
+      let next : after_rounds stepped events comps (suc n) ≡ served stepped (after_rounds stepped events comps n) r.0.0 r.0.1 (Some f.0) =
+      after_more serves stepped events comps n ∙ round_fires serves stepped events comps (after_rounds stepped events comps n) r.0 f.0 r.1 f.1.0
       in
       let x : Timed = record { event = r.0.0; start = r.0.1; finish = (stepped f.0 r.0.0.kind r.0.1).1 } in (
         x,

@@ -6,7 +6,7 @@ use Rattle.component.specs.declared.kind.Kind.{Kind}
 use Rattle.event_graph.specs.declared.event.Event.{Event}
 use Rattle.event_graph.specs.declared.event.Parent.{Parent}
 use Rattle.event_graph.specs.Numbered.{IsNumbered}
-use Rattle.event_graph.specs.OneListWeave.{Timed, Weave, after, fire, is_fired, is_parent_fired, least_ready, round, served, weave}
+use Rattle.event_graph.specs.OneListWeave.{Timed, Weave, after_rounds, fire, is_fired, is_parent_fired, least_ready, round, served, weave}
 use Rattle.event_graph.proofs.FindFired.{fired_in, is_fired_from_in}
 use Rattle.event_graph.proofs.Least.{IsLeast, least_none, least_some, ready_from, ready_parts}
 use Rattle.event_graph.proofs.Lists.{In, at_in, count, count_all, count_less, count_none, in_at, in_left, in_push}
@@ -92,12 +92,12 @@ module _ {C : Type 0} (serves : C → Kind → Bool) (stepped : C → Kind → �
   unfolding round
   round_fires w r c h k = ap (λ o. fire stepped w o) h ∙ ap (λ o. served stepped w r.0 r.1 o) k
 
-  pub after_first_round : after stepped events comps 0 ≡ record { fired = []; comps = comps }
-  unfolding after
+  pub after_first_round : after_rounds stepped events comps 0 ≡ record { fired = []; comps = comps }
+  unfolding after_rounds
   after_first_round = refl
 
-  pub after_more : (n : ℕ) → after stepped events comps (suc n) ≡ round stepped events (after stepped events comps n)
-  unfolding after
+  pub after_more : (n : ℕ) → after_rounds stepped events comps (suc n) ≡ round stepped events (after_rounds stepped events comps n)
+  unfolding after_rounds
   after_more n = refl
 
   module _ (lawful : IsLawful serves stepped) (numbered : IsNumbered events) (fits : (e : Event) → In e events → IsServed serves comps e) where
@@ -109,11 +109,11 @@ module _ {C : Type 0} (serves : C → Kind → Bool) (stepped : C → Kind → �
         subst (λ v. HoldsBetween serves stepped events comps v) (sym (round_fires w r f.0 is f.1.0))
         (holds_after serves stepped events comps lawful numbered w r.0 r.1 f.0 h l f.1.0)
 
-    pub holds : (n : ℕ) → HoldsBetween serves stepped events comps (after stepped events comps n)
+    pub holds : (n : ℕ) → HoldsBetween serves stepped events comps (after_rounds stepped events comps n)
     holds zero = subst (λ v. HoldsBetween serves stepped events comps v) (sym after_first_round) (holds_at_first serves stepped events comps fits)
     holds (suc n) =
         subst (λ v. HoldsBetween serves stepped events comps v) (sym (after_more n))
-        (holds_round_by (after stepped events comps n) (holds n) (least_ready (after stepped events comps n).fired events) refl)
+        (holds_round_by (after_rounds stepped events comps n) (holds n) (least_ready (after_rounds stepped events comps n).fired events) refl)
 
     -- how many events are unfired
     abbrev pub unfired : List Timed → ℕ
@@ -132,12 +132,12 @@ module _ {C : Type 0} (serves : C → Kind → Bool) (stepped : C → Kind → �
         (not_from_true _ (is_fired_from_in (w.fired ++ next ∷ []) next r.0.number (in_push w.fired next) refl))
         (λ x k. not_from_false _ (unfired_before x w.fired next (not-true _ k)))))
 
-    progress : (n : ℕ) → AllFired (after stepped events comps n).fired events ⊎ (unfired (after stepped events comps n).fired + n ≤ length events)
-    progress zero = inr (omega (arith, count_all (λ e. not (is_fired (after stepped events comps 0).fired e.number)) events))
+    progress : (n : ℕ) → AllFired (after_rounds stepped events comps n).fired events ⊎ (unfired (after_rounds stepped events comps n).fired + n ≤ length events)
+    progress zero = inr (omega (arith, count_all (λ e. not (is_fired (after_rounds stepped events comps 0).fired e.number)) events))
     progress (suc n) =
-        let w : Weave C = after stepped events comps n in
-        let more : after stepped events comps (suc n) ≡ round stepped events w = after_more n in
-        let stay : AllFired w.fired events → AllFired (after stepped events comps (suc n)).fired events =
+        let w : Weave C = after_rounds stepped events comps n in
+        let more : after_rounds stepped events comps (suc n) ≡ round stepped events w = after_more n in
+        let stay : AllFired w.fired events → AllFired (after_rounds stepped events comps (suc n)).fired events =
         λ all. subst (λ v. AllFired v.fired events) (sym (more ∙ round_stays w (none_from_all events w.fired all))) all
         in
         elim (progress n) [
@@ -157,11 +157,11 @@ module _ {C : Type 0} (serves : C → Kind → Bool) (stepped : C → Kind → �
         ]
 
     -- then nothing changes any more
-    pub stays : (n : ℕ) → AllFired (after stepped events comps n).fired events → (m : ℕ) → n ≤ m → after stepped events comps m ≡ after stepped events comps n
-    stays n all zero l = ap (λ k. after stepped events comps k) (omega arith)
+    pub stays : (n : ℕ) → AllFired (after_rounds stepped events comps n).fired events → (m : ℕ) → n ≤ m → after_rounds stepped events comps m ≡ after_rounds stepped events comps n
+    stays n all zero l = ap (λ k. after_rounds stepped events comps k) (omega arith)
     stays n all (suc m) l =
         elim (cases_eq n (suc m)) [
-          | inl same ↦ ap (λ k. after stepped events comps k) (sym same)
+          | inl same ↦ ap (λ k. after_rounds stepped events comps k) (sym same)
           | inr apart ↦
-              after_more m ∙ (ap (λ w. round stepped events w) (stays n all m (omega arith)) ∙ round_stays (after stepped events comps n) (none_from_all events (after stepped events comps n).fired all))
+              after_more m ∙ (ap (λ w. round stepped events w) (stays n all m (omega arith)) ∙ round_stays (after_rounds stepped events comps n) (none_from_all events (after_rounds stepped events comps n).fired all))
         ]

@@ -9,7 +9,7 @@ use Rattle.component.specs.declared.kind.Kind.{Kind}
 use Rattle.event_graph.specs.declared.event.Event.{Event}
 use Rattle.event_graph.specs.declared.event.Parent.{Parent}
 use Rattle.event_graph.specs.Numbered.{IsNumbered}
-use Rattle.event_graph.specs.OneListWeave.{Timed, Weave, finish_in, finish_or_zero, is_before, is_fired, is_parent_fired, is_ready, served, start_of}
+use Rattle.event_graph.specs.OneListWeave.{Timed, Weave, finish_in, finish_or_zero, is_event_before, is_fired, is_parent_fired, is_ready, served, start_of}
 use Rattle.event_graph.specs.TimingSolution.{IsInOrder, ServesInTurn, after_serving, of_component}
 use Rattle.event_graph.proofs.FindFired.{AreParentsFired, Extends, IsOneEach, after_first, after_second, find_from_in, extends_from, fired_extends, fired_in, is_fired_from_in, parent_extends, start_extends}
 use Rattle.event_graph.proofs.Least.{IsLeast, ready_from, ready_parts}
@@ -45,7 +45,7 @@ module _ {C : Type 0} (serves : C → Kind → Bool) (stepped : C → Kind → �
     pub parents : (x : Timed) → In x w.fired → AreParentsFired w.fired x.event
     pub in_order : IsInOrder w.fired
     -- what is ready is later than what fired
-    pub later : (x : Timed) (y : Event) → In x w.fired → In y events → is_ready w.fired y ≡ true → is_before x.event x.start y (start_of (finish_in w.fired) y) ≡ true
+    pub later : (x : Timed) (y : Event) → In x w.fired → In y events → is_ready w.fired y ≡ true → is_event_before x.event x.start y (start_of (finish_in w.fired) y) ≡ true
     pub are_served : (e : Event) → In e events → IsServed serves w.comps e
     pub turns : (k : ℕ) (c : C) → slice_get comps k ≡ Some c → ServesInTurn stepped c (of_component k w.fired)
     pub left : (k : ℕ) (c : C) → slice_get comps k ≡ Some c → slice_get w.comps k ≡ Some (after_serving stepped c (of_component k w.fired))
@@ -103,8 +103,8 @@ module _ {C : Type 0} (serves : C → Kind → Bool) (stepped : C → Kind → �
     finish_now : finish_in new e.number ≡ (stepped c e.kind s).1
     finish_now = ap finish_or_zero (find_from_in new one_each next e.number (in_push w.fired next) refl)
 
-    before_now : (x : Timed) → In x w.fired → is_before x.event x.start e s ≡ true
-    before_now x m = subst (λ n. is_before x.event x.start e n ≡ true) (sym l.start_is) (h.later x e m l.member l.ready)
+    before_now : (x : Timed) → In x w.fired → is_event_before x.event x.start e s ≡ true
+    before_now x m = subst (λ n. is_event_before x.event x.start e n ≡ true) (sym l.start_is) (h.later x e m l.member l.ready)
 
     -- a parent that fired did so before, or is this event
     parent_cases : (o : Option Parent) → is_parent_fired new o ≡ true → (is_parent_fired w.fired o ≡ true) ⊎ ((p : Parent) × ((o ≡ Some p) × (p.number ≡ e.number)))
@@ -121,28 +121,28 @@ module _ {C : Type 0} (serves : C → Kind → Bool) (stepped : C → Kind → �
         elim (cases_Bool (is_fired w.fired y.number)) [ inl t ↦ absurd (false≢true (sym f ∙ fired_extends w.fired new extends y.number t)) | inr k ↦ k ]
 
     -- what is ready now is later than this event
-    after_now : (y : Event) → In y events → is_ready new y ≡ true → is_before e s y (start_of (finish_in new) y) ≡ true
+    after_now : (y : Event) → In y events → is_ready new y ≡ true → is_event_before e s y (start_of (finish_in new) y) ≡ true
     after_now y m k =
         let parts : (is_fired new y.number ≡ false) × AreParentsFired new y = ready_parts new y k in
         let other : e.number ≡ y.number → ⊥ = λ q. false≢true (sym parts.0 ∙ is_fired_from_in new next y.number (in_push w.fired next) q) in
-        let late : finish_in new e.number ≤ start_of (finish_in new) y → is_before e s y (start_of (finish_in new) y) ≡ true =
+        let late : finish_in new e.number ≤ start_of (finish_in new) y → is_event_before e s y (start_of (finish_in new) y) ≡ true =
         λ q. before_by_start e s y (start_of (finish_in new) y) (let g : s < (stepped c e.kind s).1 = lawful.grows c e.kind s served_now in omega (arith, g, q, finish_now)) in
         elim (parent_cases y.first parts.1.0) [
           | inl a ↦ elim (parent_cases y.second parts.1.1) [
             | inl b ↦
                 let ready : is_ready w.fired y ≡ true = ready_from w.fired y (unfired_before y parts.0) (a, b) in
-                subst (λ n. is_before e s y n ≡ true) (sym (start_extends w.fired new extends y (a, b)))
+                subst (λ n. is_event_before e s y n ≡ true) (sym (start_extends w.fired new extends y (a, b)))
                 (before_from_not e s y (start_of (finish_in w.fired) y) (l.least y m ready) other)
             | inr b ↦ late (subst (λ n. finish_in new n ≤ start_of (finish_in new) y) b.1.1 (after_second (finish_in new) y b.0 b.1.0))
           ]
           | inr a ↦ late (subst (λ n. finish_in new n ≤ start_of (finish_in new) y) a.1.1 (after_first (finish_in new) y a.0 a.1.0))
         ]
 
-    later_now : (x : Timed) (y : Event) → In x new → In y events → is_ready new y ≡ true → is_before x.event x.start y (start_of (finish_in new) y) ≡ true
+    later_now : (x : Timed) (y : Event) → In x new → In y events → is_ready new y ≡ true → is_event_before x.event x.start y (start_of (finish_in new) y) ≡ true
     later_now x y mx my k =
         elim (in_push_cases x w.fired next mx) [
           | inl old ↦ before_trans x.event x.start e s y (start_of (finish_in new) y) (before_now x old) (after_now y my k)
-          | inr same ↦ subst (λ (z : Timed). is_before z.event z.start y (start_of (finish_in new) y) ≡ true) same (after_now y my k)
+          | inr same ↦ subst (λ (z : Timed). is_event_before z.event z.start y (start_of (finish_in new) y) ≡ true) same (after_now y my k)
         ]
 
     starts_now : (x : Timed) → In x new → (x.start ≡ start_of (finish_in new) x.event) × AreParentsFired new x.event
@@ -209,7 +209,7 @@ module _ {C : Type 0} (serves : C → Kind → Bool) (stepped : C → Kind → �
       one_each = one_each;
       starts = λ x m. (starts_now x m).0;
       parents = λ x m. (starts_now x m).1;
-      in_order = all_pairs_push (λ (x y : Timed). IsTrue (is_before x.event x.start y.event y.start)) w.fired next h.in_order (λ k d a. before_now (get_or w.fired k d) (in_get w.fired k d a));
+      in_order = all_pairs_push (λ (x y : Timed). IsTrue (is_event_before x.event x.start y.event y.start)) w.fired next h.in_order (λ k d a. before_now (get_or w.fired k d) (in_get w.fired k d a));
       later = later_now;
       are_served = served_after;
       turns = turns_now;

@@ -5,7 +5,7 @@ use Rattle.event_graph.specs.declared.event.Event.{Event}
 use Rattle.event_graph.specs.declared.fired.Fired.{Fired}
 use Rattle.event_graph.specs.Firing.{time_so_far}
 use Rattle.event_graph.specs.Numbered.{IsNumbered}
-use Rattle.event_graph.specs.OneListWeave.{Timed, find_fired, finish_in, finish_or_zero, fired_of, start_of, timed_in, timed_of, weave, woven}
+use Rattle.event_graph.specs.OneListWeave.{Timed, find_fired, finish_in, finish_or_zero, fired_of, fired_or_unfired, start_of, timed_in, weave, woven}
 use Rattle.event_graph.specs.TimingSolution.{IsSolution}
 use Rattle.event_graph.proofs.FindFired.{IsOneEach, find_from_in, found_in, extends_from, some_from_fired, start_extends}
 use Rattle.event_graph.proofs.Least.{same_event}
@@ -35,7 +35,7 @@ module _ {C : Type 0} (serves : C → Kind → Bool) (stepped : C → Kind → �
       (r.0, (r.1, (k.0, same_event events numbered r.0.event e (held.members r.0 k.0) m k.1)))
 
   pub answer_at : (x : Timed) → In x (weave stepped events comps).fired → timed_in (weave stepped events comps).fired x.event ≡ x
-  answer_at x m = ap (λ o. timed_of x.event o) (find_from_in (weave stepped events comps).fired held.one_each x x.event.number m refl)
+  answer_at x m = ap (λ o. fired_or_unfired x.event o) (find_from_in (weave stepped events comps).fired held.one_each x x.event.number m refl)
 
   in_woven : (x : Timed) → In x (weave stepped events comps).fired → In x (woven stepped events comps)
   in_woven x m =
@@ -47,7 +47,7 @@ module _ {C : Type 0} (serves : C → Kind → Bool) (stepped : C → Kind → �
   from_woven x m =
       let r : (e : Event) × (In e events × (timed_in (weave stepped events comps).fired e ≡ x)) = from_map (timed_in (weave stepped events comps).fired) x events (subst (λ xs. In x xs) woven-is m) in
       let k : (y : Timed) × ((find_fired (weave stepped events comps).fired r.0.number ≡ Some y) × (In y (weave stepped events comps).fired × (y.event ≡ r.0))) = timed_at r.0 r.1.0 in
-      let same : k.0 ≡ x = ap (λ o. timed_of r.0 o) (sym k.1.0) ∙ r.1.1 in
+      let same : k.0 ≡ x = ap (λ o. fired_or_unfired r.0 o) (sym k.1.0) ∙ r.1.1 in
       subst (λ z. In z (weave stepped events comps).fired) same k.1.1.0
 
   one_each_woven : IsOneEach (woven stepped events comps)
@@ -56,7 +56,7 @@ module _ {C : Type 0} (serves : C → Kind → Bool) (stepped : C → Kind → �
   event_of_answer : (e : Event) → In e events → (timed_in (weave stepped events comps).fired e).event ≡ e
   event_of_answer e m =
       let k : (y : Timed) × ((find_fired (weave stepped events comps).fired e.number ≡ Some y) × (In y (weave stepped events comps).fired × (y.event ≡ e))) = timed_at e m in
-      ap (λ o. (timed_of e o).event) k.1.0 ∙ k.1.1.1
+      ap (λ o. (fired_or_unfired e o).event) k.1.0 ∙ k.1.1.1
 
   -- what is known of the events at the end is what the weave answers
   pub known_at_the_end : map (time_so_far (weave stepped events comps).fired) events ≡ map fired_of (woven stepped events comps)
@@ -64,7 +64,7 @@ module _ {C : Type 0} (serves : C → Kind → Bool) (stepped : C → Kind → �
       map_same (time_so_far (weave stepped events comps).fired) (λ e. fired_of (timed_in (weave stepped events comps).fired e)) events
       (λ e m.
       let k : (x : Timed) × ((find_fired (weave stepped events comps).fired e.number ≡ Some x) × (In x (weave stepped events comps).fired × (x.event ≡ e))) = timed_at e m in
-      let answer : timed_in (weave stepped events comps).fired e ≡ k.0 = ap (λ o. timed_of e o) k.1.0 in
+      let answer : timed_in (weave stepped events comps).fired e ≡ k.0 = ap (λ o. fired_or_unfired e o) k.1.0 in
       let finish : finish_in (weave stepped events comps).fired e.number ≡ k.0.finish = ap finish_or_zero k.1.0 in
       let start : start_of (finish_in (weave stepped events comps).fired) e ≡ k.0.start =
       ap (λ z. start_of (finish_in (weave stepped events comps).fired) z) (sym k.1.1.1) ∙ sym (held.starts k.0 k.1.1.0)

@@ -7,7 +7,7 @@ use Rattle.component.specs.declared.kind.Kind.{Kind}
 use Rattle.event_graph.specs.declared.event.Event.{Event}
 use Rattle.event_graph.specs.Fits.{EventFits, GraphFits}
 use Rattle.event_graph.specs.Numbered.{IsNumbered}
-use Rattle.event_graph.specs.OneListWeave.{AreSmallSteps, Timed, find_fired, fired_of, timed_in, timed_of, weave, woven}
+use Rattle.event_graph.specs.OneListWeave.{AreSmallSteps, Timed, find_fired, fired_of, fired_or_unfired, timed_in, weave, woven}
 use Rattle.event_graph.specs.Timely.{AreTimely, IsTimely}
 use Rattle.event_graph.specs.TimingSolution.{of_component}
 use Rattle.event_graph.proofs.Lists.{In, at_in, from_filter, get-map, in_at, in_filter}
@@ -68,7 +68,7 @@ module _ {C : Type 0} (serves : C → Kind → Bool) (floor : C → Kind → ℕ
             let there : slice_get (map fired_of (woven stepped events comps)) i ≡ Some (fired_of (timed_in fired e)) =
             ap (λ xs. slice_get (map fired_of xs) i) answers ∙ get-map fired_of (timed_in fired e) (map (timed_in fired) events) i (get-map (timed_in fired) e events i at)
             in
-            let answer : fired_of (timed_in fired e) ≡ fired_of k.0 = ap (λ o. fired_of (timed_of e o)) k.1.0 in
+            let answer : fired_of (timed_in fired e) ≡ fired_of k.0 = ap (λ o. fired_of (fired_or_unfired e o)) k.1.0 in
             let same : fired_of k.0 ≡ f = cc in
             subst (λ z. IsTimely e z) same (subst (λ z. IsTimely z (fired_of k.0)) k.1.1.1 (timely k.0 k.1.1.0));
       }

@@ -9,7 +9,7 @@ use Rattle.component.specs.declared.kind.Kind.{Kind}
 use Rattle.event_graph.specs.declared.event.Event.{Event}
 use Rattle.event_graph.specs.declared.event.Parent.{Parent}
 use Rattle.event_graph.specs.Numbered.{IsNumbered}
-use Rattle.event_graph.specs.OneListWeave.{Timed, Weave, after, finish_in, finish_or_zero, is_before, is_fired, is_parent_fired, least_ready, round, start_of, timed_in, weave, woven}
+use Rattle.event_graph.specs.OneListWeave.{Timed, Weave, after_rounds, finish_in, finish_or_zero, is_event_before, is_fired, is_parent_fired, least_ready, round, start_of, timed_in, weave, woven}
 use Rattle.event_graph.specs.TimingSolution.{IsSolution, ServesInTurn, after_serving, of_component}
 use Rattle.event_graph.proofs.FindFired.{AreParentsFired, Extends, IsOneEach, after_first, after_second, find_from_in, extends_from, fired_in, is_fired_from_in, start_extends}
 use Rattle.event_graph.proofs.Least.{least_is, ready_from, ready_parts}
@@ -21,7 +21,7 @@ use Rattle.event_graph.proofs.Solves.{answer_at, woven-is}
 use Rattle.event_graph.proofs.Turns.{turns_at, turns_grow}
 
 abbrev Before : Timed → Timed → Type 0
-Before x y = IsTrue (is_before x.event x.start y.event y.start)
+Before x y = IsTrue (is_event_before x.event x.start y.event y.start)
 
 same_timed : (x : Timed) (s f : ℕ) → s ≡ x.start → f ≡ x.finish → record { event = x.event; start = s; finish = f } ≡ x
 same_timed x s f a b =
@@ -144,9 +144,9 @@ module _ {C : Type 0} (serves : C → Kind → Bool) (stepped : C → Kind → �
                 let b : Before x z.0 = pairs_from Before w.fired x z.0 rest pairs later in
                 let s : x.start ≡ start_of (finish_in w.fired) x.event = start_is x (to_timed x now) parents in
                 let t : z.0.start ≡ start_of (finish_in w.fired) z.0.event = start_is z.0 z.1.0 (subst (λ e. AreParentsFired w.fired e) (sym z.1.1) parts.1) in
-                inr (subst (λ e. is_before x.event (start_of (finish_in w.fired) x.event) e (start_of (finish_in w.fired) e) ≡ true) z.1.1
-                (subst (λ n. is_before x.event (start_of (finish_in w.fired) x.event) z.0.event n ≡ true) t
-                (subst (λ n. is_before x.event n z.0.event z.0.start ≡ true) s b)))
+                inr (subst (λ e. is_event_before x.event (start_of (finish_in w.fired) x.event) e (start_of (finish_in w.fired) e) ≡ true) z.1.1
+                (subst (λ n. is_event_before x.event (start_of (finish_in w.fired) x.event) z.0.event n ≡ true) t
+                (subst (λ n. is_event_before x.event n z.0.event z.0.start ≡ true) s b)))
           ]
         ])
 
@@ -175,11 +175,11 @@ module _ {C : Type 0} (serves : C → Kind → Bool) (stepped : C → Kind → �
         ap (λ v. v.fired) (round_fires serves stepped events comps w (x.event, start_of (finish_in w.fired) x.event) g.0 least g.1.0)
         ∙ ap (λ t. w.fired ++ t ∷ []) (same_timed x (start_of (finish_in w.fired) x.event) (stepped g.0 x.event.kind (start_of (finish_in w.fired) x.event)).1 (sym s) finish)
 
-  reaches : (rest : List Timed) (n : ℕ) → sol.sorted ≡ (after stepped events comps n).fired ++ rest → (m : ℕ) × ((after stepped events comps m).fired ≡ sol.sorted)
-  reaches [] n split = (n, sym (split ∙ append-nil (after stepped events comps n).fired))
+  reaches : (rest : List Timed) (n : ℕ) → sol.sorted ≡ (after_rounds stepped events comps n).fired ++ rest → (m : ℕ) × ((after_rounds stepped events comps m).fired ≡ sol.sorted)
+  reaches [] n split = (n, sym (split ∙ append-nil (after_rounds stepped events comps n).fired))
   reaches (x ∷ rest) n split =
-      let w : Weave C = after stepped events comps n in
-      let next : (after stepped events comps (suc n)).fired ≡ w.fired ++ x ∷ [] =
+      let w : Weave C = after_rounds stepped events comps n in
+      let next : (after_rounds stepped events comps (suc n)).fired ≡ w.fired ++ x ∷ [] =
       ap (λ v. v.fired) (after_more serves stepped events comps n)
       ∙ fires w x rest (holds serves stepped events comps lawful numbered fits n) split
       in
@@ -192,10 +192,10 @@ module _ {C : Type 0} (serves : C → Kind → Bool) (stepped : C → Kind → �
 
   fired_is_sorted : (weave stepped events comps).fired ≡ sol.sorted
   fired_is_sorted =
-      let r : (m : ℕ) × ((after stepped events comps m).fired ≡ sol.sorted) =
+      let r : (m : ℕ) × ((after_rounds stepped events comps m).fired ≡ sol.sorted) =
       reaches sol.sorted 0 (ap (λ (v : Weave C). v.fired ++ sol.sorted) (sym (after_first_round serves stepped events comps)))
       in
-      let at_m : AllFired (after stepped events comps r.0).fired events = subst (λ xs. AllFired xs events) (sym r.1) all_sorted in
+      let at_m : AllFired (after_rounds stepped events comps r.0).fired events = subst (λ xs. AllFired xs events) (sym r.1) all_sorted in
       let at_end : AllFired (weave stepped events comps).fired events = all_fired serves stepped events comps lawful numbered fits in
       elim (cases_lt r.0 (length events)) [
         | inl l ↦ ap (λ v. v.fired) (stays serves stepped events comps lawful numbered fits r.0 at_m (length events) (omega arith)) ∙ r.1

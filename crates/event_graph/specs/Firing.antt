@@ -4,14 +4,14 @@ use Rattle.std.specs.List.{Contains}
 use Rattle.component.specs.declared.kind.Kind.{Kind}
 use Rattle.event_graph.specs.declared.event.Event.{Event}
 use Rattle.event_graph.specs.declared.fired.Fired.{Fired}
-use Rattle.event_graph.specs.OneListWeave.{Timed, Weave, finish_in, is_before, is_parent_fired, is_ready, start_of}
+use Rattle.event_graph.specs.OneListWeave.{Timed, Weave, finish_in, is_event_before, is_parent_fired, is_ready, start_of}
 
 -- where these fired, x is ready, starts by the start rule, and comes before each other ready event
 pub record IsNext (fired : List Timed) (events : List Event) (x : Timed) : Type 0 where
   pub event : Contains events x.event
   pub ready : IsTrue (is_ready fired x.event)
   pub start : x.start ≡ start_of (finish_in fired) x.event
-  pub first : (y : Event) → Contains events y → IsTrue (is_ready fired y) → (y ≡ x.event) ⊎ IsTrue (is_before x.event x.start y (start_of (finish_in fired) y))
+  pub first : (y : Event) → Contains events y → IsTrue (is_ready fired y) → (y ≡ x.event) ⊎ IsTrue (is_event_before x.event x.start y (start_of (finish_in fired) y))
 
 -- a round: x fires next, and its component c serves it
 pub record IsRound {C : Type 0} (serves : C → Kind → Bool) (stepped : C → Kind → ℕ → C × ℕ) (events : List Event) (before after : Weave C) (x : Timed) (c : C) : Type 0 where

@@ -16,13 +16,13 @@ use Rattle.event_graph.specs.Near.{AreNear}
 use Rattle.event_graph.specs.Numbered.{IsNumbered}
 use Rattle.event_graph.specs.OneListWeave.{AreSmallSteps, comps_after}
 use Rattle.event_graph.specs.Timing.{pieces_of, floor_told}
-use Rattle.event_graph.specs.Told.{IsTrueOf}
+use Rattle.event_graph.specs.Told.{IsTrueOfComponents}
 use Rattle.event_graph.specs.EventGraph.{all_events}
 
 -- what is told of a machine without a network is true of its components
 abbrev pub PlainTellsComponents : Type 0
 PlainTellsComponents = (m : Machine) (comps : List Comp) → AreComponents m comps
-    → IsTrueOf (floor_told m.l2 m.controllers) comp_serves comp_latency comps
+    → IsTrueOfComponents (floor_told m.l2 m.controllers) comp_serves comp_latency comps
 
 -- the components of a machine serve all events of its accesses, and each with the event's time at
 -- zero load as its floor

@@ -13,8 +13,8 @@ pub record Timed : Type 0 where
   pub finish : ℕ
 
 -- the lesser start first, and at a tie the lesser number
-abbrev pub is_before : Event → ℕ → Event → ℕ → Bool
-is_before e start other other_start = nat_lt start other_start || (start == other_start && nat_lt e.number other.number)
+abbrev pub is_event_before : Event → ℕ → Event → ℕ → Bool
+is_event_before e start other other_start = nat_lt start other_start || (start == other_start && nat_lt e.number other.number)
 
 -- The start rule.
 
@@ -54,7 +54,7 @@ is_ready fired e = not (is_fired fired e.number) && (is_parent_fired fired e.fir
 -- the earlier of an event at its start and another one
 abbrev pub earlier : Event × ℕ → Option (Event × ℕ) → Event × ℕ
 earlier a None = a
-earlier a (Some b) = cond (is_before b.0 b.1 a.0 a.1) b a
+earlier a (Some b) = cond (is_event_before b.0 b.1 a.0 a.1) b a
 
 -- the ready event with the least (start, number), and its start
 abbrev pub least_ready : List Timed → List Event → Option (Event × ℕ)
@@ -64,12 +64,12 @@ least_ready fired (e ∷ es) =
 
 -- what is known of an event
 
-abbrev pub timed_of : Event → Option Timed → Timed
-timed_of e None = record { event = e; start = 0; finish = 0 }
-timed_of e (Some x) = x
+abbrev pub fired_or_unfired : Event → Option Timed → Timed
+fired_or_unfired e None = record { event = e; start = 0; finish = 0 }
+fired_or_unfired e (Some x) = x
 
 abbrev pub timed_in : List Timed → Event → Timed
-timed_in fired e = timed_of e (find_fired fired e.number)
+timed_in fired e = fired_or_unfired e (find_fired fired e.number)
 
 -- The rounds of the weave.
 
@@ -96,13 +96,13 @@ module _ {C : Type 0} (stepped : C → Kind → ℕ → C × ℕ) where
   round events w = fire w (least_ready w.fired events)
 
   -- after so many rounds
-  unfoldable pub after : List Event → List C → ℕ → Weave C
-  after events comps zero = record { fired = []; comps = comps }
-  after events comps (suc rounds) = round events (after events comps rounds)
+  unfoldable pub after_rounds : List Event → List C → ℕ → Weave C
+  after_rounds events comps zero = record { fired = []; comps = comps }
+  after_rounds events comps (suc rounds) = round events (after_rounds events comps rounds)
 
   -- after as many rounds as there are events
   abbrev pub weave : List Event → List C → Weave C
-  weave events comps = after events comps (length events)
+  weave events comps = after_rounds events comps (length events)
 
   -- What the weave answers: each event with its start and finish, in order of number, and the components after.
 
@@ -119,7 +119,7 @@ module _ {C : Type 0} (stepped : C → Kind → ℕ → C × ℕ) where
 
   abbrev pub AreSmallSteps : (C → Kind → ℕ → ℕ) → List Event → List C → Type 0
   AreSmallSteps greatest events comps =
-      (rounds : ℕ) → IsSmallStep greatest (after events comps rounds) (least_ready (after events comps rounds).fired events)
+      (rounds : ℕ) → IsSmallStep greatest (after_rounds events comps rounds) (least_ready (after_rounds events comps rounds).fired events)
 
 -- an event's number, start and finish
 abbrev pub fired_of : Timed → Fired

@@ -3,7 +3,7 @@ use Rattle.std.specs.Prelude.{◌≡◌, ◌==◌, ◌↔◌, ℕ, IsTrue, List,
 use Rattle.std.specs.List.{AllPairs, Contains, filter, fold}
 use Rattle.component.specs.declared.kind.Kind.{Kind}
 use Rattle.event_graph.specs.declared.event.Event.{Event}
-use Rattle.event_graph.specs.OneListWeave.{Timed, finish_in, is_before, start_of}
+use Rattle.event_graph.specs.OneListWeave.{Timed, finish_in, is_event_before, start_of}
 
 -- those of the component of this number
 abbrev pub of_component : ℕ → List Timed → List Timed
@@ -11,7 +11,7 @@ of_component number xs = filter (λ x. x.event.component == number) xs
 
 -- each comes before those after it, so none is there twice
 abbrev pub IsInOrder : List Timed → Type 0
-IsInOrder xs = AllPairs (λ x y. IsTrue (is_before x.event x.start y.event y.start)) xs
+IsInOrder xs = AllPairs (λ x y. IsTrue (is_event_before x.event x.start y.event y.start)) xs
 
 module _ {C : Type 0} (stepped : C → Kind → ℕ → C × ℕ) where
   -- the component after it served these, one after the other

@@ -10,5 +10,5 @@ pub record ServesWith {C : Type 0} (serves : C → Kind → Bool) (floor : C →
   pub floor_is : floor component kind ≡ time
 
 -- what is told is true of these components
-abbrev pub IsTrueOf : {C : Type 0} → (told : ℕ → Kind → Option ℕ) → (C → Kind → Bool) → (C → Kind → ℕ) → List C → Type 0
-IsTrueOf told serves floor comps = (number : ℕ) (kind : Kind) (time : ℕ) → told number kind ≡ Some time → ServesWith serves floor comps number kind time
+abbrev pub IsTrueOfComponents : {C : Type 0} → (told : ℕ → Kind → Option ℕ) → (C → Kind → Bool) → (C → Kind → ℕ) → List C → Type 0
+IsTrueOfComponents told serves floor comps = (number : ℕ) (kind : Kind) (time : ℕ) → told number kind ≡ Some time → ServesWith serves floor comps number kind time

@@ -12,10 +12,10 @@ ghost use Rattle.event_graph.specs.Growth.{BeginBy, IsPaced};
 ghost use Rattle.event_graph.specs.Laws.{MachineComponentsStay, MachineStepsStaySmall, PlainAccessesHaveFewEvents, PlainGraphsFit, PlainTellsComponents};
 ghost use Rattle.event_graph.specs.Near.{AreNear};
 ghost use Rattle.event_graph.specs.Numbered.{IsNumbered};
-ghost use Rattle.event_graph.specs.OneListWeave.{AreSmallSteps, Timed, after, finish_in, fired_of, start_of, weave, woven};
+ghost use Rattle.event_graph.specs.OneListWeave.{AreSmallSteps, Timed, after_rounds, finish_in, fired_of, start_of, weave, woven};
 ghost use Rattle.event_graph.specs.Timely.{AreTimely};
 ghost use Rattle.event_graph.specs.TimingSolution.{IsInOrder, IsSolution, ServesInTurn, after_serving, of_component};
-ghost use Rattle.event_graph.specs.Told.{IsTrueOf};
+ghost use Rattle.event_graph.specs.Told.{IsTrueOfComponents};
 
 use crate::Expand;
 use component::{Comp, Component};
@@ -23,7 +23,7 @@ use component::{Comp, Component};
 /// Components of which an expansion tells the truth serve all events of its accesses, and each with
 /// the event's time at zero load as its floor.
 pub fn told_graphs_fit<X: Expand, C: Component>()
-    ensures { (x : _) (comps : List _) (entries : List Entry) → IsTrueOf (X.told x) C.serves C.floor comps → GraphFits C.serves C.floor (all_events (X.pieces x) entries) comps }
+    ensures { (x : _) (comps : List _) (entries : List Entry) → IsTrueOfComponents (X.told x) C.serves C.floor comps → GraphFits C.serves C.floor (all_events (X.pieces x) entries) comps }
 {}
 
 /// What `Plain` tells is true of the components of its machine.
@@ -87,7 +87,7 @@ pub fn events_fire_in_order<C: Component>()
 pub fn rounds_fire_the_first_events<C: Component>()
     ensures { (events : List Event) (comps : List C) (rounds : ℕ) →
         IsNumbered events → GraphFits C.serves C.floor events comps →
-        (after C.stepped events comps rounds).fired ≡ take rounds (weave C.stepped events comps).fired }
+        (after_rounds C.stepped events comps rounds).fired ≡ take rounds (weave C.stepped events comps).fired }
 {}
 
 /// Each event that the weave fires was the least ready one, with those fired that the weave fires before it.
@@ -102,14 +102,14 @@ pub fn the_least_ready_event_fires<C: Component>()
 pub fn each_round_fires_the_next_event<C: Component>()
     ensures { (events : List Event) (comps : List C) (rounds : ℕ) →
         IsNumbered events → GraphFits C.serves C.floor events comps → rounds < length events →
-        (x : Timed) × (c : C) × IsRound C.serves C.stepped events (after C.stepped events comps rounds) (after C.stepped events comps (suc rounds)) x c }
+        (x : Timed) × (c : C) × IsRound C.serves C.stepped events (after_rounds C.stepped events comps rounds) (after_rounds C.stepped events comps (suc rounds)) x c }
 {}
 
 /// Each event that fired did so after its parents, started by the start rule, and took time.
 pub fn events_fire_by_the_rules<C: Component>()
     ensures { (events : List Event) (comps : List C) (rounds : ℕ) →
         IsNumbered events → GraphFits C.serves C.floor events comps →
-        All (FiredByTheRules events (after C.stepped events comps rounds).fired) (after C.stepped events comps rounds).fired }
+        All (FiredByTheRules events (after_rounds C.stepped events comps rounds).fired) (after_rounds C.stepped events comps rounds).fired }
 {}
 
 /// What is known of the events once all fired is what the weave answers.
@@ -123,8 +123,8 @@ pub fn times_so_far_become_the_weaves<C: Component>()
 pub fn components_serve_their_own_events<C: Component>()
     ensures { (events : List Event) (comps : List C) (rounds number : ℕ) →
         IsNumbered events → GraphFits C.serves C.floor events comps →
-        (slice_get (after C.stepped events comps rounds).comps number
-        ≡ option_map (λ c. after_serving C.stepped c (of_component number (after C.stepped events comps rounds).fired)) (slice_get comps number)) }
+        (slice_get (after_rounds C.stepped events comps rounds).comps number
+        ≡ option_map (λ c. after_serving C.stepped c (of_component number (after_rounds C.stepped events comps rounds).fired)) (slice_get comps number)) }
 {}
 
 /// The finish of each event is what its component computed when it served the event, after the events
@@ -139,7 +139,7 @@ pub fn finishes_are_served_in_turn<C: Component>()
 pub fn graphs_keep_fitting<C: Component>()
     ensures { (events : List Event) (comps : List C) (rounds : ℕ) →
         IsNumbered events → GraphFits C.serves C.floor events comps →
-        GraphFits C.serves C.floor events (after C.stepped events comps rounds).comps }
+        GraphFits C.serves C.floor events (after_rounds C.stepped events comps rounds).comps }
 {}
 
 /// The one-list weave solves the timing rules, and nothing else does: the rules, which say nothing of
@@ -171,7 +171,7 @@ pub fn events_take_their_time<C: Component>()
 pub fn starts_so_far_stay_small<C: Component>()
     ensures { (events : List Event) (comps : List C) (rounds : ℕ) →
         IsNumbered events → GraphFits C.serves C.floor events comps → AreSmallSteps C.stepped C.greatest events comps →
-        All (λ e. start_of (finish_in (after C.stepped events comps rounds).fired) e ≤ 2 ^ 62) events }
+        All (λ e. start_of (finish_in (after_rounds C.stepped events comps rounds).fired) e ≤ 2 ^ 62) events }
 {}
 
 /// The components of a machine stay its components in a weave.

@@ -9,7 +9,7 @@ use Rattle.byteorder.specs.Endian.{little_bytes, little_number}
 use Rattle.byteorder.specs.Numbers.{length-bytes_low_first, little_from-bytes}
 use Rattle.flat_memory.specs.declared.reservation.Reservation.{Reservation}
 use Rattle.flat_memory.specs.FlatMemory.{after_write, is_reserved, is_reservation, number_in, unless_written, with_number, written}
-use Rattle.flat_memory.specs.Laws.{OtherBytesStay, PairStores, StoreBetweenEndsPair, StoredIsLoaded}
+use Rattle.flat_memory.specs.Laws.{ConditionalFailsAfterOthersStore, ConditionalStoresAfterReserved, LoadGivesWhatWasStored, StoreLeavesOtherBytes}
 use Rattle.flat_memory.proofs.AfterWrite.{after_write-at}
 
 -- the bytes of a number behind those of a list
@@ -23,7 +23,7 @@ number_in-with_number bytes place width value h =
     ap (little_number width) behind ∙ little_from-bytes width 0 value (drop (place + width) bytes)
     ∙ ap (λ (n : ℕ). n % 256 ^ width) (div-one value)
 
-pub stored_is_loaded : StoredIsLoaded
+pub stored_is_loaded : LoadGivesWhatWasStored
 unfolding written
 stored_is_loaded memory core other addr width value there =
     number_in-with_number memory.bytes (addr - memory.base) width value (omega (arith, there.begins, there.ends))
@@ -43,7 +43,7 @@ with_number-at bytes place width value i h (inr behind) =
     ∙ get_or-drop (place + width) bytes (i - length (take place bytes) - length (little_bytes width value)) 0
     ∙ ap (λ (n : ℕ). get_or bytes n 0) (omega (arith, front, number, behind))
 
-pub other_bytes_stay : OtherBytesStay
+pub other_bytes_stay : StoreLeavesOtherBytes
 unfolding written
 other_bytes_stay memory core addr width value i there outside =
     with_number-at memory.bytes (addr - memory.base) width value i (omega (arith, there.begins, there.ends)) outside
@@ -52,7 +52,7 @@ other_bytes_stay memory core addr width value i there outside =
 reserved_is : (addr width : ℕ) → is_reservation (Some (record { addr = addr; width = width })) addr width ≡ true
 reserved_is addr width = rw (eq-eqb addr addr refl, eq-eqb width width refl) refl
 
-pub pair_stores : PairStores
+pub pair_stores : ConditionalStoresAfterReserved
 unfolding is_reserved
 pair_stores memory core addr width value paired there =
     let reservation : Option Reservation = Some (record { addr = addr; width = width }) in
@@ -70,7 +70,7 @@ ended core other addr width place others line =
       | inr (is, differs) ↦ rw (is, eq-eqb (addr / 64) (place / 64) (sym line)) refl
     ]
 
-pub store_between_ends_pair : StoreBetweenEndsPair
+pub store_between_ends_pair : ConditionalFailsAfterOthersStore
 unfolding is_reserved written
 store_between_ends_pair memory core other addr width value place size number paired there others line =
     let reservation : Option Reservation = Some (record { addr = addr; width = width }) in

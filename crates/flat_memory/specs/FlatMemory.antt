@@ -64,20 +64,20 @@ reserving memory core reservation = record memory { reservations = slice_set mem
 
 -- What an access of a core is answered: a load, a load-reserved and an atomic operation the number, a store 0, and a
 -- store-conditional 0 where the core has reserved the bytes and else 1.
-abbrev pub reply_of : MemoryState → (core : ℕ) → Request → ℕ
-reply_of memory core (Load addr width) = memory_number memory addr width
-reply_of memory core (Store addr width value) = 0
-reply_of memory core (Lr addr width) = memory_number memory addr width
-reply_of memory core (Sc addr width value paired) = if is_reserved memory core addr width then 0 else 1
-reply_of memory core (Amo op addr width value) = memory_number memory addr width
+abbrev pub memory_reply : MemoryState → (core : ℕ) → Request → ℕ
+memory_reply memory core (Load addr width) = memory_number memory addr width
+memory_reply memory core (Store addr width value) = 0
+memory_reply memory core (Lr addr width) = memory_number memory addr width
+memory_reply memory core (Sc addr width value paired) = if is_reserved memory core addr width then 0 else 1
+memory_reply memory core (Amo op addr width value) = memory_number memory addr width
 
 -- The memory after an access. A store-conditional stores only where the core has reserved the bytes, and ends what it has
 -- reserved in any case.
-abbrev pub after : MemoryState → (core : ℕ) → Request → MemoryState
-after memory core (Load addr width) = memory
-after memory core (Store addr width value) = written memory core addr width value
-after memory core (Lr addr width) = reserving memory core (Some (record { addr = addr; width = width }))
-after memory core (Sc addr width value paired) =
+abbrev pub memory_after : MemoryState → (core : ℕ) → Request → MemoryState
+memory_after memory core (Load addr width) = memory
+memory_after memory core (Store addr width value) = written memory core addr width value
+memory_after memory core (Lr addr width) = reserving memory core (Some (record { addr = addr; width = width }))
+memory_after memory core (Sc addr width value paired) =
     if is_reserved memory core addr width then reserving (written memory core addr width value) core None else reserving memory core None
-after memory core (Amo op addr width value) =
+memory_after memory core (Amo op addr width value) =
     written memory core addr width (new_number op width (memory_number memory addr width) value)

@@ -4,7 +4,7 @@ use Rattle.zs_num.specs.Request.{addr_of}
 use Rattle.zs_num.specs.declared.request.Request.{Request}
 use Rattle.zs_num.specs.declared.request.Request.TheVariants.{Load, Store, Lr, Sc, Amo}
 use Rattle.flat_memory.specs.declared.reservation.Reservation.{Reservation}
-use Rattle.flat_memory.specs.FlatMemory.{MemoryState, after, is_reserved, reply_of, unless_written}
+use Rattle.flat_memory.specs.FlatMemory.{MemoryState, is_reserved, memory_after, memory_reply, unless_written}
 
 -- so many bytes from an address on are in memory
 pub record IsThere (memory : MemoryState) (addr width : ℕ) : Type 0 where
@@ -12,26 +12,26 @@ pub record IsThere (memory : MemoryState) (addr width : ℕ) : Type 0 where
   pub ends : addr + width ≤ memory.base + length memory.bytes
 
 -- a load of what a store stored gives the low bytes of the number
-abbrev pub StoredIsLoaded : Type 0
-StoredIsLoaded = (memory : MemoryState) (core other addr width value : ℕ) → IsThere memory addr width
-    → reply_of (after memory core (Store addr width value)) other (Load addr width) ≡ value % 256 ^ width
+abbrev pub LoadGivesWhatWasStored : Type 0
+LoadGivesWhatWasStored = (memory : MemoryState) (core other addr width value : ℕ) → IsThere memory addr width
+    → memory_reply (memory_after memory core (Store addr width value)) other (Load addr width) ≡ value % 256 ^ width
 
 -- no other byte changes
-abbrev pub OtherBytesStay : Type 0
-OtherBytesStay = (memory : MemoryState) (core addr width value i : ℕ) → IsThere memory addr width
+abbrev pub StoreLeavesOtherBytes : Type 0
+StoreLeavesOtherBytes = (memory : MemoryState) (core addr width value i : ℕ) → IsThere memory addr width
     → (i < addr - memory.base) ⊎ (addr - memory.base + width ≤ i)
-    → slice_index (after memory core (Store addr width value)).bytes i ≡ slice_index memory.bytes i
+    → slice_index (memory_after memory core (Store addr width value)).bytes i ≡ slice_index memory.bytes i
 
 -- a store-conditional after a load-reserved of the same bytes, with nothing between, stores
-abbrev pub PairStores : Type 0
-PairStores = (memory : MemoryState) (core addr width value : ℕ) (paired : _) → core < length memory.reservations
-    → reply_of (after memory core (Lr addr width)) core (Sc addr width value paired) ≡ 0
+abbrev pub ConditionalStoresAfterReserved : Type 0
+ConditionalStoresAfterReserved = (memory : MemoryState) (core addr width value : ℕ) (paired : _) → core < length memory.reservations
+    → memory_reply (memory_after memory core (Lr addr width)) core (Sc addr width value paired) ≡ 0
 
 -- and not where another core stored to the line between
-abbrev pub StoreBetweenEndsPair : Type 0
-StoreBetweenEndsPair = (memory : MemoryState) (core other addr width value place size number : ℕ) (paired : _)
+abbrev pub ConditionalFailsAfterOthersStore : Type 0
+ConditionalFailsAfterOthersStore = (memory : MemoryState) (core other addr width value place size number : ℕ) (paired : _)
     → core < length memory.reservations → other ≢ core → place / 64 ≡ addr / 64
-    → reply_of (after (after memory core (Lr addr width)) other (Store place size number)) core (Sc addr width value paired) ≡ 1
+    → memory_reply (memory_after (memory_after memory core (Lr addr width)) other (Store place size number)) core (Sc addr width value paired) ≡ 1
 
 -- what a core has reserved
 abbrev pub reservation_of : MemoryState → (core : ℕ) → Option Reservation
@@ -48,5 +48,5 @@ does_write memory core (Amo op addr width value) = true
 -- what a core has reserved ends where another core writes to its line, and by nothing else that another core does
 abbrev pub OthersEndByWrites : Type 0
 OthersEndByWrites = (memory : MemoryState) (core other : ℕ) (request : Request) → other ≢ core
-    → reservation_of (after memory other request) core
+    → reservation_of (memory_after memory other request) core
     ≡ (if does_write memory other request then unless_written false (addr_of request) (reservation_of memory core) else reservation_of memory core)

@@ -1,24 +1,24 @@
 //! Laws over the definitions alone, each the contract of a function that does nothing.
-ghost use Rattle.flat_memory.specs.Laws.{OtherBytesStay, OthersEndByWrites, PairStores, StoreBetweenEndsPair, StoredIsLoaded};
+ghost use Rattle.flat_memory.specs.Laws.{ConditionalFailsAfterOthersStore, ConditionalStoresAfterReserved, LoadGivesWhatWasStored, OthersEndByWrites, StoreLeavesOtherBytes};
 
 /// A load of what a store stored gives the number's low bytes.
 pub fn stored_is_loaded()
-    ensures { StoredIsLoaded }
+    ensures { LoadGivesWhatWasStored }
 {}
 
 /// A store changes no other byte.
 pub fn other_bytes_stay()
-    ensures { OtherBytesStay }
+    ensures { StoreLeavesOtherBytes }
 {}
 
 /// A store-conditional right after a load-reserved of the same bytes stores.
 pub fn a_pair_stores()
-    ensures { PairStores }
+    ensures { ConditionalStoresAfterReserved }
 {}
 
 /// A store-conditional does not store where another core stored to the line since the load-reserved.
 pub fn a_store_between_ends_a_pair()
-    ensures { StoreBetweenEndsPair }
+    ensures { ConditionalFailsAfterOthersStore }
 {}
 
 /// What a core has reserved ends where another core writes to its line, and by nothing else that

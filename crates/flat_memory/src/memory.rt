@@ -1,7 +1,7 @@
 // Memory as one list of bytes.
 ghost use Rattle.std.specs.Prelude.{◌≡◌, ◌+◌, ◌-◌, ◌≤◌, ◌<◌, length, slice_index, IfOk, IsTrue};
 ghost use Rattle.zs_num.specs.Request.{IsServable};
-ghost use Rattle.flat_memory.specs.FlatMemory.{after, is_reserved as is_reserved_by, loaded, memory_number, reply_of, written};
+ghost use Rattle.flat_memory.specs.FlatMemory.{is_reserved as is_reserved_by, loaded, memory_after, memory_number, memory_reply, written};
 
 use crate::numbers;
 use crate::reservation::{Reservation, end_others, is_reserved};
@@ -60,8 +60,8 @@ impl FlatMemory {
     pub fn serve(&mut self, core: u16, request: Request) -> u64
         requires core { core < length self.old.reservations }
         requires servable { IsServable self.old.base (length self.old.bytes) request }
-        ensures reply { result ≡ reply_of self.old core request }
-        ensures after { self.new ≡ after self.old core request }
+        ensures reply { result ≡ memory_reply self.old core request }
+        ensures after { self.new ≡ memory_after self.old core request }
         ensures base { self.new.base ≡ self.old.base }
         ensures size { length self.new.bytes ≡ length self.old.bytes }
         ensures cores { length self.new.reservations ≡ length self.old.reservations }
@@ -102,8 +102,8 @@ impl FlatMemory {
         requires few { width ≤ 8 }
         requires begins { self.old.base ≤ addr }
         requires ends { addr + width ≤ self.old.base + length self.old.bytes }
-        ensures reply { (paired : _) → result ≡ reply_of self.old core (Request.Sc addr width value paired) }
-        ensures after { (paired : _) → self.new ≡ after self.old core (Request.Sc addr width value paired) }
+        ensures reply { (paired : _) → result ≡ memory_reply self.old core (Request.Sc addr width value paired) }
+        ensures after { (paired : _) → self.new ≡ memory_after self.old core (Request.Sc addr width value paired) }
         ensures base { self.new.base ≡ self.old.base }
         ensures size { length self.new.bytes ≡ length self.old.bytes }
         ensures cores { length self.new.reservations ≡ length self.old.reservations }

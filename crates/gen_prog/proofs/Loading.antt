@@ -9,11 +9,11 @@ use Rattle.elf_load.specs.declared.header.Header.{Header}
 use Rattle.elf_load.specs.declared.header.ProgramHeader.{ProgramHeader}
 use Rattle.elf_load.specs.Checks.{file_fault, has_table, header_fault, is_dynamic, is_entered, is_executable, is_loaded, is_past_file, is_past_memory, memory_fault, overlap_fault, overlaps, segment_fault}
 use Rattle.elf_load.specs.Header.{header_of, program_header_at, program_headers}
-use Rattle.elf_load.specs.Image.{fault_of, image_in, image_of, image_unless, segment_of, segments_of}
+use Rattle.elf_load.specs.Image.{elf_fault, image_in, image_of, image_unless, segment_of, segments_of}
 use Rattle.elf_load.specs.declared.segment.Segment.{Segment}
 use Rattle.elf_load.specs.MemoryImage.{MemoryImage, do_meet, is_within}
 use Rattle.elf_write.specs.declared.field.Field.{Field}
-use Rattle.elf_write.specs.File.{field, fields_bytes, file_of, header_fields}
+use Rattle.elf_write.specs.File.{executable_of, field, fields_bytes, header_fields}
 use Rattle.gen_prog.specs.Assembly.{assembled}
 use Rattle.gen_prog.specs.Generated.{data_of, generated_image, instructions, loaded_in}
 use Rattle.gen_prog.proofs.Image.{apart, past, within}
@@ -46,8 +46,8 @@ data_header base = record { type_ = 1; flags = 6; offset = 288; vaddr = base + 4
 contents : (n : ℕ) → List ℕ
 contents n = assembled (instructions n) ++ (data_of n ++ [])
 
-file_is : (n base : ℕ) → file_of (generated_image n base) ≡ headed base (contents n)
-unfolding file_of generated_image headed code_fields data_fields contents
+file_is : (n base : ℕ) → executable_of (generated_image n base) ≡ headed base (contents n)
+unfolding executable_of generated_image headed code_fields data_fields contents
 file_is n base = refl
 
 header_is : (base : ℕ) (rest : List ℕ) → base < 2 ^ 64 → header_of (headed base rest) ≡ header base
@@ -130,7 +130,7 @@ length-file n base = refl
 answered : (file : List ℕ) (base size : ℕ) (h : Header) (ps : List ProgramHeader) (fault : Option BadElf) → 64 ≤ length file → h ≡ header_of file
     → None ≡ header_fault h (length file) → ps ≡ program_headers file h → fault ≡ segment_fault ps h.entry (length file) base size
     → image_of file base size ≡ image_unless fault (image_in file h ps base size)
-unfolding image_of fault_of
+unfolding image_of elf_fault
 answered file base size h ps fault long read passed listed checked = rw (le-leb 64 (length file) long, ← read, ← passed, ← listed, ← checked) refl
 
 image_is : (n base size : ℕ) → image_in (headed base (contents n)) (header base) (table base) base size ≡ record (generated_image n base) { size = size }
@@ -139,7 +139,7 @@ image_is n base size = ap (λ (s : List Segment). let image : MemoryImage = reco
 
 -- the memory decides
 by_memory : (n base size : ℕ) (fault : Option BadElf) → base % 4096 ≡ 0 → base ≤ 2 ^ 40 → memory_fault (table base) base size ≡ fault
-    → image_of (file_of (generated_image n base)) base size ≡ image_unless fault (record (generated_image n base) { size = size })
+    → image_of (executable_of (generated_image n base)) base size ≡ image_unless fault (record (generated_image n base) { size = size })
 unfolding header
 by_memory n base size fault page low memory =
     let file = headed base (contents n) in
@@ -152,7 +152,7 @@ by_memory n base size fault page low memory =
     ∙ answered file base size (header base) (table base) fault (omega (arith, long)) read passed listed checked
     ∙ ap (image_unless fault) (image_is n base size)
 
-pub programs_load : (n base size : ℕ) → base % 4096 ≡ 0 → base ≤ 2 ^ 40 → image_of (file_of (generated_image n base)) base size ≡ loaded_in n base size
+pub programs_load : (n base size : ℕ) → base % 4096 ≡ 0 → base ≤ 2 ^ 40 → image_of (executable_of (generated_image n base)) base size ≡ loaded_in n base size
 unfolding loaded_in
 programs_load n base size page low = elim (order size 112) [
   | inl few ↦ rw (lt-ltb size 112 few) (by_memory n base size _ page low (code_is_past base size few))

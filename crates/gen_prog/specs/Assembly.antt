@@ -38,14 +38,14 @@ abbrev pub system : Name → Inst
 system name = record { name = name; rd = 0; rs1 = 0; rs2 = 0; imm = pos 0 }
 
 -- the word of an instruction: the bits that its row of the instruction table states, its registers and its immediate
-unfoldable pub word_of : Inst → ℕ
-word_of i = value_of i.name + registers_of i + immediate_of (format_of i.name) i.imm
+unfoldable pub encoded : Inst → ℕ
+encoded i = value_of i.name + registers_of i + immediate_of (format_of i.name) i.imm
 
 -- the words of instructions as bytes, little-endian
 abbrev pub assembled : List Inst → List ℕ
-assembled instructions = flat_map (λ i. little_bytes 4 (word_of i)) instructions
+assembled instructions = flat_map (λ i. little_bytes 4 (encoded i)) instructions
 
 -- the word of an instruction is one, and decodes to it
 pub record IsEncodable (i : Inst) : Type 0 where
-  pub small : word_of i < 2 ^ 32
-  pub decodes : decoded (word_of i) ≡ Some i
+  pub small : encoded i < 2 ^ 32
+  pub decodes : decoded (encoded i) ≡ Some i

@@ -1,8 +1,8 @@
 // The executable of the program of a number.
 ghost use Rattle.std.specs.Prelude.{◌≡◌, ◌≤◌, ℕ, ◌+◌, ◌%◌, ◌^◌, ◌++◌, All, IfOk, OnOk};
 ghost use Rattle.elf_load.specs.Image.{image_of};
-ghost use Rattle.elf_write.specs.File.{file_of};
-ghost use Rattle.gen_prog.specs.Assembly.{assembled, word_of, IsEncodable};
+ghost use Rattle.elf_write.specs.File.{executable_of};
+ghost use Rattle.gen_prog.specs.Assembly.{assembled, encoded, IsEncodable};
 ghost use Rattle.gen_prog.specs.Generated.{data_of, generated_image, instructions, loaded_in};
 
 use crate::laws;
@@ -27,7 +27,7 @@ const DATA_SIZE: u64 = 2112;
 pub fn generate(alloc: Global, n: u64, base: u64) -> Result<Bytes, NoMemory>
     requires page { base % 4096 ≡ 0 }
     requires low { base ≤ 2 ^ 40 }
-    ensures file { IfOk result (λ bytes. bytes ≡ file_of (generated_image n base)) }
+    ensures file { IfOk result (λ bytes. bytes ≡ executable_of (generated_image n base)) }
     ensures load { IfOk result (λ bytes. (size : ℕ)
         → image_of bytes base size ≡ loaded_in n base size) }
 {
@@ -81,7 +81,7 @@ fn assemble(bytes: &mut Vec<u8>, instructions: &[Inst]) -> Result<(), NoMemory>
 // The word of an instruction.
 fn word(instruction: Inst) -> u32
     requires { IsEncodable instruction }
-    ensures { result ≡ word_of instruction }
+    ensures { result ≡ encoded instruction }
 {
     rv_decode::laws::ranges();
     encode(instruction)

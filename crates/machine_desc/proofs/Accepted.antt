@@ -9,7 +9,7 @@ use Rattle.toml.specs.Data.{Members}
 use Rattle.machine_desc.specs.Keys.{KeyPath, Check, Ratio, range_check, pages_check, array_check, top, at, top_checks, memory_checks, l1_checks, l2_checks, controller_checks, domain_checks, version_1_checks, version_1_ratios}
 use Rattle.machine_desc.specs.Text.{natural, integer_at, version_of, integers_at}
 use Rattle.machine_desc.specs.Machine.{IsBetween, IsMemory, IsL1, IsL2, IsControllers, IsDomains, IsMachine}
-use Rattle.machine_desc.specs.Description.{checks_of, ratios_of, is_named, checks_fault, ratios_fault, written_domains, domain_fault, names_fault, fault_of, memory_of, l1_of, l2_of, controllers_of, domains_of, numbers_of}
+use Rattle.machine_desc.specs.Description.{checks_of, ratios_of, is_named, checks_fault, ratios_fault, written_domains, domain_fault, names_fault, document_fault, memory_of, l1_of, l2_of, controllers_of, domains_of, numbers_of}
 use Rattle.machine_desc.proofs.Valid.{IsWithin, checks_none-append, check_none, integer_holds, share_holds, array_holds, ratio_none, ratio_holds, domains_hold, first_none, second_none, map_none}
 
 -- the check and the ratio of this key
@@ -165,8 +165,8 @@ domains_all document p below =
     }
 
 -- the machine of a document in which no check fails
-pub accepted : (document : Members) → fault_of document ≡ None → IsMachine (numbers_of document)
-unfolding top_checks fault_of numbers_of l2_of controllers_of
+pub accepted : (document : Members) → document_fault document ≡ None → IsMachine (numbers_of document)
+unfolding top_checks document_fault numbers_of l2_of controllers_of
 accepted document none =
     let known = first_none (checks_fault document (checks_of document)) _ none in
     let rest = second_none (checks_fault document (checks_of document)) _ none in

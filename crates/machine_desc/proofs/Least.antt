@@ -13,7 +13,7 @@ use Rattle.toml.specs.View.{members_view}
 use Rattle.toml.proofs.Views.{Entry}
 use Rattle.machine_desc.specs.Keys.{Check, at}
 use Rattle.machine_desc.specs.Text.{full_name}
-use Rattle.machine_desc.specs.Description.{is_known, unknown_names, lesser, least, members_fault, unless}
+use Rattle.machine_desc.specs.Description.{is_known, unknown_names, lesser, least_name, members_fault, unless}
 use Rattle.machine_desc.specs.declared.errors.BadMachine.{BadMachine}
 use Rattle.machine_desc.specs.declared.errors.BadMachine.TheVariants.{Unknown}
 
@@ -33,7 +33,7 @@ below_lesser name n (Some m) here more =
     elim (cases_Bool (is_lt (slice_cmp nat_cmp m n))) [ inl less ↦ rw less more | inr other ↦ rw other here ]
 
 below_least : (checks : List Check) (table name : List ℕ) (es : List Entry) → AllByRecursion (λ y. slice_cmp nat_cmp name (string_bytes y) ≡ Less) (keys_of es)
-    → IsBelow name (least (unknown_names checks table (members_view es)))
+    → IsBelow name (least_name (unknown_names checks table (members_view es)))
 below_least checks table name [] h = tt
 below_least checks table name (e ∷ es) h =
     elim (cases_Bool (is_known checks table (string_bytes e.0))) [

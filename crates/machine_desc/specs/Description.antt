@@ -90,13 +90,13 @@ abbrev pub lesser : List ℕ → List ℕ → List ℕ
 lesser m n = if is_lt (slice_cmp nat_cmp n m) then n else m
 
 -- the least of some names
-abbrev pub least : List (List ℕ) → Option (List ℕ)
-least [] = None
-least (n ∷ ns) = Some (option_map_or (lesser n) (least ns) n)
+abbrev pub least_name : List (List ℕ) → Option (List ℕ)
+least_name [] = None
+least_name (n ∷ ns) = Some (option_map_or (lesser n) (least_name ns) n)
 
 -- the least unknown name of a table
 abbrev pub members_fault : List Check → List ℕ → Members → Option BadMachine
-members_fault checks table ms = option_map (λ name. Unknown (full_name (at table name))) (least (unknown_names checks table ms))
+members_fault checks table ms = option_map (λ name. Unknown (full_name (at table name))) (least_name (unknown_names checks table ms))
 
 unfoldable pub table_fault : Members → List Check → List ℕ → Option BadMachine
 table_fault document checks table = option_map_or (members_fault checks table) (table_at document table) None
@@ -143,8 +143,8 @@ domain_fault document =
     option_map Domain (position (λ z. not (is_below count z)) (written_domains document))
 
 -- what the first check finds that finds something
-unfoldable pub fault_of : Members → Option BadMachine
-fault_of document =
+unfoldable pub document_fault : Members → Option BadMachine
+document_fault document =
     let checks = checks_of document in
     option_or (checks_fault document checks)
     (option_or (names_fault document checks) (option_or (ratios_fault document (ratios_of document)) (domain_fault document)))
@@ -205,7 +205,7 @@ numbers_of document = record {
 
 -- the machine of a document, or the first check that fails
 unfoldable pub machine_of_document : Members → Result Machine BadMachine
-machine_of_document document = option_map_or Err (fault_of document) (Ok (numbers_of document))
+machine_of_document document = option_map_or Err (document_fault document) (Ok (numbers_of document))
 
 -- the machine of a text, or the first check that fails
 unfoldable pub machine_of : List ℕ → Result Machine BadMachine

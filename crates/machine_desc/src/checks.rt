@@ -4,7 +4,7 @@ ghost use Rattle.toml.specs.Data.{as_table};
 ghost use Rattle.toml.specs.View.{view, table_view};
 ghost use Rattle.machine_desc.specs.Description.{is_in_range, is_share_of, unless, integer_fault, array_fault, value_fault, refusal_of, check_fault, checks_fault};
 ghost use Rattle.machine_desc.specs.Answers.{Answers, passed_unless};
-ghost use Rattle.machine_desc.specs.Rows.{key_of, range_of, rule_of, check_of};
+ghost use Rattle.machine_desc.specs.Rows.{key_path_of, range_of, rule_of, check_of};
 ghost use Rattle.machine_desc.specs.Text.{integer_at};
 
 use crate::document::{array_integers, integer_at, natural, value_at};
@@ -56,7 +56,7 @@ fn check_key(alloc: Global, document: &Table, check: &Check) -> Result<(), Machi
 
 /// The refusal of a key's value.
 fn refusal(alloc: Global, key: &KeyPath, fault: Fault) -> Result<BadMachine, AllocError>
-    ensures { IfOk result (λ bad. bad ≡ refusal_of (key_of key.now) fault) }
+    ensures { IfOk result (λ bad. bad ≡ refusal_of (key_path_of key.now) fault) }
 {
     let key = full_name(alloc, key.table, key.name)?;
     Ok(match fault {

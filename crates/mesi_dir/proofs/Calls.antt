@@ -6,7 +6,7 @@ use Rattle.std.specs.Set.{is_member}
 use Rattle.std.proofs.lemmas.Bool.{eqb-true, eq-eqb, ne_eqb, cases_eq, cases_Bool, and_parts, or_cases, not-true}
 use Rattle.mesi_dir.specs.declared.row.Row.{Row}
 use Rattle.mesi_dir.specs.CoreSets.{has_core, cores_in, HasNone}
-use Rattle.mesi_dir.specs.LineMap.{Sharing, LineMap, nobody, is_among, sharing_of, is_sharer, owner_of, owner_without, HasOther, HasRoom, IsSharing, IsLineMap, KeepsOthers}
+use Rattle.mesi_dir.specs.LineMap.{Sharing, LineMap, nobody, is_among, sharing_of, is_sharer, owner_of, owner_without, HasOther, HasRoomForLine, IsSharing, IsLineMap, KeepsOthers}
 use Rattle.mesi_dir.proofs.CoreSets.{is_member-cores_in, some_core, cores_in-none, zeros_have_none}
 
 abbrev pub sharing_by : (words : List ℕ) → Option ℕ → Sharing

@@ -4,7 +4,7 @@ use Rattle.std.specs.List.{IsDistinct}
 use Rattle.std.specs.Map.{keys_of, lookup}
 use Rattle.std.specs.Prelude.{nat_eq, unwrap_or, IsSome, IsTrue, ◌⊎◌}
 use Rattle.std.proofs.lemmas.Bool.{eqb-true, eq-eqb, ne_eqb, cases_eq}
-use Rattle.mesi_dir.specs.LineMap.{Sharing, LineMap, nobody, is_among, sharing_of, is_sharer, owner_of, HasRoom, IsSharing, IsLineMap, KeepsOthers}
+use Rattle.mesi_dir.specs.LineMap.{Sharing, LineMap, nobody, is_among, sharing_of, is_sharer, owner_of, HasRoomForLine, IsSharing, IsLineMap, KeepsOthers}
 
 -- a line has this sharing now, where there is one, and each other line the one that it had
 pub record IsUpdated (old new : LineMap) (line : ℕ) (w : Option Sharing) : Type 0 where

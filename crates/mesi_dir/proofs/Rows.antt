@@ -15,8 +15,8 @@ use Rattle.std.proofs.lemmas.Map.Made.{keys_of-zip}
 use Rattle.std.proofs.lemmas.Slice.Zip.{length-zip}
 use Rattle.mesi_dir.specs.declared.row.Row.{Row}
 use Rattle.mesi_dir.specs.CoreSets.{has_core, cores_in, HasNone}
-use Rattle.mesi_dir.specs.LineMap.{Sharing, LineMap, nobody, is_among, sharing_of, is_sharer, owner_of, HasRoom, IsSharing, IsLineMap, KeepsOthers}
-use Rattle.mesi_dir.specs.Rows.{sharing_in, rows_view, AreRows}
+use Rattle.mesi_dir.specs.LineMap.{Sharing, LineMap, nobody, is_among, sharing_of, is_sharer, owner_of, HasRoomForLine, IsSharing, IsLineMap, KeepsOthers}
+use Rattle.mesi_dir.specs.Rows.{sharing_in, directory_view, AreDirectoryRows}
 use Rattle.mesi_dir.proofs.CoreSets.{is_member-cores_in, cores_in-none, some_core}
 use Rattle.mesi_dir.proofs.Maps.{IsUpdated, updated_here, updated_keeps, updated_map}
 use Rattle.mesi_dir.proofs.Places.{first-position, lookup_at, remove_at, set_at, absent, zip-push, distinct-remove, map-remove}
@@ -51,7 +51,7 @@ same_key : (line x y : ℕ) → nat_eq line x ≡ true → nat_eq line y ≡ nat
 same_key line x y h = rw (eqb-true line x h) refl
 
 -- ---- the rows of a directory
-module _ {room cores : ℕ} {tags : List ℕ} {rows : List Row} {tag_room row_room : ℕ} (r : AreRows room cores tags rows tag_room row_room) (line : ℕ) where
+module _ {room cores : ℕ} {tags : List ℕ} {rows : List Row} {tag_room row_room : ℕ} (r : AreDirectoryRows room cores tags rows tag_room row_room) (line : ℕ) where
   paired : length (map sharing_in rows) ≡ length tags
   paired = length-map rows sharing_in ∙ r.together
 
@@ -64,7 +64,7 @@ module _ {room cores : ℕ} {tags : List ℕ} {rows : List Row} {tag_room row_ro
   lines : length (zip tags (map sharing_in rows)) ≡ length tags
   lines = omega (arith, length-zip tags (map sharing_in rows), paired)
 
-  pub row_none : position (nat_eq line) tags ≡ None → sharing_of (rows_view room cores tags rows) line ≡ nobody
+  pub row_none : position (nat_eq line) tags ≡ None → sharing_of (directory_view room cores tags rows) line ≡ nobody
   row_none h = rw ((absent (nat_eq line) tags (map sharing_in rows) h).0) refl
 
   module _ {i : ℕ} (h : position (nat_eq line) tags ≡ Some i) where
@@ -79,10 +79,10 @@ module _ {room cores : ℕ} {tags : List ℕ} {rows : List Row} {tag_room row_ro
         lookup_at (nat_eq line) tags (map sharing_in rows) i nobody paired (first-position (nat_eq line) tags i h)
         ∙ ap (λ (s : Sharing). Some s) (one ∙ sym other)
 
-    pub row_some : (row : Row) → row ≡ get_or rows i row → sharing_in row ≡ sharing_of (rows_view room cores tags rows) line
+    pub row_some : (row : Row) → row ≡ get_or rows i row → sharing_in row ≡ sharing_of (directory_view room cores tags rows) line
     row_some row at = rw (looked row at) refl
 
-    pub row_removed : IsUpdated (rows_view room cores tags rows) (rows_view room cores (remove tags i) (remove rows i)) line None
+    pub row_removed : IsUpdated (directory_view room cores tags rows) (directory_view room cores (remove tags i) (remove rows i)) line None
     row_removed = record {
       looks = λ q. rw (map-remove sharing_in rows i, remove_at (nat_eq line) tags (map sharing_in rows) i paired (first-position (nat_eq line) tags i h))
           (lookup-remove_entry nat_eq_equiv (nat_eq line) (same_key line) q (zip tags (map sharing_in rows)) r.is_map.distinct);
@@ -90,7 +90,7 @@ module _ {room cores : ℕ} {tags : List ℕ} {rows : List Row} {tag_room row_ro
       cores = refl;
     }
 
-    pub rows_removed : (s t : ℕ) → tag_room ≤ s → row_room ≤ t → AreRows room cores (remove tags i) (remove rows i) s t
+    pub rows_removed : (s t : ℕ) → tag_room ≤ s → row_room ≤ t → AreDirectoryRows room cores (remove tags i) (remove rows i) s t
     rows_removed s t p q =
         let l : length (remove tags i) + 1 ≡ length tags = length-remove tags i is_place in
         let m : length (remove rows i) + 1 ≡ length rows = length-remove rows i (omega (arith, r.together, is_place)) in
@@ -107,7 +107,7 @@ module _ {room cores : ℕ} {tags : List ℕ} {rows : List Row} {tag_room row_ro
         }
 
     module _ (row : Row) where
-      pub row_replaced : IsUpdated (rows_view room cores tags rows) (rows_view room cores tags (set rows i row)) line (Some (sharing_in row))
+      pub row_replaced : IsUpdated (directory_view room cores tags rows) (directory_view room cores tags (set rows i row)) line (Some (sharing_in row))
       row_replaced = record {
         looks = λ q. rw (map-set sharing_in rows i row, set_at (nat_eq line) tags (map sharing_in rows) i (sharing_in row) paired (first-position (nat_eq line) tags i h))
             (lookup-set_value nat_eq_equiv (nat_eq line) (same_key line) q (sharing_in row) (zip tags (map sharing_in rows))
@@ -116,7 +116,7 @@ module _ {room cores : ℕ} {tags : List ℕ} {rows : List Row} {tag_room row_ro
         cores = refl;
       }
 
-      pub rows_replaced : (s t : ℕ) → tag_room ≤ s → row_room ≤ t → IsSharing cores (sharing_in row) → (core : ℕ) × IsTrue (is_among (sharing_in row) core) → AreRows room cores tags (set rows i row) s t
+      pub rows_replaced : (s t : ℕ) → tag_room ≤ s → row_room ≤ t → IsSharing cores (sharing_in row) → (core : ℕ) × IsTrue (is_among (sharing_in row) core) → AreDirectoryRows room cores tags (set rows i row) s t
       rows_replaced s t p q sharing shared =
           let m : length (set rows i row) ≡ length rows = length-set rows i row in
           let k : length (map sharing_in (set rows i row)) ≡ length tags = omega (arith, length-map (set rows i row) sharing_in, r.together) in
@@ -137,7 +137,7 @@ module _ {room cores : ℕ} {tags : List ℕ} {rows : List Row} {tag_room row_ro
         let e : map sharing_in (rows ++ row ∷ []) ≡ map sharing_in rows ++ sharing_in row ∷ [] = map-append sharing_in rows (row ∷ []) in
         rw (e, zip-push tags (map sharing_in rows) line (sharing_in row) paired) (sym (insert_end (zip tags (map sharing_in rows)) (line, sharing_in row)))
 
-    pub row_added : IsUpdated (rows_view room cores tags rows) (rows_view room cores (tags ++ line ∷ []) (rows ++ row ∷ [])) line (Some (sharing_in row))
+    pub row_added : IsUpdated (directory_view room cores tags rows) (directory_view room cores (tags ++ line ∷ []) (rows ++ row ∷ [])) line (Some (sharing_in row))
     row_added = record {
       looks = λ q. rw added
           (lookup-insert nat_eq_equiv line (sharing_in row) q (zip tags (map sharing_in rows)) (length (zip tags (map sharing_in rows)))
@@ -147,14 +147,14 @@ module _ {room cores : ℕ} {tags : List ℕ} {rows : List Row} {tag_room row_ro
     }
 
     -- a line that no core has comes into a directory with room
-    pub is_below_room : HasRoom (rows_view room cores tags rows) line → length tags < room
+    pub is_below_room : HasRoomForLine (directory_view room cores tags rows) line → length tags < room
     is_below_room (inl has) =
-        let none : is_sharer (rows_view room cores tags rows) line has.0 ≡ false = rw (row_none h) refl in
-        let some : is_sharer (rows_view room cores tags rows) line has.0 ≡ true = has.1 in
+        let none : is_sharer (directory_view room cores tags rows) line has.0 ≡ false = rw (row_none h) refl in
+        let some : is_sharer (directory_view room cores tags rows) line has.0 ≡ true = has.1 in
         absurd cc
     is_below_room (inr l) = omega (arith, lines)
 
-    pub rows_added : (s t : ℕ) → tag_room ≤ s → row_room ≤ t → HasRoom (rows_view room cores tags rows) line → IsSharing cores (sharing_in row) → (core : ℕ) × IsTrue (is_among (sharing_in row) core) → AreRows room cores (tags ++ line ∷ []) (rows ++ row ∷ []) s t
+    pub rows_added : (s t : ℕ) → tag_room ≤ s → row_room ≤ t → HasRoomForLine (directory_view room cores tags rows) line → IsSharing cores (sharing_in row) → (core : ℕ) × IsTrue (is_among (sharing_in row) core) → AreDirectoryRows room cores (tags ++ line ∷ []) (rows ++ row ∷ []) s t
     rows_added s t p q has sharing shared =
         let l : length (tags ++ line ∷ []) ≡ length tags + 1 = length-append tags (line ∷ []) in
         let m : length (rows ++ row ∷ []) ≡ length rows + 1 = length-append rows (row ∷ []) in
@@ -170,7 +170,7 @@ module _ {room cores : ℕ} {tags : List ℕ} {rows : List Row} {tag_room row_ro
           row_rooms = omega (arith, r.row_rooms);
         }
 
-pub rows_empty : (room cores s t : ℕ) → cores ≤ 256 → room ≤ s → room ≤ t → AreRows room cores [] [] s t
+pub rows_empty : (room cores s t : ℕ) → cores ≤ 256 → room ≤ s → room ≤ t → AreDirectoryRows room cores [] [] s t
 unfolding IsDistinct
 rows_empty room cores s t c p q = record {
   is_map = record {

@@ -42,8 +42,8 @@ abbrev pub HasOther : LineMap → (line core : ℕ) → Type 0
 HasOther map line core = (other : ℕ) × (other ≢ core) × IsTrue (is_sharer map line other)
 
 -- a core has the line already, or there is room for a line more
-abbrev pub HasRoom : LineMap → (line : ℕ) → Type 0
-HasRoom map line = ((core : ℕ) × IsTrue (is_sharer map line core)) ⊎ (length map.lines < map.room)
+abbrev pub HasRoomForLine : LineMap → (line : ℕ) → Type 0
+HasRoomForLine map line = ((core : ℕ) × IsTrue (is_sharer map line core)) ⊎ (length map.lines < map.room)
 
 -- cores that may have a line together: one that may write it has it alone
 pub record IsSharing (cores : ℕ) (sharing : Sharing) : Type 0 where

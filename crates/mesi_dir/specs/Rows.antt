@@ -10,11 +10,11 @@ abbrev pub sharing_in : Row → Sharing
 sharing_in row = record { sharers = cores_in row.sharers.words; owner = row.owner }
 
 -- the map that tags and rows stand for
-abbrev pub rows_view : (room cores : ℕ) (tags : List ℕ) (rows : List Row) → LineMap
-rows_view room cores tags rows = record { room = room; cores = cores; lines = zip tags (map sharing_in rows) }
+abbrev pub directory_view : (room cores : ℕ) (tags : List ℕ) (rows : List Row) → LineMap
+directory_view room cores tags rows = record { room = room; cores = cores; lines = zip tags (map sharing_in rows) }
 
-pub record AreRows (room cores : ℕ) (tags : List ℕ) (rows : List Row) (tag_room row_room : ℕ) : Type 0 where
-  pub is_map : IsLineMap (rows_view room cores tags rows)
+pub record AreDirectoryRows (room cores : ℕ) (tags : List ℕ) (rows : List Row) (tag_room row_room : ℕ) : Type 0 where
+  pub is_map : IsLineMap (directory_view room cores tags rows)
   pub together : length rows ≡ length tags
   pub tag_rooms : room ≤ tag_room
   pub row_rooms : room ≤ row_room

@@ -1,7 +1,7 @@
 // A directory: its tags in one list, and beside each the row of its line.
 ghost use Rattle.std.specs.Prelude.{◌≡◌, ◌≢◌, ℕ, ◌<◌, ◌≤◌, ◌↔◌, ◌&&◌, ◌||◌, not, false, true, if◌then◌else◌, [], length, nat_eq, IsTrue, IfOk, IfSome, IfNone, Some, None};
 ghost use Rattle.std.specs.List.{position};
-ghost use Rattle.mesi_dir.specs.LineMap.{nobody, sharing_of, is_among, is_sharer, owner_of, owner_without, HasOther, HasRoom, IsSharing, IsLineMap, KeepsOthers};
+ghost use Rattle.mesi_dir.specs.LineMap.{nobody, sharing_of, is_among, is_sharer, owner_of, owner_without, HasOther, HasRoomForLine, IsSharing, IsLineMap, KeepsOthers};
 ghost use Rattle.mesi_dir.specs.Rows.{sharing_in};
 
 use crate::row::Row;
@@ -22,13 +22,13 @@ pub struct Directory {
 impl Model for Directory {
     ghost use Rattle.std.specs.Prelude.{vec_capacity};
     ghost use Rattle.mesi_dir.specs.LineMap.{LineMap};
-    ghost use Rattle.mesi_dir.specs.Rows.{AreRows, rows_view};
+    ghost use Rattle.mesi_dir.specs.Rows.{AreDirectoryRows, directory_view};
 
     ghost Value = { LineMap };
 
-    ghost view = { λ d. rows_view d.room d.cores d.tags.items d.rows.items };
+    ghost view = { λ d. directory_view d.room d.cores d.tags.items d.rows.items };
 
-    ghost invariant = { λ d. AreRows d.room d.cores d.tags.items d.rows.items
+    ghost invariant = { λ d. AreDirectoryRows d.room d.cores d.tags.items d.rows.items
         (vec_capacity d.tags) (vec_capacity d.rows) };
 }
 
@@ -86,7 +86,7 @@ impl Directory {
     /// core has then; else no core may.
     pub fn grant(&mut self, line: u64, core: u16, own: bool)
         requires core { core < self.old.cores }
-        requires room { HasRoom self.old line }
+        requires room { HasRoomForLine self.old line }
         requires alone { own ≡ true → (other : ℕ) → other ≢ core → is_sharer self.old line other ≡ false }
         ensures sharers { (c : ℕ) → is_sharer self.new line c ≡ (nat_eq core c || is_sharer self.old line c) }
         ensures owner { owner_of self.new line ≡ (if own then Some core else None) }
@@ -146,7 +146,7 @@ impl Directory {
     // Gives a line another row.
     fn set_row(&mut self, line: u64, row: Row)
         requires sharing { IsSharing self.old.cores (sharing_in row) }
-        requires room { (core : ℕ) → IsTrue (is_among (sharing_in row) core) → HasRoom self.old line }
+        requires room { (core : ℕ) → IsTrue (is_among (sharing_in row) core) → HasRoomForLine self.old line }
         ensures line { sharing_of self.new line ≡ sharing_in row }
         ensures others { KeepsOthers self.old self.new line }
     {

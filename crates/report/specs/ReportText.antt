@@ -75,9 +75,9 @@ component_line kind n c =
     kind ++ (labelled ((codes " ", n) ∷ (codes " events ", c.events) ∷ (codes " waited ", c.waited) ∷ (codes " free ", c.free) ∷ []) ++ codes "\n")
 
 -- the lines of all items, which are numbered from n on
-abbrev pub numbered : {A : Type 0} → (ℕ → A → List ℕ) → ℕ → List A → List ℕ
-numbered lines n [] = []
-numbered lines n (x ∷ xs) = lines n x ++ numbered lines (n + 1) xs
+abbrev pub numbered_lines : {A : Type 0} → (ℕ → A → List ℕ) → ℕ → List A → List ℕ
+numbered_lines lines n [] = []
+numbered_lines lines n (x ∷ xs) = lines n x ++ numbered_lines lines (n + 1) xs
 
 -- the instructions of all cores
 abbrev pub all_instructions : List TimedCore → ℕ
@@ -103,9 +103,9 @@ summary_of counts cores intervals =
 -- what follows the summary: the cores, and of the components first the banks and then the controllers
 abbrev pub details : Machine → Counts → List TimedCore → List ℕ
 details machine counts cores =
-    numbered core_lines 0 (zip cores counts.core_counts)
-    ++ numbered (component_line (codes "bank")) 0 (take machine.l2.banks counts.comp_counts)
-    ++ numbered (component_line (codes "controller")) 0 (drop machine.l2.banks counts.comp_counts)
+    numbered_lines core_lines 0 (zip cores counts.core_counts)
+    ++ numbered_lines (component_line (codes "bank")) 0 (take machine.l2.banks counts.comp_counts)
+    ++ numbered_lines (component_line (codes "controller")) 0 (drop machine.l2.banks counts.comp_counts)
 
 -- the report: the summary, and then the rest, unless it is to be brief
 abbrev pub report_text : Machine → Counts → List TimedCore → (intervals : ℕ) → (brief : Bool) → List ℕ

@@ -1,6 +1,6 @@
 // The line of each bank and of each controller.
 ghost use Rattle.std.specs.Prelude.{◌≡◌, ◌++◌, OnOk, string_bytes};
-ghost use Rattle.report.specs.ReportText.{component_line, numbered};
+ghost use Rattle.report.specs.ReportText.{component_line, numbered_lines};
 
 use crate::fields::write_labelled;
 use stats::CompCount;
@@ -13,7 +13,7 @@ pub fn write_components(
     components: &[CompCount],
 ) -> Result<(), AllocError>
     ensures { OnOk result (string_bytes text.new ≡ string_bytes text.old
-        ++ numbered (component_line kind.now) 0 components.now) }
+        ++ numbered_lines (component_line kind.now) 0 components.now) }
 {
     for (n, component) in components.iter().enumerate() {
         write_component(text, kind, n, component)?;

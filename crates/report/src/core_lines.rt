@@ -1,7 +1,7 @@
 // The two lines of each core: what was counted of it, and its console.
 ghost use Rattle.std.specs.Prelude.{◌≡◌, ◌++◌, OnOk, length, map, string_bytes};
 ghost use Rattle.std.specs.List.{zip};
-ghost use Rattle.report.specs.ReportText.{console_line, core_line, core_lines, count_text, halt_text, numbered};
+ghost use Rattle.report.specs.ReportText.{console_line, core_line, core_lines, count_text, halt_text, numbered_lines};
 
 use crate::fields::{write_hexadecimal, write_labelled};
 use crate::printed::write_printed;
@@ -20,7 +20,7 @@ pub fn write_cores(
     requires cores { length cores.now ≡ count }
     requires counts { length counters.now.core_counts ≡ count }
     ensures { OnOk result (string_bytes text.new ≡ string_bytes text.old
-        ++ numbered core_lines 0 (zip (map (λ c. c.timed) cores.now) counters.now.core_counts)) }
+        ++ numbered_lines core_lines 0 (zip (map (λ c. c.timed) cores.now) counters.now.core_counts)) }
 {
     for n in 0..count {
         write_core(text, n, &cores[usize::from(n)], &counters.core(n))?;

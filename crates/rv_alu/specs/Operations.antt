@@ -72,5 +72,5 @@ abbrev pub sign_extended : ℕ → ℕ
 sign_extended x = residue w64 (cast_signed w32 x)
 
 -- the low 32 bits of a number of 64, sign-extended
-abbrev pub word_of : ℕ → ℕ
-word_of x = sign_extended (low_word x)
+abbrev pub signed_word : ℕ → ℕ
+signed_word x = sign_extended (low_word x)

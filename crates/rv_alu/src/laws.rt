@@ -12,7 +12,7 @@ ghost use Rattle.rv_decode.specs.declared.name.Name.{Name};
 ghost use Rattle.rv_alu.specs.Arithmetic.{is_arithmetic, result_of, signed_64};
 ghost use Rattle.rv_alu.specs.Branch.{is_branch, is_taken};
 ghost use Rattle.rv_alu.specs.Laws.{AreHalves, IsDivision, IsOverflow};
-ghost use Rattle.rv_alu.specs.Operations.{low_word, word_of};
+ghost use Rattle.rv_alu.specs.Operations.{low_word, signed_word};
 
 use rv_decode::Name;
 
@@ -69,21 +69,21 @@ pub fn product_halves()
 
 /// The word forms of sums and products are the low words of the doubleword forms, sign-extended.
 pub fn words_of_sums()
-    ensures sum { (a b : ℕ) → result_of Name.Addw a b ≡ word_of (result_of Name.Add a b) }
+    ensures sum { (a b : ℕ) → result_of Name.Addw a b ≡ signed_word (result_of Name.Add a b) }
     ensures difference { (a b : ℕ) → a < 2 ^ 64 → b < 2 ^ 64
-        → result_of Name.Subw a b ≡ word_of (result_of Name.Sub a b) }
-    ensures product { (a b : ℕ) → result_of Name.Mulw a b ≡ word_of (result_of Name.Mul a b) }
+        → result_of Name.Subw a b ≡ signed_word (result_of Name.Sub a b) }
+    ensures product { (a b : ℕ) → result_of Name.Mulw a b ≡ signed_word (result_of Name.Mul a b) }
 {}
 
 /// The word forms of shifts, by five bits of the amount, are SLL in its low word, SRL of the low
 /// word, and SRA of the sign-extended low word.
 pub fn words_of_shifts()
     ensures left { (a b : ℕ)
-        → result_of Name.Sllw a b ≡ word_of (result_of Name.Sll a (b % 32)) }
+        → result_of Name.Sllw a b ≡ signed_word (result_of Name.Sll a (b % 32)) }
     ensures right { (a b : ℕ)
-        → result_of Name.Srlw a b ≡ word_of (result_of Name.Srl (low_word a) (b % 32)) }
+        → result_of Name.Srlw a b ≡ signed_word (result_of Name.Srl (low_word a) (b % 32)) }
     ensures right_signed { (a b : ℕ)
-        → result_of Name.Sraw a b ≡ result_of Name.Sra (word_of a) (b % 32) }
+        → result_of Name.Sraw a b ≡ result_of Name.Sra (signed_word a) (b % 32) }
 {}
 
 /// The bits that come in are copies of the sign: a number that is not negative is shifted as by
@@ -100,13 +100,13 @@ pub fn signed_shifts()
 /// and REMUW.
 pub fn words_of_divisions()
     ensures signed_quotient { (a b : ℕ)
-        → result_of Name.Divw a b ≡ word_of (result_of Name.Div (word_of a) (word_of b)) }
+        → result_of Name.Divw a b ≡ signed_word (result_of Name.Div (signed_word a) (signed_word b)) }
     ensures signed_remainder { (a b : ℕ)
-        → result_of Name.Remw a b ≡ word_of (result_of Name.Rem (word_of a) (word_of b)) }
+        → result_of Name.Remw a b ≡ signed_word (result_of Name.Rem (signed_word a) (signed_word b)) }
     ensures quotient { (a b : ℕ)
-        → result_of Name.Divuw a b ≡ word_of (result_of Name.Divu (low_word a) (low_word b)) }
+        → result_of Name.Divuw a b ≡ signed_word (result_of Name.Divu (low_word a) (low_word b)) }
     ensures remainder { (a b : ℕ)
-        → result_of Name.Remuw a b ≡ word_of (result_of Name.Remu (low_word a) (low_word b)) }
+        → result_of Name.Remuw a b ≡ signed_word (result_of Name.Remu (low_word a) (low_word b)) }
 {}
 
 /// Each branch has an opposite one.

@@ -6,7 +6,7 @@ use Rattle.rv_core.specs.declared.pairing.Pairing.{Pairing}
 use Rattle.rv_core.specs.Accesses.{byte_loads, AreServed, IsServed}
 use Rattle.rv_core.specs.CoreState.{CoreState, ToConsole}
 use Rattle.rv_core.specs.Pairing.{ArePairedRight}
-use Rattle.rv_core.specs.Sound.{IsSound}
+use Rattle.rv_core.specs.Sound.{IsSoundCore}
 
 -- a byte of memory is in a line
 pub load_served : (memory : MemoryRange) (addr : ℕ) → memory.base ≤ addr → addr + 1 ≤ memory.base + memory.size → IsServed memory (Load addr 1)
@@ -42,7 +42,7 @@ abbrev writing : CoreState → (addr later count : ℕ) → CoreState
 writing core addr later count =
     record core { instruction = Some (record { next = Load addr 1; later = byte_loads (addr + 1) later; replies = []; ending = ToConsole count }) }
 
-pub writing_sound : (core : CoreState) (addr later count : ℕ) → IsSound core → core.memory.base ≤ addr → addr + 1 + later ≤ core.memory.base + core.memory.size → later < 256 → IsSound (writing core addr later count)
+pub writing_sound : (core : CoreState) (addr later count : ℕ) → IsSoundCore core → core.memory.base ≤ addr → addr + 1 + later ≤ core.memory.base + core.memory.size → later < 256 → IsSoundCore (writing core addr later count)
 writing_sound core addr later count sound begins ends few = record {
   registers = sound.registers;
   zero = sound.zero;

@@ -9,7 +9,7 @@ use Rattle.std.proofs.lemmas.List.Elements.{All-drop, All-head, All-tail, All-ta
 use Rattle.std.proofs.lemmas.Nat.{mod-pow-add, mod_low, pow-add, shr-shr, shr_high}
 use Rattle.zs_num.specs.declared.request.Request.{Request}
 use Rattle.rv_core.specs.Accesses.{high_bytes, is_in_line, joined, left_in_line, load_requests, low_bytes, store_requests}
-use Rattle.rv_core.specs.Laws.{addresses, addresses_of, bytes_of, bytes_stored, number_of, replies_loaded}
+use Rattle.rv_core.specs.Laws.{addresses, addresses_of, bytes_of, bytes_stored, number_of_bytes, replies_loaded}
 
 -- what holds of both holds of either
 cond-cases : {A : Type 0} (P : A → Type 0) (test : Bool) (one other : A) → (test ≡ true → P one) → (test ≡ false → P other) → P (if test then one else other)
@@ -54,17 +54,17 @@ bytes_of-append (suc a) b n =
 
 -- ---- numbers of bytes
 
-number_of-append : (xs ys : List ℕ) → number_of (xs ++ ys) ≡ number_of xs + 2 ^ (8 * length xs) * number_of ys
+number_of-append : (xs ys : List ℕ) → number_of_bytes (xs ++ ys) ≡ number_of_bytes xs + 2 ^ (8 * length xs) * number_of_bytes ys
 number_of-append [] ys = omega arith
 number_of-append (x ∷ xs) ys =
     let rest = number_of-append xs ys in
-    let step = pow-eight_times (length xs) (number_of ys) in
+    let step = pow-eight_times (length xs) (number_of_bytes ys) in
     omega (arith, rest, step)
 
-number_of-below : (xs : List ℕ) → All (λ b. b < 256) xs → number_of xs < 2 ^ (8 * length xs)
+number_of-below : (xs : List ℕ) → All (λ b. b < 256) xs → number_of_bytes xs < 2 ^ (8 * length xs)
 number_of-below [] bytes = omega arith
 number_of-below (x ∷ xs) bytes =
-    let rest : number_of xs < 2 ^ (8 * length xs) = number_of-below xs (All-tail (λ b. b < 256) x xs bytes) in
+    let rest : number_of_bytes xs < 2 ^ (8 * length xs) = number_of-below xs (All-tail (λ b. b < 256) x xs bytes) in
     let first : x < 256 = All-head (λ b. b < 256) x xs bytes in
     let step = pow-eight (length xs) in
     omega (arith, rest, first, step)
@@ -117,20 +117,20 @@ stores_write addr width value =
     ∙ ap (λ k. bytes_of k value) (split-width addr width e))
 
 -- a number of so many bytes is its own lowest bytes
-low_bytes-whole : (xs : List ℕ) (count : ℕ) → length xs ≡ count → All (λ b. b < 256) xs → low_bytes count (number_of xs) ≡ number_of xs
+low_bytes-whole : (xs : List ℕ) (count : ℕ) → length xs ≡ count → All (λ b. b < 256) xs → low_bytes count (number_of_bytes xs) ≡ number_of_bytes xs
 low_bytes-whole xs count size bytes =
-    let below : number_of xs < 2 ^ (8 * count) = subst (λ k. number_of xs < 2 ^ (8 * k)) size (number_of-below xs bytes) in mod-eq_of_lt below
+    let below : number_of_bytes xs < 2 ^ (8 * count) = subst (λ k. number_of_bytes xs < 2 ^ (8 * k)) size (number_of-below xs bytes) in mod-eq_of_lt below
 
-pub loads_join : (addr width : ℕ) (bytes : List ℕ) → length bytes ≡ width → All (λ b. b < 256) bytes → joined (replies_loaded (load_requests addr width) bytes) ≡ number_of bytes
+pub loads_join : (addr width : ℕ) (bytes : List ℕ) → length bytes ≡ width → All (λ b. b < 256) bytes → joined (replies_loaded (load_requests addr width) bytes) ≡ number_of_bytes bytes
 unfolding load_requests
 loads_join addr width bytes size all =
-    cond-cases (λ (requests : List Request). joined (replies_loaded requests bytes) ≡ number_of bytes) (is_in_line addr width) _ _
+    cond-cases (λ (requests : List Request). joined (replies_loaded requests bytes) ≡ number_of_bytes bytes) (is_in_line addr width) _ _
     (λ e.
     let long : length bytes ≤ width = omega arith in
     let here : take width bytes ≡ bytes = take_all width bytes long in
     let whole = low_bytes-whole bytes width size all in
-    let one : low_bytes width (number_of (take width bytes)) + 2 ^ (8 * width) * 0 ≡ low_bytes width (number_of (take width bytes)) = omega arith in
-    one ∙ ap (λ list. low_bytes width (number_of list)) here ∙ whole)
+    let one : low_bytes width (number_of_bytes (take width bytes)) + 2 ^ (8 * width) * 0 ≡ low_bytes width (number_of_bytes (take width bytes)) = omega arith in
+    one ∙ ap (λ list. low_bytes width (number_of_bytes list)) here ∙ whole)
     (λ e.
     let lower = left_in_line addr in
     let upper = width - left_in_line addr in
@@ -140,10 +140,10 @@ loads_join addr width bytes size all =
     let long : length (drop lower bytes) ≤ upper = omega arith in
     let rest_whole : take upper (drop lower bytes) ≡ drop lower bytes = take_all upper (drop lower bytes) long in
     let first = low_bytes-whole (take lower bytes) lower first_size (All-take (λ b. b < 256) lower bytes all) in
-    let rest = ap (λ list. low_bytes upper (number_of list)) rest_whole ∙ low_bytes-whole (drop lower bytes) upper rest_size (All-drop (λ b. b < 256) lower bytes all) in
-    let one : low_bytes upper (number_of (take upper (drop lower bytes))) + 2 ^ (8 * upper) * 0 ≡ low_bytes upper (number_of (take upper (drop lower bytes))) = omega arith in
-    ap (λ n. low_bytes lower (number_of (take lower bytes)) + 2 ^ (8 * lower) * n) (one ∙ rest)
-    ∙ ap (λ n. n + 2 ^ (8 * lower) * number_of (drop lower bytes)) first
-    ∙ ap (λ k. number_of (take lower bytes) + 2 ^ (8 * k) * number_of (drop lower bytes)) (sym first_size)
+    let rest = ap (λ list. low_bytes upper (number_of_bytes list)) rest_whole ∙ low_bytes-whole (drop lower bytes) upper rest_size (All-drop (λ b. b < 256) lower bytes all) in
+    let one : low_bytes upper (number_of_bytes (take upper (drop lower bytes))) + 2 ^ (8 * upper) * 0 ≡ low_bytes upper (number_of_bytes (take upper (drop lower bytes))) = omega arith in
+    ap (λ n. low_bytes lower (number_of_bytes (take lower bytes)) + 2 ^ (8 * lower) * n) (one ∙ rest)
+    ∙ ap (λ n. n + 2 ^ (8 * lower) * number_of_bytes (drop lower bytes)) first
+    ∙ ap (λ k. number_of_bytes (take lower bytes) + 2 ^ (8 * k) * number_of_bytes (drop lower bytes)) (sym first_size)
     ∙ sym (number_of-append (take lower bytes) (drop lower bytes))
-    ∙ ap number_of (take-append-drop lower bytes))
+    ∙ ap number_of_bytes (take-append-drop lower bytes))

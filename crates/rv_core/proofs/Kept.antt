@@ -17,30 +17,30 @@ use Rattle.rv_core.specs.declared.why.Why.{Why}
 use Rattle.rv_core.specs.declared.why.Why.TheVariants.{Exit}
 use Rattle.rv_core.specs.Accesses.{byte_loads, is_in_line, is_in_memory, load_requests, store_requests, AreServed}
 use Rattle.rv_core.specs.CoreState.{CoreState, Ending, ToRegister, ToConsole, ToNothing}
-use Rattle.rv_core.specs.Effect.{accesses, address, atomic, branches, calls, effect, ended, following, goes_through, goes_to, halts, jumps, loads, register, relative, stores, writes, written}
+use Rattle.rv_core.specs.Effect.{accesses, address, atomic, branches, calls, effect, ended, following, goes_through, goes_to, halts, jumps, loads, register, relative, stores, with_register, writes}
 use Rattle.rv_core.specs.Pairing.{ArePairedRight, IsPairedRight}
-use Rattle.rv_core.specs.Sound.{EndsInRegister, IsSound}
+use Rattle.rv_core.specs.Sound.{EndsInRegister, IsSoundCore}
 use Rattle.rv_core.proofs.ByteLoads.{loads_length, loads_paired, loads_served}
 
 -- a core stays sound, and keeps its memory and its pairing
 pub record Keeps (before after : CoreState) : Type 0 where
-  pub sound : IsSound after
+  pub sound : IsSoundCore after
   pub memory : after.memory ≡ before.memory
   pub pairing : after.pairing ≡ before.pairing
 
-written-length : (registers : List ℕ) (n value : ℕ) → length (written registers n value) ≡ length registers
+written-length : (registers : List ℕ) (n value : ℕ) → length (with_register registers n value) ≡ length registers
 written-length registers zero value = refl
 written-length registers (suc n) value =
     let other : (suc n == 0) ≡ false = search rules in rw other (length-set registers (suc n) value)
 
-written-zero : (registers : List ℕ) (n value : ℕ) → slice_index registers 0 ≡ 0 → slice_index (written registers n value) 0 ≡ 0
+written-zero : (registers : List ℕ) (n value : ℕ) → slice_index registers 0 ≡ 0 → slice_index (with_register registers n value) 0 ≡ 0
 written-zero registers zero value here = here
 written-zero registers (suc n) value here =
     let other : (suc n == 0) ≡ false = search rules in
     let apart : 0 ≢ suc n = omega arith in
     rw other (get_or-set_other registers (suc n) 0 value 0 apart ∙ here)
 
-pub goes_to-keeps : (core : CoreState) (rd value target : ℕ) → IsSound core → Keeps core (goes_to core rd value target)
+pub goes_to-keeps : (core : CoreState) (rd value target : ℕ) → IsSoundCore core → Keeps core (goes_to core rd value target)
 unfolding goes_to
 goes_to-keeps core rd value target s = record {
   sound = record {
@@ -56,7 +56,7 @@ goes_to-keeps core rd value target s = record {
   pairing = refl;
 }
 
-pub halts-keeps : (why : Why) (core : CoreState) → IsSound core → Keeps core (halts why core)
+pub halts-keeps : (why : Why) (core : CoreState) → IsSoundCore core → Keeps core (halts why core)
 halts-keeps why core s = record {
   sound = record { registers = s.registers; zero = s.zero; reach = s.reach; served = s.served; paired = s.paired; ending = s.ending; few = s.few };
   memory = refl;
@@ -68,22 +68,22 @@ pub cond-keeps : (core one other : CoreState) (test : Bool) → (test ≡ true �
 cond-keeps core one other true holds fails = holds refl
 cond-keeps core one other false holds fails = fails
 
-jumps-keeps : (rd target : ℕ) (core : CoreState) → IsSound core → Keeps core (jumps rd target core)
+jumps-keeps : (rd target : ℕ) (core : CoreState) → IsSoundCore core → Keeps core (jumps rd target core)
 unfolding jumps
 jumps-keeps rd target core s =
     cond-keeps core _ _ (target % 4 == 0) (λ aligned. goes_to-keeps core rd (following core) target s) (halts-keeps _ core s)
 
-branches-keeps : (n : Name) (i : Inst) (core : CoreState) → IsSound core → Keeps core (branches n i core)
+branches-keeps : (n : Name) (i : Inst) (core : CoreState) → IsSoundCore core → Keeps core (branches n i core)
 unfolding branches
 branches-keeps n i core s = cond-keeps core _ _ _ (λ taken. jumps-keeps 0 (relative i core) core s) (goes_to-keeps core 0 0 (following core) s)
 
-ended-keeps : (ending : Ending) (replies : List Reply) (core : CoreState) → IsSound core → Keeps core (ended ending replies core)
+ended-keeps : (ending : Ending) (replies : List Reply) (core : CoreState) → IsSoundCore core → Keeps core (ended ending replies core)
 unfolding ended
 ended-keeps (ToRegister destination) replies core s = goes_to-keeps core destination.rd _ (following core) s
 ended-keeps (ToConsole count) replies core s = goes_to-keeps core 10 count (following core) s
 ended-keeps ToNothing replies core s = goes_to-keeps core 0 0 (following core) s
 
-pub goes_through-keeps : (requests : List Request) (replies : List Reply) (ending : Ending) (core : CoreState) → IsSound core
+pub goes_through-keeps : (requests : List Request) (replies : List Reply) (ending : Ending) (core : CoreState) → IsSoundCore core
     → AreServed core.memory requests → ArePairedRight core.pairing requests → EndsInRegister ending → length requests ≤ 256 → Keeps core (goes_through requests replies ending core)
 goes_through-keeps [] replies ending core s served paired ends few = ended-keeps ending replies core s
 goes_through-keeps (request ∷ requests) replies ending core s served paired ends few = record {
@@ -92,7 +92,7 @@ goes_through-keeps (request ∷ requests) replies ending core s served paired en
   pairing = refl;
 }
 
-accesses-keeps : (addr width : ℕ) (requests : List Request) (ending : Ending) (core : CoreState) → IsSound core
+accesses-keeps : (addr width : ℕ) (requests : List Request) (ending : Ending) (core : CoreState) → IsSoundCore core
     → (is_in_memory core.memory addr width ≡ true → AreServed core.memory requests) → ArePairedRight core.pairing requests → EndsInRegister ending → length requests ≤ 256
     → Keeps core (accesses addr width requests ending core)
 unfolding accesses
@@ -163,13 +163,13 @@ stores-few addr width value = few-cond (is_in_line addr width) _ _ (lit≤ tt) (
 
 -- ---- the families
 
-load-keeps : (width : ℕ) (signed : Bool) (i : Inst) (core : CoreState) → 1 ≤ width → width ≤ 8 → i.rd < 32 → IsSound core → Keeps core (loads width signed i core)
+load-keeps : (width : ℕ) (signed : Bool) (i : Inst) (core : CoreState) → 1 ≤ width → width ≤ 8 → i.rd < 32 → IsSoundCore core → Keeps core (loads width signed i core)
 load-keeps width signed i core some few rd s =
     accesses-keeps (address i core) width _ _ core s
     (λ e. loads-served core.memory (address i core) width some few (inside_of core.memory (address i core) width e))
     (loads-paired core.pairing (address i core) width) (rd, some, few) (loads-few (address i core) width)
 
-store-keeps : (width : ℕ) (i : Inst) (core : CoreState) → 1 ≤ width → width ≤ 8 → IsSound core → Keeps core (stores width i core)
+store-keeps : (width : ℕ) (i : Inst) (core : CoreState) → 1 ≤ width → width ≤ 8 → IsSoundCore core → Keeps core (stores width i core)
 store-keeps width i core some few s =
     accesses-keeps (address i core) width _ _ core s
     (λ e. stores-served core.memory (address i core) width (register core i.rs2) some few (inside_of core.memory (address i core) width e))
@@ -180,7 +180,7 @@ aligned-in_line : (addr width : ℕ) → (width ≡ 4) ⊎ (width ≡ 8) → add
 aligned-in_line addr width (inl four) e = let e' : addr % 4 ≡ 0 = subst (λ w. addr % w ≡ 0) four e in omega arith
 aligned-in_line addr width (inr eight) e = let e' : addr % 8 ≡ 0 = subst (λ w. addr % w ≡ 0) eight e in omega arith
 
-atomic-keeps : (addr width : ℕ) (request : Request) (destination : Destination) (core : CoreState) → IsSound core
+atomic-keeps : (addr width : ℕ) (request : Request) (destination : Destination) (core : CoreState) → IsSoundCore core
     → addr_of request ≡ addr → width_of request ≡ width → (width ≡ 4) ⊎ (width ≡ 8) → (IsAtomic addr width → IsAligned request) → IsPairedRight core.pairing request
     → destination.rd < 32 → destination.width ≡ width → Keeps core (atomic addr width request (ToRegister destination) core)
 unfolding atomic
@@ -205,7 +205,7 @@ atomic-keeps addr width request destination core s same_addr same_width kind ali
     (paired, tt) (rd, rw size some, rw size few) (lit≤ tt))
     (halts-keeps _ core s)
 
-writes-keeps : (core : CoreState) → IsSound core → Keeps core (writes core)
+writes-keeps : (core : CoreState) → IsSoundCore core → Keeps core (writes core)
 unfolding writes
 writes-keeps core s =
     let addr = register core 11 in
@@ -217,7 +217,7 @@ writes-keeps core s =
     goes_through-keeps (byte_loads addr count) [] (ToConsole count) core s (loads_served core.memory addr count inside.begins inside.ends) (loads_paired core.pairing addr count) tt few)
     (goes_to-keeps core 10 _ (following core) s))
 
-calls-keeps : (core : CoreState) → IsSound core → Keeps core (calls core)
+calls-keeps : (core : CoreState) → IsSoundCore core → Keeps core (calls core)
 unfolding calls
 calls-keeps core s =
     let number = register core 17 in
@@ -226,7 +226,7 @@ calls-keeps core s =
     (cond-keeps core (writes core) _ ((number == 64) && ((first == 1) || (first == 2))) (λ e. writes-keeps core s)
     (goes_to-keeps core 10 (2 ^ 64 - 38) (following core) s))
 
-pub effect-keeps : (n : Name) (i : Inst) (core : CoreState) → i.rd < 32 → IsSound core → Keeps core (effect n i core)
+pub effect-keeps : (n : Name) (i : Inst) (core : CoreState) → i.rd < 32 → IsSoundCore core → Keeps core (effect n i core)
 unfolding effect
 effect-keeps name.Lui i core rd s = goes_to-keeps core i.rd _ (following core) s
 effect-keeps name.Auipc i core rd s = goes_to-keeps core i.rd _ (following core) s

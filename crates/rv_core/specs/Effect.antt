@@ -26,8 +26,8 @@ abbrev pub register : CoreState → ℕ → ℕ
 register core n = slice_index core.registers n
 
 -- the registers after a write, of which one to x0 is dropped
-abbrev pub written : List ℕ → (n value : ℕ) → List ℕ
-written registers n value = if n == 0 then registers else slice_set registers n value
+abbrev pub with_register : List ℕ → (n value : ℕ) → List ℕ
+with_register registers n value = if n == 0 then registers else slice_set registers n value
 
 -- the address of the next instruction
 abbrev pub following : CoreState → ℕ
@@ -35,7 +35,7 @@ following core = (core.pc + 4) % 2 ^ 64
 
 -- the core writes register rd, and goes on at an address
 unfoldable pub goes_to : CoreState → (rd value target : ℕ) → CoreState
-goes_to core rd value target = record core { registers = written core.registers rd value; pc = target }
+goes_to core rd value target = record core { registers = with_register core.registers rd value; pc = target }
 
 -- the core writes register rd, and goes on at the next instruction
 abbrev pub goes_on : CoreState → (rd value : ℕ) → CoreState
@@ -73,16 +73,16 @@ accesses addr width requests ending core =
 -- ---- operands
 
 -- the immediate as a number of 64 bits, in two's complement
-abbrev pub immediate : Inst → ℕ
-immediate i = cast_unsigned w64 i.imm
+abbrev pub immediate_number : Inst → ℕ
+immediate_number i = cast_unsigned w64 i.imm
 
 -- the address that the immediate is away from pc
 abbrev pub relative : Inst → CoreState → ℕ
-relative i core = (core.pc + immediate i) % 2 ^ 64
+relative i core = (core.pc + immediate_number i) % 2 ^ 64
 
 -- the address that the immediate is away from rs1
 abbrev pub address : Inst → CoreState → ℕ
-address i core = (register core i.rs1 + immediate i) % 2 ^ 64
+address i core = (register core i.rs1 + immediate_number i) % 2 ^ 64
 
 -- rd gets a number of so many bytes
 abbrev pub to_register : Inst → (width : ℕ) (signed : Bool) → Ending
@@ -92,7 +92,7 @@ to_register i width signed = ToRegister (record { rd = i.rd; width = width; sign
 
 -- "Integer Computational Instructions", and those of the "M" extension: of rs1 and the immediate, and of rs1 and rs2
 abbrev pub computes_immediate : Name → Inst → CoreState → CoreState
-computes_immediate n i core = goes_on core i.rd (result_of n (register core i.rs1) (immediate i))
+computes_immediate n i core = goes_on core i.rd (result_of n (register core i.rs1) (immediate_number i))
 
 abbrev pub computes : Name → Inst → CoreState → CoreState
 computes n i core = goes_on core i.rd (result_of n (register core i.rs1) (register core i.rs2))
@@ -171,7 +171,7 @@ calls core =
 
 unfoldable pub effect : Name → Inst → CoreState → CoreState
 -- "Integer Register-Immediate Instructions"
-effect name.Lui i core = goes_on core i.rd (immediate i)
+effect name.Lui i core = goes_on core i.rd (immediate_number i)
 effect name.Auipc i core = goes_on core i.rd (relative i core)
 -- "Unconditional Jumps"
 effect name.Jal i core = jumps i.rd (relative i core) core

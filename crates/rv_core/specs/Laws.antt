@@ -47,11 +47,11 @@ bytes_stored (Sc addr width value paired) = []
 bytes_stored (Amo op addr width value) = []
 
 -- the number that bytes make, the lowest first
-abbrev pub number_of : List ℕ → ℕ
-number_of [] = 0
-number_of (byte ∷ bytes) = byte + 256 * number_of bytes
+abbrev pub number_of_bytes : List ℕ → ℕ
+number_of_bytes [] = 0
+number_of_bytes (byte ∷ bytes) = byte + 256 * number_of_bytes bytes
 
 -- the replies to loads that find these bytes one after the other
 abbrev pub replies_loaded : List Request → List ℕ → List Reply
 replies_loaded [] bytes = []
-replies_loaded (request ∷ requests) bytes = reply_to request (number_of (take (width_of request) bytes)) ∷ replies_loaded requests (drop (width_of request) bytes)
+replies_loaded (request ∷ requests) bytes = reply_to request (number_of_bytes (take (width_of request) bytes)) ∷ replies_loaded requests (drop (width_of request) bytes)

@@ -49,12 +49,12 @@ abbrev pub advanced : MemoryImage → CoreState → CoreState
 advanced image core = if is_free core then executed image core else core
 
 -- what a core asks for
-abbrev pub asked_by : (instruction : Option InProgress) → Ask
-asked_by None = ask.Local
-asked_by (Some instruction) = ask.Access instruction.next
+abbrev pub asked_in_progress : (instruction : Option InProgress) → Ask
+asked_in_progress None = ask.Local
+asked_in_progress (Some instruction) = ask.Access instruction.next
 
 abbrev pub asked : (halted : Option Why) → (instruction : Option InProgress) → Ask
-asked None instruction = asked_by instruction
+asked None instruction = asked_in_progress instruction
 asked (Some why) instruction = ask.Halted why
 
 -- the replies so far and one more: only those that go to a register are kept

@@ -7,9 +7,9 @@ ghost use Rattle.zs_num.specs.declared.request.Request.{Request};
 ghost use Rattle.rv_core.specs.Accesses.{joined, load_requests, store_requests};
 ghost use Rattle.rv_core.specs.CoreState.{CoreState, InProgress};
 ghost use Rattle.rv_core.specs.Effect.{register};
-ghost use Rattle.rv_core.specs.Laws.{addresses, addresses_of, bytes_of, bytes_stored, number_of, replies_loaded, Asks, IsReached};
+ghost use Rattle.rv_core.specs.Laws.{addresses, addresses_of, bytes_of, bytes_stored, number_of_bytes, replies_loaded, Asks, IsReached};
 ghost use Rattle.rv_core.specs.Pairing.{pairing_after, pairing_after_all, ArePairedRight, IsPairedRight};
-ghost use Rattle.rv_core.specs.Sound.{IsSound};
+ghost use Rattle.rv_core.specs.Sound.{IsSoundCore};
 ghost use Rattle.rv_core.specs.Step.{advanced, answered};
 
 /// x0 reads as zero for ever ("Programmers' Model for Base Integer ISA"), whatever program runs and
@@ -22,7 +22,7 @@ pub fn x0_reads_as_zero()
 
 /// A core that is reached is sound: all that it asks for can be served.
 pub fn reached_cores_are_sound()
-    ensures { (core : CoreState) → IsReached core → IsSound core }
+    ensures { (core : CoreState) → IsReached core → IsSoundCore core }
 {
     rv_decode::laws::ranges();
 }
@@ -30,12 +30,12 @@ pub fn reached_cores_are_sound()
 /// A step and a reply leave a sound core sound, and its memory where it is. A step leaves its pairing,
 /// and a reply gives it the one that the access leaves.
 pub fn cores_stay_sound()
-    ensures advanced { (image : MemoryImage) (core : CoreState) → IsSound core → IsSound (advanced image core) }
-    ensures advanced_memory { (image : MemoryImage) (core : CoreState) → IsSound core → (advanced image core).memory ≡ core.memory }
-    ensures advanced_pairing { (image : MemoryImage) (core : CoreState) → IsSound core → (advanced image core).pairing ≡ core.pairing }
-    ensures answered { (reply : ℕ) (core : CoreState) → IsSound core → IsSound (answered reply core) }
-    ensures answered_memory { (reply : ℕ) (core : CoreState) → IsSound core → (answered reply core).memory ≡ core.memory }
-    ensures answered_pairing { (reply : ℕ) (core : CoreState) (now : InProgress) → IsSound core → core.instruction ≡ Some now
+    ensures advanced { (image : MemoryImage) (core : CoreState) → IsSoundCore core → IsSoundCore (advanced image core) }
+    ensures advanced_memory { (image : MemoryImage) (core : CoreState) → IsSoundCore core → (advanced image core).memory ≡ core.memory }
+    ensures advanced_pairing { (image : MemoryImage) (core : CoreState) → IsSoundCore core → (advanced image core).pairing ≡ core.pairing }
+    ensures answered { (reply : ℕ) (core : CoreState) → IsSoundCore core → IsSoundCore (answered reply core) }
+    ensures answered_memory { (reply : ℕ) (core : CoreState) → IsSoundCore core → (answered reply core).memory ≡ core.memory }
+    ensures answered_pairing { (reply : ℕ) (core : CoreState) (now : InProgress) → IsSoundCore core → core.instruction ≡ Some now
         → (answered reply core).pairing ≡ pairing_after core.pairing now.next }
 {
     rv_decode::laws::ranges();
@@ -45,11 +45,11 @@ pub fn cores_stay_sound()
 /// where a store-conditional is paired, the core's latest load-reserved was at its address and width,
 /// and no store-conditional came since; and where it is not, that is not so.
 pub fn accesses_are_paired_right()
-    ensures next { (core : CoreState) (now : InProgress) → IsSound core → core.instruction ≡ Some now
+    ensures next { (core : CoreState) (now : InProgress) → IsSoundCore core → core.instruction ≡ Some now
         → IsPairedRight core.pairing now.next }
-    ensures lists { (core last : CoreState) (requests : List Request) → IsSound core → Asks core requests last
+    ensures lists { (core last : CoreState) (requests : List Request) → IsSoundCore core → Asks core requests last
         → ArePairedRight core.pairing requests }
-    ensures pairing { (core last : CoreState) (requests : List Request) → IsSound core → Asks core requests last
+    ensures pairing { (core last : CoreState) (requests : List Request) → IsSoundCore core → Asks core requests last
         → last.pairing ≡ pairing_after_all core.pairing requests }
 {
     rv_decode::laws::ranges();
@@ -69,5 +69,5 @@ pub fn accesses_are_little_endian()
     ensures stores { (addr width value : ℕ)
         → flat_map bytes_stored (store_requests addr width value) ≡ bytes_of width value }
     ensures loads { (addr width : ℕ) (bytes : List ℕ) → length bytes ≡ width → All (λ b. b < 256) bytes
-        → joined (replies_loaded (load_requests addr width) bytes) ≡ number_of bytes }
+        → joined (replies_loaded (load_requests addr width) bytes) ≡ number_of_bytes bytes }
 {}

@@ -7,7 +7,7 @@ ghost use Rattle.rv_core.specs.Effect.{ended, goes_on, goes_through, goes_to, ha
 ghost use Rattle.rv_core.specs.Fetch.{fetched_at, HasRegisters};
 ghost use Rattle.rv_core.specs.Pairing.{is_paired, ArePairedRight, IsPairedRight};
 ghost use Rattle.rv_core.specs.Progress.{ending_of, IsNarrow};
-ghost use Rattle.rv_core.specs.Sound.{EndsInRegister, IsSound};
+ghost use Rattle.rv_core.specs.Sound.{EndsInRegister, IsSoundCore};
 ghost use Rattle.rv_core.specs.Step.{answered, console_byte, initial_core, is_free, replies_with};
 
 use crate::memory_range::MemoryRange;
@@ -38,13 +38,13 @@ pub struct Core {
 impl Model for Core {
     ghost use Rattle.rv_core.specs.CoreState.{CoreState};
     ghost use Rattle.rv_core.specs.Progress.{in_progress, IsBounded};
-    ghost use Rattle.rv_core.specs.Sound.{IsSound};
+    ghost use Rattle.rv_core.specs.Sound.{IsSoundCore};
 
     ghost Value = { CoreState };
 
     ghost view = { λ c. record { registers = c.registers; pc = c.pc; memory = c.memory; pairing = c.pairing; instruction = in_progress c.progress; halted = c.halted } };
 
-    ghost invariant = { λ c. IsSound (record { registers = c.registers; pc = c.pc; memory = c.memory; pairing = c.pairing; instruction = in_progress c.progress; halted = c.halted }) × IsBounded c.memory c.progress };
+    ghost invariant = { λ c. IsSoundCore (record { registers = c.registers; pc = c.pc; memory = c.memory; pairing = c.pairing; instruction = in_progress c.progress; halted = c.halted }) × IsBounded c.memory c.progress };
 }
 
 impl Core {
@@ -101,7 +101,7 @@ impl Core {
     pub fn request(&self) -> Option<Request>
         ensures value { result ≡ option_map (λ now. now.next) self.now.instruction }
         ensures served { IfSome result (IsServed self.now.memory) }
-        ensures sound { IsSound self.now }
+        ensures sound { IsSoundCore self.now }
     {
         match self.progress {
             Progress::Idle => None,
@@ -131,7 +131,7 @@ impl Core {
     pub(crate) fn decoded<'p, P: Program>(&self, program: &'p P) -> Option<&'p Inst>
         ensures value { IfSome result (λ inst. fetched_at (P.image program.now) self.now.pc ≡ Fetched.Instruction inst.now) }
         ensures registers { IfSome result (λ inst. HasRegisters (Fetched.Instruction inst.now)) }
-        ensures sound { IsSound self.now }
+        ensures sound { IsSoundCore self.now }
     {
         program.decoded_at(self.near, self.pc)
     }
@@ -142,7 +142,7 @@ impl Core {
         ensures value { result ≡ fetched_at (P.image program.now) self.old.pc }
         ensures registers { HasRegisters result }
         ensures same { self.new ≡ self.old }
-        ensures sound { IsSound self.old }
+        ensures sound { IsSoundCore self.old }
     {
         program.fetch(&mut self.near, self.pc)
     }
@@ -255,7 +255,7 @@ impl Core {
         requires { IsSome self.old.instruction }
         ensures value { self.new ≡ answered reply self.old }
         ensures byte { result ≡ console_byte self.old.instruction reply }
-        ensures sound { IsSound self.new }
+        ensures sound { IsSoundCore self.new }
         ensures memory { self.new.memory ≡ self.old.memory }
     {
         self.take(reply)
@@ -266,7 +266,7 @@ impl Core {
         requires { IsSome self.old.instruction }
         ensures value { self.new ≡ answered reply self.old }
         ensures byte { result ≡ console_byte self.old.instruction reply }
-        ensures sound { IsSound self.old }
+        ensures sound { IsSoundCore self.old }
     {
         match self.progress {
             Progress::Idle => unreachable!(),

@@ -2,7 +2,7 @@
 ghost use Rattle.std.specs.Prelude.{◌≡◌, ◌<◌, false, IfNone, IfSome, IsTrue, OnSome};
 ghost use Rattle.rv_core.specs.Effect.{effect, goes_on, halts};
 ghost use Rattle.rv_core.specs.Fetch.{fetched_at, HasRegisters};
-ghost use Rattle.rv_core.specs.Sound.{IsServedAsk, IsSound};
+ghost use Rattle.rv_core.specs.Sound.{IsServedAsk, IsSoundCore};
 ghost use Rattle.rv_core.specs.Step.{advanced, asked, executed, is_free};
 
 use crate::{Ask, Core, Fetched, Program, Why};
@@ -16,7 +16,7 @@ impl Core {
         ensures value { self.new ≡ advanced (P.image program.now) self.old }
         ensures ask { result ≡ asked self.new.halted self.new.instruction }
         ensures served { IsServedAsk self.new.memory result }
-        ensures sound { IsSound self.new }
+        ensures sound { IsSoundCore self.new }
         ensures memory { self.new.memory ≡ self.old.memory }
     {
         if self.is_free() {
@@ -29,7 +29,7 @@ impl Core {
     fn ask(&self) -> Ask
         ensures value { result ≡ asked self.now.halted self.now.instruction }
         ensures served { IsServedAsk self.now.memory result }
-        ensures sound { IsSound self.now }
+        ensures sound { IsSoundCore self.now }
     {
         match (self.halted(), self.request()) {
             (Some(why), _) => Ask::Halted(why),
@@ -45,7 +45,7 @@ impl Core {
         requires { IsTrue (is_free self.old) }
         ensures value { self.new ≡ executed (P.image program.now) self.old }
         ensures free { result ≡ is_free self.new }
-        ensures sound { IsSound self.new }
+        ensures sound { IsSoundCore self.new }
         ensures memory { self.new.memory ≡ self.old.memory }
     {
         rv_decode::laws::ranges();
@@ -57,7 +57,7 @@ impl Core {
         requires { IsTrue (is_free self.old) }
         ensures value { self.new ≡ executed (P.image program.now) self.old }
         ensures free { result ≡ is_free self.new }
-        ensures sound { IsSound self.old }
+        ensures sound { IsSoundCore self.old }
     {
         match self.decoded(program) {
             Some(inst) => self.execute::<P>(inst),

@@ -5,7 +5,7 @@ use Rattle.std.specs.Option.{option_or}
 use Rattle.std.proofs.lemmas.List.Folds.{find-append}
 use Rattle.rv_decode.specs.InstructionWord.{bits_of, ones, opcode_of, rd_of, funct3_of, rs1_of, rs2_of, funct7_of}
 use Rattle.rv_decode.specs.Opcodes as opcodes
-use Rattle.rv_decode.specs.InstructionTable.{Family, row_at, matches, named, families, table, decoded, by_row, instruction, uppers, jumps, register_jumps, branches, loads, stores, immediates, left_shifts, right_shifts, word_immediates, left_word_shifts, right_word_shifts, fences, calls, operations, alternate_operations, extension_m, word_operations, alternate_word_operations, extension_m_words, word_atomics, doubleword_atomics}
+use Rattle.rv_decode.specs.InstructionTable.{Family, row_at, matches, named, families, table, decoded, by_row, instruction, upper_rows, jump_rows, register_jump_rows, branch_rows, load_rows, store_rows, immediate_rows, left_shift_rows, right_shift_rows, word_immediate_rows, left_word_shift_rows, right_word_shift_rows, fence_rows, call_rows, operation_rows, alternate_operation_rows, extension_m_rows, word_operation_rows, alternate_word_operation_rows, extension_m_word_rows, word_atomic_rows, doubleword_atomic_rows}
 use Rattle.rv_decode.specs.declared.format.Format.{Format}
 use Rattle.rv_decode.specs.declared.format.Format.TheVariants.{U, J, I, B, S, R, Shift, WordShift, Atomic, LoadReserved, Whole}
 use Rattle.rv_decode.specs.declared.name.Name.TheVariants.{Lui, Auipc, Jal, LrW, LrD}
@@ -129,58 +129,58 @@ decoded-auipc word e = decoded_at opcodes.auipc word e
 pub decoded-jal : (word : ℕ) → opcode_of word ≡ opcodes.jal → decoded word ≡ Some (instruction J Jal word)
 decoded-jal word e = decoded_at opcodes.jal word e
 
-pub decoded-register_jumps : (word : ℕ) → opcode_of word ≡ opcodes.jalr → decoded word ≡ formatted I (named register_jumps.names (funct3_of word)) word
+pub decoded-register_jumps : (word : ℕ) → opcode_of word ≡ opcodes.jalr → decoded word ≡ formatted I (named register_jump_rows.names (funct3_of word)) word
 decoded-register_jumps word e = decoded_at opcodes.jalr word e ∙ option_or-None _
 
-pub decoded-branches : (word : ℕ) → opcode_of word ≡ opcodes.branch → decoded word ≡ formatted B (named branches.names (funct3_of word)) word
+pub decoded-branches : (word : ℕ) → opcode_of word ≡ opcodes.branch → decoded word ≡ formatted B (named branch_rows.names (funct3_of word)) word
 decoded-branches word e = decoded_at opcodes.branch word e ∙ option_or-None _
 
-pub decoded-loads : (word : ℕ) → opcode_of word ≡ opcodes.load → decoded word ≡ formatted I (named loads.names (funct3_of word)) word
+pub decoded-loads : (word : ℕ) → opcode_of word ≡ opcodes.load → decoded word ≡ formatted I (named load_rows.names (funct3_of word)) word
 decoded-loads word e = decoded_at opcodes.load word e ∙ option_or-None _
 
-pub decoded-stores : (word : ℕ) → opcode_of word ≡ opcodes.store → decoded word ≡ formatted S (named stores.names (funct3_of word)) word
+pub decoded-stores : (word : ℕ) → opcode_of word ≡ opcodes.store → decoded word ≡ formatted S (named store_rows.names (funct3_of word)) word
 decoded-stores word e = decoded_at opcodes.store word e ∙ option_or-None _
 
-pub decoded-fences : (word : ℕ) → opcode_of word ≡ opcodes.misc_mem → decoded word ≡ formatted I (named fences.names (funct3_of word)) word
+pub decoded-fences : (word : ℕ) → opcode_of word ≡ opcodes.misc_mem → decoded word ≡ formatted I (named fence_rows.names (funct3_of word)) word
 decoded-fences word e = decoded_at opcodes.misc_mem word e ∙ option_or-None _
 
-pub decoded-left_shifts : (word : ℕ) → opcode_of word ≡ opcodes.op_imm → funct3_of word ≡ 1 → decoded word ≡ formatted Shift (named left_shifts.names (bits_of 31 26 word)) word
+pub decoded-left_shifts : (word : ℕ) → opcode_of word ≡ opcodes.op_imm → funct3_of word ≡ 1 → decoded word ≡ formatted Shift (named left_shift_rows.names (bits_of 31 26 word)) word
 decoded-left_shifts word e f = decoded_at_funct3 opcodes.op_imm 1 word e f ∙ option_or-None _
 
-pub decoded-right_shifts : (word : ℕ) → opcode_of word ≡ opcodes.op_imm → funct3_of word ≡ 5 → decoded word ≡ formatted Shift (named right_shifts.names (bits_of 31 26 word)) word
+pub decoded-right_shifts : (word : ℕ) → opcode_of word ≡ opcodes.op_imm → funct3_of word ≡ 5 → decoded word ≡ formatted Shift (named right_shift_rows.names (bits_of 31 26 word)) word
 decoded-right_shifts word e f = decoded_at_funct3 opcodes.op_imm 5 word e f ∙ option_or-None _
 
-pub decoded-immediates : (word : ℕ) → opcode_of word ≡ opcodes.op_imm → funct3_of word ≢ 1 → funct3_of word ≢ 5 → decoded word ≡ formatted I (named immediates.names (funct3_of word)) word
+pub decoded-immediates : (word : ℕ) → opcode_of word ≡ opcodes.op_imm → funct3_of word ≢ 1 → funct3_of word ≢ 5 → decoded word ≡ formatted I (named immediate_rows.names (funct3_of word)) word
 decoded-immediates word e a b = decoded_at opcodes.op_imm word e ∙ rw (ne_eqb _ _ a, ne_eqb _ _ b) (option_or-None _)
 
-pub decoded-left_word_shifts : (word : ℕ) → opcode_of word ≡ opcodes.op_imm_32 → funct3_of word ≡ 1 → decoded word ≡ formatted WordShift (named left_word_shifts.names (bits_of 31 25 word)) word
+pub decoded-left_word_shifts : (word : ℕ) → opcode_of word ≡ opcodes.op_imm_32 → funct3_of word ≡ 1 → decoded word ≡ formatted WordShift (named left_word_shift_rows.names (bits_of 31 25 word)) word
 decoded-left_word_shifts word e f = decoded_at_funct3 opcodes.op_imm_32 1 word e f ∙ option_or-None _
 
-pub decoded-right_word_shifts : (word : ℕ) → opcode_of word ≡ opcodes.op_imm_32 → funct3_of word ≡ 5 → decoded word ≡ formatted WordShift (named right_word_shifts.names (bits_of 31 25 word)) word
+pub decoded-right_word_shifts : (word : ℕ) → opcode_of word ≡ opcodes.op_imm_32 → funct3_of word ≡ 5 → decoded word ≡ formatted WordShift (named right_word_shift_rows.names (bits_of 31 25 word)) word
 decoded-right_word_shifts word e f = decoded_at_funct3 opcodes.op_imm_32 5 word e f ∙ option_or-None _
 
-pub decoded-word_immediates : (word : ℕ) → opcode_of word ≡ opcodes.op_imm_32 → funct3_of word ≢ 1 → funct3_of word ≢ 5 → decoded word ≡ formatted I (named word_immediates.names (funct3_of word)) word
+pub decoded-word_immediates : (word : ℕ) → opcode_of word ≡ opcodes.op_imm_32 → funct3_of word ≢ 1 → funct3_of word ≢ 5 → decoded word ≡ formatted I (named word_immediate_rows.names (funct3_of word)) word
 decoded-word_immediates word e a b = decoded_at opcodes.op_imm_32 word e ∙ rw (ne_eqb _ _ a, ne_eqb _ _ b) (option_or-None _)
 
-pub decoded-operations : (word : ℕ) → opcode_of word ≡ opcodes.op → funct7_of word ≡ 0x00 → decoded word ≡ formatted R (named operations.names (funct3_of word)) word
+pub decoded-operations : (word : ℕ) → opcode_of word ≡ opcodes.op → funct7_of word ≡ 0x00 → decoded word ≡ formatted R (named operation_rows.names (funct3_of word)) word
 decoded-operations word e f = decoded_at_funct7 opcodes.op 0x00 word e f ∙ option_or-None _
 
-pub decoded-alternate_operations : (word : ℕ) → opcode_of word ≡ opcodes.op → funct7_of word ≡ 0x20 → decoded word ≡ formatted R (named alternate_operations.names (funct3_of word)) word
+pub decoded-alternate_operations : (word : ℕ) → opcode_of word ≡ opcodes.op → funct7_of word ≡ 0x20 → decoded word ≡ formatted R (named alternate_operation_rows.names (funct3_of word)) word
 decoded-alternate_operations word e f = decoded_at_funct7 opcodes.op 0x20 word e f ∙ option_or-None _
 
-pub decoded-extension_m : (word : ℕ) → opcode_of word ≡ opcodes.op → funct7_of word ≡ 0x01 → decoded word ≡ formatted R (named extension_m.names (funct3_of word)) word
+pub decoded-extension_m : (word : ℕ) → opcode_of word ≡ opcodes.op → funct7_of word ≡ 0x01 → decoded word ≡ formatted R (named extension_m_rows.names (funct3_of word)) word
 decoded-extension_m word e f = decoded_at_funct7 opcodes.op 0x01 word e f ∙ option_or-None _
 
 pub no_operation : (word : ℕ) → opcode_of word ≡ opcodes.op → funct7_of word ≢ 0x00 → funct7_of word ≢ 0x20 → funct7_of word ≢ 0x01 → decoded word ≡ None
 no_operation word e a b d = decoded_at opcodes.op word e ∙ rw (ne_eqb _ _ a, ne_eqb _ _ b, ne_eqb _ _ d) refl
 
-pub decoded-word_operations : (word : ℕ) → opcode_of word ≡ opcodes.op_32 → funct7_of word ≡ 0x00 → decoded word ≡ formatted R (named word_operations.names (funct3_of word)) word
+pub decoded-word_operations : (word : ℕ) → opcode_of word ≡ opcodes.op_32 → funct7_of word ≡ 0x00 → decoded word ≡ formatted R (named word_operation_rows.names (funct3_of word)) word
 decoded-word_operations word e f = decoded_at_funct7 opcodes.op_32 0x00 word e f ∙ option_or-None _
 
-pub decoded-alternate_word_operations : (word : ℕ) → opcode_of word ≡ opcodes.op_32 → funct7_of word ≡ 0x20 → decoded word ≡ formatted R (named alternate_word_operations.names (funct3_of word)) word
+pub decoded-alternate_word_operations : (word : ℕ) → opcode_of word ≡ opcodes.op_32 → funct7_of word ≡ 0x20 → decoded word ≡ formatted R (named alternate_word_operation_rows.names (funct3_of word)) word
 decoded-alternate_word_operations word e f = decoded_at_funct7 opcodes.op_32 0x20 word e f ∙ option_or-None _
 
-pub decoded-extension_m_words : (word : ℕ) → opcode_of word ≡ opcodes.op_32 → funct7_of word ≡ 0x01 → decoded word ≡ formatted R (named extension_m_words.names (funct3_of word)) word
+pub decoded-extension_m_words : (word : ℕ) → opcode_of word ≡ opcodes.op_32 → funct7_of word ≡ 0x01 → decoded word ≡ formatted R (named extension_m_word_rows.names (funct3_of word)) word
 decoded-extension_m_words word e f = decoded_at_funct7 opcodes.op_32 0x01 word e f ∙ option_or-None _
 
 pub no_word_operation : (word : ℕ) → opcode_of word ≡ opcodes.op_32 → funct7_of word ≢ 0x00 → funct7_of word ≢ 0x20 → funct7_of word ≢ 0x01 → decoded word ≡ None
@@ -190,7 +190,7 @@ fields_zero : (word : ℕ) → bits_of 19 7 word ≡ 0 → (rd_of word ≡ 0) ×
 fields_zero word e = (omega arith, omega arith, omega arith)
 
 -- a word whose fields rd, funct3 and rs1 are 0
-pub decoded-calls : (word : ℕ) → opcode_of word ≡ opcodes.system → bits_of 19 7 word ≡ 0 → decoded word ≡ formatted Whole (named calls.names (bits_of 31 20 word)) word
+pub decoded-calls : (word : ℕ) → opcode_of word ≡ opcodes.system → bits_of 19 7 word ≡ 0 → decoded word ≡ formatted Whole (named call_rows.names (bits_of 31 20 word)) word
 decoded-calls word e z =
     let rd = (fields_zero word z).0 in
     let funct3 = (fields_zero word z).1 in
@@ -223,10 +223,10 @@ decoded-lr_w word e f n = decoded_at_funct3 opcodes.amo 2 word e f ∙ rw n refl
 pub decoded-lr_d : (word : ℕ) → opcode_of word ≡ opcodes.amo → funct3_of word ≡ 3 → bits_of 31 27 word ≡ 2 → decoded word ≡ (if rs2_of word == 0 then Some (instruction LoadReserved LrD word) else None)
 decoded-lr_d word e f n = decoded_at_funct3 opcodes.amo 3 word e f ∙ rw n refl
 
-pub decoded-word_atomics : (word : ℕ) → opcode_of word ≡ opcodes.amo → funct3_of word ≡ 2 → bits_of 31 27 word ≢ 2 → decoded word ≡ formatted Atomic (named word_atomics.names (bits_of 31 27 word)) word
+pub decoded-word_atomics : (word : ℕ) → opcode_of word ≡ opcodes.amo → funct3_of word ≡ 2 → bits_of 31 27 word ≢ 2 → decoded word ≡ formatted Atomic (named word_atomic_rows.names (bits_of 31 27 word)) word
 decoded-word_atomics word e f n = decoded_at_funct3 opcodes.amo 2 word e f ∙ rw (ne_eqb _ _ (λ p. n (sym p))) (cond_same _ _ ∙ option_or-None _)
 
-pub decoded-doubleword_atomics : (word : ℕ) → opcode_of word ≡ opcodes.amo → funct3_of word ≡ 3 → bits_of 31 27 word ≢ 2 → decoded word ≡ formatted Atomic (named doubleword_atomics.names (bits_of 31 27 word)) word
+pub decoded-doubleword_atomics : (word : ℕ) → opcode_of word ≡ opcodes.amo → funct3_of word ≡ 3 → bits_of 31 27 word ≢ 2 → decoded word ≡ formatted Atomic (named doubleword_atomic_rows.names (bits_of 31 27 word)) word
 decoded-doubleword_atomics word e f n = decoded_at_funct3 opcodes.amo 3 word e f ∙ rw (ne_eqb _ _ (λ p. n (sym p))) (cond_same _ _ ∙ option_or-None _)
 
 pub no_atomic : (word : ℕ) → opcode_of word ≡ opcodes.amo → funct3_of word ≢ 2 → funct3_of word ≢ 3 → decoded word ≡ None
@@ -248,10 +248,10 @@ choose_other (f ∷ fs) opcode rd funct3 rs1 rs2 funct7 word whole other =
     not_true true e = cc
     not_true false e = refl
 
-no_upper : (opcode funct3 word : ℕ) → opcode ≢ opcodes.lui → opcode ≢ opcodes.auipc → of_family uppers opcode funct3 word ≡ None
+no_upper : (opcode funct3 word : ℕ) → opcode ≢ opcodes.lui → opcode ≢ opcodes.auipc → of_family upper_rows opcode funct3 word ≡ None
 no_upper opcode funct3 word a b = rw (ne_eqb opcodes.lui opcode (λ p. a (sym p)), ne_eqb opcodes.auipc opcode (λ p. b (sym p))) refl
 
-no_jump : (opcode funct3 word : ℕ) → opcode ≢ opcodes.jal → of_family jumps opcode funct3 word ≡ None
+no_jump : (opcode funct3 word : ℕ) → opcode ≢ opcodes.jal → of_family jump_rows opcode funct3 word ≡ None
 no_jump opcode funct3 word a = rw (ne_eqb opcodes.jal opcode (λ p. a (sym p))) refl
 
 none_of_three : (x y z : Option Inst) → x ≡ None → y ≡ None → z ≡ None → option_or x (option_or y z) ≡ None
@@ -268,7 +268,7 @@ no_row word a b c d e f g h i j k l m n =
     let other : list_all (λ f. not (o == bits_of 6 0 f.value)) others ≡ true =
     rw (ne_eqb o opcodes.jalr d, ne_eqb o opcodes.branch e, ne_eqb o opcodes.load f, ne_eqb o opcodes.store g, ne_eqb o opcodes.op_imm h, ne_eqb o opcodes.op_imm_32 i, ne_eqb o opcodes.misc_mem j, ne_eqb o opcodes.system k, ne_eqb o opcodes.op l, ne_eqb o opcodes.op_32 m, ne_eqb o opcodes.amo n) refl in
     decoded-choose word
-    ∙ none_of_three (of_family uppers o (funct3_of word) word) (of_family jumps o (funct3_of word) word) (choose others o (rd_of word) (funct3_of word) (rs1_of word) (rs2_of word) (funct7_of word) word)
+    ∙ none_of_three (of_family upper_rows o (funct3_of word) word) (of_family jump_rows o (funct3_of word) word) (choose others o (rd_of word) (funct3_of word) (rs1_of word) (rs2_of word) (funct7_of word) word)
     (no_upper o (funct3_of word) word a b)
     (no_jump o (funct3_of word) word c)
     (choose_other others o (rd_of word) (funct3_of word) (rs1_of word) (rs2_of word) (funct7_of word) word refl other)

@@ -10,7 +10,7 @@ use Rattle.rv_decode.proofs.TableLemmas.{row_from_decoded}
 use Rattle.std.proofs.lemmas.Int.{ints}
 use Rattle.rv_decode.specs.InstructionWord.{bits_of, signed}
 use Rattle.rv_decode.specs.InstructionTable.{Row, table, decoded, by_row, instruction}
-use Rattle.rv_decode.specs.Ranges.{AreRegisters, Fits, IsWithin, IsInRange}
+use Rattle.rv_decode.specs.Ranges.{AreRegisters, FitsFormat, IsWithin, IsInRange}
 use Rattle.rv_decode.specs.NamedRows.{format_of, value_of, row_named}
 use Rattle.rv_decode.specs.declared.format.Format.{Format}
 use Rattle.rv_decode.specs.declared.format.Format.TheVariants.{U, J, I, B, S, R, Shift, WordShift, Atomic, LoadReserved, Whole}
@@ -69,7 +69,7 @@ abbrev j_bits : ℕ → ℕ
 j_bits word = bits_of 31 31 word * 2 ^ 20 + bits_of 19 12 word * 2 ^ 12 + bits_of 20 20 word * 2 ^ 11 + bits_of 30 21 word * 2 ^ 1
 
 -- what a word is in a format has fields in the format's ranges
-pub fits_instruction : (format : Format) (name : Name) (word : ℕ) → Fits format (instruction format name word)
+pub fits_instruction : (format : Format) (name : Name) (word : ℕ) → FitsFormat format (instruction format name word)
 fits_instruction U name word = ((omega arith, refl, refl), thirty_two (bits_of 31 12 word * 2 ^ 12) (omega arith) (omega arith))
 fits_instruction J name word = ((omega arith, refl, refl), twenty_one (j_bits word) (omega arith) (omega arith))
 fits_instruction I name word = ((omega arith, omega arith, refl), twelve (bits_of 31 20 word) (omega arith))
@@ -143,7 +143,7 @@ instruction-name Whole name word = refl
 pub in_range_by_row : (word : ℕ) (i : Inst) → IsByRow word i → IsInRange i
 in_range_by_row word i is =
     subst IsInRange (sym is.fields)
-    (subst (λ f. Fits f (by_row is.row word))
+    (subst (λ f. FitsFormat f (by_row is.row word))
     (sym (format_of_listed is.row is.listed) ∙ ap format_of (sym (instruction-name is.row.format is.row.name word)))
     (fits_instruction is.row.format is.row.name word))
 

@@ -93,106 +93,106 @@ by_funct12 opcode names =
     record { mask = 0xf_ffff; value = opcode; high = 31; low = 20; format = Whole; names = names }
 
 -- "Integer Register-Immediate Instructions": LUI and AUIPC
-abbrev pub uppers : Family
-uppers = by_opcode U ((opcode.lui, Lui) ∷ (opcode.auipc, Auipc) ∷ [])
+abbrev pub upper_rows : Family
+upper_rows = by_opcode U ((opcode.lui, Lui) ∷ (opcode.auipc, Auipc) ∷ [])
 
 -- "Unconditional Jumps"
-abbrev pub jumps : Family
-jumps = by_opcode J ((opcode.jal, Jal) ∷ [])
+abbrev pub jump_rows : Family
+jump_rows = by_opcode J ((opcode.jal, Jal) ∷ [])
 
-abbrev pub register_jumps : Family
-register_jumps = by_funct3 opcode.jalr I ((0, Jalr) ∷ [])
+abbrev pub register_jump_rows : Family
+register_jump_rows = by_funct3 opcode.jalr I ((0, Jalr) ∷ [])
 
 -- "Conditional Branches"
-abbrev pub branches : Family
-branches = by_funct3 opcode.branch B ((0, Beq) ∷ (1, Bne) ∷ (4, Blt) ∷ (5, Bge) ∷ (6, Bltu) ∷ (7, Bgeu) ∷ [])
+abbrev pub branch_rows : Family
+branch_rows = by_funct3 opcode.branch B ((0, Beq) ∷ (1, Bne) ∷ (4, Blt) ∷ (5, Bge) ∷ (6, Bltu) ∷ (7, Bgeu) ∷ [])
 
 -- "Load and Store Instructions", of RV32I and of RV64I
-abbrev pub loads : Family
-loads = by_funct3 opcode.load I ((0, Lb) ∷ (1, Lh) ∷ (2, Lw) ∷ (3, Ld) ∷ (4, Lbu) ∷ (5, Lhu) ∷ (6, Lwu) ∷ [])
+abbrev pub load_rows : Family
+load_rows = by_funct3 opcode.load I ((0, Lb) ∷ (1, Lh) ∷ (2, Lw) ∷ (3, Ld) ∷ (4, Lbu) ∷ (5, Lhu) ∷ (6, Lwu) ∷ [])
 
-abbrev pub stores : Family
-stores = by_funct3 opcode.store S ((0, Sb) ∷ (1, Sh) ∷ (2, Sw) ∷ (3, Sd) ∷ [])
+abbrev pub store_rows : Family
+store_rows = by_funct3 opcode.store S ((0, Sb) ∷ (1, Sh) ∷ (2, Sw) ∷ (3, Sd) ∷ [])
 
 -- "Integer Register-Immediate Instructions", of RV32I and of RV64I
-abbrev pub immediates : Family
-immediates = by_funct3 opcode.op_imm I ((0, Addi) ∷ (2, Slti) ∷ (3, Sltiu) ∷ (4, Xori) ∷ (6, Ori) ∷ (7, Andi) ∷ [])
+abbrev pub immediate_rows : Family
+immediate_rows = by_funct3 opcode.op_imm I ((0, Addi) ∷ (2, Slti) ∷ (3, Sltiu) ∷ (4, Xori) ∷ (6, Ori) ∷ (7, Andi) ∷ [])
 
-abbrev pub left_shifts : Family
-left_shifts = by_shift opcode.op_imm 1 ((0, Slli) ∷ [])
+abbrev pub left_shift_rows : Family
+left_shift_rows = by_shift opcode.op_imm 1 ((0, Slli) ∷ [])
 
-abbrev pub right_shifts : Family
-right_shifts = by_shift opcode.op_imm 5 ((0, Srli) ∷ (0x10, Srai) ∷ [])
+abbrev pub right_shift_rows : Family
+right_shift_rows = by_shift opcode.op_imm 5 ((0, Srli) ∷ (0x10, Srai) ∷ [])
 
-abbrev pub word_immediates : Family
-word_immediates = by_funct3 opcode.op_imm_32 I ((0, Addiw) ∷ [])
+abbrev pub word_immediate_rows : Family
+word_immediate_rows = by_funct3 opcode.op_imm_32 I ((0, Addiw) ∷ [])
 
-abbrev pub left_word_shifts : Family
-left_word_shifts = by_word_shift opcode.op_imm_32 1 ((0, Slliw) ∷ [])
+abbrev pub left_word_shift_rows : Family
+left_word_shift_rows = by_word_shift opcode.op_imm_32 1 ((0, Slliw) ∷ [])
 
-abbrev pub right_word_shifts : Family
-right_word_shifts = by_word_shift opcode.op_imm_32 5 ((0, Srliw) ∷ (0x20, Sraiw) ∷ [])
+abbrev pub right_word_shift_rows : Family
+right_word_shift_rows = by_word_shift opcode.op_imm_32 5 ((0, Srliw) ∷ (0x20, Sraiw) ∷ [])
 
 -- "Memory Ordering Instructions": FENCE, whose fields pred, succ and fm are its I immediate
-abbrev pub fences : Family
-fences = by_funct3 opcode.misc_mem I ((0, Fence) ∷ [])
+abbrev pub fence_rows : Family
+fence_rows = by_funct3 opcode.misc_mem I ((0, Fence) ∷ [])
 
 -- "Environment Call and Breakpoints"
-abbrev pub calls : Family
-calls = by_funct12 opcode.system ((0, Ecall) ∷ (1, Ebreak) ∷ [])
+abbrev pub call_rows : Family
+call_rows = by_funct12 opcode.system ((0, Ecall) ∷ (1, Ebreak) ∷ [])
 
 -- "Integer Register-Register Operations", of RV32I and of RV64I, and the extension M: "Multiplication Operations" and
 -- "Division Operations"
-abbrev pub operations : Family
-operations =
+abbrev pub operation_rows : Family
+operation_rows =
     by_funct7_funct3 opcode.op 0x00 ((0, Add) ∷ (1, Sll) ∷ (2, Slt) ∷ (3, Sltu) ∷ (4, Xor) ∷ (5, Srl)
     ∷ (6, Or) ∷ (7, And) ∷ [])
 
-abbrev pub alternate_operations : Family
-alternate_operations = by_funct7_funct3 opcode.op 0x20 ((0, Sub) ∷ (5, Sra) ∷ [])
+abbrev pub alternate_operation_rows : Family
+alternate_operation_rows = by_funct7_funct3 opcode.op 0x20 ((0, Sub) ∷ (5, Sra) ∷ [])
 
-abbrev pub extension_m : Family
-extension_m =
+abbrev pub extension_m_rows : Family
+extension_m_rows =
     by_funct7_funct3 opcode.op 0x01 ((0, Mul) ∷ (1, Mulh) ∷ (2, Mulhsu) ∷ (3, Mulhu) ∷ (4, Div) ∷ (5, Divu)
     ∷ (6, Rem) ∷ (7, Remu) ∷ [])
 
-abbrev pub word_operations : Family
-word_operations = by_funct7_funct3 opcode.op_32 0x00 ((0, Addw) ∷ (1, Sllw) ∷ (5, Srlw) ∷ [])
+abbrev pub word_operation_rows : Family
+word_operation_rows = by_funct7_funct3 opcode.op_32 0x00 ((0, Addw) ∷ (1, Sllw) ∷ (5, Srlw) ∷ [])
 
-abbrev pub alternate_word_operations : Family
-alternate_word_operations = by_funct7_funct3 opcode.op_32 0x20 ((0, Subw) ∷ (5, Sraw) ∷ [])
+abbrev pub alternate_word_operation_rows : Family
+alternate_word_operation_rows = by_funct7_funct3 opcode.op_32 0x20 ((0, Subw) ∷ (5, Sraw) ∷ [])
 
-abbrev pub extension_m_words : Family
-extension_m_words =
+abbrev pub extension_m_word_rows : Family
+extension_m_word_rows =
     by_funct7_funct3 opcode.op_32 0x01 ((0, Mulw) ∷ (4, Divw) ∷ (5, Divuw) ∷ (6, Remw) ∷ (7, Remuw) ∷ [])
 
 -- The extension A: "Load-Reserved/Store-Conditional Instructions" and "Atomic Memory Operations"
-abbrev pub word_reservations : Family
-word_reservations = by_funct5_without_rs2 opcode.amo 2 ((0x02, LrW) ∷ [])
+abbrev pub word_reservation_rows : Family
+word_reservation_rows = by_funct5_without_rs2 opcode.amo 2 ((0x02, LrW) ∷ [])
 
-abbrev pub word_atomics : Family
-word_atomics =
+abbrev pub word_atomic_rows : Family
+word_atomic_rows =
     by_funct5 opcode.amo 2 ((0x03, ScW) ∷ (0x01, AmoswapW) ∷ (0x00, AmoaddW) ∷ (0x04, AmoxorW) ∷ (0x0c, AmoandW)
     ∷ (0x08, AmoorW) ∷ (0x10, AmominW) ∷ (0x14, AmomaxW) ∷ (0x18, AmominuW)
     ∷ (0x1c, AmomaxuW) ∷ [])
 
-abbrev pub doubleword_reservations : Family
-doubleword_reservations = by_funct5_without_rs2 opcode.amo 3 ((0x02, LrD) ∷ [])
+abbrev pub doubleword_reservation_rows : Family
+doubleword_reservation_rows = by_funct5_without_rs2 opcode.amo 3 ((0x02, LrD) ∷ [])
 
-abbrev pub doubleword_atomics : Family
-doubleword_atomics =
+abbrev pub doubleword_atomic_rows : Family
+doubleword_atomic_rows =
     by_funct5 opcode.amo 3 ((0x03, ScD) ∷ (0x01, AmoswapD) ∷ (0x00, AmoaddD) ∷ (0x04, AmoxorD) ∷ (0x0c, AmoandD)
     ∷ (0x08, AmoorD) ∷ (0x10, AmominD) ∷ (0x14, AmomaxD) ∷ (0x18, AmominuD)
     ∷ (0x1c, AmomaxuD) ∷ [])
 
 abbrev pub families : List Family
-families = uppers ∷ jumps ∷ register_jumps ∷ branches ∷ loads ∷ stores
-    ∷ immediates ∷ left_shifts ∷ right_shifts
-    ∷ word_immediates ∷ left_word_shifts ∷ right_word_shifts
-    ∷ fences ∷ calls
-    ∷ operations ∷ alternate_operations ∷ extension_m
-    ∷ word_operations ∷ alternate_word_operations ∷ extension_m_words
-    ∷ word_reservations ∷ word_atomics ∷ doubleword_reservations ∷ doubleword_atomics ∷ []
+families = upper_rows ∷ jump_rows ∷ register_jump_rows ∷ branch_rows ∷ load_rows ∷ store_rows
+    ∷ immediate_rows ∷ left_shift_rows ∷ right_shift_rows
+    ∷ word_immediate_rows ∷ left_word_shift_rows ∷ right_word_shift_rows
+    ∷ fence_rows ∷ call_rows
+    ∷ operation_rows ∷ alternate_operation_rows ∷ extension_m_rows
+    ∷ word_operation_rows ∷ alternate_word_operation_rows ∷ extension_m_word_rows
+    ∷ word_reservation_rows ∷ word_atomic_rows ∷ doubleword_reservation_rows ∷ doubleword_atomic_rows ∷ []
 
 -- the rows
 unfoldable pub table : List Row

@@ -38,9 +38,9 @@ IsImmediate LoadReserved z = IsWithin (pos 0) (pos 3) 1 z
 IsImmediate Whole z = z ≡ pos 0
 
 -- the fields are in the ranges of a format
-abbrev pub Fits : Format → Inst → Type 0
-Fits format i = AreRegisters format i × IsImmediate format i.imm
+abbrev pub FitsFormat : Format → Inst → Type 0
+FitsFormat format i = AreRegisters format i × IsImmediate format i.imm
 
 -- the fields of an instruction are in the ranges of its name's format
 abbrev pub IsInRange : Inst → Type 0
-IsInRange i = Fits (format_of i.name) i
+IsInRange i = FitsFormat (format_of i.name) i

@@ -1,12 +1,12 @@
 // The names of the instructions of one opcode, by the field in which their rows differ. The groups
 // are those of the instruction table.
 ghost use Rattle.std.specs.Prelude.{◌≡◌};
-ghost use Rattle.rv_decode.specs.InstructionTable.{named, register_jumps, branches, loads, stores, immediates, left_shifts, right_shifts, word_immediates, left_word_shifts, right_word_shifts, fences, calls, operations, alternate_operations, extension_m, word_operations, alternate_word_operations, extension_m_words, word_atomics, doubleword_atomics};
+ghost use Rattle.rv_decode.specs.InstructionTable.{named, register_jump_rows, branch_rows, load_rows, store_rows, immediate_rows, left_shift_rows, right_shift_rows, word_immediate_rows, left_word_shift_rows, right_word_shift_rows, fence_rows, call_rows, operation_rows, alternate_operation_rows, extension_m_rows, word_operation_rows, alternate_word_operation_rows, extension_m_word_rows, word_atomic_rows, doubleword_atomic_rows};
 
 use crate::Name;
 
 pub fn register_jump_name(funct3: u32) -> Option<Name>
-    ensures { result ≡ named register_jumps.names funct3 }
+    ensures { result ≡ named register_jump_rows.names funct3 }
 {
     match funct3 {
         0 => Some(Name::Jalr),
@@ -15,7 +15,7 @@ pub fn register_jump_name(funct3: u32) -> Option<Name>
 }
 
 pub fn branch_name(funct3: u32) -> Option<Name>
-    ensures { result ≡ named branches.names funct3 }
+    ensures { result ≡ named branch_rows.names funct3 }
 {
     match funct3 {
         0 => Some(Name::Beq),
@@ -29,7 +29,7 @@ pub fn branch_name(funct3: u32) -> Option<Name>
 }
 
 pub fn load_name(funct3: u32) -> Option<Name>
-    ensures { result ≡ named loads.names funct3 }
+    ensures { result ≡ named load_rows.names funct3 }
 {
     match funct3 {
         0 => Some(Name::Lb),
@@ -44,7 +44,7 @@ pub fn load_name(funct3: u32) -> Option<Name>
 }
 
 pub fn store_name(funct3: u32) -> Option<Name>
-    ensures { result ≡ named stores.names funct3 }
+    ensures { result ≡ named store_rows.names funct3 }
 {
     match funct3 {
         0 => Some(Name::Sb),
@@ -56,7 +56,7 @@ pub fn store_name(funct3: u32) -> Option<Name>
 }
 
 pub fn immediate_name(funct3: u32) -> Option<Name>
-    ensures { result ≡ named immediates.names funct3 }
+    ensures { result ≡ named immediate_rows.names funct3 }
 {
     match funct3 {
         0 => Some(Name::Addi),
@@ -70,7 +70,7 @@ pub fn immediate_name(funct3: u32) -> Option<Name>
 }
 
 pub fn left_shift_name(top: u32) -> Option<Name>
-    ensures { result ≡ named left_shifts.names top }
+    ensures { result ≡ named left_shift_rows.names top }
 {
     match top {
         0 => Some(Name::Slli),
@@ -79,7 +79,7 @@ pub fn left_shift_name(top: u32) -> Option<Name>
 }
 
 pub fn right_shift_name(top: u32) -> Option<Name>
-    ensures { result ≡ named right_shifts.names top }
+    ensures { result ≡ named right_shift_rows.names top }
 {
     match top {
         0 => Some(Name::Srli),
@@ -89,7 +89,7 @@ pub fn right_shift_name(top: u32) -> Option<Name>
 }
 
 pub fn word_immediate_name(funct3: u32) -> Option<Name>
-    ensures { result ≡ named word_immediates.names funct3 }
+    ensures { result ≡ named word_immediate_rows.names funct3 }
 {
     match funct3 {
         0 => Some(Name::Addiw),
@@ -98,7 +98,7 @@ pub fn word_immediate_name(funct3: u32) -> Option<Name>
 }
 
 pub fn left_word_shift_name(funct7: u32) -> Option<Name>
-    ensures { result ≡ named left_word_shifts.names funct7 }
+    ensures { result ≡ named left_word_shift_rows.names funct7 }
 {
     match funct7 {
         0 => Some(Name::Slliw),
@@ -107,7 +107,7 @@ pub fn left_word_shift_name(funct7: u32) -> Option<Name>
 }
 
 pub fn right_word_shift_name(funct7: u32) -> Option<Name>
-    ensures { result ≡ named right_word_shifts.names funct7 }
+    ensures { result ≡ named right_word_shift_rows.names funct7 }
 {
     match funct7 {
         0 => Some(Name::Srliw),
@@ -117,7 +117,7 @@ pub fn right_word_shift_name(funct7: u32) -> Option<Name>
 }
 
 pub fn fence_name(funct3: u32) -> Option<Name>
-    ensures { result ≡ named fences.names funct3 }
+    ensures { result ≡ named fence_rows.names funct3 }
 {
     match funct3 {
         0 => Some(Name::Fence),
@@ -126,7 +126,7 @@ pub fn fence_name(funct3: u32) -> Option<Name>
 }
 
 pub fn call_name(funct12: u32) -> Option<Name>
-    ensures { result ≡ named calls.names funct12 }
+    ensures { result ≡ named call_rows.names funct12 }
 {
     match funct12 {
         0 => Some(Name::Ecall),
@@ -136,7 +136,7 @@ pub fn call_name(funct12: u32) -> Option<Name>
 }
 
 pub fn operation_name(funct3: u32) -> Option<Name>
-    ensures { result ≡ named operations.names funct3 }
+    ensures { result ≡ named operation_rows.names funct3 }
 {
     match funct3 {
         0 => Some(Name::Add),
@@ -152,7 +152,7 @@ pub fn operation_name(funct3: u32) -> Option<Name>
 }
 
 pub fn alternate_operation_name(funct3: u32) -> Option<Name>
-    ensures { result ≡ named alternate_operations.names funct3 }
+    ensures { result ≡ named alternate_operation_rows.names funct3 }
 {
     match funct3 {
         0 => Some(Name::Sub),
@@ -162,7 +162,7 @@ pub fn alternate_operation_name(funct3: u32) -> Option<Name>
 }
 
 pub fn extension_m_name(funct3: u32) -> Option<Name>
-    ensures { result ≡ named extension_m.names funct3 }
+    ensures { result ≡ named extension_m_rows.names funct3 }
 {
     match funct3 {
         0 => Some(Name::Mul),
@@ -178,7 +178,7 @@ pub fn extension_m_name(funct3: u32) -> Option<Name>
 }
 
 pub fn word_operation_name(funct3: u32) -> Option<Name>
-    ensures { result ≡ named word_operations.names funct3 }
+    ensures { result ≡ named word_operation_rows.names funct3 }
 {
     match funct3 {
         0 => Some(Name::Addw),
@@ -189,7 +189,7 @@ pub fn word_operation_name(funct3: u32) -> Option<Name>
 }
 
 pub fn alternate_word_operation_name(funct3: u32) -> Option<Name>
-    ensures { result ≡ named alternate_word_operations.names funct3 }
+    ensures { result ≡ named alternate_word_operation_rows.names funct3 }
 {
     match funct3 {
         0 => Some(Name::Subw),
@@ -199,7 +199,7 @@ pub fn alternate_word_operation_name(funct3: u32) -> Option<Name>
 }
 
 pub fn extension_m_word_name(funct3: u32) -> Option<Name>
-    ensures { result ≡ named extension_m_words.names funct3 }
+    ensures { result ≡ named extension_m_word_rows.names funct3 }
 {
     match funct3 {
         0 => Some(Name::Mulw),
@@ -212,7 +212,7 @@ pub fn extension_m_word_name(funct3: u32) -> Option<Name>
 }
 
 pub fn word_atomic_name(funct5: u32) -> Option<Name>
-    ensures { result ≡ named word_atomics.names funct5 }
+    ensures { result ≡ named word_atomic_rows.names funct5 }
 {
     match funct5 {
         0x03 => Some(Name::ScW),
@@ -230,7 +230,7 @@ pub fn word_atomic_name(funct5: u32) -> Option<Name>
 }
 
 pub fn doubleword_atomic_name(funct5: u32) -> Option<Name>
-    ensures { result ≡ named doubleword_atomics.names funct5 }
+    ensures { result ≡ named doubleword_atomic_rows.names funct5 }
 {
     match funct5 {
         0x03 => Some(Name::ScD),

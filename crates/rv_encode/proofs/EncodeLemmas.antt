@@ -6,7 +6,7 @@ use Rattle.std.proofs.lemmas.List.Sums.{AllPass-from_list_all}
 use Rattle.std.proofs.lemmas.Nat.{and_le_r}
 use Rattle.rv_decode.specs.InstructionTable.{Row, table, decoded, by_row, instruction}
 use Rattle.rv_decode.specs.NamedRows.{value_of, format_of}
-use Rattle.rv_decode.specs.Ranges.{Fits, IsInRange}
+use Rattle.rv_decode.specs.Ranges.{FitsFormat, IsInRange}
 use Rattle.rv_decode.specs.declared.format.Format.{Format}
 use Rattle.rv_decode.specs.declared.format.Format.TheVariants.{U, J, I, B, S, R, Shift, WordShift, Atomic, LoadReserved, Whole}
 use Rattle.rv_decode.specs.declared.inst.Inst.{Inst}
@@ -51,10 +51,10 @@ encoded i = word_of (format_of i.name) (value_of i.name) i
 
 module _ (laws : TableLaws) (masks : MaskLaws) where
   -- the word of an instruction, by the row of its name
-  encoded_by_row : (i : Inst) (row : Row) → Contains table row → row.name ≡ i.name → Fits row.format i → IsWordOf row.format row.value i (word_of row.format row.value i)
+  encoded_by_row : (i : Inst) (row : Row) → Contains table row → row.name ≡ i.name → FitsFormat row.format i → IsWordOf row.format row.value i (word_of row.format row.value i)
   encoded_by_row i row c n h = is_word_of masks row.format row.value i (stated row c).1 (value_below row c) h
 
-  decodes_by_row : (i : Inst) (row : Row) → Contains table row → row.name ≡ i.name → Fits row.format i → decoded (word_of row.format row.value i) ≡ Some i
+  decodes_by_row : (i : Inst) (row : Row) → Contains table row → row.name ≡ i.name → FitsFormat row.format i → decoded (word_of row.format row.value i) ≡ Some i
   decodes_by_row i row c n h =
       let is = encoded_by_row i row c n h in
       let word = word_of row.format row.value i in
@@ -71,13 +71,13 @@ module _ (laws : TableLaws) (masks : MaskLaws) where
       let it = laws.each i.name in
       let at = at_row i it.0 it.1 it.2 in
       ap₂ (λ f v. decoded (word_of f v i)) at.0 at.1
-      ∙ decodes_by_row i it.0 it.1 it.2 (subst (λ f. Fits f i) at.0 h)
+      ∙ decodes_by_row i it.0 it.1 it.2 (subst (λ f. FitsFormat f i) at.0 h)
 
   pub encoded_below : (i : Inst) → IsInRange i → encoded i < 2 ^ 32
   encoded_below i h =
       let it = laws.each i.name in
       let at = at_row i it.0 it.1 it.2 in
-      let is = encoded_by_row i it.0 it.1 it.2 (subst (λ f. Fits f i) at.0 h) in
+      let is = encoded_by_row i it.0 it.1 it.2 (subst (λ f. FitsFormat f i) at.0 h) in
       let same : encoded i ≡ word_of it.0.format it.0.value i = ap₂ (λ f v. word_of f v i) at.0 at.1 in
       subst (λ w. w < 2 ^ 32) (sym same) is.below
 

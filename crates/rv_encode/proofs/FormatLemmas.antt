@@ -3,7 +3,7 @@
 use Rattle.std.proofs.Common.{◌≡◌, ℕ, ◌+◌, ◌*◌, ◌^◌, ◌<◌, refl, sym, ap, ap₂, ◌∙◌, arith, bit_and, pos, ℤ}
 use Rattle.rv_decode.specs.InstructionWord.{bits_of, signed, rd_of, rs1_of, rs2_of}
 use Rattle.rv_decode.specs.InstructionTable.{instruction}
-use Rattle.rv_decode.specs.Ranges.{Fits}
+use Rattle.rv_decode.specs.Ranges.{FitsFormat}
 use Rattle.rv_decode.specs.declared.format.Format.{Format}
 use Rattle.rv_decode.specs.declared.format.Format.TheVariants.{U, J, I, B, S, R, Shift, WordShift, Atomic, LoadReserved, Whole}
 use Rattle.rv_decode.specs.declared.inst.Inst.{Inst}
@@ -42,7 +42,7 @@ abbrev pub word_of : Format → ℕ → Inst → ℕ
 word_of f value i = value + registers_of i + immediate_of f i.imm
 
 module _ (laws : MaskLaws) where
-  pub is_word_of : (f : Format) (value : ℕ) (i : Inst) → bit_and value (mask_of f) ≡ value → value < 2 ^ 32 → Fits f i → IsWordOf f value i (word_of f value i)
+  pub is_word_of : (f : Format) (value : ℕ) (i : Inst) → bit_and value (mask_of f) ≡ value → value < 2 ^ 32 → FitsFormat f i → IsWordOf f value i (word_of f value i)
   is_word_of U v i e b h =
       let t = thirty_two i.imm h.1 in
       let p = put.upper v i.rd i.rs1 i.rs2 (unsigned 32 i.imm) (sym e ∙ under_opcode laws v) h.0.0 h.0.1 h.0.2 t.0 t.1 in

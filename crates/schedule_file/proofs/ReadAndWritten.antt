@@ -13,7 +13,7 @@ use Rattle.byteorder.specs.Numbers.{little_from-cons, little_from-lt}
 use Rattle.access_log.specs.Schedule.{AreTurns, IntervalLists}
 use Rattle.schedule_file.specs.declared.bad_schedule.BadSchedule.{BadSchedule}
 use Rattle.schedule_file.specs.declared.bad_schedule.BadSchedule.TheVariants as bad
-use Rattle.schedule_file.specs.ScheduleFile.{count_of, field_at, file_of, header_bytes, known_turns, list_bytes, lists_from, magic, number_at, schedule_of, then_read, turns_at}
+use Rattle.schedule_file.specs.ScheduleFile.{count_of, field_at, header_bytes, known_turns, list_bytes, lists_from, magic, read_number, schedule_file_of, schedule_of, then_read, turns_at}
 
 -- ---- numbers
 
@@ -77,7 +77,7 @@ field_read bytes at count field is =
       sym same,
     )
 
-number_read : (bytes : List ℕ) (at number : ℕ) → All (λ byte. byte < 256) bytes → number_at bytes at ≡ Ok number → IsField bytes at 4 (little_bytes 4 number) × (number < 2 ^ 32)
+number_read : (bytes : List ℕ) (at number : ℕ) → All (λ byte. byte < 256) bytes → read_number bytes at ≡ Ok number → IsField bytes at 4 (little_bytes 4 number) × (number < 2 ^ 32)
 number_read bytes at number low is =
     let read = first_read (field_at bytes at 4) (λ field. Ok (little_number 4 field)) number is in
     let field = read.0 in
@@ -114,7 +114,7 @@ record IsList (cores : ℕ) (bytes : List ℕ) (at : ℕ) (turns : List ℕ) : T
 turns_read : (cores : ℕ) (bytes : List ℕ) (interval at : ℕ) (turns : List ℕ) → All (λ byte. byte < 256) bytes → turns_at cores bytes interval at ≡ Ok turns → IsList cores bytes at turns
 unfolding turns_at
 turns_read cores bytes interval at turns low is =
-    let counted = first_read (number_at bytes at) (λ count. then_read (field_at bytes (at + 4) count) (λ list. known_turns interval (position (nat_le cores) list) list)) turns is in
+    let counted = first_read (read_number bytes at) (λ count. then_read (field_at bytes (at + 4) count) (λ list. known_turns interval (position (nat_le cores) list) list)) turns is in
     let listed = first_read (field_at bytes (at + 4) counted.0) (λ list. known_turns interval (position (nat_le cores) list) list) turns counted.2 in
     let known = known_read interval (position (nat_le cores) listed.0) listed.0 turns listed.2 in
     let number = number_read bytes at counted.0 low counted.1 in
@@ -174,23 +174,23 @@ record IsHeader (cores : ℕ) (bytes : List ℕ) (count : ℕ) : Type 0 where
 
 -- what is read after the number of cores, after the version, and after the magic
 abbrev after_cores : (cores : ℕ) (bytes : List ℕ) (found : ℕ) → Result ℕ BadSchedule
-after_cores cores bytes found = if found == cores then number_at bytes 12 else Err (bad.Cores found)
+after_cores cores bytes found = if found == cores then read_number bytes 12 else Err (bad.Cores found)
 
 abbrev after_version : (cores : ℕ) (bytes : List ℕ) (version : ℕ) → Result ℕ BadSchedule
-after_version cores bytes version = if version == 1 then then_read (number_at bytes 8) (after_cores cores bytes) else Err (bad.Version version)
+after_version cores bytes version = if version == 1 then then_read (read_number bytes 8) (after_cores cores bytes) else Err (bad.Version version)
 
 abbrev after_magic : (cores : ℕ) (bytes found : List ℕ) → Result ℕ BadSchedule
-after_magic cores bytes found = if bytes_eq found magic then then_read (number_at bytes 4) (after_version cores bytes) else Err bad.Magic
+after_magic cores bytes found = if bytes_eq found magic then then_read (read_number bytes 4) (after_version cores bytes) else Err bad.Magic
 
 header_read : (cores : ℕ) (bytes : List ℕ) (count : ℕ) → All (λ byte. byte < 256) bytes → count_of cores bytes ≡ Ok count → IsHeader cores bytes count
 unfolding count_of
 header_read cores bytes count low is =
     let start = first_read (field_at bytes 0 4) (after_magic cores bytes) count is in
-    let same_magic = test_passed (bytes_eq start.0 magic) (then_read (number_at bytes 4) (after_version cores bytes)) bad.Magic count start.2 in
-    let versioned = first_read (number_at bytes 4) (after_version cores bytes) count same_magic.1 in
-    let same_version = test_passed (versioned.0 == 1) (then_read (number_at bytes 8) (after_cores cores bytes)) (bad.Version versioned.0) count versioned.2 in
-    let machine = first_read (number_at bytes 8) (after_cores cores bytes) count same_version.1 in
-    let same_cores = test_passed (machine.0 == cores) (number_at bytes 12) (bad.Cores machine.0) count machine.2 in
+    let same_magic = test_passed (bytes_eq start.0 magic) (then_read (read_number bytes 4) (after_version cores bytes)) bad.Magic count start.2 in
+    let versioned = first_read (read_number bytes 4) (after_version cores bytes) count same_magic.1 in
+    let same_version = test_passed (versioned.0 == 1) (then_read (read_number bytes 8) (after_cores cores bytes)) (bad.Version versioned.0) count versioned.2 in
+    let machine = first_read (read_number bytes 8) (after_cores cores bytes) count same_version.1 in
+    let same_cores = test_passed (machine.0 == cores) (read_number bytes 12) (bad.Cores machine.0) count machine.2 in
     let is_magic : start.0 ≡ magic = (bytes_eq-Decides start.0 magic).0 same_magic.0 in
     let is_version : versioned.0 ≡ 1 = eqb-true versioned.0 1 same_version.0 in
     let is_machine : machine.0 ≡ cores = eqb-true machine.0 cores same_cores.0 in
@@ -207,7 +207,7 @@ header_read cores bytes count low is =
     }
 
 pub written_again : (cores : ℕ) (bytes : List ℕ) (s : IntervalLists) → All (λ byte. byte < 256) bytes → schedule_of cores bytes ≡ Ok s
-    → (file_of s ≡ bytes) × (s.cores ≡ cores) × AreTurns s
+    → (schedule_file_of s ≡ bytes) × (s.cores ≡ cores) × AreTurns s
 unfolding schedule_of header_bytes
 written_again cores bytes s low is =
     let header = first_read (count_of cores bytes) (λ count. then_read (lists_from cores bytes count 0 16) (λ lists. Ok (record { cores = cores; lists = lists }))) s is in
@@ -217,7 +217,7 @@ written_again cores bytes s low is =
     let all : read ≡ s = cc (body.2) in
     let head = header_read cores bytes count low header.1 in
     let rest = lists_read cores bytes count 0 16 body.0 low body.1 in
-    subst (λ t. (file_of t ≡ bytes) × (t.cores ≡ cores) × AreTurns t) all (
+    subst (λ t. (schedule_file_of t ≡ bytes) × (t.cores ≡ cores) × AreTurns t) all (
       sym (head.ahead ∙ ap (λ n. magic ++ (little_bytes 4 1 ++ (little_bytes 4 cores ++ (little_bytes 4 n ++ drop 16 bytes)))) (sym rest.many)
           ∙ ap (λ behind. magic ++ (little_bytes 4 1 ++ (little_bytes 4 cores ++ (little_bytes 4 (length body.0) ++ behind)))) rest.ahead),
       refl,

@@ -8,7 +8,7 @@ use Rattle.std.specs.List.{flat_map, position_or_len}
 use Rattle.byteorder.specs.Endian.{little_bytes, little_number}
 use Rattle.byteorder.specs.Numbers.{length-bytes_low_first, little_number-reads_back}
 use Rattle.access_log.specs.Schedule.{AreTurns, IntervalLists}
-use Rattle.schedule_file.specs.ScheduleFile.{count_of, field_at, file_of, header_bytes, known_turns, list_bytes, lists_from, magic, number_at, schedule_of, then_read, turns_at}
+use Rattle.schedule_file.specs.ScheduleFile.{count_of, field_at, header_bytes, known_turns, list_bytes, lists_from, magic, read_number, schedule_file_of, schedule_of, then_read, turns_at}
 
 -- a field, and then the rest
 pub record IsAhead (bytes : List ℕ) (at : ℕ) (field rest : List ℕ) : Type 0 where
@@ -34,7 +34,7 @@ behind_is bytes at count field next rest is long = record {
   ahead = sym (drop-drop count at bytes) ∙ (ap (drop count) is.ahead ∙ drop_at field (next ++ rest) count long);
 }
 
-number_is : (bytes : List ℕ) (at number : ℕ) (rest : List ℕ) → IsAhead bytes at (little_bytes 4 number) rest → number < 2 ^ 32 → number_at bytes at ≡ Ok number
+number_is : (bytes : List ℕ) (at number : ℕ) (rest : List ℕ) → IsAhead bytes at (little_bytes 4 number) rest → number < 2 ^ 32 → read_number bytes at ≡ Ok number
 number_is bytes at number rest is low =
     let four : length (little_bytes 4 number) ≡ 4 = length-bytes_low_first 0 4 number in
     let back : little_number 4 (little_bytes 4 number) ≡ number =
@@ -82,23 +82,23 @@ lists_are cores bytes interval at (turns ∷ lists) known short is =
 
 -- ---- the header
 
-pub read_again : (s : IntervalLists) → AreTurns s → s.cores ≤ 64 → schedule_of s.cores (file_of s) ≡ Ok s
+pub read_again : (s : IntervalLists) → AreTurns s → s.cores ≤ 64 → schedule_of s.cores (schedule_file_of s) ≡ Ok s
 unfolding schedule_of count_of header_bytes
 read_again s turns few =
     let cores = little_bytes 4 s.cores in
     let count = little_bytes 4 (length s.lists) in
     let lists = flat_map list_bytes s.lists in
-    let start : IsAhead (file_of s) 0 magic (little_bytes 4 1 ++ (cores ++ (count ++ lists))) = record { place = omega arith; ahead = refl } in
-    let version : IsAhead (file_of s) 4 (little_bytes 4 1) (cores ++ (count ++ lists)) = behind_is (file_of s) 0 4 magic (little_bytes 4 1) (cores ++ (count ++ lists)) start refl in
-    let machine : IsAhead (file_of s) 8 cores (count ++ lists) = behind_is (file_of s) 4 4 (little_bytes 4 1) cores (count ++ lists) version refl in
-    let number : IsAhead (file_of s) 12 count lists = behind_is (file_of s) 8 4 cores count lists machine refl in
-    let named : IsAhead (file_of s) 12 count (lists ++ []) = record { place = number.place; ahead = number.ahead ∙ ap (λ rest. count ++ rest) (sym (append-nil lists)) } in
-    let rest : IsAhead (file_of s) 16 lists [] = behind_is (file_of s) 12 4 count lists [] named refl in
+    let start : IsAhead (schedule_file_of s) 0 magic (little_bytes 4 1 ++ (cores ++ (count ++ lists))) = record { place = omega arith; ahead = refl } in
+    let version : IsAhead (schedule_file_of s) 4 (little_bytes 4 1) (cores ++ (count ++ lists)) = behind_is (schedule_file_of s) 0 4 magic (little_bytes 4 1) (cores ++ (count ++ lists)) start refl in
+    let machine : IsAhead (schedule_file_of s) 8 cores (count ++ lists) = behind_is (schedule_file_of s) 4 4 (little_bytes 4 1) cores (count ++ lists) version refl in
+    let number : IsAhead (schedule_file_of s) 12 count lists = behind_is (schedule_file_of s) 8 4 cores count lists machine refl in
+    let named : IsAhead (schedule_file_of s) 12 count (lists ++ []) = record { place = number.place; ahead = number.ahead ∙ ap (λ rest. count ++ rest) (sym (append-nil lists)) } in
+    let rest : IsAhead (schedule_file_of s) 16 lists [] = behind_is (schedule_file_of s) 12 4 count lists [] named refl in
     rw (
-      field_is (file_of s) 0 4 magic _ start refl,
-      number_is (file_of s) 4 1 _ version (omega arith),
-      number_is (file_of s) 8 s.cores _ machine (omega (arith, few)),
+      field_is (schedule_file_of s) 0 4 magic _ start refl,
+      number_is (schedule_file_of s) 4 1 _ version (omega arith),
+      number_is (schedule_file_of s) 8 s.cores _ machine (omega (arith, few)),
       eq-eqb s.cores s.cores refl,
-      number_is (file_of s) 12 (length s.lists) _ number turns.few,
-      lists_are s.cores (file_of s) 0 16 s.lists turns.known turns.short rest,
+      number_is (schedule_file_of s) 12 (length s.lists) _ number turns.few,
+      lists_are s.cores (schedule_file_of s) 0 16 s.lists turns.known turns.short rest,
     ) refl

@@ -23,8 +23,8 @@ unfoldable pub header_bytes : IntervalLists → List ℕ
 header_bytes s = magic ++ (little_bytes 4 1 ++ (little_bytes 4 s.cores ++ little_bytes 4 (length s.lists)))
 
 -- the header, and the list of each interval
-abbrev pub file_of : IntervalLists → List ℕ
-file_of s = header_bytes s ++ flat_map list_bytes s.lists
+abbrev pub schedule_file_of : IntervalLists → List ℕ
+schedule_file_of s = header_bytes s ++ flat_map list_bytes s.lists
 
 -- ---- read, from front to back
 
@@ -38,8 +38,8 @@ then_read (Ok x) f = f x
 then_read (Err wrong) f = Err wrong
 
 -- the number at a place
-abbrev pub number_at : (bytes : List ℕ) → (at : ℕ) → Result ℕ BadSchedule
-number_at bytes at = then_read (field_at bytes at 4) (λ field. Ok (little_number 4 field))
+abbrev pub read_number : (bytes : List ℕ) → (at : ℕ) → Result ℕ BadSchedule
+read_number bytes at = then_read (field_at bytes at 4) (λ field. Ok (little_number 4 field))
 
 -- a list of turns, or the first place that names no core
 abbrev pub known_turns : (interval : ℕ) → (stranger : Option ℕ) → List ℕ → Result (List ℕ) BadSchedule
@@ -49,7 +49,7 @@ known_turns interval (Some place) turns = Err (bad.Core interval place)
 -- the list of an interval, which begins at a place
 unfoldable pub turns_at : (cores : ℕ) → (bytes : List ℕ) → (interval at : ℕ) → Result (List ℕ) BadSchedule
 turns_at cores bytes interval at =
-    then_read (number_at bytes at) (λ count.
+    then_read (read_number bytes at) (λ count.
     then_read (field_at bytes (at + 4) count) (λ turns. known_turns interval (position (nat_le cores) turns) turns))
 
 -- so many lists from a place on, the first of which is of this interval, and then the end of the file
@@ -63,8 +63,8 @@ lists_from cores bytes (suc count) interval at =
 unfoldable pub count_of : (cores : ℕ) → (bytes : List ℕ) → Result ℕ BadSchedule
 count_of cores bytes =
     then_read (field_at bytes 0 4) (λ found_magic. if bytes_eq found_magic magic then
-    then_read (number_at bytes 4) (λ version. if version == 1 then
-    then_read (number_at bytes 8) (λ found. if found == cores then number_at bytes 12 else Err (bad.Cores found))
+    then_read (read_number bytes 4) (λ version. if version == 1 then
+    then_read (read_number bytes 8) (λ found. if found == cores then read_number bytes 12 else Err (bad.Cores found))
     else Err (bad.Version version))
     else Err bad.Magic)
 

@@ -1,7 +1,7 @@
 // Reads a schedule from front to back.
 ghost use Rattle.std.specs.Prelude.{◌≡◌, ◌≤◌, ◌<◌, ◌+◌, ◌^◌, All, length, take, drop, vec_len, nat_le, IfOk, IfErr, IfSome, Ok, Err, None};
 ghost use Rattle.std.specs.List.{position};
-ghost use Rattle.schedule_file.specs.ScheduleFile.{field_at, number_at, schedule_of, turns_at, count_of, AnswersAs};
+ghost use Rattle.schedule_file.specs.ScheduleFile.{field_at, read_number, schedule_of, turns_at, count_of, AnswersAs};
 
 use crate::{BadSchedule, MAGIC, ScheduleReadFail, VERSION};
 use access_log::Schedule;
@@ -12,11 +12,9 @@ use zs_num::NoMemory;
 // Where the lists of the intervals begin.
 const HEADER_LEN: usize = 16;
 
-/// The schedule of a file for a machine of so many cores, at most 64, or the first thing that is wrong
-/// with the file.
+/// The schedule of a file for a machine of so many cores, or the first thing that is wrong with the file.
 #[tactic(auto, unfolding(crate::specs::ScheduleFile::schedule_of))]
 pub fn read(alloc: Global, bytes: &[u8], cores: u16) -> Result<Schedule, ScheduleReadFail>
-    requires { cores ≤ 64 }
     ensures { AnswersAs (λ s. s) result (schedule_of cores bytes.now) }
 {
     let count = intervals(bytes, cores)?;
@@ -63,8 +61,7 @@ fn turns(
     interval: u32,
     at: usize,
 ) -> Result<Vec<u16>, ScheduleReadFail>
-    requires cores { cores ≤ 64 }
-    requires place { at ≤ length bytes.now }
+    requires { at ≤ length bytes.now }
     ensures known { IfOk result (λ v. All (λ core. core < cores) v.items) }
     ensures within { IfOk result (λ v. at + (4 + vec_len v) ≤ length bytes.now) }
     ensures short { IfOk result (λ v. vec_len v < 2 ^ 32) }
@@ -102,7 +99,7 @@ fn widened(alloc: Global, list: &[u8]) -> Result<Vec<u16>, NoMemory>
 // The number at this byte.
 fn number(bytes: &[u8], at: usize) -> Result<u32, BadSchedule>
     requires { at ≤ length bytes.now + 16 }
-    ensures value { result ≡ number_at bytes.now at }
+    ensures value { result ≡ read_number bytes.now at }
     ensures within { IfOk result (λ number. at + 4 ≤ length bytes.now) }
 {
     Ok(LittleEndian::read_u32(field(bytes, at, 4)?))

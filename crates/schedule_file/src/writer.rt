@@ -1,7 +1,7 @@
 // Writes a schedule.
 ghost use Rattle.std.specs.Prelude.{◌≡◌, ◌≤◌, ◌<◌, ◌^◌, ◌++◌, All, length, IfOk, OnOk};
 ghost use Rattle.byteorder.specs.Endian.{little_bytes};
-ghost use Rattle.schedule_file.specs.ScheduleFile.{file_of, header_bytes, list_bytes};
+ghost use Rattle.schedule_file.specs.ScheduleFile.{header_bytes, list_bytes, schedule_file_of};
 
 use crate::{MAGIC, VERSION};
 use access_log::Schedule;
@@ -11,7 +11,7 @@ use zs_num::{Bytes, NoMemory};
 /// The file of a schedule of at most 64 cores.
 pub fn write(alloc: Global, s: &Schedule) -> Result<Bytes, NoMemory>
     requires { s.now.cores ≤ 64 }
-    ensures { IfOk result (λ bytes. bytes ≡ file_of s.now) }
+    ensures { IfOk result (λ bytes. bytes ≡ schedule_file_of s.now) }
 {
     let mut out = header(alloc, s)?;
     for k in 0..s.intervals() {

@@ -9,7 +9,7 @@ use Rattle.cache_set.specs.declared.letter.Letter.{Letter}
 use Rattle.cache_set.specs.declared.letter.Letter.TheVariants.{M, E, S, I}
 use Rattle.cache_set.specs.Ways.{kept_of, without, used, changed}
 use Rattle.shard.specs.CacheSteps.{ChangesOne, DropsAll, DropsOthers, LeavesFree, MakesL2Room, MakesRoom, after_at, copies_at}
-use Rattle.shard.specs.Coherence.{Caches, dirty_at, fetched, in_own_set_of, is_alone, is_held, is_modified, l2_victim, letter_at, looked_up, marked_dirty, on_others, other_after, others_changed, own_after, own_victim, recalled, room_made, some_other, taken_in, written_back}
+use Rattle.shard.specs.Coherence.{Caches, dirty_at, in_own_set_of, is_alone, is_held, is_modified, l2_victim, letter_at, looked_up, marked_dirty, on_others, other_after, others_changed, own_after, own_victim, recalled, room_made, some_other, taken_in, taken_into_l2, written_back}
 use Rattle.shard.specs.Lines.{in_set_of, set_number, set_of}
 use Rattle.shard.proofs.Entries.{still_there, used_kept}
 use Rattle.shard.proofs.Others.{fills, has_left}
@@ -24,8 +24,8 @@ pub letters_looked : (v : ℕ) (c : Caches) (core line : ℕ) → letter_at (loo
 unfolding letter_at looked_up
 letters_looked v c core line = refl
 
-pub letters_fetched : (v : ℕ) (c : Caches) (core line : ℕ) → letter_at (fetched v c) core line ≡ letter_at c core line
-unfolding letter_at fetched
+pub letters_fetched : (v : ℕ) (c : Caches) (core line : ℕ) → letter_at (taken_into_l2 v c) core line ≡ letter_at c core line
+unfolding letter_at taken_into_l2
 letters_fetched v c core line = refl
 
 pub cores_marked : (v : ℕ) (c : Caches) → length (marked_dirty v c).l1 ≡ length c.l1
@@ -36,8 +36,8 @@ pub cores_looked : (v : ℕ) (c : Caches) → length (looked_up v c).l1 ≡ leng
 unfolding looked_up
 cores_looked v c = refl
 
-pub cores_fetched : (v : ℕ) (c : Caches) → length (fetched v c).l1 ≡ length c.l1
-unfolding fetched
+pub cores_fetched : (v : ℕ) (c : Caches) → length (taken_into_l2 v c).l1 ≡ length c.l1
+unfolding taken_into_l2
 cores_fetched v c = refl
 
 pub cores_others : (change : Letter → Letter) (core line : ℕ) (c : Caches) → length (others_changed change core line c).l1 ≡ length c.l1
@@ -248,6 +248,6 @@ after_l2 c core line true is there = rw (is, there) refl
 after_l2 c core line false is there = rw (is, there) refl
 
 pub after_miss : (c : Caches) (core line : ℕ) (write : Bool) → letter_at c core line ≡ I → dirty_at c line ≡ None
-    → taken_in core line (own_after write I (some_other is_held c core line)) (fetched line (room_made (l2_victim c line) c)) ≡ after_at c core line write
+    → taken_in core line (own_after write I (some_other is_held c core line)) (taken_into_l2 line (room_made (l2_victim c line) c)) ≡ after_at c core line write
 after_miss c core line true is none = rw (is, none) refl
 after_miss c core line false is none = rw (is, none) refl

@@ -11,7 +11,7 @@ use Rattle.cache_set.specs.Ways.{kept_of, used, changed, filled, last_of_full}
 use Rattle.mesi_dir.specs.LineMap.{LineMap, Sharing, HasOther, KeepsOthers, is_among, is_sharer, nobody, owner_of, sharing_of}
 use Rattle.shard.specs.CacheLayout.{AreLists, ChangesLetter, CoreLines, HasCopies, IsCore, IsShared, SharedLines, Tells, TellsLetter, copies_of, is_owner, lists_view, no_lines, own_letter, shared_of, sharing_at, sharing_without}
 use Rattle.shard.specs.CacheSteps.{ChangesOne, HaveCopies}
-use Rattle.shard.specs.Coherence.{Caches, is_alone, is_held, letter_at, dirty_at, empty_caches, fetched, in_own_set_of, l2_victim, looked_up, marked_dirty, own_after, own_victim, some_other}
+use Rattle.shard.specs.Coherence.{Caches, is_alone, is_held, letter_at, dirty_at, empty_caches, taken_into_l2, in_own_set_of, l2_victim, looked_up, marked_dirty, own_after, own_victim, some_other}
 use Rattle.shard.specs.Lines.{in_set_of, set_number, set_of}
 use Rattle.shard.proofs.SomeCores.{some_other_false, some_other_true}
 
@@ -325,8 +325,8 @@ module _ (shards l1_ways l2_ways : ℕ) (l1 : List CoreLines) (l2 : List SharedL
     abbrev come_set : SharedLines
     come_set = record { ways = s.ways; list = filled s.ways line false s.list; map = m }
 
-    pub come_view : lists_view shards l1_ways l2_ways l1 (set l2 i come_set) ≡ fetched line before
-    unfolding fetched
+    pub come_view : lists_view shards l1_ways l2_ways l1 (set l2 i come_set) ≡ taken_into_l2 line before
+    unfolding taken_into_l2
     come_view = ap with_lists (lists_after come_set (filled l2_ways line false) (ap (λ (n : ℕ). filled n line false s.list) set_is.same_ways))
 
     told : (test : Letter → Bool) (of_sharing : Sharing → ℕ → Bool) → test I ≡ false → ((core : ℕ) → of_sharing nobody core ≡ false)

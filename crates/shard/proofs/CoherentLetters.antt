@@ -11,7 +11,7 @@ use Rattle.std.proofs.lemmas.Option.{get_or_from_slice_get, slice_get_within}
 use Rattle.cache_set.specs.declared.letter.Letter.{Letter}
 use Rattle.cache_set.specs.declared.letter.Letter.TheVariants.{M, E, S, I}
 use Rattle.cache_set.specs.Ways.{kept_of, without, filled, last_of_full}
-use Rattle.shard.specs.Coherence.{Caches, fetched, in_own_set_of, is_modified, kept_first, letter_at, letter_in, looked_up, marked_dirty, others_changed, own_victim, recalled, taken_in, with_letter, written_back}
+use Rattle.shard.specs.Coherence.{Caches, in_own_set_of, is_modified, kept_first, letter_at, letter_in, looked_up, marked_dirty, others_changed, own_victim, recalled, taken_in, taken_into_l2, with_letter, written_back}
 use Rattle.shard.specs.Lines.{set_of, in_set_of, set_number}
 use Rattle.shard.specs.StandsFor.{HaveSets, IsSet}
 use Rattle.shard.proofs.CoherentLines.{kept_changed_other, kept_changed_same, kept_elsewhere, kept_filled_other, kept_filled_room, kept_filled_same, kept_filled_victim, kept_front_other, kept_front_same, kept_without_other, kept_without_same, set_same}
@@ -31,8 +31,8 @@ pub at_victim : {X : Type 0} (P : ℕ × X → Type 0) (ways : ℕ) (s : List (�
 at_victim P ways s w h e = subst P (get_or_from_slice_get s (ways - 1) w w e) (h (ways - 1) w (slice_get_within s (ways - 1) w e))
 
 -- ---- steps on the L2 alone
-pub letter_fetched : (line : ℕ) (c : Caches) (core l : ℕ) → letter_at (fetched line c) core l ≡ letter_at c core l
-unfolding letter_at fetched
+pub letter_fetched : (line : ℕ) (c : Caches) (core l : ℕ) → letter_at (taken_into_l2 line c) core l ≡ letter_at c core l
+unfolding letter_at taken_into_l2
 letter_fetched line c core l = refl
 
 pub letter_looked_up : (line : ℕ) (c : Caches) (core l : ℕ) → letter_at (looked_up line c) core l ≡ letter_at c core l

@@ -4,14 +4,15 @@ use Rattle.std.specs.List.{enumerate_from}
 use Rattle.std.proofs.lemmas.Bool.{cases_lt}
 use Rattle.std.proofs.lemmas.List.{get_or-replicate, length-replicate, get_or_past, length-map, length-set}
 use Rattle.std.proofs.lemmas.List.FromFn.{length-enumerate_from}
+use Rattle.zs_num.specs.Request.{line_of}
 use Rattle.zs_num.specs.declared.entry.Outcome.{Outcome}
 use Rattle.zs_num.specs.declared.entry.Outcome.TheVariants.{Hit, Upgrade, L2, Miss}
 use Rattle.zs_num.specs.declared.request.Request.{Request}
 use Rattle.cache_set.specs.declared.letter.Letter.{Letter}
 use Rattle.cache_set.specs.declared.letter.Letter.TheVariants.{M, E, S, I}
 use Rattle.cache_set.specs.Ways.{without, used, filled, changed}
-use Rattle.shard.specs.Coherence.{Caches, after_access, after_accesses, empty_caches, fetched, is_held, is_modified, is_write, kept_first, l2_victim, letter_at, letter_in, looked_up, marked_dirty, on_l2, on_others, on_own, other_after, others_changed, outcome_of, own_after, own_victim, recalled, room_made, some_other, taken_in, with_letter, written_back}
-use Rattle.shard.specs.Lines.{line_of, set_of, in_set_of, set_number}
+use Rattle.shard.specs.Coherence.{Caches, caches_after, caches_after_all, empty_caches, is_held, is_modified, is_write, kept_first, l2_victim, letter_at, letter_in, looked_up, marked_dirty, on_l2, on_others, on_own, other_after, others_changed, outcome_of, own_after, own_victim, recalled, room_made, some_other, taken_in, taken_into_l2, with_letter, written_back}
+use Rattle.shard.specs.Lines.{set_of, in_set_of, set_number}
 use Rattle.shard.proofs.CoherentLists.{mapped_at, numbered_at, set_read}
 use Rattle.shard.proofs.CoherentStand.{AllStand, Stand, empty_stands, none_stand, stand_changed, stand_in_set, stand_take, stand_used, stand_without}
 
@@ -87,8 +88,8 @@ marked_keeps : (line : ℕ) (c : Caches) → Keeps c (marked_dirty line c)
 unfolding marked_dirty
 marked_keeps line c = l2_keeps line (changed line true) c (stand_changed c.shards (length c.l2) (line / c.shards % length c.l2) line true (set_of c.shards line c.l2))
 
-fetched_keeps : (line : ℕ) (c : Caches) → Keeps c (fetched line c)
-unfolding fetched
+fetched_keeps : (line : ℕ) (c : Caches) → Keeps c (taken_into_l2 line c)
+unfolding taken_into_l2
 fetched_keeps line c = l2_keeps line (filled c.l2_ways line false) c (λ h. stand_take c.shards (length c.l2) (line / c.shards % length c.l2) c.l2_ways ((line, false) ∷ set_of c.shards line c.l2) (refl, h))
 
 looked_keeps : (line : ℕ) (c : Caches) → Keeps c (looked_up line c)
@@ -170,7 +171,7 @@ l2_step (Upgrade others) line c = looked_keeps line c
 l2_step (L2 others) line c = looked_keeps line c
 l2_step (Miss dirty) line c =
     let made : Caches = room_made (l2_victim c line) c in
-    keeps_both c made (fetched line made) (room_keeps (l2_victim c line) c) (fetched_keeps line made)
+    keeps_both c made (taken_into_l2 line made) (room_keeps (l2_victim c line) c) (fetched_keeps line made)
 
 pub dirtied_keeps : (b : Bool) (line : ℕ) (c : Caches) → Keeps c (cond b (marked_dirty line c) c)
 dirtied_keeps true line c = marked_keeps line c
@@ -191,8 +192,8 @@ own_step E core line letter c = first_keeps core line letter c
 own_step S core line letter c = first_keeps core line letter c
 own_step I core line letter c = taken_keeps core line letter c
 
-pub access_keeps : (c : Caches) (core : ℕ) (request : Request) → Keeps c (after_access c core request)
-unfolding after_access
+pub access_keeps : (c : Caches) (core : ℕ) (request : Request) → Keeps c (caches_after c core request)
+unfolding caches_after
 access_keeps c core request =
     let line : ℕ = line_of request in
     let write : Bool = is_write request in
@@ -205,10 +206,10 @@ access_keeps c core request =
     (keeps_both c first second (l2_step outcome line c) (others_step outcome write core line first))
     (own_step own core line letter second)
 
-pub accesses_placed : (accesses : List (ℕ × Request)) (c : Caches) → Placed c → Placed (after_accesses c accesses)
+pub accesses_placed : (accesses : List (ℕ × Request)) (c : Caches) → Placed c → Placed (caches_after_all c accesses)
 accesses_placed [] c p = p
 accesses_placed (access ∷ accesses) c p =
-    accesses_placed accesses (after_access c access.0 access.1) ((access_keeps c access.0 access.1).placed p)
+    accesses_placed accesses (caches_after c access.0 access.1) ((access_keeps c access.0 access.1).placed p)
 
 pub empty_placed : (cores shards l1_sets l1_ways l2_sets l2_ways : ℕ) → Placed (empty_caches cores shards l1_sets l1_ways l2_sets l2_ways)
 empty_placed cores shards l1_sets l1_ways l2_sets l2_ways =

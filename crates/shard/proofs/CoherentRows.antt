@@ -5,7 +5,7 @@ use Rattle.zs_num.specs.declared.entry.Outcome.TheVariants.{Upgrade, L2}
 use Rattle.cache_set.specs.declared.letter.Letter.{Letter}
 use Rattle.cache_set.specs.declared.letter.Letter.TheVariants.{M, E, S, I}
 use Rattle.shard.specs.Coherence.{Caches, dirty_at, is_alone, is_held, is_modified, kept_first, letter_at, looked_up, marked_dirty, on_l2, on_others, other_after, others_changed, own_after, own_victim, some_other, taken_in}
-use Rattle.shard.specs.StandsFor.{AreCoherent, HaveRoom, HaveSets}
+use Rattle.shard.specs.StandsFor.{AreCoherent, HaveRoomForLines, HaveSets}
 use Rattle.shard.proofs.CoherentDirty.{dirty_first, dirty_looked_up, dirty_others, dirty_taken, there_after_back, there_after_marked}
 use Rattle.shard.proofs.CoherentLetters.{letter_first_core, letter_first_line, letter_first_same, letter_looked_up, letter_marked, letter_others_other, letter_others_same, letter_taken_core, letter_taken_line, letter_taken_room, letter_taken_same, letter_taken_victim}
 use Rattle.shard.proofs.CoherentPlaced.{Keeps, dirtied_keeps, keeps_both, l2_step, others_keeps}
@@ -20,7 +20,7 @@ looked_sets line c h =
     sets_of_fit (looked_up line c) (looked_fits line c (fit_of_sets c h)) (keeps.placed (placed_of_sets c h))
 
 -- ---- a hit
-module _ (c : Caches) (core line : ℕ) (h : AreCoherent c) (known : core < length c.l1) (room : HaveRoom c) where
+module _ (c : Caches) (core line : ℕ) (h : AreCoherent c) (known : core < length c.l1) (room : HaveRoomForLines c) where
   hit_shared : (a : ℕ) → a ≢ core → is_held (letter_at c core line) ≡ true → is_alone (letter_at c a line) ≡ false
   hit_shared a apart held =
       elim (is_alone (letter_at c a line)) as (λ b. is_alone (letter_at c a line) ≡ b → b ≡ false) [
@@ -61,7 +61,7 @@ module _ (c : Caches) (core line : ℕ) (h : AreCoherent c) (known : core < leng
 -- what stands before it comes in
 pub record IsReady (c d : Caches) (core line : ℕ) (letter : Letter) : Type 0 where
   pub sets : HaveSets d
-  pub room : HaveRoom d
+  pub room : HaveRoomForLines d
   pub known : core < length d.l1
   pub others : (a l : ℕ) → l ≢ line → (letter_at d a l ≡ letter_at c a l) ⊎ (letter_at d a l ≡ I)
   pub alone : is_alone letter ≡ true → (a : ℕ) → a ≢ core → letter_at d a line ≡ I
@@ -137,7 +137,7 @@ there_dirtied : (b : Bool) (line : ℕ) (c : Caches) (l : ℕ) → is_some (dirt
 there_dirtied true line c l = there_after_marked line c l
 there_dirtied false line c l = refl
 
-pub room_after : (c d : Caches) → SameShape d c → Keeps c d → HaveRoom c → HaveRoom d
+pub room_after : (c d : Caches) → SameShape d c → Keeps c d → HaveRoomForLines c → HaveRoomForLines d
 room_after c d same k r = record {
   l1_ways = rw (same.l1_ways) r.l1_ways;
   l2_ways = rw (same.l2_ways) r.l2_ways;
@@ -145,7 +145,7 @@ room_after c d same k r = record {
   l2_sets = rw (k.l2_sets) r.l2_sets;
 }
 
-module _ (c : Caches) (core line : ℕ) (h : AreCoherent c) (known : core < length c.l1) (room : HaveRoom c) where
+module _ (c : Caches) (core line : ℕ) (h : AreCoherent c) (known : core < length c.l1) (room : HaveRoomForLines c) where
   pub found : (write others : Bool) → is_some (dirty_at c line) ≡ true → IsReady c (on_others (L2 others) write core line (on_l2 (L2 others) line c)) core line (own_after write I (some_other is_held c core line))
   found write others there =
       let d1 : Caches = looked_up line c in

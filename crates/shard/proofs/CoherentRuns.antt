@@ -7,8 +7,8 @@ use Rattle.std.proofs.lemmas.List.Elements.{All-head, All-tail}
 use Rattle.zs_num.specs.declared.request.Request.{Request}
 use Rattle.cache_set.specs.declared.letter.Letter.{Letter}
 use Rattle.cache_set.specs.declared.letter.Letter.TheVariants.{I}
-use Rattle.shard.specs.Coherence.{Caches, after_access, after_accesses, empty_caches, is_held, letter_at}
-use Rattle.shard.specs.StandsFor.{AreCoherent, HaveRoom}
+use Rattle.shard.specs.Coherence.{Caches, caches_after, caches_after_all, empty_caches, is_held, letter_at}
+use Rattle.shard.specs.StandsFor.{AreCoherent, HaveRoomForLines}
 use Rattle.shard.proofs.Coherent.{coherent_stays}
 use Rattle.shard.proofs.CoherentLists.{empty_at}
 use Rattle.shard.proofs.CoherentPlaced.{empty_placed}
@@ -18,16 +18,16 @@ use Rattle.shard.proofs.Fits.{empty_fit}
 -- what accesses of cores keep
 pub record KeepCoherent (c d : Caches) : Type 0 where
   pub coherent : AreCoherent d
-  pub room : HaveRoom d
+  pub room : HaveRoomForLines d
   pub cores : length d.l1 ≡ length c.l1
 
-pub accesses_coherent : (accesses : List (ℕ × Request)) (c : Caches) → AreCoherent c → HaveRoom c → All (λ access. access.0 < length c.l1) accesses → KeepCoherent c (after_accesses c accesses)
+pub accesses_coherent : (accesses : List (ℕ × Request)) (c : Caches) → AreCoherent c → HaveRoomForLines c → All (λ access. access.0 < length c.l1) accesses → KeepCoherent c (caches_after_all c accesses)
 accesses_coherent [] c h room known = record { coherent = h; room = room; cores = refl }
 accesses_coherent (access ∷ accesses) c h room known =
     let P : ℕ × Request → Type 0 = λ a. a.0 < length c.l1 in
     let step = coherent_stays c access.0 access.1 h room (All-head P access accesses known) in
-    let d : Caches = after_access c access.0 access.1 in
-    let rest : KeepCoherent d (after_accesses d accesses)
+    let d : Caches = caches_after c access.0 access.1 in
+    let rest : KeepCoherent d (caches_after_all d accesses)
     = accesses_coherent accesses d step.0 step.1 (subst (λ (n : ℕ). All (λ (a : ℕ × Request). a.0 < n) accesses) (sym step.2) (All-tail P access accesses known)) in
     record { coherent = rest.coherent; room = rest.room; cores = rest.cores ∙ step.2 }
 
@@ -52,7 +52,7 @@ module _ (cores shards l1_sets l1_ways l2_sets l2_ways : ℕ) where
     inclusive = λ core line held. let bad : is_held I ≡ true = subst (λ (x : Letter). is_held x ≡ true) (no_letter core line) held in absurd cc;
   }
 
-  pub empty_room : 1 ≤ l1_sets → 1 ≤ l1_ways → 1 ≤ l2_sets → 1 ≤ l2_ways → HaveRoom empty
+  pub empty_room : 1 ≤ l1_sets → 1 ≤ l1_ways → 1 ≤ l2_sets → 1 ≤ l2_ways → HaveRoomForLines empty
   empty_room some1 ways1 some2 ways2 = record {
     l1_ways = ways1;
     l2_ways = ways2;
@@ -65,6 +65,6 @@ module _ (cores shards l1_sets l1_ways l2_sets l2_ways : ℕ) where
   pub empty_cores : length empty.l1 ≡ cores
   empty_cores = length-replicate cores (replicate l1_sets [])
 
-  pub from_empty : (accesses : List (ℕ × Request)) → 1 ≤ l1_sets → 1 ≤ l1_ways → 1 ≤ l2_sets → 1 ≤ l2_ways → All (λ access. access.0 < cores) accesses → AreCoherent (after_accesses empty accesses)
+  pub from_empty : (accesses : List (ℕ × Request)) → 1 ≤ l1_sets → 1 ≤ l1_ways → 1 ≤ l2_sets → 1 ≤ l2_ways → All (λ access. access.0 < cores) accesses → AreCoherent (caches_after_all empty accesses)
   from_empty accesses some1 ways1 some2 ways2 known =
       (accesses_coherent accesses empty empty_coherent (empty_room some1 ways1 some2 ways2) (subst (λ (n : ℕ). All (λ (a : ℕ × Request). a.0 < n) accesses) (sym empty_cores) known)).coherent

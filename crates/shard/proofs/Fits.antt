@@ -10,13 +10,14 @@ use Rattle.std.proofs.lemmas.List.Elements.{All-head, All-map, All-nil, All-cons
 use Rattle.std.proofs.lemmas.List.FromFn.{get_or-enumerate_from, length-enumerate_from}
 use Rattle.std.proofs.lemmas.Map.{keys-set_value, length-set_value, lookup-none, NonePasses, none_passes_from_lookup}
 use Rattle.std.proofs.lemmas.Map.Keys.{IsDistinct-cons}
+use Rattle.zs_num.specs.Request.{line_of}
 use Rattle.zs_num.specs.declared.request.Request.{Request}
 use Rattle.cache_set.specs.declared.letter.Letter.{Letter}
 use Rattle.cache_set.specs.declared.letter.Letter.TheVariants.{M, E, S, I}
 use Rattle.cache_set.specs.Ways.{kept_of, without, used, filled, changed}
 use Rattle.cache_set.proofs.Sets.{lacks-absent, lacks-take, distinct-without, lacks-others, length-without, length-without_some}
-use Rattle.shard.specs.Coherence.{Caches, letter_in, letter_at, dirty_at, outcome_by, outcome_of, is_write, is_alone, is_dirty_victim, some_other, is_held, is_modified, own_after, own_victim, on_l2, on_others, on_own, l2_victim, room_made, written_back, after_access, after_accesses, empty_caches, recalled, marked_dirty, fetched, looked_up, other_after, others_changed, kept_first, taken_in, with_letter}
-use Rattle.shard.specs.Lines.{line_of, set_of, in_set_of, set_number}
+use Rattle.shard.specs.Coherence.{Caches, letter_in, letter_at, dirty_at, outcome_by, outcome_of, is_write, is_alone, is_dirty_victim, some_other, is_held, is_modified, own_after, own_victim, on_l2, on_others, on_own, l2_victim, room_made, written_back, caches_after, caches_after_all, empty_caches, recalled, marked_dirty, taken_into_l2, looked_up, other_after, others_changed, kept_first, taken_in, with_letter}
+use Rattle.shard.specs.Lines.{set_of, in_set_of, set_number}
 use Rattle.shard.specs.StandsFor.{IsSet}
 
 -- ---- one set
@@ -192,8 +193,8 @@ looked_fits line c f = record {
   l2 = in_set (IsSet c.l2_ways) c.shards line (used line) c.l2 (set_nil c.l2_ways) (set_used c.l2_ways line (set_of c.shards line c.l2)) f.l2;
 }
 
-pub fetched_fits : (line : ℕ) (c : Caches) → dirty_at c line ≡ None → Fits c → Fits (fetched line c)
-unfolding fetched dirty_at
+pub fetched_fits : (line : ℕ) (c : Caches) → dirty_at c line ≡ None → Fits c → Fits (taken_into_l2 line c)
+unfolding taken_into_l2 dirty_at
 fetched_fits line c none f = record {
   l1 = f.l1;
   l2 = in_set (IsSet c.l2_ways) c.shards line (filled c.l2_ways line false) c.l2 (set_nil c.l2_ways) (λ h. set_filled c.l2_ways line false (set_of c.shards line c.l2) h none) f.l2;
@@ -318,8 +319,8 @@ unfolding dirty_at recalled
 room_l2 None line c = refl
 room_l2 (Some victim) line c = refl
 
-fetched_own : (core line : ℕ) (c : Caches) → letter_at (fetched line c) core line ≡ letter_at c core line
-unfolding letter_at fetched
+fetched_own : (core line : ℕ) (c : Caches) → letter_at (taken_into_l2 line c) core line ≡ letter_at c core line
+unfolding letter_at taken_into_l2
 fetched_own core line c = refl
 
 looked_own : (core line : ℕ) (c : Caches) → letter_at (looked_up line c) core line ≡ letter_at c core line
@@ -340,11 +341,11 @@ none_from None h = refl
 none_from (Some x) h = absurd cc
 
 miss_fits : (core line : ℕ) (letter : Letter) (c : Caches) → is_held letter ≡ true → letter_at c core line ≡ I → is_some (dirty_at c line) ≡ false → Fits c
-    → Fits (taken_in core line letter (fetched line (room_made (l2_victim c line) c)))
+    → Fits (taken_in core line letter (taken_into_l2 line (room_made (l2_victim c line) c)))
 miss_fits core line letter c k i out f =
     let made : Caches = room_made (l2_victim c line) c in
     let none : dirty_at made line ≡ None = room_l2 (l2_victim c line) line c ∙ none_from (dirty_at c line) out in
-    taken_fits core line letter (fetched line made) k (fetched_own core line made ∙ room_own (l2_victim c line) core line c f i)
+    taken_fits core line letter (taken_into_l2 line made) k (fetched_own core line made ∙ room_own (l2_victim c line) core line c f i)
     (fetched_fits line made none (room_fits (l2_victim c line) c f))
 
 found_fits : (core line : ℕ) (letter : Letter) (write : Bool) (c : Caches) → is_held letter ≡ true → letter_at c core line ≡ I → Fits c
@@ -371,15 +372,15 @@ steps_fit c f core line I e true false alone has dirty i = miss_fits core line M
 steps_fit c f core line I e false true alone has dirty i = found_fits core line (own_after false I has) false c (held_after false I has) e f
 steps_fit c f core line I e false false alone has dirty i = miss_fits core line (own_after false I has) c (held_after false I has) e i f
 
-pub access_fits : (c : Caches) (core : ℕ) (request : Request) → Fits c → Fits (after_access c core request)
-unfolding after_access outcome_of
+pub access_fits : (c : Caches) (core : ℕ) (request : Request) → Fits c → Fits (caches_after c core request)
+unfolding caches_after outcome_of
 access_fits c core request f =
     steps_fit c f core (line_of request) (letter_at c core (line_of request)) refl (is_write request) (is_some (dirty_at c (line_of request)))
     (some_other is_alone c core (line_of request)) (some_other is_held c core (line_of request)) (is_dirty_victim c (l2_victim c (line_of request))) refl
 
-pub accesses_fit : (accesses : List (ℕ × Request)) (c : Caches) → Fits c → Fits (after_accesses c accesses)
+pub accesses_fit : (accesses : List (ℕ × Request)) (c : Caches) → Fits c → Fits (caches_after_all c accesses)
 accesses_fit [] c f = f
-accesses_fit (access ∷ accesses) c f = accesses_fit accesses (after_access c access.0 access.1) (access_fits c access.0 access.1 f)
+accesses_fit (access ∷ accesses) c f = accesses_fit accesses (caches_after c access.0 access.1) (access_fits c access.0 access.1 f)
 
 pub empty_fit : (cores shards l1_sets l1_ways l2_sets l2_ways : ℕ) → Fits (empty_caches cores shards l1_sets l1_ways l2_sets l2_ways)
 empty_fit cores shards l1_sets l1_ways l2_sets l2_ways = record {

@@ -3,6 +3,7 @@ use Rattle.std.proofs.Common.{◌≡◌, ℕ, Bool, true, false, cond, List, len
 use Rattle.std.specs.List.{enumerate_from}
 use Rattle.std.proofs.lemmas.List.{length-map, length-set}
 use Rattle.std.proofs.lemmas.List.FromFn.{length-enumerate_from}
+use Rattle.zs_num.specs.Request.{line_of}
 use Rattle.zs_num.specs.declared.entry.Outcome.{Outcome}
 use Rattle.zs_num.specs.declared.entry.Outcome.TheVariants.{Hit, Upgrade, L2, Miss}
 use Rattle.zs_num.specs.declared.request.Request.{Request}
@@ -11,9 +12,9 @@ use Rattle.cache_set.specs.declared.letter.Letter.{Letter}
 use Rattle.cache_set.specs.declared.letter.Letter.TheVariants.{M, E, S, I}
 use Rattle.flat_memory.specs.declared.reservation.Reservation.{Reservation}
 use Rattle.flat_memory.specs.FlatMemory.{after_write}
-use Rattle.shard.specs.Coherence.{Caches, letter_at, outcome_of, is_write, some_other, is_held, is_modified, own_after, own_victim, on_l2, on_others, on_own, l2_victim, room_made, written_back, after_access, recalled, marked_dirty, fetched, looked_up, other_after, others_changed, kept_first, taken_in}
+use Rattle.shard.specs.Coherence.{Caches, letter_at, outcome_of, is_write, some_other, is_held, is_modified, own_after, own_victim, on_l2, on_others, on_own, l2_victim, room_made, written_back, caches_after, recalled, marked_dirty, taken_into_l2, looked_up, other_after, others_changed, kept_first, taken_in}
 use Rattle.cache_set.specs.Ways.{without}
-use Rattle.shard.specs.Lines.{in_set_of, line_of}
+use Rattle.shard.specs.Lines.{in_set_of}
 use Rattle.shard.specs.Marks.{marks_after, does_store}
 
 -- the number of shards, the cores and the ways of two caches are the same
@@ -37,8 +38,8 @@ marked_same : (line : ℕ) (c : Caches) → SameShape (marked_dirty line c) c
 unfolding marked_dirty
 marked_same line c = record { shards = refl; l1_ways = refl; l2_ways = refl; cores = refl }
 
-fetched_same : (line : ℕ) (c : Caches) → SameShape (fetched line c) c
-unfolding fetched
+fetched_same : (line : ℕ) (c : Caches) → SameShape (taken_into_l2 line c) c
+unfolding taken_into_l2
 fetched_same line c = record { shards = refl; l1_ways = refl; l2_ways = refl; cores = refl }
 
 looked_same : (line : ℕ) (c : Caches) → SameShape (looked_up line c) c
@@ -80,7 +81,7 @@ l2_same (Upgrade others) line c = looked_same line c
 l2_same (L2 others) line c = looked_same line c
 l2_same (Miss dirty) line c =
     let made : Caches = room_made (l2_victim c line) c in
-    after_same (fetched line made) made c (room_same (l2_victim c line) c) (fetched_same line made)
+    after_same (taken_into_l2 line made) made c (room_same (l2_victim c line) c) (fetched_same line made)
 
 dirtied_same : (b : Bool) (line : ℕ) (c : Caches) → SameShape (cond b (marked_dirty line c) c) c
 dirtied_same true line c = marked_same line c
@@ -101,8 +102,8 @@ own_same E core line letter c = first_same core line letter c
 own_same S core line letter c = first_same core line letter c
 own_same I core line letter c = taken_same core line letter c
 
-pub access_same : (c : Caches) (core : ℕ) (request : Request) → SameShape (after_access c core request) c
-unfolding after_access
+pub access_same : (c : Caches) (core : ℕ) (request : Request) → SameShape (caches_after c core request) c
+unfolding caches_after
 access_same c core request =
     let line : ℕ = line_of request in
     let write : Bool = is_write request in
@@ -115,7 +116,7 @@ access_same c core request =
     (after_same second first c (l2_same outcome line c) (on_others_same outcome write core line first))
     (own_same own core line letter second)
 
-pub shards_stay : (c : Caches) (core : ℕ) (request : Request) → (after_access c core request).shards ≡ c.shards
+pub shards_stay : (c : Caches) (core : ℕ) (request : Request) → (caches_after c core request).shards ≡ c.shards
 shards_stay c core request = (access_same c core request).shards
 
 -- ---- marks

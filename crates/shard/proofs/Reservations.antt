@@ -12,7 +12,7 @@ use Rattle.rv_alu.specs.Atomic.{new_number}
 use Rattle.flat_memory.specs.declared.reservation.Reservation.{Reservation}
 use Rattle.flat_memory.specs.FlatMemory as flat
 use Rattle.shard.specs.Lines.{line_at, shard_of}
-use Rattle.shard.specs.Marks.{MarkedMemory, IsPairedRight, ArePairedRight, bytes_after, does_store, marked_after, marked_reply, marks_after, marks_for, pairing_after, pairing_of, pairings_after, reply_from, shard_for}
+use Rattle.shard.specs.Marks.{MarkedMemory, IsPairedRight, ArePairedRight, bytes_after, does_store, marked_after, marked_reply, marks_after, marks_for, pairing_after, pairing_of, pairings_after, reply_from, shard_number}
 use Rattle.shard.specs.Laws.{marked_replies, marked_after_all, flat_replies, flat_after_all, pairings_after_all}
 use Rattle.shard.specs.StandsFor.{flat_for, mark_at, reserved_by}
 use Rattle.shard.proofs.Kept.{length-marks_after}
@@ -90,35 +90,35 @@ pub record AreMarks (m : MarkedMemory) (cores : ℕ) : Type 0 where
   pub each : All (λ marks. length marks ≡ cores) m.marks
 
 module _ (m : MarkedMemory) (cores : ℕ) (are : AreMarks m cores) (core : ℕ) (request : Request) where
-  shard_within : shard_for m request < length m.marks
+  shard_within : shard_number m request < length m.marks
   shard_within = omega (arith, are.some)
 
   here_length : length (marks_for m request) ≡ cores
-  here_length = are.each (shard_for m request) [] shard_within
+  here_length = are.each (shard_number m request) [] shard_within
 
   pub marks_stay : AreMarks (marked_after m core request) cores
   marks_stay = record {
-    some = omega (arith, are.some, length-set m.marks (shard_for m request) (marks_after (marks_for m request) core request));
-    each = All-set (λ marks. length marks ≡ cores) m.marks (shard_for m request) (marks_after (marks_for m request) core request) (length-marks_after (marks_for m request) core request ∙ here_length) are.each;
+    some = omega (arith, are.some, length-set m.marks (shard_number m request) (marks_after (marks_for m request) core request));
+    each = All-set (λ marks. length marks ≡ cores) m.marks (shard_number m request) (marks_after (marks_for m request) core request) (length-marks_after (marks_for m request) core request ∙ here_length) are.each;
   }
 
   -- the mark in the shard of an address after the access
-  mark_here : (k addr : ℕ) → shard_of (length m.marks) (line_at addr) ≡ shard_for m request → mark_at (marked_after m core request) k addr ≡ get_or (marks_after (marks_for m request) core request) k None
+  mark_here : (k addr : ℕ) → shard_of (length m.marks) (line_at addr) ≡ shard_number m request → mark_at (marked_after m core request) k addr ≡ get_or (marks_after (marks_for m request) core request) k None
   mark_here k addr e =
-      rw (length-set m.marks (shard_for m request) (marks_after (marks_for m request) core request), e, get_or-set_same m.marks (shard_for m request) (marks_after (marks_for m request) core request) [] shard_within) refl
+      rw (length-set m.marks (shard_number m request) (marks_after (marks_for m request) core request), e, get_or-set_same m.marks (shard_number m request) (marks_after (marks_for m request) core request) [] shard_within) refl
 
-  mark_there : (k addr : ℕ) → (shard_of (length m.marks) (line_at addr) ≡ shard_for m request → ⊥) → mark_at (marked_after m core request) k addr ≡ mark_at m k addr
+  mark_there : (k addr : ℕ) → (shard_of (length m.marks) (line_at addr) ≡ shard_number m request → ⊥) → mark_at (marked_after m core request) k addr ≡ mark_at m k addr
   mark_there k addr e =
-      rw (length-set m.marks (shard_for m request) (marks_after (marks_for m request) core request), get_or-set_other m.marks (shard_for m request) (shard_of (length m.marks) (line_at addr)) (marks_after (marks_for m request) core request) [] e) refl
+      rw (length-set m.marks (shard_number m request) (marks_after (marks_for m request) core request), get_or-set_other m.marks (shard_number m request) (shard_of (length m.marks) (line_at addr)) (marks_after (marks_for m request) core request) [] e) refl
 
-  mark_before : (k addr : ℕ) → shard_of (length m.marks) (line_at addr) ≡ shard_for m request → mark_at m k addr ≡ get_or (marks_for m request) k None
+  mark_before : (k addr : ℕ) → shard_of (length m.marks) (line_at addr) ≡ shard_number m request → mark_at m k addr ≡ get_or (marks_for m request) k None
   mark_before k addr e = rw e refl
 
   -- a core whose mark in the shard stays has reserved what it had
   pub reserved_stays : (k : ℕ) → get_or (marks_after (marks_for m request) core request) k None ≡ get_or (marks_for m request) k None → (p : Reserved) → reserved_by (marked_after m core request) k p ≡ reserved_by m k p
   reserved_stays k h None = refl
   reserved_stays k h (Some q) =
-      elim (cases_eq (shard_of (length m.marks) (line_at q.addr)) (shard_for m request)) as (λ _. kept_if (flat.is_reservation (mark_at (marked_after m core request) k q.addr) q.addr q.width) q ≡ kept_if (flat.is_reservation (mark_at m k q.addr) q.addr q.width) q) [
+      elim (cases_eq (shard_of (length m.marks) (line_at q.addr)) (shard_number m request)) as (λ _. kept_if (flat.is_reservation (mark_at (marked_after m core request) k q.addr) q.addr q.width) q ≡ kept_if (flat.is_reservation (mark_at m k q.addr) q.addr q.width) q) [
         | inl e ↦ rw (mark_here k q.addr e, h, mark_before k q.addr e) refl
         | inr e ↦ rw (mark_there k q.addr e) refl
       ]
@@ -127,7 +127,7 @@ module _ (m : MarkedMemory) (cores : ℕ) (are : AreMarks m cores) (core : ℕ) 
   pub reserved_written : (k : ℕ) → get_or (marks_after (marks_for m request) core request) k None ≡ flat.unless_written (eqb k core) (addr_of request) (get_or (marks_for m request) k None) → (p : Reserved) → reserved_by (marked_after m core request) k p ≡ flat.unless_written (eqb k core) (addr_of request) (reserved_by m k p)
   reserved_written k h None = refl
   reserved_written k h (Some q) =
-      elim (cases_eq (shard_of (length m.marks) (line_at q.addr)) (shard_for m request)) as (λ _. kept_if (flat.is_reservation (mark_at (marked_after m core request) k q.addr) q.addr q.width) q ≡ flat.unless_written (eqb k core) (addr_of request) (kept_if (flat.is_reservation (mark_at m k q.addr) q.addr q.width) q)) [
+      elim (cases_eq (shard_of (length m.marks) (line_at q.addr)) (shard_number m request)) as (λ _. kept_if (flat.is_reservation (mark_at (marked_after m core request) k q.addr) q.addr q.width) q ≡ flat.unless_written (eqb k core) (addr_of request) (kept_if (flat.is_reservation (mark_at m k q.addr) q.addr q.width) q)) [
         | inl e ↦ rw (mark_here k q.addr e, h, mark_before k q.addr e) (mark_written (eqb k core) (addr_of request) (get_or (marks_for m request) k None) q)
         | inr e ↦ rw (mark_there k q.addr e) (sym (apart_stays (eqb k core) (addr_of request) q (flat.is_reservation (mark_at m k q.addr) q.addr q.width) (λ l. e (ap (λ (x : ℕ). x % length m.marks) l))))
       ]
@@ -290,7 +290,7 @@ module _ (m : MarkedMemory) (pairings : List Reserved) (are : AreMarks m (length
     stores_alike (Some q) e h = alike q (flat.is_reservation (Some q) addr width) refl h
 
   -- ---- one access
-  step_reply : (request : Request) → IsPairedRight (pairing_of pairings core) request → marked_reply m core request ≡ flat.reply_of (flat_for m pairings) core request
+  step_reply : (request : Request) → IsPairedRight (pairing_of pairings core) request → marked_reply m core request ≡ flat.memory_reply (flat_for m pairings) core request
   unfolding reply_from flat.is_reserved
   step_reply (Load addr width) h = refl
   step_reply (Store addr width value) h = refl
@@ -305,7 +305,7 @@ module _ (m : MarkedMemory) (pairings : List Reserved) (are : AreMarks m (length
   sc_state addr width value paired true e = rw (e, after_sc addr width value paired true e) refl
   sc_state addr width value paired false e = rw (e, after_sc addr width value paired false e) refl
 
-  pub step_after : (request : Request) → IsPairedRight (pairing_of pairings core) request → flat_for (marked_after m core request) (pairings_after pairings core request) ≡ flat.after (flat_for m pairings) core request
+  pub step_after : (request : Request) → IsPairedRight (pairing_of pairings core) request → flat_for (marked_after m core request) (pairings_after pairings core request) ≡ flat.memory_after (flat_for m pairings) core request
   unfolding bytes_after flat.written flat.is_reserved
   step_after (Load addr width) h = state_from m.bytes _ _ (after_load addr width)
   step_after (Store addr width value) h = state_from (flat.with_number m.bytes (addr - m.base) width value) _ _ (after_store addr width value)
@@ -331,8 +331,8 @@ all_steps (access ∷ accesses) m pairings are cores right =
     (subst (λ (n : ℕ). AreMarks (marked_after m access.0 access.1) n) (sym longer) (marks_stay m (length pairings) are access.0 access.1))
     (subst (λ (n : ℕ). All (λ (a : ℕ × Request). a.0 < n) accesses) (sym longer) (All-tail P access accesses cores))
     right.1 in
-    let replies : flat_replies (flat_for (marked_after m access.0 access.1) (pairings_after pairings access.0 access.1)) accesses ≡ flat_replies (flat.after (flat_for m pairings) access.0 access.1) accesses = ap (λ (memory : flat.MemoryState). flat_replies memory accesses) state in
-    let states : flat_after_all (flat_for (marked_after m access.0 access.1) (pairings_after pairings access.0 access.1)) accesses ≡ flat_after_all (flat.after (flat_for m pairings) access.0 access.1) accesses = ap (λ (memory : flat.MemoryState). flat_after_all memory accesses) state in
+    let replies : flat_replies (flat_for (marked_after m access.0 access.1) (pairings_after pairings access.0 access.1)) accesses ≡ flat_replies (flat.memory_after (flat_for m pairings) access.0 access.1) accesses = ap (λ (memory : flat.MemoryState). flat_replies memory accesses) state in
+    let states : flat_after_all (flat_for (marked_after m access.0 access.1) (pairings_after pairings access.0 access.1)) accesses ≡ flat_after_all (flat.memory_after (flat_for m pairings) access.0 access.1) accesses = ap (λ (memory : flat.MemoryState). flat_after_all memory accesses) state in
     (rw (reply, rest.0 ∙ replies) refl, rest.1 ∙ states)
 
 pub marks_are_reservations : (memory : MarkedMemory) (pairings : List Reserved) (accesses : List (ℕ × Request))

@@ -13,7 +13,7 @@ use Rattle.std.proofs.lemmas.Map.Steps.{length-le_from_keys}
 use Rattle.cache_set.specs.declared.set.Way.{Way}
 use Rattle.cache_set.specs.Ways.{WaySet, IsWaySet, kept_of, used, filled, changed, last_of_full, way_of}
 use Rattle.cache_set.proofs.Sets.{set-used, set-changed, set-filled, lacks-absent}
-use Rattle.mesi_dir.specs.LineMap.{LineMap, Sharing, HasRoom, IsLineMap, KeepsOthers, is_among, nobody, sharing_of}
+use Rattle.mesi_dir.specs.LineMap.{LineMap, Sharing, HasRoomForLine, IsLineMap, KeepsOthers, is_among, nobody, sharing_of}
 use Rattle.shard.specs.CacheLayout.{AreShared, is_dirty_mark, shared_list, sharing_without}
 use Rattle.shard.proofs.Entries.{kept_without, kept-used, kept-changed, kept-filled, kept-as, last-as}
 
@@ -100,9 +100,9 @@ module _ {s : WaySet} {m : LineMap} (are : AreShared s m) where
         length-le_from_keys nat_eq_equiv (line ∷ keys_of m.lines) s.list
         (IsDistinct-cons nat_eq line (keys_of m.lines) (lacks-absent line m.lines none) is_map.distinct) key_there
 
-    pub has_room : HasRoom m line
+    pub has_room : HasRoomForLine m line
     has_room = by_line (lookup (nat_eq line) m.lines) refl where
-      by_line : (o : Option Sharing) → lookup (nat_eq line) m.lines ≡ o → HasRoom m line
+      by_line : (o : Option Sharing) → lookup (nat_eq line) m.lines ≡ o → HasRoomForLine m line
       by_line (Some sharing) e = inl (is_map.shared line (rw e refl))
       by_line None e =
           let few = fewer e in

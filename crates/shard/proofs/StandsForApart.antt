@@ -3,14 +3,15 @@ use Rattle.std.proofs.Common.{◌≡◌, ◌≢◌, ℕ, ◌%◌, ◌/◌, ◌<�
 use Rattle.std.specs.List.{enumerate_from}
 use Rattle.std.proofs.lemmas.List.{length-map, length-set}
 use Rattle.std.proofs.lemmas.List.FromFn.{length-enumerate_from}
+use Rattle.zs_num.specs.Request.{line_of}
 use Rattle.zs_num.specs.declared.entry.Outcome.{Outcome}
 use Rattle.zs_num.specs.declared.entry.Outcome.TheVariants.{Hit, Upgrade, L2, Miss}
 use Rattle.zs_num.specs.declared.request.Request.{Request}
 use Rattle.cache_set.specs.declared.letter.Letter.{Letter}
 use Rattle.cache_set.specs.declared.letter.Letter.TheVariants.{M, E, S, I}
 use Rattle.cache_set.specs.Ways.{without, used, filled, changed}
-use Rattle.shard.specs.Coherence.{Caches, after_access, fetched, in_own_set_of, is_held, is_modified, is_write, kept_first, l2_victim, letter_at, letter_in, looked_up, marked_dirty, on_l2, on_others, on_own, other_after, others_changed, outcome_of, own_after, own_victim, recalled, room_made, some_other, taken_in, with_letter, written_back}
-use Rattle.shard.specs.Lines.{line_of, in_set_of, set_number}
+use Rattle.shard.specs.Coherence.{Caches, caches_after, in_own_set_of, is_held, is_modified, is_write, kept_first, l2_victim, letter_at, letter_in, looked_up, marked_dirty, on_l2, on_others, on_own, other_after, others_changed, outcome_of, own_after, own_victim, recalled, room_made, some_other, taken_in, taken_into_l2, with_letter, written_back}
+use Rattle.shard.specs.Lines.{in_set_of, set_number}
 use Rattle.shard.proofs.CoherentLetters.{at_victim}
 use Rattle.shard.proofs.CoherentLists.{mapped_at, numbered_at, set_read}
 use Rattle.shard.proofs.CoherentPlaced.{Keeps, Placed, if_other, l2_step, none_other, others_step}
@@ -45,8 +46,8 @@ module _ (n number : ℕ) (some : 0 < n) (d : Caches) where
     unfolding looked_up
     looked_apart = l2_changed (used line)
 
-    fetched_apart : Part n number (fetched line c) d
-    unfolding fetched
+    fetched_apart : Part n number (taken_into_l2 line c) d
+    unfolding taken_into_l2
     fetched_apart = l2_changed (filled c.l2_ways line false)
 
     others_apart : (change : Letter → Letter) (core : ℕ) → Part n number (others_changed change core line c) d
@@ -133,8 +134,8 @@ module _ (n number : ℕ) (some : 0 < n) (d : Caches) where
     on_own_apart c p placed S core letter = first_apart line other c p core letter
     on_own_apart c p placed I core letter = taken_apart c p placed core letter
 
-  pub access_apart : (c : Caches) → Part n number c d → Placed c → (core : ℕ) (request : Request) → line_of request % n ≢ number → Part n number (after_access c core request) d
-  unfolding after_access
+  pub access_apart : (c : Caches) → Part n number c d → Placed c → (core : ℕ) (request : Request) → line_of request % n ≢ number → Part n number (caches_after c core request) d
+  unfolding caches_after
   access_apart c p placed core request other =
       let line : ℕ = line_of request in
       let write : Bool = is_write request in

@@ -2,11 +2,12 @@
 -- the same.
 use Rattle.std.proofs.Common.{◌≡◌, ℕ, zero, suc, ◌+◌, ◌/◌, ◌%◌, ◌<◌, Bool, eqb, not, ◌&&◌, List, [], length, get_or, Option, Some, None, is_some, refl, ap, ◌∙◌, subst}
 use Rattle.std.specs.List.{list_any, range_with_len}
+use Rattle.zs_num.specs.Request.{line_of}
 use Rattle.zs_num.specs.declared.request.Request.{Request}
 use Rattle.cache_set.specs.declared.letter.Letter.{Letter}
 use Rattle.cache_set.specs.Ways.{kept_of}
 use Rattle.shard.specs.Coherence.{Caches, dirty_at, is_alone, is_dirty_victim, is_held, is_modified, is_write, l2_victim, letter_at, letter_in, outcome_by, outcome_of, own_victim, some_core, some_other}
-use Rattle.shard.specs.Lines.{line_of, set_of, set_number}
+use Rattle.shard.specs.Lines.{set_of, set_number}
 use Rattle.shard.proofs.CoherentLetters.{at_victim}
 use Rattle.shard.proofs.CoherentPlaced.{Placed}
 use Rattle.shard.proofs.CoherentStand.{stand_all}

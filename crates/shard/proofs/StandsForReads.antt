@@ -3,17 +3,17 @@ use Rattle.std.proofs.Common.{◌≡◌, ◌≢◌, ℕ, ◌+◌, ◌-◌, ◌/�
 use Rattle.std.specs.List.{All}
 use Rattle.std.proofs.lemmas.Bool.{cases_lt}
 use Rattle.std.proofs.lemmas.List.Elements.{All-head, All-tail}
-use Rattle.zs_num.specs.Request.{addr_of, IsServable}
+use Rattle.zs_num.specs.Request.{addr_of, line_of, IsServable}
 use Rattle.zs_num.specs.declared.entry.Entry.{Entry}
 use Rattle.zs_num.specs.declared.request.Request.{Request}
 use Rattle.zs_num.specs.declared.request.Request.TheVariants.{Load, Store, Lr, Sc, Amo}
 use Rattle.flat_memory.specs.FlatMemory.{MemoryState, number_in, with_number, written}
-use Rattle.flat_memory.specs.Laws.{StoredIsLoaded}
-use Rattle.shard.specs.Coherence.{Caches, after_access}
+use Rattle.flat_memory.specs.Laws.{LoadGivesWhatWasStored}
+use Rattle.shard.specs.Coherence.{Caches, caches_after}
 use Rattle.shard.specs.Laws.{ReadAfterWrite, has_written}
-use Rattle.shard.specs.Lines.{line_at, line_of}
+use Rattle.shard.specs.Lines.{line_at}
 use Rattle.shard.specs.Marks.{MarkedMemory, bytes_after, does_store, marked_after, marked_reply, marks_for, reply_from}
-use Rattle.shard.specs.Served.{ShardState, after}
+use Rattle.shard.specs.Served.{ShardState, shard_after}
 use Rattle.shard.specs.StandsFor.{AreAnswered, StandFor}
 use Rattle.shard.proofs.Coherent.{coherent_stays}
 use Rattle.shard.proofs.StandsForBytes.{number_same, written_before, written_behind}
@@ -77,7 +77,7 @@ module _ (load : Entry) (addr width number : ℕ) (is_load : load.request ≡ Lo
       let known : Known entry = All-head Known entry rest cores in
       let can_one : Can entry = All-head Can entry rest can in
       let step = shards_stand shards memory c answered.0 entry h answered.1 can_one known in
-      let d : Caches = after_access c entry.core entry.request in
+      let d : Caches = caches_after c entry.core entry.request in
       let next : MarkedMemory = marked_after memory entry.core entry.request in
       let as_many : length d.l1 ≡ length c.l1 = (coherent_stays c entry.core entry.request h.coherent h.room known).2 in
       let as_long : length next.bytes ≡ length memory.bytes = length-bytes_after memory.base memory.bytes (marks_for memory entry.request) entry.core entry.request can_one in
@@ -86,20 +86,20 @@ module _ (load : Entry) (addr width number : ℕ) (is_load : load.request ≡ Lo
       = subst (λ (r : ℕ). has_written entry.request r ≡ true → line_of entry.request ≢ line_at addr) reply (All-head Apart entry between others) in
       let kept : number_in next.bytes (addr - memory.base) width ≡ number
       = stays memory.base memory.bytes addr width begins fits (marks_for memory entry.request) entry.core entry.request can_one other ∙ e in
-      still_read between (set shards answered.0.number (after answered.0 entry)) next d left begins fits step.2 answered.4
+      still_read between (set shards answered.0.number (shard_after answered.0 entry)) next d left begins fits step.2 answered.4
       (subst (λ (n : ℕ). All (λ (x : Entry). x.core < n) rest) (sym as_many) (All-tail Known entry rest cores))
       (subst (λ (n : ℕ). All (λ (x : Entry). IsServable memory.base n x.request) rest) (sym as_long) (All-tail Can entry rest can))
       (All-tail Apart entry between others) kept
 
 -- a store
-stores : StoredIsLoaded → (memory : MarkedMemory) (core : ℕ) (request : Request) (addr width value : ℕ) → request ≡ Store addr width value → memory.base ≤ addr → addr + width ≤ memory.base + length memory.bytes
+stores : LoadGivesWhatWasStored → (memory : MarkedMemory) (core : ℕ) (request : Request) (addr width value : ℕ) → request ≡ Store addr width value → memory.base ≤ addr → addr + width ≤ memory.base + length memory.bytes
     → number_in (marked_after memory core request).bytes (addr - memory.base) width ≡ value % 256 ^ width
 unfolding bytes_after written
 stores law memory core request addr width value is begins ends =
     let flat : MemoryState = record { base = memory.base; bytes = memory.bytes; reservations = [] } in
     rw is (law flat 0 0 addr width value (record { begins = begins; ends = ends }))
 
-pub read_after_write : StoredIsLoaded → ReadAfterWrite
+pub read_after_write : LoadGivesWhatWasStored → ReadAfterWrite
 read_after_write law shards memory c store load between left addr width value h answered cores can is_store is_load others =
     let rest : List Entry = between ++ (load ∷ []) in
     let Known : Entry → Type 0 = λ entry. entry.core < length c.l1 in
@@ -108,11 +108,11 @@ read_after_write law shards memory c store load between left addr width value h 
     let can_one : Can store = All-head Can store rest can in
     let is : IsServable memory.base (length memory.bytes) (Store addr width value) = subst (λ (r : Request). IsServable memory.base (length memory.bytes) r) is_store can_one in
     let step = shards_stand shards memory c answered.0 store h answered.1 can_one known in
-    let d : Caches = after_access c store.core store.request in
+    let d : Caches = caches_after c store.core store.request in
     let next : MarkedMemory = marked_after memory store.core store.request in
     let as_many : length d.l1 ≡ length c.l1 = (coherent_stays c store.core store.request h.coherent h.room known).2 in
     let as_long : length next.bytes ≡ length memory.bytes = length-bytes_after memory.base memory.bytes (marks_for memory store.request) store.core store.request can_one in
-    still_read load addr width (value % 256 ^ width) is_load between (set shards answered.0.number (after answered.0 store)) next d left is.begins is.in_line step.2 answered.4
+    still_read load addr width (value % 256 ^ width) is_load between (set shards answered.0.number (shard_after answered.0 store)) next d left is.begins is.in_line step.2 answered.4
     (subst (λ (n : ℕ). All (λ (x : Entry). x.core < n) rest) (sym as_many) (All-tail Known store rest cores))
     (subst (λ (n : ℕ). All (λ (x : Entry). IsServable memory.base n x.request) rest) (sym as_long) (All-tail Can store rest can))
     others (stores law memory store.core store.request addr width value is_store is.begins is.ends)

@@ -7,16 +7,15 @@ use Rattle.std.proofs.lemmas.List.FromFn.{length-map-range_with_len}
 use Rattle.elf_load.specs.MemoryImage.{byte_at}
 use Rattle.std.proofs.lemmas.List.Elements.{All-head, All-map, All-tail}
 use Rattle.std.proofs.lemmas.Option.{slice_get-get_or, slice_get_within}
-use Rattle.zs_num.specs.Request.{IsServable}
+use Rattle.zs_num.specs.Request.{IsServable, line_of}
 use Rattle.zs_num.specs.declared.entry.Entry.{Entry}
 use Rattle.zs_num.specs.declared.request.Request.{Request}
 use Rattle.flat_memory.specs.declared.reservation.Reservation.{Reservation}
 use Rattle.flat_memory.specs.FlatMemory as flat
-use Rattle.shard.specs.Coherence.{Caches, after_access, after_accesses, outcomes_of}
+use Rattle.shard.specs.Coherence.{Caches, caches_after, caches_after_all, outcomes_of}
 use Rattle.shard.specs.Laws.{EntriesAreOfOneMachine, NewShardsAreOneMachine, marked_after_all, marked_replies, flat_replies}
-use Rattle.shard.specs.Lines.{line_of}
 use Rattle.shard.specs.Marks.{MarkedMemory, marked_after}
-use Rattle.shard.specs.Served.{ShardState, after}
+use Rattle.shard.specs.Served.{ShardState, shard_after}
 use Rattle.shard.specs.StandsFor.{AreAnswered, StandFor, accesses_of, new_caches, new_memory, new_shards}
 use Rattle.shard.proofs.Coherent.{coherent_stays}
 use Rattle.shard.proofs.Reservations.{marks_are_reservations}
@@ -29,7 +28,7 @@ use Rattle.shard.specs.Marks.{marks_for}
 pub record AreOfMarked (memory : MarkedMemory) (c : Caches) (entries : List Entry) (left : List ShardState) : Type 0 where
   pub replies : map (λ entry. entry.reply) entries ≡ marked_replies memory (accesses_of entries)
   pub outcomes : map (λ entry. entry.outcome) entries ≡ outcomes_of c (accesses_of entries)
-  pub stand : StandFor left (marked_after_all memory (accesses_of entries)) (after_accesses c (accesses_of entries))
+  pub stand : StandFor left (marked_after_all memory (accesses_of entries)) (caches_after_all c (accesses_of entries))
 
 pub are_of_marked : (entries : List Entry) (shards : List ShardState) (memory : MarkedMemory) (c : Caches) (left : List ShardState)
     → StandFor shards memory c → All (λ entry. entry.core < length c.l1) entries → All (λ entry. IsServable memory.base (length memory.bytes) entry.request) entries
@@ -46,12 +45,12 @@ are_of_marked (entry ∷ entries) shards memory c left h cores can answered =
     let known : entry.core < length c.l1 = All-head Known entry entries cores in
     let can_one : Can entry = All-head Can entry entries can in
     let step = shards_stand shards memory c s entry h answered.1 can_one known in
-    let d : Caches = after_access c entry.core entry.request in
+    let d : Caches = caches_after c entry.core entry.request in
     let rest_memory : MarkedMemory = marked_after memory entry.core entry.request in
     let as_many : length d.l1 ≡ length c.l1 = (coherent_stays c entry.core entry.request h.coherent h.room known).2 in
     let as_long : length rest_memory.bytes ≡ length memory.bytes = length-bytes_after memory.base memory.bytes (marks_for memory entry.request) entry.core entry.request can_one in
     let rest : AreOfMarked rest_memory d entries left
-    = are_of_marked entries (set shards s.number (after s entry)) rest_memory d left step.2
+    = are_of_marked entries (set shards s.number (shard_after s entry)) rest_memory d left step.2
     (subst (λ (n : ℕ). All (λ (e : Entry). e.core < n) entries) (sym as_many) (All-tail Known entry entries cores))
     (subst (λ (n : ℕ). All (λ (e : Entry). IsServable memory.base n e.request) entries) (sym as_long) (All-tail Can entry entries can))
     answered.4 in

@@ -3,15 +3,15 @@ use Rattle.std.proofs.Common.{◌≡◌, ◌≢◌, ℕ, ◌-◌, ◌%◌, ◌<�
 use Rattle.std.specs.Prelude.{slice_get}
 use Rattle.std.proofs.lemmas.List.{get_or-map, length-map, length-set, map-set}
 use Rattle.std.proofs.lemmas.Option.{get_or_from_slice_get, slice_get_within}
-use Rattle.zs_num.specs.Request.{addr_of, IsServable}
+use Rattle.zs_num.specs.Request.{addr_of, line_of, IsServable}
 use Rattle.zs_num.specs.declared.entry.Entry.{Entry}
 use Rattle.flat_memory.specs.declared.reservation.Reservation.{Reservation}
-use Rattle.shard.specs.Coherence.{Caches, after_access, outcome_of}
+use Rattle.shard.specs.Coherence.{Caches, caches_after, outcome_of}
 use Rattle.shard.specs.Laws.{ShardsStandForAMachine}
-use Rattle.shard.specs.Lines.{line_at, line_of}
+use Rattle.shard.specs.Lines.{line_at}
 use Rattle.shard.specs.Marks.{MarkedMemory, bytes_after, marked_after, marked_reply, marks_after, marks_for, reply_from}
-use Rattle.shard.specs.Served.{ShardState, after, met_by, place_of, reply_of}
-use Rattle.shard.specs.StandsFor.{AreCoherent, HaveRoom, Keeps, StandFor}
+use Rattle.shard.specs.Served.{ShardState, met_by, place_of, shard_after, shard_reply}
+use Rattle.shard.specs.StandsFor.{AreCoherent, HaveRoomForLines, KeepsLine, StandFor}
 use Rattle.shard.proofs.Coherent.{coherent_stays}
 use Rattle.shard.proofs.CoherentLists.{each_after_set}
 use Rattle.shard.proofs.CoherentPlaced.{Placed}
@@ -34,7 +34,7 @@ pub record Stands (n : ℕ) (memory : MarkedMemory) (c : Caches) (j : ℕ) (t : 
 
 pub each_stands : (shards : List ShardState) (memory : MarkedMemory) (c : Caches) → StandFor shards memory c → (j : ℕ) (t : ShardState) → slice_get shards j ≡ Some t → Stands (length shards) memory c j t
 each_stands shards memory c h j t e =
-    let keeps : (line : ℕ) → line % length shards ≡ j → Keeps shards line t = λ line is. subst (λ (i : ℕ). slice_get shards i ≡ Some t) (sym is) e in
+    let keeps : (line : ℕ) → line % length shards ≡ j → KeepsLine shards line t = λ line is. subst (λ (i : ℕ). slice_get shards i ≡ Some t) (sym is) e in
     record {
       number = h.are.number j t e;
       base = h.are.base j t e;
@@ -53,7 +53,7 @@ each_stands shards memory c h j t e =
     }
 
 pub stand_from : (shards : List ShardState) (memory : MarkedMemory) (c : Caches) → ((j : ℕ) (t : ShardState) → slice_get shards j ≡ Some t → Stands (length shards) memory c j t)
-    → memory.marks ≡ map (λ s. s.marks) shards → c.shards ≡ 1 → AreCoherent c → HaveRoom c → StandFor shards memory c
+    → memory.marks ≡ map (λ s. s.marks) shards → c.shards ≡ 1 → AreCoherent c → HaveRoomForLines c → StandFor shards memory c
 stand_from shards memory c each marks whole coherent room = record {
   are = record {
     number = λ j t e. (each j t e).number;
@@ -76,7 +76,7 @@ stand_from shards memory c each marks whole coherent room = record {
 }
 
 -- ---- one access
-module _ (shards : List ShardState) (memory : MarkedMemory) (c : Caches) (s : ShardState) (entry : Entry) (h : StandFor shards memory c) (k : Keeps shards (line_of entry.request) s)
+module _ (shards : List ShardState) (memory : MarkedMemory) (c : Caches) (s : ShardState) (entry : Entry) (h : StandFor shards memory c) (k : KeepsLine shards (line_of entry.request) s)
     (can : IsServable memory.base (length memory.bytes) entry.request) (known : entry.core < length c.l1) where
   abbrev n : ℕ
   n = length shards
@@ -112,8 +112,8 @@ module _ (shards : List ShardState) (memory : MarkedMemory) (c : Caches) (s : Sh
   place_is : place_of s.caches.shards s.base (addr_of entry.request) ≡ place_of n memory.base (addr_of entry.request)
   place_is = rw (own.part.count, own.base) refl
 
-  step_reply : reply_of s entry ≡ marked_reply memory entry.core entry.request
-  unfolding reply_of
+  step_reply : shard_reply s entry ≡ marked_reply memory entry.core entry.request
+  unfolding shard_reply
   step_reply =
       ap (λ (x : ℕ). reply_from s.bytes x s.marks entry.core entry.request) place_is
       ∙ (reply_same n number memory.base some memory.bytes s.bytes own.share s.marks entry.core entry.request can refl
@@ -127,16 +127,16 @@ module _ (shards : List ShardState) (memory : MarkedMemory) (c : Caches) (s : Sh
   left = marked_after memory entry.core entry.request
 
   abbrev caches_left : Caches
-  caches_left = after_access c entry.core entry.request
+  caches_left = caches_after c entry.core entry.request
 
   bytes_left : length left.bytes ≡ length memory.bytes
   bytes_left = length-bytes_after memory.base memory.bytes (marks_for memory entry.request) entry.core entry.request can
 
-  coherent_left : AreCoherent caches_left × HaveRoom caches_left × (length caches_left.l1 ≡ length c.l1)
+  coherent_left : AreCoherent caches_left × HaveRoomForLines caches_left × (length caches_left.l1 ≡ length c.l1)
   coherent_left = coherent_stays c entry.core entry.request h.coherent h.room known
 
-  own_left : Stands n left caches_left number (after s entry)
-  unfolding after
+  own_left : Stands n left caches_left number (shard_after s entry)
+  unfolding shard_after
   own_left =
       let marks : List (Option Reservation) = marks_for memory entry.request in
       let place : ℕ = place_of n memory.base (addr_of entry.request) in
@@ -167,21 +167,21 @@ module _ (shards : List ShardState) (memory : MarkedMemory) (c : Caches) (s : Sh
       }
 
   abbrev shards_left : List ShardState
-  shards_left = set shards number (after s entry)
+  shards_left = set shards number (shard_after s entry)
 
   marks_left : left.marks ≡ map (λ t. t.marks) shards_left
-  unfolding after
+  unfolding shard_after
   marks_left =
       ap (λ (x : ℕ). set memory.marks x (marks_after (marks_for memory entry.request) entry.core entry.request)) shard_is
       ∙ (ap (λ (m : List (Option Reservation)). set memory.marks number (marks_after m entry.core entry.request)) marks_are
       ∙ (ap (λ (m : List (List (Option Reservation))). set m number (marks_after s.marks entry.core entry.request)) h.marks
-      ∙ sym (map-set (λ (t : ShardState). t.marks) shards number (after s entry))))
+      ∙ sym (map-set (λ (t : ShardState). t.marks) shards number (shard_after s entry))))
 
   stand_left : StandFor shards_left left caches_left
   stand_left =
-      let long : length shards_left ≡ n = length-set shards number (after s entry) in
+      let long : length shards_left ≡ n = length-set shards number (shard_after s entry) in
       stand_from shards_left left caches_left
-      (λ j t e. subst (λ (m : ℕ). Stands m left caches_left j t) (sym long) (each_after_set (λ i x. Stands n left caches_left i x) shards number (after s entry) within own_left other_left j t e))
+      (λ j t e. subst (λ (m : ℕ). Stands m left caches_left j t) (sym long) (each_after_set (λ i x. Stands n left caches_left i x) shards number (shard_after s entry) within own_left other_left j t e))
       marks_left (shards_stay c entry.core entry.request ∙ h.whole) coherent_left.0 coherent_left.1
 
 pub shards_stand : ShardsStandForAMachine
@@ -189,6 +189,6 @@ shards_stand shards memory c s entry h k can known =
     let n : ℕ = length shards in (
       step_reply shards memory c s entry h k can known,
       step_outcome shards memory c s entry h k can known,
-      subst (λ (i : ℕ). StandFor (set shards i (after s entry)) (marked_after memory entry.core entry.request) (after_access c entry.core entry.request)) (sym (own shards memory c s entry h k can known).number)
+      subst (λ (i : ℕ). StandFor (set shards i (shard_after s entry)) (marked_after memory entry.core entry.request) (caches_after c entry.core entry.request)) (sym (own shards memory c s entry h k can known).number)
           (stand_left shards memory c s entry h k can known),
     )

@@ -3,14 +3,15 @@ use Rattle.std.proofs.Common.{◌≡◌, ℕ, ◌%◌, ◌<◌, Bool, true, fals
 use Rattle.std.specs.List.{enumerate_from}
 use Rattle.std.proofs.lemmas.List.{length-map, length-set}
 use Rattle.std.proofs.lemmas.List.FromFn.{length-enumerate_from}
+use Rattle.zs_num.specs.Request.{line_of}
 use Rattle.zs_num.specs.declared.entry.Outcome.{Outcome}
 use Rattle.zs_num.specs.declared.entry.Outcome.TheVariants.{Hit, Upgrade, L2, Miss}
 use Rattle.zs_num.specs.declared.request.Request.{Request}
 use Rattle.cache_set.specs.declared.letter.Letter.{Letter}
 use Rattle.cache_set.specs.declared.letter.Letter.TheVariants.{M, E, S, I}
 use Rattle.cache_set.specs.Ways.{without, used, filled, changed}
-use Rattle.shard.specs.Coherence.{Caches, after_access, fetched, in_own_set_of, is_held, is_modified, is_write, kept_first, l2_victim, letter_at, letter_in, looked_up, marked_dirty, on_l2, on_others, on_own, other_after, others_changed, outcome_of, own_after, own_victim, recalled, room_made, some_other, taken_in, with_letter, written_back}
-use Rattle.shard.specs.Lines.{line_of, in_set_of}
+use Rattle.shard.specs.Coherence.{Caches, caches_after, in_own_set_of, is_held, is_modified, is_write, kept_first, l2_victim, letter_at, letter_in, looked_up, marked_dirty, on_l2, on_others, on_own, other_after, others_changed, outcome_of, own_after, own_victim, recalled, room_made, some_other, taken_in, taken_into_l2, with_letter, written_back}
+use Rattle.shard.specs.Lines.{in_set_of}
 use Rattle.shard.proofs.CoherentLists.{both_set, mapped_at, numbered_at}
 use Rattle.shard.proofs.CoherentPlaced.{Keeps, Placed, if_other, l2_step, none_other, others_step}
 use Rattle.shard.proofs.StandsForPart.{Part, l2_victim_number, l2_victim_same, letter_same, outcome_same, own_victim_number, own_victim_same, some_other_same}
@@ -45,8 +46,8 @@ module _ (n number : ℕ) (some : 0 < n) where
         l2_part c d (in_set_of c.shards line (used line) c.l2) (in_set_of d.shards line (used line) d.l2) p
         (agree_step n number some c.shards d.shards p.whole p.count c.l2 d.l2 (used line) line is p.l2)
 
-    fetched_part : Part n number (fetched line c) (fetched line d)
-    unfolding fetched
+    fetched_part : Part n number (taken_into_l2 line c) (taken_into_l2 line d)
+    unfolding taken_into_l2
     fetched_part =
         l2_part c d (in_set_of c.shards line (filled c.l2_ways line false) c.l2) (in_set_of d.shards line (filled d.l2_ways line false) d.l2) p
         (subst (λ (ways : ℕ). Agree n number (in_set_of c.shards line (filled c.l2_ways line false) c.l2) (in_set_of d.shards line (filled ways line false) d.l2)) (sym p.l2_ways)
@@ -111,7 +112,7 @@ module _ (n number : ℕ) (some : 0 < n) where
     on_l2_part c d p placed (Miss dirty) =
         let victim : Option (ℕ × Bool) = l2_victim c line in
         let made : Part n number (room_made victim c) (room_made victim d) = room_part c d p victim (l2_victim_number n number c d p line is some placed) in
-        subst (λ (v : Option (ℕ × Bool)). Part n number (fetched line (room_made victim c)) (fetched line (room_made v d))) (l2_victim_same n number c d p line is)
+        subst (λ (v : Option (ℕ × Bool)). Part n number (taken_into_l2 line (room_made victim c)) (taken_into_l2 line (room_made v d))) (l2_victim_same n number c d p line is)
         (fetched_part line is (room_made victim c) (room_made victim d) made)
 
     on_others_part : (c d : Caches) → Part n number c d → (outcome : Outcome) (write : Bool) (core : ℕ) → Part n number (on_others outcome write core line c) (on_others outcome write core line d)
@@ -134,8 +135,8 @@ module _ (n number : ℕ) (some : 0 < n) where
   abbrev steps : (own letter : Letter) → Outcome → (write : Bool) (core line : ℕ) → Caches → Caches
   steps own letter outcome write core line c = on_own own core line letter (on_others outcome write core line (on_l2 outcome line c))
 
-  pub access_part : (c d : Caches) → Part n number c d → Placed c → (core : ℕ) (request : Request) → line_of request % n ≡ number → Part n number (after_access c core request) (after_access d core request)
-  unfolding after_access
+  pub access_part : (c d : Caches) → Part n number c d → Placed c → (core : ℕ) (request : Request) → line_of request % n ≡ number → Part n number (caches_after c core request) (caches_after d core request)
+  unfolding caches_after
   access_part c d p placed core request is =
       let line : ℕ = line_of request in
       let write : Bool = is_write request in

@@ -10,8 +10,8 @@ use Rattle.cache_set.specs.declared.letter.Letter.{Letter}
 use Rattle.cache_set.specs.declared.letter.Letter.TheVariants.{M, E, S, I}
 use Rattle.flat_memory.specs.FlatMemory.{number_in, with_number, after_write}
 use Rattle.shard.specs.Marks.{reply_from, bytes_after, marks_after}
-use Rattle.shard.specs.Served.{ShardState, reply_of, met_by, after}
-use Rattle.shard.specs.Coherence.{Caches, empty_caches, letter_at, dirty_at, outcome_of, after_access, after_accesses, outcomes_of, recalled, marked_dirty, fetched, looked_up, others_changed, kept_first, taken_in}
+use Rattle.shard.specs.Served.{ShardState, shard_reply, met_by, shard_after}
+use Rattle.shard.specs.Coherence.{Caches, empty_caches, letter_at, dirty_at, outcome_of, caches_after, caches_after_all, outcomes_of, recalled, marked_dirty, taken_into_l2, looked_up, others_changed, kept_first, taken_in}
 
 abbrev small : (cores : ℕ) → Caches
 small cores = empty_caches cores 1 2 1 4 2
@@ -24,7 +24,7 @@ store addr = Store addr 8 5
 
 -- two lines of one L1 set of one way take turns, and both stay in the L2
 two_lines_take_turns : outcomes_of (small 1) ((0, load 69632) ∷ (0, load 69888) ∷ (0, load 69632) ∷ (0, load 69888) ∷ []) ≡ Miss false ∷ Miss false ∷ L2 false ∷ L2 false ∷ []
-unfolding letter_at dirty_at outcome_of after_access recalled marked_dirty fetched looked_up others_changed kept_first taken_in
+unfolding letter_at dirty_at outcome_of caches_after recalled marked_dirty taken_into_l2 looked_up others_changed kept_first taken_in
 two_lines_take_turns = refl
 
 abbrev evictions : List (ℕ × Request)
@@ -32,15 +32,15 @@ evictions = (0, store 69632) ∷ (1, load 69888) ∷ (1, load 70144) ∷ []
 
 -- a line that only a core has modified leaves the L2
 a_modified_line_leaves : outcomes_of (small 2) evictions ≡ Miss false ∷ Miss false ∷ Miss true ∷ []
-unfolding letter_at dirty_at outcome_of after_access recalled marked_dirty fetched looked_up others_changed kept_first taken_in
+unfolding letter_at dirty_at outcome_of caches_after recalled marked_dirty taken_into_l2 looked_up others_changed kept_first taken_in
 a_modified_line_leaves = refl
 
-its_copy_is_removed : letter_at (after_accesses (small 2) evictions) 0 1088 ≡ I
-unfolding letter_at dirty_at outcome_of after_access recalled marked_dirty fetched looked_up others_changed kept_first taken_in
+its_copy_is_removed : letter_at (caches_after_all (small 2) evictions) 0 1088 ≡ I
+unfolding letter_at dirty_at outcome_of caches_after recalled marked_dirty taken_into_l2 looked_up others_changed kept_first taken_in
 its_copy_is_removed = refl
 
-it_is_not_in_the_l2 : dirty_at (after_accesses (small 2) evictions) 1088 ≡ None
-unfolding letter_at dirty_at outcome_of after_access recalled marked_dirty fetched looked_up others_changed kept_first taken_in
+it_is_not_in_the_l2 : dirty_at (caches_after_all (small 2) evictions) 1088 ≡ None
+unfolding letter_at dirty_at outcome_of caches_after recalled marked_dirty taken_into_l2 looked_up others_changed kept_first taken_in
 it_is_not_in_the_l2 = refl
 
 -- ---- letters of two cores for one line
@@ -50,19 +50,19 @@ turns = (0, load 69632) ∷ (1, load 69632) ∷ (0, store 69632) ∷ (1, load 69
 
 -- the letters of both cores for line 1088 after so many of these
 abbrev letters : (count : ℕ) → Letter × Letter
-letters count = let c = after_accesses (small 2) (take count turns) in (letter_at c 0 1088, letter_at c 1 1088)
+letters count = let c = caches_after_all (small 2) (take count turns) in (letter_at c 0 1088, letter_at c 1 1088)
 
 two_cores_share_a_line : outcomes_of (small 2) turns ≡ Miss false ∷ L2 true ∷ Upgrade true ∷ L2 true ∷ Upgrade true ∷ []
-unfolding turns letter_at dirty_at outcome_of after_access recalled marked_dirty fetched looked_up others_changed kept_first taken_in
+unfolding turns letter_at dirty_at outcome_of caches_after recalled marked_dirty taken_into_l2 looked_up others_changed kept_first taken_in
 two_cores_share_a_line = refl
 
 their_letters : letters 1 ∷ letters 2 ∷ letters 3 ∷ letters 4 ∷ letters 5 ∷ [] ≡ (E, I) ∷ (S, S) ∷ (M, I) ∷ (S, S) ∷ (I, M) ∷ []
-unfolding turns letter_at dirty_at outcome_of after_access recalled marked_dirty fetched looked_up others_changed kept_first taken_in
+unfolding turns letter_at dirty_at outcome_of caches_after recalled marked_dirty taken_into_l2 looked_up others_changed kept_first taken_in
 their_letters = refl
 
 -- the line is dirty in the L2 once another core's modified copy is read
-a_modified_copy_is_read : dirty_at (after_accesses (small 2) (take 4 turns)) 1088 ≡ Some true
-unfolding turns letter_at dirty_at outcome_of after_access recalled marked_dirty fetched looked_up others_changed kept_first taken_in
+a_modified_copy_is_read : dirty_at (caches_after_all (small 2) (take 4 turns)) 1088 ≡ Some true
+unfolding turns letter_at dirty_at outcome_of caches_after recalled marked_dirty taken_into_l2 looked_up others_changed kept_first taken_in
 a_modified_copy_is_read = refl
 
 -- ---- a shard: load-reserved and store-conditional
@@ -77,7 +77,7 @@ entry core request = record { core = core; stamp = 1; start = 0; request = reque
 -- replies and outcomes of accesses one after the other
 abbrev answers : ShardState → List Entry → List (ℕ × Outcome)
 answers shard [] = []
-answers shard (e ∷ es) = (reply_of shard e, met_by shard e) ∷ answers (after shard e) es
+answers shard (e ∷ es) = (shard_reply shard e, met_by shard e) ∷ answers (shard_after shard e) es
 
 reserved : Request
 reserved = Lr 69632 8
@@ -86,9 +86,9 @@ conditional : (paired : Bool) → Request
 conditional paired = Sc 69632 8 9 paired
 
 a_pair_stores_once : answers fresh (entry 0 reserved ∷ entry 0 (conditional true) ∷ entry 0 (conditional false) ∷ entry 0 (load 69632) ∷ []) ≡ (0, Miss false) ∷ (0, Hit) ∷ (1, Hit) ∷ (9, Hit) ∷ []
-unfolding reserved conditional letter_at dirty_at outcome_of after_access recalled marked_dirty fetched looked_up others_changed kept_first taken_in reply_of met_by after reply_from bytes_after marks_after number_in with_number after_write
+unfolding reserved conditional letter_at dirty_at outcome_of caches_after recalled marked_dirty taken_into_l2 looked_up others_changed kept_first taken_in shard_reply met_by shard_after reply_from bytes_after marks_after number_in with_number after_write
 a_pair_stores_once = refl
 
 a_store_between_ends_the_pair : answers fresh (entry 0 reserved ∷ entry 1 (store 69632) ∷ entry 0 (conditional true) ∷ entry 0 (load 69632) ∷ []) ≡ (0, Miss false) ∷ (0, L2 true) ∷ (1, L2 true) ∷ (5, Hit) ∷ []
-unfolding reserved conditional letter_at dirty_at outcome_of after_access recalled marked_dirty fetched looked_up others_changed kept_first taken_in reply_of met_by after reply_from bytes_after marks_after number_in with_number after_write
+unfolding reserved conditional letter_at dirty_at outcome_of caches_after recalled marked_dirty taken_into_l2 looked_up others_changed kept_first taken_in shard_reply met_by shard_after reply_from bytes_after marks_after number_in with_number after_write
 a_store_between_ends_the_pair = refl

@@ -3,6 +3,7 @@
 -- longest ago makes room. There is no directory: who has a line is read off the lists.
 use Rattle.std.specs.Prelude.{ℕ, ◌==◌, Bool, true, false, not, ◌&&◌, ◌||◌, if◌then◌else◌, List, [], ◌∷◌, length, map, replicate, slice_index_or, slice_set, Option, Some, None, is_some, unwrap_or}
 use Rattle.std.specs.List.{enumerate_from, list_any, range_with_len}
+use Rattle.zs_num.specs.Request.{line_of}
 use Rattle.zs_num.specs.declared.entry.Outcome.{Outcome}
 use Rattle.zs_num.specs.declared.entry.Outcome.TheVariants.{Hit, Upgrade, L2, Miss}
 use Rattle.zs_num.specs.declared.request.Request.{Request}
@@ -10,7 +11,7 @@ use Rattle.zs_num.specs.declared.request.Request.TheVariants.{Load, Store, Lr, S
 use Rattle.cache_set.specs.declared.letter.Letter.{Letter}
 use Rattle.cache_set.specs.declared.letter.Letter.TheVariants.{M, E, S, I}
 use Rattle.cache_set.specs.Ways.{kept_of, without, used, filled, changed, last_of_full}
-use Rattle.shard.specs.Lines.{line_of, set_of, in_set_of}
+use Rattle.shard.specs.Lines.{set_of, in_set_of}
 
 -- The lines in each set, the most recently used first. With one shard these are the caches of a whole machine, and else
 -- those of one shard.
@@ -151,8 +152,8 @@ room_made None c = c
 room_made (Some victim) c = recalled victim.0 c
 
 -- a line comes into the L2, clean
-unfoldable pub fetched : (line : ℕ) → Caches → Caches
-fetched line c = record c { l2 = in_set_of c.shards line (filled c.l2_ways line false) c.l2 }
+unfoldable pub taken_into_l2 : (line : ℕ) → Caches → Caches
+taken_into_l2 line c = record c { l2 = in_set_of c.shards line (filled c.l2_ways line false) c.l2 }
 
 -- a line is used in the L2
 unfoldable pub looked_up : (line : ℕ) → Caches → Caches
@@ -163,7 +164,7 @@ abbrev pub on_l2 : Outcome → (line : ℕ) → Caches → Caches
 on_l2 Hit line c = c
 on_l2 (Upgrade others) line c = looked_up line c
 on_l2 (L2 others) line c = looked_up line c
-on_l2 (Miss dirty) line c = fetched line (room_made (l2_victim c line) c)
+on_l2 (Miss dirty) line c = taken_into_l2 line (room_made (l2_victim c line) c)
 
 -- a copy with another letter, in its place; with I it leaves
 abbrev pub with_letter : (line : ℕ) → Letter → List (ℕ × Letter) → List (ℕ × Letter)
@@ -216,8 +217,8 @@ on_own S core line letter c = kept_first core line letter c
 on_own I core line letter c = taken_in core line letter c
 
 -- the caches after an access of a core: first the L2, then the other cores' copies, then the core's own
-unfoldable pub after_access : Caches → (core : ℕ) → Request → Caches
-after_access c core request =
+unfoldable pub caches_after : Caches → (core : ℕ) → Request → Caches
+caches_after c core request =
     let line = line_of request in
     let write = is_write request in
     let own = letter_at c core line in
@@ -227,10 +228,10 @@ after_access c core request =
 
 -- ---- lists of accesses, each with its core
 
-abbrev pub after_accesses : Caches → List (ℕ × Request) → Caches
-after_accesses c [] = c
-after_accesses c (access ∷ accesses) = after_accesses (after_access c access.0 access.1) accesses
+abbrev pub caches_after_all : Caches → List (ℕ × Request) → Caches
+caches_after_all c [] = c
+caches_after_all c (access ∷ accesses) = caches_after_all (caches_after c access.0 access.1) accesses
 
 abbrev pub outcomes_of : Caches → List (ℕ × Request) → List Outcome
 outcomes_of c [] = []
-outcomes_of c (access ∷ accesses) = outcome_of c access.0 access.1 ∷ outcomes_of (after_access c access.0 access.1) accesses
+outcomes_of c (access ∷ accesses) = outcome_of c access.0 access.1 ∷ outcomes_of (caches_after c access.0 access.1) accesses

@@ -1,6 +1,6 @@
 -- Laws of the definitions.
 use Rattle.std.specs.Prelude.{◌≡◌, ◌≢◌, ℕ, ◌%◌, ◌^◌, ◌<◌, ◌≤◌, ◌==◌, ◌↔◌, Bool, true, false, List, [], ◌∷◌, ◌++◌, All, length, map, replicate, slice_set, Option, None, IsSome, IsTrue}
-use Rattle.zs_num.specs.Request.{IsServable}
+use Rattle.zs_num.specs.Request.{IsServable, line_of}
 use Rattle.zs_num.specs.declared.entry.Entry.{Entry}
 use Rattle.zs_num.specs.declared.request.Request.{Request}
 use Rattle.zs_num.specs.declared.request.Request.TheVariants.{Load, Store, Lr, Sc, Amo}
@@ -11,26 +11,26 @@ use Rattle.flat_memory.specs.declared.reservation.Reservation.{Reservation}
 use Rattle.flat_memory.specs.FlatMemory as flat
 use Rattle.zs_num.specs.declared.entry.Outcome.TheVariants.{Hit}
 use Rattle.cache_set.specs.declared.letter.Letter.TheVariants.{I}
-use Rattle.shard.specs.Coherence.{Caches, after_access, after_accesses, allows, dirty_at, empty_caches, is_alone, is_held, is_write, letter_at, outcome_of, outcomes_of}
-use Rattle.shard.specs.Lines.{line_at, line_of}
+use Rattle.shard.specs.Coherence.{Caches, allows, caches_after, caches_after_all, dirty_at, empty_caches, is_alone, is_held, is_write, letter_at, outcome_of, outcomes_of}
+use Rattle.shard.specs.Lines.{line_at}
 use Rattle.shard.specs.Marks.{ArePairedRight, MarkedMemory, marked_after, marked_reply, pairings_after}
-use Rattle.shard.specs.Served.{CanServe, HasCore, ShardState, after, met_by, reply_of}
-use Rattle.shard.specs.StandsFor.{AreAnswered, AreCoherent, HaveRoom, HaveSets, Keeps, StandFor, accesses_of, flat_for, new_caches, new_memory, new_shards}
+use Rattle.shard.specs.Served.{CanServe, HasCore, ShardState, met_by, shard_after, shard_reply}
+use Rattle.shard.specs.StandsFor.{AreAnswered, AreCoherent, HaveRoomForLines, HaveSets, KeepsLine, StandFor, accesses_of, flat_for, new_caches, new_memory, new_shards}
 
 -- ---- what an access leaves of a shard
 
 abbrev pub NumberStays : Type 0
-NumberStays = (shard : ShardState) (entry : Entry) → (after shard entry).number ≡ shard.number
+NumberStays = (shard : ShardState) (entry : Entry) → (shard_after shard entry).number ≡ shard.number
 
 abbrev pub LastIsStamp : Type 0
-LastIsStamp = (shard : ShardState) (entry : Entry) → (after shard entry).last ≡ entry.stamp
+LastIsStamp = (shard : ShardState) (entry : Entry) → (shard_after shard entry).last ≡ entry.stamp
 
 -- what could be asked can be asked again
 abbrev pub StillServes : Type 0
-StillServes = (shard : ShardState) (entry : Entry) (request : Request) → CanServe shard request → CanServe (after shard entry) request
+StillServes = (shard : ShardState) (entry : Entry) (request : Request) → CanServe shard request → CanServe (shard_after shard entry) request
 
 abbrev pub CoresStay : Type 0
-CoresStay = (shard : ShardState) (entry : Entry) (core : ℕ) → HasCore shard core → HasCore (after shard entry) core
+CoresStay = (shard : ShardState) (entry : Entry) (core : ℕ) → HasCore shard core → HasCore (shard_after shard entry) core
 
 -- ---- the caches of a machine
 
@@ -42,19 +42,19 @@ HitsAreAllowed = (c : Caches) (core : ℕ) (request : Request) → (outcome_of c
 -- set, and no L1 has a line with the letter I
 abbrev pub SetsStaySound : Type 0
 SetsStaySound = (cores shards l1_sets l1_ways l2_sets l2_ways : ℕ) (accesses : List (ℕ × Request))
-    → HaveSets (after_accesses (empty_caches cores shards l1_sets l1_ways l2_sets l2_ways) accesses)
+    → HaveSets (caches_after_all (empty_caches cores shards l1_sets l1_ways l2_sets l2_ways) accesses)
 
 -- Coherence is kept by every access of a core, where there is a set for each line with room for one. So is the room, and so
 -- are the cores.
 abbrev pub CoherentStays : Type 0
-CoherentStays = (c : Caches) (core : ℕ) (request : Request) → AreCoherent c → HaveRoom c → core < length c.l1
-    → AreCoherent (after_access c core request) × HaveRoom (after_access c core request) × (length (after_access c core request).l1 ≡ length c.l1)
+CoherentStays = (c : Caches) (core : ℕ) (request : Request) → AreCoherent c → HaveRoomForLines c → core < length c.l1
+    → AreCoherent (caches_after c core request) × HaveRoomForLines (caches_after c core request) × (length (caches_after c core request).l1 ≡ length c.l1)
 
 -- what accesses of cores make of empty caches that have a set for each line, with room for one
 abbrev pub AfterEmpty : (Caches → Type 0) → Type 0
 AfterEmpty Holds = (cores shards l1_sets l1_ways l2_sets l2_ways : ℕ) (accesses : List (ℕ × Request))
     → 1 ≤ l1_sets → 1 ≤ l1_ways → 1 ≤ l2_sets → 1 ≤ l2_ways → All (λ access. access.0 < cores) accesses
-    → Holds (after_accesses (empty_caches cores shards l1_sets l1_ways l2_sets l2_ways) accesses)
+    → Holds (caches_after_all (empty_caches cores shards l1_sets l1_ways l2_sets l2_ways) accesses)
 
 -- where a core has a line in M or E, no other core has it
 abbrev pub SingleWriter : Type 0
@@ -79,11 +79,11 @@ marked_after_all memory (access ∷ accesses) = marked_after_all (marked_after m
 abbrev pub flat_replies : flat.MemoryState → List (ℕ × Request) → List ℕ
 flat_replies memory [] = []
 flat_replies memory (access ∷ accesses) =
-    flat.reply_of memory access.0 access.1 ∷ flat_replies (flat.after memory access.0 access.1) accesses
+    flat.memory_reply memory access.0 access.1 ∷ flat_replies (flat.memory_after memory access.0 access.1) accesses
 
 abbrev pub flat_after_all : flat.MemoryState → List (ℕ × Request) → flat.MemoryState
 flat_after_all memory [] = memory
-flat_after_all memory (access ∷ accesses) = flat_after_all (flat.after memory access.0 access.1) accesses
+flat_after_all memory (access ∷ accesses) = flat_after_all (flat.memory_after memory access.0 access.1) accesses
 
 abbrev pub pairings_after_all : (pairings : List (Option Reservation)) → List (ℕ × Request) → List (Option Reservation)
 pairings_after_all pairings [] = pairings
@@ -104,10 +104,10 @@ MarksAreReservations = (memory : MarkedMemory) (pairings : List (Option Reservat
 -- shards stand, and they stand for what these leave.
 abbrev pub ShardsStandForAMachine : Type 0
 ShardsStandForAMachine = (shards : List ShardState) (memory : MarkedMemory) (c : Caches) (s : ShardState) (entry : Entry)
-    → StandFor shards memory c → Keeps shards (line_of entry.request) s → IsServable memory.base (length memory.bytes) entry.request → entry.core < length c.l1
-    → (reply_of s entry ≡ marked_reply memory entry.core entry.request)
+    → StandFor shards memory c → KeepsLine shards (line_of entry.request) s → IsServable memory.base (length memory.bytes) entry.request → entry.core < length c.l1
+    → (shard_reply s entry ≡ marked_reply memory entry.core entry.request)
     × (met_by s entry ≡ outcome_of c entry.core entry.request)
-    × StandFor (slice_set shards s.number (after s entry)) (marked_after memory entry.core entry.request) (after_access c entry.core entry.request)
+    × StandFor (slice_set shards s.number (shard_after s entry)) (marked_after memory entry.core entry.request) (caches_after c entry.core entry.request)
 
 -- The new shards of a machine stand for memory as it was loaded and for empty caches, and so for flat memory as it was
 -- loaded.
@@ -123,7 +123,7 @@ EntriesAreOfOneMachine = (shards : List ShardState) (memory : MarkedMemory) (c :
     → ArePairedRight pairings (accesses_of entries) → AreAnswered shards entries left
     → (map (λ entry. entry.reply) entries ≡ flat_replies (flat_for memory pairings) (accesses_of entries))
     × (map (λ entry. entry.outcome) entries ≡ outcomes_of c (accesses_of entries))
-    × StandFor left (marked_after_all memory (accesses_of entries)) (after_accesses c (accesses_of entries))
+    × StandFor left (marked_after_all memory (accesses_of entries)) (caches_after_all c (accesses_of entries))
     × (flat_for (marked_after_all memory (accesses_of entries)) (pairings_after_all pairings (accesses_of entries)) ≡ flat_after_all (flat_for memory pairings) (accesses_of entries))
 
 -- So it is from the new shards of a machine on, with memory as an executable was loaded and empty caches.

@@ -2,16 +2,10 @@
 -- shard of a line is its number modulo the shards, and with as many sets in each shard the set of a line among all sets is
 -- its number modulo these.
 use Rattle.std.specs.Prelude.{ℕ, ◌/◌, ◌%◌, List, [], length, slice_index_or, slice_set}
-use Rattle.zs_num.specs.Request.{addr_of}
-use Rattle.zs_num.specs.declared.request.Request.{Request}
 
 -- the line of an address
 abbrev pub line_at : (addr : ℕ) → ℕ
 line_at addr = addr / 64
-
--- the line of an access
-abbrev pub line_of : Request → ℕ
-line_of request = line_at (addr_of request)
 
 -- the shard of a line
 abbrev pub shard_of : (shards line : ℕ) → ℕ

@@ -51,12 +51,12 @@ pub record MarkedMemory : Type 0 where
   pub marks : List (List (Option Reservation))
 
 -- the number of the shard of an access
-abbrev pub shard_for : MarkedMemory → Request → ℕ
-shard_for memory request = shard_of (length memory.marks) (line_at (addr_of request))
+abbrev pub shard_number : MarkedMemory → Request → ℕ
+shard_number memory request = shard_of (length memory.marks) (line_at (addr_of request))
 
 -- the marks of its shard
 abbrev pub marks_for : MarkedMemory → Request → List (Option Reservation)
-marks_for memory request = slice_index_or memory.marks (shard_for memory request) []
+marks_for memory request = slice_index_or memory.marks (shard_number memory request) []
 
 -- what an access of a core is answered
 abbrev pub marked_reply : MarkedMemory → (core : ℕ) → Request → ℕ
@@ -67,7 +67,7 @@ marked_reply memory core request =
 abbrev pub marked_after : MarkedMemory → (core : ℕ) → Request → MarkedMemory
 marked_after memory core request = record memory {
   bytes = bytes_after memory.bytes (addr_of request - memory.base) (marks_for memory request) core request;
-  marks = slice_set memory.marks (shard_for memory request) (marks_after (marks_for memory request) core request);
+  marks = slice_set memory.marks (shard_number memory request) (marks_after (marks_for memory request) core request);
 }
 
 -- ---- pairings, by core: the bytes of its latest load-reserved, unless it made a store-conditional since

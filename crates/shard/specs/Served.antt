@@ -1,16 +1,16 @@
 -- A shard, and what it does with an access. All is said by functions of the shard and the recorded entry, so that a list of
 -- entries is at once the list of requests, of replies and of stamps.
-use Rattle.std.specs.Prelude.{◌≡◌, ℕ, ◌+◌, ◌-◌, ◌*◌, ◌/◌, ◌%◌, ◌<◌, List, length, max, replicate, Option, None}
+use Rattle.std.specs.Prelude.{◌≡◌, ℕ, ◌+◌, ◌-◌, ◌*◌, ◌/◌, ◌%◌, ◌<◌, List, [], ◌∷◌, length, max, replicate, Option, None}
 use Rattle.std.specs.List.{flat_map, range_with_len}
-use Rattle.zs_num.specs.Request.{addr_of, IsServable}
+use Rattle.zs_num.specs.Request.{addr_of, line_of, IsServable}
 use Rattle.zs_num.specs.declared.entry.Entry.{Entry}
 use Rattle.zs_num.specs.declared.entry.Outcome.{Outcome}
 use Rattle.zs_num.specs.declared.request.Request.{Request}
 use Rattle.elf_load.specs.MemoryImage.{MemoryImage, bytes_from}
 use Rattle.machine_desc.specs.declared.machine.Machine.{Machine}
 use Rattle.flat_memory.specs.declared.reservation.Reservation.{Reservation}
-use Rattle.shard.specs.Coherence.{Caches, after_access, empty_caches, outcome_of}
-use Rattle.shard.specs.Lines.{line_at, line_of, shard_of}
+use Rattle.shard.specs.Coherence.{Caches, caches_after, empty_caches, outcome_of}
+use Rattle.shard.specs.Lines.{line_at, shard_of}
 use Rattle.shard.specs.Marks.{bytes_after, marks_after, reply_from}
 
 pub record ShardState : Type 0 where
@@ -43,17 +43,17 @@ CanServe shard request = IsServable shard.base shard.size request × (shard_of s
 abbrev pub HasCore : ShardState → (core : ℕ) → Type 0
 HasCore shard core = core < length shard.marks
 
-unfoldable pub reply_of : ShardState → Entry → ℕ
-reply_of shard entry =
+unfoldable pub shard_reply : ShardState → Entry → ℕ
+shard_reply shard entry =
     reply_from shard.bytes (place_of shard.caches.shards shard.base (addr_of entry.request)) shard.marks entry.core entry.request
 
 unfoldable pub met_by : ShardState → Entry → Outcome
 met_by shard entry = outcome_of shard.caches entry.core entry.request
 
 -- the shard after the access of an entry
-unfoldable pub after : ShardState → Entry → ShardState
-after shard entry = record shard {
-  caches = after_access shard.caches entry.core entry.request;
+unfoldable pub shard_after : ShardState → Entry → ShardState
+shard_after shard entry = record shard {
+  caches = caches_after shard.caches entry.core entry.request;
   bytes = bytes_after shard.bytes (place_of shard.caches.shards shard.base (addr_of entry.request)) shard.marks entry.core entry.request;
   marks = marks_after shard.marks entry.core entry.request;
   last = entry.stamp;
@@ -66,9 +66,14 @@ pub record IsServedBy (shard : ShardState) (core start last : ℕ) (request : Re
   pub core_is : entry.core ≡ core
   pub start_is : entry.start ≡ start
   pub request_is : entry.request ≡ request
-  pub reply : entry.reply ≡ reply_of shard entry
+  pub reply : entry.reply ≡ shard_reply shard entry
   pub outcome : entry.outcome ≡ met_by shard entry
   pub stamp : entry.stamp ≡ max shard.last last + 1
+
+-- the shard gives these entries their replies and their outcomes, one after the other
+abbrev pub AreServedBy : ShardState → List Entry → Type 0
+AreServedBy shard [] = Unit {0}
+AreServedBy shard (e ∷ entries) = (e.reply ≡ shard_reply shard e) × (e.outcome ≡ met_by shard e) × AreServedBy (shard_after shard e) entries
 
 -- a shard whose latest stamp is another
 abbrev pub resumed : ShardState → (last : ℕ) → ShardState

@@ -3,7 +3,7 @@ use Rattle.std.specs.Prelude.{◌≡◌, ℕ, ◌+◌, ◌*◌, ◌^◌, ◌<◌
 use Rattle.shard.specs.Served.{ShardState, lines_below, lines_kept}
 
 -- `count` shards, of which each has so many lines `below` memory
-pub record IsLaidOut (count below : ℕ) (shard : ShardState) : Type 0 where
+pub record IsShardLayout (count below : ℕ) (shard : ShardState) : Type 0 where
   pub shards : count ≡ shard.caches.shards
   pub some : 0 < count
   pub first : below ≡ lines_below count shard.base

@@ -2,6 +2,7 @@
 use Rattle.std.specs.Prelude.{◌≡◌, ◌≢◌, ℕ, ◌+◌, ◌-◌, ◌*◌, ◌<◌, ◌≤◌, if◌then◌else◌, IsTrue, IsSome, List, [], ◌∷◌, length, map, replicate, nat_eq, slice_index_or, slice_get, slice_set, Option, Some, None}
 use Rattle.std.specs.List.{All, IsDistinct, range_with_len}
 use Rattle.std.specs.Map.{keys_of}
+use Rattle.zs_num.specs.Request.{line_of}
 use Rattle.zs_num.specs.declared.entry.Entry.{Entry}
 use Rattle.zs_num.specs.declared.request.Request.{Request}
 use Rattle.elf_load.specs.MemoryImage.{MemoryImage, bytes_from}
@@ -10,9 +11,9 @@ use Rattle.cache_set.specs.declared.letter.Letter.TheVariants.{I}
 use Rattle.flat_memory.specs.declared.reservation.Reservation.{Reservation}
 use Rattle.flat_memory.specs.FlatMemory.{MemoryState, is_reservation}
 use Rattle.shard.specs.Coherence.{Caches, dirty_at, empty_caches, is_alone, is_held, letter_at}
-use Rattle.shard.specs.Lines.{line_at, line_of, set_number, set_of, shard_of}
+use Rattle.shard.specs.Lines.{line_at, set_number, set_of, shard_of}
 use Rattle.shard.specs.Marks.{MarkedMemory, pairing_of}
-use Rattle.shard.specs.Served.{ShardState, after, met_by, new_shard, place_of, reply_of}
+use Rattle.shard.specs.Served.{ShardState, met_by, new_shard, place_of, shard_after, shard_reply}
 
 -- ---- caches that accesses can leave
 
@@ -38,7 +39,7 @@ pub record AreCoherent (c : Caches) : Type 0 where
   pub inclusive : (core line : ℕ) → IsTrue (is_held (letter_at c core line)) → IsSome (dirty_at c line)
 
 -- there is a set for each line, and room for a line in each
-pub record HaveRoom (c : Caches) : Type 0 where
+pub record HaveRoomForLines (c : Caches) : Type 0 where
   pub l1_ways : 1 ≤ c.l1_ways
   pub l2_ways : 1 ≤ c.l2_ways
   pub l1_sets : (core : ℕ) → core < length c.l1 → 1 ≤ length (slice_index_or c.l1 core [])
@@ -54,20 +55,20 @@ pub record AreShards (shards : List ShardState) (memory_base memory_size : ℕ) 
   pub size : (i : ℕ) (s : ShardState) → slice_get shards i ≡ Some s → s.size ≡ memory_size
 
 -- a shard keeps a line
-abbrev pub Keeps : (shards : List ShardState) → (line : ℕ) → ShardState → Type 0
-Keeps shards line s = slice_get shards (shard_of (length shards) line) ≡ Some s
+abbrev pub KeepsLine : (shards : List ShardState) → (line : ℕ) → ShardState → Type 0
+KeepsLine shards line s = slice_get shards (shard_of (length shards) line) ≡ Some s
 
 -- The shards stand for a memory with marks and for the cache lists of one machine: each byte, each mark and each list is
 -- the one in the shard of its line or set.
 pub record StandFor (shards : List ShardState) (memory : MarkedMemory) (c : Caches) : Type 0 where
   pub are : AreShards shards memory.base (length memory.bytes)
-  pub bytes : (addr : ℕ) (s : ShardState) → memory.base ≤ addr → addr < memory.base + length memory.bytes → Keeps shards (line_at addr) s
+  pub bytes : (addr : ℕ) (s : ShardState) → memory.base ≤ addr → addr < memory.base + length memory.bytes → KeepsLine shards (line_at addr) s
       → slice_get memory.bytes (addr - memory.base) ≡ slice_get s.bytes (place_of (length shards) memory.base addr)
   pub marks : memory.marks ≡ map (λ s. s.marks) shards
   pub whole : c.shards ≡ 1
-  pub l1 : (core line : ℕ) (s : ShardState) → Keeps shards line s
+  pub l1 : (core line : ℕ) (s : ShardState) → KeepsLine shards line s
       → set_of 1 line (slice_index_or c.l1 core []) ≡ set_of (length shards) line (slice_index_or s.caches.l1 core [])
-  pub l2 : (line : ℕ) (s : ShardState) → Keeps shards line s → set_of 1 line c.l2 ≡ set_of (length shards) line s.caches.l2
+  pub l2 : (line : ℕ) (s : ShardState) → KeepsLine shards line s → set_of 1 line c.l2 ≡ set_of (length shards) line s.caches.l2
   -- each shard has its part of the sets, and knows all cores
   pub l1_sets : (i core : ℕ) (s : ShardState) → slice_get shards i ≡ Some s
       → length (slice_index_or c.l1 core []) ≡ length shards * length (slice_index_or s.caches.l1 core [])
@@ -76,7 +77,7 @@ pub record StandFor (shards : List ShardState) (memory : MarkedMemory) (c : Cach
   pub l1_ways : (i : ℕ) (s : ShardState) → slice_get shards i ≡ Some s → s.caches.l1_ways ≡ c.l1_ways
   pub l2_ways : (i : ℕ) (s : ShardState) → slice_get shards i ≡ Some s → s.caches.l2_ways ≡ c.l2_ways
   pub coherent : AreCoherent c
-  pub room : HaveRoom c
+  pub room : HaveRoomForLines c
 
 -- ---- before the first access
 
@@ -106,8 +107,8 @@ accesses_of entries = map (λ entry. (entry.core, entry.request)) entries
 abbrev pub AreAnswered : (shards : List ShardState) → List Entry → (left : List ShardState) → Type 0
 AreAnswered shards [] left = left ≡ shards
 AreAnswered shards (entry ∷ entries) left =
-    (s : ShardState) × Keeps shards (line_of entry.request) s × (entry.reply ≡ reply_of s entry) × (entry.outcome ≡ met_by s entry)
-    × AreAnswered (slice_set shards s.number (after s entry)) entries left
+    (s : ShardState) × KeepsLine shards (line_of entry.request) s × (entry.reply ≡ shard_reply s entry) × (entry.outcome ≡ met_by s entry)
+    × AreAnswered (slice_set shards s.number (shard_after s entry)) entries left
 
 -- ---- one reservation for each core
 

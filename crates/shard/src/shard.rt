@@ -3,7 +3,7 @@ ghost use Rattle.std.specs.Prelude.{◌≡◌, ◌+◌, ◌-◌, ◌*◌, ◌%�
 ghost use Rattle.machine_desc.specs.Machine.{IsMachine};
 ghost use Rattle.shard.specs.Coherence.{dirty_at, letter_at};
 ghost use Rattle.shard.specs.Lines.{line_at, shard_of};
-ghost use Rattle.shard.specs.Served.{after, new_shard, place_of, resumed, CanServe, HasCore, IsServedBy};
+ghost use Rattle.shard.specs.Served.{new_shard, place_of, resumed, shard_after, CanServe, HasCore, IsServedBy};
 
 use crate::caches::CacheLists;
 use crate::filling::first_bytes;
@@ -35,7 +35,7 @@ pub struct Shard {
 
 impl Model for Shard {
     ghost use Rattle.shard.specs.Served.{ShardState};
-    ghost use Rattle.shard.specs.ShardLayout.{IsLaidOut};
+    ghost use Rattle.shard.specs.ShardLayout.{IsShardLayout};
 
     ghost Value = { ShardState };
 
@@ -49,7 +49,7 @@ impl Model for Shard {
       last = s.last;
     } };
 
-    ghost invariant = { λ s. IsLaidOut s.count s.below (record {
+    ghost invariant = { λ s. IsShardLayout s.count s.below (record {
       number = s.number;
       base = s.base;
       size = s.size;
@@ -98,7 +98,7 @@ impl Shard {
     }
 
     /// Serves an access of a core, whose own last stamp is `last`, at the core's clock `start`.
-    #[tactic(auto, unfolding(crate::specs::Served::CanServe, crate::specs::Served::reply_of, crate::specs::Served::met_by, crate::specs::Served::after))]
+    #[tactic(auto, unfolding(crate::specs::Served::CanServe, crate::specs::Served::shard_reply, crate::specs::Served::met_by, crate::specs::Served::shard_after))]
     #[inline(always)]
     pub fn serve(&mut self, core: u16, start: Cycle, last: Stamp, request: Request) -> Entry
         requires core { HasCore self.old core }
@@ -106,7 +106,7 @@ impl Shard {
         requires own_stamp { self.old.last < 2 ^ 62 - 1 }
         requires stamp { last < 2 ^ 62 - 1 }
         ensures served { IsServedBy self.old core start last request result }
-        ensures after { self.new ≡ after self.old result }
+        ensures after { self.new ≡ shard_after self.old result }
         ensures number { self.new.number ≡ self.old.number }
         ensures base { self.new.base ≡ self.old.base }
         ensures size { self.new.size ≡ self.old.size }

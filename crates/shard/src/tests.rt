@@ -3,8 +3,8 @@
 // in the shared one.
 ghost use Rattle.std.specs.Prelude.{◌≡◌, ◌<◌, length, IfOk};
 ghost use Rattle.machine_desc.specs.Machine.{IsMachine};
-ghost use Rattle.zs_num.specs.Request.{IsServable};
-ghost use Rattle.shard.specs.Lines.{line_of, shard_of};
+ghost use Rattle.zs_num.specs.Request.{IsServable, line_of};
+ghost use Rattle.shard.specs.Lines.{shard_of};
 ghost use Rattle.shard.specs.Served.{CanServe};
 
 use crate::Shard;

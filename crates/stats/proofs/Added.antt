@@ -13,7 +13,7 @@ use Rattle.component.specs.ComponentStep.{free_of}
 use Rattle.stats.specs.declared.counts.CoreCount.{CoreCount}
 use Rattle.stats.specs.declared.counts.CompCount.{CompCount}
 use Rattle.stats.specs.Counted.{core_plus, entry_count, delay_count, no_core_count, comp_plus, event_count, no_comp_count}
-use Rattle.stats.specs.Counts.{Interval, Counts, CoreFits, CompFits, Fits, added, core_after, comp_in, comp_after}
+use Rattle.stats.specs.Counts.{Interval, Counts, CoreFits, CompFits, CountsFit, added, core_after, comp_in, comp_after}
 use Rattle.stats.specs.Passes.{with_accesses, with_delay, with_events, with_free}
 use Rattle.stats.proofs.Plus.{core_plus-assoc, core_plus-none, comp_plus-assoc, comp_plus-none, plus-fold}
 
@@ -72,7 +72,7 @@ module _ (i : Interval) where
   comp_is c n after = ap (λ (x : CompCount). with_free x (free_of after)) (counted_in c n)
 
   -- each sum fits where the sums do
-  pub core_fits : (first : Counts) (comps : List Comp) → Fits (added first i comps)
+  pub core_fits : (first : Counts) (comps : List Comp) → CountsFit (added first i comps)
       → (n : ℕ) (d : CoreCount) → n < length first.core_counts → CoreFits (core_next (get_or first.core_counts n d) n)
   unfolding added
   core_fits first comps fits n d below =
@@ -80,7 +80,7 @@ module _ (i : Interval) where
       let there : n < length (map f (enumerate_from 0 first.core_counts)) = omega (arith, length_numbered f first.core_counts) in
       subst CoreFits (at_number f first.core_counts n d d below ∙ sym (core_is (get_or first.core_counts n d) n)) (fits.core_counts n d there)
 
-  pub comp_fits : (first : Counts) (comps : List Comp) → length comps ≡ length first.comp_counts → Fits (added first i comps)
+  pub comp_fits : (first : Counts) (comps : List Comp) → length comps ≡ length first.comp_counts → CountsFit (added first i comps)
       → (n : ℕ) (d : CompCount) → n < length first.comp_counts → CompFits (comp_next (get_or first.comp_counts n d) n)
   unfolding added
   comp_fits first comps same fits n d below =

@@ -15,7 +15,7 @@ use Rattle.event_graph.specs.Timely.{AreTimely, IsTimely}
 use Rattle.stats.specs.declared.counts.CoreCount.{CoreCount}
 use Rattle.stats.specs.declared.counts.CompCount.{CompCount}
 use Rattle.stats.specs.Counted.{core_plus, entry_count, delay_count, no_core_count, comp_plus, event_count, no_comp_count, wait_of, one_if}
-use Rattle.stats.specs.Counts.{Interval, CoreFits, CompFits, Fits, counts_of, core_in, core_total, comp_in, comp_total}
+use Rattle.stats.specs.Counts.{Interval, CoreFits, CompFits, CountsFit, counts_of, core_in, core_total, comp_in, comp_total}
 
 -- what is asked of each interval
 abbrev pub IsBounded : Interval → Type 0
@@ -208,7 +208,7 @@ module _ (intervals : List Interval) (accesses : sum_by (λ i. length i.entries)
       let within = comp_sum_within n 0 (sum_by (λ i. length i.events) intervals) no_comp_count intervals bounded none (omega arith) in
       record { events = omega (arith, within.events); waited = omega (arith, within.waited) }
 
-  pub sums_fit : (cores : ℕ) (comps : List Comp) → Fits (counts_of cores comps intervals)
+  pub sums_fit : (cores : ℕ) (comps : List Comp) → CountsFit (counts_of cores comps intervals)
   unfolding counts_of
   sums_fit cores comps = record {
     core_counts = All-map CoreFits (core_total intervals) (range_with_len 0 cores) (λ k d below. core_fits _);

@@ -103,7 +103,7 @@ pub record CompFits (c : CompCount) : Type 0 where
   pub events : c.events < 2 ^ 64
   pub waited : c.waited < 2 ^ 128
 
-pub record Fits (c : Counts) : Type 0 where
+pub record CountsFit (c : Counts) : Type 0 where
   pub core_counts : All CoreFits c.core_counts
   pub comp_counts : All CompFits c.comp_counts
   pub accesses : c.accesses < 2 ^ 64

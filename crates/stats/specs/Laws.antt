@@ -5,7 +5,7 @@ use Rattle.machine_desc.specs.declared.machine.Machine.{Machine}
 use Rattle.component.specs.declared.comp.Comp.{Comp}
 use Rattle.component.specs.Components.{AreFresh}
 use Rattle.event_graph.specs.Timely.{AreTimely}
-use Rattle.stats.specs.Counts.{Interval, Fits, added, counts_of, no_counts, total_accesses, total_events}
+use Rattle.stats.specs.Counts.{Interval, CountsFit, added, counts_of, no_counts, total_accesses, total_events}
 
 -- to add an interval to the counts of a run gives the counts of the longer run
 abbrev pub CountersAreSums : Type 0
@@ -27,4 +27,4 @@ SumsFit = (cores : ℕ) (comps : List Comp) (intervals : List Interval)
     → total_events intervals ≤ 2 ^ 60
     → length intervals ≤ 2 ^ 60
     → All WasRun intervals
-    → Fits (counts_of cores comps intervals)
+    → CountsFit (counts_of cores comps intervals)

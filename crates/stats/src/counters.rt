@@ -36,7 +36,7 @@ impl Counters {
     ghost use Rattle.std.specs.Prelude.{◌≡◌, ◌<◌, All, IfOk, Some, length, slice_get};
     ghost use Rattle.machine_desc.specs.Machine.{IsMachine};
     ghost use Rattle.event_graph.specs.Timely.{AreTimely};
-    ghost use Rattle.stats.specs.Counts.{Fits, added, no_counts};
+    ghost use Rattle.stats.specs.Counts.{CountsFit, added, no_counts};
 
     /// The counters of this machine, all 0.
     pub fn new(alloc: Global, m: &Machine) -> Result<Counters, NoMemory>
@@ -66,7 +66,7 @@ impl Counters {
         requires delays { length d.now ≡ length self.old.core_counts }
         requires comps { length comps.now ≡ length self.old.comp_counts }
         requires timely { AreTimely g.now fired.now }
-        requires fits { Fits (added self.old
+        requires fits { CountsFit (added self.old
             (record { entries = entries.now; events = g.now; fired = fired.now; delays = d.now })
             comps.now) }
         ensures { self.new ≡ added self.old

@@ -3,7 +3,7 @@
 ghost use Rattle.std.specs.Prelude.{◌≡◌, ◌<◌, ◌≤◌, All, IfOk, None, length};
 ghost use Rattle.machine_desc.specs.Machine.{IsMachine};
 ghost use Rattle.event_graph.specs.Timely.{AreTimely};
-ghost use Rattle.stats.specs.Counts.{Fits, added};
+ghost use Rattle.stats.specs.Counts.{CountsFit, added};
 
 use crate::{CompCount, CoreCount, Counters, laws};
 use component::{Bank, Comp, Comps, Controller, components};
@@ -194,7 +194,7 @@ fn second(alloc: Global) -> Result<Woven, NoMemory> {
 fn add(counters: &mut Counters, w: &Woven)
     requires cores { length counters.old.core_counts ≡ 2 }
     requires comps { length counters.old.comp_counts ≡ 2 }
-    requires fits { let w = w.now in Fits (added counters.old
+    requires fits { let w = w.now in CountsFit (added counters.old
         (record { entries = w.entries; events = w.graph; fired = w.fired; delays = w.delays })
         w.comps) }
     ensures added { let w = w.now in counters.new ≡ added counters.old

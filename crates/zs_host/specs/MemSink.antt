@@ -20,8 +20,8 @@ abbrev pub put_count : MemSink → ℕ
 put_count sink = sink.puts
 
 -- whether the next put is one of those that fail
-abbrev pub next_fails : MemSink → Bool
-next_fails sink = list_any (λ number. number == put_count sink) (failing_puts sink)
+abbrev pub next_put_fails : MemSink → Bool
+next_put_fails sink = list_any (λ number. number == put_count sink) (failing_puts sink)
 
 -- how many puts failed
 abbrev pub sink_faults : MemSink → ℕ

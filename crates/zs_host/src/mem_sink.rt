@@ -2,7 +2,7 @@
 ghost use Rattle.std.specs.Prelude.{◌≡◌, ◌≤◌, ◌<◌, ◌++◌, [], min, max, true, length, take, IsTrue, IfOk, OnErr, IsErrOf};
 ghost use Rattle.zs_host.specs.Counting.{one_more};
 ghost use Rattle.zs_host.specs.Faults.{SinkFaults};
-ghost use Rattle.zs_host.specs.MemSink.{bytes_taken, most_a_put, failing_puts, put_count, sink_faults, next_fails};
+ghost use Rattle.zs_host.specs.MemSink.{bytes_taken, most_a_put, failing_puts, put_count, sink_faults, next_put_fails};
 
 use crate::{Sink, SinkFail};
 use std::alloc::Global;
@@ -70,8 +70,8 @@ impl Sink for MemSink {
 
         ensures taken { IfOk result (λ n. n ≡ min (length piece.now) (most_a_put self.old)) }
         ensures raised { IsErrOf result SinkFail.Failed → sink_faults self.new ≡ one_more (sink_faults self.old) }
-        ensures fails { IsTrue (next_fails self.old) → 0 < length piece.now → IsErrOf result SinkFail.Failed }
-        ensures failed { IsErrOf result SinkFail.Failed → IsTrue (next_fails self.old) }
+        ensures fails { IsTrue (next_put_fails self.old) → 0 < length piece.now → IsErrOf result SinkFail.Failed }
+        ensures failed { IsErrOf result SinkFail.Failed → IsTrue (next_put_fails self.old) }
         ensures counted { put_count self.new ≡ one_more (put_count self.old) }
         ensures most { most_a_put self.new ≡ most_a_put self.old }
         ensures failing { failing_puts self.new ≡ failing_puts self.old }

@@ -1,6 +1,6 @@
 // What an access does to the L2.
 ghost use Rattle.std.specs.Prelude.{◌≡◌, ℕ, Bool, IsSome};
-ghost use Rattle.shard.specs.Coherence.{dirty_at, fetched, l2_victim, letter_at, looked_up, marked_dirty};
+ghost use Rattle.shard.specs.Coherence.{dirty_at, l2_victim, letter_at, looked_up, marked_dirty, taken_into_l2};
 
 use super::CacheLists;
 use cache_set::Letter;
@@ -37,7 +37,7 @@ impl CacheLists {
         requires absent { dirty_at self.old line ≡ None }
         requires gone { (victim : ℕ × Bool) → l2_victim self.old line ≡ Some victim
             → (core : ℕ) → letter_at self.old core victim.0 ≡ Letter.I }
-        ensures after { self.new ≡ fetched line self.old }
+        ensures after { self.new ≡ taken_into_l2 line self.old }
         ensures there { IsSome (dirty_at self.new line) }
     {
         let place = self.place(line);

@@ -1,7 +1,7 @@
 // How the caches meet an access: each row of the table of the MESI protocol.
 ghost use Rattle.std.specs.Prelude.{◌≡◌, ◌≢◌, ℕ, ◌<◌, ◌||◌, IsSome, IsTrue, None, false, true, length, if◌then◌else◌};
 ghost use Rattle.shard.specs.CacheSteps.{LeavesFree, MakesL2Room, after_at, met_at};
-ghost use Rattle.shard.specs.Coherence.{after_access, allows, dirty_at, is_alone, is_dirty_victim, is_held, is_modified, is_write, l2_victim, letter_at, marked_dirty, on_others, outcome_of, room_made, some_core, some_other};
+ghost use Rattle.shard.specs.Coherence.{allows, caches_after, dirty_at, is_alone, is_dirty_victim, is_held, is_modified, is_write, l2_victim, letter_at, marked_dirty, on_others, outcome_of, room_made, some_core, some_other};
 
 use super::CacheLists;
 use cache_set::Letter;
@@ -13,7 +13,7 @@ impl CacheLists {
     pub(crate) fn meet(&mut self, core: u16, request: Request) -> Outcome
         requires { core < length self.old.l1 }
         ensures outcome { result ≡ outcome_of self.old core request }
-        ensures after { self.new ≡ after_access self.old core request }
+        ensures after { self.new ≡ caches_after self.old core request }
         ensures cores { length self.new.l1 ≡ length self.old.l1 }
     {
         self.meet_line(core, request.line(), is_write(&request))

@@ -1,6 +1,6 @@
 -- By the laws of the components.
 use Rattle.std.proofs.Common.{get_or}
-use Rattle.event_graph.specs.OneListWeave.{Timed, after}
+use Rattle.event_graph.specs.OneListWeave.{Timed, after_rounds}
 use Rattle.event_graph.proofs.Fitting.{finishes_later}
 use Rattle.event_graph.proofs.Lists.{In, contains_in, in_get}
 use Rattle.event_graph.proofs.Progress.{holds}
@@ -11,7 +11,7 @@ pub returns : goal.returns
 returns g c = λ events comps rounds numbered fits i d l.
     let lawful = lawful_from g.C.Component.serves g.C.Component.floor g.C.Component.stepped g.met.C.Component.floor_at_least_one g.met.C.Component.floor_holds g.met.C.Component.serves_stays in
     let served = served_from g.C.Component.serves g.C.Component.floor g.C.Component.stepped events comps fits in
-    let fired = (after g.C.Component.stepped events comps rounds).fired in
+    let fired = (after_rounds g.C.Component.stepped events comps rounds).fired in
     let x : Timed = get_or fired i d in
     let m : In x fired = in_get fired i d l in
     let h = holds g.C.Component.serves g.C.Component.stepped events comps lawful numbered served rounds in

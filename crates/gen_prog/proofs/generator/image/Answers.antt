@@ -1,6 +1,6 @@
 use Rattle.std.proofs.Common.{◌≡◌, List, sym, subst, ap, ◌∙◌, rules}
 use Rattle.elf_load.specs.declared.segment.Segment.{Segment}
-use Rattle.elf_load.specs.MemoryImage.{IsSound, MemoryImage}
+use Rattle.elf_load.specs.MemoryImage.{IsSoundImage, MemoryImage}
 use Rattle.gen_prog.specs.Generated.{generated_image}
 use Rattle.gen_prog.proofs.Image.{sound}
 use Rattle.gen_prog.proofs.generator.image.Goals as goal
@@ -16,7 +16,7 @@ unfolding generated_image
 whole c = ap (λ (s : List Segment). let i : MemoryImage = record { base = c.args.base; size = 8192; entry = c.args.base; segments = s } in i) (segments c)
 
 pub make-requires : goal.make-requires
-make-requires c = subst IsSound (sym (whole c)) (sound c.args.n c.args.base c.requires.page c.requires.low)
+make-requires c = subst IsSoundImage (sym (whole c)) (sound c.args.n c.args.base c.requires.page c.requires.low)
 
 pub returns : goal.returns
 returns c = c.make.ensures ∙ whole (goal.at.returns c).In_ok-push-2

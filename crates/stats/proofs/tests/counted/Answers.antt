@@ -5,7 +5,7 @@ use Rattle.machine_desc.specs.declared.machine.Machine.{Machine}
 use Rattle.component.specs.declared.comp.Comp.{Comp}
 use Rattle.component.specs.Components.{AreFresh}
 use Rattle.event_graph.specs.Timely.{AreTimely}
-use Rattle.stats.specs.Counts.{Counts, Fits, Interval, added, counts_of, no_counts}
+use Rattle.stats.specs.Counts.{Counts, CountsFit, Interval, added, counts_of, no_counts}
 use Rattle.stats.specs.Laws.{CountersAreSums, NothingIsCountedFirst}
 use Rattle.stats.specs.declared.tests.Woven.{Woven}
 use Rattle.stats.proofs.tests.counted.Goals as goal
@@ -40,7 +40,7 @@ add-requires-clause-fits c =
     let one : Woven = c.in_ok-one.one in
     let once = counted_once c.nothing_is_counted_first.ensures c.counters_are_sums.ensures m c.requires.banks c.requires.controllers
     c.in_ok-_before._before before c.in_ok-counters.counters c.in_ok-counters.ensures one in
-    subst Fits (sym once)
+    subst CountsFit (sym once)
     (c.sums_fit.ensures m.cores one.comps (interval one ∷ []) (omega (arith, one.few_entries)) (omega (arith, one.few_events)) (omega arith)
     (All-cons IsBounded (interval one) [] (bounded one) (All-nil IsBounded)))
 
@@ -53,6 +53,6 @@ add-requires-2-clause-fits c =
     let once = counted_once c.nothing_is_counted_first.ensures c.counters_are_sums.ensures m c.requires.banks c.requires.controllers
     c.in_ok-_before._before before c.in_ok-counters.counters c.in_ok-counters.ensures one in
     let twice = counts_more c.counters_are_sums.ensures m.cores one.comps (interval one ∷ []) c.add.new.counters two (c.add.ensures.added ∙ once) one.comp_count in
-    subst Fits (sym twice)
+    subst CountsFit (sym twice)
     (c.sums_fit.ensures m.cores two.comps (interval one ∷ interval two ∷ []) (omega (arith, one.few_entries, two.few_entries)) (omega (arith, one.few_events, two.few_events)) (omega arith)
     (All-cons IsBounded (interval one) (interval two ∷ []) (bounded one) (All-cons IsBounded (interval two) [] (bounded two) (All-nil IsBounded))))

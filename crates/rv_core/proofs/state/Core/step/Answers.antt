@@ -1,13 +1,13 @@
 use Rattle.std.proofs.Common.{◌∙◌, ap, subst, sym}
 use Rattle.rv_core.specs.CoreState.{CoreState}
-use Rattle.rv_core.specs.Sound.{IsSound}
+use Rattle.rv_core.specs.Sound.{IsSoundCore}
 use Rattle.rv_core.proofs.Reached.{executed-keeps}
 use Rattle.rv_core.proofs.state.Core.step.Goals as goal
 
 pub returns-clause-sound : goal.returns-clause-sound
 returns-clause-sound g c =
     let keeps = executed-keeps c.ranges-2.ensures.registers (g.P.Program.image c.args.program.now) c.args.self.now c.fetch_and_execute.ensures.sound in
-    subst IsSound (sym c.fetch_and_execute.ensures.value) keeps.sound
+    subst IsSoundCore (sym c.fetch_and_execute.ensures.value) keeps.sound
 
 pub returns-clause-memory : goal.returns-clause-memory
 returns-clause-memory g c =

@@ -2,7 +2,7 @@ use Rattle.std.proofs.Common.{◌≡◌, ◌+◌, ◌<◌, ◌^◌, List, length
 use Rattle.std.specs.Vec.{with_items}
 use Rattle.std.proofs.lemmas.List.{with_items_is}
 use Rattle.component.specs.declared.comp.Comp.{Comp}
-use Rattle.stats.specs.Counts.{Counts, Fits, Interval, added}
+use Rattle.stats.specs.Counts.{Counts, CountsFit, Interval, added}
 use Rattle.stats.proofs.Added.{core_fits, comp_fits, counts_added}
 use Rattle.stats.proofs.counters.Counters.add.Goals as goal
 
@@ -10,14 +10,14 @@ pub add_to_core_counts-requires-clause-fits : goal.add_to_core_counts-requires-c
 add_to_core_counts-requires-clause-fits c =
     let i : Interval = record { entries = c.args.entries.now; events = c.args.g.now; fired = c.args.fired.now; delays = c.args.d.now } in
     let first : Counts = record { core_counts = c.self.inside.core_counts.items; comp_counts = c.self.inside.comp_counts.items; accesses = c.self.inside.accesses; events = c.self.inside.events } in
-    let fits : Fits (added first i c.args.comps.now) = subst (λ (v : Counts). Fits (added v i c.args.comps.now)) (sym c.self.view_is) c.requires.fits in
+    let fits : CountsFit (added first i c.args.comps.now) = subst (λ (v : Counts). CountsFit (added v i c.args.comps.now)) (sym c.self.view_is) c.requires.fits in
     rw (c.deref_mut.ensures.value, c.as_slice.ensures, c.as_slice-2.ensures) (core_fits i first c.args.comps.now fits)
 
 pub add_to_comp_counts-requires-clause-fits : goal.add_to_comp_counts-requires-clause-fits
 add_to_comp_counts-requires-clause-fits c =
     let i : Interval = record { entries = c.args.entries.now; events = c.args.g.now; fired = c.args.fired.now; delays = c.args.d.now } in
     let first : Counts = record { core_counts = c.self.inside.core_counts.items; comp_counts = c.self.inside.comp_counts.items; accesses = c.self.inside.accesses; events = c.self.inside.events } in
-    let fits : Fits (added first i c.args.comps.now) = subst (λ (v : Counts). Fits (added v i c.args.comps.now)) (sym c.self.view_is) c.requires.fits in
+    let fits : CountsFit (added first i c.args.comps.now) = subst (λ (v : Counts). CountsFit (added v i c.args.comps.now)) (sym c.self.view_is) c.requires.fits in
     let same : length c.args.comps.now ≡ length first.comp_counts = c.requires.comps ∙ ap (λ (v : Counts). length v.comp_counts) (sym c.self.view_is) in
     rw (c.deref_mut-2.ensures.value, c.events.ensures.events, c.as_slice-3.ensures) (comp_fits i first c.args.comps.now same fits)
 
