@@ -6,9 +6,9 @@ use Rattle.zs_num.specs.declared.request.Request.{Request}
 use Rattle.rv_core.specs.declared.progress.Reply.{Reply}
 use Rattle.rv_core.specs.CoreState.{CoreState, Ending, ToRegister, ToConsole, ToNothing, InProgress}
 use Rattle.rv_core.specs.Effect.{ended, goes_through, goes_to}
-use Rattle.rv_core.specs.Sound.{IsSound}
+use Rattle.rv_core.specs.Sound.{IsSoundCore}
 use Rattle.rv_core.specs.Step.{after_reply, answered}
-use Rattle.bound_core.specs.Timed.{TimedCore, latest, left_of_instruction, most_accesses}
+use Rattle.bound_core.specs.Timed.{TimedCore, latest_clock, left_of_instruction, most_accesses}
 
 -- ---- of an instruction
 
@@ -17,7 +17,7 @@ left_small : (instruction : Option InProgress) → IfSome instruction (λ now. l
 left_small None few = omega arith
 left_small (Some now) few = omega (arith, few)
 
-pub left_few : (core : CoreState) → IsSound core → left_of_instruction core.instruction ≤ 256
+pub left_few : (core : CoreState) → IsSoundCore core → left_of_instruction core.instruction ≤ 256
 left_few core sound = left_small core.instruction sound.few
 
 left_ended : (ending : Ending) (replies : List Reply) (core : CoreState) → core.instruction ≡ None → left_of_instruction (ended ending replies core).instruction ≡ 0
@@ -85,8 +85,8 @@ fewer end before ran after t =
           omega (arith, most_past end before late, most_past end after past, t.late late, t.left)
     ]
 
-pub not_later : (end : ℕ) (before ran after : TimedCore) → TakesAccess end before ran after → latest end after ≤ latest end before
-unfolding latest
+pub not_later : (end : ℕ) (before ran after : TimedCore) → TakesAccess end before ran after → latest_clock end after ≤ latest_clock end before
+unfolding latest_clock
 not_later end before ran after t =
     elim (cases_lt before.clock end) [
       | inl early ↦ omega (arith, early, t.within, t.soon, t.few, t.left)
@@ -94,19 +94,19 @@ not_later end before ran after t =
     ]
 
 -- a core that ends its interval was not later than it could be
-pub ran_not_later : (end : ℕ) (before ran : TimedCore) → ran.clock ≤ max before.clock end → left_of_instruction ran.core.instruction ≡ 0 → latest end ran ≤ latest end before
-unfolding latest
+pub ran_not_later : (end : ℕ) (before ran : TimedCore) → ran.clock ≤ max before.clock end → left_of_instruction ran.core.instruction ≡ 0 → latest_clock end ran ≤ latest_clock end before
+unfolding latest_clock
 ran_not_later end before ran within idle = omega (arith, within, idle)
 
 -- the clock is never later than it can get
-pub clock_within : (end : ℕ) (c : TimedCore) → c.clock ≤ latest end c
-unfolding latest
+pub clock_within : (end : ℕ) (c : TimedCore) → c.clock ≤ latest_clock end c
+unfolding latest_clock
 clock_within end c = omega arith
 
-pub latest_small : (end : ℕ) (c : TimedCore) → left_of_instruction c.core.instruction ≤ 256 → latest end c ≤ max c.clock end + 2 ^ 28
-unfolding latest
+pub latest_small : (end : ℕ) (c : TimedCore) → left_of_instruction c.core.instruction ≤ 256 → latest_clock end c ≤ max c.clock end + 2 ^ 28
+unfolding latest_clock
 latest_small end c few = omega (arith, few)
 
-pub end_within : (end : ℕ) (c : TimedCore) → end ≤ latest end c
-unfolding latest
+pub end_within : (end : ℕ) (c : TimedCore) → end ≤ latest_clock end c
+unfolding latest_clock
 end_within end c = omega arith

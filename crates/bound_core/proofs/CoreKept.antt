@@ -5,23 +5,23 @@ use Rattle.zs_num.specs.declared.request.Request.{Request}
 use Rattle.elf_load.specs.MemoryImage.{MemoryImage}
 use Rattle.rv_core.specs.CoreState.{CoreState, InProgress}
 use Rattle.rv_core.specs.Pairing.{IsPairedRight, pairing_after}
-use Rattle.rv_core.specs.Sound.{IsSound}
+use Rattle.rv_core.specs.Sound.{IsSoundCore}
 use Rattle.rv_core.specs.Step.{advanced, answered, executed, is_free}
 use Rattle.bound_core.specs.Timed.{TimedCore, after_instruction, after_instructions, goes_on_alone, next_request, ran_to}
 
 -- the laws of a core
 pub record CoreLaws : Type 0 where
-  pub advanced_sound : (image : MemoryImage) (core : CoreState) → IsSound core → IsSound (advanced image core)
-  pub advanced_memory : (image : MemoryImage) (core : CoreState) → IsSound core → (advanced image core).memory ≡ core.memory
-  pub advanced_pairing : (image : MemoryImage) (core : CoreState) → IsSound core → (advanced image core).pairing ≡ core.pairing
-  pub answered_sound : (reply : ℕ) (core : CoreState) → IsSound core → IsSound (answered reply core)
-  pub answered_memory : (reply : ℕ) (core : CoreState) → IsSound core → (answered reply core).memory ≡ core.memory
-  pub answered_pairing : (reply : ℕ) (core : CoreState) (now : InProgress) → IsSound core → core.instruction ≡ Some now → (answered reply core).pairing ≡ pairing_after core.pairing now.next
-  pub paired_right : (core : CoreState) (now : InProgress) → IsSound core → core.instruction ≡ Some now → IsPairedRight core.pairing now.next
+  pub advanced_sound : (image : MemoryImage) (core : CoreState) → IsSoundCore core → IsSoundCore (advanced image core)
+  pub advanced_memory : (image : MemoryImage) (core : CoreState) → IsSoundCore core → (advanced image core).memory ≡ core.memory
+  pub advanced_pairing : (image : MemoryImage) (core : CoreState) → IsSoundCore core → (advanced image core).pairing ≡ core.pairing
+  pub answered_sound : (reply : ℕ) (core : CoreState) → IsSoundCore core → IsSoundCore (answered reply core)
+  pub answered_memory : (reply : ℕ) (core : CoreState) → IsSoundCore core → (answered reply core).memory ≡ core.memory
+  pub answered_pairing : (reply : ℕ) (core : CoreState) (now : InProgress) → IsSoundCore core → core.instruction ≡ Some now → (answered reply core).pairing ≡ pairing_after core.pairing now.next
+  pub paired_right : (core : CoreState) (now : InProgress) → IsSoundCore core → core.instruction ≡ Some now → IsPairedRight core.pairing now.next
 
 -- the core stays sound, and its memory and its pairing stay
 pub record StaysSound (core after : CoreState) : Type 0 where
-  pub sound : IsSound after
+  pub sound : IsSoundCore after
   pub memory : after.memory ≡ core.memory
   pub pairing : after.pairing ≡ core.pairing
 
@@ -37,7 +37,7 @@ module _ (laws : CoreLaws) (image : MemoryImage) where
   free_advances : (core : CoreState) → is_free core ≡ true → advanced image core ≡ executed image core
   free_advances core free = rw free refl
 
-  instruction_stays : (c : TimedCore) → IsSound c.core → is_free c.core ≡ true → StaysSound c.core (after_instruction image c).core
+  instruction_stays : (c : TimedCore) → IsSoundCore c.core → is_free c.core ≡ true → StaysSound c.core (after_instruction image c).core
   unfolding after_instruction
   instruction_stays c sound free =
       subst (StaysSound c.core) (free_advances c.core free) (record {
@@ -46,7 +46,7 @@ module _ (laws : CoreLaws) (image : MemoryImage) where
         pairing = laws.advanced_pairing image c.core sound;
       })
 
-  instructions_stay : (n end : ℕ) (c : TimedCore) → IsSound c.core → StaysSound c.core (after_instructions n image end c).core
+  instructions_stay : (n end : ℕ) (c : TimedCore) → IsSoundCore c.core → StaysSound c.core (after_instructions n image end c).core
   instructions_stay zero end c sound = record { sound = sound; memory = refl; pairing = refl }
   instructions_stay (suc n) end c sound =
       elim (cases_Bool (goes_on_alone end c)) as (λ _. StaysSound c.core (after_instructions (suc n) image end c).core) [
@@ -56,5 +56,5 @@ module _ (laws : CoreLaws) (image : MemoryImage) where
         | inr off ↦ rw off (record { sound = sound; memory = refl; pairing = refl })
       ]
 
-  pub ran_stays_sound : (end : ℕ) (c : TimedCore) → IsSound c.core → StaysSound c.core (ran_to image end c).core
+  pub ran_stays_sound : (end : ℕ) (c : TimedCore) → IsSoundCore c.core → StaysSound c.core (ran_to image end c).core
   ran_stays_sound end c sound = instructions_stay (suc (end - c.clock)) end c sound

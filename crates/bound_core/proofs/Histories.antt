@@ -6,12 +6,12 @@ use Rattle.std.proofs.lemmas.List.{append-nil, append_assoc, length-set, map-set
 use Rattle.std.proofs.lemmas.List.Elements.{All-cons, All-head, All-tail}
 use Rattle.zs_num.specs.declared.entry.Entry.{Entry}
 use Rattle.elf_load.specs.MemoryImage.{MemoryImage}
-use Rattle.shard.specs.Served.{ShardState, after}
+use Rattle.shard.specs.Served.{AreServedBy, ShardState, shard_after}
 use Rattle.access_log.specs.History.{AreStamped, bank_of_entry, core_of_entry, each_after, stamped_by}
 use Rattle.access_log.specs.RecordedOrder.{Stamps}
-use Rattle.bound_core.specs.History.{AreServedBy, AreTurnsOf, after_turn}
+use Rattle.bound_core.specs.History.{AreTurnsOf, after_turn}
 use Rattle.bound_core.specs.ReferenceMachine.{BoundState, at_end, bound_from}
-use Rattle.bound_core.specs.ShardWorld.{ShardWorld, serve}
+use Rattle.bound_core.specs.ShardWorld.{ShardWorld, shards_serve}
 use Rattle.bound_core.specs.Timed.{TimedCore, asks, ran_to}
 use Rattle.bound_core.proofs.HistoryTurn.{IsNext, bank_in, last_at, next, stamps_of, takes_next}
 use Rattle.bound_core.proofs.Numbered.{EachHolds, after_first, after_none, all_hold, first_holds, rest_holds}
@@ -26,8 +26,8 @@ pub record IsReady (s : BoundState ShardWorld) : Type 0 where
   pub some : 0 < length s.world.shards
   pub stamps : length s.world.stamps ≡ length s.cores
 
-pub after_last : (shard : ShardState) (e : Entry) → (after shard e).last ≡ e.stamp
-unfolding after
+pub after_last : (shard : ShardState) (e : Entry) → (shard_after shard e).last ≡ e.stamp
+unfolding shard_after
 after_last shard e = refl
 
 module _ (time : Entry → ℕ) (image : MemoryImage) (end : ℕ) where
@@ -43,7 +43,7 @@ module _ (time : Entry → ℕ) (image : MemoryImage) (end : ℕ) where
   left s entries = record {
     cores = map (ran_to image end) (each_after (after_turn time image end) core_of_entry entries s.cores);
     world = record {
-      shards = each_after after (bank_of_entry (length s.world.shards)) entries s.world.shards;
+      shards = each_after shard_after (bank_of_entry (length s.world.shards)) entries s.world.shards;
       stamps = each_after (λ stamp e. e.stamp) core_of_entry entries s.world.stamps;
     };
     entries = s.entries ++ entries;
@@ -59,7 +59,7 @@ module _ (time : Entry → ℕ) (image : MemoryImage) (end : ℕ) where
     same_cores = length-set s.cores e.core (after_turn time image end c e)
 
     same_shards : length then.world.shards ≡ length s.world.shards
-    same_shards = length-set s.world.shards (bank_in s.world e) (after shard e)
+    same_shards = length-set s.world.shards (bank_in s.world e) (shard_after shard e)
 
     pub next_ready : IsReady then
     next_ready = record {
@@ -69,7 +69,7 @@ module _ (time : Entry → ℕ) (image : MemoryImage) (end : ℕ) where
 
     next_stamps : stamps_of then.world ≡ stamped_by (length s.world.shards) (stamps_of s.world) e
     next_stamps =
-        rw (map-set (λ (x : ShardState). x.last) s.world.shards (bank_in s.world e) (after shard e), after_last shard e) refl
+        rw (map-set (λ (x : ShardState). x.last) s.world.shards (bank_in s.world e) (shard_after shard e), after_last shard e) refl
 
     pub next_left : (entries : List Entry) → e.core < length s.cores → slice_get s.cores e.core ≡ Some c → slice_get s.world.shards (bank_in s.world e) ≡ Some shard
         → left s (e ∷ entries) ≡ left then entries
@@ -77,7 +77,7 @@ module _ (time : Entry → ℕ) (image : MemoryImage) (end : ℕ) where
         let stamp = is_there s.world.stamps e.core (omega (arith, within, ready.stamps)) in
         rw (
           after_first (after_turn time image end) core_of_entry e entries s.cores c core,
-          after_first after (bank_of_entry (length s.world.shards)) e entries s.world.shards shard bank,
+          after_first shard_after (bank_of_entry (length s.world.shards)) e entries s.world.shards shard bank,
           after_first (λ stamp e. e.stamp) core_of_entry e entries s.world.stamps stamp.0 stamp.1,
           same_shards,
           append_assoc s.entries (e ∷ []) entries,
@@ -88,7 +88,7 @@ module _ (time : Entry → ℕ) (image : MemoryImage) (end : ℕ) where
       pub first_is_next : Follows s (e ∷ entries) → IsNext time image end s e c shard
       first_is_next f =
           let own = first_holds (AreTurnsOf time image end) (after_turn time image end) core_of_entry s.cores e entries c core f.turns in
-          let given = first_holds AreServedBy after (bank_of_entry (length s.world.shards)) s.world.shards e entries shard bank f.served in
+          let given = first_holds AreServedBy shard_after (bank_of_entry (length s.world.shards)) s.world.shards e entries shard bank f.served in
           record {
             core = core;
             bank = bank;
@@ -104,7 +104,7 @@ module _ (time : Entry → ℕ) (image : MemoryImage) (end : ℕ) where
         known = subst (λ (n : ℕ). All (λ (x : Entry). x.core < n) entries) (sym same_cores) (All-tail (λ (x : Entry). x.core < length s.cores) e entries f.known);
         turns = rest_holds (AreTurnsOf time image end) (after_turn time image end) core_of_entry s.cores e entries c core (λ more own. own.2) f.turns;
         served = subst (λ (n : ℕ). EachHolds AreServedBy (bank_of_entry n) then.world.shards entries) (sym same_shards)
-            (rest_holds AreServedBy after (bank_of_entry (length s.world.shards)) s.world.shards e entries shard bank (λ more given. given.2) f.served);
+            (rest_holds AreServedBy shard_after (bank_of_entry (length s.world.shards)) s.world.shards e entries shard bank (λ more given. given.2) f.served);
         stamped = subst (λ (n : ℕ). AreStamped n (stamps_of then.world) entries) (sym same_shards)
             (subst (λ (stamps : Stamps). AreStamped (length s.world.shards) stamps entries) (sym next_stamps) f.stamped.1);
       }
@@ -114,7 +114,7 @@ module _ (time : Entry → ℕ) (image : MemoryImage) (end : ℕ) where
       whole_follows n within f = record {
         known = All-cons (λ (x : Entry). x.core < length s.cores) e entries within (subst (λ (k : ℕ). All (λ (x : Entry). x.core < k) entries) same_cores f.known);
         turns = all_hold (AreTurnsOf time image end) (after_turn time image end) core_of_entry s.cores e entries c core (λ more own. (n.asked, n.start, own)) f.turns;
-        served = all_hold AreServedBy after (bank_of_entry (length s.world.shards)) s.world.shards e entries shard bank (λ more given. (n.reply, n.outcome, given))
+        served = all_hold AreServedBy shard_after (bank_of_entry (length s.world.shards)) s.world.shards e entries shard bank (λ more given. (n.reply, n.outcome, given))
             (subst (λ (k : ℕ). EachHolds AreServedBy (bank_of_entry k) then.world.shards entries) same_shards f.served);
         stamped = (
           n.stamp ∙ sym (ap (λ (k : ℕ). max k (slice_index s.world.stamps e.core) + 1) (last_at s.world.shards (bank_in s.world e) shard bank)),
@@ -134,13 +134,13 @@ module _ (time : Entry → ℕ) (image : MemoryImage) (end : ℕ) where
   none_left s =
       rw (
         after_none (after_turn time image end) core_of_entry s.cores,
-        after_none after (bank_of_entry (length s.world.shards)) s.world.shards,
+        after_none shard_after (bank_of_entry (length s.world.shards)) s.world.shards,
         after_none (λ (stamp : ℕ) (e : Entry). e.stamp) core_of_entry s.world.stamps,
         append-nil s.entries,
       ) refl
 
   pub history_is_phase : (entries : List Entry) (s : BoundState ShardWorld) (place : ℕ) → IsReady s → Follows s entries
-      → bound_from serve time image end place (map (λ e. e.core) entries) s ≡ Ok (left s entries)
+      → bound_from shards_serve time image end place (map (λ e. e.core) entries) s ≡ Ok (left s entries)
   history_is_phase [] s place ready f =
       rw (all_done s.cores f.turns, none_left s) refl
   history_is_phase (e ∷ entries) s place ready f =

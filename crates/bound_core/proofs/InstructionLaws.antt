@@ -9,13 +9,13 @@ use Rattle.flat_memory.specs.Laws as flat
 use Rattle.rv_core.specs.Accesses.{is_in_memory, joined, load_requests, low_bytes, store_requests}
 use Rattle.rv_core.specs.CoreState.{CoreState}
 use Rattle.rv_core.specs.Effect.{address, goes_on, goes_to, loads, register}
-use Rattle.rv_core.specs.Laws.{bytes_of, bytes_stored, number_of, replies_loaded}
-use Rattle.bound_core.specs.InstructionLaws.{CoreInMemory, IsReady, IsStore, LoadsAreWhole, OtherBytesStay, StoredIsLoaded, StoresAreWhole, after_all_requests, after_executing, extended}
+use Rattle.rv_core.specs.Laws.{bytes_of, bytes_stored, number_of_bytes, replies_loaded}
+use Rattle.bound_core.specs.InstructionLaws.{ComesToNext, CoreInMemory, IsStore, LoadsAreWhole, OtherBytesStay, StoredIsLoaded, StoresAreWhole, after_all_requests, after_executing, extended}
 use Rattle.bound_core.proofs.LittleEndian.{bytes-below, number-read, number_of-bytes, read-back, with_number-length}
 use Rattle.bound_core.proofs.LoadsStores.{Leaves, LieIn, lie-in, load-whole, store-whole}
 use Rattle.bound_core.proofs.WholeInstructions.{free-idle, goes_on-instruction, goes_on-memory, load-effect, quiet-length, register-written, store-effect}
 
-module _ (joins : (addr width : ℕ) (bytes : List ℕ) → length bytes ≡ width → All (λ b. b < 256) bytes → joined (replies_loaded (load_requests addr width) bytes) ≡ number_of bytes) where
+module _ (joins : (addr width : ℕ) (bytes : List ℕ) → length bytes ≡ width → All (λ b. b < 256) bytes → joined (replies_loaded (load_requests addr width) bytes) ≡ number_of_bytes bytes) where
   pub loads-whole : LoadsAreWhole
   loads-whole number load width signed s is ready there =
       let by_name = load-effect is load s.core in
@@ -26,7 +26,7 @@ module _ (joins : (addr width : ℕ) (bytes : List ℕ) → length bytes ≡ wid
       ∙ load-whole joins number width signed load s.core s.memory by_name.1 (free-idle s.core ready.free) there lies bytes
 
 module _ (writes : (addr width value : ℕ) → flat_map bytes_stored (store_requests addr width value) ≡ bytes_of width value) where
-  store-leaves : (number : ℕ) (store : Inst) (width : ℕ) (s : CoreInMemory) → IsStore store.name width → IsReady s → is_in_memory s.core.memory (address store s.core) width ≡ true
+  store-leaves : (number : ℕ) (store : Inst) (width : ℕ) (s : CoreInMemory) → IsStore store.name width → ComesToNext s → is_in_memory s.core.memory (address store s.core) width ≡ true
       → Leaves s.core s.memory (address store s.core) width (register s.core store.rs2) (after_executing number store s)
   store-leaves number store width s is ready there =
       let run = ap (λ c. after_all_requests number (record s { core = c })) (store-effect is store s.core).0 in
@@ -38,7 +38,7 @@ module _ (writes : (addr width value : ℕ) → flat_map bytes_stored (store_req
   unfolding written
   stores-whole number store width s is ready there = let left = store-leaves number store width s is ready there in (left.core_is, left.bytes_are)
 
-  pub other_bytes-stay : flat.OtherBytesStay → OtherBytesStay
+  pub other_bytes-stay : flat.StoreLeavesOtherBytes → OtherBytesStay
   unfolding written
   other_bytes-stay stay number store width other s is ready there begins outside =
       let left = store-leaves number store width s is ready there in
@@ -51,7 +51,7 @@ module _ (writes : (addr width value : ℕ) → flat_map bytes_stored (store_req
       ∙ ap (λ base. slice_index (with_number s.memory.bytes (addr - s.memory.base) width (register s.core store.rs2)) (other - base)) left.base_is
       ∙ stay s.memory number addr width (register s.core store.rs2) (other - s.memory.base) within apart
 
-  module _ (joins : (addr width : ℕ) (bytes : List ℕ) → length bytes ≡ width → All (λ b. b < 256) bytes → joined (replies_loaded (load_requests addr width) bytes) ≡ number_of bytes) where
+  module _ (joins : (addr width : ℕ) (bytes : List ℕ) → length bytes ≡ width → All (λ b. b < 256) bytes → joined (replies_loaded (load_requests addr width) bytes) ≡ number_of_bytes bytes) where
     -- a load where memory holds a number that was written
     load-written : (number width : ℕ) (signed : Bool) (load : Inst) (core : CoreState) (memory : MemoryState) (addr : ℕ) (bytes : List ℕ) (value : ℕ) → width ≤ 8
         → core.instruction ≡ None → is_in_memory core.memory addr width ≡ true → address load core ≡ addr → memory.base ≤ addr → addr - memory.base + width ≤ length bytes
@@ -68,7 +68,7 @@ module _ (writes : (addr width value : ℕ) → flat_map bytes_stored (store_req
         let below : All (λ b. b < 256) (take width (drop place memory.bytes)) = subst (λ (list : List ℕ). All (λ b. b < 256) list) (sym read) (bytes-below width value) in
         let run = load-whole joins number width signed load core memory few free (ap (λ a. is_in_memory core.memory a width) same ∙ there) lies below in
         let number_is : memory_number memory (address load core) width ≡ low_bytes width value =
-        number-read memory.bytes place width lies.ends ∙ ap number_of read ∙ number_of-bytes width value in
+        number-read memory.bytes place width lies.ends ∙ ap number_of_bytes read ∙ number_of-bytes width value in
         ap (λ (after : CoreInMemory). register after.core load.rd) run
         ∙ register-written core load.rd (extended width signed (memory_number memory (address load core) width)) some rd
         ∙ ap (extended width signed) number_is

@@ -10,14 +10,14 @@ use Rattle.machine_desc.specs.Machine.{IsMachine}
 use Rattle.machine_desc.specs.declared.machine.Machine.{Machine}
 use Rattle.rv_core.specs.CoreState.{CoreState}
 use Rattle.rv_core.specs.Laws.{IsReached, starts}
-use Rattle.rv_core.specs.Sound.{IsSound}
+use Rattle.rv_core.specs.Sound.{IsSoundCore}
 use Rattle.rv_core.specs.Step.{initial_core}
 use Rattle.flat_memory.specs.declared.reservation.Reservation.{Reservation}
 use Rattle.shard.specs.Laws.{NewShardsStand}
 use Rattle.shard.specs.Served.{ShardState, new_shard}
 use Rattle.shard.specs.StandsFor.{flat_for, new_memory, new_shards}
 use Rattle.access_log.specs.RecordedOrder.{no_stamps}
-use Rattle.bound_core.specs.MachineOfShards.{IsCoreOf, StandForMachine, bytes_of, pairings_of}
+use Rattle.bound_core.specs.MachineOfShards.{IsCoreOf, StandForMachine, paired_bytes, pairings_of}
 use Rattle.bound_core.specs.MachineWorld.{MachineWorld, first_world}
 use Rattle.bound_core.specs.ShardWorld.{ShardWorld, begun_world, restarted}
 use Rattle.bound_core.specs.Timed.{TimedCore, first_core}
@@ -26,13 +26,13 @@ use Rattle.bound_core.proofs.Restarted.{no_last, stand_again}
 -- ---- the next interval
 
 -- the pairings of the cores' own states
-pairings_from : (cores : List TimedCore) → pairings_of cores ≡ map (λ (core : CoreState). bytes_of core.pairing) (map (λ (c : TimedCore). c.core) cores)
+pairings_from : (cores : List TimedCore) → pairings_of cores ≡ map (λ (core : CoreState). paired_bytes core.pairing) (map (λ (c : TimedCore). c.core) cores)
 pairings_from [] = refl
-pairings_from (c ∷ cores) = ap (λ (ps : List (Option Reservation)). bytes_of c.core.pairing ∷ ps) (pairings_from cores)
+pairings_from (c ∷ cores) = ap (λ (ps : List (Option Reservation)). paired_bytes c.core.pairing ∷ ps) (pairings_from cores)
 
 module _ (cores later : List TimedCore) (same : map (λ c. c.core) later ≡ map (λ c. c.core) cores) where
   same_pairings : pairings_of later ≡ pairings_of cores
-  same_pairings = pairings_from later ∙ ap (map (λ (core : CoreState). bytes_of core.pairing)) same ∙ sym (pairings_from cores)
+  same_pairings = pairings_from later ∙ ap (map (λ (core : CoreState). paired_bytes core.pairing)) same ∙ sym (pairings_from cores)
 
   same_many : length later ≡ length cores
   same_many = sym (length-map later (λ (c : TimedCore). c.core)) ∙ ap length same ∙ length-map cores (λ (c : TimedCore). c.core)
@@ -48,7 +48,7 @@ module _ (cores later : List TimedCore) (same : map (λ c. c.core) later ≡ map
       let is = are k d (omega (arith, within, same_many)) in
       let core = same_core k d within in
       record {
-        sound = subst IsSound (sym core) is.sound;
+        sound = subst IsSoundCore (sym core) is.sound;
         base_is = ap (λ (c : CoreState). c.memory.base) core ∙ is.base_is;
         size_is = ap (λ (c : CoreState). c.memory.size) core ∙ is.size_is;
       }
@@ -83,7 +83,7 @@ module _ (machine : Machine) (image : MemoryImage) where
   unfolding initial_core
   first_memory number = refl
 
-  module _ (sound : (core : CoreState) → IsReached core → IsSound core) (stand : NewShardsStand) (is : IsMachine machine) (base : image.base ≡ machine.memory.base) (size : image.size ≡ machine.memory.size) where
+  module _ (sound : (core : CoreState) → IsReached core → IsSoundCore core) (stand : NewShardsStand) (is : IsMachine machine) (base : image.base ≡ machine.memory.base) (size : image.size ≡ machine.memory.size) where
     long : length (new_memory machine image).bytes ≡ image.size
     long = length-map-range_with_len (byte_at image.segments) image.base image.size
 

@@ -10,6 +10,7 @@ pub mod Lists
 pub mod LittleEndian
 pub mod LoadsStores
 pub mod MachineRuns
+pub mod NewShards
 pub mod Numbered
 pub mod OwnTurns
 pub mod Pairings
@@ -20,6 +21,7 @@ pub mod Reaching
 pub mod Restarted
 pub mod ShardKept
 pub mod ShardPorts
+pub mod ShardsStay
 pub mod ShardsTurn
 pub mod Simulation
 pub mod Turns

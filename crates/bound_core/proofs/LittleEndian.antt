@@ -9,7 +9,7 @@ use Rattle.std.proofs.lemmas.Nat.{mod-pow-add}
 use Rattle.byteorder.specs.Endian.{little_bytes, little_number}
 use Rattle.byteorder.specs.Numbers.{length-bytes_low_first, little_from-cons, little_from-lt, little_from-take}
 use Rattle.flat_memory.specs.FlatMemory.{number_in, with_number}
-use Rattle.rv_core.specs.Laws.{bytes_of, number_of}
+use Rattle.rv_core.specs.Laws.{bytes_of, number_of_bytes}
 
 -- ---- the bytes of a number
 
@@ -28,12 +28,12 @@ same-bytes (suc count) x = ap (λ bytes. x % 256 ∷ bytes) (bytes-above 0 count
 
 -- ---- the number of bytes
 
-same-number : (count : ℕ) (xs : List ℕ) → count ≤ length xs → little_number count xs ≡ number_of (take count xs)
+same-number : (count : ℕ) (xs : List ℕ) → count ≤ length xs → little_number count xs ≡ number_of_bytes (take count xs)
 same-number zero xs h = refl
 same-number (suc count) [] h = absurd (omega arith)
 same-number (suc count) (x ∷ xs) h = ap (λ n. x + 256 * n) (little_from-cons 0 count x xs ∙ same-number count xs (omega arith))
 
-pub number-read : (bytes : List ℕ) (place width : ℕ) → place + width ≤ length bytes → number_in bytes place width ≡ number_of (take width (drop place bytes))
+pub number-read : (bytes : List ℕ) (place width : ℕ) → place + width ≤ length bytes → number_in bytes place width ≡ number_of_bytes (take width (drop place bytes))
 unfolding number_in
 number-read bytes place width h = same-number width (drop place bytes) (simp length-drop (omega arith))
 
@@ -101,7 +101,7 @@ read-back bytes place width x h =
     let behind : drop place (take place bytes ++ rest) ≡ rest = drop_at (take place bytes) rest place long in
     ap (take width) behind ∙ take_at (little_bytes width x) (drop (place + width) bytes) width (length-bytes_low_first 0 width x) ∙ same-bytes width x
 
-pub number_of-bytes : (count x : ℕ) → number_of (bytes_of count x) ≡ x % 2 ^ (8 * count)
+pub number_of-bytes : (count x : ℕ) → number_of_bytes (bytes_of count x) ≡ x % 2 ^ (8 * count)
 number_of-bytes zero x = omega arith
 number_of-bytes (suc count) x =
     let more : 8 * suc count ≡ 8 * count + 8 = omega arith in

@@ -12,7 +12,7 @@ use Rattle.rv_core.specs.declared.progress.Reply.{Reply}
 use Rattle.rv_core.specs.Accesses.{high_bytes, is_in_line, is_in_memory, joined, left_in_line, load_requests, low_bytes, reply_to, store_requests}
 use Rattle.rv_core.specs.CoreState.{CoreState, ToNothing}
 use Rattle.rv_core.specs.Effect.{accesses, address, ended, goes_on, goes_through, loads, register, stores, to_register}
-use Rattle.rv_core.specs.Laws.{bytes_of, bytes_stored, number_of, replies_loaded}
+use Rattle.rv_core.specs.Laws.{bytes_of, bytes_stored, number_of_bytes, replies_loaded}
 use Rattle.bound_core.specs.InstructionLaws.{CoreInMemory, after_all_requests, extended}
 use Rattle.bound_core.proofs.LittleEndian.{number-below, number-read, same-bytes, written-twice}
 use Rattle.bound_core.proofs.WholeInstructions.{one-access, same-core, two-accesses}
@@ -149,7 +149,7 @@ module _ (law : (addr width value : ℕ) → flat_map bytes_stored (store_reques
 
 -- ---- loads
 
-module _ (law : (addr width : ℕ) (bytes : List ℕ) → length bytes ≡ width → All (λ b. b < 256) bytes → joined (replies_loaded (load_requests addr width) bytes) ≡ number_of bytes) where
+module _ (law : (addr width : ℕ) (bytes : List ℕ) → length bytes ≡ width → All (λ b. b < 256) bytes → joined (replies_loaded (load_requests addr width) bytes) ≡ number_of_bytes bytes) where
   -- the bytes that a load reads
   abbrev read : MemoryState → (addr width : ℕ) → List ℕ
   read memory addr width = take width (drop (addr - memory.base) memory.bytes)
@@ -159,7 +159,7 @@ module _ (law : (addr width : ℕ) (bytes : List ℕ) → length bytes ≡ width
 
   -- the whole number is below 2^64
   whole : (memory : MemoryState) (addr width n : ℕ) → width ≤ 8 → LieIn memory addr width → All (λ b. b < 256) (read memory addr width)
-      → n ≡ number_of (read memory addr width) → n % 2 ^ 64 ≡ memory_number memory addr width
+      → n ≡ number_of_bytes (read memory addr width) → n % 2 ^ 64 ≡ memory_number memory addr width
   whole memory addr width n few lies bytes e =
       let is : n ≡ memory_number memory addr width = e ∙ sym (number-read memory.bytes (addr - memory.base) width lies.ends) in
       let below : memory_number memory addr width < 2 ^ 64 = number-below memory.bytes (addr - memory.base) width few bytes in
@@ -173,7 +173,7 @@ module _ (law : (addr width : ℕ) (bytes : List ℕ) → length bytes ≡ width
   -- the end of a load whose replies make the number
   ends-load : (number width : ℕ) (signed : Bool) (i : Inst) (core : CoreState) (memory : MemoryState) → width ≤ 8 → core.instruction ≡ None
       → LieIn memory (address i core) width → All (λ b. b < 256) (read memory (address i core) width)
-      → (replies : List Reply) → joined replies ≡ number_of (read memory (address i core) width)
+      → (replies : List Reply) → joined replies ≡ number_of_bytes (read memory (address i core) width)
       → (record { core = goes_on (record core { instruction = None }) i.rd (extended width signed (joined replies % 2 ^ 64)); memory = memory }) ≡ loaded width signed i core memory
   ends-load number width signed i core memory few free lies bytes replies joins =
       ap (λ c. record { core = goes_on c i.rd (extended width signed (joined replies % 2 ^ 64)); memory = memory }) (same-core core free)
@@ -188,10 +188,10 @@ module _ (law : (addr width : ℕ) (bytes : List ℕ) → length bytes ≡ width
       let addr = address i core in
       let begins = loads-begin width signed i core there ∙ ap (λ requests. goes_through requests [] (to_register i width signed) core) (load-request addr width line) in
       let is = ap (λ c. after_all_requests number (record { core = c; memory = memory })) begins ∙ one-access number (Load addr width) (to_register i width signed) core memory in
-      let here : memory_number memory addr width ≡ number_of (take width (read memory addr width)) =
+      let here : memory_number memory addr width ≡ number_of_bytes (take width (read memory addr width)) =
       number-read memory.bytes (addr - memory.base) width lies.ends
-      ∙ ap number_of (sym (take-take width width (drop (addr - memory.base) memory.bytes) (omega arith))) in
-      let joins : joined (reply_to (Load addr width) (memory_number memory addr width) ∷ []) ≡ number_of (read memory addr width) =
+      ∙ ap number_of_bytes (sym (take-take width width (drop (addr - memory.base) memory.bytes) (omega arith))) in
+      let joins : joined (reply_to (Load addr width) (memory_number memory addr width) ∷ []) ≡ number_of_bytes (read memory addr width) =
       ap (λ n. joined (reply_to (Load addr width) n ∷ [])) here
       ∙ ap (λ requests. joined (replies_loaded requests (read memory addr width))) (sym (load-request addr width line))
       ∙ law addr width (read memory addr width) (read-length memory addr width lies) bytes in
@@ -212,17 +212,17 @@ module _ (law : (addr width : ℕ) (bytes : List ℕ) → length bytes ≡ width
       let begins = loads-begin width signed i core there ∙ ap (λ requests. goes_through requests [] (to_register i width signed) core) (load-two_requests addr width line) in
       let is = ap (λ c. after_all_requests number (record { core = c; memory = memory })) begins
       ∙ two-accesses number (Load addr lower) (Load (addr + lower) upper) (to_register i width signed) core memory in
-      let first : memory_number memory addr lower ≡ number_of (take lower (read memory addr width)) =
-      number-read memory.bytes place lower (omega (arith, lies.ends, width_is)) ∙ ap number_of (sym (take-take lower width rest (omega (arith, width_is)))) in
+      let first : memory_number memory addr lower ≡ number_of_bytes (take lower (read memory addr width)) =
+      number-read memory.bytes place lower (omega (arith, lies.ends, width_is)) ∙ ap number_of_bytes (sym (take-take lower width rest (omega (arith, width_is)))) in
       let place_is : addr + lower - memory.base ≡ place + lower = omega (arith, lies.begins) in
       let above : drop lower (read memory addr width) ≡ take upper (drop lower rest) = ap (λ n. drop lower (take n rest)) (sym width_is) ∙ drop-take lower upper rest in
-      let last : memory_number memory (addr + lower) upper ≡ number_of (take upper (drop lower (read memory addr width))) =
+      let last : memory_number memory (addr + lower) upper ≡ number_of_bytes (take upper (drop lower (read memory addr width))) =
       ap (λ n. number_in memory.bytes n upper) place_is ∙ number-read memory.bytes (place + lower) upper (omega (arith, lies.ends, width_is))
-      ∙ ap (λ list. number_of (take upper list)) (sym (drop-drop lower place memory.bytes))
-      ∙ ap number_of (sym (ap (take upper) above ∙ take-take upper upper (drop lower rest) (omega arith))) in
-      let joins : joined (reply_to (Load addr lower) (memory_number memory addr lower) ∷ reply_to (Load (addr + lower) upper) (memory_number memory (addr + lower) upper) ∷ []) ≡ number_of (read memory addr width) =
+      ∙ ap (λ list. number_of_bytes (take upper list)) (sym (drop-drop lower place memory.bytes))
+      ∙ ap number_of_bytes (sym (ap (take upper) above ∙ take-take upper upper (drop lower rest) (omega arith))) in
+      let joins : joined (reply_to (Load addr lower) (memory_number memory addr lower) ∷ reply_to (Load (addr + lower) upper) (memory_number memory (addr + lower) upper) ∷ []) ≡ number_of_bytes (read memory addr width) =
       ap (λ n. joined (reply_to (Load addr lower) n ∷ reply_to (Load (addr + lower) upper) (memory_number memory (addr + lower) upper) ∷ [])) first
-      ∙ ap (λ n. joined (reply_to (Load addr lower) (number_of (take lower (read memory addr width))) ∷ reply_to (Load (addr + lower) upper) n ∷ [])) last
+      ∙ ap (λ n. joined (reply_to (Load addr lower) (number_of_bytes (take lower (read memory addr width))) ∷ reply_to (Load (addr + lower) upper) n ∷ [])) last
       ∙ ap (λ requests. joined (replies_loaded requests (read memory addr width))) (sym (load-two_requests addr width line))
       ∙ law addr width (read memory addr width) (read-length memory addr width lies) bytes in
       is ∙ ends-load number width signed i core memory few free lies bytes (reply_to (Load addr lower) (memory_number memory addr lower) ∷ reply_to (Load (addr + lower) upper) (memory_number memory (addr + lower) upper) ∷ []) joins

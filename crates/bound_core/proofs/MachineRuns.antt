@@ -7,7 +7,7 @@ use Rattle.access_log.specs.RecordedOrder.{recorded_order}
 use Rattle.bound_core.specs.History.{IsHistory, after_history}
 use Rattle.bound_core.specs.History as history
 use Rattle.bound_core.specs.HistoryLaws.{HistoriesArePhases, RecordedOrderIsHistory}
-use Rattle.bound_core.specs.MachineOfShards.{IsRunOfTheMachine, ShardsDoAsTheMachine, StandForMachine, begun}
+use Rattle.bound_core.specs.MachineOfShards.{IsRunOfTheMachine, ShardsDoAsTheMachine, StandForMachine, begun_over_machine}
 use Rattle.bound_core.specs.MachineWorld as machine
 use Rattle.bound_core.specs.MachineWorld.{MachineWorld}
 use Rattle.bound_core.specs.ReferenceMachine.{BoundState, bound_phase}
@@ -28,10 +28,10 @@ module _ (time : Entry → ℕ) (image : MemoryImage) (end : ℕ) (phases : Hist
       let recorded = sorted cores shards entries h in
       let left : BoundState ShardWorld = after_history time image end cores shards order in
       let numbers : List ℕ = map (λ (e : Entry). e.core) order in
-      let first : AreRelated StandForMachine (history.begun cores shards) (begun cores m) = record { cores = refl; entries = refl; worlds = stand } in
-      let alike = same (history.begun cores shards) (begun cores m) first numbers 0 in
-      let legal = legal_alike left (bound_phase machine.serve time image end numbers (begun cores m))
-      (subst (λ (o : Result (BoundState ShardWorld) ℕ). EndAlike StandForMachine o (bound_phase machine.serve time image end numbers (begun cores m))) (phases cores shards order recorded.0) alike) in
+      let first : AreRelated StandForMachine (history.begun_over_shards cores shards) (begun_over_machine cores m) = record { cores = refl; entries = refl; worlds = stand } in
+      let alike = same (history.begun_over_shards cores shards) (begun_over_machine cores m) first numbers 0 in
+      let legal = legal_alike left (bound_phase machine.serve time image end numbers (begun_over_machine cores m))
+      (subst (λ (o : Result (BoundState ShardWorld) ℕ). EndAlike StandForMachine o (bound_phase machine.serve time image end numbers (begun_over_machine cores m))) (phases cores shards order recorded.0) alike) in
       let world : left.world ≡ (after_history time image end cores shards entries).world = ap (λ (b : BoundState ShardWorld). b.world) recorded.1 in
       let cores_are : legal.0.cores ≡ left.cores = legal.2.cores in
       record {

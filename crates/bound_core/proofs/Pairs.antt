@@ -9,14 +9,14 @@ use Rattle.zs_num.specs.declared.request.Request.TheVariants.{Lr, Sc, Store}
 use Rattle.rv_decode.specs.declared.inst.Inst.{Inst}
 use Rattle.rv_decode.specs.declared.name.Name.{Name}
 use Rattle.flat_memory.specs.declared.reservation.Reservation.{Reservation}
-use Rattle.flat_memory.specs.FlatMemory.{MemoryState, after, is_reservation, is_reserved, reply_of, unless_written, with_number, written}
+use Rattle.flat_memory.specs.FlatMemory.{MemoryState, is_reservation, is_reserved, memory_after, memory_reply, unless_written, with_number, written}
 use Rattle.flat_memory.specs.Laws.{does_write, reservation_of, OthersEndByWrites}
 use Rattle.rv_core.specs.Accesses.{is_in_line, is_in_memory, low_bytes, reply_to, store_requests}
 use Rattle.rv_core.specs.CoreState.{CoreState}
 use Rattle.rv_core.specs.Effect.{ended, goes_on, received, register, to_register}
 use Rattle.rv_core.specs.Laws.{bytes_of, bytes_stored}
 use Rattle.rv_core.specs.Pairing.{is_paired, pairing_after}
-use Rattle.bound_core.specs.InstructionLaws.{CoreInMemory, IsLoadReserved, IsPair, IsStoreConditional, PairAloneStores, PairStores, StoreBetweenEndsPair, WriteBetweenEndsPair, after_accesses, after_all_requests, after_executing, after_pair, between, is_ended, is_written, reserved, sc_w, sc_d}
+use Rattle.bound_core.specs.InstructionLaws.{CoreInMemory, IsLoadReserved, IsPair, IsStoreConditional, PairAloneStores, PairStores, StoreBetweenEndsPair, WriteBetweenEndsPair, memory_after_all, after_all_requests, after_executing, after_pair, between, is_ended, is_written, reserved, sc_w, sc_d}
 use Rattle.bound_core.proofs.Lists.{all_head, all_tail}
 use Rattle.bound_core.proofs.LoadsStores.{low-bytes_count}
 use Rattle.bound_core.proofs.WholeInstructions.{atomic-run, goes_on-memory, load_reserved-effect, register-written, registers-stay, store_conditional-effect, zero-stays}
@@ -34,16 +34,16 @@ unless-line false in_line r = refl
 
 module _ (law : OthersEndByWrites) (number : ℕ) where
   none-stays : (others : List (ℕ × Request)) (memory : MemoryState) → All (λ access. access.0 ≢ number) others → reservation_of memory number ≡ None
-      → reservation_of (after_accesses others memory) number ≡ None
+      → reservation_of (memory_after_all others memory) number ≡ None
   none-stays [] memory apart none = none
   none-stays (access ∷ others) memory apart none =
-      none-stays others (after memory access.0 access.1) (all_tail (λ (a : ℕ × Request). a.0 ≢ number) access others apart)
+      none-stays others (memory_after memory access.0 access.1) (all_tail (λ (a : ℕ × Request). a.0 ≢ number) access others apart)
       (law memory number access.0 access.1 (all_head (λ (a : ℕ × Request). a.0 ≢ number) access others apart)
       ∙ ap (λ r. cond (does_write memory access.0 access.1) (unless_written false (addr_of access.1) r) r) none
       ∙ nothing-left (does_write memory access.0 access.1) (addr_of access.1))
 
   after-one : (memory : MemoryState) (other : ℕ) (request : Request) (r : Reservation) → other ≢ number → reservation_of memory number ≡ Some r
-      → reservation_of (after memory other request) number ≡ cond (does_write memory other request && (r.addr / 64 == line_of request)) None (Some r)
+      → reservation_of (memory_after memory other request) number ≡ cond (does_write memory other request && (r.addr / 64 == line_of request)) None (Some r)
   after-one memory other request r apart some =
       law memory number other request apart ∙ ap (λ o. cond (does_write memory other request) (unless_written false (addr_of request) o) o) some
       ∙ unless-line (does_write memory other request) (r.addr / 64 == line_of request) (Some r)
@@ -51,19 +51,19 @@ module _ (law : OthersEndByWrites) (number : ℕ) where
   -- by whether the first of the accesses wrote to the line
   by-first : (others : List (ℕ × Request)) (memory : MemoryState) (r : Reservation) (wrote : Bool) → All (λ access. access.0 ≢ number) others
       → reservation_of memory number ≡ cond wrote None (Some r)
-      → (reservation_of memory number ≡ Some r → reservation_of (after_accesses others memory) number ≡ cond (is_written (r.addr / 64) others memory) None (Some r))
-      → reservation_of (after_accesses others memory) number ≡ cond (wrote || is_written (r.addr / 64) others memory) None (Some r)
+      → (reservation_of memory number ≡ Some r → reservation_of (memory_after_all others memory) number ≡ cond (is_written (r.addr / 64) others memory) None (Some r))
+      → reservation_of (memory_after_all others memory) number ≡ cond (wrote || is_written (r.addr / 64) others memory) None (Some r)
   by-first others memory r true apart is rest = none-stays others memory apart is
   by-first others memory r false apart is rest = rest is
 
   pub ends-by_writes : (others : List (ℕ × Request)) (memory : MemoryState) (r : Reservation) → All (λ access. access.0 ≢ number) others → reservation_of memory number ≡ Some r
-      → reservation_of (after_accesses others memory) number ≡ cond (is_written (r.addr / 64) others memory) None (Some r)
+      → reservation_of (memory_after_all others memory) number ≡ cond (is_written (r.addr / 64) others memory) None (Some r)
   ends-by_writes [] memory r apart some = some
   ends-by_writes (access ∷ others) memory r apart some =
       let others_apart = all_tail (λ (a : ℕ × Request). a.0 ≢ number) access others apart in
-      by-first others (after memory access.0 access.1) r (does_write memory access.0 access.1 && (r.addr / 64 == line_of access.1)) others_apart
+      by-first others (memory_after memory access.0 access.1) r (does_write memory access.0 access.1 && (r.addr / 64 == line_of access.1)) others_apart
       (after-one memory access.0 access.1 r (all_head (λ (a : ℕ × Request). a.0 ≢ number) access others apart) some)
-      (λ here. ends-by_writes others (after memory access.0 access.1) r others_apart here)
+      (λ here. ends-by_writes others (memory_after memory access.0 access.1) r others_apart here)
 
 -- ---- the load-reserved
 
@@ -81,10 +81,10 @@ unfolding ended
 reserves number i width s is_name there aligned in_memory =
     let addr = register s.core i.rs1 in
     let request = Lr addr width in
-    let reply = reply_to request (reply_of s.memory number request) in
+    let reply = reply_to request (memory_reply s.memory number request) in
     let core = record s.core { pairing = pairing_after s.core.pairing request; instruction = None } in
     let value = received (record { rd = i.rd; width = width; signed = true }) (reply ∷ []) in
-    let run : after_executing number i s ≡ (record { core = goes_on core i.rd value; memory = after s.memory number request }) =
+    let run : after_executing number i s ≡ (record { core = goes_on core i.rd value; memory = memory_after s.memory number request }) =
     ap (λ c. after_all_requests number (record s { core = c })) (load_reserved-effect is_name i s.core)
     ∙ atomic-run number addr width request (to_register i width true) s.core s.memory aligned in_memory in
     subst (λ (after : CoreInMemory). Reserves number addr width s after) (sym run) (record {
@@ -122,11 +122,11 @@ reads-as core (suc n) value zero_is there =
 
 -- what memory answers and keeps, by whether the core has still reserved the bytes
 replies-by : (memory : MemoryState) (number addr width value : ℕ) (paired stores : Bool) → is_reserved memory number addr width ≡ stores
-    → reply_of memory number (Sc addr width value paired) ≡ cond stores 0 1
+    → memory_reply memory number (Sc addr width value paired) ≡ cond stores 0 1
 replies-by memory number addr width value paired stores e = ap (λ b. cond b 0 1) e
 
 keeps-by : (memory : MemoryState) (number addr width value : ℕ) (paired stores : Bool) → is_reserved memory number addr width ≡ stores
-    → (after memory number (Sc addr width value paired)).bytes ≡ cond stores (with_number memory.bytes (addr - memory.base) width value) memory.bytes
+    → (memory_after memory number (Sc addr width value paired)).bytes ≡ cond stores (with_number memory.bytes (addr - memory.base) width value) memory.bytes
 unfolding written
 keeps-by memory number addr width value paired true e = rw e refl
 keeps-by memory number addr width value paired false e = rw e refl
@@ -148,14 +148,14 @@ conditions writes number i width s addr stores is_name same aligned in_memory he
     let value = register s.core i.rs2 in
     let paired = is_paired s.core.pairing here width in
     let request = Sc here width (low_bytes width value) paired in
-    let reply = reply_of s.memory number request in
+    let reply = memory_reply s.memory number request in
     let core = record s.core { pairing = pairing_after s.core.pairing request; instruction = None } in
     let here_aligned : here % width ≡ 0 = ap (λ (a : ℕ). a % width) same ∙ aligned in
     let here_there : is_in_memory s.core.memory here width ≡ true = ap (λ a. is_in_memory s.core.memory a width) same ∙ in_memory in
     let here_held : is_reserved s.memory number here width ≡ stores = ap (λ a. is_reserved s.memory number a width) same ∙ held in
     let number_is : (low_bytes width reply + 2 ^ (8 * width) * 0) % 2 ^ 64 ≡ cond stores 0 1 =
     ap (λ n. (low_bytes width n + 2 ^ (8 * width) * 0) % 2 ^ 64) (replies-by s.memory number here width (low_bytes width value) paired stores here_held) ∙ given is_name stores in
-    let run : after_executing number i s ≡ (record { core = goes_on core i.rd ((low_bytes width reply + 2 ^ (8 * width) * 0) % 2 ^ 64); memory = after s.memory number request }) =
+    let run : after_executing number i s ≡ (record { core = goes_on core i.rd ((low_bytes width reply + 2 ^ (8 * width) * 0) % 2 ^ 64); memory = memory_after s.memory number request }) =
     ap (λ c. after_all_requests number (record s { core = c })) (store_conditional-effect is_name i s.core)
     ∙ atomic-run number here width request (to_register i width false) s.core s.memory here_aligned here_there in
     subst (λ (after : CoreInMemory). Conditions number i.rd width value addr stores s after) (sym run) (record {

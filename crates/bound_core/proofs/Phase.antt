@@ -11,7 +11,7 @@ use Rattle.elf_load.specs.MemoryImage.{MemoryImage}
 use Rattle.rv_core.specs.declared.why.Why.{Why}
 use Rattle.bound_core.specs.Laws.{moved, with_core, AnswersAsWorld}
 use Rattle.bound_core.specs.ReferenceMachine.{BoundState, access_served, and_then, at_end, bound_from, legal_at, turn, turn_at}
-use Rattle.bound_core.specs.Timed.{TimedCore, after_access, asks, goes_on_alone, ran_to}
+use Rattle.bound_core.specs.Timed.{TimedCore, asks, core_after_access, goes_on_alone, ran_to}
 use Rattle.bound_core.specs.Turn.{IsOver, TakesTurn, TurnsToEnd}
 use Rattle.bound_core.proofs.Lists.{all_head, all_tail, get_set, map_again, set_again, set_same}
 use Rattle.bound_core.proofs.Instructions.{late_stops, ran_again, ran_stays}
@@ -33,7 +33,7 @@ module _ {World : Type 0} (serve : World → (core start : ℕ) → Request → 
       → at_end image end (access_served serve time image end s number c answer) ≡ at_end image end (access_served serve time image end (at_end image end s) number c answer)
   served_ended s number c answer =
       let again = map_again (ran_to image end) (ran_again image end) s.cores in
-      rw (map-set (ran_to image end) s.cores number (after_access time answer.0 c), map-set (ran_to image end) (map (ran_to image end) s.cores) number (after_access time answer.0 c), again) refl
+      rw (map-set (ran_to image end) s.cores number (core_after_access time answer.0 c), map-set (ran_to image end) (map (ran_to image end) s.cores) number (core_after_access time answer.0 c), again) refl
 
   -- what follows is the same
   abbrev Follows : List ℕ → Type 0

@@ -7,9 +7,9 @@ use Rattle.std.proofs.lemmas.Option.{get_or_from_slice_get, same_Some, slice_get
 use Rattle.zs_num.specs.declared.entry.Entry.{Entry}
 use Rattle.zs_num.specs.declared.request.Request.{Request}
 use Rattle.elf_load.specs.MemoryImage.{MemoryImage}
-use Rattle.shard.specs.Served.{ShardState, met_by, reply_of}
+use Rattle.shard.specs.Served.{ShardState, met_by, shard_reply}
 use Rattle.bound_core.specs.ReferenceMachine.{BoundState, are_done, at_end, bound_from, turn}
-use Rattle.bound_core.specs.ShardWorld.{ShardWorld, no_shard, number_for, recorded, serve, shard_for}
+use Rattle.bound_core.specs.ShardWorld.{ShardWorld, no_shard, number_for, recorded_by_shard, shard_for, shards_serve}
 use Rattle.bound_core.specs.Timed.{TimedCore, asks, ran_to}
 use Rattle.bound_core.proofs.Histories.{Follows, IsReady, is_there, left, next_left, next_ready, none_left, whole_follows}
 use Rattle.bound_core.proofs.HistoryTurn.{IsNext, next, takes_next}
@@ -27,11 +27,11 @@ module _ (time : Entry → ℕ) (image : MemoryImage) (end : ℕ) where
   module _ (s : BoundState ShardWorld) (ready : IsReady s) where
     -- the entry that the shard gives
     abbrev given : (number : ℕ) → TimedCore → Request → Entry
-    given number c request = recorded (shard_for s.world.shards request) (slice_index s.world.stamps number) number (ran_to image end c).clock request
+    given number c request = recorded_by_shard (shard_for s.world.shards request) (slice_index s.world.stamps number) number (ran_to image end c).clock request
 
     given_next : (number : ℕ) (c : TimedCore) (request : Request) (shard : ShardState) → slice_get s.cores number ≡ Some c → asks (ran_to image end c) ≡ Some request
         → slice_get s.world.shards (number_for s.world.shards request) ≡ Some shard → IsNext time image end s (given number c request) c shard
-    unfolding reply_of met_by
+    unfolding shard_reply met_by
     given_next number c request shard here asked there =
         let found : shard_for s.world.shards request ≡ shard = get_or_from_slice_get s.world.shards (number_for s.world.shards request) shard no_shard there in
         record {
@@ -39,13 +39,13 @@ module _ (time : Entry → ℕ) (image : MemoryImage) (end : ℕ) where
           bank = there;
           asked = asked;
           start = refl;
-          reply = ap (λ (x : ShardState). reply_of x (given number c request)) found;
+          reply = ap (λ (x : ShardState). shard_reply x (given number c request)) found;
           outcome = ap (λ (x : ShardState). met_by x (given number c request)) found;
           stamp = ap (λ (x : ShardState). max x.last (slice_index s.world.stamps number) + 1) found;
         }
 
     took_asked : (number : ℕ) (c : TimedCore) (request : Request) (t : BoundState ShardWorld) → slice_get s.cores number ≡ Some c → asks (ran_to image end c) ≡ Some request
-        → turn serve time image end s number ≡ Some t → Took s t number
+        → turn shards_serve time image end s number ≡ Some t → Took s t number
     took_asked number c request t here asked turned =
         let shard = is_there s.world.shards (number_for s.world.shards request) (omega (arith, ready.some)) in
         let e : Entry = given number c request in
@@ -60,15 +60,15 @@ module _ (time : Entry → ℕ) (image : MemoryImage) (end : ℕ) where
         }
 
     took_by : (number : ℕ) (c : TimedCore) (request : Option Request) (t : BoundState ShardWorld) → slice_get s.cores number ≡ Some c → asks (ran_to image end c) ≡ request
-        → turn serve time image end s number ≡ Some t → Took s t number
+        → turn shards_serve time image end s number ≡ Some t → Took s t number
     took_by number c None t here asked turned =
-        let none : turn serve time image end s number ≡ None = rw (here, asked) refl in cc
+        let none : turn shards_serve time image end s number ≡ None = rw (here, asked) refl in cc
     took_by number c (Some request) t here asked turned = took_asked number c request t here asked turned
 
     took_at : (number : ℕ) (found : Option TimedCore) (t : BoundState ShardWorld) → slice_get s.cores number ≡ found
-        → turn serve time image end s number ≡ Some t → Took s t number
+        → turn shards_serve time image end s number ≡ Some t → Took s t number
     took_at number None t here turned =
-        let none : turn serve time image end s number ≡ None = rw here refl in cc
+        let none : turn shards_serve time image end s number ≡ None = rw here refl in cc
     took_at number (Some c) t here turned = took_by number c (asks (ran_to image end c)) t here refl turned
 
   -- ---- all turns
@@ -95,7 +95,7 @@ module _ (time : Entry → ℕ) (image : MemoryImage) (end : ℕ) where
     pub numbers_are : numbers ≡ map (λ e. e.core) entries
     pub leaves : t ≡ left time image end s entries
 
-  ended : (s t : BoundState ShardWorld) (place : ℕ) (done : Bool) → are_done image end s ≡ done → bound_from serve time image end place [] s ≡ Ok t → HasHistory s t []
+  ended : (s t : BoundState ShardWorld) (place : ℕ) (done : Bool) → are_done image end s ≡ done → bound_from shards_serve time image end place [] s ≡ Ok t → HasHistory s t []
   ended s t place true done phase =
       let to : at_end image end s ≡ t = let whole : Ok (at_end image end s) ≡ Ok t = (rw done at phase) in cc in
       record {
@@ -120,18 +120,18 @@ module _ (time : Entry → ℕ) (image : MemoryImage) (end : ℕ) where
       }
 
   -- by whether the core had a turn
-  turn_took : (s t : BoundState ShardWorld) (number : ℕ) (numbers : List ℕ) (place : ℕ) → IsReady s → (turned : Option (BoundState ShardWorld)) → turn serve time image end s number ≡ turned
-      → bound_from serve time image end place (number ∷ numbers) s ≡ Ok t
-      → (then : BoundState ShardWorld) × Took s then number × (bound_from serve time image end (place + 1) numbers then ≡ Ok t)
+  turn_took : (s t : BoundState ShardWorld) (number : ℕ) (numbers : List ℕ) (place : ℕ) → IsReady s → (turned : Option (BoundState ShardWorld)) → turn shards_serve time image end s number ≡ turned
+      → bound_from shards_serve time image end place (number ∷ numbers) s ≡ Ok t
+      → (then : BoundState ShardWorld) × Took s then number × (bound_from shards_serve time image end (place + 1) numbers then ≡ Ok t)
   turn_took s t number numbers place ready None is phase =
       let not : Err place ≡ Ok t = (rw is at phase) in cc
   turn_took s t number numbers place ready (Some then) is phase =
       (then, took_at s ready number (slice_get s.cores number) then refl is, (rw is at phase))
 
-  pub phase_has_history : (numbers : List ℕ) (s t : BoundState ShardWorld) (place : ℕ) → IsReady s → bound_from serve time image end place numbers s ≡ Ok t → HasHistory s t numbers
+  pub phase_has_history : (numbers : List ℕ) (s t : BoundState ShardWorld) (place : ℕ) → IsReady s → bound_from shards_serve time image end place numbers s ≡ Ok t → HasHistory s t numbers
   phase_has_history [] s t place ready phase = ended s t place (are_done image end s) refl phase
   phase_has_history (number ∷ numbers) s t place ready phase =
-      let k = turn_took s t number numbers place ready (turn serve time image end s number) refl phase in
+      let k = turn_took s t number numbers place ready (turn shards_serve time image end s number) refl phase in
       let first = next time image end s k.1.entry k.1.core k.1.shard in
-      let rest : bound_from serve time image end (place + 1) numbers first ≡ Ok t = ap (bound_from serve time image end (place + 1) numbers) (sym k.1.to) ∙ k.2 in
+      let rest : bound_from shards_serve time image end (place + 1) numbers first ≡ Ok t = ap (bound_from shards_serve time image end (place + 1) numbers) (sym k.1.to) ∙ k.2 in
       one_more s k.0 t number numbers ready k.1 (phase_has_history numbers first t (place + 1) (next_ready time image end s ready k.1.entry k.1.core k.1.shard) rest)

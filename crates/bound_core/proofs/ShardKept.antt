@@ -9,8 +9,8 @@ use Rattle.zs_num.specs.declared.request.Request.TheVariants.{Load, Store, Lr, S
 use Rattle.flat_memory.specs.declared.reservation.Reservation.{Reservation}
 use Rattle.flat_memory.specs.FlatMemory.{after_write, unless_written}
 use Rattle.shard.specs.Marks.{does_store, marks_after}
-use Rattle.shard.specs.Served.{ShardState, after, met_by, reply_of}
-use Rattle.bound_core.specs.ShardWorld.{recorded}
+use Rattle.shard.specs.Served.{ShardState, met_by, shard_after, shard_reply}
+use Rattle.bound_core.specs.ShardWorld.{recorded_by_shard}
 
 length-after_write : (core addr : ℕ) (marks : List (Option Reservation)) → length (after_write core addr marks) ≡ length marks
 unfolding after_write
@@ -31,19 +31,19 @@ length-marks_after marks core (Sc addr width value paired) =
 length-marks_after marks core (Amo op addr width value) = length-after_write core addr marks
 
 module _ (shard : ShardState) (e : Entry) where
-  pub marks_kept : length (after shard e).marks ≡ length shard.marks
-  unfolding after
+  pub marks_kept : length (shard_after shard e).marks ≡ length shard.marks
+  unfolding shard_after
   marks_kept = length-marks_after shard.marks e.core e.request
 
-  pub size_kept : (after shard e).size ≡ shard.size
-  unfolding after
+  pub size_kept : (shard_after shard e).size ≡ shard.size
+  unfolding shard_after
   size_kept = refl
 
 module _ (shard : ShardState) (latest core start : ℕ) (request : Request) where
-  pub recorded_reply : reply_of shard (recorded shard latest core start request) ≡ (recorded shard latest core start request).reply
-  unfolding reply_of
+  pub recorded_reply : shard_reply shard (recorded_by_shard shard latest core start request) ≡ (recorded_by_shard shard latest core start request).reply
+  unfolding shard_reply
   recorded_reply = refl
 
-  pub recorded_outcome : met_by shard (recorded shard latest core start request) ≡ (recorded shard latest core start request).outcome
+  pub recorded_outcome : met_by shard (recorded_by_shard shard latest core start request) ≡ (recorded_by_shard shard latest core start request).outcome
   unfolding met_by
   recorded_outcome = refl

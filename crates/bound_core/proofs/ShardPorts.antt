@@ -7,10 +7,10 @@ use Rattle.std.proofs.lemmas.List.{get_or_default, length-map, map-set}
 use Rattle.zs_num.specs.Request.{IsServable, line_of}
 use Rattle.zs_num.specs.declared.entry.Entry.{Entry}
 use Rattle.zs_num.specs.declared.request.Request.{Request}
-use Rattle.shard.specs.Served.{CanServe, IsServedBy, ShardState, after}
+use Rattle.shard.specs.Served.{CanServe, IsServedBy, ShardState, shard_after}
 use Rattle.access_log.specs.History.{bank_of}
 use Rattle.bound_core.specs.ShardPort.{AreShardsOf, IsShardAt, IsShardPort, ShardPortState, base_in, base_of, greatest, greatest_stamp, room_of, size_in, size_of}
-use Rattle.bound_core.specs.ShardWorld.{ShardWorld, no_shard, number_for, recorded, restarted, serve, shard_for}
+use Rattle.bound_core.specs.ShardWorld.{ShardWorld, no_shard, number_for, recorded_by_shard, restarted, shard_for, shards_serve}
 use Rattle.bound_core.proofs.HistoryTurn.{recorded_is}
 
 -- ---- lists
@@ -52,7 +52,7 @@ shards_set cores base size n shards shard are one = record {
 }
 
 -- their memory is that of the first
-own_memory : (cores base size : ℕ) (shards : List ShardState) → AreShardsOf cores shards base size → (base_in shards ≡ base) × (size_in shards ≡ size)
+pub own_memory : (cores base size : ℕ) (shards : List ShardState) → AreShardsOf cores shards base size → (base_in shards ≡ base) × (size_in shards ≡ size)
 own_memory cores base size shards are =
     let first = are.each 0 (slice_index_or shards 0 no_shard) (slice_get-get_or shards 0 no_shard are.some) in (first.base_is, first.size_is)
 
@@ -142,19 +142,19 @@ module _ (w : ShardWorld) (core start : ℕ) (request : Request) where
 
   -- what the shard answers is what the world does
   pub served_is : (entry : Entry) (left : ShardState) → IsServedBy (shard_for w.shards request) core start (slice_index w.stamps core) request entry
-      → left ≡ after (shard_for w.shards request) entry
-      → (entry, record { shards = slice_set w.shards n left; stamps = slice_set w.stamps core entry.stamp }) ≡ serve w core start request
-  unfolding serve
+      → left ≡ shard_after (shard_for w.shards request) entry
+      → (entry, record { shards = slice_set w.shards n left; stamps = slice_set w.stamps core entry.stamp }) ≡ shards_serve w core start request
+  unfolding shards_serve
   served_is entry left served is =
       let shard = shard_for w.shards request in
       let latest = slice_index w.stamps core in
-      let same : recorded shard latest core start request ≡ entry =
-      ap (λ (c : ℕ). recorded shard latest c start request) (sym served.core_is)
-      ∙ (ap (λ (t : ℕ). recorded shard latest entry.core t request) (sym served.start_is)
-      ∙ (ap (λ (r : Request). recorded shard latest entry.core entry.start r) (sym served.request_is)
+      let same : recorded_by_shard shard latest core start request ≡ entry =
+      ap (λ (c : ℕ). recorded_by_shard shard latest c start request) (sym served.core_is)
+      ∙ (ap (λ (t : ℕ). recorded_by_shard shard latest entry.core t request) (sym served.start_is)
+      ∙ (ap (λ (r : Request). recorded_by_shard shard latest entry.core entry.start r) (sym served.request_is)
       ∙ recorded_is shard latest entry served.stamp served.reply served.outcome))
       in
-      ap (λ (s : ShardState). answered entry s) is ∙ ap (λ (e : Entry). answered e (after shard e)) (sym same)
+      ap (λ (s : ShardState). answered entry s) is ∙ ap (λ (e : Entry). answered e (shard_after shard e)) (sym same)
 
   -- the greatest stamp grows by one at most
   pub greatest_after : (entry : Entry) (left : ShardState) → 0 < length w.shards → IsServedBy (shard_for w.shards request) core start (slice_index w.stamps core) request entry → left.last ≡ entry.stamp

@@ -10,7 +10,7 @@ use Rattle.zs_num.specs.declared.entry.Outcome.{Outcome}
 use Rattle.zs_num.specs.declared.request.Request.{Request}
 use Rattle.elf_load.specs.MemoryImage.{MemoryImage}
 use Rattle.rv_core.specs.CoreState.{CoreState, InProgress}
-use Rattle.rv_core.specs.Sound.{IsSound}
+use Rattle.rv_core.specs.Sound.{IsSoundCore}
 use Rattle.rv_core.specs.Step.{answered}
 use Rattle.rv_core.specs.Pairing as core
 use Rattle.flat_memory.specs.declared.reservation.Reservation.{Reservation}
@@ -19,17 +19,17 @@ use Rattle.shard.specs.Coherence.{Caches, outcome_of}
 use Rattle.shard.specs.Coherence as caches
 use Rattle.shard.specs.Laws.{MarksAreReservations, ShardsStandForAMachine}
 use Rattle.shard.specs.Marks.{MarkedMemory, marked_after, marked_reply, pairing_after, pairing_of, pairings_after}
-use Rattle.shard.specs.Served.{ShardState, after, met_by, reply_of}
+use Rattle.shard.specs.Served.{ShardState, met_by, shard_after, shard_reply}
 use Rattle.shard.specs.StandsFor.{StandFor, flat_for}
 use Rattle.access_log.specs.History.{bank_of}
 use Rattle.access_log.specs.RecordedOrder.{next_stamp}
-use Rattle.bound_core.specs.MachineOfShards.{IsCoreOf, StandForMachine, bytes_of, pairings_of}
+use Rattle.bound_core.specs.MachineOfShards.{IsCoreOf, StandForMachine, paired_bytes, pairings_of}
 use Rattle.bound_core.specs.MachineWorld as machine
 use Rattle.bound_core.specs.MachineWorld.{MachineWorld, bank_for}
 use Rattle.bound_core.specs.ReferenceMachine.{BoundState, bound_from}
 use Rattle.bound_core.specs.Simulation.{AreRelated, EndAlike}
-use Rattle.bound_core.specs.ShardWorld.{ShardWorld, no_shard, number_for, recorded, serve}
-use Rattle.bound_core.specs.Timed.{TimedCore, after_access, asks, ran_to}
+use Rattle.bound_core.specs.ShardWorld.{ShardWorld, no_shard, number_for, recorded_by_shard, shards_serve}
+use Rattle.bound_core.specs.Timed.{TimedCore, asks, core_after_access, ran_to}
 use Rattle.bound_core.proofs.CoreKept.{CoreLaws, StaysSound, ran_stays_sound, waits_for}
 use Rattle.bound_core.proofs.Histories.{after_last, is_there}
 use Rattle.bound_core.proofs.HistoryTurn.{last_at}
@@ -38,15 +38,15 @@ use Rattle.bound_core.proofs.Pairings.{bytes_after, pairing_at, right_as}
 use Rattle.bound_core.proofs.Simulation.{KeptByTurns, same_phases}
 use Rattle.bound_core.proofs.ShardKept.{marks_kept, recorded_outcome, recorded_reply, size_kept}
 
-core_after : (time : Entry → ℕ) (e : Entry) (c : TimedCore) → (after_access time e c).core ≡ answered e.reply c.core
-unfolding after_access
+core_after : (time : Entry → ℕ) (e : Entry) (c : TimedCore) → (core_after_access time e c).core ≡ answered e.reply c.core
+unfolding core_after_access
 core_after time e c = refl
 
 same_head : {A : Type 0} (x y : A) (xs ys : List A) → x ∷ xs ≡ y ∷ ys → x ≡ y
 same_head x y xs ys same = cc
 
 -- of a core that waits for an access of a sound instruction
-module _ (laws : CoreLaws) (c : CoreState) (sound : IsSound c) (now : InProgress) (is : c.instruction ≡ Some now) where
+module _ (laws : CoreLaws) (c : CoreState) (sound : IsSoundCore c) (now : InProgress) (is : c.instruction ≡ Some now) where
   pub waits_right : core.IsPairedRight c.pairing now.next
   waits_right = laws.paired_right c now sound is
 
@@ -93,7 +93,7 @@ module _ (laws : CoreLaws) (step : ShardsStandForAMachine) (marks_law : MarksAre
 
   -- the entry
   abbrev pub e : Entry
-  e = recorded shard (slice_index w.stamps number) number ran.clock request
+  e = recorded_by_shard shard (slice_index w.stamps number) number ran.clock request
 
   own_number : shard.number ≡ place
   own_number = r.stand.are.number place shard there.1
@@ -108,23 +108,23 @@ module _ (laws : CoreLaws) (step : ShardsStandForAMachine) (marks_law : MarksAre
   core_in_caches : number < length m.caches.l1
   core_in_caches = let known = (r.stand.cores place shard there.1).1 in omega (arith, within, known, marks_here)
 
-  stepped : (reply_of shard e ≡ marked_reply r.memory number request) × (met_by shard e ≡ outcome_of m.caches number request)
-      × StandFor (slice_set w.shards shard.number (after shard e)) (marked_after r.memory number request) (caches.after_access m.caches number request)
+  stepped : (shard_reply shard e ≡ marked_reply r.memory number request) × (met_by shard e ≡ outcome_of m.caches number request)
+      × StandFor (slice_set w.shards shard.number (shard_after shard e)) (marked_after r.memory number request) (caches.caches_after m.caches number request)
   stepped = step w.shards r.memory m.caches shard e r.stand there.1 servable core_in_caches
 
   abbrev pub pairings : List (Option Reservation)
   pairings = pairings_of cores
 
-  pairing_here : pairing_of pairings number ≡ bytes_of c.core.pairing
+  pairing_here : pairing_of pairings number ≡ paired_bytes c.core.pairing
   pairing_here = pairing_at cores number c here
 
   all_marks : (shards : List ShardState) (n : ℕ) → All (λ x. length x.marks ≡ n) shards → All (λ marks. length marks ≡ n) (map (λ x. x.marks) shards)
   all_marks shards n all = All-map (λ (marks : List (Option Reservation)). length marks ≡ n) (λ (x : ShardState). x.marks) shards all
 
-  marked : (marked_reply r.memory number request ≡ flat.reply_of (flat_for r.memory pairings) number request)
-      × (flat_for (marked_after r.memory number request) (pairings_after pairings number request) ≡ flat.after (flat_for r.memory pairings) number request)
+  marked : (marked_reply r.memory number request ≡ flat.memory_reply (flat_for r.memory pairings) number request)
+      × (flat_for (marked_after r.memory number request) (pairings_after pairings number request) ≡ flat.memory_after (flat_for r.memory pairings) number request)
   marked =
-      let paired : length pairings ≡ length cores = length-map cores (λ (x : TimedCore). bytes_of x.core.pairing) in
+      let paired : length pairings ≡ length cores = length-map cores (λ (x : TimedCore). paired_bytes x.core.pairing) in
       let lists : length r.memory.marks ≡ length w.shards = ap length r.stand.marks ∙ length-map w.shards (λ (x : ShardState). x.marks) in
       let each : All (λ marks. length marks ≡ length pairings) r.memory.marks =
       subst (λ (n : ℕ). All (λ (marks : List (Option Reservation)). length marks ≡ n) r.memory.marks) (sym paired)
@@ -137,11 +137,11 @@ module _ (laws : CoreLaws) (step : ShardsStandForAMachine) (marks_law : MarksAre
       let own = waits_right laws ran.core stays.sound waiting.0 waiting.1 in
       let right = right_as c.core.pairing request (subst (core.IsPairedRight c.core.pairing) waiting.2 (subst (λ (p : _). core.IsPairedRight p waiting.0.next) stays.pairing own)) in
       let ours = marks_law r.memory pairings ((number, request) ∷ []) (omega (arith, lists, r.some)) each one (rw pairing_here right, tt) in
-      (same_head (marked_reply r.memory number request) (flat.reply_of (flat_for r.memory pairings) number request) [] [] ours.0, ours.1)
+      (same_head (marked_reply r.memory number request) (flat.memory_reply (flat_for r.memory pairings) number request) [] [] ours.0, ours.1)
 
-  replied : flat.reply_of m.memory number request ≡ e.reply
+  replied : flat.memory_reply m.memory number request ≡ e.reply
   replied =
-      ap (λ (memory : flat.MemoryState). flat.reply_of memory number request) r.flat ∙ sym marked.0 ∙ sym stepped.0
+      ap (λ (memory : flat.MemoryState). flat.memory_reply memory number request) r.flat ∙ sym marked.0 ∙ sym stepped.0
       ∙ recorded_reply shard (slice_index w.stamps number) number ran.clock request
 
   met : outcome_of m.caches number request ≡ e.outcome
@@ -159,17 +159,17 @@ module _ (laws : CoreLaws) (step : ShardsStandForAMachine) (marks_law : MarksAre
   -- ---- the answers of both
 
   abbrev pub w_after : ShardWorld
-  w_after = record { shards = slice_set w.shards place (after shard e); stamps = slice_set w.stamps number e.stamp }
+  w_after = record { shards = slice_set w.shards place (shard_after shard e); stamps = slice_set w.stamps number e.stamp }
 
   abbrev pub m_after : MachineWorld
   m_after = record {
-    memory = flat.after m.memory number request;
-    caches = caches.after_access m.caches number request;
+    memory = flat.memory_after m.memory number request;
+    caches = caches.caches_after m.caches number request;
     stamps = record { banks = slice_set m.stamps.banks (bank_for m request) e.stamp; cores = slice_set m.stamps.cores number e.stamp };
   }
 
-  pub shards_answer : serve w number ran.clock request ≡ (e, w_after)
-  unfolding serve
+  pub shards_answer : shards_serve w number ran.clock request ≡ (e, w_after)
+  unfolding shards_serve
   shards_answer = rw (get_or_from_slice_get w.shards place shard no_shard there.1) refl
 
   abbrev pub made : (stamp reply : ℕ) → Outcome → Entry
@@ -177,7 +177,7 @@ module _ (laws : CoreLaws) (step : ShardsStandForAMachine) (marks_law : MarksAre
 
   machine_entry : machine.recorded m number ran.clock request ≡ e
   machine_entry =
-      ap (λ (stamp : ℕ). made stamp (flat.reply_of m.memory number request) (outcome_of m.caches number request)) stamped
+      ap (λ (stamp : ℕ). made stamp (flat.memory_reply m.memory number request) (outcome_of m.caches number request)) stamped
       ∙ ap (λ (reply : ℕ). made e.stamp reply (outcome_of m.caches number request)) replied
       ∙ ap (λ (outcome : Outcome). made e.stamp e.reply outcome) met
 
@@ -187,8 +187,8 @@ module _ (laws : CoreLaws) (step : ShardsStandForAMachine) (marks_law : MarksAre
       let with_entry : Entry → Entry × MachineWorld = λ x. (
         x,
         record {
-          memory = flat.after m.memory number request;
-          caches = caches.after_access m.caches number request;
+          memory = flat.memory_after m.memory number request;
+          caches = caches.caches_after m.caches number request;
           stamps = record { banks = slice_set m.stamps.banks (bank_for m request) x.stamp; cores = slice_set m.stamps.cores number x.stamp };
         },
       ) in
@@ -197,46 +197,46 @@ module _ (laws : CoreLaws) (step : ShardsStandForAMachine) (marks_law : MarksAre
   -- ---- what they leave
 
   abbrev pub c_after : TimedCore
-  c_after = after_access time e ran
+  c_after = core_after_access time e ran
 
   abbrev pub cores_after : List TimedCore
   cores_after = slice_set cores number c_after
 
-  abbrev pub memory_after : MarkedMemory
-  memory_after = marked_after r.memory number request
+  abbrev pub marked_left : MarkedMemory
+  marked_left = marked_after r.memory number request
 
-  stand_after : StandFor w_after.shards memory_after m_after.caches
-  stand_after = subst (λ (n : ℕ). StandFor (slice_set w.shards n (after shard e)) memory_after m_after.caches) own_number stepped.2
+  stand_after : StandFor w_after.shards marked_left m_after.caches
+  stand_after = subst (λ (n : ℕ). StandFor (slice_set w.shards n (shard_after shard e)) marked_left m_after.caches) own_number stepped.2
 
-  pairing_left : bytes_of c_after.core.pairing ≡ pairing_after (pairing_of pairings number) request
+  pairing_left : paired_bytes c_after.core.pairing ≡ pairing_after (pairing_of pairings number) request
   pairing_left =
-      ap (λ (core : CoreState). bytes_of core.pairing) (core_after time e ran)
-      ∙ ap bytes_of (laws.answered_pairing e.reply ran.core waiting.0 stays.sound waiting.1)
-      ∙ ap (λ (x : Request). bytes_of (core.pairing_after ran.core.pairing x)) waiting.2
+      ap (λ (core : CoreState). paired_bytes core.pairing) (core_after time e ran)
+      ∙ ap paired_bytes (laws.answered_pairing e.reply ran.core waiting.0 stays.sound waiting.1)
+      ∙ ap (λ (x : Request). paired_bytes (core.pairing_after ran.core.pairing x)) waiting.2
       ∙ bytes_after ran.core.pairing request
-      ∙ ap (λ (x : _). pairing_after (bytes_of x) request) stays.pairing
+      ∙ ap (λ (x : _). pairing_after (paired_bytes x) request) stays.pairing
       ∙ ap (λ (x : Option Reservation). pairing_after x request) (sym pairing_here)
 
   pairings_left : pairings_after pairings number request ≡ pairings_of cores_after
   pairings_left =
       ap (λ (x : Option Reservation). slice_set pairings number x) (sym pairing_left)
-      ∙ sym (map-set (λ (x : TimedCore). bytes_of x.core.pairing) cores number c_after)
+      ∙ sym (map-set (λ (x : TimedCore). paired_bytes x.core.pairing) cores number c_after)
 
-  flat_after : m_after.memory ≡ flat_for memory_after (pairings_of cores_after)
+  flat_after : m_after.memory ≡ flat_for marked_left (pairings_of cores_after)
   flat_after =
-      ap (λ (memory : flat.MemoryState). flat.after memory number request) r.flat ∙ sym marked.1 ∙ ap (flat_for memory_after) pairings_left
+      ap (λ (memory : flat.MemoryState). flat.memory_after memory number request) r.flat ∙ sym marked.1 ∙ ap (flat_for marked_left) pairings_left
 
-  same_size : length memory_after.bytes ≡ length r.memory.bytes
+  same_size : length marked_left.bytes ≡ length r.memory.bytes
   same_size =
-      let at : slice_get w_after.shards place ≡ Some (after shard e) = get_set w.shards place shard (after shard e) there.1 in
-      sym (stand_after.are.size place (after shard e) at) ∙ size_kept shard e ∙ r.stand.are.size place shard there.1
+      let at : slice_get w_after.shards place ≡ Some (shard_after shard e) = get_set w.shards place shard (shard_after shard e) there.1 in
+      sym (stand_after.are.size place (shard_after shard e) at) ∙ size_kept shard e ∙ r.stand.are.size place shard there.1
 
   core_left : IsCoreOf r.memory.base (length r.memory.bytes) c_after
   core_left =
       let is : c_after.core ≡ answered e.reply ran.core = core_after time e ran in
       let memory = ap (λ (core : CoreState). core.memory) is ∙ laws.answered_memory e.reply ran.core stays.sound ∙ stays.memory in
       record {
-        sound = subst IsSound (sym is) (laws.answered_sound e.reply ran.core stays.sound);
+        sound = subst IsSoundCore (sym is) (laws.answered_sound e.reply ran.core stays.sound);
         base_is = ap (λ (x : _). x.base) memory ∙ is_core.base_is;
         size_is = ap (λ (x : _). x.size) memory ∙ is_core.size_is;
       }
@@ -244,21 +244,21 @@ module _ (laws : CoreLaws) (step : ShardsStandForAMachine) (marks_law : MarksAre
   pub stands_after : StandForMachine cores_after w_after m_after
   stands_after =
       let many : length cores_after ≡ length cores = length-set cores number c_after in
-      let known : All (λ x. length x.marks ≡ length cores) w_after.shards = All-set (λ (x : ShardState). length x.marks ≡ length cores) w.shards place (after shard e) (marks_kept shard e ∙ marks_here) r.cores_known in
+      let known : All (λ x. length x.marks ≡ length cores) w_after.shards = All-set (λ (x : ShardState). length x.marks ≡ length cores) w.shards place (shard_after shard e) (marks_kept shard e ∙ marks_here) r.cores_known in
       let are : All (IsCoreOf r.memory.base (length r.memory.bytes)) cores_after = All-set (IsCoreOf r.memory.base (length r.memory.bytes)) cores number c_after core_left r.cores_are in
-      let last : (after shard e).last ≡ e.stamp = after_last shard e in
+      let last : (shard_after shard e).last ≡ e.stamp = after_last shard e in
       record {
-        memory = memory_after;
+        memory = marked_left;
         stand = stand_after;
         flat = flat_after;
-        some = omega (arith, length-set w.shards place (after shard e), r.some);
+        some = omega (arith, length-set w.shards place (shard_after shard e), r.some);
         cores_known = subst (λ (n : ℕ). All (λ (x : ShardState). length x.marks ≡ n) w_after.shards) (sym many) known;
         cores_are = subst (λ (n : ℕ). All (IsCoreOf r.memory.base n) cores_after) (sym same_size) are;
         banks_stamped =
             ap (λ (n : ℕ). slice_set m.stamps.banks n e.stamp) same_bank
             ∙ ap (λ (banks : List ℕ). slice_set banks place e.stamp) r.banks_stamped
             ∙ ap (λ (n : ℕ). slice_set (map (λ (x : ShardState). x.last) w.shards) place n) (sym last)
-            ∙ sym (map-set (λ (x : ShardState). x.last) w.shards place (after shard e));
+            ∙ sym (map-set (λ (x : ShardState). x.last) w.shards place (shard_after shard e));
         cores_stamped = ap (λ (stamps : List ℕ). slice_set stamps number e.stamp) r.cores_stamped;
       }
 
@@ -294,13 +294,13 @@ module _ (laws : CoreLaws) (image : MemoryImage) (end : ℕ) where
 -- ---- whole bound phases
 
 module _ (laws : CoreLaws) (step : ShardsStandForAMachine) (marks_law : MarksAreReservations) (time : Entry → ℕ) (image : MemoryImage) (end : ℕ) where
-  kept_by_turns : KeptByTurns StandForMachine serve machine.serve time image end
+  kept_by_turns : KeptByTurns StandForMachine shards_serve machine.serve time image end
   kept_by_turns cores w m number c request r here asked answer is =
       let both = shards_answer laws step marks_law time image end cores w m r number c here request asked in
       let after_both = w_after laws step marks_law time image end cores w m r number c here request asked in
       let given = e laws step marks_law time image end cores w m r number c here request asked in
       subst
-      (λ (a : Entry × ShardWorld). (v : MachineWorld) × (machine.serve m number (ran_to image end c).clock request ≡ (a.0, v)) × StandForMachine (slice_set cores number (after_access time a.0 (ran_to image end c))) a.1 v)
+      (λ (a : Entry × ShardWorld). (v : MachineWorld) × (machine.serve m number (ran_to image end c).clock request ≡ (a.0, v)) × StandForMachine (slice_set cores number (core_after_access time a.0 (ran_to image end c))) a.1 v)
       (sym (is ∙ both)) (
         m_after laws step marks_law time image end cores w m r number c here request asked,
         machine_answers laws step marks_law time image end cores w m r number c here request asked,
@@ -308,6 +308,6 @@ module _ (laws : CoreLaws) (step : ShardsStandForAMachine) (marks_law : MarksAre
       )
 
   pub shards_do_as_machine : (s : BoundState ShardWorld) (t : BoundState MachineWorld) → AreRelated StandForMachine s t → (numbers : List ℕ) (place : ℕ)
-      → EndAlike StandForMachine (bound_from serve time image end place numbers s) (bound_from machine.serve time image end place numbers t)
+      → EndAlike StandForMachine (bound_from shards_serve time image end place numbers s) (bound_from machine.serve time image end place numbers t)
   shards_do_as_machine s t related numbers place =
-      same_phases StandForMachine serve machine.serve time image end kept_by_turns (stands_at_end laws image end) numbers place s t related
+      same_phases StandForMachine shards_serve machine.serve time image end kept_by_turns (stands_at_end laws image end) numbers place s t related

@@ -7,7 +7,7 @@ use Rattle.zs_num.specs.declared.request.Request.{Request}
 use Rattle.elf_load.specs.MemoryImage.{MemoryImage}
 use Rattle.bound_core.specs.ReferenceMachine.{BoundState, access_served, and_then, are_done, at_end, bound_from, legal_at, turn, turn_at}
 use Rattle.bound_core.specs.Simulation.{AreRelated, EndAlike}
-use Rattle.bound_core.specs.Timed.{TimedCore, after_access, asks, ran_to}
+use Rattle.bound_core.specs.Timed.{TimedCore, asks, core_after_access, ran_to}
 
 module _ {World Other : Type 0} (Related : List TimedCore → World → Other → Type 0) (serve : World → (core start : ℕ) → Request → Entry × World) (serve_other : Other → (core start : ℕ) → Request → Entry × Other) (time : Entry → ℕ) (image : MemoryImage) (end : ℕ) where
   -- To what a core asks both worlds answer the same, and they belong together after it.
@@ -16,7 +16,7 @@ module _ {World Other : Type 0} (Related : List TimedCore → World → Other �
       → Related cores w v → slice_get cores number ≡ Some c → asks (ran_to image end c) ≡ Some request
       → (answer : Entry × World) → answer ≡ serve w number (ran_to image end c).clock request
       → (v_after : Other) × (serve_other v number (ran_to image end c).clock request ≡ (answer.0, v_after))
-      × Related (slice_set cores number (after_access time answer.0 (ran_to image end c))) answer.1 v_after
+      × Related (slice_set cores number (core_after_access time answer.0 (ran_to image end c))) answer.1 v_after
 
   -- they belong together where each core ended its interval
   abbrev pub KeptByEnds : Type 0
@@ -38,7 +38,7 @@ module _ {World Other : Type 0} (Related : List TimedCore → World → Other �
         let k = turns s.cores s.world t.world number c request r.worlds here asked (serve s.world number (ran_to image end c).clock request) refl in
         let answer : Entry × World = serve s.world number (ran_to image end c).clock request in
         rw k.1 (record {
-          cores = ap (λ (cores : List TimedCore). slice_set cores number (after_access time answer.0 (ran_to image end c))) r.cores;
+          cores = ap (λ (cores : List TimedCore). slice_set cores number (core_after_access time answer.0 (ran_to image end c))) r.cores;
           entries = ap (λ (es : List Entry). es ++ answer.0 ∷ []) r.entries;
           worlds = k.2;
         })

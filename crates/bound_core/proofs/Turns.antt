@@ -5,10 +5,10 @@ use Rattle.zs_num.specs.declared.entry.Entry.{Entry}
 use Rattle.zs_num.specs.declared.request.Request.{Request}
 use Rattle.elf_load.specs.MemoryImage.{MemoryImage}
 use Rattle.rv_core.specs.CoreState.{InProgress}
-use Rattle.rv_core.specs.Sound.{IsSound}
+use Rattle.rv_core.specs.Sound.{IsSoundCore}
 use Rattle.rv_core.specs.Step.{answered}
 use Rattle.bound_core.specs.Port.{Gains}
-use Rattle.bound_core.specs.Timed.{TimedCore, after_access, asks, latest, left_of_instruction, most_accesses, next_request, ran_to}
+use Rattle.bound_core.specs.Timed.{TimedCore, asks, core_after_access, latest_clock, left_of_instruction, most_accesses, next_request, ran_to}
 use Rattle.bound_core.specs.Turn.{EndsInterval, RunsToEnd, TakesTurn, TurnsToEnd}
 use Rattle.bound_core.proofs.Accesses.{TakesAccess, left_answered, left_few, most_few}
 use Rattle.bound_core.proofs.Lists.{all_and_one, all_none}
@@ -24,14 +24,14 @@ asks_none None asked = refl
 asks_none (Some now) asked = cc
 
 -- the accesses of an interval are few, where a core at its end or past it stays as it is
-pub few_before : (end : ℕ) (before ran : TimedCore) → (end ≤ before.clock → ran ≡ before) → IsSound ran.core → most_accesses end before ≤ end - before.clock + 256
+pub few_before : (end : ℕ) (before ran : TimedCore) → (end ≤ before.clock → ran ≡ before) → IsSoundCore ran.core → most_accesses end before ≤ end - before.clock + 256
 few_before end before ran late sound =
     most_few end before (λ past.
     let same : left_of_instruction ran.core.instruction ≡ left_of_instruction before.core.instruction = ap (λ (c : TimedCore). left_of_instruction c.core.instruction) (late past) in
     omega (arith, same, left_few ran.core sound))
 
-after_core : (time : Entry → ℕ) (e : Entry) (c : TimedCore) → (after_access time e c).core ≡ answered e.reply c.core
-unfolding after_access
+after_core : (time : Entry → ℕ) (e : Entry) (c : TimedCore) → (core_after_access time e c).core ≡ answered e.reply c.core
+unfolding core_after_access
 after_core time e c = refl
 
 -- what the code of a turn knows of an access
@@ -39,9 +39,9 @@ pub record MakesAccess (time : Entry → ℕ) (end : ℕ) (before ran after : Ti
   pub begun : before.clock ≤ ran.clock
   pub within : ran.clock ≤ max before.clock end
   pub late : end ≤ before.clock → ran ≡ before
-  pub sound : IsSound ran.core
+  pub sound : IsSoundCore ran.core
   pub asked : asks ran ≡ Some request
-  pub left : after ≡ after_access time e ran
+  pub left : after ≡ core_after_access time e ran
   pub later : ran.clock < after.clock
   pub soon : after.clock ≤ ran.clock + 2 ^ 20
 
@@ -73,12 +73,12 @@ gains_more (Some before) middle after entries more one two =
 
 module _ {Port : Type 0} (time : Entry → ℕ) (image : MemoryImage) (end : ℕ) (gives : Port → (start : ℕ) → Request → Entry → Port → Type 0) where
   pub took : (port port_after : Port) (before ran after : TimedCore) (request : Request) (e : Entry) → ran ≡ ran_to image end before → asks ran ≡ Some request
-      → gives port ran.clock request e port_after → after ≡ after_access time e ran → TakesTurn time image end gives port port_after before after e
+      → gives port ran.clock request e port_after → after ≡ core_after_access time e ran → TakesTurn time image end gives port port_after before after e
   took port port_after before ran after request e is asked given left = record {
     request = request;
     asked = ap asks (sym is) ∙ asked;
     given = subst (λ (c : TimedCore). gives port c.clock request e port_after) is given;
-    left = left ∙ ap (after_access time e) is;
+    left = left ∙ ap (core_after_access time e) is;
   }
 
   -- the turns so far: with those that follow they are the turns of the whole interval
@@ -86,7 +86,7 @@ module _ {Port : Type 0} (time : Entry → ℕ) (image : MemoryImage) (end : ℕ
     pub entries : List Entry
     pub path : (rest : List Entry) (last : Port) (after : TimedCore) → TurnsToEnd time image end gives rest port last core after → TurnsToEnd time image end gives (entries ++ rest) first last before after
     pub cores : All (λ e. e.core ≡ number) entries
-    pub starts : All (λ e. e.start ≤ latest end before) entries
+    pub starts : All (λ e. e.start ≤ latest_clock end before) entries
     pub few : length entries + most_accesses end core ≤ most_accesses end before
     pub told_is : Gains (told first) entries (told port)
 
@@ -95,20 +95,20 @@ module _ {Port : Type 0} (time : Entry → ℕ) (image : MemoryImage) (end : ℕ
     entries = [];
     path = λ rest last after turns. turns;
     cores = all_none (λ e. e.core ≡ number);
-    starts = all_none (λ e. e.start ≤ latest end core);
+    starts = all_none (λ e. e.start ≤ latest_clock end core);
     few = omega arith;
     told_is = gains_nothing (told port);
   }
 
   pub one_more : (told : Port → Option (List Entry)) (number : ℕ) (first port next : Port) (before core later : TimedCore) (e : Entry) → HasTaken told number first port before core
-      → TakesTurn time image end gives port next core later e → e.core ≡ number → e.start ≤ latest end before → most_accesses end later < most_accesses end core → Gains (told port) (e ∷ []) (told next)
+      → TakesTurn time image end gives port next core later e → e.core ≡ number → e.start ≤ latest_clock end before → most_accesses end later < most_accesses end core → Gains (told port) (e ∷ []) (told next)
       → HasTaken told number first next before later
   one_more told number first port next before core later e h turn own start fewer gains = record {
     entries = h.entries ++ e ∷ [];
     path = λ rest last after turns.
         subst (λ all. TurnsToEnd time image end gives all first last before after) (sym (append_assoc h.entries (e ∷ []) rest)) (h.path (e ∷ rest) last after (next, (later, (turn, turns))));
     cores = all_and_one (λ e. e.core ≡ number) h.entries e h.cores own;
-    starts = all_and_one (λ e. e.start ≤ latest end before) h.entries e h.starts start;
+    starts = all_and_one (λ e. e.start ≤ latest_clock end before) h.entries e h.starts start;
     few = let longer : length (h.entries ++ e ∷ []) ≡ length h.entries + 1 = length-append h.entries (e ∷ []) in omega (arith, longer, h.few, fewer);
     told_is = gains_more (told first) (told port) (told next) h.entries (e ∷ []) h.told_is gains;
   }

@@ -6,10 +6,10 @@ use Rattle.std.proofs.lemmas.List.{get_or-set_other, get_or-set_same, length-set
 use Rattle.zs_num.specs.declared.request.Request.{Request}
 use Rattle.rv_decode.specs.declared.inst.Inst.{Inst}
 use Rattle.rv_decode.specs.declared.name.Name.{Name}
-use Rattle.flat_memory.specs.FlatMemory.{MemoryState, after, reply_of}
+use Rattle.flat_memory.specs.FlatMemory.{MemoryState, memory_after, memory_reply}
 use Rattle.rv_core.specs.Accesses.{is_in_memory, reply_to}
 use Rattle.rv_core.specs.CoreState.{CoreState, Ending, InProgress}
-use Rattle.rv_core.specs.Effect.{accesses, atomic, effect, ended, goes_on, goes_through, goes_to, load_reserved, loads, register, store_conditional, stores, written}
+use Rattle.rv_core.specs.Effect.{accesses, atomic, effect, ended, goes_on, goes_through, goes_to, load_reserved, loads, register, store_conditional, stores, with_register}
 use Rattle.rv_core.specs.Pairing.{pairing_after}
 use Rattle.rv_core.specs.Step.{answered, is_free, replies_with}
 use Rattle.bound_core.specs.InstructionLaws.{IsLoad, lb, lh, lw, ld, lbu, lhu, lwu, IsLoadReserved, lr_w, lr_d, IsStore, sb, sh, sw, sd, IsStoreConditional, sc_w, sc_d, after_all_requests}
@@ -28,7 +28,7 @@ same-core core e = ap (λ (instruction : Option InProgress). record core { instr
 
 -- ---- registers
 
-zero-is : (n value : ℕ) (registers : List ℕ) → slice_index registers 0 ≡ 0 → slice_index (written registers n value) 0 ≡ 0
+zero-is : (n value : ℕ) (registers : List ℕ) → slice_index registers 0 ≡ 0 → slice_index (with_register registers n value) 0 ≡ 0
 zero-is zero value registers is = is
 zero-is (suc n) value registers is =
     let other : (suc n == 0) ≡ false = search rules in
@@ -38,7 +38,7 @@ pub zero-stays : (core : CoreState) (rd value : ℕ) → register core 0 ≡ 0 �
 unfolding goes_to
 zero-stays core rd value is = zero-is rd value core.registers is
 
-length-is : (n value : ℕ) (registers : List ℕ) → length (written registers n value) ≡ length registers
+length-is : (n value : ℕ) (registers : List ℕ) → length (with_register registers n value) ≡ length registers
 length-is zero value registers = refl
 length-is (suc n) value registers = let other : (suc n == 0) ≡ false = search rules in rw other (length-set registers (suc n) value)
 
@@ -69,8 +69,8 @@ goes_on-instruction core rd value = refl
 pub one-access : (number : ℕ) (request : Request) (ending : Ending) (core : CoreState) (memory : MemoryState)
     → after_all_requests number (record { core = goes_through (request ∷ []) [] ending core; memory = memory })
     ≡ (record {
-      core = ended ending (replies_with ending [] (reply_to request (reply_of memory number request))) (record core { pairing = pairing_after core.pairing request; instruction = None });
-      memory = after memory number request;
+      core = ended ending (replies_with ending [] (reply_to request (memory_reply memory number request))) (record core { pairing = pairing_after core.pairing request; instruction = None });
+      memory = memory_after memory number request;
     })
 unfolding answered
 one-access number request ending core memory = refl
@@ -79,9 +79,9 @@ pub two-accesses : (number : ℕ) (first last : Request) (ending : Ending) (core
     → after_all_requests number (record { core = goes_through (first ∷ last ∷ []) [] ending core; memory = memory })
     ≡ (record {
       core = ended ending
-          (replies_with ending (replies_with ending [] (reply_to first (reply_of memory number first))) (reply_to last (reply_of (after memory number first) number last)))
+          (replies_with ending (replies_with ending [] (reply_to first (memory_reply memory number first))) (reply_to last (memory_reply (memory_after memory number first) number last)))
           (record core { pairing = pairing_after (pairing_after core.pairing first) last; instruction = None });
-      memory = after (after memory number first) number last;
+      memory = memory_after (memory_after memory number first) number last;
     })
 unfolding answered
 two-accesses number first last ending core memory = refl
@@ -125,8 +125,8 @@ atomic-begins addr width request ending core aligned there = rw (eq-eqb (addr % 
 pub atomic-run : (number addr width : ℕ) (request : Request) (ending : Ending) (core : CoreState) (memory : MemoryState) → addr % width ≡ 0 → is_in_memory core.memory addr width ≡ true
     → after_all_requests number (record { core = atomic addr width request ending core; memory = memory })
     ≡ (record {
-      core = ended ending (replies_with ending [] (reply_to request (reply_of memory number request))) (record core { pairing = pairing_after core.pairing request; instruction = None });
-      memory = after memory number request;
+      core = ended ending (replies_with ending [] (reply_to request (memory_reply memory number request))) (record core { pairing = pairing_after core.pairing request; instruction = None });
+      memory = memory_after memory number request;
     })
 atomic-run number addr width request ending core memory aligned there =
     ap (λ c. after_all_requests number (record { core = c; memory = memory })) (atomic-begins addr width request ending core aligned there)

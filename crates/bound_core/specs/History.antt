@@ -3,27 +3,22 @@
 use Rattle.std.specs.Prelude.{◌≡◌, ℕ, ◌<◌, List, [], ◌∷◌, length, map, replicate, slice_get, All, Some, None}
 use Rattle.zs_num.specs.declared.entry.Entry.{Entry}
 use Rattle.elf_load.specs.MemoryImage.{MemoryImage}
-use Rattle.shard.specs.Served.{ShardState, after, met_by, reply_of}
+use Rattle.shard.specs.Served.{AreServedBy, ShardState, shard_after}
 use Rattle.access_log.specs.History.{AreStamped, bank_of_entry, core_of_entry, each_after, of_bank, of_core}
 use Rattle.access_log.specs.RecordedOrder.{no_stamps}
 use Rattle.bound_core.specs.ReferenceMachine.{BoundState}
 use Rattle.bound_core.specs.ShardWorld.{ShardWorld, begun_world}
-use Rattle.bound_core.specs.Timed.{TimedCore, after_access, asks, ran_to}
-
--- the shard gives these entries their replies and their outcomes, one after the other
-abbrev pub AreServedBy : ShardState → List Entry → Type 0
-AreServedBy shard [] = Unit {0}
-AreServedBy shard (e ∷ entries) = (e.reply ≡ reply_of shard e) × (e.outcome ≡ met_by shard e) × AreServedBy (after shard e) entries
+use Rattle.bound_core.specs.Timed.{TimedCore, asks, core_after_access, ran_to}
 
 -- the bound phase of an interval before its first access
-abbrev pub begun : List TimedCore → List ShardState → BoundState ShardWorld
-begun cores shards = record { cores = cores; world = begun_world (length cores) shards; entries = [] }
+abbrev pub begun_over_shards : List TimedCore → List ShardState → BoundState ShardWorld
+begun_over_shards cores shards = record { cores = cores; world = begun_world (length cores) shards; entries = [] }
 
 -- `time` is how long an access takes where nothing else runs. The interval ends at `end`.
 module _ (time : Entry → ℕ) (image : MemoryImage) (end : ℕ) where
   -- the core after a turn that took this entry
   abbrev pub after_turn : TimedCore → Entry → TimedCore
-  after_turn c e = after_access time e (ran_to image end c)
+  after_turn c e = core_after_access time e (ran_to image end c)
 
   -- the turns of a core take these entries, one after the other, and then the core ends its interval
   abbrev pub AreTurnsOf : TimedCore → List Entry → Type 0
@@ -46,7 +41,7 @@ module _ (time : Entry → ℕ) (image : MemoryImage) (end : ℕ) where
   after_history cores shards entries = record {
     cores = map (ran_to image end) (each_after after_turn core_of_entry entries cores);
     world = record {
-      shards = each_after after (bank_of_entry (length shards)) entries shards;
+      shards = each_after shard_after (bank_of_entry (length shards)) entries shards;
       stamps = each_after (λ stamp e. e.stamp) core_of_entry entries (replicate (length cores) 0);
     };
     entries = entries;

@@ -7,10 +7,10 @@ use Rattle.zs_num.specs.declared.request.Request.{Request}
 use Rattle.elf_load.specs.MemoryImage.{MemoryImage}
 use Rattle.shard.specs.Served.{ShardState}
 use Rattle.access_log.specs.RecordedOrder.{recorded_order}
-use Rattle.bound_core.specs.History.{AreTurnsOf, IsHistory, after_history, after_turn, begun}
+use Rattle.bound_core.specs.History.{AreTurnsOf, IsHistory, after_history, after_turn, begun_over_shards}
 use Rattle.bound_core.specs.Reaching.{Reaches}
 use Rattle.bound_core.specs.ReferenceMachine.{BoundState, bound_phase}
-use Rattle.bound_core.specs.ShardWorld.{ShardWorld, serve}
+use Rattle.bound_core.specs.ShardWorld.{ShardWorld, shards_serve}
 use Rattle.bound_core.specs.Timed.{TimedCore, ran_to}
 use Rattle.bound_core.specs.Turn.{IsOver, TurnsToEnd}
 
@@ -18,12 +18,12 @@ module _ (time : Entry → ℕ) (image : MemoryImage) (end : ℕ) where
   -- A history is a bound phase: the schedule of its entries' cores is legal, and gives the same entries.
   abbrev pub HistoriesArePhases : Type 0
   HistoriesArePhases = (cores : List TimedCore) (shards : List ShardState) (entries : List Entry) → IsHistory time image end cores shards entries
-      → bound_phase serve time image end (map (λ e. e.core) entries) (begun cores shards) ≡ Ok (after_history time image end cores shards entries)
+      → bound_phase shards_serve time image end (map (λ e. e.core) entries) (begun_over_shards cores shards) ≡ Ok (after_history time image end cores shards entries)
 
   -- Every bound phase is one of a history, and its schedule is that of the entries' cores.
   abbrev pub PhasesAreHistories : Type 0
   PhasesAreHistories = (cores : List TimedCore) (shards : List ShardState) (numbers : List ℕ) (s : BoundState ShardWorld)
-      → 0 < length shards → All (λ shard. shard.last ≡ 0) shards → bound_phase serve time image end numbers (begun cores shards) ≡ Ok s
+      → 0 < length shards → All (λ shard. shard.last ≡ 0) shards → bound_phase shards_serve time image end numbers (begun_over_shards cores shards) ≡ Ok s
       → IsHistory time image end cores shards s.entries
       × (numbers ≡ map (λ e. e.core) s.entries)
       × (s ≡ after_history time image end cores shards s.entries)
@@ -40,7 +40,7 @@ module _ (time : Entry → ℕ) (image : MemoryImage) (end : ℕ) where
   abbrev pub TurnsMakeAHistory : Type 0
   TurnsMakeAHistory = (cores : List TimedCore) (shards : List ShardState) (numbers : List ℕ) (s : BoundState ShardWorld)
       → 0 < length shards → All (λ shard. shard.last ≡ 0) shards
-      → Reaches serve time image end (begun cores shards) numbers s → All (IsOver end) s.cores
+      → Reaches shards_serve time image end (begun_over_shards cores shards) numbers s → All (IsOver end) s.cores
       → IsHistory time image end cores shards s.entries
       × (numbers ≡ map (λ e. e.core) s.entries)
       × (s ≡ after_history time image end cores shards s.entries)

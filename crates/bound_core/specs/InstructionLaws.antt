@@ -8,14 +8,14 @@ use Rattle.rv_decode.specs.declared.inst.Inst.{Inst}
 use Rattle.rv_decode.specs.declared.name.Name.{Name}
 use Rattle.rv_decode.specs.declared.name.Name.TheVariants as name
 use Rattle.elf_load.specs.MemoryImage.{MemoryImage}
-use Rattle.flat_memory.specs.FlatMemory.{MemoryState, after, memory_number, reply_of}
+use Rattle.flat_memory.specs.FlatMemory.{MemoryState, memory_after, memory_number, memory_reply}
 use Rattle.flat_memory.specs.Laws.{does_write}
 use Rattle.rv_core.specs.declared.program.Fetched.TheVariants.{Instruction}
 use Rattle.rv_core.specs.Accesses.{is_in_memory, low_bytes, sign_extended_bytes}
 use Rattle.rv_core.specs.CoreState.{CoreState}
 use Rattle.rv_core.specs.Effect.{address, effect, goes_on, register}
 use Rattle.rv_core.specs.Fetch.{fetched_at}
-use Rattle.rv_core.specs.Sound.{IsSound}
+use Rattle.rv_core.specs.Sound.{IsSoundCore}
 use Rattle.rv_core.specs.Step.{advanced, answered, is_free}
 use Rattle.bound_core.specs.Timed.{left_of_instruction, next_request}
 
@@ -30,7 +30,7 @@ pub record CoreInMemory : Type 0 where
 abbrev pub after_request : (number : ℕ) → Option Request → CoreInMemory → CoreInMemory
 after_request number None s = s
 after_request number (Some request) s =
-    record { core = answered (reply_of s.memory number request) s.core; memory = after s.memory number request }
+    record { core = answered (memory_reply s.memory number request) s.core; memory = memory_after s.memory number request }
 
 -- after so many accesses, each the one that the core then asks for
 abbrev pub after_requests : (count number : ℕ) → CoreInMemory → CoreInMemory
@@ -46,8 +46,8 @@ abbrev pub after_executing : (number : ℕ) → Inst → CoreInMemory → CoreIn
 after_executing number inst s = after_all_requests number (record s { core = effect inst.name inst s.core })
 
 -- the core comes to its next instruction, and this memory, whose bytes are bytes, is its own
-pub record IsReady (s : CoreInMemory) : Type 0 where
-  pub sound : IsSound s.core
+pub record ComesToNext (s : CoreInMemory) : Type 0 where
+  pub sound : IsSoundCore s.core
   pub free : IsTrue (is_free s.core)
   pub base : s.core.memory.base ≡ s.memory.base
   pub size : s.core.memory.size ≡ length s.memory.bytes
@@ -93,29 +93,29 @@ AreThere s addr width = IsTrue (is_in_memory s.core.memory addr width)
 -- A load gives rd the number in its bytes, the lowest first, wherever they lie, and changes nothing else.
 abbrev pub LoadsAreWhole : Type 0
 LoadsAreWhole = (number : ℕ) (load : Inst) (width : ℕ) (signed : Bool) (s : CoreInMemory)
-    → IsLoad load.name width signed → IsReady s → AreThere s (address load s.core) width
+    → IsLoad load.name width signed → ComesToNext s → AreThere s (address load s.core) width
     → after_executing number load s
     ≡ record s { core = goes_on s.core load.rd (extended width signed (memory_number s.memory (address load s.core) width)) }
 
 -- A store leaves the bytes that one access of all its bytes would, wherever they lie, and of the core changes pc alone.
 abbrev pub StoresAreWhole : Type 0
 StoresAreWhole = (number : ℕ) (store : Inst) (width : ℕ) (s : CoreInMemory)
-    → IsStore store.name width → IsReady s → AreThere s (address store s.core) width
+    → IsStore store.name width → ComesToNext s → AreThere s (address store s.core) width
     → ((after_executing number store s).core ≡ goes_on s.core 0 0)
-    × ((after_executing number store s).memory.bytes ≡ (after s.memory number (Store (address store s.core) width (register s.core store.rs2))).bytes)
+    × ((after_executing number store s).memory.bytes ≡ (memory_after s.memory number (Store (address store s.core) width (register s.core store.rs2))).bytes)
 
 -- A load of the bytes that a store stored gives rd the lowest bytes of rs2, sign-extended or zero-extended.
 abbrev pub StoredIsLoaded : Type 0
 StoredIsLoaded = (number : ℕ) (store load : Inst) (width : ℕ) (signed : Bool) (s : CoreInMemory)
     → IsStore store.name width → IsLoad load.name width signed → load.rd ≢ 0 → load.rd < 32
-    → address load s.core ≡ address store s.core → IsReady s → AreThere s (address store s.core) width
+    → address load s.core ≡ address store s.core → ComesToNext s → AreThere s (address store s.core) width
     → register (after_executing number load (after_executing number store s)).core load.rd
     ≡ extended width signed (low_bytes width (register s.core store.rs2))
 
 -- A store changes no other byte of memory.
 abbrev pub OtherBytesStay : Type 0
 OtherBytesStay = (number : ℕ) (store : Inst) (width other : ℕ) (s : CoreInMemory)
-    → IsStore store.name width → IsReady s → AreThere s (address store s.core) width
+    → IsStore store.name width → ComesToNext s → AreThere s (address store s.core) width
     → s.memory.base ≤ other → (other < address store s.core) ⊎ (address store s.core + width ≤ other)
     → memory_byte (after_executing number store s).memory other ≡ memory_byte s.memory other
 
@@ -131,15 +131,15 @@ pub data IsStoreConditional : Name → (width : ℕ) → Type 0 where
   sc_d : IsStoreConditional name.ScD 8
 
 -- the memory after accesses of cores, each with the core's number
-abbrev pub after_accesses : List (ℕ × Request) → MemoryState → MemoryState
-after_accesses [] memory = memory
-after_accesses (access ∷ accesses) memory = after_accesses accesses (after memory access.0 access.1)
+abbrev pub memory_after_all : List (ℕ × Request) → MemoryState → MemoryState
+memory_after_all [] memory = memory
+memory_after_all (access ∷ accesses) memory = memory_after_all accesses (memory_after memory access.0 access.1)
 
 -- whether one of them writes to a line
 abbrev pub is_written : (line : ℕ) → List (ℕ × Request) → MemoryState → Bool
 is_written line [] memory = false
 is_written line (access ∷ accesses) memory =
-    (does_write memory access.0 access.1 && (line == line_of access.1)) || is_written line accesses (after memory access.0 access.1)
+    (does_write memory access.0 access.1 && (line == line_of access.1)) || is_written line accesses (memory_after memory access.0 access.1)
 
 -- A load-reserved of a core, then accesses of other cores, and then a store-conditional of the core to the same bytes.
 module _ (number : ℕ) (reserve : Inst) (others : List (ℕ × Request)) (store : Inst) (s : CoreInMemory) where
@@ -149,7 +149,7 @@ module _ (number : ℕ) (reserve : Inst) (others : List (ℕ × Request)) (store
 
   -- after the accesses of others
   abbrev pub between : CoreInMemory
-  between = record reserved { memory = after_accesses others reserved.memory }
+  between = record reserved { memory = memory_after_all others reserved.memory }
 
   -- after the store-conditional
   abbrev pub after_pair : CoreInMemory
@@ -159,7 +159,7 @@ module _ (number : ℕ) (reserve : Inst) (others : List (ℕ × Request)) (store
     pub reserves : IsLoadReserved reserve.name width
     pub stores : IsStoreConditional store.name width
     pub store_rd : store.rd < 32
-    pub ready : IsReady s
+    pub ready : ComesToNext s
     pub is_core : number < length s.memory.reservations
     pub there : AreThere s (register s.core reserve.rs1) width
     pub aligned : register s.core reserve.rs1 % width ≡ 0
@@ -175,7 +175,7 @@ module _ (number : ℕ) (reserve : Inst) (others : List (ℕ × Request)) (store
   PairStores = (width : ℕ) → IsPair width → is_ended ≡ false
       → (register after_pair.core store.rd ≡ 0)
       × (after_pair.memory.bytes
-      ≡ (after between.memory number (Store (register s.core reserve.rs1) width (register reserved.core store.rs2))).bytes)
+      ≡ (memory_after between.memory number (Store (register s.core reserve.rs1) width (register reserved.core store.rs2))).bytes)
 
   -- Where one of them does, rd gets 1, and nothing is stored.
   abbrev pub WriteBetweenEndsPair : Type 0

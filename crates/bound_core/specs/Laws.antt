@@ -3,7 +3,7 @@ use Rattle.std.specs.Prelude.{◌≡◌, ℕ, ◌+◌, ◌-◌, ◌≤◌, List,
 use Rattle.zs_num.specs.declared.entry.Entry.{Entry}
 use Rattle.zs_num.specs.declared.request.Request.{Request}
 use Rattle.elf_load.specs.MemoryImage.{MemoryImage}
-use Rattle.rv_core.specs.Sound.{IsSound}
+use Rattle.rv_core.specs.Sound.{IsSoundCore}
 use Rattle.bound_core.specs.ReferenceMachine.{BoundState, bound_from}
 use Rattle.bound_core.specs.Timed.{TimedCore, most_accesses, ran_to}
 use Rattle.bound_core.specs.Turn.{IsOver, TakesTurn, TurnsToEnd}
@@ -22,7 +22,7 @@ with_core s number core = record s { cores = slice_set s.cores number core }
 
 -- A core whose accesses can all be served has few of them before it ends its interval.
 abbrev pub AccessesAreFew : Type 0
-AccessesAreFew = (end : ℕ) (c : TimedCore) → IsSound c.core → most_accesses end c ≤ end - c.clock + 256
+AccessesAreFew = (end : ℕ) (c : TimedCore) → IsSoundCore c.core → most_accesses end c ≤ end - c.clock + 256
 
 module _ {World : Type 0} (serve : World → (core start : ℕ) → Request → Entry × World) (time : Entry → ℕ) (image : MemoryImage) (end : ℕ) where
   -- Local instructions touch nothing else: that a core has them behind it changes nothing of a bound phase.

@@ -4,7 +4,7 @@ use Rattle.std.specs.Prelude.{◌≡◌, ℕ, ◌<◌, List, [], length, map, Al
 use Rattle.zs_num.specs.declared.entry.Entry.{Entry}
 use Rattle.elf_load.specs.MemoryImage.{MemoryImage}
 use Rattle.rv_core.specs.declared.pairing.Pairing.{Pairing}
-use Rattle.rv_core.specs.Sound.{IsSound}
+use Rattle.rv_core.specs.Sound.{IsSoundCore}
 use Rattle.flat_memory.specs.declared.reservation.Reservation.{Reservation}
 use Rattle.shard.specs.Marks.{MarkedMemory}
 use Rattle.shard.specs.Served.{ShardState}
@@ -20,16 +20,16 @@ use Rattle.bound_core.specs.Simulation.{AreRelated, EndAlike}
 use Rattle.bound_core.specs.Timed.{TimedCore}
 
 -- the bytes of a core's pairing, as they can be reserved
-abbrev pub bytes_of : Option Pairing → Option Reservation
-bytes_of None = None
-bytes_of (Some pairing) = Some (record { addr = pairing.addr; width = pairing.width })
+abbrev pub paired_bytes : Option Pairing → Option Reservation
+paired_bytes None = None
+paired_bytes (Some pairing) = Some (record { addr = pairing.addr; width = pairing.width })
 
 abbrev pub pairings_of : List TimedCore → List (Option Reservation)
-pairings_of cores = map (λ c. bytes_of c.core.pairing) cores
+pairings_of cores = map (λ c. paired_bytes c.core.pairing) cores
 
 -- the core is sound, and its memory is this
 pub record IsCoreOf (base size : ℕ) (c : TimedCore) : Type 0 where
-  pub sound : IsSound c.core
+  pub sound : IsSoundCore c.core
   pub base_is : c.core.memory.base ≡ base
   pub size_is : c.core.memory.size ≡ size
 
@@ -46,21 +46,21 @@ pub record StandForMachine (cores : List TimedCore) (w : ShardWorld) (m : Machin
   pub cores_stamped : m.stamps.cores ≡ w.stamps
 
 -- a bound phase of the machine of one thread before its first access
-abbrev pub begun : List TimedCore → MachineWorld → BoundState MachineWorld
-begun cores m = record { cores = cores; world = m; entries = [] }
+abbrev pub begun_over_machine : List TimedCore → MachineWorld → BoundState MachineWorld
+begun_over_machine cores m = record { cores = cores; world = m; entries = [] }
 
 module _ (time : Entry → ℕ) (image : MemoryImage) (end : ℕ) where
   -- From cores and shards that stand for a machine, every bound phase over the shards is that of the machine: the same
   -- entries and cores, in worlds that belong together; or the schedule is not legal at the same place for both.
   abbrev pub ShardsDoAsTheMachine : Type 0
   ShardsDoAsTheMachine = (s : BoundState ShardWorld) (t : BoundState MachineWorld) → AreRelated StandForMachine s t → (numbers : List ℕ) (place : ℕ)
-      → EndAlike StandForMachine (bound_from shards.serve time image end place numbers s) (bound_from machine.serve time image end place numbers t)
+      → EndAlike StandForMachine (bound_from shards.shards_serve time image end place numbers s) (bound_from machine.serve time image end place numbers t)
 
   -- What the machine of one thread did, where cores took their turns at shards in any order: under the schedule of the
   -- entries in recorded order, its bound phase gave these entries and the same cores, and the shards stand for what it left.
   pub record IsRunOfTheMachine (cores : List TimedCore) (shards : List ShardState) (entries : List Entry) (m : MachineWorld) : Type 0 where
     pub left : BoundState MachineWorld
-    pub phase : bound_phase machine.serve time image end (map (λ e. e.core) (recorded_order entries)) (begun cores m) ≡ Ok left
+    pub phase : bound_phase machine.serve time image end (map (λ e. e.core) (recorded_order entries)) (begun_over_machine cores m) ≡ Ok left
     pub cores_are : left.cores ≡ (after_history time image end cores shards entries).cores
     pub entries_are : left.entries ≡ recorded_order entries
     pub stand : StandForMachine left.cores (after_history time image end cores shards entries).world left.world

@@ -4,8 +4,8 @@ use Rattle.zs_num.specs.declared.entry.Entry.{Entry}
 use Rattle.zs_num.specs.declared.request.Request.{Request}
 use Rattle.elf_load.specs.MemoryImage.{MemoryImage}
 use Rattle.machine_desc.specs.declared.machine.Machine.{Machine}
-use Rattle.flat_memory.specs.FlatMemory.{MemoryState, after, loaded, reply_of}
-use Rattle.shard.specs.Coherence.{Caches, after_access, outcome_of}
+use Rattle.flat_memory.specs.FlatMemory.{MemoryState, loaded, memory_after, memory_reply}
+use Rattle.shard.specs.Coherence.{Caches, caches_after, outcome_of}
 use Rattle.shard.specs.StandsFor.{new_caches}
 use Rattle.access_log.specs.History.{bank_of}
 use Rattle.access_log.specs.RecordedOrder.{Stamps, next_stamp, no_stamps, stamped}
@@ -27,7 +27,7 @@ recorded w core start request = record {
   stamp = next_stamp w.stamps (bank_for w request) core;
   start = start;
   request = request;
-  reply = reply_of w.memory core request;
+  reply = memory_reply w.memory core request;
   outcome = outcome_of w.caches core request;
 }
 
@@ -36,8 +36,8 @@ unfoldable pub serve : MachineWorld → (core start : ℕ) → Request → Entry
 serve w core start request = let e = recorded w core start request in (
   e,
   record {
-    memory = after w.memory core request;
-    caches = after_access w.caches core request;
+    memory = memory_after w.memory core request;
+    caches = caches_after w.caches core request;
     stamps = stamped w.stamps (bank_for w request) core e.stamp;
   },
 )

@@ -6,7 +6,7 @@ use Rattle.std.specs.Option.{option_and_then, option_map}
 use Rattle.zs_num.specs.declared.entry.Entry.{Entry}
 use Rattle.zs_num.specs.declared.request.Request.{Request}
 use Rattle.elf_load.specs.MemoryImage.{MemoryImage}
-use Rattle.bound_core.specs.Timed.{TimedCore, after_access, asks, ran_to}
+use Rattle.bound_core.specs.Timed.{TimedCore, asks, core_after_access, ran_to}
 
 -- the cores in order of their numbers, what serves their accesses, and the accesses so far in the order of the turns
 pub record BoundState (World : Type 0) : Type 0 where
@@ -38,7 +38,7 @@ module _ {World : Type 0} (serve : World → (core start : ℕ) → Request → 
   -- after the access of a core, which stands there
   abbrev pub access_served : BoundState World → (number : ℕ) → TimedCore → Entry × World → BoundState World
   access_served s number c answer = record {
-    cores = slice_set s.cores number (after_access time answer.0 c);
+    cores = slice_set s.cores number (core_after_access time answer.0 c);
     world = answer.1;
     entries = s.entries ++ answer.0 ∷ [];
   }

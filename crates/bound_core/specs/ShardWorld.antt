@@ -4,7 +4,7 @@ use Rattle.zs_num.specs.declared.entry.Entry.{Entry}
 use Rattle.zs_num.specs.declared.entry.Outcome.TheVariants.{Hit}
 use Rattle.zs_num.specs.declared.request.Request.{Request}
 use Rattle.shard.specs.Coherence.{empty_caches}
-use Rattle.shard.specs.Served.{ShardState, after, met_by, reply_of}
+use Rattle.shard.specs.Served.{ShardState, met_by, shard_after, shard_reply}
 use Rattle.access_log.specs.History.{bank_of}
 
 pub record ShardWorld : Type 0 where
@@ -33,17 +33,17 @@ abbrev pub shard_for : List ShardState → Request → ShardState
 shard_for shards request = slice_index_or shards (number_for shards request) no_shard
 
 -- an access that has its stamp and is not served yet
-abbrev pub asked : (core stamp start : ℕ) → Request → Entry
-asked core stamp start request = record { core = core; stamp = stamp; start = start; request = request; reply = 0; outcome = Hit }
+abbrev pub unserved_entry : (core stamp start : ℕ) → Request → Entry
+unserved_entry core stamp start request = record { core = core; stamp = stamp; start = start; request = request; reply = 0; outcome = Hit }
 
 -- the access of a core with this latest stamp that starts then, as the shard records it
-abbrev pub recorded : ShardState → (latest core start : ℕ) → Request → Entry
-recorded shard latest core start request = let e = asked core (max shard.last latest + 1) start request in
-    record e { reply = reply_of shard e; outcome = met_by shard e }
+abbrev pub recorded_by_shard : ShardState → (latest core start : ℕ) → Request → Entry
+recorded_by_shard shard latest core start request = let e = unserved_entry core (max shard.last latest + 1) start request in
+    record e { reply = shard_reply shard e; outcome = met_by shard e }
 
 -- the access, and the world after it
-unfoldable pub serve : ShardWorld → (core start : ℕ) → Request → Entry × ShardWorld
-serve w core start request =
+unfoldable pub shards_serve : ShardWorld → (core start : ℕ) → Request → Entry × ShardWorld
+shards_serve w core start request =
     let shard = shard_for w.shards request in
-    let e = recorded shard (slice_index w.stamps core) core start request in
-    (e, record { shards = slice_set w.shards (number_for w.shards request) (after shard e); stamps = slice_set w.stamps core e.stamp })
+    let e = recorded_by_shard shard (slice_index w.stamps core) core start request in
+    (e, record { shards = slice_set w.shards (number_for w.shards request) (shard_after shard e); stamps = slice_set w.stamps core e.stamp })

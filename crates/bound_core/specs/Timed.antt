@@ -1,5 +1,5 @@
 -- A core in time: its state, its clock, and what it does by itself up to its next access.
-use Rattle.std.specs.Prelude.{ℕ, zero, suc, ◌+◌, ◌-◌, ◌*◌, ◌^◌, max, nat_lt, Bool, ◌&&◌, if◌then◌else◌, List, [], ◌++◌, length, option_to_list, Option, Some, None}
+use Rattle.std.specs.Prelude.{ℕ, zero, suc, ◌+◌, ◌-◌, ◌*◌, ◌^◌, max, nat_lt, Bool, ◌&&◌, if◌then◌else◌, List, [], ◌++◌, length, map, option_to_list, Option, Some, None}
 use Rattle.std.specs.Option.{option_map}
 use Rattle.zs_num.specs.declared.entry.Entry.{Entry}
 use Rattle.zs_num.specs.declared.request.Request.{Request}
@@ -66,8 +66,8 @@ asks c = next_request c.core.instruction
 
 -- The core after its access had this entry. `time` is how long an access takes where nothing else runs. A reply to an
 -- access of a write call is a byte of the console.
-unfoldable pub after_access : (time : Entry → ℕ) → Entry → TimedCore → TimedCore
-after_access time e c = record {
+unfoldable pub core_after_access : (time : Entry → ℕ) → Entry → TimedCore → TimedCore
+core_after_access time e c = record {
   core = answered e.reply c.core;
   clock = c.clock + time e;
   instructions = c.instructions;
@@ -90,8 +90,8 @@ most_accesses end c = if nat_lt c.clock end then end - c.clock + 256 else left_o
 
 -- The latest cycle that the clock of a core can come to before the core ends its interval. An access takes 2^20 cycles at
 -- most.
-unfoldable pub latest : (end : ℕ) → TimedCore → ℕ
-latest end c = max (c.clock + 2 ^ 20 * left_of_instruction c.core.instruction) (end + 2 ^ 28)
+unfoldable pub latest_clock : (end : ℕ) → TimedCore → ℕ
+latest_clock end c = max (c.clock + 2 ^ 20 * left_of_instruction c.core.instruction) (end + 2 ^ 28)
 
 -- a core with its number, and the room on its console
 pub record NumberedCore : Type 0 where
@@ -99,3 +99,7 @@ pub record NumberedCore : Type 0 where
   pub timed : TimedCore
   -- for how many bytes there is room on the console
   pub spare : ℕ
+
+-- cores with their numbers, in time
+abbrev pub timed_of : List NumberedCore → List TimedCore
+timed_of cores = map (λ c. c.timed) cores

@@ -6,7 +6,7 @@ use Rattle.elf_load.specs.MemoryImage.{MemoryImage}
 use Rattle.bound_core.specs.declared.turned.Turned.{Turned}
 use Rattle.bound_core.specs.declared.turned.Turned.TheVariants.{Took, Ended}
 use Rattle.bound_core.specs.Port.{Gains}
-use Rattle.bound_core.specs.Timed.{TimedCore, after_access, asks, latest, most_accesses, ran_to}
+use Rattle.bound_core.specs.Timed.{TimedCore, asks, core_after_access, latest_clock, most_accesses, ran_to}
 
 -- of the entry of a turn that took one
 abbrev pub IfTook : Turned → (Entry → Type 0) → Type 0
@@ -32,7 +32,7 @@ module _ {Port : Type 0} (time : Entry → ℕ) (image : MemoryImage) (end : ℕ
     pub request : Request
     pub asked : asks (ran_to image end before) ≡ Some request
     pub given : gives port (ran_to image end before).clock request e port_after
-    pub left : after ≡ after_access time e (ran_to image end before)
+    pub left : after ≡ core_after_access time e (ran_to image end before)
 
   abbrev pub TurnsAs : (port port_after : Port) (before after : TimedCore) → Turned → Type 0
   TurnsAs port port_after before after (Took e) = TakesTurn port port_after before after e
@@ -50,6 +50,6 @@ module _ {Port : Type 0} (time : Entry → ℕ) (image : MemoryImage) (end : ℕ
     pub entries : List Entry
     pub turns : TurnsToEnd entries port port_after before after
     pub cores : All (λ e. e.core ≡ number) entries
-    pub starts : All (λ e. e.start ≤ latest end before) entries
+    pub starts : All (λ e. e.start ≤ latest_clock end before) entries
     pub few : length entries ≤ most_accesses end before
     pub told : Gains (told_of port) entries (told_of port_after)

@@ -2,10 +2,10 @@
 ghost use Rattle.std.specs.Prelude.{◌≡◌, ◌+◌, ◌-◌, ◌≤◌, ◌<◌, ◌^◌, max, false, ◌∷◌, [], Some, None, IfOk, OnOk, IsTrue, if◌then◌else◌};
 ghost use Rattle.zs_num.specs.Request.{IsServable};
 ghost use Rattle.machine_desc.specs.Machine.{IsMachine};
-ghost use Rattle.rv_core.specs.Sound.{IsSound};
+ghost use Rattle.rv_core.specs.Sound.{IsSoundCore};
 ghost use Rattle.rv_core.specs.Step.{cost, is_free};
 ghost use Rattle.bound_core.specs.Port.{Gains};
-ghost use Rattle.bound_core.specs.Timed.{after_access, after_instruction, ahead, asks, delayed, first_core, goes_on_alone, latest, most_accesses, ran_to};
+ghost use Rattle.bound_core.specs.Timed.{after_instruction, ahead, asks, core_after_access, delayed, first_core, goes_on_alone, latest_clock, most_accesses, ran_to};
 ghost use Rattle.bound_core.specs.Turn.{IfTook, IsOver, RunsToEnd, TurnsAs};
 
 use crate::{Port, Turned};
@@ -130,7 +130,7 @@ impl BoundCore {
     /// What its program sees.
     pub fn core(&self) -> &Core
         ensures value { result.now ≡ self.now.timed.core }
-        ensures sound { IsSound self.now.timed.core }
+        ensures sound { IsSoundCore self.now.timed.core }
     {
         self.keeps_sound();
         &self.core
@@ -139,7 +139,7 @@ impl BoundCore {
     // All that the core asks for can be served.
     #[inline(always)]
     fn keeps_sound(&self)
-        ensures { IsSound self.now.timed.core }
+        ensures { IsSoundCore self.now.timed.core }
     {
         let _request = self.core.request();
     }
@@ -172,7 +172,7 @@ impl BoundCore {
         ensures few { most_accesses end self.old.timed ≤ end - self.old.timed.clock + 256 }
         ensures begun { self.old.timed.clock ≤ self.new.timed.clock }
         ensures within { self.new.timed.clock ≤ max self.old.timed.clock end + 2 ^ 20 }
-        ensures latest { latest end self.new.timed ≤ latest end self.old.timed }
+        ensures latest { latest_clock end self.new.timed ≤ latest_clock end self.old.timed }
         ensures number { self.new.number ≡ self.old.number }
         ensures memory { self.new.timed.core.memory ≡ self.old.timed.core.memory }
         ensures spare { self.old.spare ≤ self.new.spare + 1 }
@@ -211,7 +211,7 @@ impl BoundCore {
         ensures few { most_accesses end self.old.timed ≤ end - self.old.timed.clock + 256 }
         ensures begun { self.old.timed.clock ≤ self.new.timed.clock }
         ensures within { self.new.timed.clock ≤ max self.old.timed.clock end + 2 ^ 28 }
-        ensures latest { latest end self.new.timed ≤ latest end self.old.timed }
+        ensures latest { latest_clock end self.new.timed ≤ latest_clock end self.old.timed }
         ensures number { self.new.number ≡ self.old.number }
         ensures memory { self.new.timed.core.memory ≡ self.old.timed.core.memory }
         ensures spare { self.old.spare ≤ self.new.spare + most_accesses end self.old.timed }
@@ -226,7 +226,7 @@ impl BoundCore {
 
     // Makes the access that the core waits for.
     #[inline(always)]
-    #[tactic(auto, unfolding(crate::specs::Timed::after_access))]
+    #[tactic(auto, unfolding(crate::specs::Timed::core_after_access))]
     fn access<X: Expand, Q: Port>(&mut self, x: &X, port: &mut Q, request: Request) -> Entry
         requires asked { asks self.old.timed ≡ Some request }
         requires core { Q.core port.old ≡ self.old.number }
@@ -237,7 +237,7 @@ impl BoundCore {
         requires clock { self.old.timed.clock ≤ 2 ^ 62 }
         requires servable { IsServable (Q.base port.old) (Q.size port.old) request }
         ensures given { Q.gives port.old self.old.timed.clock request result port.new }
-        ensures left { self.new.timed ≡ after_access (X.time x.now) result self.old.timed }
+        ensures left { self.new.timed ≡ core_after_access (X.time x.now) result self.old.timed }
         ensures core { result.core ≡ self.old.number }
         ensures start { result.start ≡ self.old.timed.clock }
         ensures request { result.request ≡ request }
@@ -245,7 +245,7 @@ impl BoundCore {
         ensures within { self.new.timed.clock ≤ self.old.timed.clock + 2 ^ 20 }
         ensures number { self.new.number ≡ self.old.number }
         ensures memory { self.new.timed.core.memory ≡ self.old.timed.core.memory }
-        ensures sound { IsSound self.new.timed.core }
+        ensures sound { IsSoundCore self.new.timed.core }
         ensures spare { self.old.spare ≤ self.new.spare + 1 }
         ensures port_core { Q.core port.new ≡ Q.core port.old }
         ensures port_base { Q.base port.new ≡ Q.base port.old }

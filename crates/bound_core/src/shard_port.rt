@@ -1,7 +1,7 @@
 // The accesses of cores to a plain list of shards.
 ghost use Rattle.std.specs.Prelude.{◌≡◌, ◌<◌, ◌≤◌, ◌-◌, ◌^◌, length, map, replicate, IfOk, IfErr, OnErr};
 ghost use Rattle.bound_core.specs.ShardPort.{base_in, base_of, room_of, size_in, size_of, AreShardsOf};
-ghost use Rattle.bound_core.specs.ShardWorld.{begun_world, restarted, serve};
+ghost use Rattle.bound_core.specs.ShardWorld.{begun_world, restarted, shards_serve};
 
 use crate::Port;
 use division::remainder;
@@ -102,7 +102,7 @@ impl Port for ShardPort {
 
     ghost room = { λ p. room_of p.world };
 
-    ghost gives = { λ p start request e q. (e, q.world) ≡ serve p.world p.core start request };
+    ghost gives = { λ p start request e q. (e, q.world) ≡ shards_serve p.world p.core start request };
 
     ghost told = { λ p. None };
 

@@ -2,7 +2,7 @@
 //! opcodes. Memory is a flat list of bytes, and each access finds its line in memory.
 ghost use Rattle.std.specs.Prelude.{◌≡◌, ◌-◌, ◌<◌, ◌≤◌, length, vec_capacity, vec_len, IfOk, Some};
 ghost use Rattle.machine_desc.specs.Machine.{IsMachine};
-ghost use Rattle.flat_memory.specs.FlatMemory.{after, reply_of};
+ghost use Rattle.flat_memory.specs.FlatMemory.{memory_after, memory_reply};
 
 use crate::{BoundCore, Port, Turned};
 use elf_load::{Image, load};
@@ -122,7 +122,7 @@ impl Port for FlatPort {
 
     ghost room = { λ p. vec_capacity p.entries - vec_len p.entries };
 
-    ghost gives = { λ p start request e q. (e.reply ≡ reply_of p.memory p.core request) × (q.memory ≡ after p.memory p.core request) };
+    ghost gives = { λ p start request e q. (e.reply ≡ memory_reply p.memory p.core request) × (q.memory ≡ memory_after p.memory p.core request) };
 
     ghost told = { λ p. Some p.entries.items };
 

@@ -1,5 +1,5 @@
 use Rattle.std.proofs.Common.{◌≤◌, ◌+◌, ◌-◌, ◌^◌, ◌∙◌, refl, arith, rules, max}
-use Rattle.bound_core.specs.Timed.{latest, most_accesses}
+use Rattle.bound_core.specs.Timed.{latest_clock, most_accesses}
 use Rattle.bound_core.proofs.Accesses.{clock_within, end_within, latest_small, left_few, most_few}
 use Rattle.bound_core.proofs.Turns.{all_taken, none_taken, one_more}
 use Rattle.bound_core.proofs.bounded.BoundCore.run_one.Goals as goal
@@ -31,7 +31,7 @@ pub turn-requires-clause-clock : goal.turn-requires-clause-clock
 turn-requires-clause-clock g c =
     let end = c.args.end in
     let first = c.args.self.now.timed in
-    let small : latest end first ≤ max first.clock end + 2 ^ 28 = latest_small end first (left_few first.core c.keeps_sound.ensures) in
+    let small : latest_clock end first ≤ max first.clock end + 2 ^ 28 = latest_small end first (left_few first.core c.keeps_sound.ensures) in
     omega (arith, clock_within end c.loop-entry.self.timed, c.loop-entry.invariant.latest, small, c.requires.clock, c.requires.end)
 
 pub loop-entry-preserved : goal.loop-entry-preserved
@@ -41,7 +41,7 @@ loop-entry-preserved g c =
     let now = c.loop-entry.self.timed in
     let was = c.loop-entry.invariant in
     let did = c.in-Took.ensures in
-    let start : c.in-Took._entry.start ≤ latest end first = omega (arith, did.starts, clock_within end now, was.latest, end_within end first) in
+    let start : c.in-Took._entry.start ≤ latest_clock end first = omega (arith, did.starts, clock_within end now, was.latest, end_within end first) in
     record {
       taken = one_more (g.X.Expand.time c.args.x.now) (g.P.Program.image c.args.program.now) end g.Q.Port.gives g.Q.Port.told c.args.self.now.number c.args.port.now c.loop-entry.port c.turn.new.port first now c.turn.new.self.timed c.in-Took._entry
           was.taken did.turn (did.core ∙ was.number) start did.fewer did.port_told;
@@ -79,5 +79,5 @@ pub returns-clause-within : goal.returns-clause-within
 returns-clause-within g c =
     let end = c.args.end in
     let first = c.args.self.now.timed in
-    let small : latest end first ≤ max first.clock end + 2 ^ 28 = latest_small end first (left_few first.core c.keeps_sound.ensures) in
+    let small : latest_clock end first ≤ max first.clock end + 2 ^ 28 = latest_small end first (left_few first.core c.keeps_sound.ensures) in
     omega (arith, clock_within end c.turn.new.self.timed, c.in_default.ensures.latest, c.loop-entry.invariant.latest, small)

@@ -1,6 +1,6 @@
 -- the turns so far, and room for those that are left
 use Rattle.std.proofs.Common.{◌≡◌, ◌≤◌, ◌+◌}
-use Rattle.bound_core.specs.Timed.{latest, most_accesses}
+use Rattle.bound_core.specs.Timed.{latest_clock, most_accesses}
 use Rattle.bound_core.proofs.Turns.{HasTaken}
 use Rattle.bound_core.proofs.bounded.BoundCore.run_one.Given as goal
 
@@ -15,7 +15,7 @@ invariant-loop-entry g l =
       room : most_accesses l.end l.self.timed + 1 ≤ g.Q.Port.room l.port;
       spare : most_accesses l.end l.self.timed + 1 ≤ l.self.spare;
       begun : first.timed.clock ≤ l.self.timed.clock;
-      latest : latest l.end l.self.timed ≤ latest l.end first.timed;
+      latest : latest_clock l.end l.self.timed ≤ latest_clock l.end first.timed;
       number : l.self.number ≡ first.number;
       memory : l.self.timed.core.memory ≡ first.timed.core.memory;
       spare_left : first.spare + most_accesses l.end l.self.timed ≤ l.self.spare + most_accesses l.end first.timed;

@@ -1,5 +1,5 @@
 use Rattle.std.proofs.Common.{◌≡◌, Some, None, rules}
-use Rattle.rv_core.specs.Sound.{IsSound}
+use Rattle.rv_core.specs.Sound.{IsSoundCore}
 use Rattle.bound_core.specs.Timed.{asks}
 use Rattle.bound_core.proofs.Accesses.{fewer, not_later, ran_not_later}
 use Rattle.bound_core.proofs.Turns.{asks_none, few_before, takes_access, MakesAccess}
@@ -9,7 +9,7 @@ pub returns-in-Some-clause-fewer : goal.returns-in-Some-clause-fewer
 returns-in-Some-clause-fewer g c =
     let time = g.X.Expand.time c.args.x.now in
     let ran = c.run_local.new.self.timed in
-    let sound : IsSound ran.core = search rules in
+    let sound : IsSoundCore ran.core = search rules in
     let asked : asks ran ≡ Some c.in-Some.request = search rules in
     let access : MakesAccess time c.args.end c.args.self.now.timed ran c.access.new.self.timed c.in-Some.request c.access.result = record {
       begun = c.run_local.ensures.begun;
@@ -26,14 +26,14 @@ returns-in-Some-clause-fewer g c =
 pub returns-in-Some-clause-few : goal.returns-in-Some-clause-few
 returns-in-Some-clause-few g c =
     let ran = c.run_local.new.self.timed in
-    let sound : IsSound ran.core = search rules in
+    let sound : IsSoundCore ran.core = search rules in
     few_before c.args.end c.args.self.now.timed ran c.run_local.ensures.late sound
 
 pub returns-in-Some-clause-latest : goal.returns-in-Some-clause-latest
 returns-in-Some-clause-latest g c =
     let time = g.X.Expand.time c.args.x.now in
     let ran = c.run_local.new.self.timed in
-    let sound : IsSound ran.core = search rules in
+    let sound : IsSoundCore ran.core = search rules in
     let asked : asks ran ≡ Some c.in-Some.request = search rules in
     let access : MakesAccess time c.args.end c.args.self.now.timed ran c.access.new.self.timed c.in-Some.request c.access.result = record {
       begun = c.run_local.ensures.begun;
@@ -50,7 +50,7 @@ returns-in-Some-clause-latest g c =
 pub returns-in-None-clause-few : goal.returns-in-None-clause-few
 returns-in-None-clause-few g c =
     let ran = c.run_local.new.self.timed in
-    let sound : IsSound ran.core = search rules in
+    let sound : IsSoundCore ran.core = search rules in
     few_before c.args.end c.args.self.now.timed ran c.run_local.ensures.late sound
 
 pub returns-in-None-clause-latest : goal.returns-in-None-clause-latest

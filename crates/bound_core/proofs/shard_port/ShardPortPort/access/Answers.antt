@@ -3,8 +3,8 @@ use Rattle.std.specs.Prelude.{slice_index, slice_set}
 use Rattle.zs_num.specs.Request.{IsServable}
 use Rattle.zs_num.specs.declared.entry.Entry.{Entry}
 use Rattle.bound_core.specs.ShardPort.{IsShardAt, IsShardPort, ShardPortState, base_of, greatest_stamp, room_of, size_of}
-use Rattle.bound_core.specs.ShardWorld.{ShardWorld, no_shard, number_for, serve, shard_for}
-use Rattle.shard.specs.Served.{CanServe, IsServedBy, ShardState, after}
+use Rattle.bound_core.specs.ShardWorld.{ShardWorld, no_shard, number_for, shard_for, shards_serve}
+use Rattle.shard.specs.Served.{CanServe, IsServedBy, ShardState, shard_after}
 use Rattle.bound_core.proofs.ShardPorts.{at_most_greatest, can_serve, greatest_after, last_at_most, port_set, served_is, shard_is, shard_there, stamp_is}
 use Rattle.bound_core.proofs.shard_port.ShardPortPort.access.Goals as goal
 
@@ -68,10 +68,10 @@ returns-clause-gives c =
     subst (λ (s : ShardState). IsServedBy s core c.args.start (slice_index w.stamps core) c.args.request entry) is
     (subst (λ (last : ℕ). IsServedBy c.index_mut.result.now core c.args.start last c.args.request entry) stamp c.serve-entry.ensures.served)
     in
-    let left : c.serve-entry.new.self ≡ after (shard_for w.shards c.args.request) entry = c.serve-entry.ensures.after ∙ ap (λ (s : ShardState). after s entry) is in
+    let left : c.serve-entry.new.self ≡ shard_after (shard_for w.shards c.args.request) entry = c.serve-entry.ensures.after ∙ ap (λ (s : ShardState). shard_after s entry) is in
     let answer : (n at : ℕ) → Entry × ShardWorld = λ n at. (entry, record { shards = slice_set w.shards n c.serve-entry.new.self; stamps = slice_set w.stamps at entry.stamp }) in
-    let world : serve c.args.self.now.world c.args.self.now.core c.args.start c.args.request ≡ serve w core c.args.start c.args.request =
-    ap (λ (p : ShardPortState). serve p.world p.core c.args.start c.args.request) (sym c.self.view_is)
+    let world : shards_serve c.args.self.now.world c.args.self.now.core c.args.start c.args.request ≡ shards_serve w core c.args.start c.args.request =
+    ap (λ (p : ShardPortState). shards_serve p.world p.core c.args.start c.args.request) (sym c.self.view_is)
     in
     ap (λ (n : ℕ). answer n c.from-core.result) number
     ∙ (ap (λ (at : ℕ). answer (number_for w.shards c.args.request) at) c.from-core.ensures
