@@ -4,11 +4,11 @@ use Rattle.std.specs.Prelude.{slice_get}
 use Rattle.std.specs.List.{enumerate_from, fold}
 use Rattle.std.specs.Option.{option_map}
 use Rattle.zs_num.specs.declared.entry.Entry.{Entry}
-use Rattle.access_log.specs.History.{each_after, numbered}
+use Rattle.access_log.specs.History.{each_after, of_number}
 
 module _ {X : Type 0} (step : X → Entry → X) (number_of : Entry → ℕ) (entries : List Entry) where
   abbrev pub own : ℕ → X → X
-  own i x = fold step x (numbered number_of i entries)
+  own i x = fold step x (of_number number_of i entries)
 
   at_from : (a : ℕ) (xs : List X) (i k : ℕ) → k ≡ a + i → slice_get (map (λ at. own at.0 at.1) (enumerate_from a xs)) i ≡ option_map (own k) (slice_get xs i)
   at_from a [] i k is = refl

@@ -2,19 +2,19 @@
 use Rattle.std.proofs.Common.{◌≡◌, ℕ, List, ◌∷◌, refl, sym, ◌∙◌, inl, inr}
 use Rattle.std.proofs.lemmas.Bool.{cases_eq, eq-eqb, ne_eqb}
 use Rattle.zs_num.specs.declared.entry.Entry.{Entry}
-use Rattle.access_log.specs.History.{HasSameFilters, bank_of_entry, core_of_entry, numbered}
+use Rattle.access_log.specs.History.{HasSameFilters, bank_of_entry, core_of_entry, of_number}
 
 module _ (number_of : Entry → ℕ) (number : ℕ) where
-  pub own_first : (e : Entry) (entries : List Entry) → number_of e ≡ number → numbered number_of number (e ∷ entries) ≡ e ∷ numbered number_of number entries
+  pub own_first : (e : Entry) (entries : List Entry) → number_of e ≡ number → of_number number_of number (e ∷ entries) ≡ e ∷ of_number number_of number entries
   own_first e entries own = rw (eq-eqb (number_of e) number own) refl
 
-  pub other_first : (e : Entry) (entries : List Entry) → (number_of e ≡ number → ⊥) → numbered number_of number (e ∷ entries) ≡ numbered number_of number entries
+  pub other_first : (e : Entry) (entries : List Entry) → (number_of e ≡ number → ⊥) → of_number number_of number (e ∷ entries) ≡ of_number number_of number entries
   other_first e entries other = rw (ne_eqb (number_of e) number other) refl
 
   -- two neighbours with different numbers change places
-  pub swapped : (e x : Entry) (entries : List Entry) → (number_of e ≡ number_of x → ⊥) → numbered number_of number (x ∷ e ∷ entries) ≡ numbered number_of number (e ∷ x ∷ entries)
+  pub swapped : (e x : Entry) (entries : List Entry) → (number_of e ≡ number_of x → ⊥) → of_number number_of number (x ∷ e ∷ entries) ≡ of_number number_of number (e ∷ x ∷ entries)
   swapped e x entries apart =
-      elim (cases_eq (number_of e) number) as (λ _. numbered number_of number (x ∷ e ∷ entries) ≡ numbered number_of number (e ∷ x ∷ entries)) [
+      elim (cases_eq (number_of e) number) as (λ _. of_number number_of number (x ∷ e ∷ entries) ≡ of_number number_of number (e ∷ x ∷ entries)) [
         | inl own ↦
             let other : number_of x ≡ number → ⊥ = λ same. apart (own ∙ sym same) in
             rw (eq-eqb (number_of e) number own, ne_eqb (number_of x) number other) refl
@@ -22,8 +22,8 @@ module _ (number_of : Entry → ℕ) (number : ℕ) where
       ]
 
   -- an entry before lists of the same entries
-  pub before_same : (e : Entry) (entries others : List Entry) → numbered number_of number others ≡ numbered number_of number entries
-      → numbered number_of number (e ∷ others) ≡ numbered number_of number (e ∷ entries)
+  pub before_same : (e : Entry) (entries others : List Entry) → of_number number_of number others ≡ of_number number_of number entries
+      → of_number number_of number (e ∷ others) ≡ of_number number_of number (e ∷ entries)
   before_same e entries others same = rw same refl
 
 module _ (banks : ℕ) where

@@ -6,7 +6,7 @@ use Rattle.std.proofs.lemmas.Bool.{cases_eq, cases_lt}
 use Rattle.std.proofs.lemmas.List.{get_or-replicate, get_or-set_other, get_or-set_same, get_or_past, length-replicate, length-set}
 use Rattle.std.proofs.lemmas.List.Elements.{All-head, All-tail}
 use Rattle.zs_num.specs.declared.entry.Entry.{Entry}
-use Rattle.access_log.specs.History.{AreStamped, bank_of_entry, core_of_entry, latest_of, numbered, of_bank, of_core, stamped_by}
+use Rattle.access_log.specs.History.{AreStamped, bank_of_entry, core_of_entry, latest_of, of_bank, of_core, of_number, stamped_by}
 use Rattle.access_log.specs.RecordedOrder.{Stamps, next_stamp, no_stamps}
 use Rattle.access_log.proofs.Filters.{other_first, own_first}
 
@@ -18,15 +18,15 @@ last_from stamp entries = fold (λ stamp e. e.stamp) stamp entries
 
 module _ (number_of : Entry → ℕ) (number : ℕ) where
   one_last : (last : List ℕ) (e : Entry) (entries : List Entry) → number_of e < length last
-      → last_from (slice_index (slice_set last (number_of e) e.stamp) number) (numbered number_of number entries) ≡ last_from (slice_index last number) (numbered number_of number (e ∷ entries))
+      → last_from (slice_index (slice_set last (number_of e) e.stamp) number) (of_number number_of number entries) ≡ last_from (slice_index last number) (of_number number_of number (e ∷ entries))
   one_last last e entries within =
-      elim (cases_eq (number_of e) number) as (λ _. last_from (slice_index (slice_set last (number_of e) e.stamp) number) (numbered number_of number entries) ≡ last_from (slice_index last number) (numbered number_of number (e ∷ entries))) [
+      elim (cases_eq (number_of e) number) as (λ _. last_from (slice_index (slice_set last (number_of e) e.stamp) number) (of_number number_of number entries) ≡ last_from (slice_index last number) (of_number number_of number (e ∷ entries))) [
         | inl own ↦
             let found : slice_index (slice_set last (number_of e) e.stamp) number ≡ e.stamp = ap (slice_index (slice_set last (number_of e) e.stamp)) (sym own) ∙ get_or-set_same last (number_of e) e.stamp 0 within in
-            ap (λ (n : ℕ). last_from n (numbered number_of number entries)) found ∙ ap (last_from (slice_index last number)) (sym (own_first number_of number e entries own))
+            ap (λ (n : ℕ). last_from n (of_number number_of number entries)) found ∙ ap (last_from (slice_index last number)) (sym (own_first number_of number e entries own))
         | inr other ↦
             let found : slice_index (slice_set last (number_of e) e.stamp) number ≡ slice_index last number = get_or-set_other last (number_of e) number e.stamp 0 (λ s. other (sym s)) in
-            ap (λ (n : ℕ). last_from n (numbered number_of number entries)) found ∙ ap (last_from (slice_index last number)) (sym (other_first number_of number e entries other))
+            ap (λ (n : ℕ). last_from n (of_number number_of number entries)) found ∙ ap (last_from (slice_index last number)) (sym (other_first number_of number e entries other))
       ]
 
 module _ (banks : ℕ) (some : 0 < banks) where

@@ -20,18 +20,18 @@ bank_of_entry banks e = bank_of banks e.request
 -- ---- by core and by bank
 
 -- the entries that have this number, in order
-abbrev pub numbered : (number_of : Entry → ℕ) → (number : ℕ) → List Entry → List Entry
-numbered number_of number entries = filter (λ e. number_of e == number) entries
+abbrev pub of_number : (number_of : Entry → ℕ) → (number : ℕ) → List Entry → List Entry
+of_number number_of number entries = filter (λ e. number_of e == number) entries
 
 abbrev pub of_core : (core : ℕ) → List Entry → List Entry
-of_core core entries = numbered core_of_entry core entries
+of_core core entries = of_number core_of_entry core entries
 
 abbrev pub of_bank : (banks bank : ℕ) → List Entry → List Entry
-of_bank banks bank entries = numbered (bank_of_entry banks) bank entries
+of_bank banks bank entries = of_number (bank_of_entry banks) bank entries
 
 -- what each of a list of things comes to by the entries that have its number, one after the other
 abbrev pub each_after : {X : Type 0} → (step : X → Entry → X) → (number_of : Entry → ℕ) → List Entry → List X → List X
-each_after step number_of entries xs = map (λ at. fold step at.1 (numbered number_of at.0 entries)) (enumerate_from 0 xs)
+each_after step number_of entries xs = map (λ at. fold step at.1 (of_number number_of at.0 entries)) (enumerate_from 0 xs)
 
 -- ---- stamps
 

@@ -10,8 +10,8 @@ pub record LogState : Type 0 where
   pub room : ℕ
 
 -- those of all logs, one log after the other
-abbrev pub all_entries : List LogState → List Entry
-all_entries logs = flat_map (λ log. log.entries) logs
+abbrev pub entries_of_logs : List LogState → List Entry
+entries_of_logs logs = flat_map (λ log. log.entries) logs
 
 abbrev pub have_same_key : Entry → Entry → Bool
 have_same_key first second = first.stamp == second.stamp && first.core == second.core

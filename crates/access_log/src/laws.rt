@@ -1,5 +1,11 @@
 //! Laws over the definitions alone, each the contract of a function that does nothing.
-ghost use Rattle.access_log.specs.Laws.{CoresDecideTheOrder, EachHasItsOwn, OneMoreIsStamped, RecordedOrderKeepsTheStamps, RisingListsStay, RisingStampsAreDistinct, StampsRise};
+ghost use Rattle.access_log.specs.Laws.{CoresDecideTheOrder, EachHasItsOwn, OneMoreIsStamped, RecordedOrderKeepsTheStamps, RecordedOrderSorts, RisingListsStay, RisingStampsAreDistinct, StampsRise};
+
+/// The recorded order has the same entries, by their stamps and at a tie by their cores; where no two
+/// have the same of both, it is the only such list.
+pub fn recorded_order_sorts()
+    ensures { RecordedOrderSorts }
+{}
 
 /// What was stamped in the order in which the turns were taken is stamped by the same rule in recorded
 /// order, and each core and each bank has the same entries in the same order.
