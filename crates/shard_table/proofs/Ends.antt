@@ -1,44 +1,46 @@
 -- One entry more at the end of a history.
-use Rattle.std.proofs.Common.{◌≡◌, ℕ, suc, zero, ◌+◌, ◌*◌, ◌<◌, ◌≤◌, nat_lt, true, false, cond, List, [], ◌∷◌, ◌++◌, length, ◌==◌, All, refl, sym, ◌∙◌, ap, arith, inl, inr}
+use Rattle.std.proofs.Common.{◌≡◌, ℕ, suc, zero, ◌+◌, ◌*◌, ◌<◌, ◌≤◌, nat_lt, true, false, cond, List, [], ◌∷◌, ◌++◌, length, ◌==◌, All, refl, sym, ◌∙◌, ap, subst, arith, inl, inr}
 use Rattle.std.specs.List.{fold}
 use Rattle.std.proofs.lemmas.Bool.{cases_eq, cases_lt, eq-eqb, ne_eqb}
 use Rattle.std.proofs.lemmas.Bool.Decides.{nat_tests}
-use Rattle.std.proofs.lemmas.List.{append-nil}
-use Rattle.std.proofs.lemmas.List.Elements.{All-filter, All-head, All-tail, filter-append}
+use Rattle.std.proofs.lemmas.List.{append-nil, append_assoc}
+use Rattle.std.proofs.lemmas.List.Elements.{All-filter, All-head, All-tail, All-weaker, filter-append}
 use Rattle.zs_num.specs.declared.entry.Entry.{Entry}
 use Rattle.zs_num.specs.declared.request.Request.{Request}
-use Rattle.access_log.specs.History.{latest_of, numbered, of_core}
+use Rattle.access_log.specs.History.{bank_of_entry, latest_of, of_bank, of_core, of_number}
 use Rattle.shard.specs.Laws.{CoresStay, LastIsStamp, StillServes}
-use Rattle.shard.specs.Served.{CanServe, HasCore, ShardState, after, met_by, reply_of}
-use Rattle.shard_table.specs.Lives.{AreServedBy, after_all}
+use Rattle.shard.specs.Served.{AreServedBy, CanServe, HasCore, ShardState, met_by, shard_after, shard_reply}
+use Rattle.shard_table.specs.declared.view.Served.{Served}
+use Rattle.shard_table.specs.Lives.{IsPrefix, after_all}
+use Rattle.shard_table.specs.Rule.{AreTrueNotes}
 
 -- ---- the entries with a number
 
 module _ (number_of : Entry → ℕ) (number : ℕ) where
-  pub own_first : (e : Entry) (entries : List Entry) → number_of e ≡ number → numbered number_of number (e ∷ entries) ≡ e ∷ numbered number_of number entries
+  pub own_first : (e : Entry) (entries : List Entry) → number_of e ≡ number → of_number number_of number (e ∷ entries) ≡ e ∷ of_number number_of number entries
   own_first e entries own = rw (eq-eqb (number_of e) number own) refl
 
-  pub other_first : (e : Entry) (entries : List Entry) → (number_of e ≡ number → ⊥) → numbered number_of number (e ∷ entries) ≡ numbered number_of number entries
+  pub other_first : (e : Entry) (entries : List Entry) → (number_of e ≡ number → ⊥) → of_number number_of number (e ∷ entries) ≡ of_number number_of number entries
   other_first e entries other = rw (ne_eqb (number_of e) number other) refl
 
-  pub own_last : (entries : List Entry) (e : Entry) → number_of e ≡ number → numbered number_of number (entries ++ e ∷ []) ≡ numbered number_of number entries ++ e ∷ []
-  own_last entries e own = filter-append (λ x. number_of x == number) entries (e ∷ []) ∙ ap (λ (es : List Entry). numbered number_of number entries ++ es) (own_first e [] own)
+  pub own_last : (entries : List Entry) (e : Entry) → number_of e ≡ number → of_number number_of number (entries ++ e ∷ []) ≡ of_number number_of number entries ++ e ∷ []
+  own_last entries e own = filter-append (λ x. number_of x == number) entries (e ∷ []) ∙ ap (λ (es : List Entry). of_number number_of number entries ++ es) (own_first e [] own)
 
-  pub other_last : (entries : List Entry) (e : Entry) → (number_of e ≡ number → ⊥) → numbered number_of number (entries ++ e ∷ []) ≡ numbered number_of number entries
-  other_last entries e other = filter-append (λ x. number_of x == number) entries (e ∷ []) ∙ ap (λ (es : List Entry). numbered number_of number entries ++ es) (other_first e [] other) ∙ append-nil (numbered number_of number entries)
+  pub other_last : (entries : List Entry) (e : Entry) → (number_of e ≡ number → ⊥) → of_number number_of number (entries ++ e ∷ []) ≡ of_number number_of number entries
+  other_last entries e other = filter-append (λ x. number_of x == number) entries (e ∷ []) ∙ ap (λ (es : List Entry). of_number number_of number entries ++ es) (other_first e [] other) ∙ append-nil (of_number number_of number entries)
 
   -- what holds of all holds of those
-  pub all_numbered : (P : Entry → Type 0) (entries : List Entry) → All P entries → All P (numbered number_of number entries)
+  pub all_numbered : (P : Entry → Type 0) (entries : List Entry) → All P entries → All P (of_number number_of number entries)
   all_numbered P entries all = All-filter (λ x. number_of x == number) P entries all
 
   -- there are none where none has the number
-  pub none_numbered : (entries : List Entry) → All (λ e. number_of e ≡ number → ⊥) entries → numbered number_of number entries ≡ []
+  pub none_numbered : (entries : List Entry) → All (λ e. number_of e ≡ number → ⊥) entries → of_number number_of number entries ≡ []
   none_numbered [] none = refl
   none_numbered (x ∷ entries) none =
       let P : Entry → Type 0 = λ e. number_of e ≡ number → ⊥ in
       other_first x entries (All-head P x entries none) ∙ none_numbered entries (All-tail P x entries none)
 
-  pub all_are : (entries : List Entry) → All (λ e. number_of e ≡ number) entries → numbered number_of number entries ≡ entries
+  pub all_are : (entries : List Entry) → All (λ e. number_of e ≡ number) entries → of_number number_of number entries ≡ entries
   all_are [] all = refl
   all_are (x ∷ entries) all =
       let P : Entry → Type 0 = λ e. number_of e ≡ number in
@@ -47,10 +49,10 @@ module _ (number_of : Entry → ℕ) (number : ℕ) where
 -- two ways of numbering
 module _ (number_of other_of : Entry → ℕ) (number other : ℕ) where
   abbrev mine : List Entry → List Entry
-  mine = numbered number_of number
+  mine = of_number number_of number
 
   abbrev theirs : List Entry → List Entry
-  theirs = numbered other_of other
+  theirs = of_number other_of other
 
   pub either_first : (entries : List Entry) → mine (theirs entries) ≡ theirs (mine entries)
   either_first [] = refl
@@ -128,29 +130,48 @@ few_below (suc cores) room entries fits = omega (arith, few_below cores room ent
 pub few_entries : (cores room : ℕ) (entries : List Entry) → All (λ e. e.core < cores) entries → ((core : ℕ) → length (of_core core entries) ≤ room) → length entries ≤ cores * room
 few_entries cores room entries known fits = omega (arith, few_below cores room entries fits, all_below cores entries known)
 
+-- ---- beginnings
+
+-- of a list that goes on
+pub prefix_longer : (list whole more : List Entry) → IsPrefix list whole → IsPrefix list (whole ++ more)
+prefix_longer list whole more is = (is.0 ++ more, ap (λ (es : List Entry). es ++ more) is.1 ∙ append_assoc list is.0 more)
+
+pub prefix_whole : (list whole : List Entry) → whole ≡ list → IsPrefix list whole
+prefix_whole list whole is = ([], is ∙ sym (append-nil list))
+
+-- an entry more
+pub notes_stay : (shards : ℕ) (history : List Entry) (e : Entry) (notes : List Served) → AreTrueNotes shards history notes → AreTrueNotes shards (history ++ e ∷ []) notes
+notes_stay shards history e notes true_notes =
+    All-weaker (λ note. IsPrefix note.list (of_bank shards note.shard history)) (λ note. IsPrefix note.list (of_bank shards note.shard (history ++ e ∷ [])))
+    (λ (note : Served) is.
+    elim (cases_eq (bank_of_entry shards e) note.shard) as (λ _. IsPrefix note.list (of_bank shards note.shard (history ++ e ∷ []))) [
+      | inl own ↦ subst (IsPrefix note.list) (sym (own_last (bank_of_entry shards) note.shard history e own)) (prefix_longer note.list (of_bank shards note.shard history) (e ∷ []) is)
+      | inr other ↦ subst (IsPrefix note.list) (sym (other_last (bank_of_entry shards) note.shard history e other)) is
+    ]) notes true_notes
+
 -- ---- what a shard has become
 
-pub one_more_after : (shard : ShardState) (entries : List Entry) (e : Entry) → after_all shard (entries ++ e ∷ []) ≡ after (after_all shard entries) e
+pub one_more_after : (shard : ShardState) (entries : List Entry) (e : Entry) → after_all shard (entries ++ e ∷ []) ≡ shard_after (after_all shard entries) e
 one_more_after shard [] e = refl
-one_more_after shard (x ∷ entries) e = one_more_after (after shard x) entries e
+one_more_after shard (x ∷ entries) e = one_more_after (shard_after shard x) entries e
 
 pub one_more_served : (shard : ShardState) (entries : List Entry) (e : Entry) → AreServedBy shard entries
-    → e.reply ≡ reply_of (after_all shard entries) e → e.outcome ≡ met_by (after_all shard entries) e → AreServedBy shard (entries ++ e ∷ [])
+    → e.reply ≡ shard_reply (after_all shard entries) e → e.outcome ≡ met_by (after_all shard entries) e → AreServedBy shard (entries ++ e ∷ [])
 one_more_served shard [] e served reply outcome = (reply, outcome, tt)
-one_more_served shard (x ∷ entries) e served reply outcome = (served.0, served.1, one_more_served (after shard x) entries e served.2 reply outcome)
+one_more_served shard (x ∷ entries) e served reply outcome = (served.0, served.1, one_more_served (shard_after shard x) entries e served.2 reply outcome)
 
 module _ (is_stamp : LastIsStamp) where
   last_after : (shard : ShardState) (entries : List Entry) → (after_all shard entries).last ≡ fold (λ (stamp : ℕ) (e : Entry). e.stamp) shard.last entries
   last_after shard [] = refl
-  last_after shard (x ∷ entries) = last_after (after shard x) entries ∙ ap (λ (n : ℕ). fold (λ (stamp : ℕ) (e : Entry). e.stamp) n entries) (is_stamp shard x)
+  last_after shard (x ∷ entries) = last_after (shard_after shard x) entries ∙ ap (λ (n : ℕ). fold (λ (stamp : ℕ) (e : Entry). e.stamp) n entries) (is_stamp shard x)
 
   pub last_is_latest : (shard : ShardState) (entries : List Entry) → shard.last ≡ 0 → (after_all shard entries).last ≡ latest_of entries
   last_is_latest shard entries new = last_after shard entries ∙ ap (λ (n : ℕ). fold (λ (stamp : ℕ) (e : Entry). e.stamp) n entries) new
 
 pub still_serves : StillServes → (shard : ShardState) (entries : List Entry) (request : Request) → CanServe shard request → CanServe (after_all shard entries) request
 still_serves law shard [] request can = can
-still_serves law shard (x ∷ entries) request can = still_serves law (after shard x) entries request (law shard x request can)
+still_serves law shard (x ∷ entries) request can = still_serves law (shard_after shard x) entries request (law shard x request can)
 
 pub cores_stay : CoresStay → (shard : ShardState) (entries : List Entry) (core : ℕ) → HasCore shard core → HasCore (after_all shard entries) core
 cores_stay law shard [] core has = has
-cores_stay law shard (x ∷ entries) core has = cores_stay law (after shard x) entries core (law shard x core has)
+cores_stay law shard (x ∷ entries) core has = cores_stay law (shard_after shard x) entries core (law shard x core has)

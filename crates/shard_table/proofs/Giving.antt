@@ -12,27 +12,27 @@ use Rattle.atomic_table.proofs.Lists.{at_set, set_else, set_here}
 use Rattle.zs_num.specs.declared.entry.Entry.{Entry}
 use Rattle.access_log.specs.History.{bank_of_entry, core_of_entry, latest_of, of_bank, of_core}
 use Rattle.access_log.specs.Laws.{OneMoreIsStamped}
-use Rattle.shard.specs.Served.{ShardState, after, met_by, reply_of}
+use Rattle.shard.specs.Served.{AreServedBy, ShardState, met_by, shard_after, shard_reply}
 use Rattle.shard_table.specs.declared.view.View.{View}
 use Rattle.shard_table.specs.declared.view.Part.{Part}
 use Rattle.shard_table.specs.declared.view.Served.{Served}
-use Rattle.shard_table.specs.Lives.{AreAccesses, AreServedBy, after_all}
-use Rattle.shard_table.specs.Rule.{AreTurns, Has, IsTrueOf, word_of}
+use Rattle.shard_table.specs.Lives.{AreAccesses, IsPrefix, MayAsk, after_all}
+use Rattle.shard_table.specs.Rule.{AreTurnsAtTable, Has, IsTrueOfHistory, turn_index}
 use Rattle.shard_table.specs.Steps.{IsEntryOf, gave, gave_at, shard_of_step}
 use Rattle.shard_table.specs.Views.{given}
-use Rattle.shard_table.proofs.Ends.{all_numbered, latest_low, one_more_after, one_more_served, other_last, own_last}
+use Rattle.shard_table.proofs.Ends.{all_numbered, latest_low, notes_stay, prefix_whole, one_more_after, one_more_served, other_last, own_last}
 use Rattle.shard_table.proofs.Seats.{apart_stays, fresh_stays, has_its, its_own, new_here, other_there}
 use Rattle.shard_table.proofs.Taking.{words_apart}
 
 module _ (shards : List ShardState) (cores room : ℕ) where
   abbrev Rule : State ShardState View → Type 0
-  Rule = AreTurns shards cores room
+  Rule = AreTurnsAtTable shards cores room
 
   -- a seat that has a shard's turn, with the shard in hand as the access of this entry has left it
   module _ (s : State ShardState View) (r : Rule s) (id number : ℕ) (v : View) (part : Part) (served : Served) (e : Entry) (b : ShardState)
       (at : get_elem? s.views id ≡ some v) (parts : v.parts ≡ part ∷ []) (hold : v.hold ≡ Some served) (here : served.shard ≡ number)
       (ends : IsEntryOf v number part served e b) (one_more : OneMoreIsStamped) where
-    knows : IsTrueOf shards cores room r.history s.words v
+    knows : IsTrueOfHistory shards cores room r.history s.words v
     knows = r.seats id v at
 
     opening : (v.shards ≡ shards) × (v.cores ≡ cores) × (v.room ≡ room)
@@ -44,7 +44,7 @@ module _ (shards : List ShardState) (cores room : ℕ) where
     known : Known part
     known = All-head Known part [] (subst (All Known) parts knows.parts)
 
-    held : (p : Part) × (v.parts ≡ p ∷ []) × (served.shard < length shards) × (slice_index s.words (word_of served.shard) ≡ p.core + 1) × (served.list ≡ of_bank (length shards) served.shard r.history)
+    held : (p : Part) × (v.parts ≡ p ∷ []) × (served.shard < length shards) × (slice_index s.words (turn_index served.shard) ≡ p.core + 1) × (served.list ≡ of_bank (length shards) served.shard r.history)
     held = knows.hold served hold
 
     same_part : held.0 ≡ part
@@ -53,8 +53,8 @@ module _ (shards : List ShardState) (cores room : ℕ) where
     within : number < length shards
     within = subst (λ (n : ℕ). n < length shards) here held.2
 
-    word : slice_index s.words (word_of number) ≡ part.core + 1
-    word = ap (λ (n : ℕ). slice_index s.words (word_of n)) (sym here) ∙ (held.3 ∙ ap (λ (p : Part). p.core + 1) same_part)
+    word : slice_index s.words (turn_index number) ≡ part.core + 1
+    word = ap (λ (n : ℕ). slice_index s.words (turn_index n)) (sym here) ∙ (held.3 ∙ ap (λ (p : Part). p.core + 1) same_part)
 
     list_is : served.list ≡ of_bank (length shards) number r.history
     list_is = held.4 ∙ ap (λ (n : ℕ). of_bank (length shards) n r.history) here
@@ -93,6 +93,7 @@ module _ (shards : List ShardState) (cores room : ℕ) where
     accesses' : AreAccesses shards cores room history'
     accesses' = record {
       known = All-push (λ x. x.core < cores) r.history e r.accesses.known (subst (λ (n : ℕ). n < cores) (sym core_is) known.0);
+      asked = All-push (λ x. MayAsk shards x.core x.request) r.history e r.accesses.asked (subst (λ (xs : List ShardState). MayAsk xs e.core e.request) opening.0 ends.asked);
       served = λ k shard there.
           elim (cases_eq (bank_of_entry (length shards) e) k) as (λ _. AreServedBy shard (of_bank (length shards) k history')) [
             | inl own ↦
@@ -102,7 +103,7 @@ module _ (shards : List ShardState) (cores room : ℕ) where
                 let did = ends.served shard first in
                 subst (AreServedBy shard) (sym (own_last (bank_of_entry (length shards)) k r.history e own))
                 (one_more_served shard (of_bank (length shards) k r.history) e (r.accesses.served k shard there)
-                (subst (λ (es : List Entry). e.reply ≡ reply_of (after_all shard es) e) list_k did.0)
+                (subst (λ (es : List Entry). e.reply ≡ shard_reply (after_all shard es) e) list_k did.0)
                 (subst (λ (es : List Entry). e.outcome ≡ met_by (after_all shard es) e) list_k did.1))
             | inr other ↦ subst (AreServedBy shard) (sym (other_last (bank_of_entry (length shards)) k r.history e other)) (r.accesses.served k shard there)
           ];
@@ -128,13 +129,13 @@ module _ (shards : List ShardState) (cores room : ℕ) where
         other (r.apart place id core u v there at has (subst (λ (n : ℕ). Has n v.parts) (sym core_is ∙ same) (its_own v.parts part parts)))
 
     abbrev words' : List ℕ
-    words' = slice_set s.words (word_of number) 0
+    words' = slice_set s.words (turn_index number) 0
 
-    others : (k : ℕ) → k ≢ number → slice_index words' (word_of k) ≡ slice_index s.words (word_of k)
-    others k other = get_or-set_other s.words (word_of number) (word_of k) 0 0 (words_apart k number other)
+    others : (k : ℕ) → k ≢ number → slice_index words' (turn_index k) ≡ slice_index s.words (turn_index k)
+    others k other = get_or-set_other s.words (turn_index number) (turn_index k) 0 0 (words_apart k number other)
 
-    free : slice_index words' (word_of number) ≡ 0
-    free = get_or-set_same s.words (word_of number) 0 0 (omega (arith, r.words, within))
+    free : slice_index words' (turn_index number) ≡ 0
+    free = get_or-set_same s.words (turn_index number) 0 0 (omega (arith, r.words, within))
 
     same_parts : (parts : List Part) → ((core : ℕ) → Has core parts → e.core ≢ core) → All Known parts → All (λ q. (q.core < cores) × (q.list ≡ of_core q.core history')) parts
     same_parts [] apart all = All-nil (λ (q : Part). (q.core < cores) × (q.list ≡ of_core q.core history'))
@@ -144,9 +145,9 @@ module _ (shards : List ShardState) (cores room : ℕ) where
         (it.0, it.1 ∙ sym (other_last core_of_entry p.core r.history e (apart p.core (inl refl))))
         (same_parts ps (λ core has. apart core (inr has)) (All-tail Known p ps all))
 
-    other_seat : (place : ℕ) (u : View) → get_elem? s.views place ≡ some u → place ≢ id → IsTrueOf shards cores room history' words' u
+    other_seat : (place : ℕ) (u : View) → get_elem? s.views place ≡ some u → place ≢ id → IsTrueOfHistory shards cores room history' words' u
     other_seat place u there other =
-        let it : IsTrueOf shards cores room r.history s.words u = r.seats place u there in
+        let it : IsTrueOfHistory shards cores room r.history s.words u = r.seats place u there in
         record {
           opening = it.opening;
           parts = same_parts u.parts (other_cores place u there other) it.parts;
@@ -154,15 +155,16 @@ module _ (shards : List ShardState) (cores room : ℕ) where
           hold = λ x is.
               let h = it.hold x is in
               let apart : x.shard ≢ number = λ same.
-              let word_there : slice_index s.words (word_of number) ≡ h.0.core + 1 = ap (λ (n : ℕ). slice_index s.words (word_of n)) (sym same) ∙ h.3 in
+              let word_there : slice_index s.words (turn_index number) ≡ h.0.core + 1 = ap (λ (n : ℕ). slice_index s.words (turn_index n)) (sym same) ∙ h.3 in
               let alike : e.core ≡ h.0.core = omega (arith, word_there, word, core_is) in
               other_cores place u there other h.0.core (its_own u.parts h.0 h.1) alike
               in
               (h.0, h.1, h.2, others x.shard apart ∙ h.3, h.4 ∙ sym (other_last (bank_of_entry (length shards)) x.shard r.history e (λ same. apart (sym same ∙ bank_is))));
+          notes = notes_stay (length shards) r.history e u.notes it.notes;
           first = it.first;
         }
 
-    own_seat : IsTrueOf shards cores room history' words' w
+    own_seat : IsTrueOfHistory shards cores room history' words' w
     own_seat = record {
       opening = λ some. opening;
       parts = All-cons (λ (q : Part). (q.core < cores) × (q.list ≡ of_core q.core history')) (record part { list = part.list ++ e ∷ [] }) []
@@ -170,24 +172,30 @@ module _ (shards : List ShardState) (cores room : ℕ) where
           (All-nil (λ (q : Part). (q.core < cores) × (q.list ≡ of_core q.core history')));
       distinct = ((λ no. no), tt);
       hold = λ x is. absurd (let none : None ≡ Some x = is in cc);
+      notes =
+          let note : Served = record served { list = served.list ++ e ∷ [] } in
+          let whole : of_bank (length shards) served.shard history' ≡ served.list ++ e ∷ [] =
+          own_last (bank_of_entry (length shards)) served.shard r.history e (bank_is ∙ sym here) ∙ ap (λ (es : List Entry). es ++ e ∷ []) (sym held.4) in
+          All-push (λ (n : Served). IsPrefix n.list (of_bank (length shards) n.shard history')) v.notes note (notes_stay (length shards) r.history e v.notes knows.notes)
+          (prefix_whole note.list (of_bank (length shards) served.shard history') whole);
       first = λ some. inl (has_its 0 v.parts part parts (knows.first some));
     }
 
-    given_rule : Rule (stepped s (word_of number) 0 id ((number, b) ∷ []) w gives)
+    given_rule : Rule (stepped s (turn_index number) 0 id ((number, b) ∷ []) w gives)
     given_rule = record {
       history = history';
       begins = r.begins;
       accesses = accesses';
-      words = length-set s.words (word_of number) 0 ∙ r.words;
+      words = length-set s.words (turn_index number) 0 ∙ r.words;
       homes = length-set s.homes number (some b) ∙ r.homes;
       home = λ k shard there zero_there.
           elim (cases_eq k number) as (λ _. get_elem? (slice_set s.homes number (some b)) k ≡ some (some (after_all shard (of_bank (length shards) k history')))) [
             | inl same ↦
                 let first : slice_get v.shards number ≡ Some shard = subst (λ (xs : List ShardState). slice_get xs number ≡ Some shard) (sym opening.0) (ap (slice_get shards) (sym same) ∙ there) in
-                let left : b ≡ after (after_all shard served.list) e = (ends.served shard first).2 in
+                let left : b ≡ shard_after (after_all shard served.list) e = (ends.served shard first).2 in
                 let list_k : served.list ≡ of_bank (length shards) k r.history = list_is ∙ ap (λ (n : ℕ). of_bank (length shards) n r.history) (sym same) in
                 let whole : b ≡ after_all shard (of_bank (length shards) k history') =
-                left ∙ (ap (λ (es : List Entry). after (after_all shard es) e) list_k ∙ (sym (one_more_after shard (of_bank (length shards) k r.history) e)
+                left ∙ (ap (λ (es : List Entry). shard_after (after_all shard es) e) list_k ∙ (sym (one_more_after shard (of_bank (length shards) k r.history) e)
                 ∙ ap (after_all shard) (sym (own_last (bank_of_entry (length shards)) k r.history e (bank_is ∙ sym same))))) in
                 ap (get_elem? (slice_set s.homes number (some b))) same ∙ (set_here s.homes number (some b) (omega (arith, r.homes, within)) ∙ ap (λ (x : ShardState). some (some x)) whole)
             | inr other ↦
@@ -195,7 +203,7 @@ module _ (shards : List ShardState) (cores room : ℕ) where
                 ∙ ap (λ (es : List Entry). some (some (after_all shard es))) (sym (other_last (bank_of_entry (length shards)) k r.history e (λ same. other (sym same ∙ bank_is)))))
           ];
       busy = λ k inside some_word.
-          let other : k ≢ number = λ same. absurd (let zero_word : slice_index words' (word_of k) ≡ 0 = ap (λ (n : ℕ). slice_index words' (word_of n)) same ∙ free in omega (arith, zero_word, some_word)) in
+          let other : k ≢ number = λ same. absurd (let zero_word : slice_index words' (turn_index k) ≡ 0 = ap (λ (n : ℕ). slice_index words' (turn_index n)) same ∙ free in omega (arith, zero_word, some_word)) in
           let b' = r.busy k inside (subst (λ (n : ℕ). 0 < n) (others k other) some_word) in
           let apart : b'.0 ≢ id = λ same.
           let there : some b'.1 ≡ some v = sym b'.3 ∙ (ap (get_elem? s.views) same ∙ at) in
@@ -205,8 +213,8 @@ module _ (shards : List ShardState) (cores room : ℕ) where
           in
           (b'.0, b'.1, b'.2, other_there s.views id v w at b'.0 apart ∙ b'.3, b'.4, b'.5);
       seats = λ place u there.
-          elim (at_set s.views id place w u there) as (λ _. IsTrueOf shards cores room history' words' u) [
-            | inl new ↦ subst (IsTrueOf shards cores room history' words') new.1 own_seat
+          elim (at_set s.views id place w u there) as (λ _. IsTrueOfHistory shards cores room history' words' u) [
+            | inl new ↦ subst (IsTrueOfHistory shards cores room history' words') new.1 own_seat
             | inr old ↦ other_seat place u old.1 old.0
           ];
       apart = apart_stays s.views id v w at kept r.apart;
@@ -229,9 +237,9 @@ module _ (shards : List ShardState) (cores room : ℕ) where
 
   pub gives_turn : OneMoreIsStamped → (slots id number : ℕ) (v : View) (part : Part) (served : Served) (e : Entry) (b : ShardState)
       → v.parts ≡ part ∷ [] → v.hold ≡ Some served → served.shard ≡ number → IsEntryOf v number part served e b
-      → Allows Rule slots id (v, (number, b) ∷ []) (word_of number) (λ _. 0) (λ _. gave e (step slots (word_of number) 0 0 none) (v, (number, b) ∷ []) 0)
+      → Allows Rule slots id (v, (number, b) ∷ []) (turn_index number) (λ _. 0) (λ _. gave e (step slots (turn_index number) 0 0 none) (v, (number, b) ∷ []) 0)
   gives_turn one_more slots id number v part served e b parts hold here ends = λ s r long at small.
-      let is_shard : number ≡ shard_of_step (step {S = ShardState} slots (word_of number) 0 0 none) = omega arith in (
+      let is_shard : number ≡ shard_of_step (step {S = ShardState} slots (turn_index number) 0 0 none) = omega arith in (
         given v part served e,
         gives,
         tt,

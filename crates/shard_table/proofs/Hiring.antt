@@ -5,7 +5,7 @@ use Rattle.std.proofs.lemmas.List.{length-append}
 use Rattle.std.proofs.lemmas.Option.{same_Some}
 use Rattle.shard_table.specs.Access.{AreNewSeats, IsSeatOf, SeatState, TableState}
 use Rattle.shard_table.specs.Memory.{new_logs}
-use Rattle.shard_table.specs.Views.{next_seat, one_more}
+use Rattle.shard_table.specs.Views.{next_seat, with_one_seat_more}
 
 -- the seats of the cores below this one, of which the first counts them
 pub record AreSeatsUpTo (t : TableState) (core : ℕ) (seats : List SeatState) : Type 0 where
@@ -28,7 +28,7 @@ first_seat t x of_it core entries made = record {
 -- the first after it counted one more, and the next
 module _ (t : TableState) (core : ℕ) (first y : SeatState) (seats : List SeatState) (so_far : AreSeatsUpTo t core (first ∷ seats)) where
   abbrev first' : SeatState
-  first' = record first { knows = one_more first.knows }
+  first' = record first { knows = with_one_seat_more first.knows }
 
   all_new : (xs : List SeatState) (base number : ℕ) (seat : SeatState) → IsSeatOf t y × (y.core ≡ base + length xs) × (y.entries ≡ [])
       → ((k : ℕ) (s : SeatState) → slice_get xs k ≡ Some s → IsSeatOf t s × (s.core ≡ base + k) × (s.entries ≡ []))
@@ -64,7 +64,7 @@ pub all_seats : (t : TableState) (cores : ℕ) (seats : List SeatState) → AreS
 all_seats t cores seats so_far is = (so_far.count ∙ is, so_far.new)
 
 pub next_hired : (t : TableState) (core : ℕ) (seats : List SeatState) (old new y : SeatState) → AreSeatsUpTo t core seats → old ≡ slice_index_or seats 0 old
-    → new ≡ record old { knows = one_more old.knows } → y ≡ record { table = old.table; core = core; entries = []; knows = next_seat old.knows }
+    → new ≡ record old { knows = with_one_seat_more old.knows } → y ≡ record { table = old.table; core = core; entries = []; knows = next_seat old.knows }
     → AreSeatsUpTo t (core + 1) (slice_set seats 0 new ++ y ∷ [])
 next_hired t core [] old new y so_far here new_is y_is = absurd (let n = so_far.count in let some = so_far.some in omega (arith, n, some))
 next_hired t core (first ∷ seats) old new y so_far here new_is y_is =
@@ -72,7 +72,7 @@ next_hired t core (first ∷ seats) old new y so_far here new_is y_is =
     let of_it : IsSeatOf t (record { table = old.table; core = core; entries = []; knows = next_seat old.knows }) =
     subst (λ (s : SeatState). IsSeatOf t (record { table = s.table; core = core; entries = []; knows = next_seat s.knows })) (sym here)
     (record { table = it.table; shards = it.shards; cores = it.cores; room = it.room }) in
-    let new_first : record first { knows = one_more first.knows } ≡ new = ap (λ (s : SeatState). record s { knows = one_more s.knows }) (sym here) ∙ sym new_is in
+    let new_first : record first { knows = with_one_seat_more first.knows } ≡ new = ap (λ (s : SeatState). record s { knows = with_one_seat_more s.knows }) (sym here) ∙ sym new_is in
     subst (λ (s : SeatState). AreSeatsUpTo t (core + 1) (s ∷ (seats ++ y ∷ []))) new_first
     (one_seat_more t core first y seats so_far (subst (IsSeatOf t) (sym y_is) of_it) (ap (λ (s : SeatState). s.core) y_is) (ap (λ (s : SeatState). s.entries) y_is))
 

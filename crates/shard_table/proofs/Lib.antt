@@ -8,3 +8,4 @@ pub mod Making
 pub mod Joining
 pub mod Turning
 pub mod Hiring
+pub mod OneMachine

@@ -8,11 +8,11 @@ use Rattle.std.proofs.lemmas.List.{get_or-set_other, length-map}
 use Rattle.std.proofs.lemmas.Option.{same_Some}
 use Rattle.std.proofs.Math.Seq.{take-append_seam}
 use Rattle.shard.specs.Served.{ShardState, resumed}
-use Rattle.shard_table.specs.Access.{restarted}
+use Rattle.shard_table.specs.Access.{restarted_shards}
 use Rattle.shard_table.specs.Tables.{resumed_all}
 
 pub all_restarted : (before after : List ShardState) → length after ≡ length before
-    → ((d : ShardState) (i : ℕ) → i < length before → get_or after i d ≡ resumed (get_or before i d) 0) → after ≡ restarted before
+    → ((d : ShardState) (i : ℕ) → i < length before → get_or after i d ≡ resumed (get_or before i d) 0) → after ≡ restarted_shards before
 all_restarted [] [] same h = refl
 all_restarted [] (y ∷ ys) same h = absurd (omega (arith, same))
 all_restarted (x ∷ xs) [] same h = absurd (omega (arith, same))
@@ -23,11 +23,11 @@ all_restarted (x ∷ xs) (y ∷ ys) same h =
 pub written_back : {X : Type 0} (n : ℕ) (new old : List X) → length new ≡ n → take n (new ++ drop (length new) old) ≡ new
 written_back n new old is = ap (λ (k : ℕ). take k (new ++ drop (length new) old)) (sym is) ∙ take-append_seam new (drop (length new) old)
 
-pub restarted_length : (shards : List ShardState) → length (restarted shards) ≡ length shards
+pub restarted_length : (shards : List ShardState) → length (restarted_shards shards) ≡ length shards
 restarted_length shards = length-map shards (λ shard. resumed shard 0)
 
 pub are_new : (base : ℕ) (shards : List ShardState) → ((number : ℕ) (shard : ShardState) → slice_get shards number ≡ Some shard → shard.number ≡ base + number)
-    → (number : ℕ) (shard : ShardState) → slice_get (restarted shards) number ≡ Some shard → (shard.number ≡ base + number) × (shard.last ≡ 0)
+    → (number : ℕ) (shard : ShardState) → slice_get (restarted_shards shards) number ≡ Some shard → (shard.number ≡ base + number) × (shard.last ≡ 0)
 are_new base [] numbers number shard at = absurd (let none : None ≡ Some shard = at in cc)
 are_new base (x ∷ shards) numbers zero shard at = subst (λ (s : ShardState). (s.number ≡ base + 0) × (s.last ≡ 0)) (same_Some (resumed x 0) shard at) (numbers 0 x refl, refl)
 are_new base (x ∷ shards) numbers (suc number) shard at =
@@ -35,7 +35,7 @@ are_new base (x ∷ shards) numbers (suc number) shard at =
     let later = are_new (base + 1) shards (λ k s there. numbers (suc k) s there ∙ sym (shift k)) number shard at in
     (later.0 ∙ shift number, later.1)
 
-pub resumed_again : (shards : List ShardState) → resumed_all (restarted shards) (map (λ shard. shard.last) shards) ≡ shards
+pub resumed_again : (shards : List ShardState) → resumed_all (restarted_shards shards) (map (λ shard. shard.last) shards) ≡ shards
 resumed_again [] = refl
 resumed_again (shard ∷ shards) = ap (λ xs. shard ∷ xs) (resumed_again shards)
 

@@ -10,13 +10,14 @@ use Rattle.std.proofs.lemmas.Option.{same_Some}
 use Rattle.atomic_table.specs.Table.{Joins, Splits, State, opening}
 use Rattle.atomic_table.proofs.Lists.{at_longer, at_map, at_set}
 use Rattle.zs_num.specs.declared.entry.Entry.{Entry}
-use Rattle.access_log.specs.History.{core_of_entry, of_core}
+use Rattle.access_log.specs.History.{core_of_entry, of_bank, of_core}
 use Rattle.shard.specs.Served.{ShardState}
 use Rattle.shard_table.specs.declared.view.View.{View}
 use Rattle.shard_table.specs.declared.view.Part.{Part}
-use Rattle.shard_table.specs.Lives.{AreNew}
-use Rattle.shard_table.specs.Rule.{AreDistinct, AreTurns, Has, IsTrueOf, word_of}
-use Rattle.shard_table.specs.Views.{both, first_view, new_part, next_seat, one_more, spent}
+use Rattle.shard_table.specs.declared.view.Served.{Served}
+use Rattle.shard_table.specs.Lives.{AreNew, IsPrefix, MayAsk}
+use Rattle.shard_table.specs.Rule.{AreDistinct, AreTurnsAtTable, Has, IsTrueOfHistory, turn_index}
+use Rattle.shard_table.specs.Views.{both, first_view, new_part, next_seat, spent, with_one_seat_more}
 use Rattle.shard_table.proofs.Ends.{none_numbered}
 use Rattle.shard_table.proofs.Seats.{apart_stays, had, has_either, has_left, has_one, other_there}
 use Rattle.shard_table.proofs.Taking.{holder_apart}
@@ -65,7 +66,7 @@ distinct_both (part ∷ parts) others one two apart = (
 
 module _ (shards : List ShardState) (cores room : ℕ) where
   abbrev Rule : State ShardState View → Type 0
-  Rule = AreTurns shards cores room
+  Rule = AreTurnsAtTable shards cores room
 
   -- ---- the beginning
 
@@ -78,6 +79,7 @@ module _ (shards : List ShardState) (cores room : ℕ) where
         begins = new;
         accesses = record {
           known = All-nil (λ e. e.core < cores);
+          asked = All-nil (λ e. MayAsk shards e.core e.request);
           served = λ number shard at. tt;
           stamped = tt;
           low = All-nil (λ e. e.stamp ≤ 0);
@@ -86,12 +88,13 @@ module _ (shards : List ShardState) (cores room : ℕ) where
         words = length-replicate {A = ℕ} (16 * length shards) 0;
         homes = length-map shards some_shard;
         home = λ number shard at free. at_map some_shard shards number shard (elem_at shards number shard at);
-        busy = λ number within word. absurd (let free = zeros (16 * length shards) (word_of number) in omega (arith, free, word));
-        seats = λ place u at. subst (IsTrueOf shards cores room [] words) (only_one v u place at).0 (record {
+        busy = λ number within word. absurd (let free = zeros (16 * length shards) (turn_index number) in omega (arith, free, word));
+        seats = λ place u at. subst (IsTrueOfHistory shards cores room [] words) (only_one v u place at).0 (record {
           opening = λ has. (refl, refl, refl);
           parts = All-cons (λ (q : Part). (q.core < cores) × (q.list ≡ of_core q.core [])) (new_part 0) [] (some_cores, refl) (All-nil (λ (q : Part). (q.core < cores) × (q.list ≡ of_core q.core [])));
           distinct = ((λ no. no), tt);
           hold = λ served is. absurd (let none : None ≡ Some served = is in cc);
+          notes = All-nil (λ (note : Served). IsPrefix note.list (of_bank (length shards) note.shard []));
           first = λ made. inl refl;
         });
         apart = λ place other core u x here there has too. (only_one v u place here).1 ∙ sym (only_one v x other there).1;
@@ -110,14 +113,14 @@ module _ (shards : List ShardState) (cores room : ℕ) where
 
   module _ (s : State ShardState View) (r : Rule s) (id : ℕ) (v : View) (at : get_elem? s.views id ≡ some v) (hold : v.hold ≡ None)
       (made : 0 < v.made) (more : v.made < cores) where
-    knows : IsTrueOf shards cores room r.history s.words v
+    knows : IsTrueOfHistory shards cores room r.history s.words v
     knows = r.seats id v at
 
     abbrev new : View
     new = next_seat v
 
     abbrev views' : List View
-    views' = slice_set s.views id (one_more v)
+    views' = slice_set s.views id (with_one_seat_more v)
 
     -- the first seat alone counts
     alone : (place : ℕ) (u : View) → get_elem? s.views place ≡ some u → 0 < u.made → place ≡ id
@@ -125,7 +128,7 @@ module _ (shards : List ShardState) (cores room : ℕ) where
 
     old_cores : (place : ℕ) (u : View) → get_elem? views' place ≡ some u → (core : ℕ) → Has core u.parts → core < v.made
     old_cores place u there core has =
-        let y = had s.views id v (one_more v) at (λ c h. h) place u there core has in
+        let y = had s.views id v (with_one_seat_more v) at (λ c h. h) place u there core has in
         (r.fresh id v at made).1 place core y.0 y.1 y.2
 
     new_core : (core : ℕ) → Has core new.parts → core ≡ v.made
@@ -141,34 +144,36 @@ module _ (shards : List ShardState) (cores room : ℕ) where
       home = r.home;
       busy = λ k inside word.
           let b = r.busy k inside word in
-          let there : get_elem? views' b.0 ≡ some b.1 = other_there s.views id v (one_more v) at b.0 (holder_apart shards cores room s r id v at hold b.0 b.1 b.2 b.3 b.4) ∙ b.3 in
+          let there : get_elem? views' b.0 ≡ some b.1 = other_there s.views id v (with_one_seat_more v) at b.0 (holder_apart shards cores room s r id v at hold b.0 b.1 b.2 b.3 b.4) ∙ b.3 in
           (b.0, b.1, b.2, at_longer views' (new ∷ []) b.0 b.1 there, b.4, b.5);
       seats = λ place u there.
-          elim (at_end views' new u place there) as (λ _. IsTrueOf shards cores room r.history s.words u) [
-            | inl old ↦ elim (at_set s.views id place (one_more v) u old) as (λ _. IsTrueOf shards cores room r.history s.words u) [
-              | inl first ↦ subst (IsTrueOf shards cores room r.history s.words) first.1 (record {
+          elim (at_end views' new u place there) as (λ _. IsTrueOfHistory shards cores room r.history s.words u) [
+            | inl old ↦ elim (at_set s.views id place (with_one_seat_more v) u old) as (λ _. IsTrueOfHistory shards cores room r.history s.words u) [
+              | inl first ↦ subst (IsTrueOfHistory shards cores room r.history s.words) first.1 (record {
                 opening = knows.opening;
                 parts = knows.parts;
                 distinct = knows.distinct;
                 hold = knows.hold;
+                notes = knows.notes;
                 first = λ some. knows.first made;
               })
               | inr other ↦ r.seats place u other.1
             ]
-            | inr last ↦ subst (IsTrueOf shards cores room r.history s.words) last.0 (record {
+            | inr last ↦ subst (IsTrueOfHistory shards cores room r.history s.words) last.0 (record {
               opening = λ some. knows.opening (some_part 0 v.parts (knows.first made));
               parts = All-cons (λ (q : Part). (q.core < cores) × (q.list ≡ of_core q.core r.history)) (new_part v.made) []
                   (more, sym (none_numbered core_of_entry v.made r.history (All-weaker (λ e. e.core < v.made) (λ e. e.core ≡ v.made → ⊥) (λ e low same. absurd (omega (arith, low, same))) r.history (r.fresh id v at made).0)))
                   (All-nil (λ (q : Part). (q.core < cores) × (q.list ≡ of_core q.core r.history)));
               distinct = ((λ no. no), tt);
               hold = λ served is. absurd (let none : None ≡ Some served = is in cc);
+              notes = All-nil (λ (note : Served). IsPrefix note.list (of_bank (length shards) note.shard r.history));
               first = λ some. absurd (omega (arith, some));
             })
           ];
       apart = λ place other core u x here there has too.
           elim (at_end views' new u place here) as (λ _. place ≡ other) [
             | inl one ↦ elim (at_end views' new x other there) as (λ _. place ≡ other) [
-              | inl two ↦ apart_stays s.views id v (one_more v) at (λ c h. h) r.apart place other core u x one two has too
+              | inl two ↦ apart_stays s.views id v (with_one_seat_more v) at (λ c h. h) r.apart place other core u x one two has too
               | inr two ↦ absurd (let low = old_cores place u one core has in let is = new_core core (subst (λ (z : View). Has core z.parts) (sym two.0) too) in omega (arith, low, is))
             ]
             | inr one ↦ elim (at_end views' new x other there) as (λ _. place ≡ other) [
@@ -178,7 +183,7 @@ module _ (shards : List ShardState) (cores room : ℕ) where
           ];
       fresh = λ place u there counted.
           elim (at_end views' new u place there) as (λ _. All (λ e. e.core < u.made) r.history × ((other core : ℕ) (x : View) → get_elem? (views' ++ new ∷ []) other ≡ some x → Has core x.parts → core < u.made)) [
-            | inl old ↦ elim (at_set s.views id place (one_more v) u old) as (λ _. All (λ e. e.core < u.made) r.history × ((other core : ℕ) (x : View) → get_elem? (views' ++ new ∷ []) other ≡ some x → Has core x.parts → core < u.made)) [
+            | inl old ↦ elim (at_set s.views id place (with_one_seat_more v) u old) as (λ _. All (λ e. e.core < u.made) r.history × ((other core : ℕ) (x : View) → get_elem? (views' ++ new ∷ []) other ≡ some x → Has core x.parts → core < u.made)) [
               | inl first ↦
                   let count : v.made + 1 ≡ u.made = ap (λ (z : View). z.made) first.1 in (
                     All-weaker (λ e. e.core < v.made) (λ e. e.core < u.made) (λ e low. omega (arith, low, count)) r.history (r.fresh id v at made).0,
@@ -194,7 +199,7 @@ module _ (shards : List ShardState) (cores room : ℕ) where
           ];
     }
 
-  pub splits : (id : ℕ) (v : View) → v.hold ≡ None → 0 < v.made → v.made < cores → Splits Rule id v (one_more v) (next_seat v)
+  pub splits : (id : ℕ) (v : View) → v.hold ≡ None → 0 < v.made → v.made < cores → Splits Rule id v (with_one_seat_more v) (next_seat v)
   splits id v hold made more = λ s r at. seat_rule s r id v at hold made more
 
   -- ---- two seats are put together
@@ -207,10 +212,10 @@ module _ (shards : List ShardState) (cores room : ℕ) where
     abbrev views2 : List View
     views2 = slice_set (slice_set s.views id whole) other spent
 
-    v_knows : IsTrueOf shards cores room r.history s.words v
+    v_knows : IsTrueOfHistory shards cores room r.history s.words v
     v_knows = r.seats id v at
 
-    w_knows : IsTrueOf shards cores room r.history s.words w
+    w_knows : IsTrueOfHistory shards cores room r.history s.words w
     w_knows = r.seats other w too
 
     later_at : get_elem? (slice_set s.views id whole) other ≡ some w
@@ -252,19 +257,21 @@ module _ (shards : List ShardState) (cores room : ℕ) where
           let two : b.0 ≢ other = holder_apart shards cores room s r other w too hold_too b.0 b.1 b.2 b.3 b.4 in
           (b.0, b.1, b.2, other_there (slice_set s.views id whole) other w spent later_at b.0 two ∙ (other_there s.views id v whole at b.0 one ∙ b.3), b.4, b.5);
       seats = λ place u there.
-          elim (kinds place u there) as (λ _. IsTrueOf shards cores room r.history s.words u) [
-            | inl end ↦ subst (IsTrueOf shards cores room r.history s.words) end (record {
+          elim (kinds place u there) as (λ _. IsTrueOfHistory shards cores room r.history s.words u) [
+            | inl end ↦ subst (IsTrueOfHistory shards cores room r.history s.words) end (record {
               opening = λ some. absurd (omega (arith, some));
               parts = All-nil (λ (q : Part). (q.core < cores) × (q.list ≡ of_core q.core r.history));
               distinct = tt;
               hold = λ served is. absurd (let none : None ≡ Some served = is in cc);
+              notes = All-nil (λ (note : Served). IsPrefix note.list (of_bank (length shards) note.shard r.history));
               first = λ some. absurd (omega (arith, some));
             })
-            | inr (inl first) ↦ subst (IsTrueOf shards cores room r.history s.words) first.1 (record {
+            | inr (inl first) ↦ subst (IsTrueOfHistory shards cores room r.history s.words) first.1 (record {
               opening = λ some. v_knows.opening some_parts;
               parts = All-append (λ (q : Part). (q.core < cores) × (q.list ≡ of_core q.core r.history)) v.parts w.parts v_knows.parts w_knows.parts;
               distinct = distinct_both v.parts w.parts v_knows.distinct w_knows.distinct (λ core left right. apart (sym (r.apart id other core v w at too left right)));
               hold = λ served is. absurd (let none : None ≡ Some served = sym hold ∙ is in cc);
+              notes = All-append (λ (note : Served). IsPrefix note.list (of_bank (length shards) note.shard r.history)) v.notes w.notes v_knows.notes w_knows.notes;
               first = λ some. has_left 0 v.parts w.parts (v_knows.first some);
             })
             | inr (inr old) ↦ r.seats place u old.2

@@ -7,7 +7,7 @@ use Rattle.atomic_table.proofs.Lists.{at_set, set_else, set_here}
 use Rattle.zs_num.specs.declared.entry.Entry.{Entry}
 use Rattle.shard_table.specs.declared.view.View.{View}
 use Rattle.shard_table.specs.declared.view.Part.{Part}
-use Rattle.shard_table.specs.Rule.{AreApart, AreFresh, Has}
+use Rattle.shard_table.specs.Rule.{AreApart, AreBelowMade, Has}
 
 -- ---- the cores of a seat
 
@@ -76,7 +76,7 @@ module _ (views : List View) (id : ℕ) (v w : View) (at : get_elem? views id �
         let two = had other x there core too in
         apart place other core one.0 two.0 one.1 two.1 one.2 two.2
 
-    pub fresh_stays : (history : List Entry) → w.made ≡ v.made → AreFresh history views → AreFresh history (slice_set views id w)
+    pub fresh_stays : (history : List Entry) → w.made ≡ v.made → AreBelowMade history views → AreBelowMade history (slice_set views id w)
     fresh_stays history same fresh = λ place u there first.
         elim (at_set views id place w u there) as (λ _. All (λ e. e.core < u.made) history × ((other core : ℕ) (x : View) → get_elem? (slice_set views id w) other ≡ some x → Has core x.parts → core < u.made)) [
           | inl new ↦

@@ -1,5 +1,5 @@
 -- An access through the table: what is known of the shard when its turn was taken, and of the seat when it was given back.
-use Rattle.std.proofs.Common.{◌≡◌, ℕ, ◌+◌, ◌*◌, ◌-◌, ◌^◌, ◌<◌, ◌≤◌, max, List, [], ◌∷◌, ◌++◌, length, refl, sym, ◌∙◌, ap, subst, arith, mul-le-mul}
+use Rattle.std.proofs.Common.{◌≡◌, ℕ, ◌+◌, ◌*◌, ◌-◌, ◌^◌, ◌<◌, ◌≤◌, max, List, [], ◌∷◌, ◌++◌, length, All, refl, sym, ◌∙◌, ap, subst, arith, mul-le-mul}
 use Rattle.std.specs.Prelude.{slice_get, Some}
 use Rattle.std.specs.List.{fold}
 use Rattle.std.proofs.lemmas.List.{length-append}
@@ -10,14 +10,14 @@ use Rattle.zs_num.specs.declared.request.Request.{Request}
 use Rattle.access_log.specs.History.{bank_of, bank_of_entry, latest_of, of_bank}
 use Rattle.access_log.specs.Logs.{LogState}
 use Rattle.shard.specs.Laws.{CoresStay, StillServes}
-use Rattle.shard.specs.Served.{CanServe, HasCore, IsServedBy, ShardState, after, met_by, reply_of}
+use Rattle.shard.specs.Served.{CanServe, HasCore, IsServedBy, ShardState, met_by, shard_after, shard_reply}
 use Rattle.shard_table.specs.declared.view.View.{View}
 use Rattle.shard_table.specs.declared.view.Part.{Part}
 use Rattle.shard_table.specs.declared.view.Served.{Served}
 use Rattle.shard_table.specs.Access.{IsAccess, IsAccessOf, IsSameSeat, IsSeatOf, SeatState, TableState}
-use Rattle.shard_table.specs.Lives.{MayAsk, after_all}
+use Rattle.shard_table.specs.Lives.{IsPrefix, MayAsk, after_all}
 use Rattle.shard_table.specs.Seats.{IsSeat}
-use Rattle.shard_table.specs.Steps.{IsEntryOf, IsReady}
+use Rattle.shard_table.specs.Steps.{IsEntryOf, IsTakenShard}
 use Rattle.shard_table.specs.Views.{given, holding}
 use Rattle.shard_table.proofs.Ends.{cores_stay, still_serves}
 
@@ -38,7 +38,7 @@ module _ (table : TableId) (v : View) (held : List (ℕ × ShardState)) (log : L
   it = record { table = table; core = core; entries = log.entries; knows = v }
 
   module _ (of_it : IsSeatOf t it) (number start : ℕ) (request : Request) (is : number ≡ bank_of (length t.shards) request) (ask : MayAsk t.shards core request) (shard : ShardState) (list : List Entry)
-      (ready : IsReady v number shard list) where
+      (ready : IsTakenShard v number shard list) where
     first : ShardState
     first = ask.0
 
@@ -74,16 +74,22 @@ module _ (table : TableId) (v : View) (held : List (ℕ × ShardState)) (log : L
       stamp_is : e.stamp ≡ max (latest_of list) (latest_of log.entries) + 1
       stamp_is = did.stamp ∙ ap (λ (p : ℕ × ℕ). max p.0 p.1 + 1) (λ i. (ready.last i, seat.last_is i))
 
-      pub entered : length log.entries < t.room → IsEntryOf (holding v number list) number part served e (after shard e)
+      asked : MayAsk v.shards e.core e.request
+      asked =
+          subst (λ (xs : List ShardState). MayAsk xs e.core e.request) (sym of_it.shards)
+          (subst (λ (n : ℕ). MayAsk t.shards n e.request) (sym did.core_is) (subst (MayAsk t.shards core) (sym did.request_is) ask))
+
+      pub entered : length log.entries < t.room → IsEntryOf (holding v number list) number part served e (shard_after shard e)
       entered room = record {
         core = did.core_is;
         bank = bank_is;
+        asked = asked;
         stamp = stamp_is;
         served = λ x at.
             let is : shard ≡ after_all x list = (ready.lives x at).0 in (
-              did.reply ∙ ap (λ (y : ShardState). reply_of y e) is,
+              did.reply ∙ ap (λ (y : ShardState). shard_reply y e) is,
               did.outcome ∙ ap (λ (y : ShardState). met_by y e) is,
-              ap (λ (y : ShardState). after y e) is,
+              ap (λ (y : ShardState). shard_after y e) is,
             );
         room = subst (λ (n : ℕ). length log.entries < n) (sym of_it.room) room;
       }
@@ -112,6 +118,9 @@ module _ (table : TableId) (v : View) (held : List (ℕ × ShardState)) (log : L
         same = subst (λ (m : Me ShardState View). IsSameSeat it (record { table = table; core = core; entries = log.entries ++ e ∷ []; knows = m.0 })) (sym gave)
             (record { table = refl; core = refl; shards = refl; cores = refl; room = refl })
 
+        bank : number ≡ bank_of (length v.shards) request
+        bank = is ∙ ap (λ (xs : List ShardState). bank_of (length xs) request) (sym of_it.shards)
+
         pub accessed : IsAccess it after_it start request e
         accessed = subst (λ (m : Me ShardState View). IsAccess it (record { table = table; core = core; entries = log.entries ++ e ∷ []; knows = m.0 }) start request e) (sym gave) (record {
           entries = refl;
@@ -119,25 +128,26 @@ module _ (table : TableId) (v : View) (held : List (ℕ × ShardState)) (log : L
           start_is = did.start_is;
           request_is = did.request_is;
           earlier = list;
-          noted_at = is ∙ ap (λ (xs : List ShardState). bank_of (length xs) request) (sym of_it.shards);
-          noted = refl;
+          noted = ap (λ (k : ℕ). v.notes ++ record { shard = k; list = list ++ e ∷ [] } ∷ []) bank;
           stamp = stamp_is;
           served = λ x at.
-              let here : slice_get v.shards number ≡ Some x = ap (slice_get v.shards) (is ∙ ap (λ (xs : List ShardState). bank_of (length xs) request) (sym of_it.shards)) ∙ at in
+              let here : slice_get v.shards number ≡ Some x = ap (slice_get v.shards) bank ∙ at in
               let lived = ready.lives x here in (
                 lived.1,
-                did.reply ∙ ap (λ (y : ShardState). reply_of y e) lived.0,
+                did.reply ∙ ap (λ (y : ShardState). shard_reply y e) lived.0,
                 did.outcome ∙ ap (λ (y : ShardState). met_by y e) lived.0,
               );
-          own = ready.own part seat.parts ∙ ap (λ (n : ℕ). of_bank (length v.shards) n log.entries) (is ∙ ap (λ (xs : List ShardState). bank_of (length xs) request) (sym of_it.shards));
+          own = ready.own part seat.parts ∙ ap (λ (n : ℕ). of_bank (length v.shards) n log.entries) bank;
+          seen = subst (λ (k : ℕ). All (λ note. note.shard ≡ k → IsPrefix note.list list) v.notes) bank ready.seen;
         })
 
 -- an access after tries in vain
-pub after_tries : (s m later : SeatState) (start : ℕ) (request : Request) (e : Entry) → IsSameSeat s m → m.entries ≡ s.entries → IsAccess m later start request e → IsAccess s later start request e
-after_tries s m later start request e same entries access =
-    subst (λ (n : ℕ). IsAccessOf n s.knows.shards s.entries later start request e) same.core
-    (subst (λ (xs : List ShardState). IsAccessOf m.core xs s.entries later start request e) same.shards
-    (subst (λ (es : List Entry). IsAccessOf m.core m.knows.shards es later start request e) entries access))
+pub after_tries : (s m later : SeatState) (start : ℕ) (request : Request) (e : Entry) → IsSameSeat s m → m.entries ≡ s.entries → m.knows.notes ≡ s.knows.notes → IsAccess m later start request e → IsAccess s later start request e
+after_tries s m later start request e same entries notes access =
+    subst (λ (n : ℕ). IsAccessOf n s.knows.shards s.entries s.knows.notes later start request e) same.core
+    (subst (λ (xs : List ShardState). IsAccessOf m.core xs s.entries s.knows.notes later start request e) same.shards
+    (subst (λ (es : List Entry). IsAccessOf m.core m.knows.shards es s.knows.notes later start request e) entries
+    (subst (λ (ns : List Served). IsAccessOf m.core m.knows.shards m.entries ns later start request e) notes access)))
 
 pub same_twice : (s m later : SeatState) → IsSameSeat s m → IsSameSeat m later → IsSameSeat s later
 same_twice s m later one two = record {

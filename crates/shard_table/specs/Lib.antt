@@ -6,3 +6,4 @@ pub mod Access
 pub mod Seats
 pub mod Tables
 pub mod Memory
+pub mod Laws

@@ -1,15 +1,15 @@
 -- What each step on the table tells the seat that makes it.
-use Rattle.std.specs.Prelude.{◌≡◌, ◌≢◌, ℕ, ◌*◌, ◌+◌, ◌/◌, ◌<◌, ◌≤◌, max, List, [], ◌∷◌, length, slice_get, Some}
+use Rattle.std.specs.Prelude.{◌≡◌, ◌≢◌, ℕ, ◌*◌, ◌+◌, ◌/◌, ◌<◌, ◌≤◌, max, All, List, [], ◌∷◌, length, slice_get, Some}
 use Rattle.zs_num.specs.declared.entry.Entry.{Entry}
 use Rattle.zs_num.specs.declared.entry.Outcome.TheVariants.{Hit}
 use Rattle.zs_num.specs.declared.request.Request.TheVariants.{Load}
 use Rattle.access_log.specs.History.{bank_of_entry, latest_of, of_bank, of_core}
 use Rattle.atomic_table.specs.Table.{Me, Step}
-use Rattle.shard.specs.Served.{ShardState, after, met_by, reply_of}
+use Rattle.shard.specs.Served.{AreServedBy, ShardState, met_by, shard_after, shard_reply}
 use Rattle.shard_table.specs.declared.view.View.{View}
 use Rattle.shard_table.specs.declared.view.Part.{Part}
 use Rattle.shard_table.specs.declared.view.Served.{Served}
-use Rattle.shard_table.specs.Lives.{AreServedBy, after_all}
+use Rattle.shard_table.specs.Lives.{IsPrefix, MayAsk, after_all}
 use Rattle.shard_table.specs.Views.{given, holding, refused}
 
 -- the shard of a step
@@ -17,10 +17,11 @@ abbrev pub shard_of_step : Step ShardState → ℕ
 shard_of_step step = step.word / 16
 
 -- What a seat learns of a shard as it takes its turn: the shard is what these accesses have made of it, among them those of
--- the seat's core, and no stamp is past what all cores together can make.
-pub record IsReady (v : View) (number : ℕ) (shard : ShardState) (list : List Entry) : Type 0 where
+-- the seat's core and all that the seat noted of the shard before, and no stamp is past what all cores together can make.
+pub record IsTakenShard (v : View) (number : ℕ) (shard : ShardState) (list : List Entry) : Type 0 where
   pub lives : (first : ShardState) → slice_get v.shards number ≡ Some first → (shard ≡ after_all first list) × AreServedBy first list
   pub own : (part : Part) → v.parts ≡ part ∷ [] → of_core part.core list ≡ of_bank (length v.shards) number part.list
+  pub seen : All (λ note. note.shard ≡ number → IsPrefix note.list list) v.notes
   pub last : shard.last ≡ latest_of list
   pub low : latest_of list ≤ v.cores * v.room
   pub own_low : (part : Part) → v.parts ≡ part ∷ [] → latest_of part.list ≤ v.cores * v.room
@@ -28,7 +29,7 @@ pub record IsReady (v : View) (number : ℕ) (shard : ShardState) (list : List E
 -- The turn of this shard was taken where its word was 0. Else the word has another core's number plus 1, and not this one.
 abbrev pub taken_at : (number own : ℕ) → Me ShardState View → ℕ → Me ShardState View → Type 0
 taken_at number own before found after =
-    (found ≡ 0 → (shard : ShardState) × (list : List Entry) × (after ≡ (holding before.0 number list, (number, shard) ∷ [])) × IsReady before.0 number shard list)
+    (found ≡ 0 → (shard : ShardState) × (list : List Entry) × (after ≡ (holding before.0 number list, (number, shard) ∷ [])) × IsTakenShard before.0 number shard list)
     × (found ≢ 0 → (after ≡ (refused before.0 number found, before.1)) × (found ≢ own) × (found ≤ before.0.cores))
 
 abbrev pub taken : Step ShardState → Me ShardState View → ℕ → Me ShardState View → Type 0
@@ -39,9 +40,10 @@ taken step = taken_at (shard_of_step step) step.second
 pub record IsEntryOf (v : View) (number : ℕ) (part : Part) (list : Served) (e : Entry) (left : ShardState) : Type 0 where
   pub core : e.core ≡ part.core
   pub bank : bank_of_entry (length v.shards) e ≡ number
+  pub asked : MayAsk v.shards e.core e.request
   pub stamp : e.stamp ≡ max (latest_of list.list) (latest_of part.list) + 1
   pub served : (first : ShardState) → slice_get v.shards number ≡ Some first
-      → (e.reply ≡ reply_of (after_all first list.list) e) × (e.outcome ≡ met_by (after_all first list.list) e) × (left ≡ after (after_all first list.list) e)
+      → (e.reply ≡ shard_reply (after_all first list.list) e) × (e.outcome ≡ met_by (after_all first list.list) e) × (left ≡ shard_after (after_all first list.list) e)
   pub room : length part.list < v.room
 
 -- some entry

@@ -8,8 +8,8 @@ use Rattle.shard.specs.Served.{ShardState, resumed}
 use Rattle.shard_table.specs.declared.rule.Opening.{Opening}
 use Rattle.shard_table.specs.Access.{TableState}
 
-abbrev pub state_of : TableId → Opening → TableState
-state_of table key = record { table = table; shards = key.shards.value.items; cores = key.cores; room = key.room }
+abbrev pub table_state_of : TableId → Opening → TableState
+table_state_of table key = record { table = table; shards = key.shards.value.items; cores = key.cores; room = key.room }
 
 pub record IsTable (t : TableState) (count : ℕ) (shards : Vec ShardState Global) (logs : Vec LogState Global) : Type 0 where
   pub words : t.table.words ≡ 16 * length t.shards

@@ -10,9 +10,6 @@ use Rattle.shard_table.specs.declared.view.Found.{Found}
 abbrev pub nothing_found : Found
 nothing_found = record { shard = 0; word = 0; count = 0 }
 
-abbrev pub nothing_served : Served
-nothing_served = record { shard = 0; list = [] }
-
 -- no access of a core yet
 abbrev pub new_part : (core : ℕ) → Part
 new_part core = record { core = core; list = [] }
@@ -27,7 +24,7 @@ first_view shards cores room = record {
   parts = new_part 0 ∷ [];
   hold = None;
   found = nothing_found;
-  noted = nothing_served;
+  notes = [];
 }
 
 -- ---- a turn
@@ -45,23 +42,23 @@ abbrev pub given : View → Part → Served → Entry → View
 given v part served e = record v {
   parts = record part { list = part.list ++ e ∷ [] } ∷ [];
   hold = None;
-  noted = record served { list = served.list ++ e ∷ [] };
+  notes = v.notes ++ record served { list = served.list ++ e ∷ [] } ∷ [];
 }
 
 -- ---- seats
 
 -- the first seat has made a seat more
-abbrev pub one_more : View → View
-one_more v = record v { made = v.made + 1 }
+abbrev pub with_one_seat_more : View → View
+with_one_seat_more v = record v { made = v.made + 1 }
 
 -- which is the next core's
 abbrev pub next_seat : View → View
-next_seat v = record v { made = 0; parts = new_part v.made ∷ []; hold = None; found = nothing_found; noted = nothing_served }
+next_seat v = record v { made = 0; parts = new_part v.made ∷ []; hold = None; found = nothing_found; notes = [] }
 
 -- one seat for the cores of both
 abbrev pub both : View → View → View
-both v w = record v { parts = v.parts ++ w.parts }
+both v w = record v { parts = v.parts ++ w.parts; notes = v.notes ++ w.notes }
 
 -- what is left of the other
 abbrev pub spent : View
-spent = record { shards = []; cores = 0; room = 0; made = 0; parts = []; hold = None; found = nothing_found; noted = nothing_served }
+spent = record { shards = []; cores = 0; room = 0; made = 0; parts = []; hold = None; found = nothing_found; notes = [] }

@@ -4,13 +4,12 @@
 //! recorded order.
 #![tactic(auto)]
 
+pub mod laws;
 mod memory;
 mod plays;
 mod rule;
 mod seat;
 mod table;
-#[cfg(test)]
-mod tests;
 mod turn;
 mod view;
 

@@ -1,7 +1,7 @@
 //! What each step on the table tells.
 ghost use Rattle.zs_num.specs.declared.entry.Entry.{Entry};
 ghost use Rattle.shard_table.specs.Steps.{gave, taken};
-ghost use Rattle.shard_table.specs.Views.{both, next_seat, one_more, spent};
+ghost use Rattle.shard_table.specs.Views.{both, next_seat, spent, with_one_seat_more};
 
 use crate::view::View;
 use atomic_table::{Join, Play, Split};
@@ -39,7 +39,7 @@ impl<E: Ends> Play<Shard, View> for Give<E> {
 pub(crate) struct Cut;
 
 impl Split<View> for Cut {
-    ghost left = { one_more };
+    ghost left = { with_one_seat_more };
 
     ghost right = { next_seat };
 }

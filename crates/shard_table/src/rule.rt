@@ -21,9 +21,9 @@ pub struct Turns;
 
 impl TableRule<Shard, View, Opening> for Turns {
     ghost use Rattle.shard_table.specs.Views.{first_view};
-    ghost use Rattle.shard_table.specs.Rule.{AreTurns};
+    ghost use Rattle.shard_table.specs.Rule.{AreTurnsAtTable};
 
-    ghost holds = { λ key s. AreTurns key.shards.value.items key.cores key.room s };
+    ghost holds = { λ key s. AreTurnsAtTable key.shards.value.items key.cores key.room s };
 
     ghost first = { λ key. first_view key.shards.value.items key.cores key.room };
 }

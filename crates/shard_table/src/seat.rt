@@ -1,6 +1,6 @@
 //! What a core serves its accesses with.
 ghost use Rattle.std.specs.Prelude.{◌≡◌, ◌<◌, []};
-ghost use Rattle.shard_table.specs.Views.{next_seat, one_more};
+ghost use Rattle.shard_table.specs.Views.{next_seat, with_one_seat_more};
 
 use crate::plays::Cut;
 use crate::rule::{Bench, Place};
@@ -44,7 +44,7 @@ impl CoreSeat {
         requires counts { (0 < core) × (self.old.knows.made ≡ core) × (core < bench.now.key.cores) }
         requires opening { self.old.knows.cores ≡ bench.now.key.cores }
         requires log { log ≡ record { entries = []; room = self.old.knows.room } }
-        ensures first { self.new ≡ record self.old { knows = one_more self.old.knows } }
+        ensures first { self.new ≡ record self.old { knows = with_one_seat_more self.old.knows } }
         ensures next { result ≡ record { table = self.old.table; core = core; entries = []; knows = next_seat self.old.knows } }
     {
         CoreSeat {

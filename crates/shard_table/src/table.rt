@@ -3,10 +3,10 @@ ghost use Rattle.std.specs.Prelude.{◌≡◌, ℕ, ◌<◌, ◌≤◌, ◌^◌,
 ghost use Rattle.std.specs.Mem.Slots.{slots_items, slots_len, IsFull};
 ghost use Rattle.access_log.specs.History.{bank_of};
 ghost use Rattle.shard.specs.Served.{ShardState, resumed};
-ghost use Rattle.shard_table.specs.Access.{AreAllSeats, AreNewSeats, AreWhole, recorded, restarted};
+ghost use Rattle.shard_table.specs.Access.{AreAllSeats, AreNewSeats, AreWhole, recorded_entries, restarted_shards};
 ghost use Rattle.shard_table.specs.Lives.{AreNew};
 ghost use Rattle.shard_table.specs.Memory.{new_logs};
-ghost use Rattle.shard_table.specs.Tables.{resumed_all, state_of};
+ghost use Rattle.shard_table.specs.Tables.{resumed_all, table_state_of};
 ghost use Rattle.shard_table.specs.Views.{first_view};
 
 use crate::memory::Memory;
@@ -15,6 +15,7 @@ use crate::rule::{Bench, Opening, Place, Words};
 use crate::seat::CoreSeat;
 use access_log::CoreLog;
 use atomic_table::Closed;
+use division::remainder;
 use shard::Shard;
 use std::alloc::Global;
 use std::marker::Model;
@@ -34,13 +35,13 @@ pub struct ShardTable {
 
 impl Model for ShardTable {
     ghost use Rattle.shard_table.specs.Access.{TableState};
-    ghost use Rattle.shard_table.specs.Tables.{IsTable, state_of};
+    ghost use Rattle.shard_table.specs.Tables.{IsTable, table_state_of};
 
     ghost Value = { TableState };
 
-    ghost view = { λ t. state_of t.words.shared.table_id t.words.shared.key };
+    ghost view = { λ t. table_state_of t.words.shared.table_id t.words.shared.key };
 
-    ghost invariant = { λ t. IsTable (state_of t.words.shared.table_id t.words.shared.key) t.count t.shards t.logs };
+    ghost invariant = { λ t. IsTable (table_state_of t.words.shared.table_id t.words.shared.key) t.count t.shards t.logs };
 }
 
 impl ShardTable {
@@ -57,7 +58,7 @@ impl ShardTable {
         requires some { 0 < length shards.items }
         requires few { length shards.items < 2 ^ 16 }
         requires cores { 0 < cores }
-        ensures table { IfOk result (λ made. (made.0.shards ≡ restarted shards.items) × (made.0.cores ≡ cores) × (made.0.room ≡ room)) }
+        ensures table { IfOk result (λ made. (made.0.shards ≡ restarted_shards shards.items) × (made.0.cores ≡ cores) × (made.0.room ≡ room)) }
         ensures seats { IfOk result (λ made. AreNewSeats made.0 made.1.items) }
         ensures err { IfErr result (λ back. back.1.items ≡ shards.items) }
     {
@@ -99,7 +100,7 @@ impl ShardTable {
     pub fn close(self, mut seats: Vec<CoreSeat>) -> (Vec<Shard>, Vec<CoreLog>)
         requires { AreAllSeats self seats.items }
         ensures logs { map (λ log. log.entries) result.1.items ≡ map (λ seat. seat.entries) seats.items }
-        ensures whole { AreWhole self (recorded seats.items) seats.items result.0.items }
+        ensures whole { AreWhole self (recorded_entries seats.items) seats.items result.0.items }
     {
         access_log::laws::stamps_rise();
         access_log::laws::cores_decide_the_order();
@@ -130,7 +131,7 @@ impl ShardTable {
         ensures number { result ≡ bank_of (length self.now.shards) request }
         ensures within { result < length self.now.shards }
     {
-        (request.line() % self.count) as usize
+        remainder(request.line(), self.count) as usize
     }
 }
 
@@ -148,7 +149,7 @@ fn seats(
     requires first { place.me ≡ (first_view bench.now.key.shards.value.items cores bench.now.key.room, []) }
     requires logs { logs.items ≡ new_logs cores bench.now.key.room }
     requires room { (seats.items ≡ []) × (cores ≤ vec_capacity seats) }
-    ensures { AreNewSeats (state_of bench.now.table_id bench.now.key) result.items }
+    ensures { AreNewSeats (table_state_of bench.now.table_id bench.now.key) result.items }
 {
     seats.push_reserved(CoreSeat {
         place,
@@ -165,7 +166,7 @@ fn seats(
 
 // Sets the last stamps of all shards to 0.
 fn restart_all(shards: &mut [Shard])
-    ensures { shards.new ≡ restarted shards.old }
+    ensures { shards.new ≡ restarted_shards shards.old }
 {
     for shard in shards {
         shard.restart();

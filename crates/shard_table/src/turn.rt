@@ -1,7 +1,7 @@
 //! A turn at a shard: it is taken, the shard serves an access, and it is given back.
 ghost use Rattle.std.specs.Prelude.{◌≡◌, ◌≢◌, ℕ, ◌+◌, ◌*◌, ◌-◌, ◌<◌, ◌≤◌, ◌^◌, [], ◌∷◌, length, Some, None, IfOk, IfErr, OnOk, IsOk};
 ghost use Rattle.access_log.specs.History.{bank_of};
-ghost use Rattle.shard.specs.Served.{CanServe, HasCore, IsServedBy, ShardState, after};
+ghost use Rattle.shard.specs.Served.{CanServe, HasCore, IsServedBy, ShardState, shard_after};
 ghost use Rattle.shard_table.specs.declared.view.Part.{Part};
 ghost use Rattle.shard_table.specs.declared.view.Served.{Served};
 ghost use Rattle.shard_table.specs.Access.{IsAccess, IsHeld, IsSameSeat, IsSeatOf};
@@ -14,11 +14,15 @@ use crate::seat::{CoreSeat, Held};
 use crate::table::ShardTable;
 use std::marker::Brand;
 use std::sync::Wait;
-use std::thread;
+use std::{hint, thread};
 use zs_num::{Cycle, Entry, Request, Stamp};
 
 /// How far apart the words of two shards are, so that no two are on one line of 128 bytes.
 pub(crate) const APART: usize = 16;
+
+/// How often a word is looked at before other threads are let run: for some microseconds, in which a core
+/// that has the turn ends it, if its thread runs.
+const LOOKS: u32 = 200;
 
 impl ShardTable {
     /// Serves an access of the seat's core that starts then, unless another core has the shard's turn.
@@ -81,9 +85,21 @@ impl ShardTable {
             if let Ok(entry) = self.try_access(seat, start, request) {
                 return entry;
             }
-            thread::yield_now();
+            self.pause(request);
         }
         unreachable!()
+    }
+
+    /// Lets a while pass: until nobody has the turn of the request's shard, or else until others ran.
+    fn pause(&self, request: Request) {
+        let word = APART * self.shard(request);
+        for _ in 0..LOOKS {
+            if self.words.shared.peek(word) == 0 {
+                return;
+            }
+            hint::spin_loop();
+        }
+        thread::yield_now();
     }
 }
 
@@ -117,7 +133,7 @@ fn serve(
     requires stamp { last < 2 ^ 62 - 1 }
     ensures table { (place.new.table_id ≡ place.old.table_id) × (place.new.id ≡ place.old.id) }
     ensures served { (x : ShardState) → place.old.me.1 ≡ (shard, x) ∷ []
-        → IsServedBy x core start last request result × (place.new.me ≡ (place.old.me.0, (shard, after x result) ∷ [])) }
+        → IsServedBy x core start last request result × (place.new.me ≡ (place.old.me.0, (shard, shard_after x result) ∷ [])) }
 {
     place
         .slot_mut(bench, shard)

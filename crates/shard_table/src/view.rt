@@ -36,6 +36,6 @@ pub struct View {
     /// The shard whose turn it has, with the accesses to it.
     pub hold: Option<Served>,
     pub found: Found,
-    /// The shard of its latest access, with the accesses to it up to that one.
-    pub noted: Served,
+    /// For each of its accesses, the shard with the accesses to it up to that one.
+    pub notes: [Served; 0],
 }

@@ -1,11 +1,11 @@
 use Rattle.std.proofs.Common.{rules, ◌≡◌, ℕ, ◌+◌, ◌<◌, List, ◌++◌, ◌∷◌, [], sym, ◌∙◌, ap, subst, arith}
-use Rattle.shard_table.specs.Tables.{state_of}
+use Rattle.shard_table.specs.Tables.{table_state_of}
 use Rattle.shard_table.proofs.Hiring.{AreSeatsUpTo, fewer_logs, next_hired}
 use Rattle.shard_table.proofs.table.seats.Goals as goal
 
 pub loop-core-preserved : goal.loop-core-preserved
 loop-core-preserved c =
-    let t = state_of c.args.bench.now.table_id c.args.bench.now.key in
+    let t = table_state_of c.args.bench.now.table_id c.args.bench.now.key in
     let before = c.loop-core.invariant in
     let below : c.loop-core.core < c.args.cores = search rules in
     record {

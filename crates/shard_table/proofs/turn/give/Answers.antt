@@ -3,7 +3,7 @@ use mathlib.Core.Option.{none}
 use Rattle.atomic_table.specs.Table.{Allows, step}
 use Rattle.zs_num.specs.declared.entry.Entry.{Entry}
 use Rattle.shard.specs.Served.{ShardState}
-use Rattle.shard_table.specs.Rule.{AreTurns}
+use Rattle.shard_table.specs.Rule.{AreTurnsAtTable}
 use Rattle.shard_table.specs.Steps.{gave, gave_at, shard_of_step}
 use Rattle.shard_table.proofs.Giving.{gives_turn}
 use Rattle.shard_table.proofs.turn.give.Goals as goal
@@ -19,7 +19,7 @@ store-requires g c =
     let e : Entry = c.args.entry in
     let ends = c.requires.ends in
     let Goes : List (ℕ × ShardState) → Type 0 = λ held.
-    Allows (AreTurns shards bench.key.cores bench.key.room) bench.table_id.slots place.id (place.me.0, held) (16 * c.args.shard) (λ _. 0)
+    Allows (AreTurnsAtTable shards bench.key.cores bench.key.room) bench.table_id.slots place.id (place.me.0, held) (16 * c.args.shard) (λ _. 0)
     (λ _. gave g.E.Ends.entry (step bench.table_id.slots (16 * c.args.shard) 0 0 none) (place.me.0, held) 0) in (
       c.requires.table,
       c.requires.word.0,

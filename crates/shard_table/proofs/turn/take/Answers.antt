@@ -3,7 +3,7 @@ use prog.Atomic.{either}
 use mathlib.Core.Option.{none}
 use Rattle.atomic_table.specs.Table.{Allows, step}
 use Rattle.shard.specs.Served.{ShardState}
-use Rattle.shard_table.specs.Rule.{AreTurns}
+use Rattle.shard_table.specs.Rule.{AreTurnsAtTable}
 use Rattle.shard_table.specs.Steps.{taken}
 use Rattle.shard_table.proofs.Taking.{takes_turn}
 use Rattle.shard_table.proofs.turn.take.Goals as goal
@@ -18,7 +18,7 @@ compare_exchange-requires c =
     let shards : List ShardState = bench.key.shards.value.items in
     let part = c.requires.part in
     let Goes : List (ℕ × ShardState) → Type 0 = λ held.
-    Allows (AreTurns shards bench.key.cores bench.key.room) bench.table_id.slots place.id (place.me.0, held) (16 * c.args.shard) (λ n. either (n == 0) (c.args.core + 1) n)
+    Allows (AreTurnsAtTable shards bench.key.cores bench.key.room) bench.table_id.slots place.id (place.me.0, held) (16 * c.args.shard) (λ n. either (n == 0) (c.args.core + 1) n)
     (taken (step bench.table_id.slots (16 * c.args.shard) 0 (c.args.core + 1) none) (place.me.0, held)) in (
       c.requires.table,
       c.requires.word.0,

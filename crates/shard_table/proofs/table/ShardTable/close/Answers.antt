@@ -4,10 +4,12 @@ use Rattle.std.proofs.lemmas.List.Elements.{All-drop, All-get_or}
 use Rattle.zs_num.specs.declared.entry.Entry.{Entry}
 use Rattle.access_log.specs.Logs.{LogState}
 use Rattle.shard.specs.Served.{ShardState}
+use Rattle.std.specs.List.{flat_map}
 use Rattle.shard_table.specs.declared.view.Part.{Part}
+use Rattle.shard_table.specs.declared.view.Served.{Served}
 use Rattle.std.specs.Mem.Slots.{slots_items}
-use Rattle.shard_table.specs.Access.{AreAllSeats, AreWhole, IsSeatOf, SeatState, TableState, recorded}
-use Rattle.shard_table.specs.Tables.{state_of}
+use Rattle.shard_table.specs.Access.{AreAllSeats, AreWhole, IsSeatOf, SeatState, TableState, recorded_entries}
+use Rattle.shard_table.specs.Tables.{table_state_of}
 use Rattle.shard_table.proofs.Closing.{is_whole, part_of}
 use Rattle.shard_table.proofs.Joining.{Joined, all_joined, first_joined, one_joined}
 use Rattle.shard_table.proofs.Seating.{joins}
@@ -23,8 +25,9 @@ loop-seats-init c =
     let of_it : IsSeatOf c.args.self seat = subst (IsSeatOf c.args.self) (sym c.remove.ensures.value) (All-get_or (IsSeatOf c.args.self) all 0 seat few c.requires.of_table) in
     let logs : map (λ (log : LogState). log.entries) c.push_reserved.new.self.items ≡ seat.entries ∷ [] = search rules in
     record {
-      joined = subst (λ (xs : List SeatState). Joined all xs c.place.inside.place.me.0.parts (map (λ (log : LogState). log.entries) c.push_reserved.new.self.items)) (sym left)
-          (first_joined all seat c.place.inside.place.me.0.parts (map (λ (log : LogState). log.entries) c.push_reserved.new.self.items) few c.remove.ensures.value (search rules) logs);
+      joined = subst (λ (xs : List SeatState). Joined all xs c.place.inside.place.me.0.parts c.place.inside.place.me.0.notes (map (λ (log : LogState). log.entries) c.push_reserved.new.self.items)) (sym left)
+          (first_joined all seat c.place.inside.place.me.0.parts c.place.inside.place.me.0.notes (map (λ (log : LogState). log.entries) c.push_reserved.new.self.items) few c.remove.ensures.value (search rules)
+          (ap (λ (x : SeatState). x.knows.notes) c.place.view_is) logs);
       hold = c.place.invariant.hold;
       table = ap (λ (x : SeatState). x.table) c.place.view_is ∙ of_it.table;
       room = search rules;
@@ -60,16 +63,20 @@ loop-seats-preserved c =
     let more : 0 < length rest = search rules in
     let lists : List (List Entry) = map (λ (log : LogState). log.entries) c.loop-seats.logs.items in
     let parts : List Part = c.loop-seats.place.me.0.parts in
+    let notes : List Served = c.loop-seats.place.me.0.notes in
+    let notes_are : notes ++ other.knows.notes ≡ c.join_seat.new.seat.me.0.notes =
+    sym (ap (λ m. m.0.notes) c.join_seat.ensures.2 ∙ ap (λ (ns : List Served). notes ++ ns) (ap (λ (x : SeatState). x.knows.notes) c.other.view_is)) in
     let parts_are : parts ++ part_of other ∷ [] ≡ c.join_seat.new.seat.me.0.parts =
     sym (ap (λ m. m.0.parts) c.join_seat.ensures.2 ∙ ap (λ (ps : List Part). parts ++ ps) (c.other.invariant.parts ∙ ap (λ (x : SeatState). part_of x ∷ []) c.other.view_is)) in
     let lists_are : lists ++ other.entries ∷ [] ≡ map (λ (log : LogState). log.entries) c.push_reserved-in-loop-seats.new.self.items =
     sym (ap (map (λ (log : LogState). log.entries)) c.push_reserved-in-loop-seats.ensures.items ∙ (map-append (λ (log : LogState). log.entries) c.loop-seats.logs.items (c.other.inside.log ∷ [])
     ∙ ap (λ (es : List Entry). lists ++ es ∷ []) (ap (λ (x : SeatState). x.entries) c.other.view_is))) in
     record {
-      joined = subst (λ (xs : List SeatState). Joined c.args.seats.items xs c.join_seat.new.seat.me.0.parts (map (λ (log : LogState). log.entries) c.push_reserved-in-loop-seats.new.self.items)) (sym left)
-          (subst (λ (ps : List Part). Joined c.args.seats.items (drop 1 rest) ps (map (λ (log : LogState). log.entries) c.push_reserved-in-loop-seats.new.self.items)) parts_are
-          (subst (Joined c.args.seats.items (drop 1 rest) (parts ++ part_of other ∷ [])) lists_are
-          (one_joined c.args.seats.items rest other parts lists before.joined more c.remove-in-loop-seats.ensures.value)));
+      joined = subst (λ (xs : List SeatState). Joined c.args.seats.items xs c.join_seat.new.seat.me.0.parts c.join_seat.new.seat.me.0.notes (map (λ (log : LogState). log.entries) c.push_reserved-in-loop-seats.new.self.items)) (sym left)
+          (subst (λ (ps : List Part). Joined c.args.seats.items (drop 1 rest) ps c.join_seat.new.seat.me.0.notes (map (λ (log : LogState). log.entries) c.push_reserved-in-loop-seats.new.self.items)) parts_are
+          (subst (λ (ns : List Served). Joined c.args.seats.items (drop 1 rest) (parts ++ part_of other ∷ []) ns (map (λ (log : LogState). log.entries) c.push_reserved-in-loop-seats.new.self.items)) notes_are
+          (subst (Joined c.args.seats.items (drop 1 rest) (parts ++ part_of other ∷ []) (notes ++ other.knows.notes)) lists_are
+          (one_joined c.args.seats.items rest other parts notes lists before.joined more c.remove-in-loop-seats.ensures.value))));
       hold = ap (λ m. m.0.hold) c.join_seat.ensures.2 ∙ before.hold;
       table = c.join_seat.ensures.0 ∙ before.table;
       room = search rules;
@@ -80,23 +87,23 @@ pub close_with-requires : goal.close_with-requires
 close_with-requires c = search rules
 
 -- no seat is left
-ended : (c : goal.After-drop-seats) → (c.loop-seats.place.me.0.parts ≡ map part_of c.args.seats.items) × (map (λ (log : LogState). log.entries) c.loop-seats.logs.items ≡ map (λ (seat : SeatState). seat.entries) c.args.seats.items)
+ended : (c : goal.After-drop-seats) → (c.loop-seats.place.me.0.parts ≡ map part_of c.args.seats.items) × (c.loop-seats.place.me.0.notes ≡ flat_map (λ (seat : SeatState). seat.knows.notes) c.args.seats.items) × (map (λ (log : LogState). log.entries) c.loop-seats.logs.items ≡ map (λ (seat : SeatState). seat.entries) c.args.seats.items)
 ended c =
     let size : length c.loop-seats.seats.items ≡ 0 = search rules in
     let none_left : c.loop-seats.seats.items ≡ [] = nil_from_length c.loop-seats.seats.items size in
-    all_joined c.args.seats.items c.loop-seats.place.me.0.parts (map (λ (log : LogState). log.entries) c.loop-seats.logs.items)
-    (subst (λ (xs : List SeatState). Joined c.args.seats.items xs c.loop-seats.place.me.0.parts (map (λ (log : LogState). log.entries) c.loop-seats.logs.items)) none_left c.loop-seats.invariant.joined)
+    all_joined c.args.seats.items c.loop-seats.place.me.0.parts c.loop-seats.place.me.0.notes (map (λ (log : LogState). log.entries) c.loop-seats.logs.items)
+    (subst (λ (xs : List SeatState). Joined c.args.seats.items xs c.loop-seats.place.me.0.parts c.loop-seats.place.me.0.notes (map (λ (log : LogState). log.entries) c.loop-seats.logs.items)) none_left c.loop-seats.invariant.joined)
 
 pub returns-clause-logs : goal.returns-clause-logs
-returns-clause-logs c = (ended c).1
+returns-clause-logs c = (ended c).2
 
 pub returns-clause-whole : goal.returns-clause-whole
 returns-clause-whole c =
     let inside = c.self.inside.words.shared in
-    let t : TableState = state_of inside.table_id inside.key in
+    let t : TableState = table_state_of inside.table_id inside.key in
     let all = subst (λ (x : TableState). AreAllSeats x c.args.seats.items) (sym c.self.view_is) c.requires in
-    subst (λ (x : TableState). AreWhole x (recorded c.args.seats.items) c.args.seats.items c.taken_out.result.items) c.self.view_is
-    (subst (λ (xs : List ShardState). AreWhole t (recorded c.args.seats.items) c.args.seats.items xs) (sym c.taken_out.ensures)
+    subst (λ (x : TableState). AreWhole x (recorded_entries c.args.seats.items) c.args.seats.items c.taken_out.result.items) c.self.view_is
+    (subst (λ (xs : List ShardState). AreWhole t (recorded_entries c.args.seats.items) c.args.seats.items xs) (sym c.taken_out.ensures)
     (is_whole c.stamps_rise.ensures c.cores_decide_the_order.ensures c.recorded_order_keeps_the_stamps.ensures c.each_has_its_own.ensures
     t c.self.invariant.some c.loop-seats.place.id c.loop-seats.place.me.0 c.args.seats.items (slots_items c.close_with.result.words) (slots_items c.close_with.result.slots)
-    c.loop-seats.invariant.hold (ended c).0 all c.close_with.ensures.values.2))
+    c.loop-seats.invariant.hold (ended c).0 (ended c).1 all c.close_with.ensures.values.2))

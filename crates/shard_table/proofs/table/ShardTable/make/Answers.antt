@@ -2,35 +2,35 @@ use Rattle.std.proofs.Common.{rules, ◌≡◌, ◌*◌, ◌+◌, ◌<◌, ℕ, 
 use Rattle.std.specs.Prelude.{slice_get, Some}
 use Rattle.atomic_table.specs.Table.{opening}
 use Rattle.shard.specs.Served.{ShardState}
-use Rattle.shard_table.specs.Access.{restarted}
+use Rattle.shard_table.specs.Access.{restarted_shards}
 use Rattle.shard_table.specs.Lives.{AreNew}
-use Rattle.shard_table.specs.Rule.{AreTurns}
+use Rattle.shard_table.specs.Rule.{AreTurnsAtTable}
 use Rattle.shard_table.specs.Tables.{resumed_all}
 use Rattle.shard_table.specs.Views.{first_view}
 use Rattle.shard_table.proofs.Making.{are_new, restarted_length, resumed_again, written_back}
 use Rattle.shard_table.proofs.Seating.{begins}
 use Rattle.shard_table.proofs.table.ShardTable.make.Goals as goal
 
-new_at : (shards : List ShardState) → ((number : ℕ) (shard : ShardState) → slice_get shards number ≡ Some shard → shard.number ≡ number) → AreNew (restarted shards)
+new_at : (shards : List ShardState) → ((number : ℕ) (shard : ShardState) → slice_get shards number ≡ Some shard → shard.number ≡ number) → AreNew (restarted_shards shards)
 new_at shards numbers = λ number shard at.
     let same : number ≡ 0 + number = omega arith in
     let it = are_new 0 shards (λ k s there. let here : k ≡ 0 + k = omega arith in numbers k s there ∙ here) number shard at in
     (it.0 ∙ sym same, it.1)
 
 -- the shards, all last stamps of which are 0
-whole : (len : ℕ) (items now new : List ShardState) → len ≡ length items → now ≡ items → new ≡ restarted now → take len (new ++ drop (length new) items) ≡ restarted items
+whole : (len : ℕ) (items now new : List ShardState) → len ≡ length items → now ≡ items → new ≡ restarted_shards now → take len (new ++ drop (length new) items) ≡ restarted_shards items
 whole len items now new size same is =
-    let of_items : new ≡ restarted items = is ∙ ap restarted same in
+    let of_items : new ≡ restarted_shards items = is ∙ ap restarted_shards same in
     written_back len new items (ap length of_items ∙ (restarted_length items ∙ sym size)) ∙ of_items
 
-opens : (values homes : List ShardState) (words : List ℕ) (shards : List ShardState) (cores room : ℕ) → 0 < cores → AreNew (restarted shards) → values ≡ restarted shards → homes ≡ restarted shards
-    → words ≡ replicate (16 * length shards) 0 → AreTurns values cores room (opening words homes (first_view values cores room))
+opens : (values homes : List ShardState) (words : List ℕ) (shards : List ShardState) (cores room : ℕ) → 0 < cores → AreNew (restarted_shards shards) → values ≡ restarted_shards shards → homes ≡ restarted_shards shards
+    → words ≡ replicate (16 * length shards) 0 → AreTurnsAtTable values cores room (opening words homes (first_view values cores room))
 opens values homes words shards cores room some new is home word =
-    let count : 16 * length shards ≡ 16 * length (restarted shards) = ap (λ (n : ℕ). 16 * n) (sym (restarted_length shards)) in
-    subst (λ (xs : List ShardState). AreTurns xs cores room (opening words homes (first_view xs cores room))) (sym is)
-    (subst (λ (xs : List ShardState). AreTurns (restarted shards) cores room (opening words xs (first_view (restarted shards) cores room))) (sym home)
-    (subst (λ (ws : List ℕ). AreTurns (restarted shards) cores room (opening ws (restarted shards) (first_view (restarted shards) cores room))) (sym (word ∙ ap (λ (n : ℕ). replicate n 0) count))
-    (begins (restarted shards) cores room new some)))
+    let count : 16 * length shards ≡ 16 * length (restarted_shards shards) = ap (λ (n : ℕ). 16 * n) (sym (restarted_length shards)) in
+    subst (λ (xs : List ShardState). AreTurnsAtTable xs cores room (opening words homes (first_view xs cores room))) (sym is)
+    (subst (λ (xs : List ShardState). AreTurnsAtTable (restarted_shards shards) cores room (opening words xs (first_view (restarted_shards shards) cores room))) (sym home)
+    (subst (λ (ws : List ℕ). AreTurnsAtTable (restarted_shards shards) cores room (opening ws (restarted_shards shards) (first_view (restarted_shards shards) cores room))) (sym (word ∙ ap (λ (n : ℕ). replicate n 0) count))
+    (begins (restarted_shards shards) cores room new some)))
 
 pub new-requires-2 : goal.new-requires-2
 new-requires-2 c =
@@ -44,7 +44,7 @@ seats-seats-requires-clause-key c =
     let shards : List ShardState = c.args.shards.items in
     let homes = whole c.args.shards.len shards c.deref_mut.result.now c.restart_all.new.shards (search rules) c.deref_mut.ensures.value c.restart_all.ensures in
     let key = c.in-Ok-new.ensures.ok.5 in
-    let items : c.in-Ok-new.words.shared.key.shards.value.items ≡ restarted shards = ap (λ k. k.shards.value.items) key ∙ (ap (λ v. v.items) c.of.ensures ∙ homes) in
+    let items : c.in-Ok-new.words.shared.key.shards.value.items ≡ restarted_shards shards = ap (λ k. k.shards.value.items) key ∙ (ap (λ v. v.items) c.of.ensures ∙ homes) in
     (subst AreNew (sym items) (new_at shards c.requires.numbers), ap (λ k. k.cores) key, c.requires.cores)
 
 pub returns-clause-err : goal.returns-clause-err

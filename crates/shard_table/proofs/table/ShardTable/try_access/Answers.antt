@@ -1,7 +1,7 @@
 use Rattle.std.proofs.Common.{rules, ◌≡◌, ℕ, ◌<◌, List, [], ◌∷◌, ◌++◌, length, refl, sym, ◌∙◌, ap, subst}
 use Rattle.zs_num.specs.declared.entry.Entry.{Entry}
 use Rattle.access_log.specs.Logs.{LogState}
-use Rattle.shard.specs.Served.{ShardState, after}
+use Rattle.shard.specs.Served.{ShardState, shard_after}
 use Rattle.shard_table.specs.declared.view.View.{View}
 use Rattle.shard_table.specs.declared.view.Part.{Part}
 use Rattle.shard_table.specs.declared.view.Served.{Served}
@@ -9,7 +9,7 @@ use Rattle.shard_table.specs.Seats.{IsSeat}
 use Rattle.shard_table.specs.Views.{given, holding}
 use Rattle.shard_table.specs.Access.{IsAccess, IsSameSeat, IsSeatOf, SeatState}
 use Rattle.shard_table.specs.Lives.{MayAsk}
-use Rattle.shard_table.specs.Steps.{IsEntryOf, IsReady}
+use Rattle.shard_table.specs.Steps.{IsEntryOf, IsTakenShard}
 use Rattle.shard_table.proofs.Turning.{accessed, can, entered, same, sound_after, stamp_low}
 use Rattle.shard_table.proofs.table.ShardTable.try_access.Goals as goal
 
@@ -41,16 +41,16 @@ give-requires-clause-ends c =
     (subst (IsSeatOf c.args.self.now) (sym c.seat.view_is) c.requires.table) n c.args.start c.args.request c.shard-shard.ensures.number (subst (λ (x : SeatState). MayAsk c.args.self.now.shards x.core c.args.request) (sym c.seat.view_is) c.requires.ask) t.0 t.1 t.3 e did.0 (subst (λ (x : SeatState). length x.entries < c.args.self.now.room) (sym c.seat.view_is) c.requires.room) in (
       record { core = c.seat.inside.core; list = c.seat.inside.log.entries },
       record { shard = n; list = t.1 },
-      after t.0 e,
+      shard_after t.0 e,
       ap (λ (w : View). w.parts) knows ∙ c.seat.invariant.parts,
       ap (λ (w : View). w.hold) knows,
       refl,
       ap (λ m. m.1) did.1,
-      subst (λ (w : View). IsEntryOf w n (record { core = c.seat.inside.core; list = c.seat.inside.log.entries }) (record { shard = n; list = t.1 }) e (after t.0 e)) (sym knows) is,
+      subst (λ (w : View). IsEntryOf w n (record { core = c.seat.inside.core; list = c.seat.inside.log.entries }) (record { shard = n; list = t.1 }) e (shard_after t.0 e)) (sym knows) is,
     )
 
 -- the seat when the turn was given back
-gave : (c : goal.After-seat-1) → (t : (shard : ShardState) × (list : List Entry) × (c.take-found.new.place.me ≡ (holding c.seat.inside.place.me.0 c.shard-shard.result list, (c.shard-shard.result, shard) ∷ [])) × IsReady c.seat.inside.place.me.0 c.shard-shard.result shard list)
+gave : (c : goal.After-seat-1) → (t : (shard : ShardState) × (list : List Entry) × (c.take-found.new.place.me ≡ (holding c.seat.inside.place.me.0 c.shard-shard.result list, (c.shard-shard.result, shard) ∷ [])) × IsTakenShard c.seat.inside.place.me.0 c.shard-shard.result shard list)
     → c.give.new.place.me ≡ (given (holding c.seat.inside.place.me.0 c.shard-shard.result t.1) (record { core = c.seat.inside.core; list = c.seat.inside.log.entries }) (record { shard = c.shard-shard.result; list = t.1 }) c.serve-entry.result, [])
 gave c t =
     let v = c.seat.inside.place.me.0 in
@@ -60,7 +60,7 @@ gave c t =
     let knows : c.serve-entry.new.place.me.0 ≡ holding v n t.1 = ap (λ m. m.0) did.1 ∙ ap (λ m. m.0) t.2 in
     let part : Part = record { core = c.seat.inside.core; list = c.seat.inside.log.entries } in
     let served : Served = record { shard = n; list = t.1 } in
-    c.give.ensures.gave (after t.0 e) served part (ap (λ m. m.1) did.1) (ap (λ (w : View). w.hold) knows) (ap (λ (w : View). w.parts) knows ∙ c.seat.invariant.parts)
+    c.give.ensures.gave (shard_after t.0 e) served part (ap (λ m. m.1) did.1) (ap (λ (w : View). w.hold) knows) (ap (λ (w : View). w.parts) knows ∙ c.seat.invariant.parts)
     ∙ ap (λ (w : View). (given w part served e, [])) knows
 
 -- what the seat is seen as at the end
