@@ -1,35 +1,38 @@
 -- The accesses of all cores in recorded order are a history of the interval.
-use Rattle.std.proofs.Common.{◌≡◌, ℕ, zero, suc, ◌+◌, ◌*◌, ◌<◌, ◌≤◌, List, [], ◌∷◌, ◌++◌, All, length, map, refl, sym, ◌∙◌, ap, subst, arith}
+use Rattle.std.proofs.Common.{◌≡◌, ℕ, zero, suc, ◌+◌, ◌*◌, ◌^◌, ◌<◌, ◌≤◌, List, [], ◌∷◌, ◌++◌, All, length, map, refl, sym, ◌∙◌, ap, subst, arith}
 use Rattle.std.specs.Prelude.{slice_get, Some, None}
 use Rattle.std.specs.List.{enumerate_from, flat_map, fold}
 use Rattle.std.specs.Option.{option_map}
 use Rattle.std.proofs.lemmas.List.{length-append, length-map}
 use Rattle.std.proofs.lemmas.List.FromFn.{length-enumerate_from}
-use Rattle.std.proofs.lemmas.List.Elements.{All-cons, All-head, All-nil, All-tail}
+use Rattle.std.proofs.lemmas.List.Elements.{All-append, All-cons, All-head, All-nil, All-tail}
 use Rattle.std.proofs.lemmas.Option.{same_Some}
 use Rattle.zs_num.specs.declared.entry.Entry.{Entry}
 use Rattle.elf_load.specs.MemoryImage.{MemoryImage}
+use Rattle.machine_desc.specs.declared.machine.Machine.{Machine}
 use Rattle.shard.specs.Served.{ShardState}
-use Rattle.access_log.specs.History.{AreStamped, core_of_entry, each_after, numbered, of_core}
+use Rattle.access_log.specs.History.{AreStamped, core_of_entry, each_after, of_core, of_number}
 use Rattle.access_log.specs.Laws.{CoresDecideTheOrder, RisingListsStay}
-use Rattle.access_log.specs.Logs.{LogState, all_entries}
+use Rattle.access_log.specs.Logs.{LogState, entries_of_logs}
 use Rattle.access_log.specs.RecordedOrder.{no_stamps}
-use Rattle.shard_table.specs.Access.{AreAllSeats, AreNewSeats, AreWhole, IsSeatOf, SeatState, TableState, all_of, recorded}
+use Rattle.shard_table.specs.Access.{AreAllSeats, AreNewSeats, AreWhole, IsSeatOf, SeatState, TableState, entries_of_seats, recorded_entries}
 use Rattle.bound_core.specs.History.{AreTurnsOf, IsHistory, after_history, after_turn}
 use Rattle.bound_core.specs.ShardWorld.{restarted}
-use Rattle.bound_core.specs.Timed.{NumberedCore, TimedCore, ran_to}
+use Rattle.bound_core.specs.Timed.{NumberedCore, TimedCore, ran_to, timed_of}
 use Rattle.bound_phase.specs.declared.member.Member.{Member}
-use Rattle.bound_phase.specs.Bounds.{IsBound, timed_of}
+use Rattle.bound_core.specs.Turn.{IsOver}
+use Rattle.bound_phase.specs.Bounds.{HaveEnded, IsBound}
 use Rattle.bound_phase.specs.Crew.{HaveRun}
 use Rattle.bound_phase.specs.Member.{HasRun}
 use Rattle.bound_phase.specs.Shares.{mates}
 use Rattle.bound_phase.proofs.Asking.{some_at}
+use Rattle.bound_phase.proofs.RecordedOrder.{all_recorded, length_recorded}
 use Rattle.bound_phase.proofs.Shares.{mates_length}
 use Rattle.bound_phase.proofs.Whole.{as_many, ran_at}
 
 -- ---- lists
 
-all_at : {X : Type 0} (P : X → Type 0) (xs : List X) → ((i : ℕ) (x : X) → slice_get xs i ≡ Some x → P x) → All P xs
+pub all_at : {X : Type 0} (P : X → Type 0) (xs : List X) → ((i : ℕ) (x : X) → slice_get xs i ≡ Some x → P x) → All P xs
 all_at P [] each = All-nil P
 all_at P (x ∷ xs) each = All-cons P x xs (each 0 x refl) (all_at P xs (λ i y at. each (suc i) y at))
 
@@ -68,9 +71,9 @@ mates_at (c ∷ cores) (s ∷ seats) (suc i) m at = mates_at cores seats i m at
 
 -- what each of a list comes to by its own entries
 own_by : {X : Type 0} (step : X → Entry → X) (number_of : Entry → ℕ) (entries : List Entry) (base : ℕ) (xs : List X) (i k : ℕ) → k ≡ base + i
-    → slice_get (map (λ at. fold step at.1 (numbered number_of at.0 entries)) (enumerate_from base xs)) i ≡ option_map (λ x. fold step x (numbered number_of k entries)) (slice_get xs i)
+    → slice_get (map (λ at. fold step at.1 (of_number number_of at.0 entries)) (enumerate_from base xs)) i ≡ option_map (λ x. fold step x (of_number number_of k entries)) (slice_get xs i)
 own_by step number_of entries base [] i k is = refl
-own_by step number_of entries base (x ∷ xs) zero k is = let same : base ≡ k = omega (arith, is) in ap (λ (n : ℕ). Some (fold step x (numbered number_of n entries))) same
+own_by step number_of entries base (x ∷ xs) zero k is = let same : base ≡ k = omega (arith, is) in ap (λ (n : ℕ). Some (fold step x (of_number number_of n entries))) same
 own_by step number_of entries base (x ∷ xs) (suc i) k is = own_by step number_of entries (base + 1) xs i k (omega (arith, is))
 
 -- ---- the entries of logs
@@ -85,6 +88,11 @@ flat_made f g (x ∷ xs) (y ∷ ys) same =
     let two : map f xs ≡ map g ys = cc in
     let rest = flat_made f g xs ys two in
     λ i. one i ++ rest i
+
+all_flat : {X Z : Type 0} (P : Z → Type 0) (f : X → List Z) (xs : List X) → All (λ x. All P (f x)) xs → All P (flat_map f xs)
+all_flat P f [] all = All-nil P
+all_flat P f (x ∷ xs) all =
+    All-append P (f x) (flat_map f xs) (All-head (λ x. All P (f x)) x xs all) (all_flat P f xs (All-tail (λ x. All P (f x)) x xs all))
 
 few_flat : {X Z : Type 0} (f : X → List Z) (room : ℕ) (xs : List X) → All (λ x. length (f x) ≤ room) xs → length (flat_map f xs) ≤ length xs * room
 few_flat f room [] all = omega arith
@@ -129,28 +137,28 @@ module _ (time : Entry → ℕ) (image : MemoryImage) (end : ℕ) (t : TableStat
         (core, n.0.seat, mapped_at (λ (m : Member). m.seat) now core n.0 n.1, (seat_of core n.0 n.1).1);
   }
 
-  pub few_all : (logs : List LogState) → map (λ log. log.entries) logs ≡ map (λ seat. seat.entries) (map (λ m. m.seat) now) → length (all_entries logs) ≤ t.cores * t.room
+  pub few_all : (logs : List LogState) → map (λ log. log.entries) logs ≡ map (λ seat. seat.entries) (map (λ m. m.seat) now) → length (entries_of_logs logs) ≤ t.cores * t.room
   few_all logs same =
       let seats_now : List SeatState = map (λ m. m.seat) now in
-      let flat : all_entries logs ≡ all_of seats_now = flat_made (λ (log : LogState). log.entries) (λ (seat : SeatState). seat.entries) logs seats_now same in
+      let flat : entries_of_logs logs ≡ entries_of_seats seats_now = flat_made (λ (log : LogState). log.entries) (λ (seat : SeatState). seat.entries) logs seats_now same in
       let few = few_flat (λ (seat : SeatState). seat.entries) t.room seats_now (all_at (λ (s : SeatState). length s.entries ≤ t.room) seats_now (λ i s at.
       let n = made_at (λ (m : Member). m.seat) now i s at in subst (λ (x : SeatState). length x.entries ≤ t.room) n.2 (was i n.0 n.1).4.few)) in
       let many = length-map now (λ (m : Member). m.seat) ∙ size in
-      subst (λ (k : ℕ). length (all_entries logs) ≤ k * t.room) many (subst (λ (es : List Entry). length es ≤ length seats_now * t.room) (sym flat) few)
+      subst (λ (k : ℕ). length (entries_of_logs logs) ≤ k * t.room) many (subst (λ (es : List Entry). length es ≤ length seats_now * t.room) (sym flat) few)
 
-  pub flat_logs : (logs : List LogState) → map (λ log. log.entries) logs ≡ map (λ seat. seat.entries) (map (λ m. m.seat) now) → all_entries logs ≡ all_of (map (λ m. m.seat) now)
+  pub flat_logs : (logs : List LogState) → map (λ log. log.entries) logs ≡ map (λ seat. seat.entries) (map (λ m. m.seat) now) → entries_of_logs logs ≡ entries_of_seats (map (λ m. m.seat) now)
   flat_logs logs same = flat_made (λ (log : LogState). log.entries) (λ (seat : SeatState). seat.entries) logs (map (λ m. m.seat) now) same
 
   -- ---- the history
 
   module _ (first : List NumberedCore) (shards : List ShardState) (shards_after : List ShardState) (timed : timed_of cores ≡ timed_of first) (numbers : map (λ c. c.number) cores ≡ map (λ c. c.number) first)
-      (some : 0 < length shards) (begun : t.shards ≡ map restarted shards) (whole : AreWhole t (recorded (map (λ m. m.seat) now)) (map (λ m. m.seat) now) shards_after)
+      (some : 0 < length shards) (begun : t.shards ≡ map restarted shards) (whole : AreWhole t (recorded_entries (map (λ m. m.seat) now)) (map (λ m. m.seat) now) shards_after)
       (stay : RisingListsStay) (decide : CoresDecideTheOrder) where
     abbrev seats_now : List SeatState
     seats_now = map (λ m. m.seat) now
 
     abbrev entries : List Entry
-    entries = recorded seats_now
+    entries = recorded_entries seats_now
 
     abbrev cores_first : List TimedCore
     cores_first = timed_of first
@@ -212,7 +220,7 @@ module _ (time : Entry → ℕ) (image : MemoryImage) (end : ℕ) (t : TableStat
         sizes =
             length-map (map (λ (m : Member). m.core) now) (λ (x : NumberedCore). x.timed) ∙ (length-map now (λ (m : Member). m.core) ∙ (size ∙ (sym first_size
             ∙ sym (length-map (each_after (after_turn time image end) core_of_entry entries cores_first) (ran_to image end)
-            ∙ (length-map (enumerate_from 0 cores_first) (λ at. fold (after_turn time image end) at.1 (numbered core_of_entry at.0 entries)) ∙ length-enumerate_from 0 cores_first)))))
+            ∙ (length-map (enumerate_from 0 cores_first) (λ at. fold (after_turn time image end) at.1 (of_number core_of_entry at.0 entries)) ∙ length-enumerate_from 0 cores_first)))))
 
     numbers_left : map (λ c. c.number) (map (λ m. m.core) now) ≡ map (λ c. c.number) first
     numbers_left =
@@ -228,8 +236,40 @@ module _ (time : Entry → ℕ) (image : MemoryImage) (end : ℕ) (t : TableStat
     pub is_bound : IsBound time image end first shards (map (λ m. m.core) now) shards_after entries
     is_bound = record {
       history = subst (λ xs. IsHistory time image end cores_first xs entries) begun history;
-      in_order = decide (all_of seats_now) entries whole.rise (stay core_of_entry (all_of seats_now) whole.rise);
+      in_order = decide (entries_of_seats seats_now) entries whole.rise (stay core_of_entry (entries_of_seats seats_now) whole.rise);
       cores_are = left_cores;
       numbers = numbers_left;
       shards_are = subst (λ xs. shards_after ≡ (after_history time image end cores_first xs entries).world.shards) begun whole.left;
     }
+
+    -- ---- the end of the interval
+
+    -- what holds of each core that ran, and what holds of all its entries
+    each_left : (P : TimedCore → Type 0) → ((i : ℕ) (n : Member) → slice_get now i ≡ Some n → P n.core.timed) → All P (timed_of (map (λ m. m.core) now))
+    each_left P each = all_at P (timed_of (map (λ m. m.core) now)) (λ i x at.
+        let c = made_at (λ (y : NumberedCore). y.timed) (map (λ m. m.core) now) i x at in
+        let n = made_at (λ (m : Member). m.core) now i c.0 c.1 in
+        subst P (ap (λ (y : NumberedCore). y.timed) n.2 ∙ c.2) (each i n.0 n.1))
+
+    each_entry : (P : Entry → Type 0) → ((i : ℕ) (n : Member) → slice_get now i ≡ Some n → All P n.seat.entries) → All P (entries_of_seats seats_now)
+    each_entry P each = all_flat P (λ (seat : SeatState). seat.entries) seats_now (all_at (λ (s : SeatState). All P s.entries) seats_now (λ i s at.
+        let n = made_at (λ (m : Member). m.seat) now i s at in subst (λ (x : SeatState). All P x.entries) n.2 (each i n.0 n.1)))
+
+    pub have_ended : (m : Machine) → t.cores ≡ m.cores → t.room ≡ m.interval + 258 → HaveEnded m end first (map (λ m. m.core) now) entries
+    have_ended m cores_are room_is = record {
+      over = each_left (IsOver end) (λ i n at. (was i n at).4.over);
+      starts = all_recorded (λ (e : Entry). e.start ≤ end + 2 ^ 28) (entries_of_seats seats_now) (each_entry (λ (e : Entry). e.start ≤ end + 2 ^ 28) (λ i n at. (was i n at).4.starts));
+      few =
+          subst (λ (k : ℕ). length entries ≤ k * (m.interval + 258)) cores_are
+          (subst (λ (k : ℕ). length entries ≤ t.cores * k) room_is (subst (λ (k : ℕ). k ≤ t.cores * t.room) (sym (length_recorded (entries_of_seats seats_now))) few_entries));
+      clocks = λ most late clocks. each_left (λ (c : TimedCore). c.clock ≤ most + 2 ^ 28) (λ i n at.
+          let b = was i n at in
+          let there : slice_get cores_first i ≡ Some b.0.core.timed = ap (λ xs. slice_get xs i) (sym timed) ∙ mapped_at (λ (x : NumberedCore). x.timed) cores i b.0.core b.1 in
+          let early = all_here (λ (c : TimedCore). c.clock ≤ most) cores_first i b.0.core.timed clocks there in
+          omega (arith, b.4.clock, early, late));
+    } where
+      few_entries : length (entries_of_seats seats_now) ≤ t.cores * t.room
+      few_entries =
+          let few = few_flat (λ (seat : SeatState). seat.entries) t.room seats_now (all_at (λ (s : SeatState). length s.entries ≤ t.room) seats_now (λ i s at.
+          let n = made_at (λ (m : Member). m.seat) now i s at in subst (λ (x : SeatState). length x.entries ≤ t.room) n.2 (was i n.0 n.1).4.few)) in
+          subst (λ (k : ℕ). length (entries_of_seats seats_now) ≤ k * t.room) (length-map now (λ (m : Member). m.seat) ∙ size) few

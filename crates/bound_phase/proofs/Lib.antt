@@ -1,4 +1,5 @@
 pub mod Asking
+pub mod Machine
 pub mod Running
 pub mod Rows
 pub mod Shares
@@ -7,3 +8,5 @@ pub mod Whole
 pub mod Ending
 pub mod Turns
 pub mod Seated
+pub mod RecordedOrder
+pub mod FirstCores

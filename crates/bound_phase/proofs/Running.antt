@@ -1,7 +1,8 @@
 -- What the turns of a core come to, by the port's own list of them; and a core that has halted takes none.
-use Rattle.std.proofs.Common.{◌≡◌, ◌≤◌, ℕ, false, List, [], ◌∷◌, ◌++◌, length, refl, sym, ◌∙◌, ap, subst, arith}
+use Rattle.std.proofs.Common.{◌≡◌, ◌≤◌, ◌+◌, ◌^◌, ℕ, max, nat_lt, false, List, [], ◌∷◌, ◌++◌, length, All, refl, sym, ◌∙◌, ap, subst, inl, inr, arith, rules}
 use Rattle.std.specs.Prelude.{None, Option, Some, IsSome, is_none}
 use Rattle.std.specs.List.{fold}
+use Rattle.std.proofs.lemmas.Bool.{cases_lt}
 use Rattle.std.proofs.lemmas.Option.{same_Some}
 use Rattle.zs_num.specs.declared.entry.Entry.{Entry}
 use Rattle.zs_num.specs.declared.request.Request.{Request}
@@ -10,9 +11,10 @@ use Rattle.rv_core.specs.declared.why.Why.{Why}
 use Rattle.shard_table.specs.Access.{IsSeatOf, SeatState, TableState}
 use Rattle.bound_core.specs.History.{AreTurnsOf, after_turn}
 use Rattle.bound_core.specs.HistoryLaws.{TurnsAreTheCoresOwn}
-use Rattle.bound_core.specs.Timed.{NumberedCore, TimedCore, asks, next_request, ran_to}
+use Rattle.bound_core.specs.Timed.{NumberedCore, TimedCore, asks, latest_clock, left_of_instruction, most_accesses, next_request, ran_to}
 use Rattle.bound_core.specs.Port.{Gains}
-use Rattle.bound_core.specs.Turn.{RunsToEnd, TurnsToEnd}
+use Rattle.bound_core.specs.Turn.{IsOver, RunsToEnd, TurnsToEnd}
+use Rattle.bound_core.proofs.Accesses.{latest_small}
 use Rattle.bound_phase.specs.Member.{HasRun}
 use Rattle.bound_phase.specs.declared.member.Member.{Member}
 
@@ -37,7 +39,27 @@ rests time image end t m halted idle new = record {
   left =
       sym (stays image end m.core.timed halted) ∙ ap (λ (es : List Entry). ran_to image end (fold (after_turn time image end) m.core.timed es)) (sym new);
   few = subst (λ (es : List Entry). length es ≤ t.room) (sym new) (omega arith);
+  over = record { idle = idle; over = inl halted };
+  starts = subst (All (λ (e : Entry). e.start ≤ end + 2 ^ 28)) (sym new) (λ k d below. absurd (omega (arith, below)));
+  clock = omega arith;
 }
+
+-- ---- none of its accesses is late
+
+none_past : (end : ℕ) (c : TimedCore) → end ≤ c.clock → c.core.instruction ≡ None → most_accesses end c ≡ 0
+unfolding most_accesses
+none_past end c late idle = let past : nat_lt c.clock end ≡ false = search rules in rw (past, idle) refl
+
+-- a core that has come past the end has none
+starts_soon : (end : ℕ) (c : TimedCore) (entries : List Entry) → c.core.instruction ≡ None → All (λ e. e.start ≤ latest_clock end c) entries → length entries ≤ most_accesses end c
+    → All (λ e. e.start ≤ end + 2 ^ 28) entries
+starts_soon end c entries idle starts few = λ k d below.
+    let none : left_of_instruction c.core.instruction ≡ 0 = ap left_of_instruction idle in
+    let small : latest_clock end c ≤ max c.clock end + 2 ^ 28 = latest_small end c (omega (arith, none)) in
+    elim (cases_lt c.clock end) [
+      | inl early ↦ omega (arith, starts k d below, small, early)
+      | inr late ↦ absurd (omega (arith, below, few, none_past end c late idle))
+    ]
 
 -- ---- a core that ran
 
@@ -52,8 +74,9 @@ module _ {Port : Type 0} (gives : Port → (start : ℕ) → Request → Entry �
   -- the seat's list is what the turns took, and these are the core's
   pub ran : TurnsAreTheCoresOwn gives → (t : TableState) (p q : Port) (seat seat' : SeatState) (c d : NumberedCore) → told p ≡ Some seat.entries → told q ≡ Some seat'.entries
       → IsSeatOf t seat → IsSeatOf (table q) seat' → t ≡ table p → seat'.core ≡ seat.core → d.number ≡ c.number → seat.entries ≡ [] → length seat'.entries ≤ (table q).room
+      → c.timed.core.instruction ≡ None → IsOver end d.timed → d.timed.clock ≤ max c.timed.clock end + 2 ^ 28
       → RunsToEnd time image end gives told c.number p q c.timed d.timed → HasRun time image end t (record { core = c; seat = seat }) (record { core = d; seat = seat' })
-  ran own t p q seat seat' c d told_p told_q of_t of_q table_p core_is number new few run =
+  ran own t p q seat seat' c d told_p told_q of_t of_q table_p core_is number new few idle over clock run =
       let stays : table q ≡ t = same_table run.entries p q c.timed d.timed run.turns ∙ sym table_p in
       let after : IsSeatOf t seat' = subst (λ (x : TableState). IsSeatOf x seat') stays of_q in
       let gained : told q ≡ Some (seat.entries ++ run.entries) = told_more (told p) (told q) seat.entries run.entries told_p run.told in
@@ -65,6 +88,9 @@ module _ {Port : Type 0} (gives : Port → (start : ℕ) → Request → Entry �
         turns = subst (AreTurnsOf time image end c.timed) (sym list) mine.0;
         left = mine.1 ∙ ap (λ (es : List Entry). ran_to image end (fold (after_turn time image end) c.timed es)) (sym list);
         few = subst (λ (x : TableState). length seat'.entries ≤ x.room) stays few;
+        over = over;
+        starts = subst (All (λ (e : Entry). e.start ≤ end + 2 ^ 28)) (sym list) (starts_soon end c.timed run.entries idle run.starts run.few);
+        clock = clock;
       }
     where
       asked_it : (p q : Port) (start : ℕ) (request : Request) (e : Entry) → gives p start request e q → (e.request ≡ request) × (e.start ≡ start)

@@ -8,8 +8,8 @@ use Rattle.shard.specs.Served.{ShardState}
 use Rattle.shard_table.specs.Access.{AreNewSeats, SeatState, TableState}
 use Rattle.bound_core.specs.ShardPort.{AreShardsOf, IsShardAt}
 use Rattle.bound_core.specs.ShardWorld.{restarted}
-use Rattle.bound_core.specs.Timed.{NumberedCore, TimedCore}
-use Rattle.bound_phase.specs.Bounds.{AreSeated, CanBound, HaveRoom, IsAtStart, timed_of}
+use Rattle.bound_core.specs.Timed.{NumberedCore, TimedCore, timed_of}
+use Rattle.bound_phase.specs.Bounds.{AreSeated, CanBound, HasConsoleRoom, IsAtStart}
 use Rattle.bound_phase.proofs.Ending.{all_here, made_at}
 use Rattle.bound_phase.proofs.Whole.{agreed_at}
 
@@ -43,7 +43,7 @@ shards_restarted cores base size shards are = record {
 }
 
 pub seated : (m : Machine) (end : ℕ) (t : TableState) (first cores : List NumberedCore) (shards : List ShardState) (seats : List SeatState) → CanBound m end first shards
-    → length cores ≡ length first → timed_of cores ≡ timed_of first → map (λ c. c.number) cores ≡ map (λ c. c.number) first → All (HaveRoom (m.interval + 258)) cores
+    → length cores ≡ length first → timed_of cores ≡ timed_of first → map (λ c. c.number) cores ≡ map (λ c. c.number) first → All (HasConsoleRoom (m.interval + 258)) cores
     → t.cores ≡ m.cores → t.shards ≡ map restarted shards → t.room ≡ m.interval + 258 → AreNewSeats t seats → AreSeated m end t cores seats
 seated m end t first cores shards seats can size timed numbers room cores_are shards_are room_is new = record {
   count = size ∙ (can.count ∙ sym cores_are);
@@ -52,7 +52,7 @@ seated m end t first cores shards seats can size timed numbers room cores_are sh
       let x = agreed_at (λ (y : NumberedCore). y.timed) first cores number c timed at in
       let y = agreed_at (λ (z : NumberedCore). z.number) first cores number c numbers at in (
         moved m end x.0 c x.2 (all_here (IsAtStart m end) first number x.0 can.at_start x.1),
-        all_here (HaveRoom (m.interval + 258)) cores number c room at,
+        all_here (HasConsoleRoom (m.interval + 258)) cores number c room at,
         y.2 ∙ can.numbers number y.0 y.1,
       );
   seats_new = new;

@@ -1,5 +1,5 @@
 -- The bound phase of an interval by several workers.
-use Rattle.std.specs.Prelude.{◌≡◌, ℕ, ◌+◌, ◌^◌, ◌≤◌, List, length, map, slice_get, All, None, Some, IsNone}
+use Rattle.std.specs.Prelude.{◌≡◌, ℕ, ◌+◌, ◌*◌, ◌^◌, ◌≤◌, List, length, map, slice_get, All, None, Some, IsNone}
 use Rattle.zs_num.specs.declared.entry.Entry.{Entry}
 use Rattle.machine_desc.specs.declared.machine.Machine.{Machine}
 use Rattle.elf_load.specs.MemoryImage.{MemoryImage}
@@ -9,10 +9,8 @@ use Rattle.access_log.specs.RecordedOrder.{recorded_order}
 use Rattle.bound_core.specs.History.{IsHistory, after_history}
 use Rattle.bound_core.specs.ShardPort.{AreShardsOf}
 use Rattle.bound_core.specs.ShardWorld.{restarted}
-use Rattle.bound_core.specs.Timed.{NumberedCore, TimedCore}
-
-abbrev pub timed_of : List NumberedCore → List TimedCore
-timed_of cores = map (λ c. c.timed) cores
+use Rattle.bound_core.specs.Timed.{NumberedCore, timed_of}
+use Rattle.bound_core.specs.Turn.{IsOver}
 
 -- A core of this machine between two instructions. Unless it has halted, the interval that ends at `end` is one of the machine's
 -- length at most from its clock.
@@ -41,15 +39,24 @@ pub record IsBound (time : Entry → ℕ) (image : MemoryImage) (end : ℕ) (cor
   pub numbers : map (λ c. c.number) cores_after ≡ map (λ c. c.number) cores
   pub shards_are : shards_after ≡ (after_history time image end (timed_of cores) (map restarted shards) entries).world.shards
 
+-- Every core has halted or come to the end of the interval. No access starts more than 2^28 cycles behind the end, no clock
+-- is more than 2^28 cycles behind where it began or behind the end, and each core has an access for each cycle and 258 more
+-- at most.
+pub record HaveEnded (m : Machine) (end : ℕ) (cores cores_after : List NumberedCore) (entries : List Entry) : Type 0 where
+  pub over : All (IsOver end) (timed_of cores_after)
+  pub starts : All (λ e. e.start ≤ end + 2 ^ 28) entries
+  pub few : length entries ≤ m.cores * (m.interval + 258)
+  pub clocks : (most : ℕ) → end ≤ most → All (λ c. c.clock ≤ most) (timed_of cores) → All (λ c. c.clock ≤ most + 2 ^ 28) (timed_of cores_after)
+
 -- there is room for so many bytes on the console
-abbrev pub HaveRoom : ℕ → NumberedCore → Type 0
-HaveRoom room c = room ≤ c.spare
+abbrev pub HasConsoleRoom : ℕ → NumberedCore → Type 0
+HasConsoleRoom room c = room ≤ c.spare
 
 -- the cores have room for what they write, and new seats at a table of the machine's shards
 pub record AreSeated (m : Machine) (end : ℕ) (t : TableState) (cores : List NumberedCore) (seats : List SeatState) : Type 0 where
   pub count : length cores ≡ t.cores
   pub cores_are : t.cores ≡ m.cores
-  pub ready : (number : ℕ) (c : NumberedCore) → slice_get cores number ≡ Some c → IsAtStart m end c × HaveRoom (m.interval + 258) c × (c.number ≡ number)
+  pub ready : (number : ℕ) (c : NumberedCore) → slice_get cores number ≡ Some c → IsAtStart m end c × HasConsoleRoom (m.interval + 258) c × (c.number ≡ number)
   pub seats_new : AreNewSeats t seats
   pub shards : AreShardsOf t.cores t.shards m.memory.base m.memory.size
   pub room : t.room ≡ m.interval + 258

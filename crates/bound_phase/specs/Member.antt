@@ -1,6 +1,6 @@
 -- What one core of a worker does in an interval.
-use Rattle.std.specs.Prelude.{◌≡◌, ℕ, ◌+◌, ◌-◌, ◌^◌, ◌<◌, ◌≤◌, [], length, None, IsNone}
-use Rattle.std.specs.List.{fold}
+use Rattle.std.specs.Prelude.{◌≡◌, ℕ, ◌+◌, ◌-◌, ◌^◌, ◌<◌, ◌≤◌, max, [], length, None, IsNone}
+use Rattle.std.specs.List.{All, fold}
 use Rattle.zs_num.specs.declared.entry.Entry.{Entry}
 use Rattle.machine_desc.specs.declared.machine.Memory.{Memory}
 use Rattle.elf_load.specs.MemoryImage.{MemoryImage}
@@ -8,6 +8,7 @@ use Rattle.shard_table.specs.Access.{IsSameSeat, IsSeatOf, TableState}
 use Rattle.bound_core.specs.History.{AreTurnsOf, after_turn}
 use Rattle.bound_core.specs.ShardPort.{AreShardsOf}
 use Rattle.bound_core.specs.Timed.{ran_to}
+use Rattle.bound_core.specs.Turn.{IsOver}
 use Rattle.bound_phase.specs.declared.member.Member.{Member}
 
 -- The core can run to cycle `end` by its seat at this table.
@@ -32,3 +33,6 @@ pub record HasRun (time : Entry → ℕ) (image : MemoryImage) (end : ℕ) (t : 
   pub turns : AreTurnsOf time image end before.core.timed after.seat.entries
   pub left : after.core.timed ≡ ran_to image end (fold (after_turn time image end) before.core.timed after.seat.entries)
   pub few : length after.seat.entries ≤ t.room
+  pub over : IsOver end after.core.timed
+  pub starts : All (λ e. e.start ≤ end + 2 ^ 28) after.seat.entries
+  pub clock : after.core.timed.clock ≤ max before.core.timed.clock end + 2 ^ 28

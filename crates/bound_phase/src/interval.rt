@@ -1,7 +1,7 @@
 //! The bound phase of an interval.
 ghost use Rattle.std.specs.Prelude.{◌≡◌, ◌<◌, ◌≤◌, ◌+◌, ◌^◌, ◌*◌, [], All, length, map, vec_capacity, IfOk, IfErr, OnOk};
 ghost use Rattle.machine_desc.specs.Machine.{IsMachine};
-ghost use Rattle.bound_phase.specs.Bounds.{AreSeated, CanBound, HaveRoom, IsBound};
+ghost use Rattle.bound_phase.specs.Bounds.{AreSeated, CanBound, HasConsoleRoom, HaveEnded, IsBound};
 ghost use Rattle.bound_phase.specs.Shares.{AreEmpty, HaveReturned, mates};
 
 use crate::crew::{Crew, work_all};
@@ -33,7 +33,7 @@ pub struct Bounded {
 /// Runs the cores to the end of the interval, cycle `end`, by so many workers: each runs the cores whose
 /// number is its own modulo the number of workers, in ascending order. Before each access, when it has
 /// no shard's turn, a worker passes the gate. Where memory runs out, cores and shards come back as they
-/// were, with no entries; no access was made then.
+/// were, with no entries.
 pub fn bound<R: Threads + Wait + Sync, G: Gate, P: Program + Sync, X: Expand + Sync>(
     rt: &R,
     alloc: Global,
@@ -51,6 +51,7 @@ pub fn bound<R: Threads + Wait + Sync, G: Gate, P: Program + Sync, X: Expand + S
     requires end { end ≤ 2 ^ 60 }
     requires workers { (0 < workers) × (workers ≤ 64) }
     ensures bound { IfOk result (λ b. IsBound (X.time x.now) (P.image program.now) end cores.items shards.items b.cores.items b.shards.items b.entries) }
+    ensures ended { IfOk result (λ b. HaveEnded machine.now end cores.items b.cores.items b.entries) }
     ensures cores { IfErr result (λ back. (map (λ c. c.timed) back.1.cores.items ≡ map (λ c. c.timed) cores.items) × (map (λ c. c.number) back.1.cores.items ≡ map (λ c. c.number) cores.items)) }
     ensures shards { IfErr result (λ back. back.1.shards.items ≡ shards.items) }
     ensures none { IfErr result (λ back. back.1.entries ≡ []) }
@@ -156,7 +157,7 @@ impl Memory {
         ensures count { length cores.new ≡ length cores.old }
         ensures timed { map (λ c. c.timed) cores.new ≡ map (λ c. c.timed) cores.old }
         ensures number { map (λ c. c.number) cores.new ≡ map (λ c. c.number) cores.old }
-        ensures spare { OnOk result (All (HaveRoom (machine.now.interval + 258)) cores.new) }
+        ensures spare { OnOk result (All (HasConsoleRoom (machine.now.interval + 258)) cores.new) }
         ensures crews { IfOk result (λ m. (0 < length m.crews.items) × (length m.crews.items ≤ 64) × All (AreEmpty machine.now.cores) m.crews.items) }
         ensures back { IfOk result (λ m. (m.back.items ≡ []) × (machine.now.cores ≤ vec_capacity m.back)) }
         ensures seats { IfOk result (λ m. (m.seats_back.items ≡ []) × (machine.now.cores ≤ vec_capacity m.seats_back)) }
@@ -179,7 +180,7 @@ fn reserve_all(cores: &mut [BoundCore], interval: u64) -> Result<(), NoMemory>
     ensures count { length cores.new ≡ length cores.old }
     ensures timed { map (λ c. c.timed) cores.new ≡ map (λ c. c.timed) cores.old }
     ensures number { map (λ c. c.number) cores.new ≡ map (λ c. c.number) cores.old }
-    ensures spare { OnOk result (All (HaveRoom (interval + 258)) cores.new) }
+    ensures spare { OnOk result (All (HasConsoleRoom (interval + 258)) cores.new) }
 {
     for i in 0..cores.len() {
         cores[i].reserve(interval)?;

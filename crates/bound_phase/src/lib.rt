@@ -6,7 +6,10 @@
 mod crew;
 mod hiring;
 mod interval;
+pub mod laws;
 mod member;
 mod seat_port;
+#[cfg(test)]
+mod tests;
 
 pub use interval::{Bounded, bound};

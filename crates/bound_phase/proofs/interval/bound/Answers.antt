@@ -1,13 +1,13 @@
 use Rattle.std.proofs.Common.{rules, ◌≡◌, ◌+◌, ◌*◌, ◌≤◌, ℕ, List, length, map, sym, ◌∙◌, ap, subst}
 use Rattle.zs_num.specs.declared.entry.Entry.{Entry}
-use Rattle.access_log.specs.Logs.{HaveDistinctKeys, LogState, all_entries}
+use Rattle.access_log.specs.Logs.{HaveDistinctKeys, LogState, entries_of_logs}
 use Rattle.access_log.specs.RecordedOrder.{recorded_order}
-use Rattle.shard_table.specs.Access.{AreAllSeats, AreWhole, SeatState, TableState, all_of, recorded}
+use Rattle.shard_table.specs.Access.{AreAllSeats, AreWhole, SeatState, TableState, entries_of_seats, recorded_entries}
 use Rattle.bound_core.specs.Timed.{NumberedCore}
 use Rattle.bound_phase.specs.declared.member.Member.{Member}
-use Rattle.bound_phase.specs.Bounds.{AreSeated, IsBound}
+use Rattle.bound_phase.specs.Bounds.{AreSeated, HaveEnded, IsBound}
 use Rattle.bound_phase.specs.Shares.{HaveReturned, mates}
-use Rattle.bound_phase.proofs.Ending.{all_seats, few_all, flat_logs, is_bound}
+use Rattle.bound_phase.proofs.Ending.{all_seats, few_all, flat_logs, have_ended, is_bound}
 use Rattle.bound_phase.proofs.Seated.{seated, written_back}
 use Rattle.bound_phase.proofs.interval.bound.Goals as goal
 
@@ -57,7 +57,7 @@ merge-entries-requires-clause-room g c =
     let few = few_all (g.X.Expand.time c.args.x.now) (g.P.Program.image c.args.program.now) c.args.end t cores seats back.now back.ran count c.in-Ok-make.ensures.seats c.close-shards.result.1.items logs in
     let room : t.room ≡ m.interval + 258 = search rules in
     let product : t.cores * t.room ≡ c.in-Ok.memory.merger = ap (λ (p : ℕ × ℕ). p.0 * p.1) (λ i. (table.1 i, room i)) ∙ sym c.in-Ok.ensures.merger in
-    subst (λ (n : ℕ). length (all_entries c.deref.result.now) ≤ n) product (subst (λ (ls : List LogState). length (all_entries ls) ≤ t.cores * t.room) (sym c.deref.ensures.value) few)
+    subst (λ (n : ℕ). length (entries_of_logs c.deref.result.now) ≤ n) product (subst (λ (ls : List LogState). length (entries_of_logs ls) ≤ t.cores * t.room) (sym c.deref.ensures.value) few)
 
 pub merge-entries-requires-clause-keys : goal.merge-entries-requires-clause-keys
 merge-entries-requires-clause-keys g c =
@@ -74,8 +74,8 @@ merge-entries-requires-clause-keys g c =
     let logs = c.close-shards.ensures.logs ∙ ap (map (λ (s : SeatState). s.entries)) back.seats_are in
     let flat = flat_logs (g.X.Expand.time c.args.x.now) (g.P.Program.image c.args.program.now) c.args.end t cores seats back.now back.ran count c.in-Ok-make.ensures.seats c.close-shards.result.1.items logs in
     let rise = c.close-shards.ensures.whole.rise in
-    let same : all_entries c.deref.result.now ≡ all_of c.take_turns.new.seats_back.items = ap all_entries c.deref.ensures.value ∙ (flat ∙ ap all_of (sym back.seats_are)) in
-    subst HaveDistinctKeys (sym same) (c.rising_stamps_are_distinct.ensures (all_of c.take_turns.new.seats_back.items) rise)
+    let same : entries_of_logs c.deref.result.now ≡ entries_of_seats c.take_turns.new.seats_back.items = ap entries_of_logs c.deref.ensures.value ∙ (flat ∙ ap entries_of_seats (sym back.seats_are)) in
+    subst HaveDistinctKeys (sym same) (c.rising_stamps_are_distinct.ensures (entries_of_seats c.take_turns.new.seats_back.items) rise)
 
 pub returns-in-Ok-make-clause-bound : goal.returns-in-Ok-make-clause-bound
 returns-in-Ok-make-clause-bound g c =
@@ -91,11 +91,35 @@ returns-in-Ok-make-clause-bound g c =
     let count : length cores ≡ t.cores = size ∙ (c.requires.can.count ∙ sym table.1) in
     let logs = c.close-shards.ensures.logs ∙ ap (map (λ (s : SeatState). s.entries)) back.seats_are in
     let flat = flat_logs (g.X.Expand.time c.args.x.now) (g.P.Program.image c.args.program.now) c.args.end t cores seats back.now back.ran count c.in-Ok-make.ensures.seats c.close-shards.result.1.items logs in
-    let all_of_them = subst (λ (ss : List SeatState). AreWhole t (recorded ss) ss c.close-shards.result.0.items) back.seats_are c.close-shards.ensures.whole in
+    let all_of_them = subst (λ (ss : List SeatState). AreWhole t (recorded_entries ss) ss c.close-shards.result.0.items) back.seats_are c.close-shards.ensures.whole in
     let it = is_bound (g.X.Expand.time c.args.x.now) (g.P.Program.image c.args.program.now) c.args.end t cores seats back.now back.ran count c.in-Ok-make.ensures.seats c.args.cores.items c.args.shards.items c.close-shards.result.0.items
     (c.new.ensures.timed ∙ ap (map (λ (x : NumberedCore). x.timed)) now_cores) (c.new.ensures.number ∙ ap (map (λ (x : NumberedCore). x.number)) now_cores) c.requires.can.shards_are.some table.0 all_of_them
     c.rising_lists_stay.ensures c.cores_decide_the_order.ensures in
-    let entries : c.merge-entries.result ≡ recorded (map (λ (x : Member). x.seat) back.now) = c.merge-entries.ensures ∙ ap recorded_order (ap all_entries c.deref.ensures.value ∙ flat) in
+    let entries : c.merge-entries.result ≡ recorded_entries (map (λ (x : Member). x.seat) back.now) = c.merge-entries.ensures ∙ ap recorded_order (ap entries_of_logs c.deref.ensures.value ∙ flat) in
     subst (λ (es : List Entry). IsBound (g.X.Expand.time c.args.x.now) (g.P.Program.image c.args.program.now) c.args.end c.args.cores.items c.args.shards.items c.take_turns.new.back.items c.close-shards.result.0.items es) (sym entries)
-    (subst (λ (cs : List NumberedCore). IsBound (g.X.Expand.time c.args.x.now) (g.P.Program.image c.args.program.now) c.args.end c.args.cores.items c.args.shards.items cs c.close-shards.result.0.items (recorded (map (λ (x : Member). x.seat) back.now)))
+    (subst (λ (cs : List NumberedCore). IsBound (g.X.Expand.time c.args.x.now) (g.P.Program.image c.args.program.now) c.args.end c.args.cores.items c.args.shards.items cs c.close-shards.result.0.items (recorded_entries (map (λ (x : Member). x.seat) back.now)))
+    (sym back.cores_are) it)
+
+pub returns-in-Ok-make-clause-ended : goal.returns-in-Ok-make-clause-ended
+returns-in-Ok-make-clause-ended g c =
+    let m = c.args.machine.now in
+    let t : TableState = c.in-Ok-make.table in
+    let cores : List NumberedCore = c.new.new.cores in
+    let now_cores = c.deref_mut.ensures.value in
+    let size : length cores ≡ length c.args.cores.items = c.new.ensures.count ∙ ap length now_cores in
+    let table = c.in-Ok-make.ensures.table in
+    let seats : List SeatState = c.in-Ok-make.seats.items in
+    let whole = written_back c.args.cores.len cores c.args.cores.items (size ∙ search rules) in
+    let back = subst (λ (xs : List NumberedCore). HaveReturned (g.X.Expand.time c.args.x.now) (g.P.Program.image c.args.program.now) c.args.end t (mates xs seats) c.take_turns.new.back.items c.take_turns.new.seats_back.items) whole c.take_turns.ensures in
+    let count : length cores ≡ t.cores = size ∙ (c.requires.can.count ∙ sym table.1) in
+    let logs = c.close-shards.ensures.logs ∙ ap (map (λ (s : SeatState). s.entries)) back.seats_are in
+    let flat = flat_logs (g.X.Expand.time c.args.x.now) (g.P.Program.image c.args.program.now) c.args.end t cores seats back.now back.ran count c.in-Ok-make.ensures.seats c.close-shards.result.1.items logs in
+    let all_of_them = subst (λ (ss : List SeatState). AreWhole t (recorded_entries ss) ss c.close-shards.result.0.items) back.seats_are c.close-shards.ensures.whole in
+    let room : t.room ≡ m.interval + 258 = search rules in
+    let it = have_ended (g.X.Expand.time c.args.x.now) (g.P.Program.image c.args.program.now) c.args.end t cores seats back.now back.ran count c.in-Ok-make.ensures.seats c.args.cores.items c.args.shards.items c.close-shards.result.0.items
+    (c.new.ensures.timed ∙ ap (map (λ (x : NumberedCore). x.timed)) now_cores) (c.new.ensures.number ∙ ap (map (λ (x : NumberedCore). x.number)) now_cores) c.requires.can.shards_are.some table.0 all_of_them
+    c.rising_lists_stay.ensures c.cores_decide_the_order.ensures m table.1 room in
+    let entries : c.merge-entries.result ≡ recorded_entries (map (λ (x : Member). x.seat) back.now) = c.merge-entries.ensures ∙ ap recorded_order (ap entries_of_logs c.deref.ensures.value ∙ flat) in
+    subst (λ (es : List Entry). HaveEnded m c.args.end c.args.cores.items c.take_turns.new.back.items es) (sym entries)
+    (subst (λ (cs : List NumberedCore). HaveEnded m c.args.end c.args.cores.items cs (recorded_entries (map (λ (x : Member). x.seat) back.now)))
     (sym back.cores_are) it)
