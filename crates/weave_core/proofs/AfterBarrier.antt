@@ -1,5 +1,5 @@
 -- After a barrier the domain with the first unfired event may fire it.
-use Rattle.std.proofs.Common.{◌≡◌, ◌+◌, ◌<◌, ◌≤◌, ℕ, suc, Bool, true, false, not, ◌||◌, cond, ltb, List, [], ◌∷◌, length, map, max, get_or, take, Option, Some, None, is_some, slice_get, sym, ◌∙◌, ap, refl, inl, inr, arith}
+use Rattle.std.proofs.Common.{◌≡◌, ◌+◌, ◌<◌, ◌≤◌, ℕ, suc, Bool, true, false, not, ◌||◌, cond, ltb, List, [], ◌∷◌, length, map, max, get_or, take, Option, Some, None, slice_get, sym, ◌∙◌, ap, refl, inl, inr, arith}
 use Rattle.std.proofs.lemmas.Bool.{false≢true, cases_lt}
 use Rattle.std.proofs.lemmas.Bool.Decides.{nat_tests}
 use Rattle.std.proofs.lemmas.Option.{same_Some}
@@ -7,12 +7,12 @@ use Rattle.std.specs.List.{enumerate_from}
 use Rattle.std.specs.Option.{option_map, option_map_or, option_to_list}
 use Rattle.component.specs.declared.kind.Kind.{Kind}
 use Rattle.event_graph.specs.declared.event.Event.{Event}
-use Rattle.event_graph.specs.OneListWeave.{Timed, is_before, is_fired, start_of}
+use Rattle.event_graph.specs.OneListWeave.{Timed, is_event_before, is_fired, start_of}
 use Rattle.domain_map.specs.declared.crossing.Crossing.{Crossing}
 use Rattle.domain_map.specs.Domains.{Division, Divides, domain_of}
-use Rattle.weave_core.specs.DomainMachine.{DomainState, MachineState, arrival_of, barrier, cycle_of, effect_of, every_crossing, fire, fresh_domain, is_allowed, is_clear, is_exact, is_ready_in, is_unresolved, known_finish, latency_at, latency_of, least_ready_start, next_in, ready_starts, state_of, take_step, with_floor, word_at}
+use Rattle.weave_core.specs.DomainMachine.{DomainState, MachineState, arrival_of, barrier, cycle_of, effect_of, fire, fresh_domain, is_allowed, is_clear, is_exact, is_ready_in, is_unresolved, known_finish, latency_at, latency_of, least_ready_start, next_in, ready_starts, state_of, take_step, with_floor, word_at}
 use Rattle.weave_core.specs.Interleavings.{of_domain}
-use Rattle.weave_core.proofs.Lists.{In, all_from, at_in, both, from_enum, in_cases, least_above, or_right, some_at, test_cases}
+use Rattle.weave_core.proofs.Lists.{In, all_from, at_in, from_enum, in_cases, least_above, or_right, test_cases}
 use Rattle.weave_core.proofs.LeastBy.{IsLeast, next_there, some_next}
 use Rattle.weave_core.proofs.Updates.{floor_below}
 use Rattle.weave_core.proofs.First.{IsFirst}
@@ -142,9 +142,9 @@ module _ {C : Type 0} (stepped : C → Kind → ℕ → C × ℕ) (events : List
       in
       elim (cases_lt k n.0) [
         | inl less ↦
-            let passes_it : is_before x.event x.start n.1.0.event n.1.0.start ≡ true = o.order k n.0 x n.1.0 less there n.1.1.1.0 in
-            let fails_it : is_before x.event x.start b.0.0 b.0.1 ≡ false = ap (λ t. is_before x.event t b.0.0 b.0.1) (sym at) ∙ l.least x.event i ready in
-            absurd (false≢true (sym fails_it ∙ (ap (λ (z : Event). is_before x.event x.start z b.0.1) (sym n.1.1.1.1.0) ∙ (ap (λ t. is_before x.event x.start n.1.0.event t) (sym n.1.1.1.1.1) ∙ passes_it))))
+            let passes_it : is_event_before x.event x.start n.1.0.event n.1.0.start ≡ true = o.order k n.0 x n.1.0 less there n.1.1.1.0 in
+            let fails_it : is_event_before x.event x.start b.0.0 b.0.1 ≡ false = ap (λ t. is_event_before x.event t b.0.0 b.0.1) (sym at) ∙ l.least x.event i ready in
+            absurd (false≢true (sym fails_it ∙ (ap (λ (z : Event). is_event_before x.event x.start z b.0.1) (sym n.1.1.1.1.0) ∙ (ap (λ t. is_event_before x.event x.start n.1.0.event t) (sym n.1.1.1.1.1) ∙ passes_it))))
         | inr m ↦
             let same : k ≡ n.0 = omega (arith, n.1.1.0) in
             let is : x ≡ n.1.0 = same_Some x n.1.0 (sym there ∙ (ap (slice_get all) same ∙ n.1.1.1.0)) in

@@ -6,6 +6,7 @@ use Rattle.std.proofs.lemmas.Bool.Decides.{nat_tests}
 use Rattle.std.proofs.lemmas.Option.{same_Some, get_or_from_slice_get}
 use Rattle.std.specs.List.{enumerate_from}
 use Rattle.std.specs.Option.{option_map}
+use Rattle.zs_num.specs.KeyOrder.{is_key_before}
 use Rattle.zs_num.specs.declared.time.Key.{Key}
 use Rattle.event_graph.specs.declared.event.Event.{Event}
 use Rattle.event_graph.specs.declared.event.Parent.{Parent}
@@ -13,7 +14,6 @@ use Rattle.event_graph.specs.Numbered.{IsNumbered}
 use Rattle.event_graph.specs.OneListWeave.{is_fired}
 use Rattle.domain_map.specs.declared.crossing.Crossing.{Crossing}
 use Rattle.domain_map.specs.Domains.{Division, Divides, domain_of, domain_of_number}
-use Rattle.domain_queue.specs.SortedKeys.{is_before}
 use Rattle.weave_core.specs.declared.incoming.Stub.{Stub}
 use Rattle.weave_core.specs.Answer.{IsBlocking, answer_of, blocked_by, fire_of, no_stub, numbered_key}
 use Rattle.weave_core.specs.DomainCalls.{AllFired, IsAnswer, IsBlockedBy, MayFire, earliest_of}
@@ -192,7 +192,7 @@ module _ (events : List Event) (p : Division) (domain : ℕ) (here : List Event)
       without : (start bound d e : ℕ) → bound + d ≡ start → e ≡ d → start - e ≡ bound
       without start bound d e h k = omega arith
 
-      least_of : (a y t s i j : ℕ) → a ≡ s → y ≡ t → is_before (key_of t i) (key_of s j) ≡ false → (m n : ℕ) → (j < i → m ≤ n) → (j ≡ i → m ≤ n) → (a < y) ⊎ ((a ≡ y) × (m ≤ n))
+      least_of : (a y t s i j : ℕ) → a ≡ s → y ≡ t → is_key_before (key_of t i) (key_of s j) ≡ false → (m n : ℕ) → (j < i → m ≤ n) → (j ≡ i → m ≤ n) → (a < y) ⊎ ((a ≡ y) × (m ≤ n))
       least_of a y t s i j e g h m n u v =
           let upto : s ≤ t = grind (arith, nat_tests) in
           elim (cases_lt s t) [
@@ -218,7 +218,7 @@ module _ (events : List Event) (p : Division) (domain : ℕ) (here : List Event)
       not_less : (x y : ℕ) → ltb x y ≡ false → y ≤ x
       not_less x y h = grind (arith, nat_tests)
 
-      upto : (s t i j : ℕ) → is_before (key_of s i) (key_of t j) ≡ false → t ≤ s
+      upto : (s t i j : ℕ) → is_key_before (key_of s i) (key_of t j) ≡ false → t ≤ s
       upto s t i j h = grind (arith, nat_tests)
 
       by_test : (t : Bool) → ltb k.start b.start ≡ t → IsAnswer events p domain own (cond t (fire_of here k) (blocked_by stubs b))

@@ -1,11 +1,11 @@
 -- A barrier of domains that keep to the weave, by their states alone.
-use Rattle.std.proofs.Common.{◌≡◌, ◌<◌, ◌≤◌, ℕ, Bool, true, false, eqb, List, [], length, take, Some, slice_get, sym, ◌∙◌, ap, arith}
+use Rattle.std.proofs.Common.{◌≡◌, ◌<◌, ◌≤◌, ℕ, eqb, List, [], length, take, Some, slice_get, ◌∙◌, ap, arith}
 use Rattle.component.specs.declared.kind.Kind.{Kind}
 use Rattle.event_graph.specs.declared.event.Event.{Event}
 use Rattle.event_graph.specs.OneListWeave.{Timed, weave, woven}
 use Rattle.event_graph.specs.TimingSolution.{IsInOrder, IsSolution}
 use Rattle.domain_map.specs.Domains.{Division, Divides, domain_of}
-use Rattle.weave_core.specs.AtBarrier.{AreSoundDomains, AreTold, IsFirstLeft, MayGoOn, least_start_of, own_at}
+use Rattle.weave_core.specs.AtBarrier.{AreSoundDomains, IsFirstLeft, KnowFiredParents, MayGoOn, least_start_of, own_at}
 use Rattle.weave_core.specs.DomainMachine.{DomainState, MachineState, with_floor}
 use Rattle.weave_core.specs.Interleavings.{of_domain}
 use Rattle.weave_core.specs.Soundness.{IsSoundFloor, start_in}
@@ -21,7 +21,7 @@ module _ {C : Type 0} (stepped : C → Kind → ℕ → C × ℕ) (events : List
     (here : (k : ℕ) (x : Timed) → slice_get (weave stepped events comps).fired k ≡ Some x → domain_of p.places x.event < length p.events)
     (in_order : IsInOrder (weave stepped events comps).fired)
     (timed : List Timed) (solution : IsSolution stepped events comps timed) (is : timed ≡ woven stepped events comps)
-    (owns : List DomainState) (h : AreSoundDomains stepped events p comps timed solution owns) (told : AreTold p owns) where
+    (owns : List DomainState) (h : AreSoundDomains stepped events p comps timed solution owns) (told : KnowFiredParents p owns) where
   abbrev all : List Timed
   all = (weave stepped events comps).fired
 

@@ -1,22 +1,16 @@
 -- The queue by reach after each step.
-use Rattle.std.proofs.Common.{◌≡◌, ◌+◌, ◌-◌, ◌<◌, ◌≤◌, ◌^◌, ℕ, max, Bool, true, false, cond, List, [], ◌∷◌, length, set, drop, ◌⊎◌, Option, Some, None, slice_get, sym, ◌∙◌, ap, subst, refl, inl, inr, arith, length-set}
-use Rattle.std.specs.Prelude.{nat_lt}
-use Rattle.std.proofs.lemmas.Bool.{cases_eq, false≢true}
-use Rattle.std.proofs.lemmas.Bool.Decides.{nat_tests}
+use Rattle.std.proofs.Common.{◌≡◌, ◌<◌, ◌≤◌, ℕ, true, false, List, length, drop, ◌⊎◌, Some, None, slice_get, sym, ◌∙◌, ap, subst, refl, inl, inr, arith}
+use Rattle.std.proofs.lemmas.Bool.{false≢true}
 use Rattle.std.proofs.lemmas.Option.{same_Some, none-some}
 use Rattle.std.specs.List.{Contains}
-use Rattle.std.specs.Option.{option_map_or}
 use Rattle.zs_num.specs.declared.time.Key.{Key}
-use Rattle.zs_num.specs.declared.time.Word.{Word}
-use Rattle.domain_queue.specs.SortedKeys.{IsAscending, ReadyKeys, is_before, put}
+use Rattle.domain_queue.specs.SortedKeys.{IsAscending, ReadyKeys, put}
 use Rattle.weave_core.specs.declared.incoming.Stub.{Stub}
-use Rattle.weave_core.specs.DomainMachine.{cycle_of, is_exact}
-use Rattle.weave_core.specs.Stubs.{AreSmallStubs, IsFirstStub, IsFloorCurrent, IsKeyed, IsQueued, IsSmallStub, IsWordCurrent, NoneOpen, arrival_at, arrival_in, is_ahead, reach_of, slack, told_word}
+use Rattle.weave_core.specs.DomainMachine.{is_exact}
+use Rattle.weave_core.specs.Stubs.{IsFloorCurrent, IsKeyed, arrival_at, is_ahead, reach_of}
 use Rattle.weave_core.specs.Waits.{key_of}
-use Rattle.weave_core.proofs.Keys.{first_in, first_least, first_or_rest, has_in, in_has, length-put, length-rest, put_cases, put_new, put_old, rest_apart, rest_in}
-use Rattle.weave_core.proofs.Lists.{In, get_below, get_there}
-use Rattle.weave_core.proofs.Readied.{no_key}
-use Rattle.weave_core.proofs.Updates.{get_set_other, get_set_same}
+use Rattle.weave_core.proofs.Keys.{first_in, first_or_rest, has_in, in_has, length-put, length-rest, put_cases, put_new, put_old, rest_apart, rest_in}
+use Rattle.weave_core.proofs.Lists.{In, get_below}
 
 module _ (stubs : List Stub) (floor : ℕ) (queue by_word : ReadyKeys) (keyed : IsKeyed stubs floor queue by_word) (f : Key) (a : IsAscending queue.keys) (e : slice_get queue.keys 0 ≡ Some f) where
   pub floor_within : f.number < length stubs

@@ -1,26 +1,22 @@
 -- The queue by word after each step.
-use Rattle.std.proofs.Common.{◌≡◌, ◌+◌, ◌-◌, ◌<◌, ◌≤◌, ◌^◌, ℕ, max, Bool, true, false, cond, List, [], ◌∷◌, length, set, drop, ◌⊎◌, Option, Some, None, slice_get, sym, ◌∙◌, ap, subst, refl, inl, inr, arith, length-set}
-use Rattle.std.specs.Prelude.{nat_lt}
-use Rattle.std.proofs.lemmas.Bool.{cases_eq, false≢true}
-use Rattle.std.proofs.lemmas.Bool.Decides.{nat_tests}
+use Rattle.std.proofs.Common.{◌≡◌, ◌+◌, ◌-◌, ◌<◌, ◌≤◌, ℕ, Bool, true, false, cond, List, [], ◌∷◌, length, drop, ◌⊎◌, Option, Some, None, slice_get, sym, ◌∙◌, ap, subst, refl, inl, inr, arith}
+use Rattle.std.proofs.lemmas.Bool.{false≢true}
 use Rattle.std.proofs.lemmas.Option.{same_Some, none-some}
 use Rattle.std.specs.List.{Contains}
 use Rattle.std.specs.Option.{option_map_or}
+use Rattle.zs_num.specs.KeyOrder.{is_key_before}
 use Rattle.zs_num.specs.declared.time.Key.{Key}
-use Rattle.zs_num.specs.declared.time.Word.{Word}
-use Rattle.domain_queue.specs.SortedKeys.{IsAscending, ReadyKeys, is_before, put}
+use Rattle.domain_queue.specs.SortedKeys.{IsAscending, ReadyKeys, put}
 use Rattle.weave_core.specs.declared.incoming.Stub.{Stub}
-use Rattle.weave_core.specs.DomainMachine.{cycle_of, is_exact}
-use Rattle.weave_core.specs.Stubs.{AreSmallStubs, IsFirstStub, IsFloorCurrent, IsKeyed, IsQueued, IsSmallStub, IsWordCurrent, NoneOpen, arrival_at, arrival_in, is_ahead, reach_of, slack, told_word}
+use Rattle.weave_core.specs.DomainMachine.{is_exact}
+use Rattle.weave_core.specs.Stubs.{IsFloorCurrent, IsKeyed, IsWordCurrent, arrival_at, arrival_in, is_ahead, reach_of, slack}
 use Rattle.weave_core.specs.Waits.{key_of}
-use Rattle.weave_core.proofs.Keys.{first_in, first_least, first_or_rest, has_in, in_has, length-put, length-rest, put_cases, put_new, put_old, rest_apart, rest_in}
-use Rattle.weave_core.proofs.Lists.{In, get_below, get_there}
-use Rattle.weave_core.proofs.Readied.{no_key}
-use Rattle.weave_core.proofs.Updates.{get_set_other, get_set_same}
+use Rattle.weave_core.proofs.Keys.{first_in, first_or_rest, has_in, in_has, length-put, length-rest, put_cases, put_new, put_old, rest_apart, rest_in}
+use Rattle.weave_core.proofs.Lists.{In}
 
 slack-put : (stubs : List Stub) (floor : ℕ) (k : Key) (keys : List Key) → slack stubs floor (put k keys) ≡ slack stubs floor (k ∷ keys)
 slack-put stubs floor k [] = refl
-slack-put stubs floor k (y ∷ keys) = by_test (slack-put stubs floor k keys) (is_before k y)
+slack-put stubs floor k (y ∷ keys) = by_test (slack-put stubs floor k keys) (is_key_before k y)
   where
     by_test : slack stubs floor (put k keys) ≡ slack stubs floor (k ∷ keys) → (t : Bool) → slack stubs floor (cond t (k ∷ y ∷ keys) (y ∷ put k keys)) ≡ slack stubs floor (k ∷ y ∷ keys)
     by_test rest true = refl
@@ -237,4 +233,4 @@ floor_current_put stubs floor by_floor reached k s current is there unknown behi
 
     by_first : (keys : List Key) → by_floor.keys ≡ keys → slice_get (put k keys) 0 ≡ Some g → (is_exact t.word ≡ false) × (is_ahead floor t ≡ false)
     by_first [] same h = by_k (same_Some k g h)
-    by_first (y ∷ rest) same h = by_test y rest same (is_before k y) h
+    by_first (y ∷ rest) same h = by_test y rest same (is_key_before k y) h

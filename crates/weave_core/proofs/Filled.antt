@@ -1,23 +1,19 @@
 -- The queue by reach while it is filled, at floor 0.
-use Rattle.std.proofs.Common.{◌≡◌, ◌+◌, ◌-◌, ◌<◌, ◌≤◌, ◌^◌, ℕ, max, Bool, true, false, cond, List, [], ◌∷◌, length, set, drop, ◌⊎◌, Option, Some, None, slice_get, sym, ◌∙◌, ap, subst, refl, inl, inr, arith, length-set}
+use Rattle.std.proofs.Common.{◌≡◌, ◌+◌, ◌<◌, ◌≤◌, ℕ, false, List, [], length, Some, slice_get, sym, ◌∙◌, ap, subst, refl, inl, inr, arith}
 use Rattle.std.specs.Prelude.{nat_lt}
-use Rattle.std.proofs.lemmas.Bool.{cases_eq, false≢true}
+use Rattle.std.proofs.lemmas.Bool.{cases_eq}
 use Rattle.std.proofs.lemmas.Bool.Decides.{nat_tests}
-use Rattle.std.proofs.lemmas.Option.{same_Some, none-some}
+use Rattle.std.proofs.lemmas.Option.{same_Some}
 use Rattle.std.specs.List.{Contains}
-use Rattle.std.specs.Option.{option_map_or}
 use Rattle.zs_num.specs.declared.time.Key.{Key}
-use Rattle.zs_num.specs.declared.time.Word.{Word}
 use Rattle.zs_num.specs.declared.time.Word.TheVariants.{Bound}
-use Rattle.domain_queue.specs.SortedKeys.{IsAscending, ReadyKeys, is_before, put}
+use Rattle.domain_queue.specs.SortedKeys.{ReadyKeys, put}
 use Rattle.weave_core.specs.declared.incoming.Stub.{Stub}
 use Rattle.weave_core.specs.DomainMachine.{cycle_of, is_exact}
-use Rattle.weave_core.specs.Stubs.{AreSmallStubs, IsFirstStub, IsFloorCurrent, IsKeyed, IsQueued, IsSmallStub, IsWordCurrent, NoneOpen, arrival_at, arrival_in, is_ahead, reach_of, slack, told_word}
+use Rattle.weave_core.specs.Stubs.{AreSmallStubs, IsQueued, reach_of}
 use Rattle.weave_core.specs.Waits.{key_of}
-use Rattle.weave_core.proofs.Keys.{first_in, first_least, first_or_rest, has_in, in_has, length-put, length-rest, put_cases, put_new, put_old, rest_apart, rest_in}
-use Rattle.weave_core.proofs.Lists.{In, get_below, get_there}
-use Rattle.weave_core.proofs.Readied.{no_key}
-use Rattle.weave_core.proofs.Updates.{get_set_other, get_set_same}
+use Rattle.weave_core.proofs.Keys.{first_in, has_in, in_has, length-put, put_cases, put_new, put_old}
+use Rattle.weave_core.proofs.Lists.{In, get_below}
 
 -- The queue while it is filled, at floor 0.
 pub record IsFilling (stubs : List Stub) (keys : List Key) (place : ℕ) : Type 0 where

@@ -10,7 +10,7 @@ use Rattle.event_graph.specs.OneListWeave.{Timed}
 use Rattle.weave_core.specs.declared.domain.Domain.TheInside.{Inside}
 use Rattle.weave_core.specs.DomainMachine.{next_in}
 use Rattle.weave_core.specs.Inside.{IsDomain, own_of}
-use Rattle.weave_core.specs.Layout.{AreServed, IsChildren, no_event, place_in, timed_from}
+use Rattle.weave_core.specs.Layout.{HaveComponents, IsChildren, no_event, place_in, timed_from}
 use Rattle.weave_core.specs.Waits.{IsFirstReady, NoneReady}
 use Rattle.weave_core.proofs.Lists.{get_below, get_there}
 use Rattle.weave_core.proofs.Readiness.{first_next, none_next}
@@ -67,7 +67,7 @@ fired_behind events (x ∷ xs) f e h = ap (λ (zs : List Timed). timed_from even
 
 -- a component that served one event serves the same kinds
 pub still_served : {C : Type 0} (serves : C → Kind → Bool) (d : Inside C) (i : IsDomain serves d) (spot : ℕ) (c now : C) → slice_get d.comps spot ≡ Some c
-    → ((kind : Kind) → serves now kind ≡ serves c kind) → AreServed serves d.parts.value d.domain d.here.items d.spots.items (set d.comps spot now)
+    → ((kind : Kind) → serves now kind ≡ serves c kind) → HaveComponents serves d.parts.value d.domain d.here.items d.spots.items (set d.comps spot now)
 still_served serves d i spot c now there same = record {
   spot = i.served.spot;
   serving = λ place e h.

@@ -11,7 +11,7 @@ use Rattle.weave_core.specs.declared.children.Link.{Link}
 use Rattle.weave_core.specs.declared.incoming.Stub.{Stub}
 use Rattle.weave_core.specs.Children.{CanTell, tell_all, tell_child}
 use Rattle.weave_core.specs.DomainMachine.{DomainState}
-use Rattle.weave_core.specs.Layout.{AreHere, IsChildren, Stands, fired_in, hit_after, hits, latest_to, links_to, missing_at, own_after, pending, told_into}
+use Rattle.weave_core.specs.Layout.{AreHere, IsChildren, Stands, fired_in, hit_after, hits, latest_to, links_to, missing_at, pending, start_after_own, told_into}
 use Rattle.weave_core.specs.Waits.{Waits, is_fired_wait}
 use Rattle.weave_core.proofs.Joined.{at_event}
 use Rattle.weave_core.proofs.Lists.{get_below, get_there, test_cases}
@@ -223,24 +223,24 @@ module _ (events : List Event) (p : Division) (domain : ℕ) (here : List Event)
             omega (arith, after, hit)
       ]
 
-  own_then : (q : Option Parent) → own_after events p domain then q ≡ max (own_after events p domain own q) (hit_after finish e.number q)
+  own_then : (q : Option Parent) → start_after_own events p domain then q ≡ max (start_after_own events p domain own q) (hit_after finish e.number q)
   own_then None = refl
   own_then (Some q) =
       elim (cases_eq q.number e.number) [
         | inl same ↦
             let unfired : is_fired own.fired q.number ≡ false = ap (is_fired own.fired) same ∙ ready_is.0 in
             let found : find_fired then.fired q.number ≡ Some last = find_it q.number own.fired last unfired (sym same) in
-            let before : own_after events p domain own (Some q) ≡ 0 =
+            let before : start_after_own events p domain own (Some q) ≡ 0 =
             ap (λ (t : Bool). cond (t && eqb (domain_of_number p.places events q.number) domain) (finish_in own.fired q.number + q.delay) 0) unfired
             in
-            let after : own_after events p domain then (Some q) ≡ finish + q.delay =
+            let after : start_after_own events p domain then (Some q) ≡ finish + q.delay =
             ap (λ (o : Option Timed). cond (is_some o && eqb (domain_of_number p.places events q.number) domain) (finish_or_zero o + q.delay) 0) found
             ∙ ap (λ (t : Bool). cond (true && t) (finish + q.delay) 0) (domain_here q.number same)
             in
             let hit : hit_after finish e.number (Some q) ≡ finish + q.delay = ap (λ (t : Bool). cond t (finish + q.delay) 0) (is_eq q.number e.number same) in
             omega (arith, before, after, hit)
         | inr apart ↦
-            let after : own_after events p domain then (Some q) ≡ own_after events p domain own (Some q) =
+            let after : start_after_own events p domain then (Some q) ≡ start_after_own events p domain own (Some q) =
             ap (λ (o : Option Timed). cond (is_some o && eqb (domain_of_number p.places events q.number) domain) (finish_or_zero o + q.delay) 0)
             (find_same q.number own.fired last (λ (r : e.number ≡ q.number). apart (sym r)))
             in
@@ -340,8 +340,8 @@ module _ (events : List Event) (p : Division) (domain : ℕ) (here : List Event)
     starts = λ j f h.
         starts_told finish (is_fired_wait w place) children.chain j _ (stands.starts j f h)
         ∙ ap (λ n. Some n)
-        (joins f.min_start (own_after events p domain own f.first) (own_after events p domain own f.second) (told_into j stubs) (hit_after finish e.number f.first) (hit_after finish e.number f.second)
-        (own_after events p domain then f.first) (own_after events p domain then f.second) (latest_to finish j children.chain) (children.latest finish j f h) (own_then f.first) (own_then f.second));
+        (joins f.min_start (start_after_own events p domain own f.first) (start_after_own events p domain own f.second) (told_into j stubs) (hit_after finish e.number f.first) (hit_after finish e.number f.second)
+        (start_after_own events p domain then f.first) (start_after_own events p domain then f.second) (latest_to finish j children.chain) (children.latest finish j f h) (own_then f.first) (own_then f.second));
     finished = λ j f h fired.
         elim (cases_eq j place) [
           | inl same ↦

@@ -5,7 +5,7 @@ use Rattle.std.proofs.lemmas.Bool.Decides.{nat_tests}
 use Rattle.std.proofs.lemmas.Option.{same_Some}
 use Rattle.event_graph.specs.declared.event.Event.{Event}
 use Rattle.event_graph.specs.declared.event.Parent.{Parent}
-use Rattle.event_graph.specs.OneListWeave.{Timed, after_parent, find_fired, finish_in, finish_or_zero, is_before, is_fired, is_parent_fired, start_of}
+use Rattle.event_graph.specs.OneListWeave.{Timed, after_parent, find_fired, finish_in, finish_or_zero, is_event_before, is_fired, is_parent_fired, start_of}
 use Rattle.domain_map.specs.Domains.{domain_of}
 use Rattle.weave_core.specs.DomainMachine.{latency_of}
 use Rattle.weave_core.specs.Soundness.{start_in, start_or_zero}
@@ -23,11 +23,11 @@ pub record IsOrder (events : List Event) (all : List Timed) : Type 0 where
   pub start : (k : ℕ) (x : Timed) → slice_get all k ≡ Some x → x.start ≡ start_of (finish_in (take k all)) x.event
   pub time : (k : ℕ) (x : Timed) → slice_get all k ≡ Some x → x.start + latency_of x.event ≤ x.finish
   pub some : (k : ℕ) (x : Timed) → slice_get all k ≡ Some x → 1 ≤ latency_of x.event
-  pub order : (i j : ℕ) (x y : Timed) → i < j → slice_get all i ≡ Some x → slice_get all j ≡ Some y → is_before x.event x.start y.event y.start ≡ true
+  pub order : (i j : ℕ) (x y : Timed) → i < j → slice_get all i ≡ Some x → slice_get all j ≡ Some y → is_event_before x.event x.start y.event y.start ≡ true
 
 -- the order
 
-pub before_start : (x y : Timed) → is_before x.event x.start y.event y.start ≡ true → x.start ≤ y.start
+pub before_start : (x y : Timed) → is_event_before x.event x.start y.event y.start ≡ true → x.start ≤ y.start
 before_start x y h = grind (arith, nat_tests)
 
 -- what is known of a number

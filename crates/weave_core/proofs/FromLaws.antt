@@ -9,10 +9,10 @@ use Rattle.event_graph.specs.declared.event.Event.{Event}
 use Rattle.event_graph.specs.Firing.{IsNext, IsRound}
 use Rattle.event_graph.specs.Fits.{EventFits, GraphFits}
 use Rattle.event_graph.specs.Numbered.{IsNumbered}
-use Rattle.event_graph.specs.OneListWeave.{Timed, after, is_before, is_fired, is_parent_fired, weave, woven}
+use Rattle.event_graph.specs.OneListWeave.{Timed, after_rounds, is_event_before, is_fired, is_parent_fired, weave, woven}
 use Rattle.event_graph.specs.TimingSolution.{IsInOrder, IsSolution, after_serving, of_component}
 use Rattle.domain_map.specs.Domains.{Division, domain_of}
-use Rattle.weave_core.specs.AtBarrier.{AreSoundDomains, AreTold, IsFirstLeft, MayGoOn, least_start_of, own_at}
+use Rattle.weave_core.specs.AtBarrier.{AreSoundDomains, IsFirstLeft, KnowFiredParents, MayGoOn, least_start_of, own_at}
 use Rattle.weave_core.specs.DomainMachine.{DomainState, MachineState, Step, after_steps, at_rest, barrier, every_crossing, fire, is_allowed, is_clear, is_settled, latency_of, least_ready_start, next_in, state_of, take_step, with_floor}
 use Rattle.weave_core.specs.Interleavings.{FollowsTheWeave, IsDivided, IsFirstUnfired}
 use Rattle.weave_core.proofs.Lists.{both, get_below, not_true, contained, contains, last_same}
@@ -36,11 +36,11 @@ module _ {C : Type 0} (serves : C → Kind → Bool) (floor : C → Kind → ℕ
     (once : IsPermutation events (map (λ x. x.event) (weave stepped events comps).fired))
     (in_order : IsInOrder (weave stepped events comps).fired)
     (next : (index : ℕ) (x : Timed) → slice_get (weave stepped events comps).fired index ≡ Some x → IsNext (take index (weave stepped events comps).fired) events x)
-    (round : (rounds : ℕ) → rounds < length events → (x : Timed) × (c : C) × IsRound serves stepped events (after stepped events comps rounds) (after stepped events comps (suc rounds)) x c)
-    (front : (rounds : ℕ) → (after stepped events comps rounds).fired ≡ take rounds (weave stepped events comps).fired)
-    (comps_at : (rounds number : ℕ) → slice_get (after stepped events comps rounds).comps number
-    ≡ option_map (λ c. after_serving stepped c (of_component number (after stepped events comps rounds).fired)) (slice_get comps number))
-    (fits : (rounds : ℕ) → GraphFits serves floor events (after stepped events comps rounds).comps) where
+    (round : (rounds : ℕ) → rounds < length events → (x : Timed) × (c : C) × IsRound serves stepped events (after_rounds stepped events comps rounds) (after_rounds stepped events comps (suc rounds)) x c)
+    (front : (rounds : ℕ) → (after_rounds stepped events comps rounds).fired ≡ take rounds (weave stepped events comps).fired)
+    (comps_at : (rounds number : ℕ) → slice_get (after_rounds stepped events comps rounds).comps number
+    ≡ option_map (λ c. after_serving stepped c (of_component number (after_rounds stepped events comps rounds).fired)) (slice_get comps number))
+    (fits : (rounds : ℕ) → GraphFits serves floor events (after_rounds stepped events comps rounds).comps) where
   abbrev all : List Timed
   all = (weave stepped events comps).fired
 
@@ -69,7 +69,7 @@ module _ {C : Type 0} (serves : C → Kind → Bool) (floor : C → Kind → ℕ
   -- the round that fires an event
   record Fired (k : ℕ) (x : Timed) : Type 0 where
     c : C
-    there : slice_get (after stepped events comps k).comps x.event.component ≡ Some c
+    there : slice_get (after_rounds stepped events comps k).comps x.event.component ≡ Some c
     served : IsTrue (serves c x.event.kind)
     finish : x.finish ≡ (stepped c x.event.kind x.start).1
 
@@ -90,7 +90,7 @@ module _ {C : Type 0} (serves : C → Kind → Bool) (floor : C → Kind → ℕ
 
   latency_is : (k : ℕ) (x : Timed) (h : slice_get all k ≡ Some x) → latency_of x.event ≡ floor (fired_at k x h).c x.event.kind
   latency_is k x h =
-      let e : EventFits serves floor (after stepped events comps k).comps x.event = fits k x.event.number x.event (event_at k x h) in
+      let e : EventFits serves floor (after_rounds stepped events comps k).comps x.event = fits k x.event.number x.event (event_at k x h) in
       let same : e.component ≡ (fired_at k x h).c = same_Some e.component (fired_at k x h).c (sym e.there ∙ (fired_at k x h).there) in
       let f : floor e.component x.event.kind ≡ floor (fired_at k x h).c x.event.kind = ap (λ (c : C). floor c x.event.kind) same in
       omega (arith, e.floor_is, f)
@@ -110,8 +110,8 @@ module _ {C : Type 0} (serves : C → Kind → Bool) (floor : C → Kind → ℕ
     some = λ k x h. omega (arith, latency_is k x h, floor_counts (fired_at k x h).c x.event.kind (fired_at k x h).served);
     order = λ i j x y l a b.
         let t = in_order i j x l (get_below all j y b) in
-        subst (λ (z : Timed). is_before z.event z.start y.event y.start ≡ true) (get_or_from_slice_get all i x x a)
-        (subst (λ (z : Timed). is_before (get_or all i x).event (get_or all i x).start z.event z.start ≡ true) (get_or_from_slice_get all j y x b) t);
+        subst (λ (z : Timed). is_event_before z.event z.start y.event y.start ≡ true) (get_or_from_slice_get all i x x a)
+        (subst (λ (z : Timed). is_event_before (get_or all i x).event (get_or all i x).start z.event z.start ≡ true) (get_or_from_slice_get all j y x b) t);
   }
 
   pub served_of : IsServed stepped comps (weave stepped events comps).fired
@@ -120,15 +120,15 @@ module _ {C : Type 0} (serves : C → Kind → Bool) (floor : C → Kind → ℕ
       by_option : (k : ℕ) (x : Timed) (h : slice_get all k ≡ Some x) (z : Option C) → slice_get comps x.event.component ≡ z
           → (c : C) × ((slice_get comps x.event.component ≡ Some c) × (x.finish ≡ (stepped (after_serving stepped c (of_component x.event.component (take k all))) x.event.kind x.start).1))
       by_option k x h None e =
-          let none : slice_get (after stepped events comps k).comps x.event.component ≡ None =
-          comps_at k x.event.component ∙ ap (option_map (λ c. after_serving stepped c (of_component x.event.component (after stepped events comps k).fired))) e
+          let none : slice_get (after_rounds stepped events comps k).comps x.event.component ≡ None =
+          comps_at k x.event.component ∙ ap (option_map (λ c. after_serving stepped c (of_component x.event.component (after_rounds stepped events comps k).fired))) e
           in
           absurd (none-some (fired_at k x h).c (sym none ∙ (fired_at k x h).there))
       by_option k x h (Some c) e =
-          let is : slice_get (after stepped events comps k).comps x.event.component ≡ Some (after_serving stepped c (of_component x.event.component (after stepped events comps k).fired)) =
-          comps_at k x.event.component ∙ ap (option_map (λ c. after_serving stepped c (of_component x.event.component (after stepped events comps k).fired))) e
+          let is : slice_get (after_rounds stepped events comps k).comps x.event.component ≡ Some (after_serving stepped c (of_component x.event.component (after_rounds stepped events comps k).fired)) =
+          comps_at k x.event.component ∙ ap (option_map (λ c. after_serving stepped c (of_component x.event.component (after_rounds stepped events comps k).fired))) e
           in
-          let same : (fired_at k x h).c ≡ after_serving stepped c (of_component x.event.component (after stepped events comps k).fired) =
+          let same : (fired_at k x h).c ≡ after_serving stepped c (of_component x.event.component (after_rounds stepped events comps k).fired) =
           same_Some _ _ (sym (fired_at k x h).there ∙ is)
           in (
             c,
@@ -144,7 +144,7 @@ module _ {C : Type 0} (serves : C → Kind → Bool) (floor : C → Kind → ℕ
     within : (i : ℕ) (e : Event) → slice_get events i ≡ Some e → e.component < length p.places
     within i e h = omega (arith, get_below comps e.component (d.fits i e h).component (d.fits i e h).there, d.places)
 
-    here : (k : ℕ) (x : Timed) → slice_get (weave stepped events comps).fired k ≡ Some x → domain_of p.places x.event < length p.events
+    pub here : (k : ℕ) (x : Timed) → slice_get (weave stepped events comps).fired k ≡ Some x → domain_of p.places x.event < length p.events
     here = domain_there events p (weave stepped events comps).fired order_of d.divides within
 
     pub after_all : (steps : List Step) → FollowsTheWeave stepped events p comps (after_steps events p stepped (at_rest p comps) steps)
@@ -177,12 +177,12 @@ module _ {C : Type 0} (serves : C → Kind → Bool) (floor : C → Kind → ℕ
         (floor_alike stepped events comps order_of timed is p domain own floor))
 
     pub floors_at_barrier : (timed : List Timed) (solution : IsSolution stepped events comps timed) → timed ≡ woven stepped events comps → (owns : List DomainState) (start : ℕ)
-        → AreSoundDomains stepped events p comps timed solution owns → AreTold p owns → least_start_of events p owns ≡ Some start
+        → AreSoundDomains stepped events p comps timed solution owns → KnowFiredParents p owns → least_start_of events p owns ≡ Some start
         → (domain : ℕ) → IsSoundFloor timed p domain (with_floor start (own_at owns domain))
     floors_at_barrier timed solution is owns start h told least domain =
         floors_hold stepped events p comps order_of d.divides here in_order timed solution is owns h told start least domain
 
     pub first_goes_on : (timed : List Timed) (solution : IsSolution stepped events comps timed) → timed ≡ woven stepped events comps → (owns : List DomainState) (index : ℕ) (x : Timed)
-        → AreSoundDomains stepped events p comps timed solution owns → AreTold p owns → IsFirstLeft stepped events p comps owns index x → MayGoOn events p owns x
+        → AreSoundDomains stepped events p comps timed solution owns → KnowFiredParents p owns → IsFirstLeft stepped events p comps owns index x → MayGoOn events p owns x
     first_goes_on timed solution is owns index x h told first =
         may_go_on stepped events p comps order_of d.divides here in_order timed solution is owns h told index x first

@@ -4,14 +4,15 @@ use Rattle.std.proofs.lemmas.Bool.{false≢true}
 use Rattle.std.proofs.lemmas.Bool.Decides.{nat_tests}
 use Rattle.std.proofs.lemmas.Option.{same_Some, none-some, get_or_from_slice_get}
 use Rattle.std.specs.List.{Contains}
+use Rattle.zs_num.specs.KeyOrder.{is_key_before}
 use Rattle.zs_num.specs.declared.time.Key.{Key}
-use Rattle.domain_queue.specs.SortedKeys.{IsAscending, is_before, put}
+use Rattle.domain_queue.specs.SortedKeys.{IsAscending, put}
 use Rattle.weave_core.proofs.Lists.{In, at_in, contained, contains, get_below, in_at}
 
-pub not_both : (k x : Key) → is_before k x ≡ true → is_before x k ≡ false
+pub not_both : (k x : Key) → is_key_before k x ≡ true → is_key_before x k ≡ false
 not_both k x h = grind (arith, nat_tests)
 
-pub not_itself : (k : Key) → is_before k k ≡ false
+pub not_itself : (k : Key) → is_key_before k k ≡ false
 not_itself k = grind (arith, nat_tests)
 
 -- membership
@@ -26,7 +27,7 @@ in_has keys k h = let r : (i : ℕ) × (slice_get keys i ≡ Some k) = in_at k k
 
 pub put_cases : (k x : Key) (keys : List Key) → In x (put k keys) → (k ≡ x) ⊎ In x keys
 put_cases k x [] h = elim h [ inl e ↦ inl e | inr m ↦ absurd m ]
-put_cases k x (y ∷ keys) h = by_test (put_cases k x keys) (is_before k y) h
+put_cases k x (y ∷ keys) h = by_test (put_cases k x keys) (is_key_before k y) h
   where
     by_test : (In x (put k keys) → (k ≡ x) ⊎ In x keys) → (t : Bool) → In x (cond t (k ∷ y ∷ keys) (y ∷ put k keys)) → (k ≡ x) ⊎ In x (y ∷ keys)
     by_test rest true m = m
@@ -34,7 +35,7 @@ put_cases k x (y ∷ keys) h = by_test (put_cases k x keys) (is_before k y) h
 
 pub put_new : (k : Key) (keys : List Key) → In k (put k keys)
 put_new k [] = inl refl
-put_new k (y ∷ keys) = by_test (put_new k keys) (is_before k y)
+put_new k (y ∷ keys) = by_test (put_new k keys) (is_key_before k y)
   where
     by_test : In k (put k keys) → (t : Bool) → In k (cond t (k ∷ y ∷ keys) (y ∷ put k keys))
     by_test rest true = inl refl
@@ -42,7 +43,7 @@ put_new k (y ∷ keys) = by_test (put_new k keys) (is_before k y)
 
 pub put_old : (k x : Key) (keys : List Key) → In x keys → In x (put k keys)
 put_old k x [] h = absurd h
-put_old k x (y ∷ keys) h = by_test (put_old k x keys) (is_before k y)
+put_old k x (y ∷ keys) h = by_test (put_old k x keys) (is_key_before k y)
   where
     by_test : (In x keys → In x (put k keys)) → (t : Bool) → In x (cond t (k ∷ y ∷ keys) (y ∷ put k keys))
     by_test rest true = inr h
@@ -50,7 +51,7 @@ put_old k x (y ∷ keys) h = by_test (put_old k x keys) (is_before k y)
 
 pub length-put : (k : Key) (keys : List Key) → length (put k keys) ≡ length keys + 1
 length-put k [] = refl
-length-put k (y ∷ keys) = by_test (length-put k keys) (is_before k y)
+length-put k (y ∷ keys) = by_test (length-put k keys) (is_key_before k y)
   where
     by_test : length (put k keys) ≡ length keys + 1 → (t : Bool) → length (cond t (k ∷ y ∷ keys) (y ∷ put k keys)) ≡ length (y ∷ keys) + 1
     by_test rest true = omega arith
@@ -73,24 +74,24 @@ pub length-rest : (f : Key) (keys : List Key) → slice_get keys 0 ≡ Some f �
 length-rest f [] e = absurd (none-some f e)
 length-rest f (y ∷ keys) e = omega arith
 
-pub first_before : (f x : Key) (keys : List Key) → IsAscending keys → slice_get keys 0 ≡ Some f → In x (drop 1 keys) → is_before f x ≡ true
+pub first_before : (f x : Key) (keys : List Key) → IsAscending keys → slice_get keys 0 ≡ Some f → In x (drop 1 keys) → is_key_before f x ≡ true
 first_before f x [] a e h = absurd h
 first_before f x (y ∷ keys) a e h =
     let r : (i : ℕ) × (slice_get keys i ≡ Some x) = in_at x keys h in
-    let b : is_before y (get_or keys r.0 y) ≡ true = a 0 (suc r.0) y (omega arith) (omega (arith, get_below keys r.0 x r.1)) in
+    let b : is_key_before y (get_or keys r.0 y) ≡ true = a 0 (suc r.0) y (omega arith) (omega (arith, get_below keys r.0 x r.1)) in
     let s : y ≡ f = same_Some y f e in
     let t : get_or keys r.0 y ≡ x = get_or_from_slice_get keys r.0 x y r.1 in
-    subst (λ (z : Key). is_before z x ≡ true) s (subst (λ (z : Key). is_before y z ≡ true) t b)
+    subst (λ (z : Key). is_key_before z x ≡ true) s (subst (λ (z : Key). is_key_before y z ≡ true) t b)
 
-pub first_least : (f x : Key) (keys : List Key) → IsAscending keys → slice_get keys 0 ≡ Some f → In x keys → is_before x f ≡ false
+pub first_least : (f x : Key) (keys : List Key) → IsAscending keys → slice_get keys 0 ≡ Some f → In x keys → is_key_before x f ≡ false
 first_least f x keys a e h =
     elim (first_or_rest f x keys e h) [
-      | inl s ↦ subst (λ (z : Key). is_before z f ≡ false) s (not_itself f)
+      | inl s ↦ subst (λ (z : Key). is_key_before z f ≡ false) s (not_itself f)
       | inr m ↦ not_both f x (first_before f x keys a e m)
     ]
 
 -- what comes after the first isn't the first
 pub rest_apart : (f x : Key) (keys : List Key) → IsAscending keys → slice_get keys 0 ≡ Some f → In x (drop 1 keys) → f ≡ x → ⊥
 rest_apart f x keys a e h same =
-    let b : is_before f x ≡ true = first_before f x keys a e h in
-    false≢true (sym (not_itself f) ∙ subst (λ (z : Key). is_before f z ≡ true) (sym same) b)
+    let b : is_key_before f x ≡ true = first_before f x keys a e h in
+    false≢true (sym (not_itself f) ∙ subst (λ (z : Key). is_key_before f z ≡ true) (sym same) b)

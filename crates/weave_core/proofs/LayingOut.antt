@@ -16,7 +16,7 @@ use Rattle.weave_core.specs.declared.incoming.Stub.{Stub}
 use Rattle.weave_core.specs.Beginning.{AddsWaits, AreCounts, AreCrossed, AreSmall, AreStubsUpto, HasPlace, HasWaits, IsCount, IsRisingList}
 use Rattle.weave_core.specs.DomainMachine.{is_exact}
 use Rattle.weave_core.specs.LaidOut.{FitsDomain, at_rest_with}
-use Rattle.weave_core.specs.Layout.{AreHere, AreStubs, Stands, fired_in, known_words, missing_at, no_event, own_after, pending, start_at, told_into, unknown_into, word_of}
+use Rattle.weave_core.specs.Layout.{AreHere, AreStubs, Stands, crossing_word, fired_in, known_words, missing_at, no_event, pending, start_after_own, start_at, told_into, unknown_into}
 use Rattle.weave_core.proofs.Crossings.{Joins, joins}
 use Rattle.weave_core.proofs.Joined.{at_event}
 use Rattle.weave_core.proofs.Lists.{In, at_in, find_some, from_filter, get_below, get_there, in_at, in_filter}
@@ -248,7 +248,7 @@ module _ (events : List Event) (p : Division) (domain : ℕ) (numbered : IsNumbe
     unknown_all place s h = ap is_exact (upto.each place s h).1.1.1.1.word
 
     pub known_none : known_words p.crossings stubs ≡ map (λ (x : Crossing). Bound 0) p.crossings
-    known_none = same_enum (word_of stubs) (λ n. Bound 0) 0 p.crossings (λ j l. by_found j (find (λ (t : Stub). eqb t.number j) stubs) refl) ∙ words_none 0 p.crossings
+    known_none = same_enum (crossing_word stubs) (λ n. Bound 0) 0 p.crossings (λ j l. by_found j (find (λ (t : Stub). eqb t.number j) stubs) refl) ∙ words_none 0 p.crossings
       where
         by_found : (j : ℕ) (o : Option Stub) → find (λ (t : Stub). eqb t.number j) stubs ≡ o → option_map_or (λ (t : Stub). t.word) (find (λ (t : Stub). eqb t.number j) stubs) (Bound 0) ≡ Bound 0
         by_found j None e = ap (λ (o : Option Stub). option_map_or (λ (t : Stub). t.word) o (Bound 0)) e
@@ -272,7 +272,7 @@ module _ (events : List Event) (p : Division) (domain : ℕ) (numbered : IsNumbe
           let same : c.0 + c.1.0 + unknown_into place stubs ≡ missing_at events p domain (at_rest_with p 0) place e stubs = omega (arith, a, b) in
           adds.each place (c.0 + c.1.0) c.1.1.1.1 ∙ ap (λ n. Some n) same
 
-      own_zero : (q : Option Parent) → own_after events p domain (at_rest_with p 0) q ≡ 0
+      own_zero : (q : Option Parent) → start_after_own events p domain (at_rest_with p 0) q ≡ 0
       own_zero None = refl
       own_zero (Some q) = refl
 

@@ -3,20 +3,20 @@ use Rattle.std.proofs.Common.{◌≡◌, ◌≤◌, ℕ, Bool, true, false, cond
 use Rattle.std.proofs.lemmas.Bool.{false≢true}
 use Rattle.std.proofs.lemmas.Bool.Decides.{nat_tests}
 use Rattle.event_graph.specs.declared.event.Event.{Event}
-use Rattle.event_graph.specs.OneListWeave.{earlier, is_before}
+use Rattle.event_graph.specs.OneListWeave.{earlier, is_event_before}
 use Rattle.weave_core.specs.DomainMachine.{least_by}
 use Rattle.weave_core.proofs.Lists.{In}
 
-not_before_itself : (e : Event) (s : ℕ) → is_before e s e s ≡ false
+not_before_itself : (e : Event) (s : ℕ) → is_event_before e s e s ≡ false
 not_before_itself e s = grind (arith, nat_tests)
 
-not_after : (a : Event) (s : ℕ) (b : Event) (t : ℕ) → is_before a s b t ≡ true → is_before b t a s ≡ false
+not_after : (a : Event) (s : ℕ) (b : Event) (t : ℕ) → is_event_before a s b t ≡ true → is_event_before b t a s ≡ false
 not_after a s b t h = grind (arith, nat_tests)
 
-not_before_trans : (a : Event) (s : ℕ) (b : Event) (t : ℕ) (c : Event) (u : ℕ) → is_before a s b t ≡ false → is_before b t c u ≡ false → is_before a s c u ≡ false
+not_before_trans : (a : Event) (s : ℕ) (b : Event) (t : ℕ) (c : Event) (u : ℕ) → is_event_before a s b t ≡ false → is_event_before b t c u ≡ false → is_event_before a s c u ≡ false
 not_before_trans a s b t c u h k = grind (arith, nat_tests)
 
-pub start_upto : (a : Event) (s : ℕ) (b : Event) (t : ℕ) → is_before a s b t ≡ false → t ≤ s
+pub start_upto : (a : Event) (s : ℕ) (b : Event) (t : ℕ) → is_event_before a s b t ≡ false → t ≤ s
 start_upto a s b t h = grind (arith, nat_tests)
 
 module _ (test : Event → Bool) (start : Event → ℕ) where
@@ -24,7 +24,7 @@ module _ (test : Event → Bool) (start : Event → ℕ) where
     pub there : In b.0 es
     pub passes : test b.0 ≡ true
     pub start_is : b.1 ≡ start b.0
-    pub least : (e : Event) → In e es → test e ≡ true → is_before e (start e) b.0 b.1 ≡ false
+    pub least : (e : Event) → In e es → test e ≡ true → is_event_before e (start e) b.0 b.1 ≡ false
 
   -- none passes, or this is the least
   abbrev pub IsNextOf : List Event → Option (Event × ℕ) → Type 0
@@ -38,20 +38,20 @@ module _ (test : Event → Bool) (start : Event → ℕ) where
     start_is = refl;
     least = λ f m p.
         elim m [
-          | inl s ↦ subst (λ (z : Event). is_before z (start z) e (start e) ≡ false) s (not_before_itself e (start e))
+          | inl s ↦ subst (λ (z : Event). is_event_before z (start z) e (start e) ≡ false) s (not_before_itself e (start e))
           | inr n ↦ absurd (false≢true (sym (h f n) ∙ p))
         ];
   }
-  add e es (Some b) t h = by_test (is_before b.0 b.1 e (start e)) refl
+  add e es (Some b) t h = by_test (is_event_before b.0 b.1 e (start e)) refl
     where
-      by_test : (u : Bool) → is_before b.0 b.1 e (start e) ≡ u → IsLeast (e ∷ es) (cond u b (e, start e))
+      by_test : (u : Bool) → is_event_before b.0 b.1 e (start e) ≡ u → IsLeast (e ∷ es) (cond u b (e, start e))
       by_test true v = record {
         there = inr h.there;
         passes = h.passes;
         start_is = h.start_is;
         least = λ f m p.
             elim m [
-              | inl s ↦ subst (λ (z : Event). is_before z (start z) b.0 b.1 ≡ false) s (not_after b.0 b.1 e (start e) v)
+              | inl s ↦ subst (λ (z : Event). is_event_before z (start z) b.0 b.1 ≡ false) s (not_after b.0 b.1 e (start e) v)
               | inr n ↦ h.least f n p
             ];
       }
@@ -61,7 +61,7 @@ module _ (test : Event → Bool) (start : Event → ℕ) where
         start_is = refl;
         least = λ f m p.
             elim m [
-              | inl s ↦ subst (λ (z : Event). is_before z (start z) e (start e) ≡ false) s (not_before_itself e (start e))
+              | inl s ↦ subst (λ (z : Event). is_event_before z (start z) e (start e) ≡ false) s (not_before_itself e (start e))
               | inr n ↦ not_before_trans f (start f) b.0 b.1 e (start e) (h.least f n p) v
             ];
       }

@@ -41,3 +41,5 @@ mod LayingOut
 mod Prepared
 mod Following
 mod FollowLaws
+mod Keeping
+mod Ending

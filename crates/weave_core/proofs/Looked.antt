@@ -14,7 +14,7 @@ use Rattle.domain_map.specs.Domains.{Division}
 use Rattle.weave_core.specs.declared.incoming.Stub.{Stub}
 use Rattle.weave_core.specs.DomainCalls.{IsNoFall, MayTell}
 use Rattle.weave_core.specs.DomainMachine.{DomainState, cycle_of, is_exact, word_at}
-use Rattle.weave_core.specs.Layout.{AreHere, AreStubs, IsStubOf, Stands, fired_in, known_words, missing_at, own_after, pending, start_at, told_into, unknown_into, word_of}
+use Rattle.weave_core.specs.Layout.{AreHere, AreStubs, IsStubOf, Stands, crossing_word, fired_in, known_words, missing_at, pending, start_after_own, start_at, told_into, unknown_into}
 use Rattle.weave_core.specs.Stubs.{told_word}
 use Rattle.weave_core.specs.Waits.{Waits, told}
 use Rattle.weave_core.proofs.Lists.{get_below}
@@ -43,7 +43,7 @@ set_enum f h n (y ∷ xs) (suc i) m v e is others =
     let rest = set_enum f h (n + 1) xs i m v (omega (arith, e)) is others in
     ap (λ (z : Word). z ∷ map (λ (at : ℕ × Crossing). f at.0) (enumerate_from (n + 1) xs)) first ∙ ap (λ (zs : List Word). h n ∷ zs) rest
 
-find_other : (stubs : List Stub) (k m : ℕ) (s : Stub) (word : Word) → slice_get stubs k ≡ Some s → (m ≡ s.number → ⊥) → word_of (set stubs k (told_word word s)) m ≡ word_of stubs m
+find_other : (stubs : List Stub) (k m : ℕ) (s : Stub) (word : Word) → slice_get stubs k ≡ Some s → (m ≡ s.number → ⊥) → crossing_word (set stubs k (told_word word s)) m ≡ crossing_word stubs m
 find_other [] k m s word there apart = refl
 find_other (t ∷ stubs) zero m s word there apart =
     let same : t ≡ s = same_Some t s there in
@@ -53,7 +53,7 @@ find_other (t ∷ stubs) zero m s word there apart =
     ∙ sym (ap (λ (u : Bool). option_map_or (λ (z : Stub). z.word) (cond u (Some t) (find (λ (z : Stub). eqb z.number m) stubs)) (Bound 0)) test_t)
 find_other (t ∷ stubs) (suc k) m s word there apart = by_test (find_other stubs k m s word there apart) (eqb t.number m)
   where
-    by_test : word_of (set stubs k (told_word word s)) m ≡ word_of stubs m → (u : Bool)
+    by_test : crossing_word (set stubs k (told_word word s)) m ≡ crossing_word stubs m → (u : Bool)
         → option_map_or (λ (z : Stub). z.word) (cond u (Some t) (find (λ (z : Stub). eqb z.number m) (set stubs k (told_word word s)))) (Bound 0)
         ≡ option_map_or (λ (z : Stub). z.word) (cond u (Some t) (find (λ (z : Stub). eqb z.number m) stubs)) (Bound 0)
     by_test rest true = refl
@@ -126,11 +126,11 @@ module _ (events : List Event) (p : Division) (domain : ℕ) (here : List Event)
 
   pub known_after : known_words p.crossings after ≡ set own.known number word
   known_after =
-      let mine : word_of after number ≡ word =
-      ap (λ n. word_of after n) (sym number_is)
+      let mine : crossing_word after number ≡ word =
+      ap (λ n. crossing_word after n) (sym number_is)
       ∙ word_of_stub events p domain here after (still_stubs events p domain here stubs k s word are there) k (told_word word s) (get_set_same stubs k (told_word word s) s there)
       in
-      set_enum (word_of after) (word_of stubs) 0 p.crossings number number word (omega arith) mine
+      set_enum (crossing_word after) (crossing_word stubs) 0 p.crossings number number word (omega arith) mine
       (λ j apart. find_other stubs k j s word there (λ (e : j ≡ s.number). apart (e ∙ number_is)))
       ∙ ap (λ (ws : List Word). set ws number word) (sym known)
 
@@ -203,7 +203,7 @@ module _ (events : List Event) (p : Division) (domain : ℕ) (here : List Event)
             ∙ ap (λ n. Some (cond (is_fired own.fired e.number) 4294967295 (pending events p domain own e.first + pending events p domain own e.second + n))) (sym (same_unknown place));
         starts = λ place e h.
             stands.starts place e h
-            ∙ ap (λ n. Some (max e.min_start (max (max (own_after events p domain own e.first) (own_after events p domain own e.second)) n))) (sym (same_told place));
+            ∙ ap (λ n. Some (max e.min_start (max (max (start_after_own events p domain own e.first) (start_after_own events p domain own e.second)) n))) (sym (same_told place));
         finished = λ place e h fired. omega (arith, stands.finished place e h fired, same_unknown place);
         agree = agree_after;
       }
@@ -287,7 +287,7 @@ module _ (events : List Event) (p : Division) (domain : ℕ) (here : List Event)
                 in
                 let here_after : cond (eqb s.child place) (finish + s.delay) 0 ≡ finish + s.delay = ap (λ (t : Bool). cond t (finish + s.delay) 0) (is_eq s.child place (sym same)) in
                 let value : max (get_or w.starts s.child 0) (finish + s.delay) ≡ start_at events p domain own place e after =
-                joins_max e.min_start (own_after events p domain own e.first) (own_after events p domain own e.second) (told_into place stubs) (told_into place after) (finish + s.delay) (get_or w.starts s.child 0) start (more place ∙ ap (max (told_into place stubs)) here_after)
+                joins_max e.min_start (start_after_own events p domain own e.first) (start_after_own events p domain own e.second) (told_into place stubs) (told_into place after) (finish + s.delay) (get_or w.starts s.child 0) start (more place ∙ ap (max (told_into place stubs)) here_after)
                 in
                 ap (slice_get (told w s.child (finish + s.delay)).starts) same ∙ (get_set_same w.starts s.child (max (get_or w.starts s.child 0) (finish + s.delay)) _ start_is ∙ ap (λ n. Some n) value)
             | inr apart ↦

@@ -1,25 +1,23 @@
 -- A domain's first event behind a cut of the weave: it is what the domain takes for its next event.
-use Rattle.std.proofs.Common.{◌≡◌, ◌+◌, ◌<◌, ◌≤◌, ℕ, Bool, true, false, not, ◌&&◌, ◌||◌, cond, eqb, leb, ltb, max, List, ◌++◌, take, map, ◌⊎◌, Option, Some, None, is_some, slice_get, sym, ◌∙◌, ap, subst, refl, inl, inr, arith}
+use Rattle.std.proofs.Common.{◌≡◌, ◌<◌, ◌≤◌, ℕ, Bool, true, false, not, ◌&&◌, ◌||◌, eqb, leb, ltb, List, ◌++◌, take, map, ◌⊎◌, Option, Some, None, slice_get, sym, ◌∙◌, ap, subst, refl, inl, inr, arith}
 use Rattle.std.proofs.lemmas.Bool.{false≢true, cases_lt}
 use Rattle.std.proofs.lemmas.Bool.Decides.{nat_tests}
 use Rattle.std.proofs.lemmas.Option.{same_Some}
-use Rattle.std.specs.List.{filter, find, enumerate_from}
-use Rattle.std.specs.Option.{option_map, option_map_or, option_to_list}
-use Rattle.zs_num.specs.declared.time.Word.{Word}
-use Rattle.zs_num.specs.declared.time.Word.TheVariants.{Bound, Exact}
+use Rattle.std.specs.List.{filter, enumerate_from}
+use Rattle.std.specs.Option.{option_map, option_to_list}
 use Rattle.event_graph.specs.declared.event.Event.{Event}
 use Rattle.event_graph.specs.declared.event.Parent.{Parent}
-use Rattle.event_graph.specs.OneListWeave.{Timed, after_parent, find_fired, finish_in, finish_or_zero, is_before, is_fired, start_of}
+use Rattle.event_graph.specs.OneListWeave.{Timed, is_event_before, is_fired, start_of}
 use Rattle.domain_map.specs.declared.crossing.Crossing.{Crossing}
-use Rattle.domain_map.specs.Domains.{Division, Divides, crossings_of, domain_of, domain_of_number}
-use Rattle.weave_core.specs.DomainMachine.{DomainState, arrival_of, bound_of, cycle_of, every_crossing, is_clear, is_exact, is_own_parent_fired, is_ready_in, is_unresolved, known_finish, latency_at, latency_of, limit_of, next_in, told_finish, word_at}
-use Rattle.weave_core.specs.Soundness.{AreSoundBounds, AreSoundWords, IsSoundFloor, IsSoundWord, start_in}
+use Rattle.domain_map.specs.Domains.{Division, Divides, domain_of, domain_of_number}
+use Rattle.weave_core.specs.DomainMachine.{DomainState, arrival_of, every_crossing, is_clear, is_exact, is_own_parent_fired, is_ready_in, is_unresolved, known_finish, limit_of, next_in, word_at}
+use Rattle.weave_core.specs.Soundness.{AreSoundBounds, AreSoundWords}
 use Rattle.weave_core.specs.Interleavings.{of_domain}
-use Rattle.weave_core.proofs.Lists.{In, all_in, and_true, at_in, both, either, find_in, find_some, from_enum, in_at, in_enum, in_filter, in_left, in_map, in_right, least_le, neither, not_false, not_true, one_fails, or_left, or_right, some_at, test_cases}
+use Rattle.weave_core.proofs.Lists.{In, all_in, and_true, at_in, both, either, from_enum, in_enum, in_filter, in_left, in_map, in_right, least_le, neither, not_false, not_true, one_fails, or_left, or_right, test_cases}
 use Rattle.weave_core.proofs.LeastBy.{IsLeast, next_there, some_next, start_upto}
-use Rattle.weave_core.proofs.Crossings.{Joins, crossing_at, crossing_of, joins}
+use Rattle.weave_core.proofs.Crossings.{Joins}
 use Rattle.weave_core.proofs.First.{IsFirst, first_of}
-use Rattle.weave_core.proofs.Firing.{IsOrder, all_known, before_start, finding, finish_is, fired_before, from_domain, parent_at, start_after_parent, start_by_all, start_is, unfired_from}
+use Rattle.weave_core.proofs.Firing.{IsOrder, before_start, fired_before, parent_at, start_by_all, unfired_from}
 use Rattle.weave_core.proofs.Joined.{at_event, child_slot, eq_test, joined, less_is, test_eq}
 use Rattle.weave_core.proofs.ReadyEvents.{IsPlaced, IsReady, is_ready, placed, ready_start, sound_arrival}
 
@@ -148,7 +146,7 @@ module _ (events : List Event) (p : Division) (all : List Timed) (o : IsOrder ev
                 start = ap (λ (z : Timed). z.start) e ∙ at_start;
               }
           | inl less ↦
-              let earlier : is_before f.1.0.event f.1.0.start w.x.event w.x.start ≡ true = o.order f.0 w.k f.1.0 w.x less f.1.1.1.there w.there in
+              let earlier : is_event_before f.1.0.event f.1.0.start w.x.event w.x.start ≡ true = o.order f.0 w.k f.1.0 w.x less f.1.1.1.there w.there in
               elim (first_pending f.0 f.1.0 f.1.1.1) [
                 | inl ready ↦
                     let i : In f.1.0.event events = at_in f.1.0.event events f.1.0.event.number (o.event f.0 f.1.0 f.1.1.1.there) in
@@ -156,11 +154,11 @@ module _ (events : List Event) (p : Division) (all : List Timed) (o : IsOrder ev
                     let s : start_of (known_finish events p domain own) f.1.0.event ≡ f.1.0.start =
                     ready_start events p all o div domain cut own fired_is known bounds f.1.0.event.number f.1.0.event v (o.event f.0 f.1.0 f.1.1.1.there) ∙ sym (start_by_all events all o f.0 f.1.0 f.1.1.1.there)
                     in
-                    let fails_it : is_before f.1.0.event (start_of (known_finish events p domain own) f.1.0.event) b.0 b.1 ≡ false = l.least f.1.0.event i ready in
-                    let passes_it : is_before f.1.0.event (start_of (known_finish events p domain own) f.1.0.event) b.0 b.1 ≡ true =
-                    ap (λ n. is_before f.1.0.event n b.0 b.1) s
-                    ∙ (ap (λ (z : Event). is_before f.1.0.event f.1.0.start z b.1) (sym w.event)
-                    ∙ (ap (λ n. is_before f.1.0.event f.1.0.start w.x.event n) (sym at_start) ∙ earlier))
+                    let fails_it : is_event_before f.1.0.event (start_of (known_finish events p domain own) f.1.0.event) b.0 b.1 ≡ false = l.least f.1.0.event i ready in
+                    let passes_it : is_event_before f.1.0.event (start_of (known_finish events p domain own) f.1.0.event) b.0 b.1 ≡ true =
+                    ap (λ n. is_event_before f.1.0.event n b.0 b.1) s
+                    ∙ (ap (λ (z : Event). is_event_before f.1.0.event f.1.0.start z b.1) (sym w.event)
+                    ∙ (ap (λ n. is_event_before f.1.0.event f.1.0.start w.x.event n) (sym at_start) ∙ earlier))
                     in
                     absurd (false≢true (sym fails_it ∙ passes_it))
                 | inr a ↦

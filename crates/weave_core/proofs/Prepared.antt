@@ -10,7 +10,7 @@ use Rattle.domain_map.specs.Domains.{Division, Divides}
 use Rattle.weave_core.specs.declared.prepare.Layout.{Layout as Kept}
 use Rattle.weave_core.specs.DomainCalls.{IsFitted, comps_in}
 use Rattle.weave_core.specs.LaidOut.{IsLaidOut}
-use Rattle.weave_core.specs.Layout.{AreHere, AreServed, AreStubs, Stands, known_words, place_in, timed_from}
+use Rattle.weave_core.specs.Layout.{AreHere, AreStubs, HaveComponents, Stands, known_words, place_in, timed_from}
 use Rattle.weave_core.proofs.Lists.{get_below}
 use Rattle.weave_core.proofs.Looked.{stands_alike}
 use Rattle.weave_core.proofs.Spots.{spot_there}
@@ -22,10 +22,10 @@ pub record IsBegun {C : Type 0} (serves : C → Kind → Bool) (domain : ℕ) (l
   pub here : AreHere events p domain l.here.items
   pub stubs : AreStubs events p domain l.here.items l.incoming.stubs
   pub stands : Stands events p domain (record { fired = map (timed_from events) l.fired.items; known = known_words p.crossings l.incoming.stubs; floor = l.incoming.floor }) l.here.items l.incoming.stubs l.waiting
-  pub served : AreServed serves p domain l.here.items l.spots.items comps
+  pub served : HaveComponents serves p domain l.here.items l.spots.items comps
 
 served_by : {C : Type 0} (serves : C → Kind → Bool) (floor : C → Kind → ℕ) (events : List Event) (p : Division) (domain : ℕ) (l : Kept) (comps all : List C)
-    → IsLaidOut events p domain l → IsFitted serves floor events p domain comps all → AreServed serves p domain l.here.items l.spots.items comps
+    → IsLaidOut events p domain l → IsFitted serves floor events p domain comps all → HaveComponents serves p domain l.here.items l.spots.items comps
 served_by {C} serves floor events p domain l comps all laid fits = record {
   spot = λ place e h. laid.spots.each e.component (below place e h);
   serving = λ place e h.

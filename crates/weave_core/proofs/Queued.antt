@@ -1,33 +1,29 @@
 -- The first of the stubs is that of a first key of the two queues.
-use Rattle.std.proofs.Common.{◌≡◌, ◌+◌, ◌-◌, ◌<◌, ◌≤◌, ◌^◌, ℕ, max, Bool, true, false, cond, List, [], ◌∷◌, length, set, drop, ◌⊎◌, Option, Some, None, slice_get, sym, ◌∙◌, ap, subst, refl, inl, inr, arith, length-set}
+use Rattle.std.proofs.Common.{◌≡◌, ◌+◌, ◌<◌, ◌≤◌, ◌^◌, ℕ, max, Bool, true, false, List, [], ◌∷◌, Some, None, slice_get, sym, ◌∙◌, ap, subst, refl, inl, inr, arith}
 use Rattle.std.specs.Prelude.{nat_lt}
-use Rattle.std.proofs.lemmas.Bool.{cases_eq, false≢true}
 use Rattle.std.proofs.lemmas.Bool.Decides.{nat_tests}
-use Rattle.std.proofs.lemmas.Option.{same_Some, none-some}
-use Rattle.std.specs.List.{Contains}
-use Rattle.std.specs.Option.{option_map_or}
+use Rattle.std.proofs.lemmas.Option.{same_Some}
+use Rattle.zs_num.specs.KeyOrder.{is_key_before}
 use Rattle.zs_num.specs.declared.time.Key.{Key}
-use Rattle.zs_num.specs.declared.time.Word.{Word}
-use Rattle.domain_queue.specs.SortedKeys.{IsAscending, ReadyKeys, is_before, put}
+use Rattle.domain_queue.specs.SortedKeys.{IsAscending, ReadyKeys}
 use Rattle.weave_core.specs.declared.incoming.Stub.{Stub}
 use Rattle.weave_core.specs.DomainMachine.{cycle_of, is_exact}
-use Rattle.weave_core.specs.Stubs.{AreSmallStubs, IsFirstStub, IsFloorCurrent, IsKeyed, IsQueued, IsSmallStub, IsWordCurrent, NoneOpen, arrival_at, arrival_in, is_ahead, reach_of, slack, told_word}
+use Rattle.weave_core.specs.Stubs.{IsFirstStub, IsQueued, NoneOpen, arrival_at, is_ahead, reach_of}
 use Rattle.weave_core.specs.Waits.{key_of}
-use Rattle.weave_core.proofs.Keys.{first_in, first_least, first_or_rest, has_in, in_has, length-put, length-rest, put_cases, put_new, put_old, rest_apart, rest_in}
-use Rattle.weave_core.proofs.Lists.{In, get_below, get_there}
+use Rattle.weave_core.proofs.Keys.{first_in, first_least, has_in, in_has}
+use Rattle.weave_core.proofs.Lists.{In, get_there}
 use Rattle.weave_core.proofs.Readied.{no_key}
-use Rattle.weave_core.proofs.Updates.{get_set_other, get_set_same}
 
 -- keys that come later, and the transitivity of their order
 
-later_not_before : (start later place : ℕ) (f : Key) → start ≤ later → is_before (key_of start place) f ≡ false → is_before (key_of later place) f ≡ false
+later_not_before : (start later place : ℕ) (f : Key) → start ≤ later → is_key_before (key_of start place) f ≡ false → is_key_before (key_of later place) f ≡ false
 later_not_before start later place f l h = grind (arith, nat_tests)
 
-not_before_both : (k l m : Key) → is_before k l ≡ false → is_before l m ≡ false → is_before k m ≡ false
+not_before_both : (k l m : Key) → is_key_before k l ≡ false → is_key_before l m ≡ false → is_key_before k m ≡ false
 not_before_both k l m h i = grind (arith, nat_tests)
 
-not_before_after : (floor : ℕ) (start place : ℕ) (f : Key) → is_before (key_of start place) f ≡ false
-    → is_before (key_of (floor + start) place) (key_of (floor + f.start) f.number) ≡ false
+not_before_after : (floor : ℕ) (start place : ℕ) (f : Key) → is_key_before (key_of start place) f ≡ false
+    → is_key_before (key_of (floor + start) place) (key_of (floor + f.start) f.number) ≡ false
 not_before_after floor start place f h = grind (arith, nat_tests)
 
 -- the arrival of a stub by its reach
@@ -54,9 +50,9 @@ module _ (stubs : List Stub) (floor : ℕ) (by_floor by_word : ReadyKeys) (queue
           ]
 
   -- no open stub comes before a key that comes before the first keys
-  least_of : (k : Key) → ((f : Key) → slice_get by_floor.keys 0 ≡ Some f → is_before (key_of (floor + f.start) f.number) k ≡ false)
-      → ((f : Key) → slice_get by_word.keys 0 ≡ Some f → is_before f k ≡ false) → IsAscending by_floor.keys → IsAscending by_word.keys
-      → (place : ℕ) (s : Stub) → slice_get stubs place ≡ Some s → is_exact s.word ≡ false → is_before (key_of (arrival_at floor s) place) k ≡ false
+  least_of : (k : Key) → ((f : Key) → slice_get by_floor.keys 0 ≡ Some f → is_key_before (key_of (floor + f.start) f.number) k ≡ false)
+      → ((f : Key) → slice_get by_word.keys 0 ≡ Some f → is_key_before f k ≡ false) → IsAscending by_floor.keys → IsAscending by_word.keys
+      → (place : ℕ) (s : Stub) → slice_get stubs place ≡ Some s → is_exact s.word ≡ false → is_key_before (key_of (arrival_at floor s) place) k ≡ false
   least_of k before_floor before_word a b place s there unknown =
       elim (queued.keyed.covers place s there unknown) [
         | inl h ↦
@@ -84,7 +80,7 @@ module _ (stubs : List Stub) (floor : ℕ) (by_floor by_word : ReadyKeys) (queue
       let c = queued.floor_current f s.0 e s.1.0 in
       (s.0, (s.1.0, (c.0, ap (λ n. floor + n) s.1.1 ∙ sym (by_reach floor s.0 c.1))))
 
-  pub first_by_floor : (f : Key) → slice_get by_floor.keys 0 ≡ Some f → ((g : Key) → slice_get by_word.keys 0 ≡ Some g → is_before g (key_of (floor + f.start) f.number) ≡ false)
+  pub first_by_floor : (f : Key) → slice_get by_floor.keys 0 ≡ Some f → ((g : Key) → slice_get by_word.keys 0 ≡ Some g → is_key_before g (key_of (floor + f.start) f.number) ≡ false)
       → IsAscending by_floor.keys → IsAscending by_word.keys → IsFirstStub (record { stubs = stubs; floor = floor }) (key_of (floor + f.start) f.number)
   first_by_floor f e before a b =
       let s = floor_stub f e in
@@ -94,14 +90,14 @@ module _ (stubs : List Stub) (floor : ℕ) (by_floor by_word : ReadyKeys) (queue
         unknown = s.1.1.0;
         start = s.1.1.1;
         least = least_of (key_of (floor + f.start) f.number)
-            (λ g h. subst (λ (z : Key). is_before (key_of (floor + z.start) z.number) (key_of (floor + f.start) f.number) ≡ false) (same_Some f g (sym e ∙ h)) (itself (key_of (floor + f.start) f.number)))
+            (λ g h. subst (λ (z : Key). is_key_before (key_of (floor + z.start) z.number) (key_of (floor + f.start) f.number) ≡ false) (same_Some f g (sym e ∙ h)) (itself (key_of (floor + f.start) f.number)))
             before a b;
       }
     where
-      itself : (k : Key) → is_before k k ≡ false
+      itself : (k : Key) → is_key_before k k ≡ false
       itself k = grind (arith, nat_tests)
 
-  pub first_by_word : (f : Key) → slice_get by_word.keys 0 ≡ Some f → ((g : Key) → slice_get by_floor.keys 0 ≡ Some g → is_before (key_of (floor + g.start) g.number) f ≡ false)
+  pub first_by_word : (f : Key) → slice_get by_word.keys 0 ≡ Some f → ((g : Key) → slice_get by_floor.keys 0 ≡ Some g → is_key_before (key_of (floor + g.start) g.number) f ≡ false)
       → IsAscending by_floor.keys → IsAscending by_word.keys → IsFirstStub (record { stubs = stubs; floor = floor }) f
   first_by_word f e before a b =
       let s : (s : Stub) × (slice_get stubs f.number ≡ Some s) = get_there stubs f.number (queued.keyed.within f (in_has by_word.keys f (first_in f by_word.keys e))) in
@@ -111,10 +107,10 @@ module _ (stubs : List Stub) (floor : ℕ) (by_floor by_word : ReadyKeys) (queue
         there = s.1;
         unknown = c.0;
         start = c.1;
-        least = least_of f before (λ g h. subst (λ (z : Key). is_before z f ≡ false) (same_Some f g (sym e ∙ h)) (itself f)) a b;
+        least = least_of f before (λ g h. subst (λ (z : Key). is_key_before z f ≡ false) (same_Some f g (sym e ∙ h)) (itself f)) a b;
       }
     where
-      itself : (k : Key) → is_before k k ≡ false
+      itself : (k : Key) → is_key_before k k ≡ false
       itself k = grind (arith, nat_tests)
 
   -- the first reach leads to no great cycle

@@ -6,7 +6,7 @@ use Rattle.std.proofs.lemmas.Option.{same_Some, none-some}
 use Rattle.std.specs.List.{Contains}
 use Rattle.zs_num.specs.declared.time.Key.{Key}
 use Rattle.domain_queue.specs.SortedKeys.{IsAscending, ReadyKeys, put}
-use Rattle.weave_core.specs.Waits.{HasReady, IsFirstReady, NoneReady, key_of, one_waiting, waiting_in}
+use Rattle.weave_core.specs.Waits.{HasReadyPlaces, IsFirstReady, NoneReady, key_of, one_waiting, waiting_in}
 use Rattle.weave_core.proofs.Keys.{first_in, first_least, first_or_rest, has_in, in_has, length-put, length-rest, put_cases, put_new, put_old, rest_apart, rest_in}
 use Rattle.weave_core.proofs.Lists.{In, get_below, get_there}
 use Rattle.weave_core.proofs.Updates.{get_set_other, get_set_same}
@@ -50,7 +50,7 @@ pub no_key : (k : Key) (keys : List Key) → slice_get keys 0 ≡ None → In k 
 no_key k [] e h = h
 no_key k (y ∷ keys) e h = none-some y (sym e)
 
-module _ (starts waits : List ℕ) (queue : ReadyKeys) (has : HasReady starts waits queue) where
+module _ (starts waits : List ℕ) (queue : ReadyKeys) (has : HasReadyPlaces starts waits queue) where
   at_key : (k : Key) → In k queue.keys → (slice_get waits k.number ≡ Some 0) × (slice_get starts k.number ≡ Some k.start)
   at_key k h = has.each k (in_has queue.keys k h)
 
@@ -74,10 +74,10 @@ module _ (starts waits : List ℕ) (queue : ReadyKeys) (has : HasReady starts wa
 
   -- the first has fired
   pub popped : (k : Key) (left : ReadyKeys) → IsAscending queue.keys → slice_get queue.keys 0 ≡ Some k → left ≡ record queue { keys = drop 1 queue.keys }
-      → HasReady starts (set waits k.number 4294967295) left
+      → HasReadyPlaces starts (set waits k.number 4294967295) left
   popped k left a e is =
       let r : (slice_get waits k.number ≡ Some 0) × (slice_get starts k.number ≡ Some k.start) = at_key k (first_in k queue.keys e) in
-      subst (λ (q : ReadyKeys). HasReady starts (set waits k.number 4294967295) q) (sym is)
+      subst (λ (q : ReadyKeys). HasReadyPlaces starts (set waits k.number 4294967295) q) (sym is)
       (record {
         sizes = has.sizes ∙ sym (length-set waits k.number 4294967295);
         each = λ x h.
@@ -140,7 +140,7 @@ module _ (starts waits : List ℕ) (queue : ReadyKeys) (has : HasReady starts wa
         key_at other s (sym (get_set_other waits place other now apart) ∙ w) (sym (get_set_other starts place other start apart) ∙ t)
 
     -- it still waits
-    pub still_waits : 0 < was - 1 → HasReady (set starts place start) (set waits place (was - 1)) queue
+    pub still_waits : 0 < was - 1 → HasReadyPlaces (set starts place start) (set waits place (was - 1)) queue
     still_waits more = record {
       sizes = length-set starts place start ∙ (has.sizes ∙ sym (length-set waits place (was - 1)));
       each = λ x h. each_stays (was - 1) x (has_in queue.keys x h);
@@ -160,9 +160,9 @@ module _ (starts waits : List ℕ) (queue : ReadyKeys) (has : HasReady starts wa
 
     -- or it is ready
     pub is_ready_now : (longer : ReadyKeys) → longer ≡ record queue { keys = put (key_of start place) queue.keys } → was - 1 ≡ 0
-        → HasReady (set starts place start) (set waits place (was - 1)) longer
+        → HasReadyPlaces (set starts place start) (set waits place (was - 1)) longer
     is_ready_now longer is none =
-        subst (λ (q : ReadyKeys). HasReady (set starts place start) (set waits place (was - 1)) q) (sym is)
+        subst (λ (q : ReadyKeys). HasReadyPlaces (set starts place start) (set waits place (was - 1)) q) (sym is)
         (record {
           sizes = length-set starts place start ∙ (has.sizes ∙ sym (length-set waits place (was - 1)));
           each = λ x h.
@@ -248,7 +248,7 @@ module _ (starts waits : List ℕ) where
           ];
     }
 
-    pub filled_all : (queue : ReadyKeys) → queue.keys ≡ keys → queue.room ≡ length waits → length starts ≡ length waits → place ≡ length waits → HasReady starts waits queue
+    pub filled_all : (queue : ReadyKeys) → queue.keys ≡ keys → queue.room ≡ length waits → length starts ≡ length waits → place ≡ length waits → HasReadyPlaces starts waits queue
     filled_all queue is room sizes end = record {
       sizes = sizes;
       each = λ k h. (so_far.each k (subst (λ (ks : List Key). Contains ks k) is h)).1;

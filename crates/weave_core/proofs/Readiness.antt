@@ -5,17 +5,17 @@ use Rattle.std.proofs.lemmas.Bool.Decides.{nat_tests}
 use Rattle.std.proofs.lemmas.Option.{same_Some}
 use Rattle.std.specs.List.{enumerate_from, find}
 use Rattle.std.specs.Option.{option_map_or}
+use Rattle.zs_num.specs.KeyOrder.{is_key_before}
 use Rattle.zs_num.specs.declared.time.Key.{Key}
 use Rattle.event_graph.specs.declared.event.Event.{Event}
 use Rattle.event_graph.specs.declared.event.Parent.{Parent}
 use Rattle.event_graph.specs.Numbered.{IsNumbered}
-use Rattle.event_graph.specs.OneListWeave.{after_parent, finish_in, is_before as is_event_before, is_fired, start_of}
+use Rattle.event_graph.specs.OneListWeave.{after_parent, finish_in, is_event_before, is_fired, start_of}
 use Rattle.domain_map.specs.declared.crossing.Crossing.{Crossing}
 use Rattle.domain_map.specs.Domains.{Division, Divides, domain_of, domain_of_number}
-use Rattle.domain_queue.specs.SortedKeys.{is_before}
 use Rattle.weave_core.specs.declared.incoming.Stub.{Stub}
 use Rattle.weave_core.specs.DomainMachine.{DomainState, cycle_of, is_exact, is_own_parent_fired, is_ready_in, known_finish, next_in, told_finish, word_at}
-use Rattle.weave_core.specs.Layout.{AreHere, AreStubs, Stands, known_words, missing_at, own_after, pending, start_at, told_into, unknown_into}
+use Rattle.weave_core.specs.Layout.{AreHere, AreStubs, Stands, known_words, missing_at, pending, start_after_own, start_at, told_into, unknown_into}
 use Rattle.weave_core.specs.Waits.{IsFirstReady, NoneReady, Waits, key_of}
 use Rattle.weave_core.proofs.Crossings.{Joins, crossing_at, crossing_of, joins}
 use Rattle.weave_core.proofs.LeastBy.{IsLeast, next_there, some_next}
@@ -153,7 +153,7 @@ module _ (events : List Event) (p : Division) (domain : ℕ) (here : List Event)
   here_finish number h = ap (λ (t : Bool). cond t (finish_in own.fired number) (told_finish events p own number)) h
 
   -- what a parent here leaves is no more than what the parent leaves
-  own_upto : (q : Option Parent) → own_after events p domain own q ≤ after_parent (known_finish events p domain own) q
+  own_upto : (q : Option Parent) → start_after_own events p domain own q ≤ after_parent (known_finish events p domain own) q
   own_upto None = omega arith
   own_upto (Some q) = by_test (is_fired own.fired q.number) (eqb (domain_of_number p.places events q.number) domain) refl
     where
@@ -166,15 +166,15 @@ module _ (events : List Event) (p : Division) (domain : ℕ) (here : List Event)
   -- each parent of a ready event is told of
   slot_upto : (place : ℕ) (e : Event) (q : Option Parent) → slice_get here place ≡ Some e → unknown_into place stubs ≡ 0 → is_own_parent_fired events p domain own q ≡ true
       → ((r : Parent) → q ≡ Some r → (e.first ≡ Some r) ⊎ (e.second ≡ Some r))
-      → after_parent (known_finish events p domain own) q ≤ max (own_after events p domain own q) (told_into place stubs)
+      → after_parent (known_finish events p domain own) q ≤ max (start_after_own events p domain own q) (told_into place stubs)
   slot_upto place e None h none fired slot = omega arith
   slot_upto place e (Some q) h none fired slot = by_test (eqb (domain_of_number p.places events q.number) domain) refl
     where
       own_case : eqb (domain_of_number p.places events q.number) domain ≡ true → (f : Bool) → is_fired own.fired q.number ≡ f
-          → known_finish events p domain own q.number + q.delay ≤ max (own_after events p domain own (Some q)) (told_into place stubs)
+          → known_finish events p domain own q.number + q.delay ≤ max (start_after_own events p domain own (Some q)) (told_into place stubs)
       own_case v true u =
           let t : (is_fired own.fired q.number && eqb (domain_of_number p.places events q.number) domain) ≡ true = and_true (is_fired own.fired q.number) (eqb (domain_of_number p.places events q.number) domain) u v in
-          let o : own_after events p domain own (Some q) ≡ finish_in own.fired q.number + q.delay = ap (λ (b : Bool). cond b (finish_in own.fired q.number + q.delay) 0) t in
+          let o : start_after_own events p domain own (Some q) ≡ finish_in own.fired q.number + q.delay = ap (λ (b : Bool). cond b (finish_in own.fired q.number + q.delay) 0) t in
           omega (arith, o, here_finish q.number v)
       own_case v false u =
           elim (either (is_fired own.fired q.number) (not (eqb (domain_of_number p.places events q.number) domain)) fired) [
@@ -183,7 +183,7 @@ module _ (events : List Event) (p : Division) (domain : ℕ) (here : List Event)
           ]
 
       by_test : (t : Bool) → eqb (domain_of_number p.places events q.number) domain ≡ t
-          → known_finish events p domain own q.number + q.delay ≤ max (own_after events p domain own (Some q)) (told_into place stubs)
+          → known_finish events p domain own q.number + q.delay ≤ max (start_after_own events p domain own (Some q)) (told_into place stubs)
       by_test true v = own_case v (is_fired own.fired q.number) refl
       by_test false v =
           let at = are_here.each place e h in
@@ -233,7 +233,7 @@ module _ (events : List Event) (p : Division) (domain : ℕ) (here : List Event)
       → start_at events p domain own place e stubs ≡ start_of (known_finish events p domain own) e
   start_is place e h none =
       let z = both_zero (pending events p domain own e.first) (pending events p domain own e.second) (unknown_into place stubs) none in
-      meets e.min_start (own_after events p domain own e.first) (own_after events p domain own e.second) (told_into place stubs)
+      meets e.min_start (start_after_own events p domain own e.first) (start_after_own events p domain own e.second) (told_into place stubs)
       (after_parent (known_finish events p domain own) e.first) (after_parent (known_finish events p domain own) e.second)
       (own_upto e.first) (own_upto e.second) (told_upto place e h)
       (slot_upto place e e.first h z.1.1 (none_pending e.first z.0) (λ r s. inl s))
@@ -279,7 +279,7 @@ module _ (events : List Event) (p : Division) (domain : ℕ) (here : List Event)
       in
       let r = ready_here b.0.0 l.there l.passes in
       let b_start : slice_get w.starts r.place ≡ Some b.0.1 = stands.starts r.place b.0.0 r.there ∙ ap (λ n. Some n) (start_is r.place b.0.0 r.there r.none ∙ sym l.start_is) in
-      let not_before : is_before (key_of b.0.1 r.place) k ≡ false = first.least r.place b.0.1 (zero_wait b.0.0 r) b_start in
+      let not_before : is_key_before (key_of b.0.1 r.place) k ≡ false = first.least r.place b.0.1 (zero_wait b.0.0 r) b_start in
       let not_after : is_event_before e k.start b.0.0 b.0.1 ≡ false =
       subst (λ (s : ℕ). is_event_before e s b.0.0 b.0.1 ≡ false) (sym start) (l.least e (at_in e events e.number there.0) passes)
       in
@@ -290,7 +290,7 @@ module _ (events : List Event) (p : Division) (domain : ℕ) (here : List Event)
       let is : b.0.0 ≡ e = same_Some b.0.0 e (sym r.there ∙ (ap (slice_get here) same ∙ h)) in
       b.1 ∙ (ap (λ (z : Event × ℕ). Some z) (ap (λ (z : Event). (z, b.0.1)) is) ∙ ap (λ (s : ℕ). Some (e, s)) (l.start_is ∙ (ap (start_of (known_finish events p domain own)) is ∙ sym start)))
     where
-      tie : (i j s t m n : ℕ) → is_before (key_of s i) (key_of t j) ≡ false → (ltb t s || (eqb t s && ltb n m)) ≡ false → (j < i → n < m) → (i < j → m < n) → i ≡ j
+      tie : (i j s t m n : ℕ) → is_key_before (key_of s i) (key_of t j) ≡ false → (ltb t s || (eqb t s && ltb n m)) ≡ false → (j < i → n < m) → (i < j → m < n) → i ≡ j
       tie i j s t m n a b c d =
           let upto : j ≤ i = grind (arith, nat_tests) in
           let upto_too : m ≤ n = grind (arith, nat_tests) in

@@ -1,25 +1,19 @@
 -- A domain's ready events, as the weave has them.
-use Rattle.std.proofs.Common.{◌≡◌, ◌+◌, ◌<◌, ◌≤◌, ℕ, Bool, true, false, not, ◌&&◌, ◌||◌, cond, eqb, leb, ltb, max, List, ◌++◌, take, map, ◌⊎◌, Option, Some, None, is_some, slice_get, sym, ◌∙◌, ap, subst, refl, inl, inr, arith}
+use Rattle.std.proofs.Common.{◌≡◌, ◌+◌, ◌<◌, ◌≤◌, ℕ, Bool, true, false, not, ◌&&◌, ◌||◌, cond, eqb, max, List, take, ◌⊎◌, Option, Some, None, is_some, slice_get, sym, ◌∙◌, ap, subst, refl, inl, inr, arith}
 use Rattle.std.proofs.lemmas.Bool.{false≢true, cases_lt}
-use Rattle.std.proofs.lemmas.Bool.Decides.{nat_tests}
-use Rattle.std.proofs.lemmas.Option.{same_Some}
-use Rattle.std.specs.List.{filter, find, enumerate_from}
-use Rattle.std.specs.Option.{option_map, option_map_or, option_to_list}
-use Rattle.zs_num.specs.declared.time.Word.{Word}
-use Rattle.zs_num.specs.declared.time.Word.TheVariants.{Bound, Exact}
+use Rattle.std.specs.List.{find, enumerate_from}
+use Rattle.std.specs.Option.{option_map_or}
 use Rattle.event_graph.specs.declared.event.Event.{Event}
 use Rattle.event_graph.specs.declared.event.Parent.{Parent}
-use Rattle.event_graph.specs.OneListWeave.{Timed, after_parent, find_fired, finish_in, finish_or_zero, is_before, is_fired, start_of}
+use Rattle.event_graph.specs.OneListWeave.{Timed, after_parent, find_fired, finish_in, finish_or_zero, is_fired, start_of}
 use Rattle.domain_map.specs.declared.crossing.Crossing.{Crossing}
 use Rattle.domain_map.specs.Domains.{Division, Divides, crossings_of, domain_of, domain_of_number}
-use Rattle.weave_core.specs.DomainMachine.{DomainState, arrival_of, bound_of, cycle_of, every_crossing, is_clear, is_exact, is_own_parent_fired, is_ready_in, is_unresolved, known_finish, latency_at, latency_of, limit_of, next_in, told_finish, word_at}
-use Rattle.weave_core.specs.Soundness.{AreSoundBounds, AreSoundWords, IsSoundFloor, IsSoundWord, start_in}
+use Rattle.weave_core.specs.DomainMachine.{DomainState, arrival_of, bound_of, cycle_of, is_exact, is_own_parent_fired, is_ready_in, known_finish, told_finish, word_at}
+use Rattle.weave_core.specs.Soundness.{AreSoundBounds, AreSoundWords}
 use Rattle.weave_core.specs.Interleavings.{of_domain}
-use Rattle.weave_core.proofs.Lists.{In, all_in, and_true, at_in, both, either, find_in, find_some, from_enum, in_at, in_enum, in_filter, in_left, in_map, in_right, least_le, neither, not_false, not_true, one_fails, or_left, or_right, some_at, test_cases}
-use Rattle.weave_core.proofs.LeastBy.{IsLeast, next_there, some_next, start_upto}
-use Rattle.weave_core.proofs.Crossings.{Joins, crossing_at, crossing_of, joins}
-use Rattle.weave_core.proofs.First.{IsFirst, first_of}
-use Rattle.weave_core.proofs.Firing.{IsOrder, all_known, before_start, finding, finish_is, fired_before, from_domain, parent_at, start_after_parent, start_by_all, start_is, unfired_from}
+use Rattle.weave_core.proofs.Lists.{In, all_in, and_true, both, either, find_in, find_some, from_enum, in_at, in_enum, not_true, some_at}
+use Rattle.weave_core.proofs.Crossings.{Joins, crossing_at, crossing_of}
+use Rattle.weave_core.proofs.Firing.{IsOrder, all_known, finding, fired_before, from_domain, parent_at, start_after_parent, start_by_all}
 use Rattle.weave_core.proofs.Joined.{child_slot, eq_test, exact_cycle, joined, test_eq}
 
 module _ (events : List Event) (p : Division) (all : List Timed) (o : IsOrder events all) (div : Divides events p) where

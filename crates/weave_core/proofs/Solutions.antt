@@ -8,7 +8,7 @@ use Rattle.zs_num.specs.declared.time.Word.{Word}
 use Rattle.zs_num.specs.declared.time.Word.TheVariants.{Bound, Exact}
 use Rattle.component.specs.declared.kind.Kind.{Kind}
 use Rattle.event_graph.specs.declared.event.Event.{Event}
-use Rattle.event_graph.specs.OneListWeave.{Timed, find_fired, finish_in, finish_or_zero, is_before, timed_in, timed_of, weave, woven}
+use Rattle.event_graph.specs.OneListWeave.{Timed, find_fired, finish_in, finish_or_zero, fired_or_unfired, is_event_before, timed_in, weave, woven}
 use Rattle.event_graph.specs.TimingSolution.{IsInOrder}
 use Rattle.domain_map.specs.declared.crossing.Crossing.{Crossing}
 use Rattle.domain_map.specs.Domains.{Division}
@@ -29,22 +29,22 @@ from_map {X} f y (x ∷ xs) h =
 
 abbrev IsOrdered : List Timed → Type 0
 IsOrdered [] = Unit {0}
-IsOrdered (x ∷ xs) = ((y : Timed) → In y xs → is_before x.event x.start y.event y.start ≡ true) × IsOrdered xs
+IsOrdered (x ∷ xs) = ((y : Timed) → In y xs → is_event_before x.event x.start y.event y.start ≡ true) × IsOrdered xs
 
 ordered : (xs : List Timed) → IsInOrder xs → IsOrdered xs
 ordered [] h = tt
 ordered (x ∷ xs) h = (
   λ y m.
       let at : (i : ℕ) × (slice_get xs i ≡ Some y) = in_at y xs m in
-      subst (λ (z : Timed). is_before x.event x.start z.event z.start ≡ true) (get_or_from_slice_get xs at.0 y y at.1)
+      subst (λ (z : Timed). is_event_before x.event x.start z.event z.start ≡ true) (get_or_from_slice_get xs at.0 y y at.1)
       (h 0 (suc at.0) y (omega arith) (omega (arith, get_below xs at.0 y at.1))),
   ordered xs (λ i j d l b. h (suc i) (suc j) d (omega (arith, l)) (omega (arith, b))),
 )
 
-never_itself : (x : Timed) → is_before x.event x.start x.event x.start ≡ true → ⊥
+never_itself : (x : Timed) → is_event_before x.event x.start x.event x.start ≡ true → ⊥
 never_itself x h = grind (arith, nat_tests)
 
-never_back : (x y : Timed) → is_before x.event x.start y.event y.start ≡ true → is_before y.event y.start x.event x.start ≡ true → ⊥
+never_back : (x y : Timed) → is_event_before x.event x.start y.event y.start ≡ true → is_event_before y.event y.start x.event x.start ≡ true → ⊥
 never_back x y h k = grind (arith, nat_tests)
 
 same_order : (xs ys : List Timed) → IsOrdered xs → IsOrdered ys → ((x : Timed) → In x xs → In x ys) → ((x : Timed) → In x ys → In x xs) → xs ≡ ys
@@ -65,13 +65,13 @@ same_order (x ∷ xs) (y ∷ ys) a b f g =
     let into : (z : Timed) → In z xs → In z ys =
     λ z m. elim (f z (inr m)) [
       | inr n ↦ n
-      | inl e ↦ absurd (never_itself z (subst (λ (w : Timed). is_before w.event w.start z.event z.start ≡ true) (sym head ∙ e) (a.0 z m)))
+      | inl e ↦ absurd (never_itself z (subst (λ (w : Timed). is_event_before w.event w.start z.event z.start ≡ true) (sym head ∙ e) (a.0 z m)))
     ]
     in
     let back : (z : Timed) → In z ys → In z xs =
     λ z m. elim (g z (inr m)) [
       | inr n ↦ n
-      | inl e ↦ absurd (never_itself z (subst (λ (w : Timed). is_before w.event w.start z.event z.start ≡ true) (head ∙ e) (b.0 z m)))
+      | inl e ↦ absurd (never_itself z (subst (λ (w : Timed). is_event_before w.event w.start z.event z.start ≡ true) (head ∙ e) (b.0 z m)))
     ]
     in
     ap (λ (z : Timed). z ∷ xs) (sym head) ∙ ap (λ (zs : List Timed). y ∷ zs) (same_order xs ys a.1 b.1 into back)
@@ -94,7 +94,7 @@ module _ {C : Type 0} (stepped : C → Kind → ℕ → C × ℕ) (events : List
       let i : (i : ℕ) × (slice_get events i ≡ Some r.0) = in_at r.0 events r.1.0 in
       let w : (k : ℕ) × (y : Timed) × (slice_get all k ≡ Some y) × (y.event ≡ r.0) = o.each r.0 (ap (slice_get events) (o.numbered i.0 r.0 i.1) ∙ i.1) in
       let known : find_fired all r.0.number ≡ Some w.1 = ap (λ (e : Event). find_fired all e.number) (sym w.3) ∙ all_known events all o w.0 w.1 w.2 in
-      let same : w.1 ≡ x = sym (ap (timed_of r.0) known) ∙ r.1.1 in
+      let same : w.1 ≡ x = sym (ap (fired_or_unfired r.0) known) ∙ r.1.1 in
       subst (λ (z : Timed). In z all) same (at_in w.1 all w.0 w.2)
 
   from_weave : (x : Timed) → In x all → In x timed
@@ -105,7 +105,7 @@ module _ {C : Type 0} (stepped : C → Kind → ℕ → C × ℕ) (events : List
       in_map (timed_in all) x.event events (at_in x.event events x.event.number (o.event at.0 x at.1))
       in
       subst (λ (xs : List Timed). In x xs) (sym is)
-      (subst (λ (z : Timed). In z (map (timed_in all) events)) (ap (timed_of x.event) (all_known events all o at.0 x at.1)) there)
+      (subst (λ (z : Timed). In z (map (timed_in all) events)) (ap (fired_or_unfired x.event) (all_known events all o at.0 x at.1)) there)
 
   pub found_alike : (n : ℕ) → find_fired timed n ≡ find_fired all n
   found_alike n = by_option (find_fired timed n) refl (find_fired all n) refl

@@ -40,8 +40,25 @@ module _ {C : Type 0} (stepped : C → Kind → ℕ → C × ℕ) (events : List
   abbrev all : List Timed
   all = (weave stepped events comps).fired
 
+  -- its component has served what the domain fired on it, and nothing else
+  pub mine_so_far : (domain cut : ℕ) (own : DomainState) (fired : own.fired ≡ of_domain p.places domain (take cut all)) (known : AreSoundWords all p own.known)
+      (bounds : AreSoundBounds events all p domain own) (b : Event × ℕ) (n : IsNextHere events p all o div domain cut own fired known bounds b)
+      → of_component n.x.event.component (take n.k all) ≡ of_component n.x.event.component own.fired
+  mine_so_far domain cut own fired known bounds b n =
+      let is = pending_is events p all o div domain cut own fired known bounds n.k n.x n.first.passes in
+      let gap : (j : ℕ) (y : Timed) → cut ≤ j → j < n.k → slice_get all j ≡ Some y → eqb (domain_of p.places y.event) domain ≡ false =
+      gap_domain stepped events p comps all o div serves here domain cut n.k own fired known bounds n.x n.first
+      in
+      let gap_here : (j : ℕ) (y : Timed) → cut ≤ j → j < n.k → slice_get all j ≡ Some y → eqb y.event.component n.x.event.component ≡ false =
+      gap_component stepped events p comps all o div serves here domain cut n.k n.x.event.component is.0 gap
+      in
+      front_kept (λ (y : Timed). eqb y.event.component n.x.event.component) all cut n.k is.1 gap_here
+      ∙ (narrowed stepped events p comps all o div serves here n.x.event.component (take cut all)
+      ∙ (ap (λ (d : ℕ). of_component n.x.event.component (of_domain p.places d (take cut all))) is.0
+      ∙ ap (of_component n.x.event.component) (sym fired)))
+
   -- with the weave's own order
-  next_entry : (domain cut : ℕ) (own : DomainState) (fired : own.fired ≡ of_domain p.places domain (take cut all)) (known : AreSoundWords all p own.known)
+  pub next_entry : (domain cut : ℕ) (own : DomainState) (fired : own.fired ≡ of_domain p.places domain (take cut all)) (known : AreSoundWords all p own.known)
       (bounds : AreSoundBounds events all p domain own) (b : Event × ℕ) (n : IsNextHere events p all o div domain cut own fired known bounds b)
       → (slice_get (of_domain p.places domain all) (length own.fired) ≡ Some n.x)
       × ((c : C) × ((slice_get comps n.x.event.component ≡ Some c)
@@ -50,9 +67,6 @@ module _ {C : Type 0} (stepped : C → Kind → ℕ → C × ℕ) (events : List
       let is = pending_is events p all o div domain cut own fired known bounds n.k n.x n.first.passes in
       let gap : (j : ℕ) (y : Timed) → cut ≤ j → j < n.k → slice_get all j ≡ Some y → eqb (domain_of p.places y.event) domain ≡ false =
       gap_domain stepped events p comps all o div serves here domain cut n.k own fired known bounds n.x n.first
-      in
-      let gap_here : (j : ℕ) (y : Timed) → cut ≤ j → j < n.k → slice_get all j ≡ Some y → eqb y.event.component n.x.event.component ≡ false =
-      gap_component stepped events p comps all o div serves here domain cut n.k n.x.event.component is.0 gap
       in
       let grown : of_domain p.places domain (take (n.k + 1) all) ≡ own.fired ++ n.x ∷ [] =
       front_next (λ (y : Timed). eqb (domain_of p.places y.event) domain) all cut n.k n.x is.1 n.first.there (eq_test (domain_of p.places n.x.event) domain is.0) gap
@@ -66,10 +80,7 @@ module _ {C : Type 0} (stepped : C → Kind → ℕ → C × ℕ) (events : List
       in
       let sv = serves.at n.k n.x n.first.there in
       let mine : of_component n.x.event.component (take n.k all) ≡ of_component n.x.event.component own.fired =
-      front_kept (λ (y : Timed). eqb y.event.component n.x.event.component) all cut n.k is.1 gap_here
-      ∙ (narrowed stepped events p comps all o div serves here n.x.event.component (take cut all)
-      ∙ (ap (λ (d : ℕ). of_component n.x.event.component (of_domain p.places d (take cut all))) is.0
-      ∙ ap (of_component n.x.event.component) (sym fired)))
+      mine_so_far domain cut own fired known bounds b n
       in (
         (get_take (of_domain p.places domain all) (length (of_domain p.places domain (take (n.k + 1) all))) (length own.fired) n.x at).1,
         (sv.0, (sv.1.0, sv.1.1 ∙ ap (λ (xs : List Timed). (stepped (after_serving stepped sv.0 xs) n.x.event.kind n.x.start).1) mine)),

@@ -12,7 +12,7 @@ use Rattle.domain_map.specs.declared.crossing.Crossing.{Crossing}
 use Rattle.domain_map.specs.Domains.{Division}
 use Rattle.weave_core.specs.declared.incoming.Stub.{Stub}
 use Rattle.weave_core.specs.DomainMachine.{cycle_of, is_exact, word_at}
-use Rattle.weave_core.specs.Layout.{AreStubs, IsStubOf, known_words, told_into, unknown_into, word_of}
+use Rattle.weave_core.specs.Layout.{AreStubs, IsStubOf, crossing_word, known_words, told_into, unknown_into}
 use Rattle.weave_core.specs.Stubs.{told_word}
 use Rattle.weave_core.proofs.Lists.{In, at_in, both, and_true, find_in, find_some, get_there, in_at, some_at}
 use Rattle.weave_core.proofs.Updates.{get_set_other, get_set_same}
@@ -67,14 +67,14 @@ module _ (events : List Event) (p : Division) (domain : ℕ) (here : List Event)
       found.1 ∙ (sym at.1 ∙ (ap (slice_get stubs) same ∙ there))
 
   -- the word of a stub
-  pub word_of_stub : (k : ℕ) (s : Stub) → slice_get stubs k ≡ Some s → word_of stubs s.number ≡ s.word
+  pub word_of_stub : (k : ℕ) (s : Stub) → slice_get stubs k ≡ Some s → crossing_word stubs s.number ≡ s.word
   word_of_stub k s there = ap (λ (o : Option Stub). option_map_or (λ (t : Stub). t.word) o (Bound 0)) (find_stub k s there)
 
   -- the word of a stub's crossing
   pub word_known : (k : ℕ) (s : Stub) → slice_get stubs k ≡ Some s → word_at (known_words p.crossings stubs) s.number ≡ s.word
   word_known k s there =
       let i = are.each k s there in
-      get_enum (word_of stubs) 0 p.crossings s.number s.number i.crossing (omega arith) i.there
+      get_enum (crossing_word stubs) 0 p.crossings s.number s.number i.crossing (omega arith) i.there
       ∙ ap (λ (o : Option Stub). option_map_or (λ (t : Stub). t.word) o (Bound 0)) (find_stub k s there)
 
   -- a known finish is a stub's
@@ -82,10 +82,10 @@ module _ (events : List Event) (p : Division) (domain : ℕ) (here : List Event)
       → (k : ℕ) × ((s : Stub) × ((slice_get stubs k ≡ Some s) × (s.number ≡ number)))
   known_is_stub number h =
       elim (cases_lt number (length p.crossings)) [
-        | inr past ↦ absurd (false≢true (ap is_exact (sym (past_enum (word_of stubs) 0 p.crossings number past)) ∙ h))
+        | inr past ↦ absurd (false≢true (ap is_exact (sym (past_enum (crossing_word stubs) 0 p.crossings number past)) ∙ h))
         | inl below ↦
             let x : (x : Crossing) × (slice_get p.crossings number ≡ Some x) = get_there p.crossings number below in
-            let word : word_at (known_words p.crossings stubs) number ≡ word_of stubs number = get_enum (word_of stubs) 0 p.crossings number number x.0 (omega arith) x.1 in
+            let word : word_at (known_words p.crossings stubs) number ≡ crossing_word stubs number = get_enum (crossing_word stubs) 0 p.crossings number number x.0 (omega arith) x.1 in
             by_found (find (λ (t : Stub). eqb t.number number) stubs) refl (ap is_exact (sym word) ∙ h)
       ]
     where

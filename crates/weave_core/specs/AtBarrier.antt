@@ -24,7 +24,7 @@ module _ {C : Type 0} (stepped : C → Kind → ℕ → C × ℕ) (events : List
     pub floors : (domain : ℕ) → IsSoundFloor timed p domain (own_at owns domain)
 
 -- each domain knows the finish of every parent that another one fired
-pub record AreTold (p : Division) (owns : List DomainState) : Type 0 where
+pub record KnowFiredParents (p : Division) (owns : List DomainState) : Type 0 where
   pub each : (number : ℕ) (x : Crossing) → slice_get p.crossings number ≡ Some x → is_fired (own_at owns x.source).fired x.parent ≡ true
       → is_exact (word_at (own_at owns x.target).known number) ≡ true
 
@@ -35,7 +35,7 @@ least_start_of events p owns = least (ready_starts events p (enumerate_from 0 ow
 abbrev pub BarrierFloorsHold : {C : Type 0} (serves : C → Kind → Bool) (floor : C → Kind → ℕ) (stepped : C → Kind → ℕ → C × ℕ) → Type 0
 BarrierFloorsHold {C} serves floor stepped =
     (events : List Event) (p : Division) (comps : List C) (timed : List Timed) (solution : IsSolution stepped events comps timed) (owns : List DomainState) (start : ℕ)
-    → IsDivided serves floor events p comps → AreSoundDomains stepped events p comps timed solution owns → AreTold p owns
+    → IsDivided serves floor events p comps → AreSoundDomains stepped events p comps timed solution owns → KnowFiredParents p owns
     → least_start_of events p owns ≡ Some start → (domain : ℕ) → IsSoundFloor timed p domain (with_floor start (own_at owns domain))
 
 -- x stands there in the order of the one-list weave, and is the first that its domain hasn't fired
@@ -55,5 +55,5 @@ pub record MayGoOn (events : List Event) (p : Division) (owns : List DomainState
 abbrev pub BarriersAdvance : {C : Type 0} (serves : C → Kind → Bool) (floor : C → Kind → ℕ) (stepped : C → Kind → ℕ → C × ℕ) → Type 0
 BarriersAdvance {C} serves floor stepped =
     (events : List Event) (p : Division) (comps : List C) (timed : List Timed) (solution : IsSolution stepped events comps timed) (owns : List DomainState) (index : ℕ) (x : Timed)
-    → IsDivided serves floor events p comps → AreSoundDomains stepped events p comps timed solution owns → AreTold p owns
+    → IsDivided serves floor events p comps → AreSoundDomains stepped events p comps timed solution owns → KnowFiredParents p owns
     → IsFirstLeft stepped events p comps owns index x → MayGoOn events p owns x

@@ -7,7 +7,7 @@ use Rattle.domain_map.specs.Domains.{Divides}
 use Rattle.weave_core.specs.declared.domain.Domain.TheInside.{Inside}
 use Rattle.weave_core.specs.DomainCalls.{DomainValue}
 use Rattle.weave_core.specs.DomainMachine.{DomainState}
-use Rattle.weave_core.specs.Layout.{AreHere, AreLinked, AreServed, AreStubs, Stands, fired_in, known_words, timed_from}
+use Rattle.weave_core.specs.Layout.{AreHere, AreLinked, AreStubs, HaveComponents, Stands, fired_in, known_words, timed_from}
 
 -- what the domain knows and did
 abbrev pub own_of : {C : Type 0} → Inside C → DomainState
@@ -30,4 +30,4 @@ pub record IsDomain {C : Type 0} (serves : C → Kind → Bool) (d : Inside C) :
   pub stands : Stands d.graph.value d.parts.value d.domain (own_of d) d.here.items d.incoming.stubs d.waiting
   pub counted : length d.fired.items ≡ fired_in d.waiting.waits
   pub room : length d.here.items ≤ vec_capacity d.fired
-  pub served : AreServed serves d.parts.value d.domain d.here.items d.spots.items d.comps
+  pub served : HaveComponents serves d.parts.value d.domain d.here.items d.spots.items d.comps

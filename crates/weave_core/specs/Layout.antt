@@ -29,11 +29,11 @@ abbrev pub timed_from : List Event → Fired → Timed
 timed_from events f = record { event = slice_index_or events f.number no_event; start = f.start; finish = f.finish }
 
 -- the word of a crossing, if it leads into the domain
-abbrev pub word_of : List Stub → (number : ℕ) → Word
-word_of stubs number = option_map_or (λ s. s.word) (find (λ s. s.number == number) stubs) (Bound 0)
+abbrev pub crossing_word : List Stub → (number : ℕ) → Word
+crossing_word stubs number = option_map_or (λ s. s.word) (find (λ s. s.number == number) stubs) (Bound 0)
 
 abbrev pub known_words : List Crossing → List Stub → List Word
-known_words crossings stubs = map (λ at. word_of stubs at.0) (enumerate_from 0 crossings)
+known_words crossings stubs = map (λ at. crossing_word stubs at.0) (enumerate_from 0 crossings)
 
 -- the place of a component among those of its domain
 abbrev pub place_in : (places : List ℕ) → (domain component : ℕ) → ℕ
@@ -117,9 +117,9 @@ module _ (events : List Event) (p : Division) (domain : ℕ) (own : DomainState)
   pending q = cond (is_own_parent_fired events p domain own q) 0 1
 
   -- the start that a fired parent in the domain leaves
-  abbrev pub own_after : Option Parent → ℕ
-  own_after None = 0
-  own_after (Some q) =
+  abbrev pub start_after_own : Option Parent → ℕ
+  start_after_own None = 0
+  start_after_own (Some q) =
       cond (is_fired own.fired q.number && (domain_of_number p.places events q.number == domain)) (finish_in own.fired q.number + q.delay) 0
 
   -- how many parents it waits for
@@ -128,7 +128,7 @@ module _ (events : List Event) (p : Division) (domain : ℕ) (own : DomainState)
 
   -- its start so far
   abbrev pub start_at : (place : ℕ) → Event → List Stub → ℕ
-  start_at place e stubs = max e.min_start (max (max (own_after e.first) (own_after e.second)) (told_into place stubs))
+  start_at place e stubs = max e.min_start (max (max (start_after_own e.first) (start_after_own e.second)) (told_into place stubs))
 
   pub record Stands (here : List Event) (stubs : List Stub) (w : Waits) : Type 0 where
     pub starts_size : length w.starts ≡ length here
@@ -150,6 +150,6 @@ fired_in (wait ∷ waits) = cond (wait == 4294967295) 1 0 + fired_in waits
 -- The components of the domain.
 
 -- the component of each event is there, and serves it
-pub record AreServed {C : Type 0} (serves : C → Kind → Bool) (p : Division) (domain : ℕ) (here : List Event) (spots : List ℕ) (comps : List C) : Type 0 where
+pub record HaveComponents {C : Type 0} (serves : C → Kind → Bool) (p : Division) (domain : ℕ) (here : List Event) (spots : List ℕ) (comps : List C) : Type 0 where
   pub spot : (place : ℕ) (e : Event) → slice_get here place ≡ Some e → slice_get spots e.component ≡ Some (place_in p.places domain e.component)
   pub serving : (place : ℕ) (e : Event) → slice_get here place ≡ Some e → (c : C) × ((slice_get comps (place_in p.places domain e.component) ≡ Some c) × IsTrue (serves c e.kind))

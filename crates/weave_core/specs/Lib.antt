@@ -7,6 +7,7 @@ pub mod DomainMachine
 pub mod Following
 pub mod Inside
 pub mod Interleavings
+pub mod Keeping
 pub mod LaidOut
 pub mod Layout
 pub mod SoundDomain

@@ -2,9 +2,10 @@
 use Rattle.std.specs.Prelude.{◌≡◌, ◌≤◌, ◌<◌, ◌+◌, ◌-◌, ◌^◌, ◌⊎◌, ℕ, Bool, true, false, max, nat_lt, List, [], ◌∷◌, length, slice_get, Some}
 use Rattle.std.specs.List.{Contains}
 use Rattle.std.specs.Option.{option_map_or}
+use Rattle.zs_num.specs.KeyOrder.{is_key_before}
 use Rattle.zs_num.specs.declared.time.Key.{Key}
 use Rattle.zs_num.specs.declared.time.Word.{Word}
-use Rattle.domain_queue.specs.SortedKeys.{ReadyKeys, is_before}
+use Rattle.domain_queue.specs.SortedKeys.{ReadyKeys}
 use Rattle.weave_core.specs.declared.incoming.Stub.{Stub}
 use Rattle.weave_core.specs.DomainMachine.{cycle_of, is_exact}
 use Rattle.weave_core.specs.Waits.{key_of}
@@ -37,7 +38,7 @@ pub record IsFirstStub (v : Stubs) (k : Key) : Type 0 where
   pub there : slice_get v.stubs k.number ≡ Some stub
   pub unknown : is_exact stub.word ≡ false
   pub start : k.start ≡ arrival_at v.floor stub
-  pub least : (place : ℕ) (s : Stub) → slice_get v.stubs place ≡ Some s → is_exact s.word ≡ false → is_before (key_of (arrival_at v.floor s) place) k ≡ false
+  pub least : (place : ℕ) (s : Stub) → slice_get v.stubs place ≡ Some s → is_exact s.word ≡ false → is_key_before (key_of (arrival_at v.floor s) place) k ≡ false
 
 -- each finish is known
 abbrev pub NoneOpen : Stubs → Type 0

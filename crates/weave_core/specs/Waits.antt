@@ -1,8 +1,9 @@
 -- What is kept of a domain's events that have not fired, by their places among its events.
 use Rattle.std.specs.Prelude.{◌≡◌, ◌≤◌, ◌+◌, ◌-◌, ◌&&◌, ℕ, false, cond, max, nat_lt, List, [], ◌∷◌, length, slice_get, slice_index, slice_set, Some}
 use Rattle.std.specs.List.{Contains}
+use Rattle.zs_num.specs.KeyOrder.{is_key_before}
 use Rattle.zs_num.specs.declared.time.Key.{Key}
-use Rattle.domain_queue.specs.SortedKeys.{ReadyKeys, is_before}
+use Rattle.domain_queue.specs.SortedKeys.{ReadyKeys}
 
 -- for each place the start so far, and for how many parents it waits, 2^32 - 1 once it has fired
 pub record Waits : Type 0 where
@@ -27,7 +28,7 @@ key_of start place = record { start = start; number = place }
 pub record IsFirstReady (w : Waits) (k : Key) : Type 0 where
   pub ready : slice_get w.waits k.number ≡ Some 0
   pub start : slice_get w.starts k.number ≡ Some k.start
-  pub least : (place start : ℕ) → slice_get w.waits place ≡ Some 0 → slice_get w.starts place ≡ Some start → is_before (key_of start place) k ≡ false
+  pub least : (place start : ℕ) → slice_get w.waits place ≡ Some 0 → slice_get w.starts place ≡ Some start → is_key_before (key_of start place) k ≡ false
 
 -- each event waits for a parent, or has fired
 abbrev pub NoneReady : Waits → Type 0
@@ -43,7 +44,7 @@ waiting_in [] = 0
 waiting_in (wait ∷ waits) = one_waiting wait + waiting_in waits
 
 -- the queue has the keys of those that wait for no parent, with room for all that wait for one
-pub record HasReady (starts waits : List ℕ) (queue : ReadyKeys) : Type 0 where
+pub record HasReadyPlaces (starts waits : List ℕ) (queue : ReadyKeys) : Type 0 where
   pub sizes : length starts ≡ length waits
   pub each : (k : Key) → Contains queue.keys k → (slice_get waits k.number ≡ Some 0) × (slice_get starts k.number ≡ Some k.start)
   pub covers : (place start : ℕ) → slice_get waits place ≡ Some 0 → slice_get starts place ≡ Some start → Contains queue.keys (key_of start place)

@@ -1,9 +1,10 @@
 // A domain of the weave.
-ghost use Rattle.std.specs.Prelude.{◌≡◌, ◌≤◌, ◌<◌, ◌^◌, IfErr, IfOk, List, length};
+ghost use Rattle.std.specs.Prelude.{◌≡◌, ◌≤◌, ◌<◌, ◌^◌, IfErr, IfOk, List, length, map};
 ghost use Rattle.weave_core.specs.DomainCalls.{CanFire, IsAnswer, IsFire, IsFitted, MayTell, at_first, earliest_of, with_known};
 ghost use Rattle.domain_map.specs.Domains.{Divides};
 ghost use Rattle.weave_core.specs.DomainMachine.{with_floor};
 ghost use Rattle.weave_core.specs.LaidOut.{FitsDomain};
+ghost use Rattle.weave_core.specs.Layout.{timed_from};
 
 use crate::Next;
 use crate::answer::{answer, numbered};
@@ -155,6 +156,13 @@ impl<C: Component> Domain<C> {
             finish,
         );
         fired
+    }
+
+    /// The events that it fired, in its order.
+    pub fn fired(&self) -> &[Fired]
+        ensures { self.now.own.fired ≡ map (timed_from self.now.events) result.now }
+    {
+        &self.fired
     }
 
     /// The components.

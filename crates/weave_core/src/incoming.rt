@@ -1,7 +1,7 @@
 // The crossings into a domain, the one whose child could start first at hand.
 ghost use Rattle.std.specs.Prelude.{◌≡◌, ◌<◌, ◌≤◌, ◌+◌, ◌^◌, ◌⊎◌, All, IfNone, IfOk, IfSome, Some, false, length, not, slice_get, slice_set, true};
+ghost use Rattle.zs_num.specs.KeyOrder.{is_key_before};
 ghost use Rattle.weave_core.specs.DomainMachine.{cycle_of, is_exact};
-ghost use Rattle.domain_queue.specs.SortedKeys.{is_before};
 ghost use Rattle.weave_core.specs.Stubs.{AreSmallStubs, IsFirstStub, IsFloorCurrent, IsKeyed, IsQueued, IsSearched, IsSmallStub, NoneOpen, arrival_at, is_ahead as ahead_of_floor, reach_of, told_word};
 ghost use Rattle.weave_core.specs.Waits.{key_of};
 
@@ -192,7 +192,7 @@ fn after_floor(floor: Cycle, key: Key) -> Key
 /// The one of two keys that comes first.
 fn earlier(key: Key, other: Key) -> Key
     ensures first { (result ≡ key) ⊎ (result ≡ other) }
-    ensures least { (is_before key result ≡ false) × (is_before other result ≡ false) }
+    ensures least { (is_key_before key result ≡ false) × (is_key_before other result ≡ false) }
 {
     if other.start < key.start || (other.start == key.start && other.number < key.number) {
         other

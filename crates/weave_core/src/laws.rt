@@ -2,6 +2,7 @@
 ghost use Rattle.weave_core.specs.AtBarrier.{BarrierFloorsHold, BarriersAdvance};
 ghost use Rattle.weave_core.specs.Following.{FirstFollows, FiresFollow, FloorsFollow, TellsFollow};
 ghost use Rattle.weave_core.specs.Interleavings.{Interleavings, Progress};
+ghost use Rattle.weave_core.specs.Keeping.{KeepingLaws};
 ghost use Rattle.weave_core.specs.SoundDomain.{SoundDomainsFollow, SoundFloorsBound};
 
 use component::Component;
@@ -117,4 +118,25 @@ pub fn barriers_advance<C: Component>()
     event_graph::laws::components_serve_their_own_events::<C>();
     event_graph::laws::graphs_keep_fitting::<C>();
     event_graph::laws::weave_is_the_one_solution::<C>();
+}
+
+/// A domain that keeps to the one-list weave does so through each of its calls; a barrier gives all
+/// domains a sound floor and lets the first unfired event fire; and once all events have fired, what
+/// the domains fired and what their components are is what the weave gives.
+pub fn keeping<C: Component>()
+    ensures { KeepingLaws C.serves C.floor C.stepped C.greatest }
+{
+    event_graph::laws::each_event_fires_once::<C>();
+    event_graph::laws::events_fire_in_order::<C>();
+    event_graph::laws::the_least_ready_event_fires::<C>();
+    event_graph::laws::each_round_fires_the_next_event::<C>();
+    event_graph::laws::rounds_fire_the_first_events::<C>();
+    event_graph::laws::components_serve_their_own_events::<C>();
+    event_graph::laws::graphs_keep_fitting::<C>();
+    event_graph::laws::weave_is_the_one_solution::<C>();
+    event_graph::laws::events_take_their_time::<C>();
+    sound_floors_bound::<C>();
+    fires_follow::<C>();
+    barrier_floors_hold::<C>();
+    barriers_advance::<C>();
 }

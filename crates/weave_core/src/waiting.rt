@@ -19,13 +19,13 @@ pub(crate) struct Waiting {
 }
 
 impl Model for Waiting {
-    ghost use Rattle.weave_core.specs.Waits.{Waits, HasReady};
+    ghost use Rattle.weave_core.specs.Waits.{Waits, HasReadyPlaces};
 
     ghost Value = { Waits };
 
     ghost view = { λ w. record { starts = w.starts.items; waits = w.waits.items } };
 
-    ghost invariant = { λ w. HasReady w.starts.items w.waits.items w.ready };
+    ghost invariant = { λ w. HasReadyPlaces w.starts.items w.waits.items w.ready };
 }
 
 impl Waiting {

@@ -11,7 +11,7 @@ use Rattle.event_graph.specs.declared.fired.Fired.{Fired}
 use Rattle.event_graph.specs.Numbered.{IsNumbered}
 use Rattle.event_graph.proofs.Lists.{get-map, get_read, read_is}
 use Rattle.weave_seq.specs.declared.children.ParentSlot.{ParentSlot}
-use Rattle.weave_seq.specs.Chains.{AreChains, latest, parent_in, parents_in, with_latest}
+use Rattle.weave_seq.specs.Chains.{AreChains, last_child, parent_in, parents_in, with_last_child}
 use Rattle.weave_seq.specs.Order.{Keys}
 use Rattle.weave_seq.specs.SoFar.{AreSameKeys, ready_keys}
 use Rattle.weave_seq.proofs.Chains.{one_more}
@@ -41,13 +41,13 @@ module _ (events : List Event) (numbered : IsNumbered events) (i : ℕ) (d : Eve
       within_by (length last) (parent_in slot (get_or events i d))
       (λ p is. omega (arith, parent_below slot events numbered i (get_or events i d) p there is, below, h.last_size, length-map events (parent_in slot)))
 
-  pub chained : (slot : ParentSlot) (last before last' before' : List ℕ) → AreChains (parents_in slot events) last before i → last' ≡ with_latest last (parent_in slot (get_or events i d)) (get_or events i d).number
-      → before' ≡ before ++ latest last (parent_in slot (get_or events i d)) ∷ [] → AreChains (parents_in slot events) last' before' (i + 1)
+  pub chained : (slot : ParentSlot) (last before last' before' : List ℕ) → AreChains (parents_in slot events) last before i → last' ≡ with_last_child last (parent_in slot (get_or events i d)) (get_or events i d).number
+      → before' ≡ before ++ last_child last (parent_in slot (get_or events i d)) ∷ [] → AreChains (parents_in slot events) last' before' (i + 1)
   chained slot last before last' before' h a b =
       one_more (parents_in slot events) last before i h last' before' (parent_in slot (get_or events i d))
       (read_is (parents_in slot events) i None (parent_in slot (get_or events i d)) (get-map (parent_in slot) (get_or events i d) events i there))
       (λ p is. omega (arith, parent_below slot events numbered i (get_or events i d) p there is, below, length-map events (parent_in slot)))
-      (a ∙ ap (λ n. with_latest last (parent_in slot (get_or events i d)) n) number_is) b
+      (a ∙ ap (λ n. with_last_child last (parent_in slot (get_or events i d)) n) number_is) b
 
 -- one more key
 

@@ -6,7 +6,7 @@ use Rattle.std.proofs.lemmas.List.{get_or-replicate, get_or-set_other, get_or-se
 use Rattle.event_graph.specs.declared.event.Event.{Event}
 use Rattle.event_graph.specs.declared.event.Parent.{Parent}
 use Rattle.weave_seq.specs.declared.children.ParentSlot.{ParentSlot}
-use Rattle.weave_seq.specs.Chains.{AreChains, IsParent, latest, parent_in, parents_in, with_latest}
+use Rattle.weave_seq.specs.Chains.{AreChains, IsParent, last_child, parent_in, parents_in, with_last_child}
 
 zeros : (n i : ℕ) → slice_index (replicate n 0) i ≡ 0
 zeros n i = elim (cases_lt i n) [ inl l ↦ get_or-replicate n i 0 0 l | inr l ↦ get_or_past (replicate n 0) i 0 (omega (arith, l, length-replicate {A = ℕ} n 0)) ]
@@ -135,11 +135,11 @@ module _ (parents : List (Option Parent)) (last before : List ℕ) (upto : ℕ) 
             ];
       }
 
-  more : (o : Option Parent) → get_or parents upto None ≡ o → ((p : Parent) → o ≡ Some p → p.number < length parents) → AreChains parents (with_latest last o upto) (before ++ latest last o ∷ []) (upto + 1)
+  more : (o : Option Parent) → get_or parents upto None ≡ o → ((p : Parent) → o ≡ Some p → p.number < length parents) → AreChains parents (with_last_child last o upto) (before ++ last_child last o ∷ []) (upto + 1)
   more None is within = none_more is
   more (Some r) is within = some_more r is (within r refl)
 
   pub one_more : (last' before' : List ℕ) (o : Option Parent) → get_or parents upto None ≡ o → ((p : Parent) → o ≡ Some p → p.number < length parents)
-      → last' ≡ with_latest last o upto → before' ≡ before ++ latest last o ∷ [] → AreChains parents last' before' (upto + 1)
+      → last' ≡ with_last_child last o upto → before' ≡ before ++ last_child last o ∷ [] → AreChains parents last' before' (upto + 1)
   one_more last' before' o is within a b =
-      subst (λ xs. AreChains parents xs before' (upto + 1)) (sym a) (subst (λ xs. AreChains parents (with_latest last o upto) xs (upto + 1)) (sym b) (more o is within))
+      subst (λ xs. AreChains parents xs before' (upto + 1)) (sym a) (subst (λ xs. AreChains parents (with_last_child last o upto) xs (upto + 1)) (sym b) (more o is within))

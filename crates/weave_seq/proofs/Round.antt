@@ -10,7 +10,7 @@ use Rattle.event_graph.specs.declared.event.Parent.{Parent}
 use Rattle.event_graph.specs.Firing.{FiredByTheRules, IsRound}
 use Rattle.event_graph.specs.Fits.{GraphFits}
 use Rattle.event_graph.specs.Numbered.{IsNumbered}
-use Rattle.event_graph.specs.OneListWeave.{AreSmallSteps, IsSmallStep, Timed, after, finish_in, least_ready, start_of}
+use Rattle.event_graph.specs.OneListWeave.{AreSmallSteps, IsSmallStep, Timed, after_rounds, finish_in, least_ready, start_of}
 use Rattle.event_graph.proofs.Lists.{In, contains_in, get_within, in_push, read_is}
 use Rattle.weave_seq.specs.declared.children.ParentSlot.{ParentSlot}
 use Rattle.weave_seq.specs.declared.children.ParentSlot.TheVariants.{First}
@@ -29,17 +29,17 @@ by_all P xs h x m = let c : Contains xs x = contains_in x xs m in subst P c.2 (h
 
 module _ {C : Type 0} (serves : C → Kind → Bool) (floor : C → Kind → ℕ) (stepped : C → Kind → ℕ → C × ℕ) (greatest : C → Kind → ℕ → ℕ)
     (rounds : (events : List Event) (comps : List C) (n : ℕ) → IsNumbered events → GraphFits serves floor events comps → n < length events
-    → (x : Timed) × (c : C) × IsRound serves stepped events (after stepped events comps n) (after stepped events comps (suc n)) x c)
-    (rules : (events : List Event) (comps : List C) (n : ℕ) → IsNumbered events → GraphFits serves floor events comps → All (FiredByTheRules events (after stepped events comps n).fired) (after stepped events comps n).fired)
+    → (x : Timed) × (c : C) × IsRound serves stepped events (after_rounds stepped events comps n) (after_rounds stepped events comps (suc n)) x c)
+    (rules : (events : List Event) (comps : List C) (n : ℕ) → IsNumbered events → GraphFits serves floor events comps → All (FiredByTheRules events (after_rounds stepped events comps n).fired) (after_rounds stepped events comps n).fired)
     (smalls : (events : List Event) (comps : List C) (n : ℕ) → IsNumbered events → GraphFits serves floor events comps → AreSmallSteps stepped greatest events comps
-    → All (λ e. start_of (finish_in (after stepped events comps n).fired) e ≤ 2 ^ 62) events)
+    → All (λ e. start_of (finish_in (after_rounds stepped events comps n).fired) e ≤ 2 ^ 62) events)
     (events : List Event) (comps : List C) (numbered : IsNumbered events) (fits : GraphFits serves floor events comps) (small : AreSmallSteps stepped greatest events comps)
-    (n : ℕ) (l : n < length events) (s : SoFar) (is : s ≡ known_to_all (finish_in (after stepped events comps n).fired) events) where
+    (n : ℕ) (l : n < length events) (s : SoFar) (is : s ≡ known_to_all (finish_in (after_rounds stepped events comps n).fired) events) where
   abbrev fired : List Timed
-  fired = (after stepped events comps n).fired
+  fired = (after_rounds stepped events comps n).fired
 
-  rule : (y : Timed) → In y (after stepped events comps n).fired → FiredByTheRules events (after stepped events comps n).fired y
-  rule = by_all (FiredByTheRules events (after stepped events comps n).fired) (after stepped events comps n).fired (rules events comps n numbered fits)
+  rule : (y : Timed) → In y (after_rounds stepped events comps n).fired → FiredByTheRules events (after_rounds stepped events comps n).fired y
+  rule = by_all (FiredByTheRules events (after_rounds stepped events comps n).fired) (after_rounds stepped events comps n).fired (rules events comps n numbered fits)
 
   pub x : Timed
   x = (rounds events comps n numbered fits l).0
@@ -47,39 +47,39 @@ module _ {C : Type 0} (serves : C → Kind → Bool) (floor : C → Kind → ℕ
   pub c : C
   c = (rounds events comps n numbered fits l).1
 
-  pub round : IsRound serves stepped events (after stepped events comps n) (after stepped events comps (suc n)) x c
+  pub round : IsRound serves stepped events (after_rounds stepped events comps n) (after_rounds stepped events comps (suc n)) x c
   unfolding x c
   round = (rounds events comps n numbered fits l).2
 
   pub one_is_ready : NoneIsReady s → ⊥
-  one_is_ready none = step.one_is_ready events numbered (after stepped events comps n).fired rule x round.next s is none
+  one_is_ready none = step.one_is_ready events numbered (after_rounds stepped events comps n).fired rule x round.next s is none
 
   small_step : greatest c x.event.kind x.start ≤ 2 ^ 62
   small_step =
-      let a : IsSmallStep stepped greatest (after stepped events comps n) (Some (x.event, x.start)) =
-      subst (λ o. IsSmallStep stepped greatest (after stepped events comps n) o) (step.least events numbered (after stepped events comps n).fired rule x round.next s is) (small n)
+      let a : IsSmallStep stepped greatest (after_rounds stepped events comps n) (Some (x.event, x.start)) =
+      subst (λ o. IsSmallStep stepped greatest (after_rounds stepped events comps n) o) (step.least events numbered (after_rounds stepped events comps n).fired rule x round.next s is) (small n)
       in
       subst (λ o. IfSome o (λ z. greatest z x.event.kind x.start ≤ 2 ^ 62)) round.there a
 
   later : x.start < x.finish
   later =
-      let now : In x (after stepped events comps (suc n)).fired = subst (λ xs. In x xs) (sym round.fired) (in_push (after stepped events comps n).fired x) in
-      (by_all (FiredByTheRules events (after stepped events comps (suc n)).fired) (after stepped events comps (suc n)).fired (rules events comps (suc n) numbered fits) x now).later
+      let now : In x (after_rounds stepped events comps (suc n)).fired = subst (λ xs. In x xs) (sym round.fired) (in_push (after_rounds stepped events comps n).fired x) in
+      (by_all (FiredByTheRules events (after_rounds stepped events comps (suc n)).fired) (after_rounds stepped events comps (suc n)).fired (rules events comps (suc n) numbered fits) x now).later
 
-  small_start : (e : Event) → In e events → start_of (finish_in ((after stepped events comps n).fired ++ x ∷ [])) e ≤ 2 ^ 62
+  small_start : (e : Event) → In e events → start_of (finish_in ((after_rounds stepped events comps n).fired ++ x ∷ [])) e ≤ 2 ^ 62
   small_start e m =
       subst (λ xs. start_of (finish_in xs) e ≤ 2 ^ 62) round.fired
-      (by_all (λ e. start_of (finish_in (after stepped events comps (suc n)).fired) e ≤ 2 ^ 62) events (smalls events comps (suc n) numbered fits small) e m)
+      (by_all (λ e. start_of (finish_in (after_rounds stepped events comps (suc n)).fired) e ≤ 2 ^ 62) events (smalls events comps (suc n) numbered fits small) e m)
 
   module _ (key : Key) (first : IsFirst s key) where
     pub within : key.number < length events
-    within = step.key_within events numbered (after stepped events comps n).fired rule x round.next s is key first
+    within = step.key_within events numbered (after_rounds stepped events comps n).fired rule x round.next s is key first
 
     pub at : slice_get events key.number ≡ Some x.event
-    at = step.key_at events numbered (after stepped events comps n).fired rule x round.next s is key first
+    at = step.key_at events numbered (after_rounds stepped events comps n).fired rule x round.next s is key first
 
     start : key.start ≡ x.start
-    start = step.key_start events numbered (after stepped events comps n).fired rule x round.next s is key first
+    start = step.key_start events numbered (after_rounds stepped events comps n).fired rule x round.next s is key first
 
     -- as the program reads the event
     abbrev event : Event
@@ -88,15 +88,15 @@ module _ {C : Type 0} (serves : C → Kind → Bool) (floor : C → Kind → ℕ
     event_is : get_or events key.number no_event ≡ x.event
     event_is = read_is events key.number no_event x.event at
 
-    pub component_within : (cs : List C) → cs ≡ (after stepped events comps n).comps → (get_or events key.number no_event).component < length cs
+    pub component_within : (cs : List C) → cs ≡ (after_rounds stepped events comps n).comps → (get_or events key.number no_event).component < length cs
     component_within cs cs_are =
-        omega (arith, ap (λ (e : Event). e.component) event_is, ap length cs_are, get_within (after stepped events comps n).comps x.event.component c round.there)
+        omega (arith, ap (λ (e : Event). e.component) event_is, ap length cs_are, get_within (after_rounds stepped events comps n).comps x.event.component c round.there)
 
-    module _ (cs : List C) (cs_are : cs ≡ (after stepped events comps n).comps) (d : C) where
+    module _ (cs : List C) (cs_are : cs ≡ (after_rounds stepped events comps n).comps) (d : C) where
       comp_is : get_or cs (get_or events key.number no_event).component d ≡ c
       comp_is =
           ap (λ (e : Event). get_or cs e.component d) event_is
-          ∙ (ap (λ zs. get_or zs x.event.component d) cs_are ∙ read_is (after stepped events comps n).comps x.event.component d c round.there)
+          ∙ (ap (λ zs. get_or zs x.event.component d) cs_are ∙ read_is (after_rounds stepped events comps n).comps x.event.component d c round.there)
 
       pub serves_it : IsTrue (serves (get_or cs (get_or events key.number no_event).component d) (get_or events key.number no_event).kind)
       serves_it =
@@ -114,11 +114,11 @@ module _ {C : Type 0} (serves : C → Kind → Bool) (floor : C → Kind → ℕ
           ∙ (ap (λ (e : Event). stepped c e.kind key.start) event_is ∙ ap (λ m. stepped c x.event.kind m) start)
 
       pub comps_next : (left : C) → left ≡ (stepped (get_or cs (get_or events key.number no_event).component d) (get_or events key.number no_event).kind key.start).0
-          → set cs (get_or events key.number no_event).component left ≡ (after stepped events comps (suc n)).comps
+          → set cs (get_or events key.number no_event).component left ≡ (after_rounds stepped events comps (suc n)).comps
       comps_next left left_is =
           ap (λ zs. set zs (get_or events key.number no_event).component left) cs_are
-          ∙ (ap (λ (e : Event). set (after stepped events comps n).comps e.component left) event_is
-          ∙ (ap (λ z. set (after stepped events comps n).comps x.event.component z) (left_is ∙ ap (λ p. p.0) stepped_is) ∙ sym round.comps))
+          ∙ (ap (λ (e : Event). set (after_rounds stepped events comps n).comps e.component left) event_is
+          ∙ (ap (λ z. set (after_rounds stepped events comps n).comps x.event.component z) (left_is ∙ ap (λ p. p.0) stepped_is) ∙ sym round.comps))
 
       module _ (finish : ℕ) (finish_is : finish ≡ (stepped (get_or cs (get_or events key.number no_event).component d) (get_or events key.number no_event).kind key.start).1) (s' : SoFar)
           (s'_is : s' ≡ so_far (set s.times key.number (time_parts key.number key.start finish)) (set s.waits key.number 255)) where
@@ -129,21 +129,21 @@ module _ {C : Type 0} (serves : C → Kind → Bool) (floor : C → Kind → ℕ
         after_it = omega (arith, finish_same, later)
 
         pub finish_here : finish_at s'.times key.number ≡ finish
-        finish_here = step.finish_here events numbered (after stepped events comps n).fired rule x round.next s is key first finish finish_same after_it s' s'_is
+        finish_here = step.finish_here events numbered (after_rounds stepped events comps n).fired rule x round.next s is key first finish finish_same after_it s' s'_is
 
         pub untold : s' ≡ told_to First false key.number (finish_at s'.times) events
-        untold = step.untold events numbered (after stepped events comps n).fired rule x round.next s is key first finish finish_same after_it s' s'_is
+        untold = step.untold events numbered (after_rounds stepped events comps n).fired rule x round.next s is key first finish finish_same after_it s' s'_is
 
         pub size : length s'.times ≡ length events
-        size = step.size' events numbered (after stepped events comps n).fired rule x round.next s is key first finish finish_same after_it s' s'_is
+        size = step.size' events numbered (after_rounds stepped events comps n).fired rule x round.next s is key first finish finish_same after_it s' s'_is
 
         pub unfired : (slot : ParentSlot) (j : ℕ) (e : Event) (p : Parent) → slice_get events j ≡ Some e → parent_in slot e ≡ Some p → p.number ≡ key.number → finish_at s'.times j ≡ 0
-        unfired = step.child_unfired events numbered (after stepped events comps n).fired rule x round.next s is key first finish finish_same after_it s' s'_is
+        unfired = step.child_unfired events numbered (after_rounds stepped events comps n).fired rule x round.next s is key first finish finish_same after_it s' s'_is
 
         pub bounded : (slot : ParentSlot) (j : ℕ) (e : Event) (p : Parent) → slice_get events j ≡ Some e → parent_in slot e ≡ Some p → p.number ≡ key.number → finish + p.delay ≤ 2 ^ 62
-        bounded slot j e p a b m = step.child_small events numbered (after stepped events comps n).fired rule x round.next s is key first finish finish_same after_it s' s'_is slot small_start j e p a b m
+        bounded slot j e p a b m = step.child_small events numbered (after_rounds stepped events comps n).fired rule x round.next s is key first finish finish_same after_it s' s'_is slot small_start j e p a b m
 
-        pub known_next : (s'' : SoFar) → s'' ≡ known_to_all (finish_at s'.times) events → s'' ≡ known_to_all (finish_in (after stepped events comps (suc n)).fired) events
+        pub known_next : (s'' : SoFar) → s'' ≡ known_to_all (finish_at s'.times) events → s'' ≡ known_to_all (finish_in (after_rounds stepped events comps (suc n)).fired) events
         known_next s'' all =
-            step.known_next events numbered (after stepped events comps n).fired rule x round.next s is key first finish finish_same after_it s' s'_is s'' all
+            step.known_next events numbered (after_rounds stepped events comps n).fired rule x round.next s is key first finish finish_same after_it s' s'_is s'' all
             ∙ ap (λ xs. known_to_all (finish_in xs) events) (sym round.fired)

@@ -4,6 +4,7 @@ use Rattle.std.specs.Prelude.{All, IsTrue, slice_get}
 use Rattle.std.proofs.lemmas.Bool.{cases_Bool, cases_eq, cases_lt, cond-true, cond-false, eq-eqb, eqb-true, ne_eqb, false≢true}
 use Rattle.std.proofs.lemmas.Bool.Decides.{nat_tests}
 use Rattle.std.proofs.lemmas.List.{get_or-set_other, get_or-set_same, get_or_past, length-map}
+use Rattle.zs_num.specs.KeyOrder.{is_key_before}
 use Rattle.zs_num.specs.declared.time.Key.{Key}
 use Rattle.component.specs.declared.kind.Kind.{Kind}
 use Rattle.event_graph.specs.declared.event.Event.{Event}
@@ -11,15 +12,14 @@ use Rattle.event_graph.specs.declared.event.Parent.{Parent}
 use Rattle.event_graph.specs.declared.fired.Fired.{Fired}
 use Rattle.event_graph.specs.Firing.{FiredByTheRules, IsNext}
 use Rattle.event_graph.specs.Numbered.{IsNumbered}
-use Rattle.event_graph.specs.OneListWeave.{Timed, after_parent, find_fired, finish_in, finish_or_zero, is_before, is_fired, is_parent_fired, is_ready, least_ready, start_of}
+use Rattle.event_graph.specs.OneListWeave.{Timed, after_parent, find_fired, finish_in, finish_or_zero, is_event_before, is_fired, is_parent_fired, is_ready, least_ready, start_of}
 use Rattle.event_graph.proofs.FindFired.{find_push_new, find_push_other, found_in, some_from_fired}
 use Rattle.event_graph.proofs.Least.{least_is, ready_from, ready_parts, same_event}
 use Rattle.event_graph.proofs.Lists.{In, at_in, contains_in, get-map, get-set_other, get-set_same, get_some, get_within, in_at, in_contains, map_same, read_is}
 use Rattle.weave_seq.specs.declared.children.ParentSlot.{ParentSlot}
 use Rattle.weave_seq.specs.declared.children.ParentSlot.TheVariants.{First, Second}
 use Rattle.weave_seq.specs.Chains.{parent_in}
-use Rattle.weave_seq.specs.Known.{finish_at, known, known_time, known_to_all, known_waits, told_to, unfired_parent, without}
-use Rattle.weave_seq.specs.Order.{is_earlier}
+use Rattle.weave_seq.specs.Known.{before_firing, finish_at, known, known_time, known_to_all, known_waits, told_to, unfired_parent}
 use Rattle.weave_seq.specs.SoFar.{IsFirst, NoneIsReady, SoFar}
 use Rattle.weave_seq.proofs.TellSteps.{parent_below}
 use Rattle.weave_seq.proofs.Telling.{same_as_map, so_far}
@@ -41,7 +41,7 @@ by_found None h = refl
 by_found (Some x) h = absurd (cc)
 
 -- an event that comes before another one has an earlier key
-clash : (a : Event) (s : ℕ) (b : Event) (key : Key) (t : ℕ) → key.start ≡ t → b.number ≡ key.number → is_before a s b t ≡ true → is_earlier (key_of s a.number) key ≡ false → ⊥
+clash : (a : Event) (s : ℕ) (b : Event) (key : Key) (t : ℕ) → key.start ≡ t → b.number ≡ key.number → is_event_before a s b t ≡ true → is_key_before (key_of s a.number) key ≡ false → ⊥
 clash a s b key t start number before late = grind (arith, nat_tests)
 
 -- the known times depend on the finishes of events alone
@@ -180,7 +180,7 @@ module _ (events : List Event) (numbered : IsNumbered events) where
           least_is fired events x.event member next.ready
           (λ y m ready. elim (next.first y (contains_in y events m) ready) [
             | inl same ↦ inl same
-            | inr before ↦ inr (subst (λ n. is_before x.event n y (start_of (finish_in fired) y) ≡ true) next.start before)
+            | inr before ↦ inr (subst (λ n. is_event_before x.event n y (start_of (finish_in fired) y) ≡ true) next.start before)
           ])
           ∙ ap (λ n. Some (x.event, n)) (sym next.start)
 
@@ -211,10 +211,10 @@ module _ (events : List Event) (numbered : IsNumbered events) where
         number_found : found.0.number ≡ key.number
         number_found = numbered.number key.number found.0 found.1
 
-        not_earlier : is_before x.event x.start found.0 (start_of (finish_in fired) found.0) ≡ true → ⊥
+        not_earlier : is_event_before x.event x.start found.0 (start_of (finish_in fired) found.0) ≡ true → ⊥
         not_earlier before =
-            let late : is_earlier (key_of x.start x.event.number) key ≡ false =
-            subst (λ n. is_earlier (key_of n x.event.number) key ≡ false) (sym next.start)
+            let late : is_key_before (key_of x.start x.event.number) key ≡ false =
+            subst (λ n. is_key_before (key_of n x.event.number) key ≡ false) (sym next.start)
             (first.first x.event.number (known_time (finish_in fired) (finish_in fired) (finish_in fired) x.event) (time_at x.event.number x.event x_at) x_waits)
             in
             clash x.event x.start found.0 key (start_of (finish_in fired) found.0) start_is number_found before late
@@ -254,14 +254,14 @@ module _ (events : List Event) (numbered : IsNumbered events) where
               ∙ (ap (λ (f : Fired). f.finish) (get_or-set_other s.times key.number j (time_parts key.number key.start finish) no_time ne)
               ∙ (ap (λ v. finish_at v.times j) is ∙ kept_finish (finish_in fired) (finish_in fired) (finish_in fired) j l))
 
-          before_agrees : Agree (length events) (finish_in fired) (without key.number (finish_at s'.times))
+          before_agrees : Agree (length events) (finish_in fired) (before_firing key.number (finish_at s'.times))
           before_agrees j l =
               elim (cases_eq j key.number) [
                 | inl same ↦ ap (λ n. finish_in fired n) same ∙ (unfired_x ∙ sym (cond-true (j == key.number) 0 (finish_at s'.times j) (eq-eqb j key.number same)))
                 | inr ne ↦ sym (finish_other j l ne) ∙ sym (cond-false (j == key.number) 0 (finish_at s'.times j) (ne_eqb j key.number ne))
               ]
 
-          times_are : (j : ℕ) (e : Event) → slice_get events j ≡ Some e → slice_get s'.times j ≡ Some (known_time (without key.number (finish_at s'.times)) (without key.number (finish_at s'.times)) (finish_at s'.times) e)
+          times_are : (j : ℕ) (e : Event) → slice_get events j ≡ Some e → slice_get s'.times j ≡ Some (known_time (before_firing key.number (finish_at s'.times)) (before_firing key.number (finish_at s'.times)) (finish_at s'.times) e)
           times_are j e at =
               let l : j < length events = get_within events j e at in
               let number : e.number ≡ j = numbered.number j e at in
@@ -278,17 +278,17 @@ module _ (events : List Event) (numbered : IsNumbered events) where
                     (ap (λ n. time_parts n key.start finish) (sym same ∙ sym number)
                     ∙ (ap (λ n. time_parts e.number n finish) start
                     ∙ (ap (λ n. time_parts e.number (start_of (finish_in fired) e) n) (sym finish_here ∙ ap (λ n. finish_at s'.times n) (sym same ∙ sym number))
-                    ∙ time_same (finish_in fired) (finish_in fired) (finish_at s'.times) (without key.number (finish_at s'.times)) (without key.number (finish_at s'.times)) (finish_at s'.times) before_agrees before_agrees j e at refl)))
+                    ∙ time_same (finish_in fired) (finish_in fired) (finish_at s'.times) (before_firing key.number (finish_at s'.times)) (before_firing key.number (finish_at s'.times)) (finish_at s'.times) before_agrees before_agrees j e at refl)))
                 | inr ne ↦
                     ap (λ v. slice_get v.times j) s'_is
                     ∙ (get-set_other s.times key.number j (time_parts key.number key.start finish) (λ q. ne (sym q))
                     ∙ (time_at j e at
                     ∙ ap (λ t. Some t)
-                    (time_same (finish_in fired) (finish_in fired) (finish_in fired) (without key.number (finish_at s'.times)) (without key.number (finish_at s'.times)) (finish_at s'.times) before_agrees before_agrees j e at
+                    (time_same (finish_in fired) (finish_in fired) (finish_in fired) (before_firing key.number (finish_at s'.times)) (before_firing key.number (finish_at s'.times)) (finish_at s'.times) before_agrees before_agrees j e at
                     (ap (λ n. finish_in fired n) number ∙ (sym (finish_other j l ne) ∙ ap (λ n. finish_at s'.times n) (sym number))))))
               ]
 
-          waits_are : (j : ℕ) (e : Event) → slice_get events j ≡ Some e → slice_get s'.waits j ≡ Some (known_waits (without key.number (finish_at s'.times)) (without key.number (finish_at s'.times)) (finish_at s'.times) e)
+          waits_are : (j : ℕ) (e : Event) → slice_get events j ≡ Some e → slice_get s'.waits j ≡ Some (known_waits (before_firing key.number (finish_at s'.times)) (before_firing key.number (finish_at s'.times)) (finish_at s'.times) e)
           waits_are j e at =
               let l : j < length events = get_within events j e at in
               let number : e.number ≡ j = numbered.number j e at in
@@ -301,21 +301,21 @@ module _ (events : List Event) (numbered : IsNumbered events) where
                     let some : finish_at s'.times e.number ≡ 0 → ⊥ = λ q. omega (arith, q, later, finish_here, ap (λ n. finish_at s'.times n) (number ∙ same)) in
                     here
                     ∙ ap (λ w. Some w)
-                    (sym (cond-false (finish_at s'.times e.number == 0) (unfired_parent (without key.number (finish_at s'.times)) e.first + unfired_parent (without key.number (finish_at s'.times)) e.second) 255 (ne_eqb (finish_at s'.times e.number) 0 some)))
+                    (sym (cond-false (finish_at s'.times e.number == 0) (unfired_parent (before_firing key.number (finish_at s'.times)) e.first + unfired_parent (before_firing key.number (finish_at s'.times)) e.second) 255 (ne_eqb (finish_at s'.times e.number) 0 some)))
                 | inr ne ↦
                     ap (λ v. slice_get v.waits j) s'_is
                     ∙ (get-set_other s.waits key.number j 255 (λ q. ne (sym q))
                     ∙ (waits_at j e at
                     ∙ ap (λ w. Some w)
-                    (waits_same (finish_in fired) (finish_in fired) (finish_in fired) (without key.number (finish_at s'.times)) (without key.number (finish_at s'.times)) (finish_at s'.times) before_agrees before_agrees j e at
+                    (waits_same (finish_in fired) (finish_in fired) (finish_in fired) (before_firing key.number (finish_at s'.times)) (before_firing key.number (finish_at s'.times)) (finish_at s'.times) before_agrees before_agrees j e at
                     (ap (λ n. finish_in fired n) number ∙ (sym (finish_other j l ne) ∙ ap (λ n. finish_at s'.times n) (sym number))))))
               ]
 
           pub untold : s' ≡ told_to First false key.number (finish_at s'.times) events
           untold =
-              ap (λ ts. so_far ts s'.waits) (same_as_map (known_time (without key.number (finish_at s'.times)) (without key.number (finish_at s'.times)) (finish_at s'.times)) events s'.times size' times_are)
-              ∙ ap (λ ws. so_far (map (known_time (without key.number (finish_at s'.times)) (without key.number (finish_at s'.times)) (finish_at s'.times)) events) ws)
-              (same_as_map (known_waits (without key.number (finish_at s'.times)) (without key.number (finish_at s'.times)) (finish_at s'.times)) events s'.waits waits_size' waits_are)
+              ap (λ ts. so_far ts s'.waits) (same_as_map (known_time (before_firing key.number (finish_at s'.times)) (before_firing key.number (finish_at s'.times)) (finish_at s'.times)) events s'.times size' times_are)
+              ∙ ap (λ ws. so_far (map (known_time (before_firing key.number (finish_at s'.times)) (before_firing key.number (finish_at s'.times)) (finish_at s'.times)) events) ws)
+              (same_as_map (known_waits (before_firing key.number (finish_at s'.times)) (before_firing key.number (finish_at s'.times)) (finish_at s'.times)) events s'.waits waits_size' waits_are)
 
           slot_fired : (slot : ParentSlot) (e : Event) → is_parent_fired fired e.first ≡ true → is_parent_fired fired e.second ≡ true → is_parent_fired fired (parent_in slot e) ≡ true
           slot_fired First e a b = a

@@ -4,10 +4,11 @@ use Rattle.std.specs.Prelude.{count_by, slice_get, slice_index}
 use Rattle.std.specs.List.Sorted.{IsPermutation}
 use Rattle.std.proofs.lemmas.Bool.{ne_eqb}
 use Rattle.std.proofs.lemmas.List.Sorted.{IsPermutation-sym}
+use Rattle.zs_num.specs.KeyOrder.{is_key_before}
 use Rattle.zs_num.specs.declared.time.Key.{Key}
 use Rattle.event_graph.specs.declared.fired.Fired.{Fired}
 use Rattle.event_graph.proofs.Lists.{In, get_read, get_within}
-use Rattle.weave_seq.specs.Order.{Keys, is_earlier}
+use Rattle.weave_seq.specs.Order.{Keys}
 use Rattle.weave_seq.specs.SoFar.{AreSameKeys, HasReady, IsFirst, NoneIsReady, SoFar, ready_keys}
 use Rattle.weave_seq.proofs.ReadyKeys.{IsOf, all_in, changed, count-cons, count_every, counted, few_keys, in_same, key_at, of_ready, one_if, ready_in, same_from_permutation}
 
@@ -71,14 +72,14 @@ module _ (times : List Fired) (waits : List ℕ) (queue : Keys) (has : HasReady 
       room = omega (arith, has.room, room);
     }
 
-    pub first_popped : All (λ other. is_earlier other k ≡ false) queue.list → IsFirst (record { times = times; waits = waits }) k
+    pub first_popped : All (λ other. is_key_before other k ≡ false) queue.list → IsFirst (record { times = times; waits = waits }) k
     first_popped least = record {
       time = of_popped.time;
       there = there;
       start = of_popped.start;
       ready = none_waited;
       first = λ j t at ready.
-          all_in (λ other. is_earlier other k ≡ false) queue.list least (key_at j t)
+          all_in (λ other. is_key_before other k ≡ false) queue.list least (key_at j t)
           (in_same (key_at j t) (ready_keys 0 times waits) queue.list has.keys (ready_in times waits j t at ready));
     }
 

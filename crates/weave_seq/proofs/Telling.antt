@@ -10,7 +10,7 @@ use Rattle.event_graph.proofs.Lists.{get-map, get-set_other, get-set_same, read_
 use Rattle.weave_seq.specs.declared.children.ParentSlot.{ParentSlot}
 use Rattle.weave_seq.specs.declared.children.ParentSlot.TheVariants.{First, Second}
 use Rattle.weave_seq.specs.Chains.{parent_in}
-use Rattle.weave_seq.specs.Known.{known_time, known_to_first, known_to_second, known_waits, told_to, unfired_parent, without}
+use Rattle.weave_seq.specs.Known.{before_firing, known_time, known_to_first, known_to_second, known_waits, told_to, unfired_parent}
 use Rattle.weave_seq.specs.SoFar.{SoFar}
 
 -- lists by their elements
@@ -31,31 +31,31 @@ abbrev pub so_far : List Fired → List ℕ → SoFar
 so_far times waits = record { times = times; waits = waits }
 
 module _ (of : ℕ) (F : ℕ → ℕ) (after : 0 < F of) where
-  without_here : (n : ℕ) → n ≡ of → without of F n ≡ 0
+  without_here : (n : ℕ) → n ≡ of → before_firing of F n ≡ 0
   without_here n h = cond-true (n == of) 0 (F n) (eq-eqb n of h)
 
-  without_other : (n : ℕ) → (n ≡ of → ⊥) → without of F n ≡ F n
+  without_other : (n : ℕ) → (n ≡ of → ⊥) → before_firing of F n ≡ F n
   without_other n h = cond-false (n == of) 0 (F n) (ne_eqb n of h)
 
   abbrev IsOther : Option Parent → Type 0
   IsOther o = (p : Parent) → o ≡ Some p → p.number ≡ of → ⊥
 
-  other_start : (o : Option Parent) → IsOther o → after_parent (without of F) o ≡ after_parent F o
+  other_start : (o : Option Parent) → IsOther o → after_parent (before_firing of F) o ≡ after_parent F o
   other_start None h = refl
   other_start (Some p) h = ap (λ n. n + p.delay) (without_other p.number (h p refl))
 
-  other_waits : (o : Option Parent) → IsOther o → unfired_parent (without of F) o ≡ unfired_parent F o
+  other_waits : (o : Option Parent) → IsOther o → unfired_parent (before_firing of F) o ≡ unfired_parent F o
   other_waits None h = refl
   other_waits (Some p) h = ap (λ n. cond (n == 0) 1 0) (without_other p.number (h p refl))
 
-  child_start_before : (o : Option Parent) (p : Parent) → o ≡ Some p → p.number ≡ of → after_parent (without of F) o ≡ p.delay
-  child_start_before o p is n = ap (λ q. after_parent (without of F) q) is ∙ omega (arith, without_here p.number n)
+  child_start_before : (o : Option Parent) (p : Parent) → o ≡ Some p → p.number ≡ of → after_parent (before_firing of F) o ≡ p.delay
+  child_start_before o p is n = ap (λ q. after_parent (before_firing of F) q) is ∙ omega (arith, without_here p.number n)
 
   child_start_after : (o : Option Parent) (p : Parent) → o ≡ Some p → p.number ≡ of → after_parent F o ≡ F of + p.delay
   child_start_after o p is n = ap (λ q. after_parent F q) is ∙ ap (λ k. F k + p.delay) n
 
-  child_waits_before : (o : Option Parent) (p : Parent) → o ≡ Some p → p.number ≡ of → unfired_parent (without of F) o ≡ 1
-  child_waits_before o p is n = ap (λ q. unfired_parent (without of F) q) is ∙ ap (λ k. cond (k == 0) 1 0) (without_here p.number n)
+  child_waits_before : (o : Option Parent) (p : Parent) → o ≡ Some p → p.number ≡ of → unfired_parent (before_firing of F) o ≡ 1
+  child_waits_before o p is n = ap (λ q. unfired_parent (before_firing of F) q) is ∙ ap (λ k. cond (k == 0) 1 0) (without_here p.number n)
 
   child_waits_after : (o : Option Parent) (p : Parent) → o ≡ Some p → p.number ≡ of → unfired_parent F o ≡ 0
   child_waits_after o p is n = ap (λ q. unfired_parent F q) is ∙ (ap (λ k. cond (F k == 0) 1 0) n ∙ ap (λ b. cond b 1 0) (ne_eqb (F of) 0 (λ z. omega (arith, z, after))))
@@ -67,11 +67,11 @@ module _ (of : ℕ) (F : ℕ → ℕ) (after : 0 < F of) where
   waits_of slot told e = known_waits (known_to_first slot told of F) (known_to_second slot told of F) F e
 
   other_time : (slot : ParentSlot) (e : Event) → IsOther (parent_in slot e) → time_of slot false e ≡ time_of slot true e
-  other_time First e h = ap (λ n. record { number = e.number; start = max e.min_start (max n (after_parent (without of F) e.second)); finish = F e.number }) (other_start e.first h)
+  other_time First e h = ap (λ n. record { number = e.number; start = max e.min_start (max n (after_parent (before_firing of F) e.second)); finish = F e.number }) (other_start e.first h)
   other_time Second e h = ap (λ n. record { number = e.number; start = max e.min_start (max (after_parent F e.first) n); finish = F e.number }) (other_start e.second h)
 
   other_waits_same : (slot : ParentSlot) (e : Event) → IsOther (parent_in slot e) → waits_of slot false e ≡ waits_of slot true e
-  other_waits_same First e h = ap (λ n. cond (F e.number == 0) (n + unfired_parent (without of F) e.second) 255) (other_waits e.first h)
+  other_waits_same First e h = ap (λ n. cond (F e.number == 0) (n + unfired_parent (before_firing of F) e.second) 255) (other_waits e.first h)
   other_waits_same Second e h = ap (λ n. cond (F e.number == 0) (unfired_parent F e.first + n) 255) (other_waits e.second h)
 
   child_start : (slot : ParentSlot) (e : Event) (p : Parent) → parent_in slot e ≡ Some p → p.number ≡ of → max (time_of slot false e).start (F of + p.delay) ≡ (time_of slot true e).start

@@ -29,11 +29,11 @@ pub record AreChains (parents : List (Option Parent)) (last before : List ℕ) (
   pub before_is : (d c : ℕ) (q : Parent) → IsParent parents d q → 0 < c → slice_index before d ≡ c → (p : Parent) × (IsParent parents c p × (p.number ≡ q.number))
 
 -- the last child of an event's parent
-abbrev pub latest : List ℕ → Option Parent → ℕ
-latest last None = 0
-latest last (Some p) = slice_index last p.number
+abbrev pub last_child : List ℕ → Option Parent → ℕ
+last_child last None = 0
+last_child last (Some p) = slice_index last p.number
 
 -- after this child is the last
-abbrev pub with_latest : List ℕ → Option Parent → ℕ → List ℕ
-with_latest last None child = last
-with_latest last (Some p) child = slice_set last p.number child
+abbrev pub with_last_child : List ℕ → Option Parent → ℕ → List ℕ
+with_last_child last None child = last
+with_last_child last (Some p) child = slice_set last p.number child

@@ -33,17 +33,17 @@ module _ (first second finish : ℕ → ℕ) where
   known events = record { times = map known_time events; waits = map known_waits events }
 
 -- the finishes before this event fired
-abbrev pub without : ℕ → (ℕ → ℕ) → ℕ → ℕ
-without of finish number = cond (number == of) 0 (finish number)
+abbrev pub before_firing : ℕ → (ℕ → ℕ) → ℕ → ℕ
+before_firing of finish number = cond (number == of) 0 (finish number)
 
 -- the children that have the event in their first slot are told before those that have it in their second
 abbrev pub known_to_first : ParentSlot → Bool → ℕ → (ℕ → ℕ) → ℕ → ℕ
-known_to_first First told of finish = cond told finish (without of finish)
+known_to_first First told of finish = cond told finish (before_firing of finish)
 known_to_first Second told of finish = finish
 
 abbrev pub known_to_second : ParentSlot → Bool → ℕ → (ℕ → ℕ) → ℕ → ℕ
-known_to_second First told of finish = without of finish
-known_to_second Second told of finish = cond told finish (without of finish)
+known_to_second First told of finish = before_firing of finish
+known_to_second Second told of finish = cond told finish (before_firing of finish)
 
 -- what is known before and after the children that have the event in this slot are told
 abbrev pub told_to : ParentSlot → Bool → ℕ → (ℕ → ℕ) → List Event → SoFar

@@ -1,8 +1,9 @@
 -- What is kept of the events while they fire, in order of number.
 use Rattle.std.specs.Prelude.{◌≡◌, ◌≤◌, ◌==◌, ℕ, zero, suc, Bool, cond, false, List, [], ◌∷◌, length, count_by, slice_get, Some}
+use Rattle.zs_num.specs.KeyOrder.{is_key_before}
 use Rattle.zs_num.specs.declared.time.Key.{Key}
 use Rattle.event_graph.specs.declared.fired.Fired.{Fired}
-use Rattle.weave_seq.specs.Order.{Keys, is_earlier}
+use Rattle.weave_seq.specs.Order.{Keys}
 
 -- each event's start so far and its finish, and how many parents it waits for, 255 once it has fired
 pub record SoFar : Type 0 where
@@ -31,7 +32,7 @@ pub record IsFirst (s : SoFar) (k : Key) : Type 0 where
   pub there : slice_get s.times k.number ≡ Some time
   pub start : k.start ≡ time.start
   pub ready : slice_get s.waits k.number ≡ Some 0
-  pub first : (j : ℕ) (t : Fired) → slice_get s.times j ≡ Some t → slice_get s.waits j ≡ Some 0 → is_earlier (record { start = t.start; number = j }) k ≡ false
+  pub first : (j : ℕ) (t : Fired) → slice_get s.times j ≡ Some t → slice_get s.waits j ≡ Some 0 → is_key_before (record { start = t.start; number = j }) k ≡ false
 
 -- each event waits for a parent, or has fired
 abbrev pub NoneIsReady : SoFar → Type 0

@@ -1,6 +1,6 @@
 // The children of each event.
 ghost use Rattle.std.specs.Prelude.{◌≡◌, ◌<◌, ◌++◌, ◌∷◌, [], length, replicate, IfOk, IfSome, OnOk};
-ghost use Rattle.weave_seq.specs.Chains.{latest, parent_in, with_latest};
+ghost use Rattle.weave_seq.specs.Chains.{last_child, parent_in, with_last_child};
 
 use event_graph::{Event, Parent};
 use std::alloc::Global;
@@ -40,8 +40,8 @@ impl Children {
     pub(crate) fn add(&mut self, event: &Event) -> Result<(), NoMemory>
         requires { IfSome (parent_in self.old.slot event.now) (λ p. p.number < length self.old.last.items) }
         ensures slot { self.new.slot ≡ self.old.slot }
-        ensures last { OnOk result (self.new.last.items ≡ with_latest self.old.last.items (parent_in self.old.slot event.now) event.now.number) }
-        ensures before { OnOk result (self.new.before.items ≡ self.old.before.items ++ latest self.old.last.items (parent_in self.old.slot event.now) ∷ []) }
+        ensures last { OnOk result (self.new.last.items ≡ with_last_child self.old.last.items (parent_in self.old.slot event.now) event.now.number) }
+        ensures before { OnOk result (self.new.before.items ≡ self.old.before.items ++ last_child self.old.last.items (parent_in self.old.slot event.now) ∷ []) }
     {
         let earlier = link(&mut self.last, parent(event, self.slot), event.number);
         self.before.push(earlier)?;
@@ -62,8 +62,8 @@ pub(crate) fn parent(event: &Event, slot: ParentSlot) -> Option<Parent>
 /// Makes the child the last of its parent, and answers the one that was.
 fn link(last: &mut [u32], parent: Option<Parent>, child: u32) -> u32
     requires { IfSome parent (λ p. p.number < length last.old) }
-    ensures earlier { result ≡ latest last.old parent }
-    ensures after { last.new ≡ with_latest last.old parent child }
+    ensures earlier { result ≡ last_child last.old parent }
+    ensures after { last.new ≡ with_last_child last.old parent child }
 {
     match parent {
         Some(p) => {

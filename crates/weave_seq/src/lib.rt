@@ -1,13 +1,12 @@
 //! The weave on one list.
 #![tactic(auto)]
 
+mod before;
 mod begin;
 mod children;
 mod ready;
 mod state;
 mod tell;
-#[cfg(test)]
-mod tests;
 mod weave;
 
-pub use weave::weave_seq;
+pub use weave::{weave_gated, weave_seq};

@@ -1,6 +1,6 @@
 // The ready events, the least (start, number) first.
 ghost use Rattle.std.specs.Prelude.{◌≡◌, ◌<◌, ◌≤◌, ◌∷◌, [], All, IfNone, IfOk, IfSome, IsPermutation, false, length};
-ghost use Rattle.weave_seq.specs.Order.{is_earlier};
+ghost use Rattle.zs_num.specs.KeyOrder.{is_key_before};
 
 use std::alloc::Global;
 use std::cmp::Reverse;
@@ -52,7 +52,7 @@ impl Ready {
     /// Takes out the least key.
     pub(crate) fn pop(&mut self) -> Option<Key>
         ensures list { IfSome result (λ k. IsPermutation self.old.list (k ∷ self.new.list)) }
-        ensures least { IfSome result (λ k. All (λ other. is_earlier other k ≡ false) self.old.list) }
+        ensures least { IfSome result (λ k. All (λ other. is_key_before other k ≡ false) self.old.list) }
         ensures none { IfNone result (self.old.list ≡ []) }
         ensures unchanged { IfNone result (self.new ≡ self.old) }
         ensures room { self.new.room ≡ self.old.room }

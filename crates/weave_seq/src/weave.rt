@@ -6,6 +6,7 @@ ghost use Rattle.event_graph.specs.OneListWeave.{AreSmallSteps, comps_after, fin
 ghost use Rattle.weave_seq.specs.Chains.{AreChains, parents_in};
 ghost use Rattle.weave_seq.specs.Known.{known_to_all};
 
+use crate::before::{Before, Nothing, Passing};
 use crate::begin::{Beginning, begin};
 use crate::children::{Children, ParentSlot};
 use crate::state::State;
@@ -13,6 +14,7 @@ use crate::tell::tell_children;
 use component::{Component, Comps};
 use event_graph::{Event, Fired, FiredList, Graph, laws};
 use std::alloc::Global;
+use zs_host::Gate;
 use zs_num::NoMemory;
 
 /// The one-list weave: while an event is unfired, the one whose parents are fired and that has the
@@ -29,23 +31,65 @@ pub fn weave_seq<C: Component>(
     ensures comps { OnOk result (comps.new ≡ comps_after C.stepped g.now comps.old) }
     ensures unchanged { OnErr result (comps.new ≡ comps.old) }
 {
+    weave_after(alloc, g, comps, &Nothing)
+}
+
+/// The one-list weave by a worker that passes the gate before each event that it fires, as one of the
+/// event's domain. `places` has the domain of each component.
+pub fn weave_gated<C: Component, G: Gate>(
+    alloc: Global,
+    g: &Graph,
+    comps: &mut Comps<C>,
+    places: &[u16],
+    gate: &G,
+) -> Result<FiredList, NoMemory>
+    requires fits { GraphFits C.serves C.floor g.now comps.old }
+    requires small { AreSmallSteps C.stepped C.greatest g.now comps.old }
+    ensures fired { IfOk result (λ fired. fired ≡ map fired_of (woven C.stepped g.now comps.old)) }
+    ensures comps { OnOk result (comps.new ≡ comps_after C.stepped g.now comps.old) }
+    ensures unchanged { OnErr result (comps.new ≡ comps.old) }
+{
+    weave_after(alloc, g, comps, &Passing { places, gate })
+}
+
+/// The one-list weave, in which something without a meaning is done before each event.
+fn weave_after<C: Component, B: Before>(
+    alloc: Global,
+    g: &Graph,
+    comps: &mut Comps<C>,
+    before: &B,
+) -> Result<FiredList, NoMemory>
+    requires fits { GraphFits C.serves C.floor g.now comps.old }
+    requires small { AreSmallSteps C.stepped C.greatest g.now comps.old }
+    ensures fired { IfOk result (λ fired. fired ≡ map fired_of (woven C.stepped g.now comps.old)) }
+    ensures comps { OnOk result (comps.new ≡ comps_after C.stepped g.now comps.old) }
+    ensures unchanged { OnErr result (comps.new ≡ comps.old) }
+{
     let events = g.events();
     let Beginning {
         first,
         second,
         mut state,
     } = begin(alloc, events)?;
-    fire_all(&mut state, events, &first, &second, comps.as_mut_slice());
+    fire_all(
+        &mut state,
+        events,
+        &first,
+        &second,
+        comps.as_mut_slice(),
+        before,
+    );
     Ok(FiredList::of(state.into_times()))
 }
 
 /// Fires the first of the ready events until each event has fired. No memory is taken.
-fn fire_all<C: Component>(
+fn fire_all<C: Component, B: Before>(
     state: &mut State,
     events: &[Event],
     first: &Children,
     second: &Children,
     comps: &mut [C],
+    before: &B,
 )
     requires numbered { IsNumbered events.now }
     requires fits { GraphFits C.serves C.floor events.now comps.old }
@@ -67,6 +111,7 @@ fn fire_all<C: Component>(
             unreachable!()
         };
         let event = events[key.number as usize];
+        before.event_of(event.component);
         let finish = comps[event.component as usize].step(event.kind, key.start);
         let fired = Fired {
             number: key.number,

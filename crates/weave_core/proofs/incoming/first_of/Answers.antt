@@ -1,10 +1,10 @@
 -- The first of the stubs, by the first keys of the two queues.
-use Rattle.std.proofs.Common.{◌≡◌, ◌+◌, Option, Some, None, false, sym, ◌∙◌, ap, subst, refl, inl, inr}
+use Rattle.std.proofs.Common.{◌≡◌, ◌+◌, Option, Some, None, false, sym, ◌∙◌, subst, refl, inl, inr}
 use Rattle.std.proofs.lemmas.Option.{same_Some, none-some}
 use Rattle.std.specs.Prelude.{IfNone, IfSome, slice_get}
+use Rattle.zs_num.specs.KeyOrder.{is_key_before}
 use Rattle.zs_num.specs.declared.time.Key.{Key}
-use Rattle.domain_queue.specs.SortedKeys.{is_before}
-use Rattle.weave_core.specs.Stubs.{IsFirstStub, NoneOpen, Stubs}
+use Rattle.weave_core.specs.Stubs.{IsFirstStub, NoneOpen}
 use Rattle.weave_core.specs.Waits.{key_of}
 use Rattle.weave_core.proofs.Queued.{first_by_floor, first_by_word, floor_small, none_open}
 use Rattle.weave_core.proofs.incoming.first_of.Goals as goal
@@ -55,12 +55,12 @@ returns-in-Some-Some-clause-first c =
           let at : c.earlier.result ≡ first = is ∙ c.after_floor-in-Some-Some.ensures in
           subst (λ (k : Key). IsFirstStub (record { stubs = c.args.stubs.now; floor = c.args.floor }) k) (sym at)
           (first_by_floor c.args.stubs.now c.args.floor c.args.by_floor.now c.args.by_word.now c.requires.queued c.in-Some-Some.key a
-          (λ g h. subst (λ (k : Key). is_before g k ≡ false) at (subst (λ (k : Key). is_before k c.earlier.result ≡ false) (same_Some c.in-Some-Some.other g (sym b ∙ h)) c.earlier.ensures.least.1))
+          (λ g h. subst (λ (k : Key). is_key_before g k ≡ false) at (subst (λ (k : Key). is_key_before k c.earlier.result ≡ false) (same_Some c.in-Some-Some.other g (sym b ∙ h)) c.earlier.ensures.least.1))
           c.first.ensures.ascending c.first-key.ensures.ascending)
       | inr is ↦
           subst (λ (k : Key). IsFirstStub (record { stubs = c.args.stubs.now; floor = c.args.floor }) k) (sym is)
           (first_by_word c.args.stubs.now c.args.floor c.args.by_floor.now c.args.by_word.now c.requires.queued c.in-Some-Some.other b
-          (λ g h. subst (λ (k : Key). is_before (key_of (c.args.floor + k.start) k.number) c.in-Some-Some.other ≡ false) (same_Some c.in-Some-Some.key g (sym a ∙ h))
-          (subst (λ (k : Key). is_before k c.in-Some-Some.other ≡ false) c.after_floor-in-Some-Some.ensures (subst (λ (k : Key). is_before c.after_floor-in-Some-Some.result k ≡ false) is c.earlier.ensures.least.0)))
+          (λ g h. subst (λ (k : Key). is_key_before (key_of (c.args.floor + k.start) k.number) c.in-Some-Some.other ≡ false) (same_Some c.in-Some-Some.key g (sym a ∙ h))
+          (subst (λ (k : Key). is_key_before k c.in-Some-Some.other ≡ false) c.after_floor-in-Some-Some.ensures (subst (λ (k : Key). is_key_before c.after_floor-in-Some-Some.result k ≡ false) is c.earlier.ensures.least.0)))
           c.first.ensures.ascending c.first-key.ensures.ascending)
     ]

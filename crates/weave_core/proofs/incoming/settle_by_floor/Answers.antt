@@ -4,7 +4,7 @@ use Rattle.std.proofs.lemmas.Option.{get_or_from_slice_get}
 use Rattle.domain_queue.specs.SortedKeys.{put}
 use Rattle.weave_core.specs.declared.incoming.Stub.{Stub}
 use Rattle.weave_core.specs.DomainMachine.{is_exact}
-use Rattle.weave_core.specs.Stubs.{arrival_at, is_ahead, reach_of}
+use Rattle.weave_core.specs.Stubs.{arrival_at, is_ahead}
 use Rattle.weave_core.specs.Waits.{key_of}
 use Rattle.weave_core.proofs.Lists.{get_there, not_false, not_true}
 use Rattle.weave_core.proofs.ByFloor.{floor_dropped, floor_to_word, floor_within, is_floor_current, is_new_told}

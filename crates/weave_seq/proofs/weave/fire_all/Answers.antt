@@ -4,9 +4,9 @@ use Rattle.std.specs.Prelude.{slice_index}
 use Rattle.std.proofs.lemmas.List.{get_or-set_same, length-map}
 use Rattle.event_graph.specs.declared.event.Event.{Event}
 use Rattle.event_graph.specs.Firing.{time_so_far}
-use Rattle.event_graph.specs.OneListWeave.{after, finish_in}
+use Rattle.event_graph.specs.OneListWeave.{after_rounds, finish_in}
 use Rattle.weave_seq.specs.declared.children.ParentSlot.TheVariants.{First, Second}
-use Rattle.weave_seq.specs.Known.{finish_at, known_to_all, known_waits, told_to, without}
+use Rattle.weave_seq.specs.Known.{before_firing, finish_at, known_to_all, known_waits, told_to}
 use Rattle.weave_seq.specs.SoFar.{SoFar}
 use Rattle.weave_seq.proofs.Round.{after_it, bounded, component_within, comps_next, finish_here, is_small, known_next, no_event, one_is_ready, serves_it, size, unfired, untold, within}
 use Rattle.weave_seq.proofs.RoundStep.{finishes_stay, time_parts}
@@ -14,7 +14,7 @@ use Rattle.weave_seq.proofs.Telling.{so_far}
 use Rattle.weave_seq.proofs.weave.fire_all.Goals as goal
 
 pub loop-init : goal.loop-init
-unfolding after
+unfolding after_rounds
 loop-init g c = record { state = c.requires.unfired; comps = refl }
 
 pub unreachable-requires : goal.unreachable-requires
@@ -39,12 +39,12 @@ step-finish-requires-clause-small g c = is_small g.C.Component.serves g.C.Compon
 
 pub keep-requires-clause-within : goal.keep-requires-clause-within
 keep-requires-clause-within g c =
-    omega (arith, within g.C.Component.serves g.C.Component.floor g.C.Component.stepped g.C.Component.greatest c.each_round_fires_the_next_event.ensures c.events_fire_by_the_rules.ensures c.starts_so_far_stay_small.ensures c.args.events.now c.args.comps.now c.requires.numbered c.requires.fits c.requires.small c.loop.counter (omega (arith, c.loop-test.true)) c.loop.state c.loop.invariant.state c.in-Some.key c.in-Some.ensures.first, ap (λ (v : SoFar). length v.times) c.in-Some.ensures.taken, ap (λ (v : SoFar). length v.times) c.loop.invariant.state, length-map c.args.events.now (time_so_far (after g.C.Component.stepped c.args.events.now c.args.comps.now c.loop.counter).fired))
+    omega (arith, within g.C.Component.serves g.C.Component.floor g.C.Component.stepped g.C.Component.greatest c.each_round_fires_the_next_event.ensures c.events_fire_by_the_rules.ensures c.starts_so_far_stay_small.ensures c.args.events.now c.args.comps.now c.requires.numbered c.requires.fits c.requires.small c.loop.counter (omega (arith, c.loop-test.true)) c.loop.state c.loop.invariant.state c.in-Some.key c.in-Some.ensures.first, ap (λ (v : SoFar). length v.times) c.in-Some.ensures.taken, ap (λ (v : SoFar). length v.times) c.loop.invariant.state, length-map c.args.events.now (time_so_far (after_rounds g.C.Component.stepped c.args.events.now c.args.comps.now c.loop.counter).fired))
 
 pub keep-requires-clause-taken : goal.keep-requires-clause-taken
 keep-requires-clause-taken g c =
     let n : c.in-Some.key.number < length c.loop.state.waits =
-    omega (arith, within g.C.Component.serves g.C.Component.floor g.C.Component.stepped g.C.Component.greatest c.each_round_fires_the_next_event.ensures c.events_fire_by_the_rules.ensures c.starts_so_far_stay_small.ensures c.args.events.now c.args.comps.now c.requires.numbered c.requires.fits c.requires.small c.loop.counter (omega (arith, c.loop-test.true)) c.loop.state c.loop.invariant.state c.in-Some.key c.in-Some.ensures.first, ap (λ (v : SoFar). length v.waits) c.loop.invariant.state, length-map c.args.events.now (known_waits (finish_in (after g.C.Component.stepped c.args.events.now c.args.comps.now c.loop.counter).fired) (finish_in (after g.C.Component.stepped c.args.events.now c.args.comps.now c.loop.counter).fired) (finish_in (after g.C.Component.stepped c.args.events.now c.args.comps.now c.loop.counter).fired)))
+    omega (arith, within g.C.Component.serves g.C.Component.floor g.C.Component.stepped g.C.Component.greatest c.each_round_fires_the_next_event.ensures c.events_fire_by_the_rules.ensures c.starts_so_far_stay_small.ensures c.args.events.now c.args.comps.now c.requires.numbered c.requires.fits c.requires.small c.loop.counter (omega (arith, c.loop-test.true)) c.loop.state c.loop.invariant.state c.in-Some.key c.in-Some.ensures.first, ap (λ (v : SoFar). length v.waits) c.loop.invariant.state, length-map c.args.events.now (known_waits (finish_in (after_rounds g.C.Component.stepped c.args.events.now c.args.comps.now c.loop.counter).fired) (finish_in (after_rounds g.C.Component.stepped c.args.events.now c.args.comps.now c.loop.counter).fired) (finish_in (after_rounds g.C.Component.stepped c.args.events.now c.args.comps.now c.loop.counter).fired)))
     in
     ap (λ (v : SoFar). slice_index v.waits c.in-Some.key.number) c.in-Some.ensures.taken ∙ get_or-set_same c.loop.state.waits c.in-Some.key.number 255 0 n
 
@@ -71,7 +71,7 @@ pub tell_children-requires-in-loop-clause-within : goal.tell_children-requires-i
 tell_children-requires-in-loop-clause-within g c = within g.C.Component.serves g.C.Component.floor g.C.Component.stepped g.C.Component.greatest c.each_round_fires_the_next_event.ensures c.events_fire_by_the_rules.ensures c.starts_so_far_stay_small.ensures c.args.events.now c.args.comps.now c.requires.numbered c.requires.fits c.requires.small c.loop.counter (omega (arith, c.loop-test.true)) c.loop.state c.loop.invariant.state c.in-Some.key c.in-Some.ensures.first
 
 pub tell_children-requires-in-loop-clause-finish : goal.tell_children-requires-in-loop-clause-finish
-tell_children-requires-in-loop-clause-finish g c = ap (λ f. f c.in-Some.key.number) (finishes_stay c.args.events.now c.requires.numbered (finish_at c.keep.new.self.times) (without c.in-Some.key.number (finish_at c.keep.new.self.times)) c.keep.new.self.times c.tell_children.new.state (size g.C.Component.serves g.C.Component.floor g.C.Component.stepped g.C.Component.greatest c.each_round_fires_the_next_event.ensures c.events_fire_by_the_rules.ensures c.starts_so_far_stay_small.ensures c.args.events.now c.args.comps.now c.requires.numbered c.requires.fits c.requires.small c.loop.counter (omega (arith, c.loop-test.true)) c.loop.state c.loop.invariant.state c.in-Some.key c.in-Some.ensures.first c.loop.comps c.loop.invariant.comps c.index-comps-event.result c.step-finish.result (ap (λ p. p.1) c.step-finish.ensures) c.keep.new.self (c.keep.ensures ∙ ap (λ (v : SoFar). so_far (set v.times c.in-Some.key.number (time_parts c.in-Some.key.number c.in-Some.key.start c.step-finish.result)) v.waits) c.in-Some.ensures.taken)) (c.tell_children.ensures ∙ ap (λ k. told_to k true c.in-Some.key.number (finish_at c.keep.new.self.times) c.args.events.now) c.requires.first_slot)) ∙ finish_here g.C.Component.serves g.C.Component.floor g.C.Component.stepped g.C.Component.greatest c.each_round_fires_the_next_event.ensures c.events_fire_by_the_rules.ensures c.starts_so_far_stay_small.ensures c.args.events.now c.args.comps.now c.requires.numbered c.requires.fits c.requires.small c.loop.counter (omega (arith, c.loop-test.true)) c.loop.state c.loop.invariant.state c.in-Some.key c.in-Some.ensures.first c.loop.comps c.loop.invariant.comps c.index-comps-event.result c.step-finish.result (ap (λ p. p.1) c.step-finish.ensures) c.keep.new.self (c.keep.ensures ∙ ap (λ (v : SoFar). so_far (set v.times c.in-Some.key.number (time_parts c.in-Some.key.number c.in-Some.key.start c.step-finish.result)) v.waits) c.in-Some.ensures.taken)
+tell_children-requires-in-loop-clause-finish g c = ap (λ f. f c.in-Some.key.number) (finishes_stay c.args.events.now c.requires.numbered (finish_at c.keep.new.self.times) (before_firing c.in-Some.key.number (finish_at c.keep.new.self.times)) c.keep.new.self.times c.tell_children.new.state (size g.C.Component.serves g.C.Component.floor g.C.Component.stepped g.C.Component.greatest c.each_round_fires_the_next_event.ensures c.events_fire_by_the_rules.ensures c.starts_so_far_stay_small.ensures c.args.events.now c.args.comps.now c.requires.numbered c.requires.fits c.requires.small c.loop.counter (omega (arith, c.loop-test.true)) c.loop.state c.loop.invariant.state c.in-Some.key c.in-Some.ensures.first c.loop.comps c.loop.invariant.comps c.index-comps-event.result c.step-finish.result (ap (λ p. p.1) c.step-finish.ensures) c.keep.new.self (c.keep.ensures ∙ ap (λ (v : SoFar). so_far (set v.times c.in-Some.key.number (time_parts c.in-Some.key.number c.in-Some.key.start c.step-finish.result)) v.waits) c.in-Some.ensures.taken)) (c.tell_children.ensures ∙ ap (λ k. told_to k true c.in-Some.key.number (finish_at c.keep.new.self.times) c.args.events.now) c.requires.first_slot)) ∙ finish_here g.C.Component.serves g.C.Component.floor g.C.Component.stepped g.C.Component.greatest c.each_round_fires_the_next_event.ensures c.events_fire_by_the_rules.ensures c.starts_so_far_stay_small.ensures c.args.events.now c.args.comps.now c.requires.numbered c.requires.fits c.requires.small c.loop.counter (omega (arith, c.loop-test.true)) c.loop.state c.loop.invariant.state c.in-Some.key c.in-Some.ensures.first c.loop.comps c.loop.invariant.comps c.index-comps-event.result c.step-finish.result (ap (λ p. p.1) c.step-finish.ensures) c.keep.new.self (c.keep.ensures ∙ ap (λ (v : SoFar). so_far (set v.times c.in-Some.key.number (time_parts c.in-Some.key.number c.in-Some.key.start c.step-finish.result)) v.waits) c.in-Some.ensures.taken)
 
 pub tell_children-requires-in-loop-clause-after : goal.tell_children-requires-in-loop-clause-after
 tell_children-requires-in-loop-clause-after g c = after_it g.C.Component.serves g.C.Component.floor g.C.Component.stepped g.C.Component.greatest c.each_round_fires_the_next_event.ensures c.events_fire_by_the_rules.ensures c.starts_so_far_stay_small.ensures c.args.events.now c.args.comps.now c.requires.numbered c.requires.fits c.requires.small c.loop.counter (omega (arith, c.loop-test.true)) c.loop.state c.loop.invariant.state c.in-Some.key c.in-Some.ensures.first c.loop.comps c.loop.invariant.comps c.index-comps-event.result c.step-finish.result (ap (λ p. p.1) c.step-finish.ensures) c.keep.new.self (c.keep.ensures ∙ ap (λ (v : SoFar). so_far (set v.times c.in-Some.key.number (time_parts c.in-Some.key.number c.in-Some.key.start c.step-finish.result)) v.waits) c.in-Some.ensures.taken)
@@ -79,10 +79,10 @@ tell_children-requires-in-loop-clause-after g c = after_it g.C.Component.serves 
 pub tell_children-requires-in-loop-clause-untold : goal.tell_children-requires-in-loop-clause-untold
 tell_children-requires-in-loop-clause-untold g c =
     (c.tell_children.ensures ∙ ap (λ k. told_to k true c.in-Some.key.number (finish_at c.keep.new.self.times) c.args.events.now) c.requires.first_slot)
-    ∙ (ap (λ f. told_to Second false c.in-Some.key.number f c.args.events.now) (sym (finishes_stay c.args.events.now c.requires.numbered (finish_at c.keep.new.self.times) (without c.in-Some.key.number (finish_at c.keep.new.self.times)) c.keep.new.self.times c.tell_children.new.state (size g.C.Component.serves g.C.Component.floor g.C.Component.stepped g.C.Component.greatest c.each_round_fires_the_next_event.ensures c.events_fire_by_the_rules.ensures c.starts_so_far_stay_small.ensures c.args.events.now c.args.comps.now c.requires.numbered c.requires.fits c.requires.small c.loop.counter (omega (arith, c.loop-test.true)) c.loop.state c.loop.invariant.state c.in-Some.key c.in-Some.ensures.first c.loop.comps c.loop.invariant.comps c.index-comps-event.result c.step-finish.result (ap (λ p. p.1) c.step-finish.ensures) c.keep.new.self (c.keep.ensures ∙ ap (λ (v : SoFar). so_far (set v.times c.in-Some.key.number (time_parts c.in-Some.key.number c.in-Some.key.start c.step-finish.result)) v.waits) c.in-Some.ensures.taken)) (c.tell_children.ensures ∙ ap (λ k. told_to k true c.in-Some.key.number (finish_at c.keep.new.self.times) c.args.events.now) c.requires.first_slot))) ∙ ap (λ k. told_to k false c.in-Some.key.number (finish_at c.tell_children.new.state.times) c.args.events.now) (sym c.requires.second_slot))
+    ∙ (ap (λ f. told_to Second false c.in-Some.key.number f c.args.events.now) (sym (finishes_stay c.args.events.now c.requires.numbered (finish_at c.keep.new.self.times) (before_firing c.in-Some.key.number (finish_at c.keep.new.self.times)) c.keep.new.self.times c.tell_children.new.state (size g.C.Component.serves g.C.Component.floor g.C.Component.stepped g.C.Component.greatest c.each_round_fires_the_next_event.ensures c.events_fire_by_the_rules.ensures c.starts_so_far_stay_small.ensures c.args.events.now c.args.comps.now c.requires.numbered c.requires.fits c.requires.small c.loop.counter (omega (arith, c.loop-test.true)) c.loop.state c.loop.invariant.state c.in-Some.key c.in-Some.ensures.first c.loop.comps c.loop.invariant.comps c.index-comps-event.result c.step-finish.result (ap (λ p. p.1) c.step-finish.ensures) c.keep.new.self (c.keep.ensures ∙ ap (λ (v : SoFar). so_far (set v.times c.in-Some.key.number (time_parts c.in-Some.key.number c.in-Some.key.start c.step-finish.result)) v.waits) c.in-Some.ensures.taken)) (c.tell_children.ensures ∙ ap (λ k. told_to k true c.in-Some.key.number (finish_at c.keep.new.self.times) c.args.events.now) c.requires.first_slot))) ∙ ap (λ k. told_to k false c.in-Some.key.number (finish_at c.tell_children.new.state.times) c.args.events.now) (sym c.requires.second_slot))
 
 pub tell_children-requires-in-loop-clause-unfired : goal.tell_children-requires-in-loop-clause-unfired
-tell_children-requires-in-loop-clause-unfired g c = λ j e p there parent n. ap (λ f. f j) (finishes_stay c.args.events.now c.requires.numbered (finish_at c.keep.new.self.times) (without c.in-Some.key.number (finish_at c.keep.new.self.times)) c.keep.new.self.times c.tell_children.new.state (size g.C.Component.serves g.C.Component.floor g.C.Component.stepped g.C.Component.greatest c.each_round_fires_the_next_event.ensures c.events_fire_by_the_rules.ensures c.starts_so_far_stay_small.ensures c.args.events.now c.args.comps.now c.requires.numbered c.requires.fits c.requires.small c.loop.counter (omega (arith, c.loop-test.true)) c.loop.state c.loop.invariant.state c.in-Some.key c.in-Some.ensures.first c.loop.comps c.loop.invariant.comps c.index-comps-event.result c.step-finish.result (ap (λ p. p.1) c.step-finish.ensures) c.keep.new.self (c.keep.ensures ∙ ap (λ (v : SoFar). so_far (set v.times c.in-Some.key.number (time_parts c.in-Some.key.number c.in-Some.key.start c.step-finish.result)) v.waits) c.in-Some.ensures.taken)) (c.tell_children.ensures ∙ ap (λ k. told_to k true c.in-Some.key.number (finish_at c.keep.new.self.times) c.args.events.now) c.requires.first_slot)) ∙ unfired g.C.Component.serves g.C.Component.floor g.C.Component.stepped g.C.Component.greatest c.each_round_fires_the_next_event.ensures c.events_fire_by_the_rules.ensures c.starts_so_far_stay_small.ensures c.args.events.now c.args.comps.now c.requires.numbered c.requires.fits c.requires.small c.loop.counter (omega (arith, c.loop-test.true)) c.loop.state c.loop.invariant.state c.in-Some.key c.in-Some.ensures.first c.loop.comps c.loop.invariant.comps c.index-comps-event.result c.step-finish.result (ap (λ p. p.1) c.step-finish.ensures) c.keep.new.self (c.keep.ensures ∙ ap (λ (v : SoFar). so_far (set v.times c.in-Some.key.number (time_parts c.in-Some.key.number c.in-Some.key.start c.step-finish.result)) v.waits) c.in-Some.ensures.taken) c.args.second.now.slot j e p there parent n
+tell_children-requires-in-loop-clause-unfired g c = λ j e p there parent n. ap (λ f. f j) (finishes_stay c.args.events.now c.requires.numbered (finish_at c.keep.new.self.times) (before_firing c.in-Some.key.number (finish_at c.keep.new.self.times)) c.keep.new.self.times c.tell_children.new.state (size g.C.Component.serves g.C.Component.floor g.C.Component.stepped g.C.Component.greatest c.each_round_fires_the_next_event.ensures c.events_fire_by_the_rules.ensures c.starts_so_far_stay_small.ensures c.args.events.now c.args.comps.now c.requires.numbered c.requires.fits c.requires.small c.loop.counter (omega (arith, c.loop-test.true)) c.loop.state c.loop.invariant.state c.in-Some.key c.in-Some.ensures.first c.loop.comps c.loop.invariant.comps c.index-comps-event.result c.step-finish.result (ap (λ p. p.1) c.step-finish.ensures) c.keep.new.self (c.keep.ensures ∙ ap (λ (v : SoFar). so_far (set v.times c.in-Some.key.number (time_parts c.in-Some.key.number c.in-Some.key.start c.step-finish.result)) v.waits) c.in-Some.ensures.taken)) (c.tell_children.ensures ∙ ap (λ k. told_to k true c.in-Some.key.number (finish_at c.keep.new.self.times) c.args.events.now) c.requires.first_slot)) ∙ unfired g.C.Component.serves g.C.Component.floor g.C.Component.stepped g.C.Component.greatest c.each_round_fires_the_next_event.ensures c.events_fire_by_the_rules.ensures c.starts_so_far_stay_small.ensures c.args.events.now c.args.comps.now c.requires.numbered c.requires.fits c.requires.small c.loop.counter (omega (arith, c.loop-test.true)) c.loop.state c.loop.invariant.state c.in-Some.key c.in-Some.ensures.first c.loop.comps c.loop.invariant.comps c.index-comps-event.result c.step-finish.result (ap (λ p. p.1) c.step-finish.ensures) c.keep.new.self (c.keep.ensures ∙ ap (λ (v : SoFar). so_far (set v.times c.in-Some.key.number (time_parts c.in-Some.key.number c.in-Some.key.start c.step-finish.result)) v.waits) c.in-Some.ensures.taken) c.args.second.now.slot j e p there parent n
 
 pub tell_children-requires-in-loop-clause-small : goal.tell_children-requires-in-loop-clause-small
 tell_children-requires-in-loop-clause-small g c = bounded g.C.Component.serves g.C.Component.floor g.C.Component.stepped g.C.Component.greatest c.each_round_fires_the_next_event.ensures c.events_fire_by_the_rules.ensures c.starts_so_far_stay_small.ensures c.args.events.now c.args.comps.now c.requires.numbered c.requires.fits c.requires.small c.loop.counter (omega (arith, c.loop-test.true)) c.loop.state c.loop.invariant.state c.in-Some.key c.in-Some.ensures.first c.loop.comps c.loop.invariant.comps c.index-comps-event.result c.step-finish.result (ap (λ p. p.1) c.step-finish.ensures) c.keep.new.self (c.keep.ensures ∙ ap (λ (v : SoFar). so_far (set v.times c.in-Some.key.number (time_parts c.in-Some.key.number c.in-Some.key.start c.step-finish.result)) v.waits) c.in-Some.ensures.taken) c.args.second.now.slot
@@ -92,15 +92,15 @@ loop-preserved g c =
     let one = add-one c.loop.counter in
     let all_told : c.tell_children-in-loop.new.state ≡ known_to_all (finish_at c.keep.new.self.times) c.args.events.now =
     c.tell_children-in-loop.ensures
-    ∙ (ap (λ k. told_to k true c.in-Some.key.number (finish_at c.tell_children.new.state.times) c.args.events.now) c.requires.second_slot ∙ ap (λ f. known_to_all f c.args.events.now) (finishes_stay c.args.events.now c.requires.numbered (finish_at c.keep.new.self.times) (without c.in-Some.key.number (finish_at c.keep.new.self.times)) c.keep.new.self.times c.tell_children.new.state (size g.C.Component.serves g.C.Component.floor g.C.Component.stepped g.C.Component.greatest c.each_round_fires_the_next_event.ensures c.events_fire_by_the_rules.ensures c.starts_so_far_stay_small.ensures c.args.events.now c.args.comps.now c.requires.numbered c.requires.fits c.requires.small c.loop.counter (omega (arith, c.loop-test.true)) c.loop.state c.loop.invariant.state c.in-Some.key c.in-Some.ensures.first c.loop.comps c.loop.invariant.comps c.index-comps-event.result c.step-finish.result (ap (λ p. p.1) c.step-finish.ensures) c.keep.new.self (c.keep.ensures ∙ ap (λ (v : SoFar). so_far (set v.times c.in-Some.key.number (time_parts c.in-Some.key.number c.in-Some.key.start c.step-finish.result)) v.waits) c.in-Some.ensures.taken)) (c.tell_children.ensures ∙ ap (λ k. told_to k true c.in-Some.key.number (finish_at c.keep.new.self.times) c.args.events.now) c.requires.first_slot)))
+    ∙ (ap (λ k. told_to k true c.in-Some.key.number (finish_at c.tell_children.new.state.times) c.args.events.now) c.requires.second_slot ∙ ap (λ f. known_to_all f c.args.events.now) (finishes_stay c.args.events.now c.requires.numbered (finish_at c.keep.new.self.times) (before_firing c.in-Some.key.number (finish_at c.keep.new.self.times)) c.keep.new.self.times c.tell_children.new.state (size g.C.Component.serves g.C.Component.floor g.C.Component.stepped g.C.Component.greatest c.each_round_fires_the_next_event.ensures c.events_fire_by_the_rules.ensures c.starts_so_far_stay_small.ensures c.args.events.now c.args.comps.now c.requires.numbered c.requires.fits c.requires.small c.loop.counter (omega (arith, c.loop-test.true)) c.loop.state c.loop.invariant.state c.in-Some.key c.in-Some.ensures.first c.loop.comps c.loop.invariant.comps c.index-comps-event.result c.step-finish.result (ap (λ p. p.1) c.step-finish.ensures) c.keep.new.self (c.keep.ensures ∙ ap (λ (v : SoFar). so_far (set v.times c.in-Some.key.number (time_parts c.in-Some.key.number c.in-Some.key.start c.step-finish.result)) v.waits) c.in-Some.ensures.taken)) (c.tell_children.ensures ∙ ap (λ k. told_to k true c.in-Some.key.number (finish_at c.keep.new.self.times) c.args.events.now) c.requires.first_slot)))
     in
     record {
-      state = known_next g.C.Component.serves g.C.Component.floor g.C.Component.stepped g.C.Component.greatest c.each_round_fires_the_next_event.ensures c.events_fire_by_the_rules.ensures c.starts_so_far_stay_small.ensures c.args.events.now c.args.comps.now c.requires.numbered c.requires.fits c.requires.small c.loop.counter (omega (arith, c.loop-test.true)) c.loop.state c.loop.invariant.state c.in-Some.key c.in-Some.ensures.first c.loop.comps c.loop.invariant.comps c.index-comps-event.result c.step-finish.result (ap (λ p. p.1) c.step-finish.ensures) c.keep.new.self (c.keep.ensures ∙ ap (λ (v : SoFar). so_far (set v.times c.in-Some.key.number (time_parts c.in-Some.key.number c.in-Some.key.start c.step-finish.result)) v.waits) c.in-Some.ensures.taken) c.tell_children-in-loop.new.state all_told ∙ ap (λ k. known_to_all (finish_in (after g.C.Component.stepped c.args.events.now c.args.comps.now k).fired) c.args.events.now) (sym one);
-      comps = comps_next g.C.Component.serves g.C.Component.floor g.C.Component.stepped g.C.Component.greatest c.each_round_fires_the_next_event.ensures c.events_fire_by_the_rules.ensures c.starts_so_far_stay_small.ensures c.args.events.now c.args.comps.now c.requires.numbered c.requires.fits c.requires.small c.loop.counter (omega (arith, c.loop-test.true)) c.loop.state c.loop.invariant.state c.in-Some.key c.in-Some.ensures.first c.loop.comps c.loop.invariant.comps c.index-comps-event.result c.step-finish.new.self (ap (λ p. p.0) c.step-finish.ensures) ∙ ap (λ k. (after g.C.Component.stepped c.args.events.now c.args.comps.now k).comps) (sym one);
+      state = known_next g.C.Component.serves g.C.Component.floor g.C.Component.stepped g.C.Component.greatest c.each_round_fires_the_next_event.ensures c.events_fire_by_the_rules.ensures c.starts_so_far_stay_small.ensures c.args.events.now c.args.comps.now c.requires.numbered c.requires.fits c.requires.small c.loop.counter (omega (arith, c.loop-test.true)) c.loop.state c.loop.invariant.state c.in-Some.key c.in-Some.ensures.first c.loop.comps c.loop.invariant.comps c.index-comps-event.result c.step-finish.result (ap (λ p. p.1) c.step-finish.ensures) c.keep.new.self (c.keep.ensures ∙ ap (λ (v : SoFar). so_far (set v.times c.in-Some.key.number (time_parts c.in-Some.key.number c.in-Some.key.start c.step-finish.result)) v.waits) c.in-Some.ensures.taken) c.tell_children-in-loop.new.state all_told ∙ ap (λ k. known_to_all (finish_in (after_rounds g.C.Component.stepped c.args.events.now c.args.comps.now k).fired) c.args.events.now) (sym one);
+      comps = comps_next g.C.Component.serves g.C.Component.floor g.C.Component.stepped g.C.Component.greatest c.each_round_fires_the_next_event.ensures c.events_fire_by_the_rules.ensures c.starts_so_far_stay_small.ensures c.args.events.now c.args.comps.now c.requires.numbered c.requires.fits c.requires.small c.loop.counter (omega (arith, c.loop-test.true)) c.loop.state c.loop.invariant.state c.in-Some.key c.in-Some.ensures.first c.loop.comps c.loop.invariant.comps c.index-comps-event.result c.step-finish.new.self (ap (λ p. p.0) c.step-finish.ensures) ∙ ap (λ k. (after_rounds g.C.Component.stepped c.args.events.now c.args.comps.now k).comps) (sym one);
     }
 
 pub returns-clause-times : goal.returns-clause-times
 returns-clause-times g c =
     let last : c.loop.counter ≡ length c.args.events.now = omega (arith, c.loop-test.false) in
     ap (λ (v : SoFar). v.times) c.loop.invariant.state
-    ∙ (ap (λ k. map (time_so_far (after g.C.Component.stepped c.args.events.now c.args.comps.now k).fired) c.args.events.now) last ∙ c.times_so_far_become_the_weaves.ensures c.args.events.now c.args.comps.now c.requires.numbered c.requires.fits)
+    ∙ (ap (λ k. map (time_so_far (after_rounds g.C.Component.stepped c.args.events.now c.args.comps.now k).fired) c.args.events.now) last ∙ c.times_so_far_become_the_weaves.ensures c.args.events.now c.args.comps.now c.requires.numbered c.requires.fits)

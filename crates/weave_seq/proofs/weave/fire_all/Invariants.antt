@@ -1,11 +1,11 @@
 -- After so many rounds the program knows what the weave has.
 use Rattle.std.proofs.Common.{◌≡◌}
-use Rattle.event_graph.specs.OneListWeave.{after, finish_in}
+use Rattle.event_graph.specs.OneListWeave.{after_rounds, finish_in}
 use Rattle.weave_seq.specs.Known.{known_to_all}
 use Rattle.weave_seq.proofs.weave.fire_all.Given as goal
 
 abbrev pub invariant-loop : goal.invariant-loop
 invariant-loop g l = record {
-  state : l.state ≡ known_to_all (finish_in (after g.C.Component.stepped l.events l.fn.comps l.counter).fired) l.events;
-  comps : l.comps ≡ (after g.C.Component.stepped l.events l.fn.comps l.counter).comps;
+  state : l.state ≡ known_to_all (finish_in (after_rounds g.C.Component.stepped l.events l.fn.comps l.counter).fired) l.events;
+  comps : l.comps ≡ (after_rounds g.C.Component.stepped l.events l.fn.comps l.counter).comps;
 }

@@ -8,7 +8,7 @@ use Rattle.weave_core.specs.declared.children.Link.{Link}
 use Rattle.weave_core.specs.Children.{CanTell, CanTellChain, IsChain, tell_all}
 use Rattle.weave_core.specs.DomainCalls.{CanFire, DomainValue, IsFire}
 use Rattle.weave_core.specs.Inside.{domain_value, own_of}
-use Rattle.weave_core.specs.Layout.{AreServed, Stands, fired_in, place_in, timed_from}
+use Rattle.weave_core.specs.Layout.{HaveComponents, Stands, fired_in, place_in, timed_from}
 use Rattle.weave_core.specs.Waits.{Waits, is_fired_wait}
 use Rattle.weave_core.proofs.FireHere.{IsFiring, fired_behind, firing, not_firing, still_served, take_front}
 use Rattle.weave_core.proofs.FireSteps.{can_tell_children, counted_then, some_unfired, stands_then}
@@ -299,7 +299,7 @@ invariant_of-self g c =
           ∙ ap (λ (w : Waits). fired_in w.waits) (sym waiting))));
       room = omega (arith, i.room, c.push_reserved.ensures.capacity);
       served =
-          subst (AreServed g.C.Component.serves d.parts.value d.domain d.here.items d.spots.items) (sym comps_are)
+          subst (HaveComponents g.C.Component.serves d.parts.value d.domain d.here.items d.spots.items) (sym comps_are)
           (still_served g.C.Component.serves d i (place_in d.parts.value.places d.domain f.event.component) f.component (g.C.Component.stepped f.component f.event.kind k.start).0 f.component_there
           (λ kind. g.met.C.Component.serves_stays f.component f.event.kind k.start kind f.served));
     }

@@ -3,7 +3,7 @@ use Rattle.std.proofs.Common.{ℕ, ◌<◌, ◌-◌, length, Some, slice_get, su
 use Rattle.std.specs.Prelude.{slice_index, slice_set}
 use Rattle.std.proofs.lemmas.Option.{slice_get-get_or}
 use Rattle.std.proofs.lemmas.List.{get_or_read, get_or-set_same}
-use Rattle.weave_core.specs.Waits.{HasReady, Waits}
+use Rattle.weave_core.specs.Waits.{HasReadyPlaces, Waits}
 use Rattle.weave_core.proofs.Readied.{has_room, is_new, is_ready_now, still_waits}
 use Rattle.weave_core.proofs.waiting.Waiting.parent_fired.Goals as goal
 
@@ -35,7 +35,7 @@ invariant_of-self c =
     let none : c.index_mut-2.result.now - 1 ≡ 0 =
     sym (c.index-2.ensures ∙ get_or-set_same c.self.inside.waits.items c.args.place (c.index_mut-2.result.now - 1) c.index-2.result.now below) ∙ c.if-index-eq0.true
     in
-    subst (λ (n : ℕ). HasReady (slice_set c.self.inside.starts.items c.args.place c.max-start.result) (slice_set c.self.inside.waits.items c.args.place (n - 1)) c.push.new.self) (sym read)
+    subst (λ (n : ℕ). HasReadyPlaces (slice_set c.self.inside.starts.items c.args.place c.max-start.result) (slice_set c.self.inside.waits.items c.args.place (n - 1)) c.push.new.self) (sym read)
     (is_ready_now c.self.inside.starts.items c.self.inside.waits.items c.self.inside.ready c.self.invariant c.args.place (slice_index c.self.inside.waits.items c.args.place) c.max-start.result there
     (omega (arith, same, c.requires.waits)) (omega (arith, same, c.requires.unfired)) c.push.new.self c.push.ensures (omega (arith, read, none)))
 
@@ -47,6 +47,6 @@ invariant_of-self-else-index-eq0 c =
     let same : slice_index c.self.inside.waits.items c.args.place ≡ slice_index c.args.self.now.waits c.args.place = ap (λ xs. slice_index xs c.args.place) w in
     let read : c.index_mut-2.result.now ≡ slice_index c.self.inside.waits.items c.args.place = get_or_read c.self.inside.waits.items c.args.place c.index_mut-2.result.now below c.index_mut-2.ensures.value 0 in
     let here : c.index-2.result.now ≡ c.index_mut-2.result.now - 1 = c.index-2.ensures ∙ get_or-set_same c.self.inside.waits.items c.args.place (c.index_mut-2.result.now - 1) c.index-2.result.now below in
-    subst (λ (n : ℕ). HasReady (slice_set c.self.inside.starts.items c.args.place c.max-start.result) (slice_set c.self.inside.waits.items c.args.place (n - 1)) c.self.inside.ready) (sym read)
+    subst (λ (n : ℕ). HasReadyPlaces (slice_set c.self.inside.starts.items c.args.place c.max-start.result) (slice_set c.self.inside.waits.items c.args.place (n - 1)) c.self.inside.ready) (sym read)
     (still_waits c.self.inside.starts.items c.self.inside.waits.items c.self.inside.ready c.self.invariant c.args.place (slice_index c.self.inside.waits.items c.args.place) c.max-start.result there
     (omega (arith, same, c.requires.waits)) (omega (arith, same, c.requires.unfired)) (omega (arith, here, read, c.if-index-eq0.false)))
