@@ -1,0 +1,16 @@
+mod Links
+mod Firings
+mod Running
+mod Tellings
+mod Chains
+mod Floors
+mod Rounding
+mod Gatherings
+mod Fillings
+mod Preparings
+mod Sending
+mod Lots
+mod Seatings
+mod Postings
+mod BesideRounds
+mod Wovens

@@ -1,0 +1,214 @@
+-- Domains and their seats, which go together.
+use Rattle.std.proofs.Common.{◌≡◌, ◌%◌, ◌<◌, ℕ, zero, suc, Bool, true, false, List, [], ◌∷◌, ◌++◌, All, length, map, set, get_or, slice_index, Option, Some, None, slice_get, sym, ◌∙◌, ap, subst, refl, inl, inr, arith}
+use Rattle.std.proofs.lemmas.Bool.{false≢true, cases_eq}
+use Rattle.std.proofs.lemmas.List.{length_push}
+use Rattle.std.proofs.lemmas.Option.{same_Some, none-some, slice_get-get_or, slice_get-map, slice_get_within}
+use Rattle.std.specs.Option.{option_map}
+use Rattle.std.specs.Prelude.{IfSome}
+use Rattle.atomic_table.specs.Seated.{TableId}
+use Rattle.component.specs.declared.kind.Kind.{Kind}
+use Rattle.event_graph.specs.OneListWeave.{is_fired}
+use Rattle.crossing.specs.Seats.{AreSeats, SeatValue, finishes_of, new_seat, owners_of}
+use Rattle.weave_core.specs.DomainCalls.{DomainValue}
+use Rattle.weave_core.specs.DomainMachine.{DomainState}
+use Rattle.weave_core.specs.Keeping.{IsKept}
+use Rattle.weave_run.specs.Crews.{AreCrewsSeated, AreFree, IsCrewSeated, domains_of}
+use Rattle.weave_run.specs.Rounds.{AllGrow, AllKeep, own_in, with_floors}
+use Rattle.weave_run.specs.Seating.{AreSeated, IsSeated}
+use Rattle.weave_run.specs.Setup.{AreBegun}
+use Rattle.weave_run.specs.Teams.{IsNewTeam, IsTeam}
+use Rattle.weave_run.specs.declared.crew.Crew.{Crew}
+use Rattle.weave_run.specs.declared.post.Post.{Post}
+use Rattle.weave_run.specs.declared.plan.Plan.{Plan}
+use Rattle.weave_run.specs.declared.team.Team.{Team}
+use Rattle.weave_run.proofs.Lots.{earlier_at, last_at}
+use Rattle.weave_run.proofs.Preparings.{snoc_get}
+use Rattle.weave_run.proofs.Rounding.{floored, still_fired}
+use Rattle.weave_run.proofs.Tellings.{get_set_other, get_set_same, own_there, there_at}
+
+zeros : (xs : List ℕ) (n : ℕ) → slice_index (map (λ (x : ℕ). 0) xs) n ≡ 0
+zeros [] zero = refl
+zeros [] (suc n) = refl
+zeros (x ∷ xs) zero = refl
+zeros (x ∷ xs) (suc n) = zeros xs n
+
+module _ {C : Type 0} (stepped : C → Kind → ℕ → C × ℕ) (plan : Plan C) (table : TableId) where
+  -- ---- lists of domains and seats
+
+  pub seated_front : (vs : List (DomainValue C)) (v : DomainValue C) (seats : List SeatValue) (s : SeatValue) → AreSeated stepped plan table (vs ++ v ∷ []) (seats ++ s ∷ []) → AreSeated stepped plan table vs seats
+  seated_front vs v seats s h = record {
+    count = (let a = h.count in let b = length_push vs v in let c = length_push seats s in omega (arith, a, b, c));
+    each = λ d w t at there. h.each d w t (earlier_at vs (v ∷ []) d w at) (earlier_at seats (s ∷ []) d t there);
+  }
+
+  pub seated_last : (vs : List (DomainValue C)) (v : DomainValue C) (seats : List SeatValue) (s : SeatValue) → AreSeated stepped plan table (vs ++ v ∷ []) (seats ++ s ∷ []) → IsSeated stepped plan table v s
+  seated_last vs v seats s h =
+      h.each (length vs) v s (last_at vs v (length vs) refl) (last_at seats s (length vs) (let a = h.count in let b = length_push vs v in let c = length_push seats s in omega (arith, a, b, c)))
+
+  pub seated_push : (vs : List (DomainValue C)) (v : DomainValue C) (seats : List SeatValue) (s : SeatValue) → AreSeated stepped plan table vs seats → IsSeated stepped plan table v s → AreSeated stepped plan table (vs ++ v ∷ []) (seats ++ s ∷ [])
+  seated_push vs v seats s h i = record {
+    count = (let a = h.count in let b = length_push vs v in let c = length_push seats s in omega (arith, a, b, c));
+    each = λ d w t at there.
+        elim (snoc_get vs v d w at) [
+          | inl before ↦
+              elim (snoc_get seats s d t there) [
+                | inl too ↦ h.each d w t before too
+                | inr last ↦ absurd (let a = h.count in let b = slice_get_within vs d w before in let e = last.0 in omega (arith, a, b, e))
+              ]
+          | inr last ↦
+              elim (snoc_get seats s d t there) [
+                | inl before ↦ absurd (let a = h.count in let b = slice_get_within seats d t before in let e = last.0 in omega (arith, a, b, e))
+                | inr too ↦ subst (λ (x : DomainValue C). IsSeated stepped plan table x t) last.1 (subst (IsSeated stepped plan table v) too.1 i)
+              ]
+        ];
+  }
+
+  pub none_seated : (vs : List (DomainValue C)) (seats : List SeatValue) → vs ≡ [] → seats ≡ [] → AreSeated stepped plan table vs seats
+  none_seated vs seats a b = record {
+    count = ap length b ∙ sym (ap length a);
+    each = λ d v s at there. absurd (none-some v (ap (λ (xs : List (DomainValue C)). slice_get xs d) (sym a) ∙ at));
+  }
+
+  -- ---- workers
+
+  set_seated : (crews : List (Crew C)) (worker : ℕ) (new : Crew C) → worker < length crews → AreCrewsSeated stepped plan table crews → IsCrewSeated stepped plan table new → AreCrewsSeated stepped plan table (set crews worker new)
+  set_seated crews worker new below h i = record {
+    each = λ w crew at.
+        elim (cases_eq w worker) [
+          | inr other ↦ h.each w crew (sym (get_set_other crews worker w new other) ∙ at)
+          | inl same ↦
+              let one : new ≡ crew = same_Some new crew (sym (get_set_same crews worker new below) ∙ (ap (slice_get (set crews worker new)) (sym same) ∙ at)) in
+              subst (IsCrewSeated stepped plan table) one i
+        ];
+  }
+
+  pub crews_after_push : (crews : List (Crew C)) (worker : ℕ) (old new : Crew C) (post : Post C) → AreCrewsSeated stepped plan table crews → slice_get crews worker ≡ Some old → new.posts.items ≡ old.posts.items ++ post ∷ []
+      → IsSeated stepped plan table post.domain post.seat → AreCrewsSeated stepped plan table (set crews worker new)
+  crews_after_push crews worker old new post h there is i =
+      set_seated crews worker new (slice_get_within crews worker old there) h
+      (record {
+        each = λ place p at.
+            elim (snoc_get old.posts.items post place p (ap (λ (xs : List (Post C)). slice_get xs place) (sym is) ∙ at)) [
+              | inl before ↦ (h.each worker old there).each place p before
+              | inr last ↦ subst (λ (q : Post C). IsSeated stepped plan table q.domain q.seat) last.1 i
+            ];
+      })
+
+  pub crews_after_pop : (crews : List (Crew C)) (worker : ℕ) (old new : Crew C) (post : Post C) → AreCrewsSeated stepped plan table crews → slice_get crews worker ≡ Some old → old.posts.items ≡ new.posts.items ++ post ∷ []
+      → AreCrewsSeated stepped plan table (set crews worker new)
+  crews_after_pop crews worker old new post h there is =
+      set_seated crews worker new (slice_get_within crews worker old there) h
+      (record {
+        each = λ place p at. (h.each worker old there).each place p (ap (λ (xs : List (Post C)). slice_get xs place) is ∙ earlier_at new.posts.items (post ∷ []) place p at);
+      })
+
+  pub popped_seat : (crews : List (Crew C)) (worker : ℕ) (old new : Crew C) (post : Post C) → AreCrewsSeated stepped plan table crews → slice_get crews worker ≡ Some old → old.posts.items ≡ new.posts.items ++ post ∷ []
+      → IsSeated stepped plan table post.domain post.seat
+  popped_seat crews worker old new post h there is =
+      (h.each worker old there).each (length new.posts.items) post (ap (λ (xs : List (Post C)). slice_get xs (length new.posts.items)) is ∙ last_at new.posts.items post (length new.posts.items) refl)
+
+  pub free_seated : (count : ℕ) (crews : List (Crew C)) → AreFree count crews → AreCrewsSeated stepped plan table crews
+  free_seated count crews free = record {
+    each = λ worker crew there. record {
+      each = λ place post at.
+          let here : slice_get (domains_of crew) place ≡ Some post.domain = slice_get-map (λ (p : Post C). p.domain) crew.posts.items place ∙ ap (option_map (λ (p : Post C). p.domain)) at in
+          absurd (none-some post.domain (ap (λ (xs : List (DomainValue C)). slice_get xs place) (sym (free.none worker crew there)) ∙ here));
+    };
+  }
+
+  -- ---- from round to round
+
+  seated_on : (old new : List (DomainValue C)) (seats : List SeatValue) → AreSeated stepped plan table old seats → length new ≡ length old
+      → ((d : ℕ) (v w : DomainValue C) → slice_get old d ≡ Some v → slice_get new d ≡ Some w → (w.domain ≡ v.domain) × ((n : ℕ) → is_fired v.own.fired n ≡ true → is_fired w.own.fired n ≡ true))
+      → AreSeated stepped plan table new seats
+  seated_on old new seats h count on = record {
+    count = h.count ∙ sym count;
+    each = λ d w s at there.
+        let v = there_at old d (let b = slice_get_within new d w at in omega (arith, b, count)) in
+        let i : IsSeated stepped plan table v.0 s = h.each d v.0 s v.1 there in
+        let o = on d v.0 w v.1 at in
+        record {
+          seat = record {
+            crossings_are = i.seat.crossings_are;
+            domain_is = i.seat.domain_is ∙ sym o.0;
+            finishes_are = i.seat.finishes_are;
+            owners_are = i.seat.owners_are;
+          };
+          unpublished = λ n x crossing source unfired. i.unpublished n x crossing (source ∙ o.0) (before v.0 w x.parent o.1 unfired);
+        };
+  }
+    where
+      before : (v w : DomainValue C) (n : ℕ) → ((n : ℕ) → is_fired v.own.fired n ≡ true → is_fired w.own.fired n ≡ true) → is_fired w.own.fired n ≡ false → is_fired v.own.fired n ≡ false
+      before v w n still un = by_test (is_fired v.own.fired n) refl
+        where
+          by_test : (t : Bool) → is_fired v.own.fired n ≡ t → is_fired v.own.fired n ≡ false
+          by_test false e = e
+          by_test true e = absurd (false≢true (sym un ∙ still n e))
+
+  pub seated_grown : (old new : List (DomainValue C)) (seats : List SeatValue) → AllKeep stepped plan old → AllKeep stepped plan new → AllGrow old new → AreSeated stepped plan table old seats → AreSeated stepped plan table new seats
+  seated_grown old new seats k m grow h =
+      seated_on old new seats h (m.count ∙ sym k.count)
+      (λ d v w at there.
+      let a : IsKept stepped plan.graph.value plan.parts.value plan.comps.value d v = k.each d v at in
+      let b : IsKept stepped plan.graph.value plan.parts.value plan.comps.value d w = m.each d w there in (
+        ap (λ (x : DomainValue C). x.domain) b.is ∙ sym (ap (λ (x : DomainValue C). x.domain) a.is),
+        (λ n fired.
+            ap (λ (o : DomainState). is_fired o.fired n) (sym (own_there new d w there))
+            ∙ still_fired (own_in old d) (own_in new d) n (grow.each d) (ap (λ (o : DomainState). is_fired o.fired n) (own_there old d v at) ∙ fired)),
+      ))
+
+  pub seated_higher : (floor : ℕ) (vs : List (DomainValue C)) (seats : List SeatValue) → AreSeated stepped plan table vs seats → AreSeated stepped plan table (with_floors floor vs) seats
+  seated_higher floor vs seats h = record {
+    count = h.count ∙ sym (floors_count floor vs);
+    each = λ d u s at there.
+        let v = floored floor vs d u at in
+        let i : IsSeated stepped plan table v.0 s = h.each d v.0 s v.1.0 there in
+        subst (λ (w : DomainValue C). IsSeated stepped plan table w s) (sym v.1.1) (record { seat = i.seat; unpublished = i.unpublished });
+  }
+    where
+      floors_count : (floor : ℕ) (vs : List (DomainValue C)) → length (with_floors floor vs) ≡ length vs
+      floors_count floor [] = refl
+      floors_count floor (v ∷ vs) = ap suc (floors_count floor vs)
+
+  pub seated_first : (vs : List (DomainValue C)) (seats : List SeatValue) → AreBegun plan.graph.value plan.parts.value plan.comps.value (length plan.parts.value.events) vs
+      → AreSeats table (finishes_of stepped plan.graph.value plan.parts.value plan.comps.value) (owners_of plan.parts.value) (length plan.parts.value.events) seats → AreSeated stepped plan table vs seats
+  seated_first vs seats begun are = record {
+    count = are.count ∙ sym begun.count_is;
+    each = λ d v s at there.
+        let s_is : new_seat table (finishes_of stepped plan.graph.value plan.parts.value plan.comps.value) (owners_of plan.parts.value) d ≡ s =
+        same_Some _ s (sym (are.each d (let b = slice_get_within vs d v at in let n = begun.count_is in omega (arith, b, n))) ∙ there)
+        in
+        let number : v.domain ≡ d = ap (λ (w : DomainValue C). w.domain) (begun.each d v at) in
+        subst (IsSeated stepped plan table v) s_is
+        (record {
+          seat = record { crossings_are = refl; domain_is = sym number; finishes_are = refl; owners_are = refl };
+          unpublished = λ n x crossing source unfired. ap (λ (k : ℕ). k % 2) (zeros (owners_of plan.parts.value) n);
+        });
+  }
+
+  pub all_of_table : (vs : List (DomainValue C)) (seats : List SeatValue) → AreSeated stepped plan table vs seats → All (λ (s : SeatValue). s.crossings ≡ table) seats
+  all_of_table vs seats h n d l =
+      let v = there_at vs n (let c = h.count in omega (arith, l, c)) in
+      (h.each n v.0 (get_or seats n d) v.1 (slice_get-get_or seats n d l)).seat.crossings_are
+
+-- ---- teams
+
+module _ {C : Type 0} (stepped : C → Kind → ℕ → C × ℕ) (plan : Plan C) where
+  pub team_after : (old new : List (DomainValue C)) (team : Option (Team C)) → AllKeep stepped plan old → AllKeep stepped plan new → AllGrow old new → IfSome team (IsTeam stepped plan old) → IfSome team (IsTeam stepped plan new)
+  team_after old new None k m grow h = tt
+  team_after old new (Some t) k m grow h = record { has = h.has; seated = seated_grown stepped plan t.crossings old new t.seats.items k m grow h.seated }
+
+  pub team_higher : (floor : ℕ) (vs : List (DomainValue C)) (team : Option (Team C)) → IfSome team (IsTeam stepped plan vs) → IfSome team (IsTeam stepped plan (with_floors floor vs))
+  team_higher floor vs None h = tt
+  team_higher floor vs (Some t) h = record { has = h.has; seated = seated_higher stepped plan t.crossings floor vs t.seats.items h.seated }
+
+  pub first_team : (vs : List (DomainValue C)) (team : Option (Team C)) → AreBegun plan.graph.value plan.parts.value plan.comps.value (length plan.parts.value.events) vs → IfSome team (IsNewTeam stepped plan)
+      → IfSome team (IsTeam stepped plan vs)
+  first_team vs None begun h = tt
+  first_team vs (Some t) begun h = record { has = h.has; seated = seated_first stepped plan t.crossings vs t.seats.items begun h.seats }
+
+  pub seats_of_team : (vs : List (DomainValue C)) (team : Option (Team C)) (t : Team C) → IfSome team (IsTeam stepped plan vs) → team ≡ Some t → All (λ (s : SeatValue). s.crossings ≡ t.crossings) t.seats.items
+  seats_of_team vs None t h e = absurd (none-some t e)
+  seats_of_team vs (Some u) t h e =
+      let here : IsTeam stepped plan vs t = subst (IsTeam stepped plan vs) (same_Some u t e) h in
+      all_of_table stepped plan t.crossings vs t.seats.items here.seated

@@ -1,0 +1,19 @@
+-- The domain ran as a part of all domains.
+use Rattle.weave_run.proofs.Rounding.{keeps_here, ran_number, run_here}
+use Rattle.weave_run.proofs.rounds.run_one.Goals as goal
+
+pub run_alone-requires-clause-kept : goal.run_alone-requires-clause-kept
+run_alone-requires-clause-kept g c κs within =
+    keeps_here g.C.Component.stepped c.args.plan.now c.args.domains.now c.args.number c.from-index.result c.index-domains-index-2.result c.requires.met.kept c.requires.there c.from-index.ensures
+
+pub tell_from-requires-clause-kept : goal.tell_from-requires-clause-kept
+tell_from-requires-clause-kept g c =
+    (ran_number g.C.Component.stepped c.args.plan.now c.args.domains.now c.args.number c.from-index.result c.index-domains-index.result c.index-domains-index-2.result c.run_alone.new.domain c.fired-place.result.now
+    c.requires.met c.requires.there c.from-index.ensures c.fired-place.ensures c.run_alone.ensures).kept
+
+pub returns : goal.returns
+returns g c =
+    run_here g.C.Component.stepped c.args.plan.now c.args.domains.now _ _ c.args.number _ c.requires.met
+    (ran_number g.C.Component.stepped c.args.plan.now c.args.domains.now c.args.number c.from-index.result c.index-domains-index.result c.index-domains-index-2.result c.run_alone.new.domain c.fired-place.result.now
+    c.requires.met c.requires.there c.from-index.ensures c.fired-place.ensures c.run_alone.ensures)
+    c.tell_from.ensures

@@ -1,0 +1,9 @@
+pub mod Crews
+pub mod Dealing
+pub mod Ending
+pub mod Outgoing
+pub mod Rounds
+pub mod Seating
+pub mod Setup
+pub mod Teams
+pub mod Weaving

@@ -1,0 +1,26 @@
+-- The workers that run domains beside each other.
+use Rattle.std.specs.Prelude.{◌≡◌, ◌≤◌, ◌<◌, ℕ, List, length}
+use Rattle.component.specs.declared.kind.Kind.{Kind}
+use Rattle.crossing.specs.Seats.{AreSeats, finishes_of, owners_of}
+use Rattle.weave_core.specs.DomainCalls.{DomainValue}
+use Rattle.weave_run.specs.Crews.{AreFree}
+use Rattle.weave_run.specs.Seating.{AreSeated}
+use Rattle.weave_run.specs.declared.plan.Plan.{Plan}
+use Rattle.weave_run.specs.declared.team.Team.{Team}
+
+-- The workers are free and have room for all domains.
+pub record HasWorkers {C : Type 0} (plan : Plan C) (t : Team C) : Type 0 where
+  pub some : 0 < length t.crews.items
+  pub few : length t.crews.items ≤ 64
+  pub free : AreFree (length plan.parts.value.events) t.crews.items
+  pub places : length t.places.items ≡ length plan.parts.value.events
+
+-- before the first round
+pub record IsNewTeam {C : Type 0} (stepped : C → Kind → ℕ → C × ℕ) (plan : Plan C) (t : Team C) : Type 0 where
+  pub has : HasWorkers plan t
+  pub seats : AreSeats t.crossings (finishes_of stepped plan.graph.value plan.parts.value plan.comps.value) (owners_of plan.parts.value) (length plan.parts.value.events) t.seats.items
+
+-- between rounds
+pub record IsTeam {C : Type 0} (stepped : C → Kind → ℕ → C × ℕ) (plan : Plan C) (vs : List (DomainValue C)) (t : Team C) : Type 0 where
+  pub has : HasWorkers plan t
+  pub seated : AreSeated stepped plan t.crossings vs t.seats.items

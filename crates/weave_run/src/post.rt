@@ -1,0 +1,127 @@
+// A domain that runs beside others, which it tells what it fires, and of which it learns, by the words
+// of the crossings.
+ghost use Rattle.std.specs.Prelude.{◌≡◌, ◌<◌, length, slice_get, Some};
+ghost use Rattle.domain_map.specs.declared.crossing.Crossing.{Crossing};
+ghost use Rattle.zs_num.specs.declared.time.Key.{Key};
+ghost use Rattle.weave_core.specs.DomainCalls.{MayFire};
+ghost use Rattle.weave_run.specs.Outgoing.{AreOutgoing};
+ghost use Rattle.weave_run.specs.Rounds.{CanRun, IsFinish};
+ghost use Rattle.weave_run.specs.Seating.{CanServe, HasFiredThere, HasLooked, HasPublished, HasServed, IsSeat, MayPublish};
+
+use crate::outgoing::Outgoing;
+use crate::plan::Plan;
+use crate::run::fire;
+use component::Component;
+use crossing::{Crossings, DomainSeat};
+use event_graph::Fired;
+use weave_core::{Domain, Next, laws};
+use zs_host::Gate;
+use zs_num::Word;
+
+/// A domain with its number and its seat at the crossings.
+#[derive(Drop)]
+pub(crate) struct Post<C: Component> {
+    pub(crate) number: u16,
+    pub(crate) domain: Domain<C>,
+    pub(crate) seat: DomainSeat,
+}
+
+/// Fires while the next event may fire, and publishes each finish. Where the domain is blocked it looks
+/// at the word of the crossing that blocks it, and goes on if that says the finish. At most so many
+/// fires and looks.
+pub(crate) fn run_beside_others<C: Component, G: Gate>(
+    post: &mut Post<C>,
+    plan: &Plan<C>,
+    outgoing: &Outgoing,
+    crossings: &Crossings,
+    worker: u16,
+    gate: &G,
+    turns: usize,
+)
+    requires can { CanRun C.serves C.floor C.stepped C.greatest plan.now }
+    requires outgoing { AreOutgoing plan.now.parts.value.crossings (length plan.now.graph.value) outgoing.now }
+    requires post { CanServe C.stepped plan.now crossings.now post.old }
+    requires some { 0 < turns }
+    ensures { HasServed C.stepped plan.now crossings.now post.old post.new }
+{
+    laws::keeping::<C>();
+    for _turn in 0..turns {
+        match post.domain.next() {
+            Next::Fire { .. } => fire_and_publish(post, plan, outgoing, crossings, worker, gate),
+            Next::Blocked { crossing, .. } => {
+                if !look_again(post, plan, crossings, crossing) {
+                    return;
+                }
+            }
+            Next::Done => return,
+        }
+    }
+}
+
+/// Fires the domain's next event once the gate lets it, and publishes its finish.
+fn fire_and_publish<C: Component, G: Gate>(
+    post: &mut Post<C>,
+    plan: &Plan<C>,
+    outgoing: &Outgoing,
+    crossings: &Crossings,
+    worker: u16,
+    gate: &G,
+)
+    requires can { CanRun C.serves C.floor C.stepped C.greatest plan.now }
+    requires outgoing { AreOutgoing plan.now.parts.value.crossings (length plan.now.graph.value) outgoing.now }
+    requires post { CanServe C.stepped plan.now crossings.now post.old }
+    requires may { (key : Key) × MayFire plan.now.graph.value plan.now.parts.value post.old.domain.domain post.old.domain.own key }
+    ensures { HasFiredThere C.stepped plan.now crossings.now post.old post.new }
+{
+    laws::keeping::<C>();
+    let fired = fire(&mut post.domain, plan, post.number, worker, gate);
+    publish_all(crossings, &mut post.seat, plan, outgoing, fired);
+}
+
+/// Publishes the finish of an event by all crossings out of it.
+fn publish_all<C: Component>(
+    crossings: &Crossings,
+    seat: &mut DomainSeat,
+    plan: &Plan<C>,
+    outgoing: &Outgoing,
+    fired: Fired,
+)
+    requires can { CanRun C.serves C.floor C.stepped C.greatest plan.now }
+    requires outgoing { AreOutgoing plan.now.parts.value.crossings (length plan.now.graph.value) outgoing.now }
+    requires seat { IsSeat C.stepped plan.now crossings.now seat.old.domain seat.old }
+    requires there { fired.number < length plan.now.graph.value }
+    requires finish { IsFinish C.stepped plan.now fired.number fired.finish }
+    requires may { MayPublish plan.now seat.old fired.number }
+    ensures { HasPublished plan.now seat.old seat.new fired.number }
+{
+    laws::keeping::<C>();
+    let mut link = outgoing.last[fired.number as usize];
+    while link != 0 {
+        crossings.publish(seat, link - 1, fired.finish);
+        link = outgoing.before[(link - 1) as usize];
+    }
+}
+
+/// Looks at the word of a crossing into the domain. If it says the finish, the domain is told that.
+/// Answers whether it is.
+fn look_again<C: Component>(
+    post: &mut Post<C>,
+    plan: &Plan<C>,
+    crossings: &Crossings,
+    crossing: u32,
+) -> bool
+    requires can { CanRun C.serves C.floor C.stepped C.greatest plan.now }
+    requires post { CanServe C.stepped plan.now crossings.now post.old }
+    requires into { (x : Crossing) × (slice_get plan.now.parts.value.crossings crossing ≡ Some x) × (x.target ≡ post.old.domain.domain) }
+    ensures { HasLooked C.stepped plan.now crossings.now post.old post.new }
+{
+    laws::keeping::<C>();
+    let word = crossings.look(&mut post.seat, crossing);
+    match word {
+        Word::Exact(_) => {
+            post.domain.look(crossing, word);
+            true
+        }
+        Word::Bound(_) => false,
+    }
+}

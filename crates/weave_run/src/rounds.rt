@@ -1,0 +1,224 @@
+// The rounds of the weave.
+ghost use Rattle.std.specs.Prelude.{◌≡◌, ◌≤◌, ◌<◌, ◌^◌, IfSome, count_by, length, min, nat_lt, slice_get, Some};
+ghost use Rattle.std.specs.Option.{option_map_or};
+ghost use Rattle.weave_core.specs.DomainCalls.{DomainValue};
+ghost use Rattle.weave_core.specs.Keeping.{HaveAllFired, owns_of};
+ghost use Rattle.weave_run.specs.Outgoing.{AreOutgoing};
+ghost use Rattle.weave_run.specs.Rounds.{AllKeep, AreMet, CanRun, HasRunHere, HasRunRound, HaveFloor, IsFront, has_event, with_floors};
+ghost use Rattle.weave_run.specs.Teams.{IsTeam};
+
+use crate::beside::run_beside;
+use crate::outgoing::Outgoing;
+use crate::plan::Plan;
+use crate::run::run_alone;
+use crate::team::Team;
+use crate::tell::tell_from;
+use component::Component;
+use domain_map::Parts;
+use std::thread::Threads;
+use weave_core::{Domain, laws};
+use zs_host::Gate;
+use zs_num::Cycle;
+
+/// A round in threads is worth it where the one before fired so many events: to start threads and to join
+/// them takes as long as to fire some two hundred. The first round is in threads whatever there is to fire.
+const WORTH: usize = 256;
+
+/// Runs rounds until no event is ready, and answers how many there were. Takes no memory.
+pub(crate) fn run_rounds<R: Threads + Sync, C: Component + Send, G: Gate>(
+    rt: &R,
+    domains: &mut Vec<Domain<C>>,
+    team: &mut Option<Team<C>>,
+    plan: &Plan<C>,
+    p: &Parts,
+    outgoing: &Outgoing,
+    gate: &G,
+    workers: u16,
+    events: u32,
+) -> u32
+    requires can { CanRun C.serves C.floor C.stepped C.greatest plan.now }
+    requires parts { p.now ≡ plan.now.parts.value }
+    requires outgoing { AreOutgoing plan.now.parts.value.crossings (length plan.now.graph.value) outgoing.now }
+    requires met { AreMet C.stepped plan.now domains.old.items }
+    requires low { HaveFloor domains.old.items 0 }
+    requires events { events ≡ length plan.now.graph.value }
+    requires workers { 0 < workers }
+    requires team { IfSome team.old (IsTeam C.stepped plan.now domains.old.items) }
+    ensures all { HaveAllFired C.stepped plan.now.graph.value plan.now.parts.value plan.now.comps.value (owns_of domains.new.items) }
+    ensures kept { AllKeep C.stepped plan.now domains.new.items }
+    ensures rounds { result ≤ length plan.now.graph.value }
+    ensures team { IfSome team.new (IsTeam C.stepped plan.now domains.new.items) }
+{
+    laws::keeping::<C>();
+    // A fire for each event, a look for each of its parents, and the turn that ends the round.
+    let turns = 3 * events as usize + 1;
+    let mut floor = 0;
+    let mut fired = 0;
+    let mut is_worth = true;
+    for round in 0..events {
+        let Some(front) = front_of(domains, plan) else {
+            return round;
+        };
+        floor = front.max(floor);
+        raise_floors(domains, floor);
+        run_round(
+            rt, domains, team, plan, p, outgoing, gate, workers, turns, is_worth,
+        );
+        let before = fired;
+        fired = fired_so_far(domains);
+        is_worth = fired.saturating_sub(before) >= WORTH;
+    }
+    events
+}
+
+/// How many events the domains have fired.
+fn fired_so_far<C: Component>(domains: &[Domain<C>]) -> usize {
+    let mut count = 0usize;
+    for domain in domains {
+        count = count.saturating_add(domain.fired().len());
+    }
+    count
+}
+
+/// Runs all domains as far as they can go, and each then knows what the others fired: by the workers
+/// beside each other where that is worth it and several domains have an event ready.
+fn run_round<R: Threads + Sync, C: Component + Send, G: Gate>(
+    rt: &R,
+    domains: &mut Vec<Domain<C>>,
+    team: &mut Option<Team<C>>,
+    plan: &Plan<C>,
+    p: &Parts,
+    outgoing: &Outgoing,
+    gate: &G,
+    workers: u16,
+    turns: usize,
+    is_worth: bool,
+)
+    requires can { CanRun C.serves C.floor C.stepped C.greatest plan.now }
+    requires parts { p.now ≡ plan.now.parts.value }
+    requires outgoing { AreOutgoing plan.now.parts.value.crossings (length plan.now.graph.value) outgoing.now }
+    requires met { AreMet C.stepped plan.now domains.old.items }
+    requires some { 0 < turns }
+    requires workers { 0 < workers }
+    requires team { IfSome team.old (IsTeam C.stepped plan.now domains.old.items) }
+    ensures ran { HasRunRound C.stepped plan.now domains.old.items domains.new.items }
+    ensures team { IfSome team.new (IsTeam C.stepped plan.now domains.new.items) }
+{
+    let beside = is_worth && are_several_ready(domains);
+    if let Some(team) = team {
+        if beside {
+            run_beside(rt, domains, team, plan, p, outgoing, gate, turns);
+            return;
+        }
+    }
+    run_here(
+        domains.as_mut_slice(),
+        plan,
+        p,
+        outgoing,
+        gate,
+        workers,
+        turns,
+    );
+}
+
+/// Whether more than one domain has an event ready.
+fn are_several_ready<C: Component>(domains: &[Domain<C>]) -> bool
+    ensures { result ≡ nat_lt 1 (count_by has_event domains.now) }
+{
+    let mut ready = 0usize;
+    for index in 0..domains.len() {
+        if domains[index].earliest().is_some() {
+            ready += 1;
+        }
+    }
+    ready > 1
+}
+
+/// The least start of a ready event. None where no event is ready.
+fn front_of<C: Component>(domains: &[Domain<C>], plan: &Plan<C>) -> Option<Cycle>
+    requires can { CanRun C.serves C.floor C.stepped C.greatest plan.now }
+    requires kept { AllKeep C.stepped plan.now domains.now }
+    ensures front { IsFront plan.now domains.now result }
+    ensures small { IfSome result (λ start. start ≤ 2 ^ 62) }
+{
+    laws::keeping::<C>();
+    let mut front: Option<Cycle> = None;
+    for index in 0..domains.len() {
+        if let Some(key) = domains[index].earliest() {
+            front = Some(earlier(front, key.start));
+        }
+    }
+    front
+}
+
+/// The lesser of two cycles, where there are two.
+fn earlier(front: Option<Cycle>, start: Cycle) -> Cycle
+    ensures { result ≡ option_map_or (min start) front start }
+{
+    match front {
+        None => start,
+        Some(other) => start.min(other),
+    }
+}
+
+/// Tells all domains that no event starts before this cycle.
+fn raise_floors<C: Component>(domains: &mut Vec<Domain<C>>, floor: Cycle)
+    requires rises { (domain : _) (v : DomainValue C) → slice_get domains.old.items domain ≡ Some v → v.own.floor ≤ floor }
+    requires small { floor ≤ 2 ^ 62 }
+    ensures { domains.new.items ≡ with_floors floor domains.old.items }
+{
+    for index in 0..domains.len() {
+        domains[index].set_floor(floor);
+    }
+}
+
+/// Runs all domains in this thread, one after the other. Each then tells the others what it fired.
+fn run_here<C: Component, G: Gate>(
+    domains: &mut [Domain<C>],
+    plan: &Plan<C>,
+    p: &Parts,
+    outgoing: &Outgoing,
+    gate: &G,
+    workers: u16,
+    turns: usize,
+)
+    requires can { CanRun C.serves C.floor C.stepped C.greatest plan.now }
+    requires parts { p.now ≡ plan.now.parts.value }
+    requires outgoing { AreOutgoing plan.now.parts.value.crossings (length plan.now.graph.value) outgoing.now }
+    requires met { AreMet C.stepped plan.now domains.old }
+    requires some { 0 < turns }
+    requires workers { 0 < workers }
+    ensures { HasRunRound C.stepped plan.now domains.old domains.new }
+{
+    laws::keeping::<C>();
+    for number in 0..p.domains() {
+        let worker = number % workers;
+        run_one(domains, plan, p, outgoing, gate, number, worker, turns);
+    }
+}
+
+/// Runs a domain, and tells the others what it fired.
+fn run_one<C: Component, G: Gate>(
+    domains: &mut [Domain<C>],
+    plan: &Plan<C>,
+    p: &Parts,
+    outgoing: &Outgoing,
+    gate: &G,
+    number: u16,
+    worker: u16,
+    turns: usize,
+)
+    requires can { CanRun C.serves C.floor C.stepped C.greatest plan.now }
+    requires parts { p.now ≡ plan.now.parts.value }
+    requires outgoing { AreOutgoing plan.now.parts.value.crossings (length plan.now.graph.value) outgoing.now }
+    requires met { AreMet C.stepped plan.now domains.old }
+    requires there { number < length domains.old }
+    requires some { 0 < turns }
+    ensures { HasRunHere C.stepped plan.now domains.old domains.new number }
+{
+    let index = usize::from(number);
+    let place = domains[index].fired().len();
+    run_alone(&mut domains[index], plan, number, worker, gate, turns);
+    tell_from(domains, plan, p, outgoing, number, place);
+}

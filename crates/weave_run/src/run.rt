@@ -1,0 +1,52 @@
+// A domain that fires as far as it can.
+ghost use Rattle.std.specs.Prelude.{◌<◌};
+ghost use Rattle.zs_num.specs.declared.time.Key.{Key};
+ghost use Rattle.weave_core.specs.DomainCalls.{MayFire};
+ghost use Rattle.weave_run.specs.Rounds.{CanRun, HasFired, HasRun, Keeps};
+
+use crate::plan::Plan;
+use component::Component;
+use event_graph::Fired;
+use weave_core::{Domain, Next, laws};
+use zs_host::{Gate, Point};
+
+/// Fires the domain's next event once the gate lets it.
+pub(crate) fn fire<C: Component, G: Gate>(
+    domain: &mut Domain<C>,
+    plan: &Plan<C>,
+    number: u16,
+    worker: u16,
+    gate: &G,
+) -> Fired
+    requires can { CanRun C.serves C.floor C.stepped C.greatest plan.now }
+    requires kept { Keeps C.stepped plan.now domain.old }
+    requires may { (key : Key) × MayFire plan.now.graph.value plan.now.parts.value domain.old.domain domain.old.own key }
+    ensures { HasFired C.stepped plan.now domain.old domain.new result }
+{
+    laws::keeping::<C>();
+    gate.pass(worker, Point::Fire { domain: number });
+    domain.fire()
+}
+
+/// Fires while the next event may fire, at most so many times.
+pub(crate) fn run_alone<C: Component, G: Gate>(
+    domain: &mut Domain<C>,
+    plan: &Plan<C>,
+    number: u16,
+    worker: u16,
+    gate: &G,
+    turns: usize,
+)
+    requires can { CanRun C.serves C.floor C.stepped C.greatest plan.now }
+    requires kept { Keeps C.stepped plan.now domain.old }
+    requires some { 0 < turns }
+    ensures { HasRun C.stepped plan.now domain.old domain.new }
+{
+    laws::keeping::<C>();
+    for _turn in 0..turns {
+        let Next::Fire { .. } = domain.next() else {
+            return;
+        };
+        let _fired = fire(domain, plan, number, worker, gate);
+    }
+}

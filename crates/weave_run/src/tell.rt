@@ -1,0 +1,108 @@
+// How domains are told the finishes of the parents of their crossings.
+ghost use Rattle.std.specs.Prelude.{◌≡◌, ◌≤◌, ◌<◌, length};
+ghost use Rattle.domain_map.specs.declared.crossing.Crossing.{Crossing};
+ghost use Rattle.std.specs.Prelude.{slice_get, Some};
+ghost use Rattle.weave_run.specs.Outgoing.{AreOutgoing};
+ghost use Rattle.weave_run.specs.Rounds.{AllKeep, CanRun, HasTold, HasToldAll, HasToldRest, HasToldRests, IsFinish};
+
+use crate::outgoing::Outgoing;
+use crate::plan::Plan;
+use component::Component;
+use domain_map::Parts;
+use event_graph::Fired;
+use weave_core::{Domain, laws};
+use zs_num::{Cycle, Word};
+
+/// Tells the domain that a crossing leads into the finish of its parent.
+fn tell<C: Component>(
+    domains: &mut [Domain<C>],
+    plan: &Plan<C>,
+    p: &Parts,
+    crossing: u32,
+    finish: Cycle,
+)
+    requires can { CanRun C.serves C.floor C.stepped C.greatest plan.now }
+    requires parts { p.now ≡ plan.now.parts.value }
+    requires kept { AllKeep C.stepped plan.now domains.old }
+    requires there { crossing < length p.now.crossings }
+    requires finish { (x : Crossing) → slice_get plan.now.parts.value.crossings crossing ≡ Some x → IsFinish C.stepped plan.now x.parent finish }
+    ensures told { HasTold C.stepped plan.now domains.old domains.new crossing }
+{
+    laws::keeping::<C>();
+    let target = p.crossings()[crossing as usize].target;
+    domains[usize::from(target)].look(crossing, Word::Exact(finish));
+}
+
+/// Tells the finish of an event by all crossings out of it.
+fn tell_all<C: Component>(
+    domains: &mut [Domain<C>],
+    plan: &Plan<C>,
+    p: &Parts,
+    outgoing: &Outgoing,
+    fired: Fired,
+)
+    requires can { CanRun C.serves C.floor C.stepped C.greatest plan.now }
+    requires parts { p.now ≡ plan.now.parts.value }
+    requires outgoing { AreOutgoing plan.now.parts.value.crossings (length plan.now.graph.value) outgoing.now }
+    requires kept { AllKeep C.stepped plan.now domains.old }
+    requires there { fired.number < length plan.now.graph.value }
+    requires finish { IsFinish C.stepped plan.now fired.number fired.finish }
+    ensures { HasToldAll C.stepped plan.now domains.old domains.new fired.number }
+{
+    let mut link = outgoing.last[fired.number as usize];
+    while link != 0 {
+        tell(domains, plan, p, link - 1, fired.finish);
+        link = outgoing.before[(link - 1) as usize];
+    }
+}
+
+/// Tells the other domains the finishes of the events that a domain fired from a place on.
+pub(crate) fn tell_from<C: Component>(
+    domains: &mut [Domain<C>],
+    plan: &Plan<C>,
+    p: &Parts,
+    outgoing: &Outgoing,
+    source: u16,
+    place: usize,
+)
+    requires can { CanRun C.serves C.floor C.stepped C.greatest plan.now }
+    requires parts { p.now ≡ plan.now.parts.value }
+    requires outgoing { AreOutgoing plan.now.parts.value.crossings (length plan.now.graph.value) outgoing.now }
+    requires kept { AllKeep C.stepped plan.now domains.old }
+    requires source { source < length domains.old }
+    ensures { HasToldRest C.stepped plan.now domains.old domains.new source place }
+{
+    laws::keeping::<C>();
+    let count = domains[usize::from(source)].fired().len();
+    for next in place..count {
+        let fired = domains[usize::from(source)].fired()[next];
+        tell_all(domains, plan, p, outgoing, fired);
+    }
+}
+
+/// Tells the finishes of the events that each domain fired from its place on.
+pub(crate) fn tell_each<C: Component>(
+    domains: &mut [Domain<C>],
+    plan: &Plan<C>,
+    p: &Parts,
+    outgoing: &Outgoing,
+    places: &[usize],
+)
+    requires can { CanRun C.serves C.floor C.stepped C.greatest plan.now }
+    requires parts { p.now ≡ plan.now.parts.value }
+    requires outgoing { AreOutgoing plan.now.parts.value.crossings (length plan.now.graph.value) outgoing.now }
+    requires kept { AllKeep C.stepped plan.now domains.old }
+    requires places { length places.now ≡ length domains.old }
+    ensures { HasToldRests C.stepped plan.now domains.old domains.new places.now (length domains.old) }
+{
+    for source in 0..p.domains() {
+        tell_from(
+            domains,
+            plan,
+            p,
+            outgoing,
+            source,
+            places[usize::from(source)],
+        );
+    }
+}
