@@ -1,28 +1,32 @@
 -- The bound phase of an interval, in whatever order the cores took their turns.
 use Rattle.std.proofs.Common.{◌≡◌, ℕ, ◌^◌, ◌<◌, ◌≤◌, List, [], length, map, All, Ok, refl, sym, ◌∙◌, ap, subst, arith}
-use Rattle.std.proofs.lemmas.List.{length-map}
+use Rattle.std.specs.Prelude.{replicate}
+use Rattle.std.proofs.lemmas.List.{length-map, length-replicate}
 use Rattle.std.proofs.lemmas.List.Elements.{All-map}
 use Rattle.std.proofs.lemmas.Option.{slice_get_within}
 use Rattle.zs_num.specs.declared.entry.Entry.{Entry}
 use Rattle.elf_load.specs.MemoryImage.{MemoryImage}
 use Rattle.machine_desc.specs.declared.machine.Machine.{Machine}
 use Rattle.shard.specs.Served.{ShardState}
+use Rattle.access_log.specs.History.{core_of_entry}
 use Rattle.access_log.specs.Laws.{CoresDecideTheOrder, RecordedOrderKeepsTheStamps, RisingStampsAreDistinct, StampsRise}
 use Rattle.access_log.specs.Logs.{HaveDistinctKeys}
 use Rattle.access_log.specs.RecordedOrder.{recorded_order}
-use Rattle.bound_core.specs.History.{IsHistory, begun}
+use Rattle.bound_core.specs.History.{IsHistory, after_history, begun_over_shards}
 use Rattle.bound_core.specs.HistoryLaws.{HistoriesArePhases, PhasesAreHistories, RecordedOrderIsHistory}
 use Rattle.bound_core.specs.ReferenceMachine.{BoundState, bound_phase}
-use Rattle.bound_core.specs.ShardWorld.{ShardWorld, begun_world, restarted, serve}
-use Rattle.bound_core.specs.Timed.{NumberedCore}
+use Rattle.bound_core.specs.ShardWorld.{ShardWorld, begun_world, restarted, shards_serve}
+use Rattle.bound_core.specs.Timed.{NumberedCore, timed_of}
 use Rattle.bound_core.specs.Turn.{IsOver}
 use Rattle.bound_core.proofs.Reaching.{whole_phase}
+use Rattle.bound_phase.proofs.RecordedOrder.{all_recorded, length_recorded}
 use Rattle.replay.specs.declared.simulation.Simulation.{Simulation}
 use Rattle.replay.specs.Port.{LoggedPortState}
 use Rattle.replay.specs.ReferenceRun.{access_room, time_of}
-use Rattle.replay.specs.Simulation.{AreNumbered, HaveRun, IsBounded, bound_state, cores_of, phase_of, timed_of}
+use Rattle.replay.specs.Simulation.{AreNumbered, HaveRunThroughPort, IsBoundPhase, cores_of, phase_of}
 use Rattle.replay.proofs.Cores.{all_timed}
-use Rattle.replay.proofs.RecordedOrder.{all_recorded, length_recorded, recorded_again}
+use Rattle.replay.proofs.NextInterval.{each_many}
+use Rattle.replay.proofs.RecordedOrder.{recorded_again}
 
 -- the laws of histories, and of the recorded order
 pub record OrderLaws (time : Entry → ℕ) (image : MemoryImage) (end : ℕ) : Type 0 where
@@ -35,7 +39,7 @@ pub record OrderLaws (time : Entry → ℕ) (image : MemoryImage) (end : ℕ) : 
 
 -- the bound phase begins, with a port that is ready for its first access
 pub from_start : (cores : List NumberedCore) (was : List ShardState) (port : LoggedPortState) (count : ℕ) → port.world ≡ begun_world count (map restarted was) → port.entries ≡ [] → length cores ≡ count
-    → phase_of cores port ≡ begun (timed_of cores) (map restarted was)
+    → phase_of cores port ≡ begun_over_shards (timed_of cores) (map restarted was)
 from_start cores was port count begins none many =
     let shards = map restarted was in
     let long : length (timed_of cores) ≡ count = length-map cores (λ (c : NumberedCore). c.timed) ∙ many in
@@ -45,7 +49,7 @@ from_start cores was port count begins none many =
 -- `was` are the shards before the interval
 module _ (machine : Machine) (image : MemoryImage) (end : ℕ) (cores after : List NumberedCore) (was : List ShardState) (last : LoggedPortState) (turns : List ℕ)
     (count : length cores ≡ machine.cores) (some : 0 < length was)
-    (phase : bound_phase serve (time_of machine) image end turns (begun (timed_of cores) (map restarted was)) ≡ Ok (phase_of after last))
+    (phase : bound_phase shards_serve (time_of machine) image end turns (begun_over_shards (timed_of cores) (map restarted was)) ≡ Ok (phase_of after last))
     (law : PhasesAreHistories (time_of machine) image end) where
   abbrev shards : List ShardState
   shards = map restarted was
@@ -53,10 +57,22 @@ module _ (machine : Machine) (image : MemoryImage) (end : ℕ) (cores after : Li
   many : length (timed_of cores) ≡ machine.cores
   many = length-map cores (λ (c : NumberedCore). c.timed) ∙ count
 
+  found : IsHistory (time_of machine) image end (timed_of cores) shards last.entries
+      × (turns ≡ map (λ e. e.core) last.entries)
+      × (phase_of after last ≡ after_history (time_of machine) image end (timed_of cores) shards last.entries)
+  found =
+      law (timed_of cores) shards turns (phase_of after last) (omega (arith, some, length-map was restarted))
+      (All-map (λ (shard : ShardState). shard.last ≡ 0) restarted was (λ k d below. refl)) phase
+
   history : IsHistory (time_of machine) image end (timed_of cores) shards last.entries
-  history =
-      (law (timed_of cores) shards turns (phase_of after last) (omega (arith, some, length-map was restarted))
-      (All-map (λ (shard : ShardState). shard.last ≡ 0) restarted was (λ k d below. refl)) phase).0
+  history = found.0
+
+  -- there is a stamp for each core
+  stamps_many : length last.world.stamps ≡ machine.cores
+  stamps_many =
+      ap (λ (s : BoundState ShardWorld). length s.world.stamps) found.2
+      ∙ each_many (λ (stamp : ℕ) (e : Entry). e.stamp) core_of_entry last.entries (replicate (length (timed_of cores)) 0)
+      ∙ length-replicate (length (timed_of cores)) 0 ∙ many
 
   known : All (λ e. e.core < machine.cores) last.entries
   known = subst (λ (n : ℕ). All (λ (e : Entry). e.core < n) last.entries) many history.known
@@ -68,18 +84,16 @@ module _ (machine : Machine) (image : MemoryImage) (end : ℕ) (cores after : Li
   pub bounded : All (λ e. e.start ≤ 2 ^ 36) last.entries → length last.entries ≤ access_room machine → All (λ c. c.clock ≤ 2 ^ 57) (timed_of after)
       → length after ≡ machine.cores → AreNumbered after → All (IsOver end) (timed_of after)
       → (p q : Simulation) → p.cores.items ≡ cores → p.port.world.shards ≡ was → q.cores.items ≡ after → q.port.world ≡ last.world
-      → (entries : List Entry) → entries ≡ recorded_order last.entries → IsBounded machine image end p turns q entries
+      → (entries : List Entry) → entries ≡ recorded_order last.entries → IsBoundPhase machine image end p turns q entries
   bounded starts few clocks all_after numbered over p q cores_are shards_are after_are world_is entries sorted =
       let taken : List Entry = last.entries in
-      let to : phase_of after last ≡ bound_state q taken =
-      ap (λ (cs : List NumberedCore). let s : BoundState ShardWorld = record { cores = timed_of cs; world = last.world; entries = taken } in s) (sym after_are)
-      ∙ ap (λ (w : ShardWorld). let s : BoundState ShardWorld = record { cores = cores_of q; world = w; entries = taken } in s) (sym world_is)
-      in
       record {
-        taken = taken;
-        phase = ap (λ (cs : List NumberedCore). bound_phase serve (time_of machine) image end turns (begun (timed_of cs) (map restarted p.port.world.shards))) cores_are
-            ∙ ap (λ (ss : List ShardState). bound_phase serve (time_of machine) image end turns (begun (timed_of cores) (map restarted ss))) shards_are
-            ∙ phase ∙ ap Ok to;
+        left = phase_of after last;
+        phase = ap (λ (cs : List NumberedCore). bound_phase shards_serve (time_of machine) image end turns (begun_over_shards (timed_of cs) (map restarted p.port.world.shards))) cores_are
+            ∙ ap (λ (ss : List ShardState). bound_phase shards_serve (time_of machine) image end turns (begun_over_shards (timed_of cores) (map restarted ss))) shards_are
+            ∙ phase;
+        cores_are = ap timed_of after_are;
+        shards_are = ap (λ (w : ShardWorld). map restarted w.shards) world_is;
         in_order = sorted;
         cores = subst (All (λ (e : Entry). e.core < machine.cores)) (sym sorted) (all_recorded (λ (e : Entry). e.core < machine.cores) taken known);
         starts = subst (All (λ (e : Entry). e.start ≤ 2 ^ 36)) (sym sorted) (all_recorded (λ (e : Entry). e.start ≤ 2 ^ 36) taken starts);
@@ -88,27 +102,32 @@ module _ (machine : Machine) (image : MemoryImage) (end : ℕ) (cores after : Li
         count = ap length after_are ∙ all_after;
         numbered = subst AreNumbered (sym after_are) numbered;
         over = subst (λ (cs : List NumberedCore). All (IsOver end) (timed_of cs)) (sym after_are) over;
+        stamps = ap (λ (w : ShardWorld). length w.stamps) world_is ∙ stamps_many;
       }
 
 -- the turns in recorded order lead there too
 pub in_recorded_order : (machine : Machine) (image : MemoryImage) (end : ℕ) (p q : Simulation) (turns : List ℕ) (entries : List Entry) → 0 < length p.port.world.shards
-    → OrderLaws (time_of machine) image end → IsBounded machine image end p turns q entries → IsBounded machine image end p (map (λ e. e.core) entries) q entries
+    → OrderLaws (time_of machine) image end → IsBoundPhase machine image end p turns q entries → IsBoundPhase machine image end p (map (λ e. e.core) entries) q entries
 in_recorded_order machine image end p q turns entries some laws b =
     let cores = cores_of p in
     let shards = map restarted p.port.world.shards in
     let time = time_of machine in
     let some_shard : 0 < length shards = omega (arith, some, length-map p.port.world.shards restarted) in
-    let found = laws.histories cores shards turns (bound_state q b.taken) some_shard (All-map (λ (shard : ShardState). shard.last ≡ 0) restarted p.port.world.shards (λ k d below. refl)) b.phase in
-    let sorted = laws.recorded cores shards b.taken found.0 in
-    let phase : bound_phase serve time image end (map (λ e. e.core) (recorded_order b.taken)) (begun cores shards) ≡ Ok (bound_state q (recorded_order b.taken)) =
-    laws.phases cores shards (recorded_order b.taken) sorted.0 ∙ ap Ok (sorted.1 ∙ ap (λ (s : BoundState ShardWorld). let t : BoundState ShardWorld = record { cores = s.cores; world = s.world; entries = recorded_order b.taken } in t) (sym found.2))
+    let taken : List Entry = b.left.entries in
+    let found = laws.histories cores shards turns b.left some_shard (All-map (λ (shard : ShardState). shard.last ≡ 0) restarted p.port.world.shards (λ k d below. refl)) b.phase in
+    let sorted = laws.recorded cores shards taken found.0 in
+    let left : BoundState ShardWorld = record { cores = b.left.cores; world = b.left.world; entries = entries } in
+    let phase : bound_phase shards_serve time image end (map (λ e. e.core) (recorded_order taken)) (begun_over_shards cores shards) ≡ Ok (record b.left { entries = recorded_order taken }) =
+    laws.phases cores shards (recorded_order taken) sorted.0 ∙ ap Ok (sorted.1 ∙ ap (λ (s : BoundState ShardWorld). let t : BoundState ShardWorld = record { cores = s.cores; world = s.world; entries = recorded_order taken } in t) (sym found.2))
     in
-    let again : recorded_order (recorded_order b.taken) ≡ recorded_order b.taken =
-    recorded_again laws.rise laws.keep laws.decide (length shards) (length cores) b.taken found.0.some found.0.known found.0.stamped
+    let again : recorded_order (recorded_order taken) ≡ recorded_order taken =
+    recorded_again laws.rise laws.keep laws.decide (length shards) (length cores) taken found.0.some found.0.known found.0.stamped
     in
     record {
-      taken = entries;
-      phase = subst (λ (es : List Entry). bound_phase serve time image end (map (λ e. e.core) es) (begun cores shards) ≡ Ok (bound_state q es)) (sym b.in_order) phase;
+      left = left;
+      phase = subst (λ (es : List Entry). bound_phase shards_serve time image end (map (λ e. e.core) es) (begun_over_shards cores shards) ≡ Ok (let t : BoundState ShardWorld = record { cores = b.left.cores; world = b.left.world; entries = es } in t)) (sym b.in_order) phase;
+      cores_are = b.cores_are;
+      shards_are = b.shards_are;
       in_order = b.in_order ∙ sym again ∙ ap recorded_order (sym b.in_order);
       cores = b.cores;
       starts = b.starts;
@@ -117,11 +136,12 @@ in_recorded_order machine image end p q turns entries some laws b =
       count = b.count;
       numbered = b.numbered;
       over = b.over;
+      stamps = b.stamps;
     }
 
 -- ---- cores that ran one after the other
 
-module _ (machine : Machine) (image : MemoryImage) (end : ℕ) (cores after : List NumberedCore) (port last : LoggedPortState) (count : length cores ≡ machine.cores) (h : HaveRun machine image end machine.cores cores after port last) where
+module _ (machine : Machine) (image : MemoryImage) (end : ℕ) (cores after : List NumberedCore) (port last : LoggedPortState) (count : length cores ≡ machine.cores) (h : HaveRunThroughPort machine image end machine.cores cores after port last) where
   pub all_after : length after ≡ machine.cores
   all_after = h.count ∙ count
 
@@ -131,7 +151,7 @@ module _ (machine : Machine) (image : MemoryImage) (end : ℕ) (cores after : Li
   pub all_clocks : All (λ c. c.clock ≤ 2 ^ 57) (timed_of after)
   all_clocks = all_timed (λ c. c.clock ≤ 2 ^ 57) after (λ i c here. h.clocks i c (omega (arith, slice_get_within after i c here, all_after)) here)
 
-  pub ran_phase : (s : BoundState ShardWorld) → phase_of cores port ≡ s → bound_phase serve (time_of machine) image end (map (λ e. e.core) last.entries) s ≡ Ok (phase_of after last)
+  pub ran_phase : (s : BoundState ShardWorld) → phase_of cores port ≡ s → bound_phase shards_serve (time_of machine) image end (map (λ e. e.core) last.entries) s ≡ Ok (phase_of after last)
   ran_phase s begins =
-      ap (bound_phase serve (time_of machine) image end (map (λ (e : Entry). e.core) last.entries)) (sym begins)
-      ∙ whole_phase serve (time_of machine) image end (phase_of cores port) (phase_of after last) (map (λ (e : Entry). e.core) last.entries) h.reaches all_over
+      ap (bound_phase shards_serve (time_of machine) image end (map (λ (e : Entry). e.core) last.entries)) (sym begins)
+      ∙ whole_phase shards_serve (time_of machine) image end (phase_of cores port) (phase_of after last) (map (λ (e : Entry). e.core) last.entries) h.reaches all_over

@@ -9,11 +9,11 @@ use Rattle.std.proofs.lemmas.List.FromFn.{length-enumerate_from, length-range_wi
 use Rattle.std.proofs.lemmas.List.Folds.{list_all-map}
 use Rattle.std.proofs.lemmas.Option.{get_or_from_slice_get, slice_get-get_or, slice_get-map, slice_get_within}
 use Rattle.rv_core.specs.CoreState.{CoreState}
-use Rattle.bound_core.specs.Timed.{NumberedCore, TimedCore, delayed}
+use Rattle.bound_core.specs.Timed.{NumberedCore, TimedCore, delayed, timed_of}
 use Rattle.bound_core.specs.Turn.{IsOver}
 use Rattle.replay.specs.Limits.{cycle_limit}
 use Rattle.replay.specs.ReferenceRun.{all_delayed}
-use Rattle.replay.specs.Simulation.{AreNumbered, timed_of}
+use Rattle.replay.specs.Simulation.{AreNumbered}
 
 pub get_mapped : {A B : Type 0} (f : A → B) (xs : List A) (i : ℕ) (x : A) → slice_get xs i ≡ Some x → slice_get (map f xs) i ≡ Some (f x)
 get_mapped f xs i x here = slice_get-map f xs i ∙ ap (option_map f) here

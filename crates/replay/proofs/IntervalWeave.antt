@@ -69,3 +69,9 @@ pub is_woven : (machine : Machine) (comps : List Comp) (entries : List Entry) (g
     → (let i : Interval = record { entries = entries; events = graph; fired = fired; delays = delays } in i) ≡ woven_interval machine comps entries
 unfolding woven_interval
 is_woven machine comps entries graph fired delays are weave feedback = cc
+
+-- the events that are recorded of the interval
+pub woven_events : (machine : Machine) (comps : List Comp) (entries : List Entry) (graph : List Event) → graph ≡ all_events (pieces_of machine.l1 machine.l2 machine.controllers) entries
+    → graph ≡ (woven_interval machine comps entries).events
+unfolding woven_interval
+woven_events machine comps entries graph are = are

@@ -1,7 +1,10 @@
 pub mod BoundPhase
+pub mod ByWorkers
 pub mod Cores
+pub mod FiredInterval
 pub mod HandedOn
 pub mod IntervalWeave
+pub mod LegalSchedules
 pub mod NextInterval
 pub mod OneSchedule
 pub mod PortTurns
@@ -9,6 +12,6 @@ pub mod RecordedOrder
 pub mod RunCores
 pub mod RunEnds
 pub mod RunSoFar
-pub mod Shards
+pub mod Room
 pub mod TakingTurns
 pub mod TurnsBegin

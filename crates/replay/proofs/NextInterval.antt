@@ -1,10 +1,10 @@
 -- A run goes on interval by interval.
 use Rattle.std.proofs.Common.{◌≡◌, ◌≢◌, ◌⊎◌, ℕ, zero, suc, ◌+◌, ◌*◌, ◌^◌, ◌==◌, ◌<◌, ◌≤◌, nat_lt, get_or, false, ◌||◌, List, [], ◌∷◌, ◌++◌, length, map, Option, Some, None, Result, Ok, Err, All, refl, sym, ◌∙◌, ap, subst, inl, inr, arith}
-use Rattle.std.specs.Prelude.{IsSome, replicate, slice_get}
+use Rattle.std.specs.Prelude.{IsSome, slice_get}
 use Rattle.std.specs.List.{list_any, enumerate_from, fold, range_with_len}
 use Rattle.std.proofs.lemmas.Bool.{or_parts}
 use Rattle.std.proofs.lemmas.Bool.Decides.{nat_tests}
-use Rattle.std.proofs.lemmas.List.{length-append, length-map, length-replicate}
+use Rattle.std.proofs.lemmas.List.{length-append, length-map}
 use Rattle.std.proofs.lemmas.List.Elements.{All-map, All-push}
 use Rattle.std.proofs.lemmas.List.FromFn.{length-enumerate_from, length-map-range_with_len}
 use Rattle.std.proofs.lemmas.List.Sums.{sum_by_push}
@@ -18,11 +18,11 @@ use Rattle.component.specs.declared.comp.Comp.{Comp}
 use Rattle.component.specs.ComponentStep.{comp_step, free_of}
 use Rattle.component.specs.Components.{AreComponents, AreFresh}
 use Rattle.event_graph.specs.OneListWeave.{comps_after}
-use Rattle.stats.specs.Counts.{Counts, Interval, added, comp_total, core_total, counts_of, Fits, total_accesses, total_events}
+use Rattle.stats.specs.Counts.{Counts, Interval, added, comp_total, core_total, counts_of, CountsFit, total_accesses, total_events}
 use Rattle.stats.specs.Laws.{CountersAreSums, SumsFit, WasRun}
 use Rattle.rv_core.specs.declared.why.Why.{Why}
 use Rattle.rv_core.specs.Step.{initial_core}
-use Rattle.shard.specs.Served.{ShardState, after}
+use Rattle.shard.specs.Served.{ShardState, shard_after}
 use Rattle.bound_core.specs.History.{after_history}
 use Rattle.bound_core.specs.Intervals.{NextIntervalBegins}
 use Rattle.bound_core.specs.History as history
@@ -30,25 +30,27 @@ use Rattle.bound_core.specs.HistoryLaws.{PhasesAreHistories}
 use Rattle.bound_core.specs.MachineOfShards.{IsCoreOf, ShardsDoAsTheMachine, StandForMachine}
 use Rattle.bound_core.specs.MachineWorld.{MachineWorld, serve}
 use Rattle.bound_core.specs.ReferenceMachine.{BoundState, bound_phase}
-use Rattle.bound_core.specs.ShardPort.{base_of, size_of}
+use Rattle.bound_core.specs.ShardPort.{AreShardsOf, base_of, size_of}
 use Rattle.bound_core.specs.ShardWorld as served
 use Rattle.bound_core.specs.ShardWorld.{ShardWorld, begun_world, no_shard, restarted}
 use Rattle.bound_core.specs.Simulation.{AreRelated, EndAlike}
 use Rattle.bound_core.specs.Timed.{NumberedCore, TimedCore, first_core}
 use Rattle.bound_core.specs.Turn.{IsOver}
-use Rattle.access_log.specs.History.{bank_of_entry, core_of_entry, each_after, numbered}
+use Rattle.access_log.specs.History.{bank_of_entry, each_after, of_number}
 use Rattle.access_log.specs.RecordedOrder.{no_stamps, recorded_order}
 use Rattle.replay.specs.Limits.{access_limit, cycle_limit}
 use Rattle.replay.specs.declared.simulation.Simulation.{Simulation}
 use Rattle.replay.specs.Port.{LoggedPortState}
-use Rattle.replay.specs.ReferenceRun.{RunState, access_room, after_interval, after_weave, all_delayed, at_limit, begun, end_of, first_state, has_ended, have_halted, time_of, world_of, woven_after, woven_interval}
-use Rattle.replay.specs.Simulation.{AreNumbered, GoesOn, HasRoom, IsBounded, IsCounted, IsReady, LeadsTo, StandsFor, begun_shards, bound_state, cores_of}
+use Rattle.replay.specs.ReferenceRun.{RunState, access_room, after_interval, after_weave, all_delayed, at_limit, begun_interval, end_of, first_state, has_ended, have_halted, time_of, world_of, woven_after, woven_interval}
+use Rattle.replay.specs.Simulation.{AreNumbered, CanRunInterval, GoesOn, HasRoomForInterval, IsBoundPhase, IsCounted, LeadsTo, StandsFor, begun_shards, cores_of}
+use Rattle.bound_core.proofs.ShardPorts.{shards_restarted}
+use Rattle.bound_core.proofs.ShardsStay.{shards_after, whatever_stamps}
 use Rattle.replay.proofs.Cores.{delayed_many, delayed_over, delayed_same, each_timed}
 
 -- as many are there after their entries as before
-each_many : {X : Type 0} (step : X → Entry → X) (number_of : Entry → ℕ) (entries : List Entry) (xs : List X) → length (each_after step number_of entries xs) ≡ length xs
+pub each_many : {X : Type 0} (step : X → Entry → X) (number_of : Entry → ℕ) (entries : List Entry) (xs : List X) → length (each_after step number_of entries xs) ≡ length xs
 each_many step number_of entries xs =
-    length-map (enumerate_from 0 xs) (λ at. fold step at.1 (numbered number_of at.0 entries)) ∙ length-enumerate_from 0 xs
+    length-map (enumerate_from 0 xs) (λ at. fold step at.1 (of_number number_of at.0 entries)) ∙ length-enumerate_from 0 xs
 
 not_more : (most n : ℕ) → nat_lt most n ≡ false → n ≤ most
 not_more most n test = grind (arith, nat_tests)
@@ -129,7 +131,7 @@ module _ (machine : Machine) (end : ℕ) (s : RunState) (p : Simulation) (g : Go
   each : (P : TimedCore → Type 0) → All P s.cores → (i : ℕ) (c : NumberedCore) → slice_get p.cores.items i ≡ Some c → P c.timed
   each P all i c here = each_timed P p.cores.items (subst (All P) g.come.cores all) i c here (slice_get_within p.cores.items i c here)
 
-  pub is_ready : (i : ℕ) (c : NumberedCore) → slice_get p.cores.items i ≡ Some c → IsReady machine end (base_of (begun_shards machine p)) (size_of (begun_shards machine p)) c.timed
+  pub is_ready : (i : ℕ) (c : NumberedCore) → slice_get p.cores.items i ≡ Some c → CanRunInterval machine end (base_of (begun_shards machine p)) (size_of (begun_shards machine p)) c.timed
   is_ready i c here =
       let over = each (IsOver (length s.intervals * machine.interval)) g.come.over i c here in
       let own = each (IsCoreOf g.come.stand.memory.base (length g.come.stand.memory.bytes)) g.come.stand.cores_are i c here in
@@ -143,7 +145,7 @@ module _ (machine : Machine) (end : ℕ) (s : RunState) (p : Simulation) (g : Go
         size_is = own.size_is ∙ sym size_is;
       }
 
-  pub has_room : HasRoom machine end p
+  pub has_room : HasRoomForInterval machine end p
   has_room =
       let come = g.come in
       record {
@@ -151,7 +153,8 @@ module _ (machine : Machine) (end : ℕ) (s : RunState) (p : Simulation) (g : Go
         count = sym (length-map p.cores.items (λ (c : NumberedCore). c.timed)) ∙ ap length (sym come.cores) ∙ come.count;
         numbered = come.numbered;
         stamps = come.stamps;
-        some = omega (arith, come.stand.some, length-map p.port.world.shards restarted);
+        shards = come.placed;
+        banks = come.banks;
         free = subst (λ (comps : List Comp). All (λ c. free_of c ≤ 2 ^ 56) comps) (sym come.comps) below.free_left;
         components = subst (AreComponents machine) (sym come.comps) come.counted.components;
         cores = ap (λ (counts : Counts). length counts.core_counts) come.counters ∙ counted_cores machine.cores s.comps s.intervals;
@@ -188,13 +191,13 @@ module _ (machine : Machine) (ok : IsMachine machine) (end : ℕ) (s : RunState)
       let long : length s.comps ≡ length comps = g.come.counted.components.count ∙ sym are.count in
       ap (λ (c : Counts). added c i comps) g.come.counters ∙ law machine.cores s.comps comps s.intervals i long
 
-  pub fits_more : CountersAreSums → SumsFit → (comps : List Comp) → AreComponents machine comps → Fits (added p.counters i comps)
+  pub fits_more : CountersAreSums → SumsFit → (comps : List Comp) → AreComponents machine comps → CountsFit (added p.counters i comps)
   fits_more law fit comps are =
       let intervals : length s.intervals ≤ 2 ^ 20 = omega (arith, g.come.counted.within, ok.intervals.1) in
       let accesses : total_accesses (s.intervals ++ i ∷ []) < 2 ^ 64 = omega (arith, accesses_stay) in
       let events : total_events (s.intervals ++ i ∷ []) ≤ 2 ^ 60 = omega (arith, accesses_stay, events_stay) in
       let long : length (s.intervals ++ i ∷ []) ≤ 2 ^ 60 = omega (arith, one_longer, intervals) in
-      subst Fits (sym (summed law comps are)) (fit machine.cores comps (s.intervals ++ i ∷ []) accesses events long all_run)
+      subst CountsFit (sym (summed law comps are)) (fit machine.cores comps (s.intervals ++ i ∷ []) accesses events long all_run)
 
 -- after the weave of a bound phase, whose record is i
 abbrev pub woven_next : RunState → BoundState MachineWorld → Interval → RunState
@@ -234,10 +237,10 @@ module _ (machine : Machine) (image : MemoryImage) (end : ℕ) (s : RunState) (p
   before = map restarted p.port.world.shards
 
   abbrev shard_phase : Result (BoundState ShardWorld) ℕ
-  shard_phase = bound_phase served.serve (time_of machine) image end turns (history.begun (cores_of p) before)
+  shard_phase = bound_phase served.shards_serve (time_of machine) image end turns (history.begun_over_shards (cores_of p) before)
 
   abbrev machine_phase : Result (BoundState MachineWorld) ℕ
-  machine_phase = bound_phase serve (time_of machine) image (end_of machine s) turns (begun machine s)
+  machine_phase = bound_phase serve (time_of machine) image (end_of machine s) turns (begun_interval machine s)
 
   many : length (cores_of p) ≡ machine.cores
   many = ap length (sym g.come.cores) ∙ g.come.count
@@ -251,7 +254,7 @@ module _ (machine : Machine) (image : MemoryImage) (end : ℕ) (s : RunState) (p
   alike law =
       let from : BoundState MachineWorld = record { cores = cores_of p; world = world_of machine s; entries = [] } in
       let end_alike : EndAlike StandForMachine shard_phase (bound_phase serve (time_of machine) image end turns from) =
-      law (history.begun (cores_of p) before) from (record { cores = refl; entries = refl; worlds = stand }) turns 0
+      law (history.begun_over_shards (cores_of p) before) from (record { cores = refl; entries = refl; worlds = stand }) turns 0
       in
       let at_end : EndAlike StandForMachine shard_phase (bound_phase serve (time_of machine) image (end_of machine s) turns from) =
       subst (λ (stop : ℕ). EndAlike StandForMachine shard_phase (bound_phase serve (time_of machine) image stop turns from)) g.ends end_alike
@@ -270,14 +273,14 @@ module _ (machine : Machine) (image : MemoryImage) (end : ℕ) (s : RunState) (p
 
 -- after its bound phase, the weave and the feedback, the run is an interval further
 module _ (machine : Machine) (ok : IsMachine machine) (image : MemoryImage) (end : ℕ) (s : RunState) (p q : Simulation) (g : GoesOn machine end s p)
-    (turns : List ℕ) (entries : List Entry) (b : IsBounded machine image end p turns q entries) (laws : Laws (time_of machine) image end)
+    (turns : List ℕ) (entries : List Entry) (b : IsBoundPhase machine image end p turns q entries) (laws : Laws (time_of machine) image end)
     (i : Interval) (is : i ≡ woven_interval machine s.comps entries) (same : i.entries ≡ entries) (was_run : WasRun i) (few_events : length i.events ≤ 4 * length i.entries)
     (are : AreComponents machine (comps_after comp_step i.events s.comps)) where
   few : length i.entries ≤ access_room machine
   few = omega (arith, ap length same, b.few)
 
-  run : (t : BoundState MachineWorld) × (machine_phase machine image end s p g turns ≡ Ok t) × AreRelated StandForMachine (bound_state q b.taken) t
-  run = legal machine image end s p g turns laws.alike (bound_state q b.taken) b.phase
+  run : (t : BoundState MachineWorld) × (machine_phase machine image end s p g turns ≡ Ok t) × AreRelated StandForMachine b.left t
+  run = legal machine image end s p g turns laws.alike b.left b.phase
 
   abbrev came_to : BoundState MachineWorld
   came_to = run.0
@@ -296,7 +299,7 @@ module _ (machine : Machine) (ok : IsMachine machine) (image : MemoryImage) (end
   -- ---- its cores
 
   cores_are : came_to.cores ≡ cores_of q
-  cores_are = run.2.cores
+  cores_are = run.2.cores ∙ sym b.cores_are
 
   left_many : length came_to.cores ≡ machine.cores
   left_many = ap length cores_are ∙ length-map q.cores.items (λ (c : NumberedCore). c.timed) ∙ b.count
@@ -309,31 +312,42 @@ module _ (machine : Machine) (ok : IsMachine machine) (image : MemoryImage) (end
   abbrev was : List ShardState
   was = map restarted p.port.world.shards
 
-  world_is : (after_history (time_of machine) image end (cores_of p) was b.taken).world ≡ q.port.world
+  world_is : (after_history (time_of machine) image end (cores_of p) was b.left.entries).world ≡ b.left.world
   world_is =
-      let found = laws.histories (cores_of p) was turns (bound_state q b.taken) g.come.stand.some (All-map (λ (shard : ShardState). shard.last ≡ 0) restarted p.port.world.shards (λ k d below. refl)) b.phase in
+      let found = laws.histories (cores_of p) was turns b.left g.come.stand.some (All-map (λ (shard : ShardState). shard.last ≡ 0) restarted p.port.world.shards (λ k d below. refl)) b.phase in
       ap (λ (state : BoundState ShardWorld). state.world) (sym found.2)
 
-  stamps_many : length q.port.world.stamps ≡ machine.cores
-  stamps_many =
-      ap (λ (w : ShardWorld). length w.stamps) (sym world_is)
-      ∙ each_many (λ (stamp : ℕ) (e : Entry). e.stamp) core_of_entry b.taken (replicate (length (cores_of p)) 0)
-      ∙ length-replicate (length (cores_of p)) 0 ∙ many machine image end s p g turns
+  left_shards : length b.left.world.shards ≡ machine.l2.banks
+  left_shards =
+      ap (λ (w : ShardWorld). length w.shards) (sym world_is)
+      ∙ each_many shard_after (bank_of_entry (length was)) b.left.entries was
+      ∙ length-map p.port.world.shards restarted ∙ g.come.banks
 
   shards_many : length q.port.world.shards ≡ machine.l2.banks
   shards_many =
-      ap (λ (w : ShardWorld). length w.shards) (sym world_is)
-      ∙ each_many after (bank_of_entry (length was)) b.taken was
-      ∙ length-map p.port.world.shards restarted ∙ g.come.banks
+      sym (length-map q.port.world.shards restarted) ∙ ap length b.shards_are ∙ length-map b.left.world.shards restarted ∙ left_shards
+
+  shards_placed : AreShardsOf machine.cores q.port.world.shards machine.memory.base machine.memory.size
+  shards_placed =
+      let base = machine.memory.base in
+      let size = machine.memory.size in
+      let began : AreShardsOf machine.cores was base size = shards_restarted machine.cores base size p.port.world.shards g.come.placed in
+      let left : AreShardsOf machine.cores b.left.world.shards base size =
+      subst (λ (w : ShardWorld). AreShardsOf machine.cores w.shards base size) world_is (shards_after machine.cores base size was began b.left.entries)
+      in
+      whatever_stamps machine.cores base size q.port.world.shards
+      (subst (λ (shards : List ShardState). AreShardsOf machine.cores shards base size) (sym b.shards_are) (shards_restarted machine.cores base size b.left.world.shards left))
 
   stands_next : StandForMachine next.cores (begun_world machine.cores (map restarted q.port.world.shards)) (world_of machine next)
   stands_next =
       let later = all_delayed i.delays came_to.cores in
-      let at : StandForMachine came_to.cores q.port.world came_to.world = subst (λ (cores : List TimedCore). StandForMachine cores q.port.world came_to.world) (sym cores_are) run.2.worlds in
-      let began = laws.next came_to.cores later q.port.world came_to.world at (delayed_same i.delays came_to.cores) in
+      let left : ShardWorld = b.left.world in
+      let at : StandForMachine came_to.cores left came_to.world = subst (λ (cores : List TimedCore). StandForMachine cores left came_to.world) (sym run.2.cores) run.2.worlds in
+      let began = laws.next came_to.cores later left came_to.world at (delayed_same i.delays came_to.cores) in
       let world_with : (banks cores : ℕ) → MachineWorld = λ banks cores. record { memory = came_to.world.memory; caches = came_to.world.caches; stamps = no_stamps banks cores } in
-      subst (λ (banks : ℕ). StandForMachine later (begun_world machine.cores (map restarted q.port.world.shards)) (world_with banks machine.cores)) shards_many
-      (subst (λ (cores : ℕ). StandForMachine later (begun_world cores (map restarted q.port.world.shards)) (world_with (length q.port.world.shards) cores)) later_many began)
+      subst (λ (shards : List ShardState). StandForMachine later (begun_world machine.cores shards) (world_of machine next)) (sym b.shards_are)
+      (subst (λ (banks : ℕ). StandForMachine later (begun_world machine.cores (map restarted left.shards)) (world_with banks machine.cores)) left_shards
+      (subst (λ (cores : ℕ). StandForMachine later (begun_world cores (map restarted left.shards)) (world_with (length left.shards) cores)) later_many began))
 
   -- ---- the sums
 
@@ -370,8 +384,9 @@ module _ (machine : Machine) (ok : IsMachine machine) (image : MemoryImage) (end
           cores = ap (all_delayed i.delays) cores_are ∙ sym cores;
           count = later_many;
           numbered = numbered;
-          stamps = ap (λ (x : LoggedPortState). length x.world.stamps) port ∙ stamps_many;
+          stamps = ap (λ (x : LoggedPortState). length x.world.stamps) port ∙ b.stamps;
           banks = ap (λ (x : LoggedPortState). length x.world.shards) port ∙ shards_many;
+          placed = subst (λ (x : LoggedPortState). AreShardsOf machine.cores x.world.shards machine.memory.base machine.memory.size) (sym port) shards_placed;
           stand = subst (λ (x : LoggedPortState). StandForMachine next.cores (begun_world machine.cores (map restarted x.world.shards)) (world_of machine next)) (sym port) stands_next;
           comps = comps;
           counters = counters ∙ summed machine ok end s p g i was_run few_events few laws.sums r.comps are_next ∙ ap (λ (parts : List Comp). counts_of machine.cores parts (s.intervals ++ i ∷ [])) comps;

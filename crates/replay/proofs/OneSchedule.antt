@@ -19,11 +19,11 @@ use Rattle.event_graph.specs.Timing.{time_by}
 use Rattle.rv_core.specs.CoreState.{InProgress}
 use Rattle.bound_core.specs.MachineWorld.{MachineWorld, serve}
 use Rattle.bound_core.specs.ReferenceMachine.{BoundState, access_served, bound_from}
-use Rattle.bound_core.specs.Timed.{TimedCore, after_access, after_instruction, after_instructions, asks, goes_on_alone, first_core, left_of_instruction, next_request, ran_to}
+use Rattle.bound_core.specs.Timed.{TimedCore, core_after_access, after_instruction, after_instructions, asks, goes_on_alone, first_core, left_of_instruction, next_request, ran_to}
 use Rattle.bound_core.proofs.Accesses.{left_answered}
 use Rattle.bound_core.proofs.Instructions.{cycle_at_most, late_stops, ran_stays}
 use Rattle.access_log.specs.RecordedOrder.{recorded_order}
-use Rattle.replay.specs.ReferenceRun.{Illegal, IsRunOf, RunState, after_interval, after_intervals, after_weave, all_delayed, begun, continued, end_of, first_state, has_ended, next_place, reference_run, results_at, results_of, time_of, world_of, woven_after, woven_interval}
+use Rattle.replay.specs.ReferenceRun.{Illegal, IsRunOf, RunState, after_interval, after_intervals, after_weave, all_delayed, begun_interval, continued, end_of, first_state, has_ended, next_place, reference_run, results_at, results_of, time_of, world_of, woven_after, woven_interval}
 use Rattle.replay.specs.Results.{Results}
 use Rattle.replay.proofs.NextInterval.{goes_on}
 
@@ -44,8 +44,8 @@ later_on (suc n) image end c =
     let next = after_instruction image c in
     later_if (goes_on_alone end c) c (after_instructions n image end next) (omega (arith, (cycle_at_most image c).0, later_on n image end next))
 
-access_clock : (time : Entry → ℕ) (e : Entry) (c : TimedCore) → (after_access time e c).clock ≡ c.clock + time e
-unfolding after_access
+access_clock : (time : Entry → ℕ) (e : Entry) (c : TimedCore) → (core_after_access time e c).clock ≡ c.clock + time e
+unfolding core_after_access
 access_clock time e c = refl
 
 some_left : (instruction : Option InProgress) (request : Request) → next_request instruction ≡ Some request → 1 ≤ left_of_instruction instruction
@@ -53,8 +53,8 @@ some_left None request e = cc
 some_left (Some now) request e = omega arith
 
 access_left : (time : Entry → ℕ) (e : Entry) (c : TimedCore) (request : Request) → asks c ≡ Some request
-    → left_of_instruction (after_access time e c).core.instruction + 1 ≤ left_of_instruction c.core.instruction
-unfolding after_access
+    → left_of_instruction (core_after_access time e c).core.instruction + 1 ≤ left_of_instruction c.core.instruction
+unfolding core_after_access
 access_left time e c request asked = left_answered e.reply c.core (some_left c.core.instruction request asked)
 
 module _ (time : Entry → ℕ) (image : MemoryImage) (end : ℕ) where
@@ -104,7 +104,7 @@ module _ (time : Entry → ℕ) (image : MemoryImage) (end : ℕ) where
   one_list_by (Some request) place c w es is (zero ∷ ns) (zero ∷ ms) b d e f =
       let ran = ran_to image end c in
       let answer = serve w 0 ran.clock request in
-      let next = after_access time answer.0 ran in
+      let next = core_after_access time answer.0 ran in
       let rest : ns ≡ ms = one_list_by (asks (ran_to image end next)) (place + 1) next answer.1 (es ++ answer.0 ∷ []) refl ns ms b d
       (sym (turned place ns c w es request is) ∙ e) (sym (turned place ms c w es request is) ∙ f) in
       ap (λ (list : List ℕ). 0 ∷ list) rest
@@ -137,7 +137,7 @@ module _ (time : Entry → ℕ) (some : (e : Entry) → 1 ≤ time e) (image : M
   turn_or_end place c w es further (Some request) is =
       let ran = ran_to image end c in
       let answer = serve w 0 ran.clock request in
-      let next = after_access time answer.0 ran in
+      let next = core_after_access time answer.0 ran in
       let clock = access_clock time answer.0 ran in
       let takes = some answer.0 in
       let from : c.clock ≤ ran.clock = later_on (suc (end - c.clock)) image end c in
@@ -192,7 +192,7 @@ IsOneCore s = (c : TimedCore) × (s.cores ≡ c ∷ [])
 abbrev phase_at : Machine → MemoryImage → RunState → List ℕ → BoundState MachineWorld → Result (BoundState MachineWorld) ℕ
 phase_at machine image s turns b = bound_from serve (time_of machine) image (end_of machine s) 0 turns b
 
-begun_one : (machine : Machine) (s : RunState) (c : TimedCore) → s.cores ≡ c ∷ [] → begun machine s ≡ one_core c (world_of machine s) []
+begun_one : (machine : Machine) (s : RunState) (c : TimedCore) → s.cores ≡ c ∷ [] → begun_interval machine s ≡ one_core c (world_of machine s) []
 begun_one machine s c one = ap (λ (cores : List TimedCore). let b : BoundState MachineWorld = record { cores = cores; world = world_of machine s; entries = [] } in b) one
 
 -- a list of turns, and the run after the interval that it leads through
@@ -213,7 +213,7 @@ next_interval machine image is s one =
     let end = end_of machine s in
     let found = turns_there (time_of machine) (takes_a_cycle machine is) image end (end - one.0.clock) 0 one.0 (world_of machine s) [] (omega arith) in
     let kept = weave_keeps machine s found.core found.world found.entries in
-    let legal : phase_at machine image s found.turns (begun machine s) ≡ Ok (one_core found.core found.world found.entries) =
+    let legal : phase_at machine image s found.turns (begun_interval machine s) ≡ Ok (one_core found.core found.world found.entries) =
     ap (phase_at machine image s found.turns) (begun_one machine s one.0 one.1) ∙ found.legal
     in
     record {
@@ -296,7 +296,7 @@ keeps_one image time end place (suc n ∷ ns) c w es (Some request) is b e = abs
 keeps_one image time end place (zero ∷ ns) c w es (Some request) is b e =
     let ran = ran_to image end c in
     let answer = serve w 0 ran.clock request in
-    let next = after_access time answer.0 ran in
+    let next = core_after_access time answer.0 ran in
     keeps_one image time end (place + 1) ns next answer.1 (es ++ answer.0 ∷ []) (asks (ran_to image end next)) refl b (sym (turned time image end place ns c w es request is) ∙ e)
 
 weave_one : (machine : Machine) (s : RunState) (b : BoundState MachineWorld) (d : TimedCore) → b.cores ≡ d ∷ [] → IsOneCore (after_weave machine s b)
@@ -322,8 +322,8 @@ module _ (machine : Machine) (image : MemoryImage) where
       let stop = end_of machine s in
       let time = time_of machine in
       let begins = begun_one machine s one.0 one.1 in
-      let first = from_bound machine s (phase_at machine image s turns (begun machine s)) goes.1 goes.2 in
-      let second = from_bound machine s (phase_at machine image s turns_too (begun machine s)) leads.1 leads.2 in
+      let first = from_bound machine s (phase_at machine image s turns (begun_interval machine s)) goes.1 goes.2 in
+      let second = from_bound machine s (phase_at machine image s turns_too (begun_interval machine s)) leads.1 leads.2 in
       let from_one = ap (phase_at machine image s turns) (sym begins) ∙ first.1 in
       let from_other = ap (phase_at machine image s turns_too) (sym begins) ∙ second.1 in
       let head : turns ≡ turns_too = one_list time image stop one.0 (world_of machine s) [] turns turns_too first.0 second.0 from_one from_other in

@@ -13,8 +13,8 @@ use Rattle.bound_core.specs.Laws.{AnswersAsWorld, moved}
 use Rattle.bound_core.specs.Reaching.{Reaches}
 use Rattle.bound_core.specs.ReferenceMachine.{BoundState}
 use Rattle.bound_core.specs.ShardPort.{base_of, room_of, size_of}
-use Rattle.bound_core.specs.ShardWorld.{ShardWorld, serve}
-use Rattle.bound_core.specs.Timed.{NumberedCore, TimedCore, latest, left_of_instruction, most_accesses}
+use Rattle.bound_core.specs.ShardWorld.{ShardWorld, shards_serve}
+use Rattle.bound_core.specs.Timed.{NumberedCore, TimedCore, latest_clock, left_of_instruction, most_accesses}
 use Rattle.bound_core.specs.Turn.{IsOver, RunsToEnd, TurnsToEnd}
 use Rattle.bound_core.proofs.Accesses.{clock_within, latest_small}
 use Rattle.bound_core.proofs.Lists.{set_same}
@@ -22,7 +22,7 @@ use Rattle.bound_core.proofs.Reaching.{by_turns}
 use Rattle.replay.specs.IntervalWeave.{IsPlainOf}
 use Rattle.replay.specs.Port.{LoggedPortState, gives}
 use Rattle.replay.specs.ReferenceRun.{time_of}
-use Rattle.replay.specs.Simulation.{HasRun, IsReady}
+use Rattle.replay.specs.Simulation.{CanRunInterval, HasRunThroughPort}
 
 -- ---- the port
 
@@ -32,18 +32,18 @@ told p = Some p.entries
 abbrev pub world : LoggedPortState → ShardWorld
 world p = p.world
 
-served_core : (w : ShardWorld) (core start : ℕ) (request : Request) → (serve w core start request).0.core ≡ core
-unfolding serve
+served_core : (w : ShardWorld) (core start : ℕ) (request : Request) → (shards_serve w core start request).0.core ≡ core
+unfolding shards_serve
 served_core w core start request = refl
 
-pub served_stamps : (w : ShardWorld) (core start : ℕ) (request : Request) → length (serve w core start request).1.stamps ≡ length w.stamps
-unfolding serve
+pub served_stamps : (w : ShardWorld) (core start : ℕ) (request : Request) → length (shards_serve w core start request).1.stamps ≡ length w.stamps
+unfolding shards_serve
 served_stamps w core start request = length-set w.stamps core _
 
-pub answers : AnswersAsWorld gives world serve
+pub answers : AnswersAsWorld gives world shards_serve
 answers port port_after start request e given =
     let core : e.core ≡ port.core = ap (λ (answer : Entry × ShardWorld). answer.0.core) given ∙ served_core port.world port.core start request in
-    given ∙ ap (λ (n : ℕ). serve port.world n start request) (sym core)
+    given ∙ ap (λ (n : ℕ). shards_serve port.world n start request) (sym core)
 
 stamps_stay : (time : Entry → ℕ) (image : MemoryImage) (end : ℕ) (entries : List Entry) (p q : LoggedPortState) (before after : TimedCore)
     → TurnsToEnd time image end gives entries p q before after → length q.world.stamps ≡ length p.world.stamps
@@ -54,6 +54,33 @@ stamps_stay time image end (e ∷ entries) p q before after turns =
     stamps_stay time image end entries next q turns.1.0 after turns.1.1.1
     ∙ ap (λ (answer : Entry × ShardWorld). length answer.1.stamps) one.given
     ∙ served_stamps p.world p.core _ one.request
+
+-- ---- a port in another one
+
+-- `inner` is the port in the other one, which gives what comes of a request and tells the entries.
+module _ {Port : Type 0} (outer : Port → (start : ℕ) → Request → Entry → Port → Type 0) (inner : Port → LoggedPortState)
+    (given : (p q : Port) (start : ℕ) (request : Request) (e : Entry) → outer p start request e q → gives (inner p) start request e (inner q))
+    (time : Entry → ℕ) (image : MemoryImage) (end : ℕ) where
+  inner_turns : (entries : List Entry) (p q : Port) (before after : TimedCore) → TurnsToEnd time image end outer entries p q before after
+      → TurnsToEnd time image end gives entries (inner p) (inner q) before after
+  inner_turns [] p q before after turns = record { asked = turns.asked; left = turns.left; same = ap inner turns.same }
+  inner_turns (e ∷ entries) p q before after turns =
+      let next = turns.0 in
+      let one = turns.1.1.0 in (
+        inner next,
+        (turns.1.0, (record { request = one.request; asked = one.asked; given = given p next _ one.request e one.given; left = one.left }, inner_turns entries next q turns.1.0 after turns.1.1.1)),
+      )
+
+  pub inner_run : (number : ℕ) (p q : Port) (before after : TimedCore) → RunsToEnd time image end outer (λ x. told (inner x)) number p q before after
+      → RunsToEnd time image end gives told number (inner p) (inner q) before after
+  inner_run number p q before after run = record {
+    entries = run.entries;
+    turns = inner_turns run.entries p q before after run.turns;
+    cores = run.cores;
+    starts = run.starts;
+    few = run.few;
+    told = run.told;
+  }
 
 -- the times of the expansion are those of the machine
 pub same_times : (machine : Machine) (plain : Plain) → IsPlainOf machine plain → (let times : Entry → ℕ = λ e. time_by plain.l1 plain.l2 plain.controllers e.outcome in times) ≡ time_of machine
@@ -68,12 +95,12 @@ none_past : (end : ℕ) (c : TimedCore) → end ≤ c.clock → c.core.instructi
 unfolding most_accesses
 none_past end c late idle = let past : nat_lt c.clock end ≡ false = search rules in rw (past, idle) refl
 
-pub latest_idle : (end : ℕ) (c : TimedCore) → c.core.instruction ≡ None → latest end c ≤ max c.clock end + 2 ^ 28
+pub latest_idle : (end : ℕ) (c : TimedCore) → c.core.instruction ≡ None → latest_clock end c ≤ max c.clock end + 2 ^ 28
 latest_idle end c idle =
     let none : left_of_instruction c.core.instruction ≡ 0 = ap left_of_instruction idle in
     latest_small end c (omega (arith, none))
 
-starts_small : (end : ℕ) (c : TimedCore) (entries : List Entry) → c.core.instruction ≡ None → end ≤ 2 ^ 34 → All (λ e. e.start ≤ latest end c) entries → length entries ≤ most_accesses end c
+starts_small : (end : ℕ) (c : TimedCore) (entries : List Entry) → c.core.instruction ≡ None → end ≤ 2 ^ 34 → All (λ e. e.start ≤ latest_clock end c) entries → length entries ≤ most_accesses end c
     → All (λ e. e.start ≤ 2 ^ 36) entries
 starts_small end c entries idle small starts few = λ k d below.
     elim (cases_lt c.clock end) [
@@ -83,7 +110,7 @@ starts_small end c entries idle small starts few = λ k d below.
 
 -- ---- a core in an interval
 
-module _ (machine : Machine) (image : MemoryImage) (end : ℕ) (core : NumberedCore) (port : LoggedPortState) (ready : IsReady machine end (base_of port.world) (size_of port.world) core.timed) where
+module _ (machine : Machine) (image : MemoryImage) (end : ℕ) (core : NumberedCore) (port : LoggedPortState) (ready : CanRunInterval machine end (base_of port.world) (size_of port.world) core.timed) where
   -- one that has halted does nothing
   module _ (s t : BoundState ShardWorld) (here : slice_get t.cores core.number ≡ Some core.timed) (same : t.world ≡ port.world) where
     not_moved : t ≡ moved t core.number core.timed port.world []
@@ -92,13 +119,13 @@ module _ (machine : Machine) (image : MemoryImage) (end : ℕ) (core : NumberedC
         ∙ ap (λ (w : ShardWorld). let u : BoundState ShardWorld = record { cores = slice_set t.cores core.number core.timed; world = w; entries = t.entries } in u) same
         ∙ ap (λ (entries : List Entry). let u : BoundState ShardWorld = record { cores = slice_set t.cores core.number core.timed; world = port.world; entries = entries } in u) (sym (append-nil t.entries))
 
-    still : (numbers : List ℕ) → Reaches serve (time_of machine) image end s numbers t
-        → Reaches serve (time_of machine) image end s (numbers ++ []) (moved t core.number core.timed port.world [])
+    still : (numbers : List ℕ) → Reaches shards_serve (time_of machine) image end s numbers t
+        → Reaches shards_serve (time_of machine) image end s (numbers ++ []) (moved t core.number core.timed port.world [])
     still numbers reaches =
-        subst (λ (u : BoundState ShardWorld). Reaches serve (time_of machine) image end s (numbers ++ []) u) not_moved
-        (subst (λ (ns : List ℕ). Reaches serve (time_of machine) image end s ns t) (sym (append-nil numbers)) reaches)
+        subst (λ (u : BoundState ShardWorld). Reaches shards_serve (time_of machine) image end s (numbers ++ []) u) not_moved
+        (subst (λ (ns : List ℕ). Reaches shards_serve (time_of machine) image end s ns t) (sym (append-nil numbers)) reaches)
 
-  pub halted_stays : IsSome core.timed.core.halted → HasRun machine image end core core port port
+  pub halted_stays : IsSome core.timed.core.halted → HasRunThroughPort machine image end core core port port
   halted_stays halted = record {
     entries = [];
     gained = sym (append-nil port.entries);
@@ -116,11 +143,11 @@ module _ (machine : Machine) (image : MemoryImage) (end : ℕ) (core : NumberedC
 
   pub ran_to_end : end ≤ 2 ^ 34 → core.timed.core.halted ≡ None → (chosen last : LoggedPortState) (after : NumberedCore) → chosen.world ≡ port.world → chosen.entries ≡ port.entries → chosen.room ≡ port.room
       → RunsToEnd (time_of machine) image end gives told core.number chosen last core.timed after.timed
-      → IsOver end after.timed → latest end after.timed ≤ latest end core.timed → after.number ≡ core.number
+      → IsOver end after.timed → latest_clock end after.timed ≤ latest_clock end core.timed → after.number ≡ core.number
       → most_accesses end core.timed ≤ end - core.timed.clock + 256
       → base_of last.world ≡ base_of chosen.world → size_of last.world ≡ size_of chosen.world
       → min (room_of chosen.world) chosen.room ≤ min (room_of last.world) last.room + most_accesses end core.timed
-      → HasRun machine image end core after port last
+      → HasRunThroughPort machine image end core after port last
   ran_to_end small running chosen last after same_world same_entries same_room ran over not_later number most base size room =
       let left : end - core.timed.clock ≤ machine.interval = ready.left running in
       let gained : last.entries ≡ chosen.entries ++ ran.entries = cc in
@@ -131,7 +158,7 @@ module _ (machine : Machine) (image : MemoryImage) (end : ℕ) (core : NumberedC
         entries = ran.entries;
         gained = gained ∙ ap (λ (entries : List Entry). entries ++ ran.entries) same_entries;
         leads = λ s t numbers reaches here same.
-            by_turns gives world serve (time_of machine) image end s t numbers chosen last core.timed after.timed reaches answers core.number ran.entries here (same ∙ sym same_world) ran.cores ran.turns;
+            by_turns gives world shards_serve (time_of machine) image end s t numbers chosen last core.timed after.timed reaches answers core.number ran.entries here (same ∙ sym same_world) ran.cores ran.turns;
         starts = starts_small end core.timed ran.entries ready.idle small ran.starts ran.few;
         few = omega (arith, ran.few, most, left);
         over = over;

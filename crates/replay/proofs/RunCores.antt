@@ -13,14 +13,14 @@ use Rattle.bound_core.specs.Laws.{moved}
 use Rattle.bound_core.specs.Reaching.{Reaches}
 use Rattle.bound_core.specs.ReferenceMachine.{BoundState}
 use Rattle.bound_core.specs.ShardPort.{base_of, size_of}
-use Rattle.bound_core.specs.ShardWorld.{ShardWorld, serve}
-use Rattle.bound_core.specs.Timed.{NumberedCore, TimedCore}
+use Rattle.bound_core.specs.ShardWorld.{ShardWorld, shards_serve}
+use Rattle.bound_core.specs.Timed.{NumberedCore, TimedCore, timed_of}
 use Rattle.bound_core.specs.Turn.{IsOver}
 use Rattle.bound_core.proofs.Lists.{get_set}
 use Rattle.bound_core.proofs.Reaching.{at_itself}
 use Rattle.replay.specs.Port.{LoggedPortState}
 use Rattle.replay.specs.ReferenceRun.{time_of}
-use Rattle.replay.specs.Simulation.{AreNumbered, HasRun, HaveRun, IsReady, core_room, phase_of, timed_of}
+use Rattle.replay.specs.Simulation.{AreNumbered, CanRunInterval, HasRunThroughPort, HaveRunThroughPort, core_room, phase_of}
 
 -- ---- lists
 
@@ -50,10 +50,10 @@ more_room ran room = omega arith
 -- ---- no core yet
 
 pub none_ran : (machine : Machine) (image : MemoryImage) (end : ℕ) (cores : List NumberedCore) (port : LoggedPortState) → AreNumbered cores → port.entries ≡ []
-    → HaveRun machine image end 0 cores cores port port
+    → HaveRunThroughPort machine image end 0 cores cores port port
 none_ran machine image end cores port numbered none = record {
-  reaches = subst (λ (entries : List Entry). Reaches serve (time_of machine) image end (phase_of cores port) (map (λ (e : Entry). e.core) entries) (phase_of cores port)) (sym none)
-      (at_itself serve (time_of machine) image end (phase_of cores port));
+  reaches = subst (λ (entries : List Entry). Reaches shards_serve (time_of machine) image end (phase_of cores port) (map (λ (e : Entry). e.core) entries) (phase_of cores port)) (sym none)
+      (at_itself shards_serve (time_of machine) image end (phase_of cores port));
   starts = subst (All (λ (e : Entry). e.start ≤ 2 ^ 36)) (sym none) (λ k d below. absurd (omega (arith, below)));
   few = omega (arith, ap length none);
   count = refl;
@@ -69,8 +69,8 @@ none_ran machine image end cores port numbered none = record {
 
 -- ---- a core more
 
-module _ (machine : Machine) (image : MemoryImage) (end ran : ℕ) (cores now : List NumberedCore) (port port_now port_after : LoggedPortState) (h : HaveRun machine image end ran cores now port port_now)
-    (core core_after : NumberedCore) (here : slice_get now ran ≡ Some core) (r : HasRun machine image end core core_after port_now port_after) where
+module _ (machine : Machine) (image : MemoryImage) (end ran : ℕ) (cores now : List NumberedCore) (port port_now port_after : LoggedPortState) (h : HaveRunThroughPort machine image end ran cores now port port_now)
+    (core core_after : NumberedCore) (here : slice_get now ran ≡ Some core) (r : HasRunThroughPort machine image end core core_after port_now port_after) where
   abbrev after : List NumberedCore
   after = slice_set now ran core_after
 
@@ -92,13 +92,13 @@ module _ (machine : Machine) (image : MemoryImage) (end ran : ℕ) (cores now : 
   core_there : slice_get (timed_of now) core.number ≡ Some core.timed
   core_there = ap (slice_get (timed_of now)) own_number ∙ get_mapped (λ (c : NumberedCore). c.timed) now ran core here
 
-  reached : Reaches serve (time_of machine) image end (phase_of cores port) (map (λ e. e.core) port_after.entries) (phase_of after port_after)
+  reached : Reaches shards_serve (time_of machine) image end (phase_of cores port) (map (λ e. e.core) port_after.entries) (phase_of after port_after)
   reached =
       let led = r.leads (phase_of cores port) (phase_of now port_now) (map (λ (e : Entry). e.core) port_now.entries) h.reaches core_there refl in
-      let to = subst (λ (s : BoundState ShardWorld). Reaches serve (time_of machine) image end (phase_of cores port) (map (λ (e : Entry). e.core) port_now.entries ++ map (λ (e : Entry). e.core) r.entries) s) moved_is led in
-      subst (λ (ns : List ℕ). Reaches serve (time_of machine) image end (phase_of cores port) ns (phase_of after port_after)) (sym turns_are) to
+      let to = subst (λ (s : BoundState ShardWorld). Reaches shards_serve (time_of machine) image end (phase_of cores port) (map (λ (e : Entry). e.core) port_now.entries ++ map (λ (e : Entry). e.core) r.entries) s) moved_is led in
+      subst (λ (ns : List ℕ). Reaches shards_serve (time_of machine) image end (phase_of cores port) ns (phase_of after port_after)) (sym turns_are) to
 
-  pub one_more : HaveRun machine image end (ran + 1) cores after port port_after
+  pub one_more : HaveRunThroughPort machine image end (ran + 1) cores after port port_after
   one_more = record {
     reaches = reached;
     starts = subst (All (λ (e : Entry). e.start ≤ 2 ^ 36)) (sym all_entries) (All-append (λ (e : Entry). e.start ≤ 2 ^ 36) port_now.entries r.entries h.starts r.starts);
@@ -116,7 +116,7 @@ module _ (machine : Machine) (image : MemoryImage) (end ran : ℕ) (cores now : 
 
 -- a core is as ready as it was: other cores' accesses change neither the place nor the size of memory
 pub at_start : (machine : Machine) (end : ℕ) (core : NumberedCore) (port port_now : LoggedPortState) → base_of port_now.world ≡ base_of port.world → size_of port_now.world ≡ size_of port.world
-    → IsReady machine end (base_of port.world) (size_of port.world) core.timed → IsReady machine end (base_of port_now.world) (size_of port_now.world) core.timed
+    → CanRunInterval machine end (base_of port.world) (size_of port.world) core.timed → CanRunInterval machine end (base_of port_now.world) (size_of port_now.world) core.timed
 at_start machine end core port port_now base size ready = record {
   idle = ready.idle;
   clock = ready.clock;

@@ -1,5 +1,5 @@
 -- What a run gives where it ends.
-use Rattle.std.proofs.Common.{◌≡◌, ◌∙◌, ℕ, length, Bool, ap, not, refl, sym}
+use Rattle.std.proofs.Common.{◌≡◌, ◌∙◌, ℕ, length, Bool, ap, not, refl, sym, arith}
 use Rattle.machine_desc.specs.declared.machine.Machine.{Machine}
 use Rattle.stats.specs.Counts.{Counts}
 use Rattle.replay.specs.declared.simulation.Simulation.{Simulation}
@@ -7,6 +7,7 @@ use Rattle.replay.specs.Simulation.{StandsFor, cores_of}
 use Rattle.replay.specs.ReferenceRun.{RunState, have_halted, results_of}
 use Rattle.replay.specs.Results.{HasCounts, Results}
 use Rattle.replay.proofs.NextInterval.{counts_come}
+use Rattle.replay.proofs.RunSoFar.{accesses_are}
 
 module _ (machine : Machine) (s : RunState) (p : Simulation) (come : StandsFor machine s p) where
   pub results_are : (halted : Bool) → halted ≡ have_halted (cores_of p) → (k : ℕ) → length s.intervals ≡ k
@@ -23,4 +24,5 @@ module _ (machine : Machine) (s : RunState) (p : Simulation) (come : StandsFor m
         cores = ap length cores ∙ ap length (sym come.cores) ∙ come.count;
         core_counts = ap (λ (c : Counts). length c.core_counts) counts ∙ there.0;
         comp_counts = ap (λ (c : Counts). length c.comp_counts) counts ∙ there.1;
+        accesses = omega (arith, ap (λ (c : Counts). c.accesses) counts, accesses_are machine s p come, come.counted.accesses);
       }

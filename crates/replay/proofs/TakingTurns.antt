@@ -13,15 +13,15 @@ use Rattle.bound_core.specs.Laws.{moved, with_core}
 use Rattle.bound_core.specs.Reaching.{Reaches}
 use Rattle.bound_core.specs.ReferenceMachine.{BoundState, are_done, bound_from, bound_phase}
 use Rattle.bound_core.specs.ShardPort.{base_of, room_of, size_of}
-use Rattle.bound_core.specs.ShardWorld.{ShardWorld, serve}
-use Rattle.bound_core.specs.Timed.{NumberedCore, TimedCore, asks, goes_on_alone, latest, most_accesses, next_request, ran_to}
+use Rattle.bound_core.specs.ShardWorld.{ShardWorld, shards_serve}
+use Rattle.bound_core.specs.Timed.{NumberedCore, TimedCore, asks, goes_on_alone, latest_clock, most_accesses, next_request, ran_to, timed_of}
 use Rattle.bound_core.specs.Turn.{IsOver}
 use Rattle.bound_core.proofs.Accesses.{clock_within}
 use Rattle.bound_core.proofs.Instructions.{late_stops, ran_stays}
 use Rattle.bound_core.proofs.Lists.{get_set}
 use Rattle.bound_core.proofs.Reaching.{by_itself, by_turn}
 use Rattle.replay.specs.Port.{LoggedPortState, gives}
-use Rattle.replay.specs.Simulation.{AreNumbered, phase_of, timed_of}
+use Rattle.replay.specs.Simulation.{AreNumbered, phase_of}
 use Rattle.replay.specs.Turns.{HaveTaken, IsOnItsWay, TakesAccess, TakesNone}
 use Rattle.replay.proofs.Cores.{get_mapped}
 use Rattle.replay.proofs.PortTurns.{answers, served_stamps, world}
@@ -80,7 +80,7 @@ module _ (time : Entry → ℕ) (image : MemoryImage) (end most : ℕ) (first : 
   -- ---- it took an access
 
   module _ (e : Entry) (t : TakesAccess time image end chosen port_after core after e) where
-    near : (most_accesses end core.timed ≤ own_left) × (latest end core.timed ≤ end + 2 ^ 28)
+    near : (most_accesses end core.timed ≤ own_left) × (latest_clock end core.timed ≤ end + 2 ^ 28)
     near = elim way.few [ inl over ↦ absurd (not_both (asks (ran_to image end core.timed)) t.turn.request (over_asks image end core.timed over) t.turn.asked) | inr few ↦ few ]
 
     gained : port_after.entries ≡ port.entries ++ e ∷ []
@@ -119,12 +119,12 @@ module _ (time : Entry → ℕ) (image : MemoryImage) (end most : ℕ) (first : 
         ∙ ap (λ (cs : List TimedCore). let s : BoundState ShardWorld = record { cores = cs; world = port_after.world; entries = port.entries ++ e ∷ [] } in s) (sym (map-set (λ (c : NumberedCore). c.timed) cores number after))
         ∙ ap (λ (es : List Entry). let s : BoundState ShardWorld = record { cores = timed_of cores_after; world = port_after.world; entries = es } in s) (sym gained)
 
-    reached : Reaches serve time image end first (turns ++ number ∷ []) (phase_of cores_after port_after)
+    reached : Reaches shards_serve time image end first (turns ++ number ∷ []) (phase_of cores_after port_after)
     reached =
         let there : slice_get (timed_of cores) e.core ≡ Some core.timed = ap (slice_get (timed_of cores)) (t.own ∙ own_number) ∙ timed_here in
-        let led = by_turn gives world serve time image end first (phase_of cores port) turns chosen port_after core.timed after.timed h.reaches answers e there (sym world_is) t.turn in
-        let to = subst (λ (s : BoundState ShardWorld). Reaches serve time image end first (turns ++ e.core ∷ []) s) moved_is led in
-        subst (λ (n : ℕ). Reaches serve time image end first (turns ++ n ∷ []) (phase_of cores_after port_after)) (t.own ∙ own_number) to
+        let led = by_turn gives world shards_serve time image end first (phase_of cores port) turns chosen port_after core.timed after.timed h.reaches answers e there (sym world_is) t.turn in
+        let to = subst (λ (s : BoundState ShardWorld). Reaches shards_serve time image end first (turns ++ e.core ∷ []) s) moved_is led in
+        subst (λ (n : ℕ). Reaches shards_serve time image end first (turns ++ n ∷ []) (phase_of cores_after port_after)) (t.own ∙ own_number) to
 
     stamps_stay : length port_after.world.stamps ≡ length port.world.stamps
     stamps_stay =
@@ -159,7 +159,7 @@ module _ (time : Entry → ℕ) (image : MemoryImage) (end most : ℕ) (first : 
       let room_same : port_after.room ≡ port.room = ap (λ (p : LoggedPortState). p.room) t.ends.same ∙ room_is in
       let base = ap base_of world_same in
       let size = ap size_of world_same in
-      let led = by_itself serve time image end first (phase_of cores port) turns number core.timed after.timed h.reaches timed_here t.ends.left in
+      let led = by_itself shards_serve time image end first (phase_of cores port) turns number core.timed after.timed h.reaches timed_here t.ends.left in
       let to : with_core (phase_of cores port) number after.timed ≡ phase_of cores_after port_after =
       ap (λ (cs : List TimedCore). let s : BoundState ShardWorld = record { cores = cs; world = port.world; entries = port.entries } in s) (sym (map-set (λ (c : NumberedCore). c.timed) cores number after))
       ∙ ap (λ (w : ShardWorld). let s : BoundState ShardWorld = record { cores = timed_of cores_after; world = w; entries = port.entries } in s) (sym world_same)
@@ -177,7 +177,7 @@ module _ (time : Entry → ℕ) (image : MemoryImage) (end most : ℕ) (first : 
       ap (λ (w : ShardWorld). min (room_of w) port_after.room) world_same ∙ ap (min (room_of port.world)) room_same
       in
       record {
-        reaches = subst (λ (s : BoundState ShardWorld). Reaches serve time image end first turns s) to led;
+        reaches = subst (λ (s : BoundState ShardWorld). Reaches shards_serve time image end first turns s) to led;
         left = h.left;
         count = h.count ∙ sym (length-set cores number after);
         each = λ i n c left there.
@@ -207,32 +207,32 @@ module _ (time : Entry → ℕ) (image : MemoryImage) (end most : ℕ) (first : 
   there : slice_get (timed_of cores) number ≡ Some core.timed
   there = get_mapped (λ (c : NumberedCore). c.timed) cores number core here
 
-  refused : (place : ℕ) (rest : List ℕ) → asks (ran_to image end core.timed) ≡ None → bound_from serve time image end place (number ∷ rest) (phase_of cores port) ≡ Err place
+  refused : (place : ℕ) (rest : List ℕ) → asks (ran_to image end core.timed) ≡ None → bound_from shards_serve time image end place (number ∷ rest) (phase_of cores port) ≡ Err place
   refused place rest none = rw (there, none) refl
 
   -- the core at this place has no access
   pub no_access : (turns : List ℕ) (place : ℕ) → place < length turns → get_or turns place 0 ≡ number → HaveTaken time image end most first (take place turns) cores port
-      → is_some (asks (ran_to image end core.timed)) ≡ false → bound_phase serve time image end turns first ≡ Err place
+      → is_some (asks (ran_to image end core.timed)) ≡ false → bound_phase shards_serve time image end turns first ≡ Err place
   no_access turns place below is h asked =
       let all : take place turns ++ number ∷ drop (place + 1) turns ≡ turns =
       ap (λ (n : ℕ). take place turns ++ n ∷ drop (place + 1) turns) (sym is) ∙ ap (λ (rest : List ℕ). take place turns ++ rest) (sym (drop_more turns place 0 below)) ∙ take-append-drop place turns
       in
       let at : 0 + length (take place turns) ≡ place = omega (arith, length-take-le place turns (omega (arith, below))) in
-      ap (λ (ns : List ℕ). bound_from serve time image end 0 ns first) (sym all)
+      ap (λ (ns : List ℕ). bound_from shards_serve time image end 0 ns first) (sym all)
       ∙ h.reaches 0 (number ∷ drop (place + 1) turns)
-      ∙ ap (λ (n : ℕ). bound_from serve time image end n (number ∷ drop (place + 1) turns) (phase_of cores port)) at
+      ∙ ap (λ (n : ℕ). bound_from shards_serve time image end n (number ∷ drop (place + 1) turns) (phase_of cores port)) at
       ∙ refused place (drop (place + 1) turns) (none_none (asks (ran_to image end core.timed)) asked)
 
   -- after the last place the core still has one
-  pub still_asks : (turns : List ℕ) → HaveTaken time image end most first turns cores port → is_some (asks (ran_to image end core.timed)) ≡ true → bound_phase serve time image end turns first ≡ Err (length turns)
+  pub still_asks : (turns : List ℕ) → HaveTaken time image end most first turns cores port → is_some (asks (ran_to image end core.timed)) ≡ true → bound_phase shards_serve time image end turns first ≡ Err (length turns)
   still_asks turns h asked =
       let undone : are_done image end (phase_of cores port) ≡ false =
       let test : TimedCore → Bool = λ c. is_none (asks (ran_to image end c)) in
       list_all_at test (timed_of cores) number core.timed (slice_get_within (timed_of cores) number core.timed there)
       (ap test (get_or_from_slice_get (timed_of cores) number core.timed core.timed there) ∙ some_some (asks (ran_to image end core.timed)) asked)
       in
-      let stops : bound_from serve time image end (0 + length turns) [] (phase_of cores port) ≡ Err (0 + length turns) = rw undone refl in
+      let stops : bound_from shards_serve time image end (0 + length turns) [] (phase_of cores port) ≡ Err (0 + length turns) = rw undone refl in
       let none : 0 + length turns ≡ length turns = omega arith in
-      ap (λ (ns : List ℕ). bound_from serve time image end 0 ns first) (sym (append-nil turns))
+      ap (λ (ns : List ℕ). bound_from shards_serve time image end 0 ns first) (sym (append-nil turns))
       ∙ h.reaches 0 []
       ∙ stops ∙ ap Err none

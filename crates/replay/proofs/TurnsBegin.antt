@@ -11,13 +11,13 @@ use Rattle.elf_load.specs.MemoryImage.{MemoryImage}
 use Rattle.machine_desc.specs.declared.machine.Machine.{Machine}
 use Rattle.machine_desc.specs.Machine.{IsMachine}
 use Rattle.bound_core.specs.ShardPort.{base_of, room_of, size_of}
-use Rattle.bound_core.specs.ShardWorld.{serve}
-use Rattle.bound_core.specs.Timed.{NumberedCore, TimedCore, latest, most_accesses}
+use Rattle.bound_core.specs.ShardWorld.{shards_serve}
+use Rattle.bound_core.specs.Timed.{NumberedCore, TimedCore, latest_clock, most_accesses}
 use Rattle.bound_core.specs.Turn.{IsOver}
 use Rattle.bound_core.proofs.Reaching.{at_itself}
 use Rattle.replay.specs.Port.{LoggedPortState}
 use Rattle.replay.specs.ReferenceRun.{access_room}
-use Rattle.replay.specs.Simulation.{AreNumbered, IsReady, phase_of}
+use Rattle.replay.specs.Simulation.{AreNumbered, CanRunInterval, phase_of}
 use Rattle.replay.specs.Turns.{HaveTaken, IsOnItsWay}
 use Rattle.replay.proofs.PortTurns.{latest_idle}
 
@@ -33,8 +33,8 @@ core_most machine = machine.interval + 256
 abbrev pub all_most : Machine → ℕ
 all_most machine = machine.cores * core_most machine
 
-few_by : (machine : Machine) (end base size : ℕ) (c : TimedCore) → IsReady machine end base size c → (halted : Option Why) → c.core.halted ≡ halted
-    → IsOver end c ⊎ ((most_accesses end c ≤ core_most machine) × (latest end c ≤ end + 2 ^ 28))
+few_by : (machine : Machine) (end base size : ℕ) (c : TimedCore) → CanRunInterval machine end base size c → (halted : Option Why) → c.core.halted ≡ halted
+    → IsOver end c ⊎ ((most_accesses end c ≤ core_most machine) × (latest_clock end c ≤ end + 2 ^ 28))
 few_by machine end base size c ready (Some why) is = inl (record { idle = ready.idle; over = inl (ap is_some is) })
 few_by machine end base size c ready None is =
     elim (cases_lt c.clock end) [
@@ -42,7 +42,7 @@ few_by machine end base size c ready None is =
       | inr late ↦ inl (record { idle = ready.idle; over = inr late })
     ]
 
-ready_goes : (machine : Machine) (end base size : ℕ) (c : NumberedCore) → end ≤ 2 ^ 34 → IsReady machine end base size c.timed → machine.interval + 258 ≤ c.spare → IsOnItsWay end base size (core_most machine) c
+ready_goes : (machine : Machine) (end base size : ℕ) (c : NumberedCore) → end ≤ 2 ^ 34 → CanRunInterval machine end base size c.timed → machine.interval + 258 ≤ c.spare → IsOnItsWay end base size (core_most machine) c
 ready_goes machine end base size c small ready spare = record {
   few = few_by machine end base size c.timed ready c.timed.core.halted refl;
   clock = omega (arith, latest_idle end c.timed ready.idle, ready.clock, small);
@@ -52,7 +52,7 @@ ready_goes machine end base size c small ready spare = record {
 }
 
 pub turns_begin : (time : Entry → ℕ) (machine : Machine) (image : MemoryImage) (end : ℕ) (cores : List NumberedCore) (port : LoggedPortState) → IsMachine machine → end ≤ 2 ^ 34
-    → ((i : ℕ) (c : NumberedCore) → slice_get cores i ≡ Some c → IsReady machine end (base_of port.world) (size_of port.world) c.timed)
+    → ((i : ℕ) (c : NumberedCore) → slice_get cores i ≡ Some c → CanRunInterval machine end (base_of port.world) (size_of port.world) c.timed)
     → ((i : ℕ) (c : NumberedCore) → slice_get cores i ≡ Some c → machine.interval + 258 ≤ c.spare)
     → length cores ≡ machine.cores → AreNumbered cores → length port.world.stamps ≡ machine.cores → port.entries ≡ [] → access_room machine ≤ min (room_of port.world) port.room
     → HaveTaken time image end (all_most machine) (phase_of cores port) [] cores port
@@ -61,7 +61,7 @@ turns_begin time machine image end cores port is small ready spare count numbere
     let many : length cores * core_most machine ≡ all_most machine = ap (λ (n : ℕ). n * core_most machine) count in
     let sum = sum_by-replicate (λ (n : ℕ). n) (length cores) (core_most machine) in
     record {
-      reaches = at_itself serve time image end (phase_of cores port);
+      reaches = at_itself shards_serve time image end (phase_of cores port);
       left = left;
       count = length-replicate (length cores) (core_most machine);
       each = λ i n c there here.

@@ -1,17 +1,19 @@
 -- What the weave of an interval gives.
-use Rattle.std.specs.Prelude.{◌≡◌, ◌*◌, ◌<◌, ◌≤◌, ◌^◌, List, length}
+use Rattle.std.specs.Prelude.{◌≡◌, ◌*◌, ◌<◌, ◌≤◌, ◌^◌, List, length, map}
 use Rattle.std.specs.List.{All}
 use Rattle.zs_num.specs.declared.entry.Entry.{Entry}
 use Rattle.machine_desc.specs.declared.machine.Machine.{Machine}
 use Rattle.machine_desc.specs.Components.{component_count}
 use Rattle.component.specs.declared.comp.Comp.{Comp}
 use Rattle.component.specs.ComponentStep.{comp_greatest, comp_latency, comp_serves, comp_step}
+use Rattle.component.specs.Components.{AreComponents}
 use Rattle.event_graph.specs.declared.event.Event.{Event}
+use Rattle.event_graph.specs.declared.fired.Fired.{Fired}
 use Rattle.event_graph.specs.declared.plain.Plain.{Plain}
 use Rattle.event_graph.specs.EventGraph.{all_events}
 use Rattle.event_graph.specs.Fits.{GraphFits}
 use Rattle.event_graph.specs.Numbered.{IsNumbered}
-use Rattle.event_graph.specs.OneListWeave.{AreSmallSteps}
+use Rattle.event_graph.specs.OneListWeave.{AreSmallSteps, comps_after, fired_of, woven}
 use Rattle.event_graph.specs.Timing.{pieces_of}
 use Rattle.event_graph.specs.Timely.{AreTimely}
 use Rattle.stats.specs.Counts.{Interval}
@@ -32,6 +34,13 @@ pub record AreEventsOf (machine : Machine) (comps : List Comp) (entries : List E
   pub small : AreSmallSteps comp_step comp_greatest graph comps
   pub cores : All (λ e. e.core < machine.cores) graph
   pub few : length graph ≤ 4 * length entries
+
+-- these events have fired from these components on, which moves them on
+pub record HaveFired (machine : Machine) (comps : List Comp) (entries : List Entry) (graph : List Event) (fired : List Fired) (after : List Comp) : Type 0 where
+  pub components : AreComponents machine comps
+  pub events : AreEventsOf machine comps entries graph
+  pub fired_are : fired ≡ map fired_of (woven comp_step graph comps)
+  pub after_are : after ≡ comps_after comp_step graph comps
 
 -- the interval as it is counted
 abbrev pub interval_of : List Entry → Woven → Interval

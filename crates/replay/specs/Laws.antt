@@ -1,5 +1,5 @@
 -- What is true of the runs of every machine.
-use Rattle.std.specs.Prelude.{◌≡◌, ◌⊎◌, ℕ, List, Result, Ok, Err}
+use Rattle.std.specs.Prelude.{◌≡◌, ◌⊎◌, ◌<◌, ◌≤◌, ℕ, List, All, length, sum_by, Result, Ok, Err}
 use Rattle.elf_load.specs.MemoryImage.{MemoryImage}
 use Rattle.machine_desc.specs.declared.machine.Machine.{Machine}
 use Rattle.machine_desc.specs.Machine.{IsMachine}
@@ -28,3 +28,13 @@ OneCoreHasNoOtherSchedule = (machine : Machine) (image : MemoryImage) (lists oth
 abbrev pub ReplaysGiveTheSame : Type 0
 ReplaysGiveTheSame = (machine : Machine) (image : MemoryImage) (lists : List (List ℕ)) (results : Results) (answer : Result Results ReplayFail)
     → IsRunOf machine image lists results → Replays machine image lists answer → (answer ≡ Ok results) ⊎ (answer ≡ Err NoMemory)
+
+-- A legal schedule names the machine's cores, and has a turn for each access of its run and a list for each interval.
+pub record FitsRun (machine : Machine) (lists : List (List ℕ)) (results : Results) : Type 0 where
+  pub known : All (λ turns. All (λ number. number < machine.cores) turns) lists
+  pub turns : sum_by length lists ≡ results.counts.accesses
+  pub intervals : length lists ≡ results.intervals
+  pub few : results.intervals ≤ machine.intervals
+
+abbrev pub LegalSchedulesFit : Type 0
+LegalSchedulesFit = (machine : Machine) (image : MemoryImage) (lists : List (List ℕ)) (results : Results) → IsRunOf machine image lists results → FitsRun machine lists results

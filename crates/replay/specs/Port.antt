@@ -2,7 +2,7 @@
 use Rattle.std.specs.Prelude.{◌≡◌, ℕ, List}
 use Rattle.zs_num.specs.declared.entry.Entry.{Entry}
 use Rattle.zs_num.specs.declared.request.Request.{Request}
-use Rattle.bound_core.specs.ShardWorld.{ShardWorld, serve}
+use Rattle.bound_core.specs.ShardWorld.{ShardWorld, shards_serve}
 
 pub record LoggedPortState : Type 0 where
   pub world : ShardWorld
@@ -15,4 +15,4 @@ pub record LoggedPortState : Type 0 where
 
 -- what comes of a request of the chosen core: the shard of its line serves it
 abbrev pub gives : LoggedPortState → (start : ℕ) → Request → Entry → LoggedPortState → Type 0
-gives p start request e q = (e, q.world) ≡ serve p.world p.core start request
+gives p start request e q = (e, q.world) ≡ shards_serve p.world p.core start request

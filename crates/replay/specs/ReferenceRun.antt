@@ -66,8 +66,8 @@ abbrev pub world_of : Machine → RunState → MachineWorld
 world_of machine s = record { memory = s.memory; caches = s.caches; stamps = no_stamps machine.l2.banks machine.cores }
 
 -- the bound phase of the next interval begins without an access
-abbrev pub begun : Machine → RunState → BoundState MachineWorld
-begun machine s = record { cores = s.cores; world = world_of machine s; entries = [] }
+abbrev pub begun_interval : Machine → RunState → BoundState MachineWorld
+begun_interval machine s = record { cores = s.cores; world = world_of machine s; entries = [] }
 
 -- interval k, from 0, ends at (k + 1) times its length
 abbrev pub end_of : Machine → RunState → ℕ
@@ -86,7 +86,7 @@ woven_after machine s (Err place) = Err (record { interval = length s.intervals;
 -- after one more interval under a list of turns, or the first place of the list that is not legal for it
 abbrev pub after_interval : Machine → MemoryImage → RunState → List ℕ → Result RunState Illegal
 after_interval machine image s turns =
-    woven_after machine s (bound_phase serve (time_of machine) image (end_of machine s) turns (begun machine s))
+    woven_after machine s (bound_phase serve (time_of machine) image (end_of machine s) turns (begun_interval machine s))
 
 -- The room for the accesses of an interval: for each core one a cycle, and those of an instruction that accesses memory
 -- many times and begins in the last cycle.

@@ -7,27 +7,27 @@ use Rattle.machine_desc.specs.declared.machine.Machine.{Machine}
 use Rattle.machine_desc.specs.Components.{component_count}
 use Rattle.component.specs.ComponentStep.{free_of}
 use Rattle.component.specs.Components.{AreComponents}
-use Rattle.bound_core.specs.History.{begun}
+use Rattle.event_graph.specs.declared.event.Event.{Event}
+use Rattle.event_graph.specs.declared.fired.Fired.{Fired}
+use Rattle.bound_core.specs.History.{begun_over_shards}
 use Rattle.bound_core.specs.MachineOfShards.{StandForMachine}
 use Rattle.bound_core.specs.Laws.{moved}
 use Rattle.bound_core.specs.Reaching.{Reaches}
 use Rattle.bound_core.specs.ReferenceMachine.{BoundState, bound_phase}
-use Rattle.bound_core.specs.ShardPort.{base_of, room_of, size_of}
-use Rattle.bound_core.specs.ShardWorld.{ShardWorld, begun_world, restarted, serve}
-use Rattle.bound_core.specs.Timed.{NumberedCore, TimedCore}
+use Rattle.bound_core.specs.ShardPort.{AreShardsOf, base_of, room_of, size_of}
+use Rattle.bound_core.specs.ShardWorld.{ShardWorld, begun_world, restarted, shards_serve}
+use Rattle.bound_core.specs.Timed.{NumberedCore, TimedCore, timed_of}
 use Rattle.bound_core.specs.Turn.{IsOver}
 use Rattle.access_log.specs.RecordedOrder.{recorded_order}
 use Rattle.stats.specs.Counts.{counts_of, total_accesses, total_events}
 use Rattle.stats.specs.Laws.{WasRun}
 use Rattle.replay.specs.declared.simulation.Simulation.{Simulation}
+use Rattle.replay.specs.IntervalWeave.{HaveFired}
 use Rattle.replay.specs.Limits.{room_beyond}
 use Rattle.replay.specs.Port.{LoggedPortState}
 use Rattle.replay.specs.ReferenceRun.{RunState, access_room, after_interval, end_of, has_ended, time_of, world_of}
 
 -- ---- cores and shards
-
-abbrev pub timed_of : List NumberedCore → List TimedCore
-timed_of cores = map (λ c. c.timed) cores
 
 -- the cores of a run in time
 abbrev pub cores_of : Simulation → List TimedCore
@@ -58,6 +58,7 @@ pub record StandsFor (machine : Machine) (s : RunState) (p : Simulation) : Type 
   pub numbered : AreNumbered p.cores.items
   pub stamps : length p.port.world.stamps ≡ machine.cores
   pub banks : length p.port.world.shards ≡ machine.l2.banks
+  pub placed : AreShardsOf machine.cores p.port.world.shards machine.memory.base machine.memory.size
   pub stand : StandForMachine s.cores (begun_shards machine p) (world_of machine s)
   pub comps : p.comps ≡ s.comps
   pub counters : p.counters ≡ counts_of machine.cores s.comps s.intervals
@@ -74,7 +75,7 @@ pub record GoesOn (machine : Machine) (end : ℕ) (s : RunState) (p : Simulation
 
 -- What the bound phase asks of a core, with this memory: a core that is not halted has come to the end of the last
 -- interval.
-pub record IsReady (machine : Machine) (end base size : ℕ) (c : TimedCore) : Type 0 where
+pub record CanRunInterval (machine : Machine) (end base size : ℕ) (c : TimedCore) : Type 0 where
   pub idle : c.core.instruction ≡ None
   pub clock : c.clock ≤ 2 ^ 56
   pub left : c.core.halted ≡ None → end - c.clock ≤ machine.interval
@@ -90,13 +91,13 @@ abbrev pub core_room : Machine → ℕ
 core_room machine = machine.interval + room_beyond
 
 -- The turns of a core through a port, up to the end of the interval: wherever a bound phase has come to, they lead it on.
-pub record HasRun (machine : Machine) (image : MemoryImage) (end : ℕ) (core core_after : NumberedCore) (port port_after : LoggedPortState) : Type 0 where
+pub record HasRunThroughPort (machine : Machine) (image : MemoryImage) (end : ℕ) (core core_after : NumberedCore) (port port_after : LoggedPortState) : Type 0 where
   -- those of the turns
   pub entries : List Entry
   pub gained : port_after.entries ≡ port.entries ++ entries
-  pub leads : (s t : BoundState ShardWorld) (numbers : List ℕ) → Reaches serve (time_of machine) image end s numbers t
+  pub leads : (s t : BoundState ShardWorld) (numbers : List ℕ) → Reaches shards_serve (time_of machine) image end s numbers t
       → slice_get t.cores core.number ≡ Some core.timed → t.world ≡ port.world
-      → Reaches serve (time_of machine) image end s (numbers ++ map (λ e. e.core) entries) (moved t core.number core_after.timed port_after.world entries)
+      → Reaches shards_serve (time_of machine) image end s (numbers ++ map (λ e. e.core) entries) (moved t core.number core_after.timed port_after.world entries)
   pub starts : All (λ e. e.start ≤ 2 ^ 36) entries
   pub few : length entries ≤ core_room machine
   pub over : IsOver end core_after.timed
@@ -108,8 +109,8 @@ pub record HasRun (machine : Machine) (image : MemoryImage) (end : ℕ) (core co
   pub room : min (room_of port.world) port.room ≤ min (room_of port_after.world) port_after.room + core_room machine
 
 -- So many of the cores ran to the end of the interval, one after the other, through a port without an access.
-pub record HaveRun (machine : Machine) (image : MemoryImage) (end ran : ℕ) (cores cores_after : List NumberedCore) (port port_after : LoggedPortState) : Type 0 where
-  pub reaches : Reaches serve (time_of machine) image end (phase_of cores port) (map (λ e. e.core) port_after.entries) (phase_of cores_after port_after)
+pub record HaveRunThroughPort (machine : Machine) (image : MemoryImage) (end ran : ℕ) (cores cores_after : List NumberedCore) (port port_after : LoggedPortState) : Type 0 where
+  pub reaches : Reaches shards_serve (time_of machine) image end (phase_of cores port) (map (λ e. e.core) port_after.entries) (phase_of cores_after port_after)
   pub starts : All (λ e. e.start ≤ 2 ^ 36) port_after.entries
   pub few : length port_after.entries ≤ ran * core_room machine
   pub count : length cores_after ≡ length cores
@@ -123,26 +124,27 @@ pub record HaveRun (machine : Machine) (image : MemoryImage) (end ran : ℕ) (co
   pub room : min (room_of port.world) port.room ≤ min (room_of port_after.world) port_after.room + ran * core_room machine
 
 -- what an interval asks of the numbers of a run that goes on
-pub record HasRoom (machine : Machine) (end : ℕ) (p : Simulation) : Type 0 where
-  pub ready : (i : ℕ) (c : NumberedCore) → slice_get p.cores.items i ≡ Some c → IsReady machine end (base_of (begun_shards machine p)) (size_of (begun_shards machine p)) c.timed
+pub record HasRoomForInterval (machine : Machine) (end : ℕ) (p : Simulation) : Type 0 where
+  pub ready : (i : ℕ) (c : NumberedCore) → slice_get p.cores.items i ≡ Some c → CanRunInterval machine end (base_of (begun_shards machine p)) (size_of (begun_shards machine p)) c.timed
   pub count : length p.cores.items ≡ machine.cores
   pub numbered : AreNumbered p.cores.items
   pub stamps : length p.port.world.stamps ≡ machine.cores
-  pub some : 0 < length p.port.world.shards
+  pub shards : AreShardsOf machine.cores p.port.world.shards machine.memory.base machine.memory.size
+  pub banks : length p.port.world.shards ≡ machine.l2.banks
   pub free : All (λ c. free_of c ≤ 2 ^ 56) p.comps
   pub components : AreComponents machine p.comps
   pub cores : length p.counters.core_counts ≡ machine.cores
   pub comps : length p.counters.comp_counts ≡ component_count machine
 
--- what the cores of a run have come to at the end of the bound phase, with the shards after these accesses
-abbrev pub bound_state : Simulation → List Entry → BoundState ShardWorld
-bound_state p entries = record { cores = cores_of p; world = p.port.world; entries = entries }
-
--- The bound phase of an interval under these turns, from one point of the code to another.
-pub record IsBounded (machine : Machine) (image : MemoryImage) (end : ℕ) (before : Simulation) (turns : List ℕ) (after : Simulation) (entries : List Entry) : Type 0 where
-  pub taken : List Entry
-  pub phase : bound_phase serve (time_of machine) image end turns (begun (cores_of before) (map restarted before.port.world.shards)) ≡ Ok (bound_state after taken)
-  pub in_order : entries ≡ recorded_order taken
+-- The bound phase of an interval under these turns, from one point of the code to another. The last stamps of the shards
+-- are not kept.
+pub record IsBoundPhase (machine : Machine) (image : MemoryImage) (end : ℕ) (before : Simulation) (turns : List ℕ) (after : Simulation) (entries : List Entry) : Type 0 where
+  -- what it comes to
+  pub left : BoundState ShardWorld
+  pub phase : bound_phase shards_serve (time_of machine) image end turns (begun_over_shards (cores_of before) (map restarted before.port.world.shards)) ≡ Ok left
+  pub cores_are : cores_of after ≡ left.cores
+  pub shards_are : map restarted after.port.world.shards ≡ map restarted left.world.shards
+  pub in_order : entries ≡ recorded_order left.entries
   pub cores : All (λ e. e.core < machine.cores) entries
   pub starts : All (λ e. e.start ≤ 2 ^ 36) entries
   pub few : length entries ≤ access_room machine
@@ -150,14 +152,16 @@ pub record IsBounded (machine : Machine) (image : MemoryImage) (end : ℕ) (befo
   pub count : length after.cores.items ≡ machine.cores
   pub numbered : AreNumbered after.cores.items
   pub over : All (IsOver end) (cores_of after)
+  pub stamps : length after.port.world.stamps ≡ machine.cores
 
--- The run has the bound phase of its next interval behind it, under these turns and with these entries.
-pub record HasBounded (machine : Machine) (image : MemoryImage) (s : RunState) (turns : List ℕ) (p : Simulation) (entries : List Entry) : Type 0 where
+-- The run has the bound phase of its next interval behind it, under these turns and with these entries, and the events of
+-- these have fired.
+pub record HasFired (machine : Machine) (image : MemoryImage) (s : RunState) (turns : List ℕ) (p : Simulation) (entries : List Entry) (graph : List Event) (fired : List Fired) : Type 0 where
   pub end : ℕ
   pub before : Simulation
   pub goes_on : GoesOn machine end s before
-  pub bounded : IsBounded machine image end before turns p entries
-  pub comps : p.comps ≡ before.comps
+  pub bounded : IsBoundPhase machine image end before turns p entries
+  pub woven : HaveFired machine before.comps entries graph fired p.comps
   pub counters : p.counters ≡ before.counters
 
 -- an interval under these turns leads on from there

@@ -8,12 +8,12 @@ use Rattle.event_graph.specs.Timing.{time_by}
 use Rattle.bound_core.specs.Reaching.{Reaches}
 use Rattle.bound_core.specs.ReferenceMachine.{BoundState, bound_phase}
 use Rattle.bound_core.specs.ShardPort.{base_of, room_of, size_of}
-use Rattle.bound_core.specs.ShardWorld.{ShardWorld, serve}
-use Rattle.bound_core.specs.Timed.{NumberedCore, latest, most_accesses}
+use Rattle.bound_core.specs.ShardWorld.{ShardWorld, shards_serve}
+use Rattle.bound_core.specs.Timed.{NumberedCore, latest_clock, most_accesses, timed_of}
 use Rattle.bound_core.specs.Turn.{EndsInterval, IsOver, TakesTurn}
 use Rattle.replay.specs.Port.{LoggedPortState, gives}
 use Rattle.replay.specs.ReferenceRun.{access_room, time_of}
-use Rattle.replay.specs.Simulation.{AreNumbered, phase_of, timed_of}
+use Rattle.replay.specs.Simulation.{AreNumbered, phase_of}
 
 -- the time of an access by an expansion
 abbrev pub time_by_plain : Plain → Entry → ℕ
@@ -21,8 +21,8 @@ time_by_plain plain e = time_by plain.l1 plain.l2 plain.controllers e.outcome
 
 -- A core on its way through an interval: it is over, or it has at most so many accesses left, and none of them is late.
 pub record IsOnItsWay (end base size left : ℕ) (c : NumberedCore) : Type 0 where
-  pub few : IsOver end c.timed ⊎ ((most_accesses end c.timed ≤ left) × (latest end c.timed ≤ end + 2 ^ 28))
-  pub clock : latest end c.timed ≤ 2 ^ 57
+  pub few : IsOver end c.timed ⊎ ((most_accesses end c.timed ≤ left) × (latest_clock end c.timed ≤ end + 2 ^ 28))
+  pub clock : latest_clock end c.timed ≤ 2 ^ 57
   pub spare : left < c.spare
   pub base_is : c.timed.core.memory.base ≡ base
   pub size_is : c.timed.core.memory.size ≡ size
@@ -30,7 +30,7 @@ pub record IsOnItsWay (end base size left : ℕ) (c : NumberedCore) : Type 0 whe
 -- These turns lead from the first state to where cores and port are now. The port had room for more than so many accesses,
 -- and together the cores have no more.
 pub record HaveTaken (time : Entry → ℕ) (image : MemoryImage) (end most : ℕ) (first : BoundState ShardWorld) (turns : List ℕ) (cores : List NumberedCore) (port : LoggedPortState) : Type 0 where
-  pub reaches : Reaches serve time image end first turns (phase_of cores port)
+  pub reaches : Reaches shards_serve time image end first turns (phase_of cores port)
   pub left : List ℕ
   pub count : length left ≡ length cores
   pub each : (i n : ℕ) (c : NumberedCore) → slice_get left i ≡ Some n → slice_get cores i ≡ Some c → IsOnItsWay end (base_of port.world) (size_of port.world) n c
@@ -52,7 +52,7 @@ pub record TakesAccess (time : Entry → ℕ) (image : MemoryImage) (end : ℕ) 
   pub own : e.core ≡ core.number
   pub start : e.start ≤ max core.timed.clock end
   pub fewer : most_accesses end after.timed < most_accesses end core.timed
-  pub not_later : latest end after.timed ≤ latest end core.timed
+  pub not_later : latest_clock end after.timed ≤ latest_clock end core.timed
   pub number : after.number ≡ core.number
   pub memory : after.timed.core.memory ≡ core.timed.core.memory
   pub spare : core.spare ≤ after.spare + 1
@@ -65,7 +65,7 @@ pub record TakesAccess (time : Entry → ℕ) (image : MemoryImage) (end : ℕ) 
 pub record TakesNone (image : MemoryImage) (end : ℕ) (port port_after : LoggedPortState) (core after : NumberedCore) : Type 0 where
   pub ends : EndsInterval image end port port_after core.timed after.timed
   pub over : IsOver end after.timed
-  pub not_later : latest end after.timed ≤ latest end core.timed
+  pub not_later : latest_clock end after.timed ≤ latest_clock end core.timed
   pub number : after.number ≡ core.number
   pub memory : after.timed.core.memory ≡ core.timed.core.memory
   pub spare : after.spare ≡ core.spare
@@ -74,7 +74,7 @@ pub record TakesNone (image : MemoryImage) (end : ℕ) (port port_after : Logged
 
 -- What the turns of a list leave of cores and port, where the list is legal.
 pub record HaveTurned (machine : Machine) (image : MemoryImage) (end : ℕ) (turns : List ℕ) (cores after : List NumberedCore) (port last : LoggedPortState) : Type 0 where
-  pub phase : bound_phase serve (time_of machine) image end turns (phase_of cores port) ≡ Ok (phase_of after last)
+  pub phase : bound_phase shards_serve (time_of machine) image end turns (phase_of cores port) ≡ Ok (phase_of after last)
   pub starts : All (λ e. e.start ≤ 2 ^ 36) last.entries
   pub few : length last.entries ≤ access_room machine
   pub clocks : All (λ c. c.clock ≤ 2 ^ 57) (timed_of after)

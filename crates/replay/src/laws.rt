@@ -1,5 +1,5 @@
 //! Laws over the definitions alone, each the contract of a function that does nothing.
-ghost use Rattle.replay.specs.Laws.{OneCoreHasASchedule, OneCoreHasNoOtherSchedule, ReplaysGiveTheSame, ResultsAreOne};
+ghost use Rattle.replay.specs.Laws.{LegalSchedulesFit, OneCoreHasASchedule, OneCoreHasNoOtherSchedule, ReplaysGiveTheSame, ResultsAreOne};
 
 use component::laws::{fresh_components_are_one, fresh_components_are_there};
 
@@ -27,3 +27,9 @@ pub fn one_core_has_one_schedule()
     fresh_components_are_there();
     fresh_components_are_one();
 }
+
+/// A legal schedule names the machine's cores. It has a turn for each access of its run, and a list for
+/// each interval, of which there are at most as many as the machine's limit.
+pub fn legal_schedules_fit()
+    ensures { LegalSchedulesFit }
+{}

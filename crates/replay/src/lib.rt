@@ -1,10 +1,14 @@
-//! The run of an executable on one thread: the machine of one thread that takes the cores' turns in
-//! the order of a schedule, weaves each interval's events on one list, and delays the cores.
+//! The run of an executable by one worker or several, and its replay: whoever ran the cores, what comes
+//! of it is what the machine of one thread gives, which takes the cores' turns in the order of a
+//! schedule, weaves each interval's events on one list, and delays the cores.
 #![tactic(auto)]
 
+mod firing;
+mod gated_port;
 pub mod laws;
 mod limits;
 mod logged_port;
+mod own_program;
 mod replay_fail;
 mod replaying;
 mod results;
@@ -14,6 +18,8 @@ mod simulation;
 mod tests;
 mod turns;
 mod weaving;
+#[cfg(test)]
+mod worker_tests;
 
 pub use replay_fail::ReplayFail;
 pub use replaying::replay;

@@ -4,7 +4,7 @@ ghost use Rattle.machine_desc.specs.Machine.{IsMachine};
 ghost use Rattle.shard.specs.StandsFor.{new_shards};
 ghost use Rattle.access_log.specs.Logs.{HaveDistinctKeys};
 ghost use Rattle.access_log.specs.RecordedOrder.{recorded_order};
-ghost use Rattle.bound_core.specs.ShardPort.{base_of, room_of, size_of};
+ghost use Rattle.bound_core.specs.ShardPort.{AreShardsOf, base_in, base_of, room_of, size_in, size_of};
 ghost use Rattle.bound_core.specs.ShardWorld.{begun_world, restarted};
 ghost use Rattle.replay.specs.Port.{gives};
 
@@ -43,7 +43,17 @@ impl LoggedPort {
         ensures { IfOk result (λ p. p.world ≡ begun_world machine.now.cores (map restarted (new_shards machine.now image.now))) }
     {
         let shards = shards_of(alloc, machine, image)?;
-        match ShardPort::new(alloc, shards, machine.cores) {
+        LoggedPort::over(alloc, shards, machine.cores)
+    }
+
+    /// A port for so many cores to these shards, before the first access of an interval and without
+    /// room for one.
+    pub fn over(alloc: Global, shards: Vec<Shard>, cores: u16) -> Result<Self, NoMemory>
+        requires some { 0 < cores }
+        requires shards { AreShardsOf cores shards.items (base_in shards.items) (size_in shards.items) }
+        ensures { IfOk result (λ p. p.world ≡ begun_world cores (map restarted shards.items)) }
+    {
+        match ShardPort::new(alloc, shards, cores) {
             Ok(port) => Ok(LoggedPort {
                 port,
                 entries: Vec::new(alloc),
@@ -72,6 +82,13 @@ impl LoggedPort {
         ensures { self.new ≡ record self.old { core = core } }
     {
         self.port.choose(core);
+    }
+
+    /// Gives the shards back.
+    pub fn into_shards(self) -> Vec<Shard>
+        ensures { result.items ≡ self.world.shards }
+    {
+        self.port.finish()
     }
 
     /// Hands the accesses out in recorded order, and keeps none.

@@ -13,15 +13,24 @@ use event_graph::Plain;
 use machine_desc::Machine;
 use rv_core::DecodedProgram;
 use std::alloc::Global;
+use std::sync::Wait;
+use std::thread::Threads;
+use zs_host::Gate;
 use zs_num::NoMemory;
 
-/// Runs an image: in each interval the cores in order of their numbers, each to the interval's end.
-/// The schedule gains a list for each interval, the cores of its accesses in recorded order; where
-/// memory runs out, it has those of the first intervals.
-pub fn run(
+/// Runs an image by so many workers, one at least and 64 at most: in each interval each core to the
+/// interval's end, and then the events, which one worker fires on one list and several by their domains.
+/// Of W workers worker w runs the cores, and then the domains, whose number is w modulo W, in ascending
+/// order; there are no more workers than cores, or than domains. Before each access and each event a
+/// worker passes the gate, when it has no shard's turn. The schedule gains a list for each interval, the
+/// cores of its accesses in recorded order; where memory runs out, it has those of the first intervals.
+pub fn run<R: Threads + Wait + Sync, G: Gate>(
+    rt: &R,
     alloc: Global,
     machine: &Machine,
     image: &Image,
+    workers: u16,
+    gate: &G,
     schedule: &mut Schedule,
 ) -> Result<Final, NoMemory>
     requires machine { IsMachine machine.now }
@@ -36,17 +45,29 @@ pub fn run(
 {
     fresh_components_are_there();
     let plain = Plain::of(machine);
+    let places = places_of(alloc, machine)?;
     let program = DecodedProgram::of(alloc, image)?;
     let mut simulation = Simulation::new(alloc, machine, image)?;
+    let workers = workers.clamp(1, 64);
     let mut list = Vec::new(alloc);
     let mut k = 0;
     let mut end = 0;
     while !simulation.has_ended(machine, k) {
         k += 1;
         end += machine.interval;
-        let entries = simulation.interval(alloc, machine, &program, &plain, end, list)?;
+        let (next, entries) = simulation.interval(
+            rt, alloc, machine, &program, &plain, end, workers, gate, &places, list,
+        )?;
+        simulation = next;
         schedule.add(alloc, &entries)?;
         list = entries.into_list();
     }
     Ok(simulation.results(k))
+}
+
+// The domain of each component, by number.
+fn places_of(alloc: Global, machine: &Machine) -> Result<Vec<u16>, NoMemory> {
+    let mut places = Vec::from_slice(alloc, machine.domains.banks.as_slice())?;
+    places.extend_from_slice(machine.domains.controllers.as_slice())?;
+    Ok(places)
 }

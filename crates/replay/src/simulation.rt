@@ -7,31 +7,39 @@ ghost use Rattle.machine_desc.specs.Machine.{IsMachine};
 ghost use Rattle.elf_load.specs.MemoryImage.{MemoryImage};
 ghost use Rattle.component.specs.ComponentStep.{free_of};
 ghost use Rattle.component.specs.Components.{AreFresh};
-ghost use Rattle.bound_core.specs.History.{begun};
+ghost use Rattle.bound_core.specs.History.{begun_over_shards};
 ghost use Rattle.bound_core.specs.ReferenceMachine.{bound_phase};
 ghost use Rattle.bound_core.specs.ShardPort.{base_of, room_of, size_of};
-ghost use Rattle.bound_core.specs.ShardWorld.{restarted, serve};
-ghost use Rattle.bound_core.specs.Timed.{NumberedCore, first_core};
+ghost use Rattle.bound_core.specs.ShardWorld.{restarted, shards_serve};
+ghost use Rattle.bound_core.specs.Timed.{NumberedCore, first_core, timed_of};
 ghost use Rattle.replay.specs.ReferenceRun.{RunState, access_room, after_interval, all_delayed, at_limit, first_state, has_ended_at, have_halted, results_of, time_of};
 ghost use Rattle.replay.specs.Limits.{cycle_limit};
 ghost use Rattle.replay.specs.Replay.{IfIllegal};
-ghost use Rattle.replay.specs.Simulation.{AreNumbered, GoesOn, HasBounded, HasRoom, HasRun, HaveRun, IsBounded, IsReady, LeadsTo, StandsFor, cores_of, phase_of, timed_of};
+ghost use Rattle.replay.specs.Simulation.{AreNumbered, CanRunInterval, GoesOn, HasFired, HasRoomForInterval, HasRunThroughPort, HaveRunThroughPort, IsBoundPhase, LeadsTo, StandsFor, cores_of, phase_of};
 ghost use Rattle.replay.specs.Turns.{HaveTurned};
 ghost use Rattle.replay.specs.IntervalWeave.{IsPlainOf};
 
+use crate::firing::fire_all;
+use crate::gated_port::GatedPort;
 use crate::limits::{ACCESS_LIMIT, CYCLE_LIMIT, ROOM_BEYOND};
 use crate::logged_port::LoggedPort;
+use crate::own_program::OwnProgram;
 use crate::turns::take_turns;
-use crate::weaving::weave_interval;
+use crate::weaving::{events_of, woven_of};
 use crate::{Final, ReplayFail};
 use bound_core::BoundCore;
+use bound_phase::bound;
 use component::{Comp, Comps, components};
 use elf_load::Image;
-use event_graph::Plain;
+use event_graph::{FiredList, Graph, Plain};
 use machine_desc::Machine;
 use rv_core::DecodedProgram;
 use stats::Counters;
 use std::alloc::Global;
+use std::sync::Wait;
+use std::thread::Threads;
+use weave_seq::weave_seq;
+use zs_host::Gate;
 use zs_num::{Cycle, Entries, Entry, NoMemory};
 
 /// A run between two intervals: its cores in order of their numbers, their port to the shards, its
@@ -92,29 +100,42 @@ impl Simulation {
             || is_one_late(self.comps.as_slice())
     }
 
-    /// Runs the interval that ends at cycle `end`, at most 2^34: the cores one after the other, each to
-    /// the interval's end. Answers its accesses, which go into the buffer of the list.
-    pub fn interval(
-        &mut self,
+    /// Runs the interval that ends at cycle `end`, at most 2^34: each core to the interval's end, and
+    /// then the weave, both by so many workers, but no more than there are cores and domains. `places`
+    /// has the domain of each component. Answers the run after it and its accesses.
+    pub fn interval<R: Threads + Wait + Sync, G: Gate>(
+        self,
+        rt: &R,
         alloc: Global,
         machine: &Machine,
         program: &DecodedProgram<'_>,
         plain: &Plain,
         end: Cycle,
+        workers: u16,
+        gate: &G,
+        places: &[u16],
         list: Vec<Entry>,
-    ) -> Result<Entries, NoMemory>
+    ) -> Result<(Self, Entries), NoMemory>
         requires machine { IsMachine machine.now }
         requires plain { IsPlainOf machine.now plain.now }
         requires end { end ≤ 2 ^ 34 }
-        requires room { HasRoom machine.now end self.old }
-        requires goes_on { (s : RunState) × GoesOn machine.now end s self.old }
-        ensures leads { IfOk result (λ entries. (s : RunState) → GoesOn machine.now end s self.old → LeadsTo machine.now program.now s (map (λ e. e.core) entries) self.new) }
-        ensures cores { IfOk result (λ entries. All (λ e. e.core < machine.now.cores) entries) }
-        ensures few { IfOk result (λ entries. length entries < 2 ^ 32) }
+        requires workers { (1 ≤ workers) × (workers ≤ 64) }
+        requires room { HasRoomForInterval machine.now end self }
+        requires goes_on { (s : RunState) × GoesOn machine.now end s self }
+        ensures leads { IfOk result (λ r. (s : RunState) → GoesOn machine.now end s self → LeadsTo machine.now program.now s (map (λ e. e.core) r.1) r.0) }
+        ensures cores { IfOk result (λ r. All (λ e. e.core < machine.now.cores) r.1) }
+        ensures few { IfOk result (λ r. length r.1 < 2 ^ 32) }
     {
-        let entries = self.bound(alloc, machine, program, plain, end, list)?;
-        self.weave(alloc, machine, plain, &entries)?;
-        Ok(entries)
+        let runners = workers.min(machine.cores);
+        let (mut simulation, entries) = self.bound(
+            rt, alloc, machine, program, plain, end, runners, gate, list,
+        )?;
+        let weavers = workers.min(machine.domains.count);
+        let graph = events_of(alloc, machine, plain, &entries, &simulation.comps)?;
+        let comps = &mut simulation.comps;
+        let fired = fire_all(rt, alloc, machine, &graph, comps, weavers, gate, places)?;
+        simulation.take_in(alloc, machine, &entries, graph, fired)?;
+        Ok((simulation, entries))
     }
 
     /// Runs interval k, which ends at cycle `end`, at most 2^34, under a list of turns. Answers the
@@ -135,34 +156,66 @@ impl Simulation {
         requires end { end ≤ 2 ^ 34 }
         requires known { All (λ number. number < machine.now.cores) turns.now }
         requires few { length turns.now < 2 ^ 32 }
-        requires room { HasRoom machine.now end self.old }
+        requires room { HasRoomForInterval machine.now end self.old }
         requires goes_on { (s : RunState) × GoesOn machine.now end s self.old }
         ensures leads { OnOk result ((s : RunState) → GoesOn machine.now end s self.old → LeadsTo machine.now program.now s turns.now self.new) }
         ensures illegal { IfErr result (λ fail. IfIllegal fail (λ at. (at.interval ≡ k) × ((s : RunState) → GoesOn machine.now end s self.old → after_interval machine.now program.now s turns.now ≡ Err (record { interval = length s.intervals; place = at.place })))) }
     {
         bound_core::laws::shards_do_as_the_machine();
         let entries = self.bound_under(alloc, machine, program, plain, end, k, turns, list)?;
-        self.weave(alloc, machine, plain, &entries)?;
+        let graph = events_of(alloc, machine, plain, &entries, &self.comps)?;
+        let fired = weave_seq(alloc, &graph, &mut self.comps)?;
+        self.take_in(alloc, machine, &entries, graph, fired)?;
         Ok(entries.into_list())
     }
 
-    // The bound phase of an interval, the cores one after the other. Answers its accesses.
-    fn bound(
-        &mut self,
+    // The bound phase of an interval, and its accesses. One worker needs no table of shards.
+    fn bound<R: Threads + Wait + Sync, G: Gate>(
+        self,
+        rt: &R,
         alloc: Global,
         machine: &Machine,
         program: &DecodedProgram<'_>,
         plain: &Plain,
         end: Cycle,
+        workers: u16,
+        gate: &G,
         list: Vec<Entry>,
-    ) -> Result<Entries, NoMemory>
+    ) -> Result<(Self, Entries), NoMemory>
         requires machine { IsMachine machine.now }
         requires plain { IsPlainOf machine.now plain.now }
         requires end { end ≤ 2 ^ 34 }
-        requires room { HasRoom machine.now end self.old }
-        ensures bounded { IfOk result (λ entries. IsBounded machine.now program.now end self.old (map (λ e. e.core) entries) self.new entries) }
-        ensures comps { self.new.comps ≡ self.old.comps }
-        ensures counters { self.new.counters ≡ self.old.counters }
+        requires workers { (1 ≤ workers) × (workers ≤ 64) }
+        requires room { HasRoomForInterval machine.now end self }
+        ensures bounded { IfOk result (λ r. IsBoundPhase machine.now program.now end self (map (λ e. e.core) r.1) r.0 r.1) }
+        ensures comps { IfOk result (λ r. r.0.comps ≡ self.comps) }
+        ensures counters { IfOk result (λ r. r.0.counters ≡ self.counters) }
+    {
+        if workers == 1 {
+            return self.bound_alone(alloc, machine, program, plain, end, gate, list);
+        }
+        self.bound_by(rt, alloc, machine, program, plain, end, workers, gate)
+    }
+
+    // The bound phase of an interval, the cores one after the other. Before each access it passes the
+    // gate as worker 0.
+    fn bound_alone<G: Gate>(
+        self,
+        alloc: Global,
+        machine: &Machine,
+        program: &DecodedProgram<'_>,
+        plain: &Plain,
+        end: Cycle,
+        gate: &G,
+        list: Vec<Entry>,
+    ) -> Result<(Self, Entries), NoMemory>
+        requires machine { IsMachine machine.now }
+        requires plain { IsPlainOf machine.now plain.now }
+        requires end { end ≤ 2 ^ 34 }
+        requires room { HasRoomForInterval machine.now end self }
+        ensures bounded { IfOk result (λ r. IsBoundPhase machine.now program.now end self (map (λ e. e.core) r.1) r.0 r.1) }
+        ensures comps { IfOk result (λ r. r.0.comps ≡ self.comps) }
+        ensures counters { IfOk result (λ r. r.0.counters ≡ self.counters) }
     {
         bound_core::laws::phases_are_histories();
         bound_core::laws::histories_are_phases();
@@ -171,16 +224,71 @@ impl Simulation {
         access_log::laws::stamps_rise();
         access_log::laws::recorded_order_keeps_the_stamps();
         access_log::laws::cores_decide_the_order();
-        self.port.begin(access_room(machine) as usize, list)?;
-        run_cores(
-            machine,
-            program,
-            plain,
-            end,
-            &mut self.cores,
-            &mut self.port,
-        )?;
-        Ok(self.port.take_sorted(alloc))
+        let Simulation {
+            mut cores,
+            mut port,
+            comps,
+            counters,
+        } = self;
+        port.begin(access_room(machine) as usize, list)?;
+        let mut port = run_cores(machine, program, plain, end, gate, &mut cores, port)?;
+        let entries = port.take_sorted(alloc);
+        let simulation = Simulation {
+            cores,
+            port,
+            comps,
+            counters,
+        };
+        Ok((simulation, entries))
+    }
+
+    // The bound phase of an interval by several workers, which share the shards.
+    fn bound_by<R: Threads + Wait + Sync, G: Gate>(
+        self,
+        rt: &R,
+        alloc: Global,
+        machine: &Machine,
+        program: &DecodedProgram<'_>,
+        plain: &Plain,
+        end: Cycle,
+        workers: u16,
+        gate: &G,
+    ) -> Result<(Self, Entries), NoMemory>
+        requires machine { IsMachine machine.now }
+        requires plain { IsPlainOf machine.now plain.now }
+        requires end { end ≤ 2 ^ 34 }
+        requires workers { (1 ≤ workers) × (workers ≤ 64) }
+        requires room { HasRoomForInterval machine.now end self }
+        ensures bounded { IfOk result (λ r. IsBoundPhase machine.now program.now end self (map (λ e. e.core) r.1) r.0 r.1) }
+        ensures comps { IfOk result (λ r. r.0.comps ≡ self.comps) }
+        ensures counters { IfOk result (λ r. r.0.counters ≡ self.counters) }
+    {
+        bound_core::laws::histories_are_phases();
+        let Simulation {
+            cores,
+            port,
+            comps,
+            counters,
+        } = self;
+        let shards = port.into_shards();
+        // Of another type than that of one worker, whose loop is another.
+        let program = OwnProgram { program };
+        let program = OwnProgram { program: &program };
+        match bound(
+            rt, alloc, machine, &program, plain, cores, shards, end, workers, gate,
+        ) {
+            Ok(bounded) => {
+                let port = LoggedPort::over(alloc, bounded.shards, machine.cores)?;
+                let simulation = Simulation {
+                    cores: bounded.cores,
+                    port,
+                    comps,
+                    counters,
+                };
+                Ok((simulation, bounded.entries))
+            }
+            Err((NoMemory, _as_they_were)) => Err(NoMemory),
+        }
     }
 
     // The bound phase of interval k under a list of turns. Answers its accesses.
@@ -200,9 +308,9 @@ impl Simulation {
         requires end { end ≤ 2 ^ 34 }
         requires known { All (λ number. number < machine.now.cores) turns.now }
         requires few { length turns.now < 2 ^ 32 }
-        requires room { HasRoom machine.now end self.old }
-        ensures bounded { IfOk result (IsBounded machine.now program.now end self.old turns.now self.new) }
-        ensures illegal { IfErr result (λ fail. IfIllegal fail (λ at. (at.interval ≡ k) × (bound_phase serve (time_of machine.now) program.now end turns.now (begun (cores_of self.old) (map restarted self.old.port.world.shards)) ≡ Err at.place))) }
+        requires room { HasRoomForInterval machine.now end self.old }
+        ensures bounded { IfOk result (IsBoundPhase machine.now program.now end self.old turns.now self.new) }
+        ensures illegal { IfErr result (λ fail. IfIllegal fail (λ at. (at.interval ≡ k) × (bound_phase shards_serve (time_of machine.now) program.now end turns.now (begun_over_shards (cores_of self.old) (map restarted self.old.port.world.shards)) ≡ Err at.place))) }
         ensures comps { self.new.comps ≡ self.old.comps }
         ensures counters { self.new.counters ≡ self.old.counters }
     {
@@ -223,28 +331,29 @@ impl Simulation {
         Ok(self.port.take_sorted(alloc))
     }
 
-    // The weave of an interval and its feedback, after the bound phase that had these accesses.
-    fn weave(
+    // Takes in an interval whose events have fired: counts it, and lets the cores wait.
+    fn take_in(
         &mut self,
         alloc: Global,
         machine: &Machine,
-        plain: &Plain,
         entries: &Entries,
+        graph: Graph,
+        fired: FiredList,
     ) -> Result<(), NoMemory>
         requires machine { IsMachine machine.now }
-        requires plain { IsPlainOf machine.now plain.now }
-        requires bounded { (image : MemoryImage) × (s : RunState) × (turns : List ℕ) × HasBounded machine.now image s turns self.old entries.now }
+        requires fired { (image : MemoryImage) × (s : RunState) × (turns : List ℕ) × HasFired machine.now image s turns self.old entries.now graph fired }
         requires core_counts { length self.old.counters.core_counts ≡ machine.now.cores }
         requires comp_counts { length self.old.counters.comp_counts ≡ component_count machine.now }
         requires cores { All (λ e. e.core < machine.now.cores) entries.now }
-        ensures { OnOk result ((image : MemoryImage) (s : RunState) (turns : List ℕ) → HasBounded machine.now image s turns self.old entries.now → LeadsTo machine.now image s turns self.new) }
+        ensures { OnOk result ((image : MemoryImage) (s : RunState) (turns : List ℕ) → HasFired machine.now image s turns self.old entries.now graph fired → LeadsTo machine.now image s turns self.new) }
     {
         stats::laws::counters_are_sums();
         stats::laws::sums_fit();
         bound_core::laws::shards_do_as_the_machine();
         bound_core::laws::phases_are_histories();
         bound_core::laws::intervals_begin();
-        let woven = weave_interval(alloc, machine, plain, entries, &mut self.comps)?;
+        event_graph::laws::machine_components_stay();
+        let woven = woven_of(alloc, machine, graph, fired)?;
         delay_all(&mut self.cores, woven.delays.as_slice());
         self.counters.add(
             entries,
@@ -286,57 +395,74 @@ fn first_cores(alloc: Global, machine: &Machine, image: &Image) -> Result<Vec<Bo
 }
 
 // Runs the cores to the end of the interval, one after the other.
-fn run_cores(
+fn run_cores<G: Gate>(
     machine: &Machine,
     program: &DecodedProgram<'_>,
     plain: &Plain,
     end: Cycle,
+    gate: &G,
     cores: &mut [BoundCore],
-    port: &mut LoggedPort,
-) -> Result<(), NoMemory>
+    mut port: LoggedPort,
+) -> Result<LoggedPort, NoMemory>
     requires machine { IsMachine machine.now }
     requires plain { IsPlainOf machine.now plain.now }
     requires end { end ≤ 2 ^ 34 }
     requires count { length cores.old ≡ machine.now.cores }
-    requires ready { (i : ℕ) (c : NumberedCore) → slice_get cores.old i ≡ Some c → IsReady machine.now end (base_of port.old.world) (size_of port.old.world) c.timed }
+    requires ready { (i : ℕ) (c : NumberedCore) → slice_get cores.old i ≡ Some c → CanRunInterval machine.now end (base_of port.world) (size_of port.world) c.timed }
     requires numbered { AreNumbered cores.old }
-    requires stamps { length port.old.world.stamps ≡ machine.now.cores }
-    requires none { port.old.entries ≡ [] }
-    requires room { access_room machine.now ≤ min (room_of port.old.world) port.old.room }
-    ensures { OnOk result (HaveRun machine.now program.now end machine.now.cores cores.old cores.new port.old port.new) }
+    requires stamps { length port.world.stamps ≡ machine.now.cores }
+    requires none { port.entries ≡ [] }
+    requires room { access_room machine.now ≤ min (room_of port.world) port.room }
+    ensures { IfOk result (HaveRunThroughPort machine.now program.now end machine.now.cores cores.old cores.new port) }
 {
     for (number, core) in cores.iter_mut().enumerate() {
-        run_core(machine, program, plain, end, core, number as u16, port)?;
+        port = run_core(
+            machine,
+            program,
+            plain,
+            end,
+            gate,
+            core,
+            number as u16,
+            port,
+        )?;
     }
-    Ok(())
+    Ok(port)
 }
 
 // Runs the core of this number to the end of the interval. One that has halted stays as it is.
-fn run_core(
+fn run_core<G: Gate>(
     machine: &Machine,
     program: &DecodedProgram<'_>,
     plain: &Plain,
     end: Cycle,
+    gate: &G,
     core: &mut BoundCore,
     number: u16,
-    port: &mut LoggedPort,
-) -> Result<(), NoMemory>
+    mut port: LoggedPort,
+) -> Result<LoggedPort, NoMemory>
     requires machine { IsMachine machine.now }
     requires plain { IsPlainOf machine.now plain.now }
     requires end { end ≤ 2 ^ 34 }
-    requires ready { IsReady machine.now end (base_of port.old.world) (size_of port.old.world) core.old.timed }
+    requires ready { CanRunInterval machine.now end (base_of port.world) (size_of port.world) core.old.timed }
     requires number { core.old.number ≡ number }
-    requires known { number < length port.old.world.stamps }
-    requires room { machine.now.interval + 258 ≤ min (room_of port.old.world) port.old.room }
-    ensures { OnOk result (HasRun machine.now program.now end core.old core.new port.old port.new) }
+    requires known { number < length port.world.stamps }
+    requires room { machine.now.interval + 258 ≤ min (room_of port.world) port.room }
+    ensures { IfOk result (HasRunThroughPort machine.now program.now end core.old core.new port) }
 {
     if core.halted().is_some() {
-        return Ok(());
+        return Ok(port);
     }
     core.reserve(machine.interval)?;
     port.choose(number);
-    core.run_one(program, plain, end, port);
-    Ok(())
+    let mut gated = GatedPort {
+        gate,
+        core: number,
+        port,
+    };
+    core.run_one(&OwnProgram { program }, plain, end, &mut gated);
+    let GatedPort { port, .. } = gated;
+    Ok(port)
 }
 
 // Runs the cores to the end of interval k under a list of turns.
@@ -356,13 +482,13 @@ fn run_turns(
     requires known { All (λ number. number < machine.now.cores) turns.now }
     requires few { length turns.now < 2 ^ 32 }
     requires count { length cores.old ≡ machine.now.cores }
-    requires ready { (i : ℕ) (c : NumberedCore) → slice_get cores.old i ≡ Some c → IsReady machine.now end (base_of port.old.world) (size_of port.old.world) c.timed }
+    requires ready { (i : ℕ) (c : NumberedCore) → slice_get cores.old i ≡ Some c → CanRunInterval machine.now end (base_of port.old.world) (size_of port.old.world) c.timed }
     requires numbered { AreNumbered cores.old }
     requires stamps { length port.old.world.stamps ≡ machine.now.cores }
     requires none { port.old.entries ≡ [] }
     requires room { access_room machine.now ≤ min (room_of port.old.world) port.old.room }
     ensures turned { OnOk result (HaveTurned machine.now program.now end turns.now cores.old cores.new port.old port.new) }
-    ensures illegal { IfErr result (λ fail. IfIllegal fail (λ at. (at.interval ≡ k) × (bound_phase serve (time_of machine.now) program.now end turns.now (phase_of cores.old port.old) ≡ Err at.place))) }
+    ensures illegal { IfErr result (λ fail. IfIllegal fail (λ at. (at.interval ≡ k) × (bound_phase shards_serve (time_of machine.now) program.now end turns.now (phase_of cores.old port.old) ≡ Err at.place))) }
 {
     reserve_all(machine, cores)?;
     match take_turns(program, plain, end, turns, cores, port) {

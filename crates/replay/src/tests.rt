@@ -2,7 +2,7 @@
 ghost use Rattle.std.specs.Prelude.{◌≡◌, ◌<◌, ◌≤◌, ◌^◌, All, IfOk, length};
 ghost use Rattle.machine_desc.specs.Plain.{plain_machine};
 
-use crate::weaving::weave_interval;
+use crate::weaving::{events_of, woven_of};
 use crate::{Final, ReplayFail, replay, run};
 use access_log::Schedule;
 use component::components;
@@ -13,6 +13,8 @@ use machine_desc::{Machine, PLAIN, read};
 use stats::CompCount;
 use std::alloc::Global;
 use std::test::Fail;
+use weave_seq::weave_seq;
+use zs_host::OpenGate;
 use zs_num::{Entries, Entry, NoMemory, Outcome, Request};
 
 // An executable of eight words, by the ELF-64 object file format, up to its code at byte 120.
@@ -46,7 +48,7 @@ static TWO_LOADS: [u32; 8] = [
 ];
 
 // The built-in machine.
-fn plain(alloc: Global) -> Result<Machine, NoMemory>
+pub(crate) fn plain(alloc: Global) -> Result<Machine, NoMemory>
     ensures { IfOk result (λ machine. machine ≡ plain_machine) }
 {
     plain_reads();
@@ -57,7 +59,7 @@ fn plain(alloc: Global) -> Result<Machine, NoMemory>
 }
 
 // The file of eight words.
-fn file_of(alloc: Global, words: &[u32; 8]) -> Result<Vec<u8>, NoMemory> {
+pub(crate) fn file_of(alloc: Global, words: &[u32; 8]) -> Result<Vec<u8>, NoMemory> {
     let mut file = Vec::from_slice(alloc, &FRONT)?;
     for word in words {
         file.extend_from_slice(&word.to_le_bytes())?;
@@ -81,7 +83,7 @@ fn a_run_ends_at_the_limit_of_intervals(rt: HostRuntime) -> Result<(), Fail> {
         machine.intervals = intervals;
         let image = load(alloc, &file, machine.memory.base, machine.memory.size)?;
         let mut schedule = Schedule::new(alloc, 1);
-        let results = run(alloc, &machine, &image, &mut schedule)?;
+        let results = run(&rt, alloc, &machine, &image, 1, &OpenGate, &mut schedule)?;
         assert_eq!(rt; results.limit, limit);
         assert_eq!(rt; results.intervals, ran);
         assert_eq!(rt; schedule.intervals(), ran);
@@ -105,7 +107,7 @@ fn a_busy_bank_delays_the_core(rt: HostRuntime) -> Result<(), Fail> {
     machine.l2.occupancy = 20;
     let image = load(alloc, &file, machine.memory.base, machine.memory.size)?;
     let mut schedule = Schedule::new(alloc, 1);
-    let results = run(alloc, &machine, &image, &mut schedule)?;
+    let results = run(&rt, alloc, &machine, &image, 1, &OpenGate, &mut schedule)?;
     assert_eq!(rt; results.limit, false);
     assert_eq!(rt; results.cores.len(), 1);
     for core in &results.cores {
@@ -141,7 +143,7 @@ fn cores_take_their_turns_in_order(rt: HostRuntime) -> Result<(), Fail> {
     machine.cores = 2;
     let image = load(alloc, &file, machine.memory.base, machine.memory.size)?;
     let mut schedule = Schedule::new(alloc, 2);
-    let results = run(alloc, &machine, &image, &mut schedule)?;
+    let results = run(&rt, alloc, &machine, &image, 1, &OpenGate, &mut schedule)?;
     assert_eq!(rt; results.limit, false);
     assert_eq!(rt; results.cores.len(), 2);
     for core in &results.cores {
@@ -189,7 +191,10 @@ fn two_misses_at_one_bank_wait_for_each_other(rt: HostRuntime) -> Result<(), Fai
     machine.cores = 2;
     let entries = two_misses(alloc)?;
     let mut comps = components(alloc, &machine)?;
-    let woven = weave_interval(alloc, &machine, &Plain::of(&machine), &entries, &mut comps)?;
+    let plain = Plain::of(&machine);
+    let graph = events_of(alloc, &machine, &plain, &entries, &comps)?;
+    let fired = weave_seq(alloc, &graph, &mut comps)?;
+    let woven = woven_of(alloc, &machine, graph, fired)?;
     let starts_and_finishes = [
         (2, 12),
         (12, 112),
@@ -216,7 +221,8 @@ fn two_misses_at_one_bank_wait_for_each_other(rt: HostRuntime) -> Result<(), Fai
     Ok(())
 }
 
-// Each interval is a cycle here, and there are more of them than numbers of 16 bits.
+// Each interval is a cycle here, and there are more of them than numbers of 16 bits. The lists have no
+// turn, since no core has an access, and are replayed one by one.
 #[test]
 fn a_long_run_keeps_a_list_for_each_interval(rt: HostRuntime) -> Result<(), Fail> {
     let alloc = rt.alloc();
@@ -226,10 +232,12 @@ fn a_long_run_keeps_a_list_for_each_interval(rt: HostRuntime) -> Result<(), Fail
     machine.intervals = 70_000;
     let image = load(alloc, &file, machine.memory.base, machine.memory.size)?;
     let mut schedule = Schedule::new(alloc, 1);
-    let results = run(alloc, &machine, &image, &mut schedule)?;
+    let results = run(&rt, alloc, &machine, &image, 1, &OpenGate, &mut schedule)?;
     assert_eq!(rt; results.limit, true);
     assert_eq!(rt; results.intervals, 70_000);
     assert_eq!(rt; schedule.intervals(), 70_000);
+    let again = replay(alloc, &machine, &image, &schedule)?;
+    assert_eq!(rt; (again.limit, again.intervals), (true, 70_000));
     Ok(())
 }
 

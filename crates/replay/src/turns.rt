@@ -2,10 +2,11 @@
 ghost use Rattle.std.specs.Prelude.{◌≡◌, ◌<◌, ◌≤◌, ◌^◌, ℕ, List, [], All, false, length, min, true, Err, IfErr, IfOk, Ok};
 ghost use Rattle.zs_num.specs.declared.entry.Entry.{Entry};
 ghost use Rattle.bound_core.specs.ReferenceMachine.{BoundState, bound_phase};
-ghost use Rattle.bound_core.specs.ShardWorld.{ShardWorld, serve};
+ghost use Rattle.bound_core.specs.ShardWorld.{ShardWorld, shards_serve};
 ghost use Rattle.bound_core.specs.ShardPort.{base_of, room_of, size_of};
+ghost use Rattle.bound_core.specs.Timed.{timed_of};
 ghost use Rattle.bound_core.specs.Turn.{IsOver};
-ghost use Rattle.replay.specs.Simulation.{phase_of, timed_of};
+ghost use Rattle.replay.specs.Simulation.{phase_of};
 ghost use Rattle.replay.specs.Turns.{HaveTaken, IsOnItsWay, TakesAccess, TakesNone, chosen, time_by_plain};
 
 use crate::logged_port::LoggedPort;
@@ -30,8 +31,8 @@ pub fn take_turns(
     requires known { All (λ number. number < length cores.old) turns.now }
     requires few { length turns.now < 2 ^ 32 }
     requires begins { (most : ℕ) × HaveTaken (time_by_plain plain.now) program.now end most (phase_of cores.old port.old) [] cores.old port.old }
-    ensures legal { IfOk result (λ _. bound_phase serve (time_by_plain plain.now) program.now end turns.now (phase_of cores.old port.old) ≡ Ok (phase_of cores.new port.new)) }
-    ensures illegal { IfErr result (λ place. bound_phase serve (time_by_plain plain.now) program.now end turns.now (phase_of cores.old port.old) ≡ Err place) }
+    ensures legal { IfOk result (λ _. bound_phase shards_serve (time_by_plain plain.now) program.now end turns.now (phase_of cores.old port.old) ≡ Ok (phase_of cores.new port.new)) }
+    ensures illegal { IfErr result (λ place. bound_phase shards_serve (time_by_plain plain.now) program.now end turns.now (phase_of cores.old port.old) ≡ Err place) }
     ensures taken { IfOk result (λ _. (most : ℕ) → HaveTaken (time_by_plain plain.now) program.now end most (phase_of cores.old port.old) [] cores.old port.old → HaveTaken (time_by_plain plain.now) program.now end most (phase_of cores.old port.old) turns.now cores.new port.new) }
     ensures over { IfOk result (λ _. All (IsOver end) (timed_of cores.new)) }
     ensures count { length cores.new ≡ length cores.old }
@@ -62,7 +63,7 @@ fn end_all(
     requires taken { (most : ℕ) × (first : BoundState ShardWorld) × (turns : List ℕ) × HaveTaken (time_by_plain plain.now) program.now end most first turns cores.old port.old }
     ensures taken { result ≡ true → (most : ℕ) (first : BoundState ShardWorld) (turns : List ℕ) → HaveTaken (time_by_plain plain.now) program.now end most first turns cores.old port.old → HaveTaken (time_by_plain plain.now) program.now end most first turns cores.new port.new }
     ensures over { result ≡ true → All (IsOver end) (timed_of cores.new) }
-    ensures illegal { result ≡ false → (most : ℕ) (first : BoundState ShardWorld) (turns : List ℕ) → HaveTaken (time_by_plain plain.now) program.now end most first turns cores.old port.old → bound_phase serve (time_by_plain plain.now) program.now end turns first ≡ Err (length turns) }
+    ensures illegal { result ≡ false → (most : ℕ) (first : BoundState ShardWorld) (turns : List ℕ) → HaveTaken (time_by_plain plain.now) program.now end most first turns cores.old port.old → bound_phase shards_serve (time_by_plain plain.now) program.now end turns first ≡ Err (length turns) }
     ensures count { length cores.new ≡ length cores.old }
 {
     for (number, core) in cores.iter_mut().enumerate() {

@@ -1,18 +1,17 @@
 // The weave of an interval: its events, when they fired, and the delays of the cores.
-ghost use Rattle.std.specs.Prelude.{◌≡◌, ◌<◌, ◌≤◌, ◌^◌, All, IfOk, OnOk, length};
+ghost use Rattle.std.specs.Prelude.{◌≡◌, ◌<◌, ◌≤◌, ◌^◌, All, IfOk, List, length};
+ghost use Rattle.zs_num.specs.declared.entry.Entry.{Entry};
 ghost use Rattle.machine_desc.specs.Machine.{IsMachine};
-ghost use Rattle.component.specs.ComponentStep.{comp_step, free_of};
+ghost use Rattle.component.specs.declared.comp.Comp.{Comp};
+ghost use Rattle.component.specs.ComponentStep.{free_of};
 ghost use Rattle.component.specs.Components.{AreComponents};
-ghost use Rattle.event_graph.specs.OneListWeave.{comps_after};
-ghost use Rattle.replay.specs.ReferenceRun.{woven_interval};
-ghost use Rattle.replay.specs.IntervalWeave.{AreEventsOf, IsPlainOf, IsWeaveOf};
+ghost use Rattle.replay.specs.IntervalWeave.{AreEventsOf, HaveFired, IsPlainOf, IsWeaveOf};
 
 use component::{Comp, Comps};
 use event_graph::{FiredList, Graph, Plain, build};
 use feedback::{Delays, delays};
 use machine_desc::Machine;
 use std::alloc::Global;
-use weave_seq::weave_seq;
 use zs_num::{Entries, NoMemory};
 
 /// What the weave of an interval gives.
@@ -24,42 +23,6 @@ pub struct Woven {
     pub fired: FiredList,
     /// How many cycles each core waited.
     pub delays: Delays,
-}
-
-/// Weaves the events of an interval's accesses, and moves the components on. Where memory runs out,
-/// the components may have moved on or not.
-#[tactic(auto, unfolding(crate::specs::ReferenceRun::woven_interval))]
-pub fn weave_interval(
-    alloc: Global,
-    machine: &Machine,
-    plain: &Plain,
-    entries: &Entries,
-    comps: &mut Comps<Comp>,
-) -> Result<Woven, NoMemory>
-    requires machine { IsMachine machine.now }
-    requires plain { IsPlainOf machine.now plain.now }
-    requires components { AreComponents machine.now comps.old }
-    requires free { All (λ c. free_of c ≤ 2 ^ 56) comps.old }
-    requires cores { All (λ e. e.core < machine.now.cores) entries.now }
-    requires starts { All (λ e. e.start ≤ 2 ^ 36) entries.now }
-    requires few { length entries.now ≤ 2 ^ 20 }
-    ensures weave { IfOk result (IsWeaveOf machine.now comps.old entries.now) }
-    ensures comps { OnOk result (comps.new ≡ comps_after comp_step (woven_interval machine.now comps.old entries.now).events comps.old) }
-    ensures components { OnOk result (AreComponents machine.now comps.new) }
-{
-    event_graph::laws::fitting_events_are_there::<Comp>();
-    event_graph::laws::machine_components_stay();
-    event_graph::laws::events_take_their_time::<Comp>();
-    feedback::laws::timely_events_are_woven();
-    feedback::laws::delays_are_small();
-    let graph = events_of(alloc, machine, plain, entries, comps)?;
-    let fired = weave_seq(alloc, &graph, comps)?;
-    let delays = delays(alloc, &graph, &fired, machine.cores)?;
-    Ok(Woven {
-        graph,
-        fired,
-        delays,
-    })
 }
 
 /// The events of an interval's accesses, ready for the weave.
@@ -89,4 +52,28 @@ pub fn events_of(
     // Its events are numbered in order, as the type keeps.
     let _numbered = graph.events();
     Ok(graph)
+}
+
+/// What the weave of an interval gives, once its events have fired.
+#[tactic(auto, unfolding(crate::specs::ReferenceRun::woven_interval))]
+pub fn woven_of(
+    alloc: Global,
+    machine: &Machine,
+    graph: Graph,
+    fired: FiredList,
+) -> Result<Woven, NoMemory>
+    requires machine { IsMachine machine.now }
+    requires fired { (comps : List Comp) × (entries : List Entry) × (after : List Comp) × HaveFired machine.now comps entries graph fired after }
+    ensures { IfOk result (λ w. (comps : List Comp) (entries : List Entry) (after : List Comp) → HaveFired machine.now comps entries graph fired after → IsWeaveOf machine.now comps entries w) }
+{
+    event_graph::laws::fitting_events_are_there::<Comp>();
+    event_graph::laws::events_take_their_time::<Comp>();
+    feedback::laws::timely_events_are_woven();
+    feedback::laws::delays_are_small();
+    let delays = delays(alloc, &graph, &fired, machine.cores)?;
+    Ok(Woven {
+        graph,
+        fired,
+        delays,
+    })
 }

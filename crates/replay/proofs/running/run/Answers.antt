@@ -10,20 +10,26 @@ use Rattle.replay.proofs.RunEnds.{counted_results}
 use Rattle.replay.proofs.RunSoFar.{HasRun, accesses_are, below_limit, ends_with, further, goes, legal_so_far, nothing_run, on_err, same_ending}
 use Rattle.replay.proofs.running.run.Goals as goal
 
-pub returns-in_err-program-clause-err : goal.returns-in_err-program-clause-err
-returns-in_err-program-clause-err c =
+pub returns-in_err-places-clause-err : goal.returns-in_err-places-clause-err
+returns-in_err-places-clause-err g c =
     let machine = c.args.machine.now in
     let there = c.fresh_components_are_there.ensures machine c.requires.machine in
     on_err (IsLegalSoFar machine c.args.image.now c.args.schedule.now.lists) c.from_residual.result (nothing_run machine c.args.image.now c.args.schedule.now.lists c.requires.empty there.0 there.1)
 
+pub returns-in_err-program-clause-err : goal.returns-in_err-program-clause-err
+returns-in_err-program-clause-err g c =
+    let machine = c.args.machine.now in
+    let there = c.fresh_components_are_there.ensures machine c.requires.machine in
+    on_err (IsLegalSoFar machine c.args.image.now c.args.schedule.now.lists) c.from_residual-in_err-program.result (nothing_run machine c.args.image.now c.args.schedule.now.lists c.requires.empty there.0 there.1)
+
 pub returns-in_err-simulation-clause-err : goal.returns-in_err-simulation-clause-err
-returns-in_err-simulation-clause-err c =
+returns-in_err-simulation-clause-err g c =
     let machine = c.args.machine.now in
     let there = c.fresh_components_are_there.ensures machine c.requires.machine in
     on_err (IsLegalSoFar machine c.args.image.now c.args.schedule.now.lists) c.from_residual-in_err-simulation.result (nothing_run machine c.args.image.now c.args.schedule.now.lists c.requires.empty there.0 there.1)
 
 pub loop-alloc-init : goal.loop-alloc-init
-loop-alloc-init c =
+loop-alloc-init g c =
     let machine = c.args.machine.now in
     let image = c.args.image.now in
     let first = c.in_ok-simulation.ensures in
@@ -48,7 +54,7 @@ loop-alloc-init c =
     }
 
 pub returns-clause-ok : goal.returns-clause-ok
-returns-clause-ok c =
+returns-clause-ok g c =
     let machine = c.args.machine.now in
     let image = c.args.image.now in
     let lists = c.loop-alloc.schedule.lists in
@@ -64,33 +70,33 @@ returns-clause-ok c =
     }
 
 pub returns-clause-counted : goal.returns-clause-counted
-returns-clause-counted c =
+returns-clause-counted g c =
     let h = c.loop-alloc.invariant.run in
     counted_results c.args.machine.now h.state c.loop-alloc.simulation h.come c.results.result c.results.ensures.cores c.results.ensures.counts
 
 pub interval-requires-clause-room : goal.interval-requires-clause-room
-interval-requires-clause-room c =
+interval-requires-clause-room g c κs within =
     let was = c.loop-alloc.invariant in
     let machine = c.args.machine.now in
     let image = c.args.image.now in
     let p = c.loop-alloc.simulation in
     let running : c.has_ended.result ≡ false = search rules in
-    let g = goes machine image c.loop-alloc.schedule.lists p was.run c.loop-alloc.k c.loop-alloc.end was.count was.end (sym c.has_ended.ensures ∙ running) in
-    has_room machine (c.loop-alloc.end + machine.interval) was.run.state p g
+    let on = goes machine image c.loop-alloc.schedule.lists p was.run c.loop-alloc.k c.loop-alloc.end was.count was.end (sym c.has_ended.ensures ∙ running) in
+    has_room machine (c.loop-alloc.end + machine.interval) was.run.state p on
 
 pub interval-requires-clause-goes_on : goal.interval-requires-clause-goes_on
-interval-requires-clause-goes_on c =
+interval-requires-clause-goes_on g c κs within =
     let was = c.loop-alloc.invariant in
     let running : c.has_ended.result ≡ false = search rules in
     (was.run.state, goes c.args.machine.now c.args.image.now c.loop-alloc.schedule.lists c.loop-alloc.simulation was.run c.loop-alloc.k c.loop-alloc.end was.count was.end (sym c.has_ended.ensures ∙ running))
 
 pub add-requires-clause-cores : goal.add-requires-clause-cores
-add-requires-clause-cores c =
+add-requires-clause-cores g c =
     let known : c.loop-alloc.schedule.cores ≡ c.args.machine.now.cores = c.loop-alloc.invariant.cores ∙ c.requires.cores_known in
-    subst (λ (n : ℕ). All (λ (e : Entry). e.core < n) c.in_ok-entries.entries) (sym known) c.in_ok-entries.ensures.cores
+    subst (λ (n : ℕ). All (λ (e : Entry). e.core < n) c.in_ok-next.entries) (sym known) c.in_ok-next.ensures.cores
 
 pub returns-in_err-add-clause-err : goal.returns-in_err-add-clause-err
-returns-in_err-add-clause-err c =
+returns-in_err-add-clause-err g c =
     let machine = c.args.machine.now in
     let image = c.args.image.now in
     let legal : IsLegalSoFar machine image c.loop-alloc.schedule.lists = legal_so_far machine image c.loop-alloc.schedule.lists c.loop-alloc.simulation c.loop-alloc.invariant.run in
@@ -98,32 +104,38 @@ returns-in_err-add-clause-err c =
     on_err (IsLegalSoFar machine image c.add.new.self.lists) c.from_residual-in_err-add.result (subst (λ (kept : IntervalLists). IsLegalSoFar machine image kept.lists) (sym same) legal)
 
 pub loop-alloc-smaller : goal.loop-alloc-smaller
-loop-alloc-smaller c =
+loop-alloc-smaller g c =
     let was = c.loop-alloc.invariant in
     let running : c.has_ended.result ≡ false = search rules in
     let below = below_limit c.args.machine.now c.args.image.now c.loop-alloc.schedule.lists c.loop-alloc.simulation was.run c.loop-alloc.k c.loop-alloc.end was.count was.end (sym c.has_ended.ensures ∙ running) was.within in
     let less : c.args.machine.now.intervals - (c.loop-alloc.k + 1) < c.args.machine.now.intervals - c.loop-alloc.k = omega (arith, below) in
     less
 
+pub returns-in_err-next-clause-err : goal.returns-in_err-next-clause-err
+returns-in_err-next-clause-err g c =
+    let machine = c.args.machine.now in
+    let image = c.args.image.now in
+    on_err (IsLegalSoFar machine image c.loop-alloc.schedule.lists) c.from_residual-in_err-next.result (legal_so_far machine image c.loop-alloc.schedule.lists c.loop-alloc.simulation c.loop-alloc.invariant.run)
+
 pub loop-alloc-preserved : goal.loop-alloc-preserved
-loop-alloc-preserved c =
+loop-alloc-preserved g c =
     let was = c.loop-alloc.invariant in
     let machine = c.args.machine.now in
     let image = c.args.image.now in
     let lists = c.loop-alloc.schedule.lists in
     let p = c.loop-alloc.simulation in
     let running : c.has_ended.result ≡ false = search rules in
-    let on = sym c.has_ended.ensures ∙ running in
-    let below = below_limit machine image lists p was.run c.loop-alloc.k c.loop-alloc.end was.count was.end on was.within in
-    let g = goes machine image lists p was.run c.loop-alloc.k c.loop-alloc.end was.count was.end on in
-    let turns : List ℕ = map (λ (e : Entry). e.core) c.in_ok-entries.entries in
-    let program : LeadsTo machine c.in_ok-program.program was.run.state turns c.interval.new.self = c.in_ok-entries.ensures.leads was.run.state g in
-    let leads : LeadsTo machine image was.run.state turns c.interval.new.self = subst (λ (i : MemoryImage). LeadsTo machine i was.run.state turns c.interval.new.self) c.in_ok-program.ensures program in
+    let test = sym c.has_ended.ensures ∙ running in
+    let below = below_limit machine image lists p was.run c.loop-alloc.k c.loop-alloc.end was.count was.end test was.within in
+    let come = goes machine image lists p was.run c.loop-alloc.k c.loop-alloc.end was.count was.end test in
+    let turns : List ℕ = map (λ (e : Entry). e.core) c.in_ok-next.entries in
+    let program : LeadsTo machine c.in_ok-program.program was.run.state turns c.in_ok-next.next = c.in_ok-next.ensures.leads was.run.state come in
+    let leads : LeadsTo machine image was.run.state turns c.in_ok-next.next = subst (λ (i : MemoryImage). LeadsTo machine i was.run.state turns c.in_ok-next.next) c.in_ok-program.ensures program in
     let added : c.add.new.self.lists ≡ lists ++ turns ∷ [] = c.in_ok-add.ensures.ok in
-    let run : HasRun machine image (lists ++ turns ∷ []) c.interval.new.self = further machine image lists p c.interval.new.self was.run turns g.on leads in
-    let accesses = accesses_are machine leads.state c.interval.new.self leads.come in
+    let run : HasRun machine image (lists ++ turns ∷ []) c.in_ok-next.next = further machine image lists p c.in_ok-next.next was.run turns come.on leads in
+    let accesses = accesses_are machine leads.state c.in_ok-next.next leads.come in
     record {
-      run = subst (λ (all : List (List ℕ)). HasRun machine image all c.interval.new.self) (sym added) run;
+      run = subst (λ (all : List (List ℕ)). HasRun machine image all c.in_ok-next.next) (sym added) run;
       plain = was.plain;
       count = omega (arith, ap length added, length-append lists (turns ∷ []), was.count);
       end = omega (arith, was.end);

@@ -5,7 +5,7 @@ use Rattle.replay.proofs.RunSoFar.{HasRun}
 use Rattle.replay.proofs.running.run.Given as goal
 
 abbrev pub invariant-loop-alloc : goal.invariant-loop-alloc
-invariant-loop-alloc l = record {
+invariant-loop-alloc g l = record {
   run : HasRun l.machine l.image l.schedule.lists l.simulation;
   plain : IsPlainOf l.machine l.plain;
   count : length l.schedule.lists ≡ l.k;
@@ -17,4 +17,4 @@ invariant-loop-alloc l = record {
 }
 
 abbrev pub decreases-loop-alloc : goal.decreases-loop-alloc
-decreases-loop-alloc l = l.machine.intervals - l.k
+decreases-loop-alloc g l = l.machine.intervals - l.k

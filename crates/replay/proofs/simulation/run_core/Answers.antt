@@ -2,34 +2,39 @@ use Rattle.std.proofs.Common.{◌≡◌, ◌≤◌, ◌-◌, ◌+◌, ℕ, min, 
 use Rattle.std.specs.Prelude.{IsSome}
 use Rattle.zs_num.specs.declared.entry.Entry.{Entry}
 use Rattle.bound_core.specs.ShardPort.{room_of}
-use Rattle.bound_core.specs.Timed.{TimedCore, latest, most_accesses}
+use Rattle.bound_core.specs.Timed.{TimedCore, latest_clock, most_accesses}
 use Rattle.bound_core.specs.Turn.{RunsToEnd}
+use Rattle.replay.specs.declared.gated_port.GatedPort.{GatedPort}
 use Rattle.replay.specs.Port.{LoggedPortState, gives}
 use Rattle.replay.specs.ReferenceRun.{time_of}
-use Rattle.replay.proofs.PortTurns.{halted_stays, ran_to_end, same_times, told}
+use Rattle.replay.proofs.PortTurns.{halted_stays, inner_run, ran_to_end, same_times, told}
 use Rattle.replay.proofs.simulation.run_core.Goals as goal
 
 pub returns-then-is_some : goal.returns-then-is_some
-returns-then-is_some c =
+returns-then-is_some g c =
     let halted : IsSome c.args.core.now.timed.core.halted = search rules in
-    halted_stays c.args.machine.now c.args.program.now c.args.end c.args.core.now c.args.port.now c.requires.ready halted
+    halted_stays c.args.machine.now c.args.program.now c.args.end c.args.core.now c.args.port c.requires.ready halted
 
 pub returns : goal.returns
-returns c =
+returns g c =
     let machine = c.args.machine.now in
     let image = c.args.program.now in
     let end = c.args.end in
     let core = c.args.core.now in
     let ready = c.reserve.new.self in
-    let port = c.args.port.now in
+    let port = c.args.port in
     let chosen = c.choose.new.self in
-    let last = c.run_one.new.port in
+    let last = c.run_one.new.port.port in
     let after = c.run_one.new.self in
     let timed : ready.timed ≡ core.timed = c.in_ok-reserve.ensures.timed in
     let number : ready.number ≡ core.number = c.in_ok-reserve.ensures.number in
     let ran = c.run_one.ensures in
+    let P : Type 0 = GatedPort g.row.G.Denot in
+    let through : RunsToEnd _ image end gives told ready.number chosen last ready.timed after.timed =
+    inner_run {Port = P} _ (λ p. p.port) (λ p q start request e given. given) _ image end ready.number _ c.run_one.new.port ready.timed after.timed ran.turns
+    in
     let turns : RunsToEnd (time_of machine) image end gives told ready.number chosen last ready.timed after.timed =
-    subst (λ (times : Entry → ℕ). RunsToEnd times image end gives told ready.number chosen last ready.timed after.timed) (same_times machine c.args.plain.now c.requires.plain) ran.turns
+    subst (λ (times : Entry → ℕ). RunsToEnd times image end gives told ready.number chosen last ready.timed after.timed) (same_times machine c.args.plain.now c.requires.plain) through
     in
     let numbered = subst (λ (n : ℕ). RunsToEnd (time_of machine) image end gives told n chosen last ready.timed after.timed) number turns in
     let own = subst (λ (t : TimedCore). RunsToEnd (time_of machine) image end gives told core.number chosen last t after.timed) timed numbered in
@@ -37,7 +42,7 @@ returns c =
     let is = c.choose.ensures in
     ran_to_end machine image end core port c.requires.ready c.requires.end running chosen last after
     (ap (λ (p : LoggedPortState). p.world) is) (ap (λ (p : LoggedPortState). p.entries) is) (ap (λ (p : LoggedPortState). p.room) is)
-    own ran.over (subst (λ (t : TimedCore). latest end after.timed ≤ latest end t) timed ran.latest) (ran.number ∙ number)
+    own ran.over (subst (λ (t : TimedCore). latest_clock end after.timed ≤ latest_clock end t) timed ran.latest) (ran.number ∙ number)
     (subst (λ (t : TimedCore). most_accesses end t ≤ end - t.clock + 256) timed ran.few)
     ran.port_base ran.port_size
     (subst (λ (t : TimedCore). min (room_of chosen.world) chosen.room ≤ min (room_of last.world) last.room + most_accesses end t) timed ran.port_room)

@@ -3,11 +3,11 @@ use Rattle.std.proofs.lemmas.Option.{slice_get-get_or, slice_get_within}
 use Rattle.zs_num.specs.declared.entry.Entry.{Entry}
 use Rattle.bound_core.specs.ReferenceMachine.{BoundState, bound_phase}
 use Rattle.bound_core.specs.ShardPort.{base_of, size_of}
-use Rattle.bound_core.specs.ShardWorld.{ShardWorld, serve}
+use Rattle.bound_core.specs.ShardWorld.{ShardWorld, shards_serve}
 use Rattle.bound_core.specs.Timed.{TimedCore}
 use Rattle.bound_core.proofs.Accesses.{clock_within}
 use Rattle.replay.specs.ReferenceRun.{time_of}
-use Rattle.replay.specs.Simulation.{IsReady, phase_of}
+use Rattle.replay.specs.Simulation.{CanRunInterval, phase_of}
 use Rattle.replay.specs.Turns.{HaveTaken, time_by_plain}
 use Rattle.replay.proofs.Cores.{all_timed, ready_again}
 use Rattle.replay.proofs.PortTurns.{same_times}
@@ -30,7 +30,7 @@ take_turns-requires-clause-begins c =
     let did = c.in_ok-reserve_all.ensures in (
       all_most machine,
       turns_begin (time_by_plain c.args.plain.now) machine c.args.program.now c.args.end cores port c.requires.machine c.requires.end
-          (ready_again (IsReady machine c.args.end (base_of port.world) (size_of port.world)) c.args.cores.now cores did.timed c.requires.ready)
+          (ready_again (CanRunInterval machine c.args.end (base_of port.world) (size_of port.world)) c.args.cores.now cores did.timed c.requires.ready)
           did.spare (c.reserve_all.auto.cores ∙ c.requires.count) (did.numbered c.requires.numbered) c.requires.stamps c.requires.none c.requires.room,
     )
 
@@ -52,16 +52,16 @@ returns-in-Ok-clause-turned c =
     in
     let most = all_most machine in
     let first = turns_begin (time_by_plain plain) machine image end cores port c.requires.machine c.requires.end
-    (ready_again (IsReady machine end (base_of port.world) (size_of port.world)) c.args.cores.now cores reserved.timed c.requires.ready)
+    (ready_again (CanRunInterval machine end (base_of port.world) (size_of port.world)) c.args.cores.now cores reserved.timed c.requires.ready)
     reserved.spare (c.reserve_all.auto.cores ∙ c.requires.count) (reserved.numbered c.requires.numbered) c.requires.stamps c.requires.none c.requires.room
     in
     let h : HaveTaken (time_by_plain plain) image end most (phase_of cores port) turns after last = did.taken most first in
-    let legal : bound_phase serve (time_by_plain plain) image end turns (phase_of cores port) ≡ Ok (phase_of after last) = did.legal in
-    let timely : bound_phase serve (time_of machine) image end turns (phase_of cores port) ≡ Ok (phase_of after last) =
-    subst (λ (times : Entry → ℕ). bound_phase serve times image end turns (phase_of cores port) ≡ Ok (phase_of after last)) (same_times machine plain c.requires.plain) legal
+    let legal : bound_phase shards_serve (time_by_plain plain) image end turns (phase_of cores port) ≡ Ok (phase_of after last) = did.legal in
+    let timely : bound_phase shards_serve (time_of machine) image end turns (phase_of cores port) ≡ Ok (phase_of after last) =
+    subst (λ (times : Entry → ℕ). bound_phase shards_serve times image end turns (phase_of cores port) ≡ Ok (phase_of after last)) (same_times machine plain c.requires.plain) legal
     in
     record {
-      phase = subst (λ (s : BoundState ShardWorld). bound_phase serve (time_of machine) image end turns s ≡ Ok (phase_of after last)) begun timely;
+      phase = subst (λ (s : BoundState ShardWorld). bound_phase shards_serve (time_of machine) image end turns s ≡ Ok (phase_of after last)) begun timely;
       starts = h.starts;
       few = omega (arith, h.few);
       clocks = all_timed (λ x. x.clock ≤ 2 ^ 57) after (λ i x here.
@@ -87,8 +87,8 @@ returns-in-Err-clause-illegal c =
     let begun : phase_of cores port ≡ phase_of c.args.cores.now port =
     ap (λ (cs : List TimedCore). let s : BoundState ShardWorld = record { cores = cs; world = port.world; entries = port.entries } in s) reserved.timed
     in
-    let illegal : bound_phase serve (time_by_plain plain) image end turns (phase_of cores port) ≡ Err place = c.in-Err.ensures.illegal in
-    let timely : bound_phase serve (time_of machine) image end turns (phase_of cores port) ≡ Err place =
-    subst (λ (times : Entry → ℕ). bound_phase serve times image end turns (phase_of cores port) ≡ Err place) (same_times machine plain c.requires.plain) illegal
+    let illegal : bound_phase shards_serve (time_by_plain plain) image end turns (phase_of cores port) ≡ Err place = c.in-Err.ensures.illegal in
+    let timely : bound_phase shards_serve (time_of machine) image end turns (phase_of cores port) ≡ Err place =
+    subst (λ (times : Entry → ℕ). bound_phase shards_serve times image end turns (phase_of cores port) ≡ Err place) (same_times machine plain c.requires.plain) illegal
     in
-    (refl, subst (λ (s : BoundState ShardWorld). bound_phase serve (time_of machine) image end turns s ≡ Err place) begun timely)
+    (refl, subst (λ (s : BoundState ShardWorld). bound_phase shards_serve (time_of machine) image end turns s ≡ Err place) begun timely)

@@ -3,7 +3,7 @@ use Rattle.std.specs.Prelude.{is_some, slice_get, slice_set}
 use Rattle.std.proofs.lemmas.List.{length-set, take_all, take_more}
 use Rattle.std.proofs.lemmas.Option.{slice_get-get_or}
 use Rattle.bound_core.specs.ReferenceMachine.{BoundState}
-use Rattle.bound_core.specs.ShardWorld.{ShardWorld, serve}
+use Rattle.bound_core.specs.ShardWorld.{ShardWorld, shards_serve}
 use Rattle.bound_core.specs.Timed.{NumberedCore}
 use Rattle.bound_core.proofs.Reaching.{whole_phase}
 use Rattle.replay.specs.Simulation.{phase_of}
@@ -133,7 +133,7 @@ returns-then-end_all-clause-legal c =
     in
     let ended : c.end_all.result ≡ true = search rules in
     let h = c.end_all.ensures.taken ended most first turns whole in
-    whole_phase serve time image end first (phase_of c.end_all.new.cores c.end_all.new.port) turns h.reaches (c.end_all.ensures.over ended)
+    whole_phase shards_serve time image end first (phase_of c.end_all.new.cores c.end_all.new.port) turns h.reaches (c.end_all.ensures.over ended)
 
 pub returns-then-end_all-clause-taken : goal.returns-then-end_all-clause-taken
 returns-then-end_all-clause-taken c = λ most begins.

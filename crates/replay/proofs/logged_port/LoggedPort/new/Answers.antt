@@ -1,11 +1,11 @@
 use Rattle.std.proofs.Common.{List, subst, sym}
 use Rattle.shard.specs.Served.{ShardState}
 use Rattle.bound_core.specs.ShardPort.{AreShardsOf, base_in, size_in}
-use Rattle.replay.proofs.Shards.{are_shards}
+use Rattle.bound_core.proofs.NewShards.{are_shards}
 use Rattle.replay.proofs.logged_port.LoggedPort.new.Goals as goal
 
-pub new-requires-clause-shards : goal.new-requires-clause-shards
-new-requires-clause-shards c =
+pub over-requires-clause-shards : goal.over-requires-clause-shards
+over-requires-clause-shards c =
     let machine = c.args.machine.now in
     subst (λ (shards : List ShardState). AreShardsOf machine.cores shards (base_in shards) (size_in shards)) (sym c.in_ok-shards.ensures)
     (are_shards machine c.args.image.now c.requires.machine)

@@ -2,16 +2,16 @@ use Rattle.std.proofs.Common.{◌≡◌, ◌-◌, ◌^◌, ◌≤◌, ℕ, List,
 use Rattle.std.specs.Prelude.{slice_get}
 use Rattle.std.specs.Vec.{with_items}
 use Rattle.std.proofs.lemmas.List.{with_items_is}
-use Rattle.bound_core.specs.History.{begun}
+use Rattle.bound_core.specs.History.{begun_over_shards}
 use Rattle.bound_core.specs.ReferenceMachine.{bound_phase}
 use Rattle.bound_core.specs.ShardPort.{base_of, room_of, size_of}
-use Rattle.bound_core.specs.ShardWorld.{ShardWorld, begun_world, restarted, serve}
-use Rattle.bound_core.specs.Timed.{NumberedCore}
+use Rattle.bound_core.specs.ShardWorld.{ShardWorld, begun_world, restarted, shards_serve}
+use Rattle.bound_core.specs.Timed.{NumberedCore, timed_of}
 use Rattle.replay.specs.declared.simulation.Simulation.{Simulation}
 use Rattle.replay.specs.ReferenceRun.{access_room, time_of}
-use Rattle.replay.specs.Simulation.{IsReady, phase_of, timed_of}
+use Rattle.replay.specs.Simulation.{CanRunInterval, phase_of}
 use Rattle.replay.proofs.BoundPhase.{bounded, from_start, keys}
-use Rattle.replay.proofs.Shards.{begun_room}
+use Rattle.replay.proofs.Room.{begun_room}
 use Rattle.replay.proofs.simulation.Simulation.bound_under.Goals as goal
 
 pub run_turns-requires-clause-ready : goal.run_turns-requires-clause-ready
@@ -22,7 +22,7 @@ run_turns-requires-clause-ready c = λ i core here.
     c.in_ok-begin.ensures.world ∙ ap (λ (n : ℕ). begun_world n (map restarted p.port.world.shards)) c.requires.room.stamps
     in
     let there : slice_get p.cores.items i ≡ Some core = ap (λ (cores : List NumberedCore). slice_get cores i) (sym c.deref_mut.ensures.value) ∙ here in
-    subst (λ (w : ShardWorld). IsReady machine c.args.end (base_of w) (size_of w) core.timed) (sym begun) (c.requires.room.ready i core there)
+    subst (λ (w : ShardWorld). CanRunInterval machine c.args.end (base_of w) (size_of w) core.timed) (sym begun) (c.requires.room.ready i core there)
 
 pub run_turns-requires-clause-room : goal.run_turns-requires-clause-room
 run_turns-requires-clause-room c =
@@ -49,11 +49,11 @@ take_sorted-requires c =
     let after = c.run_turns.new.cores in
     let last = c.run_turns.new.port in
     let count : length cores ≡ machine.cores = ap length c.deref_mut.ensures.value ∙ c.requires.room.count in
-    let start : phase_of cores port ≡ begun (timed_of cores) (map restarted was) = from_start cores was port machine.cores begins c.in_ok-begin.ensures.none count in
-    let phase : bound_phase serve (time_of machine) image c.args.end c.args.turns.now (begun (timed_of cores) (map restarted was)) ≡ Ok (phase_of after last) =
-    ap (bound_phase serve (time_of machine) image c.args.end c.args.turns.now) (sym start) ∙ c.in_ok-run_turns.ensures.turned.phase
+    let start : phase_of cores port ≡ begun_over_shards (timed_of cores) (map restarted was) = from_start cores was port machine.cores begins c.in_ok-begin.ensures.none count in
+    let phase : bound_phase shards_serve (time_of machine) image c.args.end c.args.turns.now (begun_over_shards (timed_of cores) (map restarted was)) ≡ Ok (phase_of after last) =
+    ap (bound_phase shards_serve (time_of machine) image c.args.end c.args.turns.now) (sym start) ∙ c.in_ok-run_turns.ensures.turned.phase
     in
-    keys machine image c.args.end cores after was last c.args.turns.now count c.requires.room.some phase
+    keys machine image c.args.end cores after was last c.args.turns.now count c.requires.room.shards.some phase
     (c.phases_are_histories.ensures (time_of machine) image c.args.end) c.rising_stamps_are_distinct.ensures c.stamps_rise.ensures
 
 pub returns-clause-bounded : goal.returns-clause-bounded
@@ -73,13 +73,13 @@ returns-clause-bounded c =
     let last = c.run_turns.new.port in
     let h = c.in_ok-run_turns.ensures.turned in
     let count : length cores ≡ machine.cores = ap length c.deref_mut.ensures.value ∙ c.requires.room.count in
-    let start : phase_of cores port ≡ begun (timed_of cores) (map restarted was) = from_start cores was port machine.cores begins c.in_ok-begin.ensures.none count in
-    let phase : bound_phase serve (time_of machine) image end turns (begun (timed_of cores) (map restarted was)) ≡ Ok (phase_of after last) =
-    ap (bound_phase serve (time_of machine) image end turns) (sym start) ∙ h.phase
+    let start : phase_of cores port ≡ begun_over_shards (timed_of cores) (map restarted was) = from_start cores was port machine.cores begins c.in_ok-begin.ensures.none count in
+    let phase : bound_phase shards_serve (time_of machine) image end turns (begun_over_shards (timed_of cores) (map restarted was)) ≡ Ok (phase_of after last) =
+    ap (bound_phase shards_serve (time_of machine) image end turns) (sym start) ∙ h.phase
     in
     let taken = c.take_sorted.ensures in
     let long : length after ≡ p.cores.len = omega (arith, c.run_turns.auto.cores, ap length c.deref_mut.ensures.value, p.cores.ok.0) in
     let q : Simulation = record { cores = with_items p.cores after; port = c.take_sorted.new.self; comps = p.comps; counters = p.counters } in
-    bounded machine image end cores after was last turns count c.requires.room.some phase (c.phases_are_histories.ensures (time_of machine) image end)
+    bounded machine image end cores after was last turns count c.requires.room.shards.some phase (c.phases_are_histories.ensures (time_of machine) image end)
     h.starts h.few h.clocks (h.count ∙ count) h.numbered h.over
     p q (sym c.deref_mut.ensures.value) refl (with_items_is p.cores after long) taken.world c.take_sorted.result taken.entries

@@ -1,4 +1,4 @@
-use Rattle.std.proofs.Common.{◌≡◌, List, map, length, refl, sym, ap, ◌∙◌, subst}
+use Rattle.std.proofs.Common.{◌≡◌, ℕ, List, map, length, refl, sym, ap, ◌∙◌, subst}
 use Rattle.std.specs.List.{range_with_len}
 use Rattle.std.proofs.lemmas.List.{length-replicate}
 use Rattle.std.proofs.lemmas.List.FromFn.{length-map-range_with_len}
@@ -6,11 +6,12 @@ use Rattle.shard.specs.Served.{ShardState}
 use Rattle.shard.specs.StandsFor.{new_shards}
 use Rattle.bound_core.specs.MachineOfShards.{StandForMachine}
 use Rattle.bound_core.specs.MachineWorld.{first_world}
+use Rattle.bound_core.specs.ShardPort.{AreShardsOf}
 use Rattle.bound_core.specs.ShardWorld.{ShardWorld, begun_world, restarted}
 use Rattle.bound_core.specs.Timed.{first_core}
 use Rattle.replay.proofs.Cores.{numbered_from}
 use Rattle.replay.proofs.NextInterval.{all_first_over, first_counted}
-use Rattle.replay.proofs.Shards.{new_again, new_count}
+use Rattle.bound_core.proofs.NewShards.{new_again, new_count, placed_shards}
 use Rattle.replay.proofs.simulation.Simulation.new.Goals as goal
 
 pub returns : goal.returns
@@ -35,6 +36,10 @@ returns c =
         numbered = numbered_from machine.cores (c.in_ok-first_cores.field-0).items cores.numbered;
         stamps = ap (λ (w : ShardWorld). length w.stamps) world ∙ length-replicate machine.cores 0;
         banks = ap (λ (w : ShardWorld). length w.shards) world ∙ ap length (new_again machine image) ∙ new_count machine image;
+        placed =
+            subst (λ (ss : List ShardState). AreShardsOf machine.cores ss machine.memory.base machine.memory.size) (sym (ap (λ (w : ShardWorld). w.shards) world ∙ new_again machine image))
+            (subst (λ (base : ℕ). AreShardsOf machine.cores new base machine.memory.size) c.requires.base
+            (subst (λ (size : ℕ). AreShardsOf machine.cores new image.base size) c.requires.size (placed_shards machine image c.requires.machine)));
         stand = subst (λ (ss : List ShardState). StandForMachine (map (first_core machine image) (range_with_len 0 machine.cores)) (begun_world machine.cores ss) (first_world machine image)) (sym at) stand;
         comps = refl;
         counters = c.in_ok-new-2.ensures ∙ sym (c.nothing_is_counted_first.ensures machine comps fresh);

@@ -1,0 +1,40 @@
+// The accesses of a core to shards, each behind a gate.
+ghost use Rattle.std.specs.Prelude.{◌≡◌, ◌+◌, ◌≤◌};
+
+use crate::logged_port::LoggedPort;
+use bound_core::Port;
+use zs_host::{Gate, Point};
+use zs_num::{Cycle, Entry, Request};
+
+/// What serves the accesses of a core of this number. Before each access it passes the gate, as the one
+/// worker that there is.
+#[derive(Drop)]
+pub struct GatedPort<'a, G: Gate> {
+    pub gate: &'a G,
+    pub core: u16,
+    pub port: LoggedPort,
+}
+
+impl<'a, G: Gate> Port for GatedPort<'a, G> {
+    ghost use Rattle.std.specs.Prelude.{min, Some};
+    ghost use Rattle.bound_core.specs.ShardPort.{base_of, room_of, size_of};
+    ghost use Rattle.replay.specs.Port.{gives};
+
+    ghost core = { λ p. p.port.core };
+
+    ghost base = { λ p. base_of p.port.world };
+
+    ghost size = { λ p. size_of p.port.world };
+
+    ghost room = { λ p. min (room_of p.port.world) p.port.room };
+
+    ghost gives = { λ p start request e q. gives p.port start request e q.port };
+
+    ghost told = { λ p. Some p.port.entries };
+
+    #[inline(always)]
+    fn access(&mut self, start: Cycle, request: Request) -> Entry {
+        self.gate.pass(0, Point::Access { core: self.core });
+        self.port.access(start, request)
+    }
+}
