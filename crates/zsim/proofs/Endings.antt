@@ -1,28 +1,32 @@
--- How a call ended: an input was not taken, memory ran out in the run, or the run came to its end.
-use Rattle.std.proofs.Common.{◌≡◌, ◌≢◌, ◌⊎◌, ℕ, Bool, true, false, List, [], Option, Some, None, Ok, Err, Result, option_map, refl, sym, inl, inr, ap, subst, ◌∙◌}
-use Rattle.std.specs.Prelude.{IsOk, IsSomeAnd, MatchOption, is_ok, if◌then◌else◌, length, nat_lt}
+-- How a call ended: an input was not taken, memory ran out in the run, a schedule was not legal, or the run came to its end.
+use Rattle.std.proofs.Common.{◌≡◌, ◌⊎◌, ℕ, Bool, true, false, List, [], Option, Some, None, Ok, Err, Result, option_map, refl, sym, inl, inr, ap, subst}
+use Rattle.std.specs.Prelude.{IfSome, IsOk, IsSomeAnd, MatchOption, is_ok, if◌then◌else◌, length, nat_lt}
 use Rattle.access_log.specs.Schedule.{IntervalLists}
 use Rattle.machine_desc.specs.declared.errors.BadMachine.{BadMachine}
 use Rattle.machine_desc.specs.declared.machine.Machine.{Machine}
+use Rattle.machine_desc.specs.Machine.{IsMachine}
 use Rattle.machine_desc.specs.Description.{machine_of}
 use Rattle.elf_load.specs.declared.bad_elf.BadElf.{BadElf}
 use Rattle.elf_load.specs.Image.{image_of}
 use Rattle.elf_load.specs.MemoryImage.{MemoryImage}
-use Rattle.replay.specs.ReferenceRun.{IsLegalSoFar, IsRunOf}
+use Rattle.replay.specs.ReferenceRun.{Illegal, IsIllegalAt, IsLegalSoFar}
 use Rattle.replay.specs.Results.{Results}
-use Rattle.schedule_file.specs.ScheduleFile.{file_of}
+use Rattle.schedule_file.specs.declared.bad_schedule.BadSchedule.{BadSchedule}
+use Rattle.schedule_file.specs.ScheduleFile.{schedule_file_of, schedule_of}
 use Rattle.zsim.specs.declared.ended.Kept.{Kept}
+use Rattle.zsim.specs.declared.ended.ScheduleFault.TheVariants as fault
 use Rattle.zsim.specs.declared.ended.Status.{Status}
 use Rattle.zsim.specs.declared.ended.Status.TheVariants as status
 use Rattle.zsim.specs.declared.ended.Which.TheVariants as which
-use Rattle.zsim.specs.CommandLine.{exe_file}
-use Rattle.zsim.specs.Ended.{Gives, HasEnded, IsExeOf, IsMachineText, IsStopped, KeepsExe, KeepsMachine, KeepsNothing, KeepsText, NothingFailed, Seen, no_intervals, status_at}
-use Rattle.zsim.specs.Limits.{exe_limit, machine_limit}
+use Rattle.zsim.specs.CommandLine.{Command, exe_file, record_name, replay}
+use Rattle.zsim.specs.Ended.{Gives, HasEnded, IsExeOf, IsMachineText, IsRefusedAt, IsScheduleFile, KeepsAll, KeepsExe, KeepsMachine, KeepsNothing, KeepsText, NothingFailed, Seen, no_intervals, status_at}
+use Rattle.zsim.specs.Limits.{exe_limit, machine_limit, schedule_limit}
 use Rattle.zsim.specs.Report.{report_of}
 use Rattle.zsim.specs.Seen.{FilesSeen, FailedToWrite, FileFailed, GainedNothing, NoPutFailed, WasCut, WasWritten}
-use Rattle.zsim.specs.Setup.{Setup, image_by, machine_by, setup_of, with_image, with_machine}
-use Rattle.zsim.specs.Steps.{Finishes, IsNotTaken, IsUntouched, RunsAs, named_file}
+use Rattle.zsim.specs.Setup.{Setup, image_by, machine_by, schedule_by, setup_of, with_image, with_machine, with_schedule}
+use Rattle.zsim.specs.Steps.{Finishes, IsNotTaken, IsUntouched, ReplaysAs, ReplaysFile, RunGives, RunsAs, named_file}
 use Rattle.zsim.proofs.FilesSoFar.{failed_input}
+use Rattle.zsim.proofs.ScheduleCores.{schedule_cores}
 
 -- ---- which refusals there are
 
@@ -48,6 +52,18 @@ exe_refuses : (P : Status → Type 0) → P (status.TooLong which.Exe) → ((bad
 unfolding image_by
 exe_refuses P is_long is_bad machine exe s is =
     refused_exe P is_long is_bad (nat_lt exe_limit (length exe)) (image_of exe machine.memory.base machine.memory.size) s is
+
+refused_schedule : (P : Status → Type 0) → P (status.TooLong which.Schedule) → ((bad : BadSchedule) → P (status.BadSchedule (fault.File bad)))
+    → (long : Bool) (found : Result IntervalLists BadSchedule) (s : Status) → (if long then Err (status.TooLong which.Schedule) else with_schedule found) ≡ Err s → P s
+refused_schedule P is_long is_bad true found s is = let same : status.TooLong which.Schedule ≡ s = cc in subst P same is_long
+refused_schedule P is_long is_bad false (Ok schedule) s is = absurd cc
+refused_schedule P is_long is_bad false (Err bad) s is = let same : status.BadSchedule (fault.File bad) ≡ s = cc in subst P same (is_bad bad)
+
+pub schedule_refuses : (P : Status → Type 0) → P (status.TooLong which.Schedule) → ((bad : BadSchedule) → P (status.BadSchedule (fault.File bad)))
+    → (machine : Machine) (sched_file : List ℕ) (s : Status) → schedule_by machine sched_file ≡ Err s → P s
+unfolding schedule_by
+schedule_refuses P is_long is_bad machine sched_file s is =
+    refused_schedule P is_long is_bad (nat_lt schedule_limit (length sched_file)) (schedule_of machine.cores sched_file) s is
 
 -- ---- no run was begun
 
@@ -94,7 +110,7 @@ module _ (seen : Seen) (k : Kept) (before : IsBefore seen k) where
   machine_not_taken s (inr (inr (refused, some, quiet))) exe sched_file schedule =
       let text : KeepsText seen k = record { machine = some; exe = exe; sched_file = sched_file; schedule = schedule } in
       let none : NothingFailed seen = record { files = quiet.no_fault; out = before.out } in
-      let setup : (t : Status) → machine_by k.machine ≡ Err t → setup_of k ≡ Err t = λ t is. rw is refl in
+      let setup : (t : Status) → machine_by k.machine ≡ Err t → setup_of seen.command k ≡ Err t = λ t is. rw is refl in
       machine_refuses (λ (t : Status). machine_by k.machine ≡ Err t → HasEnded seen t k)
       (λ is. record {
         kept = text;
@@ -119,8 +135,8 @@ module _ (seen : Seen) (k : Kept) (before : IsBefore seen k) where
     exe_not_taken s (inl (is, none, not_read, same)) sched_file schedule =
         let keeps : KeepsMachine seen k = record { machine = text; exe = none; sched_file = sched_file; schedule = rw machine_is schedule } in
         let ended : HasEnded seen status.ReadFault k = record {
-          kept = inr keeps;
-          refusals = (inr (keeps, not_read), before.out);
+          kept = inr (inl keeps);
+          refusals = (inr (inl (keeps, not_read)), before.out);
           report = (before.lists, before.nothing);
           files = same;
           complete = λ no _. absurd (no (failed_input seen.files (exe_file seen.command.exe) not_read));
@@ -139,7 +155,7 @@ module _ (seen : Seen) (k : Kept) (before : IsBefore seen k) where
     exe_not_taken s (inr (inl (is, inr some, quiet))) sched_file schedule =
         let keeps : KeepsExe seen k = record { machine = text; exe = rw machine_is some; sched_file = sched_file; cores = rw machine_is (ap (λ (l : IntervalLists). l.cores) schedule) } in
         let ended : HasEnded seen status.NoMemory k = record {
-          kept = inr (inr (inr keeps));
+          kept = inr (inr (inr (inl keeps)));
           refusals = record { files = quiet.no_fault; out = before.out };
           report = inl (before.lists, before.nothing);
           files = inl quiet.names;
@@ -149,7 +165,7 @@ module _ (seen : Seen) (k : Kept) (before : IsBefore seen k) where
     exe_not_taken s (inr (inr (refused, some, quiet))) sched_file schedule =
         let keeps : KeepsExe seen k = record { machine = text; exe = rw machine_is some; sched_file = sched_file; cores = rw machine_is (ap (λ (l : IntervalLists). l.cores) schedule) } in
         let none : NothingFailed seen = record { files = quiet.no_fault; out = before.out } in
-        let setup : (t : Status) → image_by machine k.exe ≡ Err t → setup_of k ≡ Err t = λ t is. rw (machine_is, is) refl in
+        let setup : (t : Status) → image_by machine k.exe ≡ Err t → setup_of seen.command k ≡ Err t = λ t is. rw (machine_is, is) refl in
         exe_refuses (λ (t : Status). image_by machine k.exe ≡ Err t → HasEnded seen t k)
         (λ is. record {
           kept = keeps;
@@ -166,6 +182,62 @@ module _ (seen : Seen) (k : Kept) (before : IsBefore seen k) where
           complete = λ _ _. inr (rw (setup _ is) refl);
         })
         machine k.exe s refused refused
+
+    module _ (image : MemoryImage) (image_is : image_by machine k.exe ≡ Ok image) (exe : IsExeOf seen.files machine seen.command.exe k.exe) (cores : k.schedule.cores ≡ machine.cores) where
+      -- the third
+      pub schedule_not_taken : (name : List ℕ) (s : Status) → seen.command.task ≡ replay name
+          → IsNotTaken (λ files. IsScheduleFile files (replay name)) (schedule_by machine) (Some name) s seen.files k.sched_file → HasEnded seen s k
+      schedule_not_taken name s replays (inl (is, none, not_read, same)) =
+          let keeps : KeepsExe seen k = record { machine = text; exe = rw machine_is exe; sched_file = none; cores = rw machine_is cores } in
+          let loads : IsOk (image_by machine k.exe) = ap is_ok image_is in
+          let ended : HasEnded seen status.ReadFault k = record {
+            kept = inr (inr keeps);
+            refusals = (inr (inr (keeps, rw machine_is loads, rw replays not_read)), before.out);
+            report = (before.lists, before.nothing);
+            files = same;
+            complete = λ no _. absurd (no not_read.failed);
+          } in
+          subst (λ (t : Status). HasEnded seen t k) (sym is) ended
+      schedule_not_taken name s replays (inr (inl (is, inl none, quiet))) =
+          let keeps : KeepsExe seen k = record { machine = text; exe = rw machine_is exe; sched_file = none; cores = rw machine_is cores } in
+          let ended : HasEnded seen status.NoMemory k = record {
+            kept = inr (inr (inr (inl keeps)));
+            refusals = record { files = quiet.no_fault; out = before.out };
+            report = inl (before.lists, before.nothing);
+            files = inl quiet.names;
+            complete = λ _ _. inl refl;
+          } in
+          subst (λ (t : Status). HasEnded seen t k) (sym is) ended
+      schedule_not_taken name s replays (inr (inl (is, inr some, quiet))) =
+          let keeps : KeepsAll seen k = record { machine = text; exe = rw machine_is exe; sched_file = rw replays some; cores = rw machine_is cores } in
+          let ended : HasEnded seen status.NoMemory k = record {
+            kept = inr (inr (inr (inr keeps)));
+            refusals = record { files = quiet.no_fault; out = before.out };
+            report = inl (before.lists, before.nothing);
+            files = inl quiet.names;
+            complete = λ _ _. inl refl;
+          } in
+          subst (λ (t : Status). HasEnded seen t k) (sym is) ended
+      schedule_not_taken name s replays (inr (inr (refused, some, quiet))) =
+          let keeps : KeepsAll seen k = record { machine = text; exe = rw machine_is exe; sched_file = rw replays some; cores = rw machine_is cores } in
+          let none : NothingFailed seen = record { files = quiet.no_fault; out = before.out } in
+          let setup : (t : Status) → schedule_by machine k.sched_file ≡ Err t → setup_of seen.command k ≡ Err t = λ t is. rw (machine_is, image_is, replays, is) refl in
+          schedule_refuses (λ (t : Status). schedule_by machine k.sched_file ≡ Err t → HasEnded seen t k)
+          (λ is. record {
+            kept = keeps;
+            refusals = (setup _ is, none);
+            report = (before.lists, before.nothing);
+            files = quiet.names;
+            complete = λ _ _. inr (rw (setup _ is) refl);
+          })
+          (λ bad is. record {
+            kept = keeps;
+            refusals = (setup _ is, none);
+            report = (before.lists, before.nothing);
+            files = quiet.names;
+            complete = λ _ _. inr (rw (setup _ is) refl);
+          })
+          machine k.sched_file s refused refused
 
 -- ---- the run was begun
 
@@ -192,24 +264,38 @@ weaker : (P Q : List ℕ → Type 0) (name : Option (List ℕ)) → ((n : List �
 weaker P Q None f is = absurd is
 weaker P Q (Some name) f is = f name is
 
-module _ (seen : Seen) (k : Kept) (keeps : KeepsExe seen k) (setup : Setup) (setup_is : setup_of k ≡ Ok setup) where
-  sound : IsOk (setup_of k)
+module _ (seen : Seen) (k : Kept) (keeps : KeepsAll seen k) (setup : Setup) (setup_is : setup_of seen.command k ≡ Ok setup) (valid : IsMachine setup.machine) where
+  sound : IsOk (setup_of seen.command k)
   sound = ap is_ok setup_is
 
   -- memory ran out before there was a report
-  stopped : IsLegalSoFar setup.machine setup.image k.schedule.lists → IsUntouched seen.files seen.out → HasEnded seen status.NoMemory k
-  stopped legal untouched = record {
-    kept = inr (inr (inr keeps));
+  pub stopped : MatchOption setup.given (IsLegalSoFar setup.machine setup.image k.schedule.lists) (λ schedule. k.schedule ≡ schedule) → IsUntouched seen.files seen.out
+      → HasEnded seen status.NoMemory k
+  stopped schedule untouched = record {
+    kept = inr (inr (inr (inr keeps)));
     refusals = record { files = untouched.quiet.no_fault; out = untouched.no_put };
-    report = inr (inl (record { setup = setup; is = setup_is; run = legal }, untouched.nothing));
+    report = inr (inl (record { setup = setup; is = setup_is; schedule = schedule }, untouched.nothing));
     files = inl untouched.quiet.names;
     complete = λ _ _. inl refl;
   }
 
+  -- the schedule of a replay is not legal
+  pub refused_at : (at : Illegal) → setup.given ≡ Some k.schedule → IsIllegalAt setup.machine setup.image k.schedule.lists at → IsUntouched seen.files seen.out
+      → HasEnded seen (status.BadSchedule (fault.Illegal at.interval at.place)) k
+  refused_at at given illegal untouched =
+      let refused : IsRefusedAt seen.command k at = record { setup = setup; is = setup_is; given = given; illegal = illegal } in
+      record {
+        kept = keeps;
+        refusals = (refused, record { files = untouched.quiet.no_fault; out = untouched.no_put });
+        report = untouched.nothing;
+        files = untouched.quiet.names;
+        complete = λ _ _. inr (rw setup_is (inr (at, refl, refused)));
+      }
+
   -- the run came to its end
-  module _ (r : Results) (run : IsRunOf setup.machine setup.image k.schedule.lists r) where
-    abbrev gives : Gives k r
-    gives = record { setup = setup; is = setup_is; run = run }
+  module _ (given : IfSome setup.given (λ schedule. k.schedule ≡ schedule)) (r : Results) (run : RunGives setup.machine setup.image k.schedule r) where
+    abbrev gives : Gives seen.command k r
+    gives = record { setup = setup; is = setup_is; sound = valid; given = given; run = run.0; counted = run.1 }
 
     abbrev text : List ℕ
     text = report_of setup.machine seen.command.brief r
@@ -217,16 +303,16 @@ module _ (seen : Seen) (k : Kept) (keeps : KeepsExe seen k) (setup : Setup) (set
     -- but memory ran out before there was a report
     unreported : IsUntouched seen.files seen.out → HasEnded seen status.NoMemory k
     unreported untouched = record {
-      kept = inr (inr (inr keeps));
+      kept = inr (inr (inr (inr keeps)));
       refusals = record { files = untouched.quiet.no_fault; out = untouched.no_put };
       report = inr (inr (inl ((r, gives), untouched.nothing)));
       files = inl untouched.quiet.names;
       complete = λ _ _. inl refl;
     }
 
-    pub finished : (s : Status) → Finishes s r.limit text (option_map (λ n. named_file n (file_of k.schedule)) (seen.command.record_to)) seen.files seen.out → HasEnded seen s k
+    pub finished : (s : Status) → Finishes s r.limit text (option_map (λ n. named_file n (schedule_file_of k.schedule)) (record_name seen.command.task)) seen.files seen.out → HasEnded seen s k
     finished s (inl (is, whole, no_put, no_file, written)) =
-        let record_is = recorded (WasWritten seen.files) _ (file_of k.schedule) (seen.command.record_to) written in
+        let record_is = recorded (WasWritten seen.files) _ (schedule_file_of k.schedule) (record_name seen.command.task) written in
         let by_limit : (limit : Bool) → r.limit ≡ limit → HasEnded seen (status_at limit) k =
         elim_limit (λ (limit : Bool). r.limit ≡ limit → HasEnded seen (status_at limit) k)
         (λ ends. record {
@@ -234,14 +320,14 @@ module _ (seen : Seen) (k : Kept) (keeps : KeepsExe seen k) (setup : Setup) (set
           refusals = (sound, record { files = no_file; out = no_put });
           report = (r, gives, rw ends refl, whole);
           files = record_is;
-          complete = λ _ _. inr (rw setup_is ((r, gives, rw ends refl, whole), record_is));
+          complete = λ _ _. inr (rw setup_is (inl ((r, gives, rw ends refl, whole), record_is)));
         })
         (λ ends. record {
           kept = keeps;
           refusals = (sound, record { files = no_file; out = no_put });
           report = (r, gives, rw ends refl, whole);
           files = record_is;
-          complete = λ _ _. inr (rw setup_is ((r, gives, rw ends refl, whole), record_is));
+          complete = λ _ _. inr (rw setup_is (inl ((r, gives, rw ends refl, whole), record_is)));
         }) in
         subst (λ (t : Status). HasEnded seen t k) (sym is) (by_limit r.limit refl)
     finished s (inr (inl (is, part, failed, quiet))) =
@@ -255,7 +341,7 @@ module _ (seen : Seen) (k : Kept) (keeps : KeepsExe seen k) (setup : Setup) (set
         subst (λ (t : Status). HasEnded seen t k) (sym is) ended
     finished s (inr (inr (inl (is, part, no_put, quiet)))) =
         let ended : HasEnded seen status.NoMemory k = record {
-          kept = inr (inr (inr keeps));
+          kept = inr (inr (inr (inr keeps)));
           refusals = record { files = quiet.no_fault; out = no_put };
           report = inr (inr (inr (inl (r, gives, part))));
           files = inl quiet.names;
@@ -263,8 +349,8 @@ module _ (seen : Seen) (k : Kept) (keeps : KeepsExe seen k) (setup : Setup) (set
         } in
         subst (λ (t : Status). HasEnded seen t k) (sym is) ended
     finished s (inr (inr (inr (inl (is, whole, no_put, failed))))) =
-        let bytes = file_of k.schedule in
-        let name = seen.command.record_to in
+        let bytes = schedule_file_of k.schedule in
+        let name = record_name seen.command.task in
         let both = record_named (λ n b. FailedToWrite seen.files n × WasCut seen.files n b) bytes name failed in
         let cut = weaker _ (λ n. WasCut seen.files n bytes) name (λ n is. is.1) both in
         let cause = weaker _ (FailedToWrite seen.files) name (λ n is. is.0) both in
@@ -278,10 +364,10 @@ module _ (seen : Seen) (k : Kept) (keeps : KeepsExe seen k) (setup : Setup) (set
         } in
         subst (λ (t : Status). HasEnded seen t k) (sym is) ended
     finished s (inr (inr (inr (inr (is, whole, no_put, no_file, cut))))) =
-        let bytes = file_of k.schedule in
-        let record_cut = record_named (WasCut seen.files) bytes (seen.command.record_to) cut in
+        let bytes = schedule_file_of k.schedule in
+        let record_cut = record_named (WasCut seen.files) bytes (record_name seen.command.task) cut in
         let ended : HasEnded seen status.NoMemory k = record {
-          kept = inr (inr (inr keeps));
+          kept = inr (inr (inr (inr keeps)));
           refusals = record { files = no_file; out = no_put };
           report = inr (inr (inr (inr (r, gives, whole))));
           files = inr ((r, gives, whole), record_cut);
@@ -289,13 +375,50 @@ module _ (seen : Seen) (k : Kept) (keeps : KeepsExe seen k) (setup : Setup) (set
         } in
         subst (λ (t : Status). HasEnded seen t k) (sym is) ended
 
-  pub ran : (s : Status) → RunsAs s setup.machine setup.image seen.command.brief seen.command.record_to k.schedule seen.files seen.out → HasEnded seen s k
-  ran s (inl (is, legal, untouched)) = subst (λ (t : Status). HasEnded seen t k) (sym is) (stopped legal untouched)
-  ran s (inr (inl (is, (r, run), untouched))) = subst (λ (t : Status). HasEnded seen t k) (sym is) (unreported r run untouched)
-  ran s (inr (inr (r, run, finishes))) = finished r run s finishes
+  -- a run, and a replay
+  pub ran : (s : Status) → setup.given ≡ None → RunsAs s setup.machine setup.image seen.command.brief (record_name seen.command.task) k.schedule seen.files seen.out → HasEnded seen s k
+  ran s none (inl (is, legal, untouched)) = subst (λ (t : Status). HasEnded seen t k) (sym is) (stopped (rw none legal) untouched)
+  ran s none (inr (inl (is, (r, run), untouched))) = subst (λ (t : Status). HasEnded seen t k) (sym is) (unreported (rw none tt) r run untouched)
+  ran s none (inr (inr (r, run, finishes))) = finished (rw none tt) r run s finishes
+
+  pub replayed : (s : Status) → setup.given ≡ Some k.schedule → record_name seen.command.task ≡ None
+      → ReplaysAs s setup.machine setup.image seen.command.brief k.schedule seen.files seen.out → HasEnded seen s k
+  replayed s given unnamed (inl (is, untouched)) = subst (λ (t : Status). HasEnded seen t k) (sym is) (stopped (rw given refl) untouched)
+  replayed s given unnamed (inr (inl (at, is, illegal, untouched))) = subst (λ (t : Status). HasEnded seen t k) (sym is) (refused_at at given illegal untouched)
+  replayed s given unnamed (inr (inr (r, run, finishes))) = finished (rw given refl) r run s (rw unnamed finishes)
+
+-- the file of a schedule was not taken, or the replay came to this
+pub replayed_file : (seen : Seen) (k : Kept) (machine : Machine) (image : MemoryImage) (name : List ℕ) (s : Status) → IsMachine machine
+    → machine_by k.machine ≡ Ok machine → image_by machine k.exe ≡ Ok image
+    → IsMachineText seen.files seen.command.machine k.machine → IsExeOf seen.files machine seen.command.exe k.exe
+    → seen.command.task ≡ replay name → ReplaysFile s machine image seen.command.brief name k.schedule k.sched_file seen.files seen.out → HasEnded seen s k
+replayed_file seen k machine image name s valid machine_is image_is text exe is_replay (inl (empty, not, no_put, nothing)) =
+    let before : IsBefore seen k = record { lists = ap (λ (l : IntervalLists). l.lists) empty; out = no_put; nothing = nothing } in
+    schedule_not_taken seen k before machine machine_is text image image_is exe (ap (λ (l : IntervalLists). l.cores) empty) name s is_replay not
+replayed_file seen k machine image name s valid machine_is image_is text exe is_replay (inr (is, sched_file, replays)) =
+    let setup : Setup = record { machine = machine; image = image; given = Some k.schedule } in
+    let setup_is : setup_of seen.command k ≡ Ok setup = rw (machine_is, image_is, is_replay, is) refl in
+    let keeps : KeepsAll seen k = record {
+      machine = text;
+      exe = rw machine_is exe;
+      sched_file = rw is_replay sched_file;
+      cores = rw machine_is (schedule_cores machine k.sched_file k.schedule is);
+    } in
+    replayed seen k keeps setup setup_is valid s refl (ap record_name is_replay) replays
 
 -- standard output was not touched, or the run came to its end
-pub untouched_or_run : {S : Type 0} (k : Kept) (setup : Setup) → setup_of k ≡ Ok setup → (old new : S)
-    → (new ≡ old) ⊎ ((r : Results) × IsRunOf setup.machine setup.image k.schedule.lists r) → (new ≡ old) ⊎ ((r : Results) × Gives k r)
-untouched_or_run k setup setup_is old new (inl same) = inl same
-untouched_or_run k setup setup_is old new (inr (r, run)) = inr (r, record { setup = setup; is = setup_is; run = run })
+pub untouched_or_run : {S : Type 0} (command : Command) (k : Kept) (setup : Setup) → setup_of command k ≡ Ok setup → IsMachine setup.machine
+    → IfSome setup.given (λ schedule. k.schedule ≡ schedule) → (old new : S)
+    → (new ≡ old) ⊎ ((r : Results) × RunGives setup.machine setup.image k.schedule r) → (new ≡ old) ⊎ ((r : Results) × Gives command k r)
+untouched_or_run command k setup setup_is valid given old new (inl same) = inl same
+untouched_or_run command k setup setup_is valid given old new (inr (r, run)) =
+    inr (r, record { setup = setup; is = setup_is; sound = valid; given = given; run = run.0; counted = run.1 })
+
+pub untouched_or_replayed : {S : Type 0} (command : Command) (k : Kept) (machine : Machine) (image : MemoryImage) (name : List ℕ) → IsMachine machine
+    → machine_by k.machine ≡ Ok machine → image_by machine k.exe ≡ Ok image → command.task ≡ replay name → (old new : S)
+    → (new ≡ old) ⊎ ((schedule_by machine k.sched_file ≡ Ok k.schedule) × ((r : Results) × RunGives machine image k.schedule r)) → (new ≡ old) ⊎ ((r : Results) × Gives command k r)
+untouched_or_replayed command k machine image name valid machine_is image_is is_replay old new (inl same) = inl same
+untouched_or_replayed command k machine image name valid machine_is image_is is_replay old new (inr (is, run)) =
+    let setup : Setup = record { machine = machine; image = image; given = Some k.schedule } in
+    let setup_is : setup_of command k ≡ Ok setup = rw (machine_is, image_is, is_replay, is) refl in
+    untouched_or_run command k setup setup_is valid refl old new (inr run)

@@ -1,5 +1,5 @@
 -- What holds of a call's files after two parts of it, of which the first changed nothing.
-use Rattle.std.proofs.Common.{◌≡◌, ◌⊎◌, ◌≢◌, ℕ, ◌+◌, Bool, List, [], Option, Some, None, Result, IsTrue, take, sym, ◌∙◌, ap, subst, inl, inr}
+use Rattle.std.proofs.Common.{ℕ, ◌+◌, Bool, List, Option, Some, None, Result, take, sym, ◌∙◌, ap, subst, inl, inr}
 use Rattle.std.specs.Option.{option_map}
 use Rattle.std.specs.Prelude.{IsSomeAnd, MatchOption}
 use Rattle.zs_host.specs.declared.fault.Fault.{Fault}
@@ -7,11 +7,12 @@ use Rattle.zs_host.specs.Faults.{Rose}
 use Rattle.zs_host.specs.Files.{HoldsOrCut}
 use Rattle.machine_desc.specs.declared.machine.Machine.{Machine}
 use Rattle.zsim.specs.declared.ended.Status.{Status}
-use Rattle.zsim.specs.CommandLine.{Exe, file, generated}
-use Rattle.zsim.specs.Ended.{IsExeOf, IsMachineText}
-use Rattle.zsim.specs.Limits.{exe_limit}
+use Rattle.zsim.specs.CommandLine.{Exe, file, generated, replay}
+use Rattle.zsim.specs.Ended.{IsExeOf, IsMachineText, IsScheduleFile}
+use Rattle.zsim.specs.Limits.{exe_limit, schedule_limit}
 use Rattle.zsim.specs.Seen.{FilesSeen, SinkSeen, FailedToReadInput, FailedToWrite, FileFailed, NoFileFailed, SameNames, WasCut, WasRead, WasWritten, files_seen}
-use Rattle.zsim.specs.Steps.{Finishes, IsNotTaken, IsQuiet, IsUntouched, NamedFile, RunsAs}
+use Rattle.zsim.specs.Setup.{schedule_by}
+use Rattle.zsim.specs.Steps.{Finishes, IsNotTaken, IsQuiet, IsUntouched, NamedFile, ReplaysAs, ReplaysFile, RunsAs}
 use Rattle.access_log.specs.Schedule.{IntervalLists}
 use Rattle.elf_load.specs.MemoryImage.{MemoryImage}
 
@@ -38,6 +39,9 @@ module _ {F : Type 0} (tells : Bool) (contents : F → List ℕ → Option (List
   pub exe_stays : (machine : Machine) (exe : Exe) (bytes : List ℕ) → IsExeOf first machine exe bytes → IsExeOf both machine exe bytes
   exe_stays machine (file name) bytes read = record { held = read.held; most = read.most }
   exe_stays machine (generated n) bytes is = is
+
+  pub schedule_stays : (name bytes : List ℕ) → IsScheduleFile first (replay name) bytes → IsScheduleFile both (replay name) bytes
+  schedule_stays name bytes read = record { held = read.held; most = read.most }
 
   module _ (quiet : IsQuiet first) where
     names : SameNames second → SameNames both
@@ -119,3 +123,16 @@ module _ {F : Type 0} (tells : Bool) (contents : F → List ℕ → Option (List
     runs_later s machine image brief name schedule out (inl (is, legal, untouched)) = inl (is, legal, untouched_later out untouched)
     runs_later s machine image brief name schedule out (inr (inl (is, run, untouched))) = inr (inl (is, run, untouched_later out untouched))
     runs_later s machine image brief name schedule out (inr (inr (r, run, finishes))) = inr (inr (r, run, finishes_later s r.limit _ _ out finishes))
+
+    pub replays_later : (s : Status) (machine : Machine) (image : MemoryImage) (brief : Bool) (schedule : IntervalLists) (out : SinkSeen)
+        → ReplaysAs s machine image brief schedule second out → ReplaysAs s machine image brief schedule both out
+    replays_later s machine image brief schedule out (inl (is, untouched)) = inl (is, untouched_later out untouched)
+    replays_later s machine image brief schedule out (inr (inl (at, is, illegal, untouched))) = inr (inl (at, is, illegal, untouched_later out untouched))
+    replays_later s machine image brief schedule out (inr (inr (r, run, finishes))) = inr (inr (r, run, finishes_later s r.limit _ None out finishes))
+
+    pub replays_file_later : (s : Status) (machine : Machine) (image : MemoryImage) (brief : Bool) (name : List ℕ) (schedule : IntervalLists) (sched_file : List ℕ) (out : SinkSeen)
+        → ReplaysFile s machine image brief name schedule sched_file second out → ReplaysFile s machine image brief name schedule sched_file both out
+    replays_file_later s machine image brief name schedule sched_file out (inl (empty, not, no_put, nothing)) =
+        inl (empty, not_taken (λ seen. IsScheduleFile seen (replay name)) (schedule_by machine) (Some name) s sched_file (was_read name schedule_limit) not, no_put, nothing)
+    replays_file_later s machine image brief name schedule sched_file out (inr (is, read, replays)) =
+        inr (is, was_read name schedule_limit sched_file read, replays_later s machine image brief schedule out replays)

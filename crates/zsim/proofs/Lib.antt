@@ -2,5 +2,8 @@ pub mod Endings
 pub mod FilesSoFar
 pub mod Numbers
 pub mod Pieces
+pub mod PlainWords
+pub mod Repeating
 pub mod RunsAs
+pub mod ScheduleCores
 pub mod SimpleOptions

@@ -7,7 +7,7 @@ use Rattle.std.specs.Str.Parse.{AllDigits, IsNumeral, digits_value, without_lead
 use Rattle.std.proofs.lemmas.Bool.{and_parts, false_from_ne_true, false≢true, leb-true, lt-ltb, ltb-true, ne_eqb}
 use Rattle.std.proofs.lemmas.Str.{digit_value_digit}
 use Rattle.clap.specs.Walk.{is_empty}
-use Rattle.zsim.specs.CommandLine.{is_decimal, number_of}
+use Rattle.zsim.specs.CommandLine.{decimal_of, is_decimal}
 
 digit_is_in_range : (d : ℕ) → is_ascii_digit d ≡ true → IsInRange 48 57 d
 digit_is_in_range d h = let both = and_parts _ _ h in (leb-true 48 d both.0, leb-true d 57 both.1)
@@ -39,14 +39,14 @@ parts word h =
     let rest = and_parts (list_all is_ascii_digit word) _ both.1 in
     (nonempty word both.0, rest.0)
 
-pub no_number : (word : List ℕ) → is_decimal word ≡ false → None ≡ number_of word
-unfolding number_of
+pub no_number : (word : List ℕ) → is_decimal word ≡ false → None ≡ decimal_of word
+unfolding decimal_of
 no_number word h = rw h refl
 
 pub parsed : (word : List ℕ) (n : ℕ) → is_decimal word ≡ true
     → (IsNumeral 10 (without_leading_plus word) × (digits_value 10 (without_leading_plus word) < 2 ^ 64)) × (n ≡ digits_value 10 (without_leading_plus word))
-    → Some n ≡ number_of word
-unfolding number_of
+    → Some n ≡ decimal_of word
+unfolding decimal_of
 parsed word n decimal h =
     let whole = no_plus word (parts word decimal).1 in
     let value : n ≡ digits_value 10 word = h.1 ∙ ap (digits_value 10) whole in
@@ -55,8 +55,8 @@ parsed word n decimal h =
 
 pub not_parsed : (word : List ℕ) → is_decimal word ≡ true
     → ¬ (IsNumeral 10 (without_leading_plus word) × (digits_value 10 (without_leading_plus word) < 2 ^ 64))
-    → None ≡ number_of word
-unfolding number_of
+    → None ≡ decimal_of word
+unfolding decimal_of
 not_parsed word decimal h =
     let are = parts word decimal in
     let whole = no_plus word are.1 in

@@ -7,7 +7,6 @@ use Rattle.std.specs.Str.{bytes_eq}
 use Rattle.std.specs.Str.Parse.{digits_value}
 use Rattle.clap.specs.Walk.{is_empty}
 use Rattle.clap.specs.Words.{App, Row, first_of}
-use Rattle.zsim.specs.declared.command_line.Asked.{Asked as ToldAsked}
 use Rattle.zsim.specs.declared.command_line.Command.{Command as ToldCommand}
 use Rattle.zsim.specs.declared.command_line.Exe.{Exe as ToldExe}
 use Rattle.zsim.specs.declared.command_line.Exe.TheVariants as told_exe
@@ -28,20 +27,12 @@ pub data Task : Type 0 where
   replay : (schedule : List ℕ) → Task
 
 -- What the words ask for. The number of threads has no part in what is answered.
-pub record Asked : Type 0 where
+pub record Command : Type 0 where
   -- the name of the machine's file, or None for the built-in machine
   pub machine : Option (List ℕ)
   pub exe : Exe
   pub task : Task
   -- only the summary is reported
-  pub brief : Bool
-
--- a run on a machine
-pub record Command : Type 0 where
-  pub machine : Option (List ℕ)
-  pub exe : Exe
-  -- the name of the file to which its schedule is to be written
-  pub record_to : Option (List ℕ)
   pub brief : Bool
 
 -- the same as the code keeps them, by references to the words
@@ -53,19 +44,11 @@ abbrev pub task_told : ToldTask → Task
 task_told (told_task.Run workers record_to) = run workers (option_map (λ name. name.now) record_to)
 task_told (told_task.Replay schedule) = replay schedule.now
 
-abbrev pub asked_told : ToldAsked → Asked
-asked_told a = record {
-  machine = option_map (λ name. name.now) a.machine;
-  exe = exe_told a.exe;
-  task = task_told a.task;
-  brief = a.brief;
-}
-
 abbrev pub command_told : ToldCommand → Command
 command_told c = record {
   machine = option_map (λ name. name.now) c.machine;
   exe = exe_told c.exe;
-  record_to = option_map (λ name. name.now) c.record_to;
+  task = task_told c.task;
   brief = c.brief;
 }
 
@@ -75,16 +58,16 @@ is_decimal word =
     not (is_empty word) && (list_all is_ascii_digit word && (bytes_eq word (codes "0") || not (starts_with nat_eq word (codes "0"))))
 
 -- the number below 2^64 that a word writes
-unfoldable pub number_of : List ℕ → Option ℕ
-number_of word = if is_decimal word && nat_lt (digits_value 10 word) (2 ^ 64) then Some (digits_value 10 word) else None
+unfoldable pub decimal_of : List ℕ → Option ℕ
+decimal_of word = if is_decimal word && nat_lt (digits_value 10 word) (2 ^ 64) then Some (digits_value 10 word) else None
 
 -- the name of the machine's file, where the word is not that of the built-in machine
-unfoldable pub machine_of : List ℕ → Option (List ℕ)
-machine_of word = if bytes_eq word (codes "plain") then None else Some word
+unfoldable pub machine_file_of : List ℕ → Option (List ℕ)
+machine_file_of word = if bytes_eq word (codes "plain") then None else Some word
 
 -- `gen:N`, or the name of a file
 unfoldable pub exe_of : List ℕ → Option Exe
-exe_of word = if starts_with nat_eq word (codes "gen:") then option_map generated (number_of (drop 4 word)) else Some (file word)
+exe_of word = if starts_with nat_eq word (codes "gen:") then option_map generated (decimal_of (drop 4 word)) else Some (file word)
 
 -- from 1 to 64
 abbrev pub up_to_64 : ℕ → Option ℕ
@@ -93,7 +76,7 @@ up_to_64 n = if nat_le 1 n && nat_le n 64 then Some n else None
 -- the number of workers, which is 1 where none is given
 unfoldable pub workers_of : Option (List ℕ) → Option ℕ
 workers_of None = Some 1
-workers_of (Some word) = option_and_then up_to_64 (number_of word)
+workers_of (Some word) = option_and_then up_to_64 (decimal_of word)
 
 -- a run has a number of workers, and the name of a file for its schedule if one is given
 abbrev pub run_of : List Row → Option Task
@@ -102,45 +85,43 @@ run_of rows = option_map (λ workers. run workers (first_of (codes "record") row
 abbrev pub replay_of : List Row → Option Task
 replay_of rows = option_map replay (first_of (codes "schedule") rows)
 
-abbrev pub asked_with : (machine : Option (List ℕ)) → Option Exe → Option Task → (brief : Option (List ℕ)) → Option Asked
-asked_with (Some machine) (Some exe) (Some task) brief = Some (record {
-  machine = machine_of machine;
+abbrev pub command_with : (machine : Option (List ℕ)) → Option Exe → Option Task → (brief : Option (List ℕ)) → Option Command
+command_with (Some machine) (Some exe) (Some task) brief = Some (record {
+  machine = machine_file_of machine;
   exe = exe;
   task = task;
   brief = option_map_or (bytes_eq (codes "true")) brief false;
 })
-asked_with _ _ _ brief = None
+command_with _ _ _ brief = None
 
 -- what the matched words ask for beside a task, where their values are well formed
-unfoldable pub asked_by : List Row → Option Task → Option Asked
-asked_by rows task =
-    asked_with (first_of (codes "machine") rows) (option_and_then exe_of (first_of (codes "exe") rows)) task (first_of (codes "brief") rows)
+unfoldable pub command_by : List Row → Option Task → Option Command
+command_by rows task =
+    command_with (first_of (codes "machine") rows) (option_and_then exe_of (first_of (codes "exe") rows)) task (first_of (codes "brief") rows)
 
--- what words ask for which `clap` is to match with these options
-abbrev pub asked_after : App → (task_of : List Row → Option Task) → List (List ℕ) → Option Asked
-asked_after options task_of words = option_and_then (λ rows. asked_by rows (task_of rows)) (matched_by options words)
+-- the command that words are which `clap` is to match with these options
+abbrev pub command_after : App → (task_of : List Row → Option Task) → List (List ℕ) → Option Command
+command_after options task_of words = option_and_then (λ rows. command_by rows (task_of rows)) (matched_by options words)
 
--- what the words ask for, where they are well formed
-unfoldable pub asked_of : List (List ℕ) → Option Asked
-asked_of [] = None
-asked_of (verb ∷ words) =
-    if bytes_eq verb (codes "run") then asked_after run_options run_of words
-    else if bytes_eq verb (codes "replay") then asked_after replay_options replay_of words
-    else None
-
--- What can be done of what the words ask for: a run. A replay cannot be carried out yet.
-abbrev pub runnable_as : Asked → Task → Option Command
-runnable_as asked (run workers record_to) = Some (record { machine = asked.machine; exe = asked.exe; record_to = record_to; brief = asked.brief })
-runnable_as asked (replay schedule) = None
-
-abbrev pub runnable : Asked → Option Command
-runnable asked = runnable_as asked asked.task
-
--- the command that the words are, if they are one that can be carried out
+-- the command that the words are, if they are one
 unfoldable pub command_of : List (List ℕ) → Option Command
-command_of words = option_and_then runnable (asked_of words)
+command_of [] = None
+command_of (verb ∷ words) =
+    if bytes_eq verb (codes "run") then command_after run_options run_of words
+    else if bytes_eq verb (codes "replay") then command_after replay_options replay_of words
+    else None
 
 -- the name of the executable's file, if it has one
 abbrev pub exe_file : Exe → Option (List ℕ)
 exe_file (file name) = Some name
 exe_file (generated n) = None
+
+-- the name of the file to which the schedule of a run is to be written
+abbrev pub record_name : Task → Option (List ℕ)
+record_name (run workers record_to) = record_to
+record_name (replay schedule) = None
+
+-- the name of the file of the schedule that is replayed
+abbrev pub schedule_name : Task → Option (List ℕ)
+schedule_name (run workers record_to) = None
+schedule_name (replay schedule) = Some schedule

@@ -1,26 +1,28 @@
 -- What the answer of a call tells whose words are a command: what was kept, the cause of each status, and what was written
 -- to standard output and to the file of a schedule. And what it says on standard error.
-use Rattle.std.specs.Prelude.{◌≡◌, ◌⊎◌, ℕ, Bool, if◌then◌else◌, List, [], Option, Some, None, IsSomeAnd, IsOk, IsOkAnd, Ok, Err, MatchOption, MatchResult}
+use Rattle.std.specs.Prelude.{◌≡◌, ◌⊎◌, ℕ, Bool, if◌then◌else◌, List, [], Option, Some, None, IsSomeAnd, IfSome, IsOk, IsOkAnd, Ok, Err, MatchOption, MatchResult}
 use Rattle.access_log.specs.Schedule.{IntervalLists}
 use Rattle.machine_desc.specs.declared.machine.Machine.{Machine}
 use Rattle.machine_desc.specs.declared.plain.TheConstants.{PLAIN}
-use Rattle.elf_write.specs.File.{file_of as executable_of}
+use Rattle.machine_desc.specs.Machine.{IsMachine}
+use Rattle.elf_write.specs.File.{executable_of}
 use Rattle.gen_prog.specs.Generated.{generated_image}
-use Rattle.replay.specs.ReferenceRun.{IsLegalSoFar, IsRunOf}
-use Rattle.replay.specs.Results.{Results}
-use Rattle.schedule_file.specs.ScheduleFile.{file_of}
+use Rattle.replay.specs.ReferenceRun.{Illegal, IsIllegalAt, IsLegalSoFar, IsRunOf}
+use Rattle.replay.specs.Results.{HasCounts, Results}
+use Rattle.schedule_file.specs.ScheduleFile.{schedule_file_of}
 use Rattle.zsim.specs.declared.ended.Kept.{Kept}
 use Rattle.zsim.specs.declared.ended.Said.{Said}
 use Rattle.zsim.specs.declared.ended.Said.TheVariants as said
+use Rattle.zsim.specs.declared.ended.ScheduleFault.TheVariants as fault
 use Rattle.zsim.specs.declared.ended.Status.{Status}
 use Rattle.zsim.specs.declared.ended.Status.TheVariants as status
 use Rattle.zsim.specs.declared.ended.Which.TheVariants as which
-use Rattle.zsim.specs.CommandLine.{Command, Exe, exe_file, file, generated}
+use Rattle.zsim.specs.CommandLine.{Command, Exe, Task, exe_file, file, generated, record_name, replay, run, schedule_name}
 use Rattle.zsim.specs.ErrorLine.{error_line}
-use Rattle.zsim.specs.Limits.{exe_limit, machine_limit}
+use Rattle.zsim.specs.Limits.{exe_limit, machine_limit, schedule_limit}
 use Rattle.zsim.specs.Report.{report_of}
 use Rattle.zsim.specs.Seen.{FilesSeen, SinkSeen, FailedToReadInput, FailedToWrite, FileFailed, Gained, GainedNothing, GainedPrefix, NoFileFailed, NoPutFailed, PutFailed, SameNames, WasCut, WasRead, WasWritten}
-use Rattle.zsim.specs.Setup.{Setup, machine_by, setup_of}
+use Rattle.zsim.specs.Setup.{Setup, image_by, machine_by, setup_of}
 
 -- The command of a call, and what it saw of its files and of standard output. Standard error stands apart.
 pub record Seen : Type 0 where
@@ -39,6 +41,11 @@ IsMachineText files (Some name) text = WasRead files name machine_limit text
 abbrev pub IsExeOf : FilesSeen → Machine → Exe → List ℕ → Type 0
 IsExeOf files machine (file name) bytes = WasRead files name exe_limit bytes
 IsExeOf files machine (generated n) bytes = bytes ≡ executable_of (generated_image n machine.memory.base)
+
+-- these bytes are those of the schedule file of a replay; a run has none
+abbrev pub IsScheduleFile : FilesSeen → Task → List ℕ → Type 0
+IsScheduleFile files (run workers record_to) bytes = bytes ≡ []
+IsScheduleFile files (replay name) bytes = WasRead files name schedule_limit bytes
 
 -- no interval yet, for so many cores
 abbrev pub no_intervals : (cores : ℕ) → IntervalLists
@@ -72,32 +79,52 @@ pub record KeepsExe (seen : Seen) (kept : Kept) : Type 0 where
   pub sched_file : kept.sched_file ≡ []
   pub cores : IsOkAnd (machine_by kept.machine) (λ machine. kept.schedule.cores ≡ machine.cores)
 
+-- all was read that the command names
+pub record KeepsAll (seen : Seen) (kept : Kept) : Type 0 where
+  pub machine : IsMachineText seen.files seen.command.machine kept.machine
+  pub exe : IsOkAnd (machine_by kept.machine) (λ machine. IsExeOf seen.files machine seen.command.exe kept.exe)
+  pub sched_file : IsScheduleFile seen.files seen.command.task kept.sched_file
+  pub cores : IsOkAnd (machine_by kept.machine) (λ machine. kept.schedule.cores ≡ machine.cores)
+
 -- what is kept goes as far as the steps that were reached
 abbrev pub Keeps : Status → Seen → Kept → Type 0
-Keeps status.Ran seen kept = KeepsExe seen kept
-Keeps status.Limit seen kept = KeepsExe seen kept
+Keeps status.Ran seen kept = KeepsAll seen kept
+Keeps status.Limit seen kept = KeepsAll seen kept
 Keeps status.Usage seen kept = ⊥
-Keeps status.ReadFault seen kept = KeepsNothing kept ⊎ KeepsMachine seen kept
-Keeps status.WriteFault seen kept = KeepsExe seen kept
+Keeps status.ReadFault seen kept = KeepsNothing kept ⊎ KeepsMachine seen kept ⊎ KeepsExe seen kept
+Keeps status.WriteFault seen kept = KeepsAll seen kept
 Keeps (status.BadMachine bad) seen kept = KeepsText seen kept
 Keeps (status.BadElf bad) seen kept = KeepsExe seen kept
+Keeps (status.BadSchedule wrong) seen kept = KeepsAll seen kept
 Keeps (status.TooLong which.Machine) seen kept = KeepsText seen kept
 Keeps (status.TooLong which.Exe) seen kept = KeepsExe seen kept
-Keeps status.NoMemory seen kept = KeepsNothing kept ⊎ KeepsText seen kept ⊎ KeepsMachine seen kept ⊎ KeepsExe seen kept
+Keeps (status.TooLong which.Schedule) seen kept = KeepsAll seen kept
+Keeps status.NoMemory seen kept = KeepsNothing kept ⊎ KeepsText seen kept ⊎ KeepsMachine seen kept ⊎ KeepsExe seen kept ⊎ KeepsAll seen kept
 
 -- ---- the run, and its report
 
--- what the run of the kept inputs gives under the kept schedule
-pub record Gives (kept : Kept) (results : Results) : Type 0 where
+-- What the run of the kept inputs gives under the kept schedule. That of a replay is the one of its file.
+pub record Gives (command : Command) (kept : Kept) (results : Results) : Type 0 where
   pub setup : Setup
-  pub is : setup_of kept ≡ Ok setup
+  pub is : setup_of command kept ≡ Ok setup
+  pub sound : IsMachine setup.machine
+  pub given : IfSome setup.given (λ schedule. kept.schedule ≡ schedule)
   pub run : IsRunOf setup.machine setup.image kept.schedule.lists results
+  pub counted : HasCounts setup.machine results
 
--- the run stopped in an interval, and the kept schedule is legal as far as it goes
-pub record IsStopped (kept : Kept) : Type 0 where
+-- A run or a replay stopped in an interval. The schedule of a run is legal as far as it goes, and that of a replay is the
+-- one of its file.
+pub record IsStopped (command : Command) (kept : Kept) : Type 0 where
   pub setup : Setup
-  pub is : setup_of kept ≡ Ok setup
-  pub run : IsLegalSoFar setup.machine setup.image kept.schedule.lists
+  pub is : setup_of command kept ≡ Ok setup
+  pub schedule : MatchOption setup.given (IsLegalSoFar setup.machine setup.image kept.schedule.lists) (λ schedule. kept.schedule ≡ schedule)
+
+-- the schedule of a replay, which is the one of its file, is first not legal at this place
+pub record IsRefusedAt (command : Command) (kept : Kept) (at : Illegal) : Type 0 where
+  pub setup : Setup
+  pub is : setup_of command kept ≡ Ok setup
+  pub given : setup.given ≡ Some kept.schedule
+  pub illegal : IsIllegalAt setup.machine setup.image kept.schedule.lists at
 
 -- the status of a run that was reported whole
 abbrev pub status_at : (limit : Bool) → Status
@@ -106,27 +133,27 @@ status_at limit = if limit then status.Limit else status.Ran
 -- standard output gained the whole report of the run, whose end the status tells
 abbrev pub IsReported : Status → Seen → Kept → Type 0
 IsReported s seen kept =
-    (r : Results) × (run : Gives kept r) × (s ≡ status_at r.limit) × Gained seen.out (report_of run.setup.machine seen.command.brief r)
+    (r : Results) × (run : Gives seen.command kept r) × (s ≡ status_at r.limit) × Gained seen.out (report_of run.setup.machine seen.command.brief r)
 
 -- the run came to its end, and standard output gained nothing of the report
 abbrev pub IsUnreported : Seen → Kept → Type 0
-IsUnreported seen kept = ((r : Results) × Gives kept r) × GainedNothing seen.out
+IsUnreported seen kept = ((r : Results) × Gives seen.command kept r) × GainedNothing seen.out
 
 -- standard output gained a part of the report, from its front
 abbrev pub IsCut : Seen → Kept → Type 0
-IsCut seen kept = (r : Results) × (run : Gives kept r) × GainedPrefix seen.out (report_of run.setup.machine seen.command.brief r)
+IsCut seen kept = (r : Results) × (run : Gives seen.command kept r) × GainedPrefix seen.out (report_of run.setup.machine seen.command.brief r)
 
 -- standard output gained the whole report, but what was to follow failed
 abbrev pub IsWhole : Seen → Kept → Type 0
-IsWhole seen kept = (r : Results) × (run : Gives kept r) × Gained seen.out (report_of run.setup.machine seen.command.brief r)
+IsWhole seen kept = (r : Results) × (run : Gives seen.command kept r) × Gained seen.out (report_of run.setup.machine seen.command.brief r)
 
 -- the kept schedule was written to the file that the command names for it, if it names one
 abbrev pub IsRecorded : Seen → Kept → Type 0
-IsRecorded seen kept = MatchOption (seen.command.record_to) (SameNames seen.files) (λ name. WasWritten seen.files name (file_of kept.schedule))
+IsRecorded seen kept = MatchOption (record_name seen.command.task) (SameNames seen.files) (λ name. WasWritten seen.files name (schedule_file_of kept.schedule))
 
 -- the command names a file for the schedule, and its writing was cut short
 abbrev pub IsRecordCut : Seen → Kept → Type 0
-IsRecordCut seen kept = IsSomeAnd (seen.command.record_to) (λ name. WasCut seen.files name (file_of kept.schedule))
+IsRecordCut seen kept = IsSomeAnd (record_name seen.command.task) (λ name. WasCut seen.files name (schedule_file_of kept.schedule))
 
 -- ---- the cause of each status
 
@@ -135,26 +162,30 @@ pub record NothingFailed (seen : Seen) : Type 0 where
   pub files : NoFileFailed seen.files
   pub out : NoPutFailed seen.out
 
--- A read failed: that of the machine's file, before anything was kept; or that of the executable, for a machine that
--- passed its checks.
+-- A read failed: that of the machine's file, before anything was kept; that of the executable, for a machine that passed
+-- its checks; or that of the schedule, for an executable that passed its checks too.
 abbrev pub CouldNotRead : Seen → Kept → Type 0
 CouldNotRead seen kept =
-    (KeepsNothing kept × FailedToReadInput seen.files seen.command.machine) ⊎ (KeepsMachine seen kept × FailedToReadInput seen.files (exe_file seen.command.exe))
+    (KeepsNothing kept × FailedToReadInput seen.files seen.command.machine)
+    ⊎ (KeepsMachine seen kept × FailedToReadInput seen.files (exe_file seen.command.exe))
+    ⊎ (KeepsExe seen kept × IsOkAnd (machine_by kept.machine) (λ machine. IsOk (image_by machine kept.exe)) × FailedToReadInput seen.files (schedule_name seen.command.task))
 
 -- A put failed, or else the write of the schedule's file.
 abbrev pub CouldNotWrite : Seen → Type 0
-CouldNotWrite seen = (NoFileFailed seen.files × PutFailed seen.out) ⊎ (IsSomeAnd (seen.command.record_to) (FailedToWrite seen.files) × NoPutFailed seen.out)
+CouldNotWrite seen = (NoFileFailed seen.files × PutFailed seen.out) ⊎ (IsSomeAnd (record_name seen.command.task) (FailedToWrite seen.files) × NoPutFailed seen.out)
 
 -- A fault that was counted is always told: no other status comes where one was.
 abbrev pub HasCause : Status → Seen → Kept → Type 0
-HasCause status.Ran seen kept = IsOk (setup_of kept) × NothingFailed seen
-HasCause status.Limit seen kept = IsOk (setup_of kept) × NothingFailed seen
+HasCause status.Ran seen kept = IsOk (setup_of seen.command kept) × NothingFailed seen
+HasCause status.Limit seen kept = IsOk (setup_of seen.command kept) × NothingFailed seen
 HasCause status.Usage seen kept = ⊥
 HasCause status.ReadFault seen kept = CouldNotRead seen kept × NoPutFailed seen.out
-HasCause status.WriteFault seen kept = IsOk (setup_of kept) × CouldNotWrite seen
-HasCause (status.BadMachine bad) seen kept = (setup_of kept ≡ Err (status.BadMachine bad)) × NothingFailed seen
-HasCause (status.BadElf bad) seen kept = (setup_of kept ≡ Err (status.BadElf bad)) × NothingFailed seen
-HasCause (status.TooLong which) seen kept = (setup_of kept ≡ Err (status.TooLong which)) × NothingFailed seen
+HasCause status.WriteFault seen kept = IsOk (setup_of seen.command kept) × CouldNotWrite seen
+HasCause (status.BadMachine bad) seen kept = (setup_of seen.command kept ≡ Err (status.BadMachine bad)) × NothingFailed seen
+HasCause (status.BadElf bad) seen kept = (setup_of seen.command kept ≡ Err (status.BadElf bad)) × NothingFailed seen
+HasCause (status.BadSchedule (fault.File bad)) seen kept = (setup_of seen.command kept ≡ Err (status.BadSchedule (fault.File bad))) × NothingFailed seen
+HasCause (status.BadSchedule (fault.Illegal interval place)) seen kept = IsRefusedAt seen.command kept (record { interval = interval; place = place }) × NothingFailed seen
+HasCause (status.TooLong which) seen kept = (setup_of seen.command kept ≡ Err (status.TooLong which)) × NothingFailed seen
 HasCause status.NoMemory seen kept = NothingFailed seen
 
 -- ---- what was written
@@ -173,8 +204,10 @@ Reports status.ReadFault seen kept = IsNotBegun seen kept
 Reports status.WriteFault seen kept = (PutFailed seen.out × IsCut seen kept) ⊎ (FileFailed seen.files × IsWhole seen kept)
 Reports (status.BadMachine bad) seen kept = IsNotBegun seen kept
 Reports (status.BadElf bad) seen kept = IsNotBegun seen kept
+Reports (status.BadSchedule (fault.File bad)) seen kept = IsNotBegun seen kept
+Reports (status.BadSchedule (fault.Illegal interval place)) seen kept = GainedNothing seen.out
 Reports (status.TooLong which) seen kept = IsNotBegun seen kept
-Reports status.NoMemory seen kept = IsNotBegun seen kept ⊎ (IsStopped kept × GainedNothing seen.out) ⊎ IsUnreported seen kept ⊎ IsCut seen kept ⊎ IsWhole seen kept
+Reports status.NoMemory seen kept = IsNotBegun seen kept ⊎ (IsStopped seen.command kept × GainedNothing seen.out) ⊎ IsUnreported seen kept ⊎ IsCut seen kept ⊎ IsWhole seen kept
 
 -- Which names changed: none but that of the schedule's file, and this one not before the report was whole.
 abbrev pub Records : Status → Seen → Kept → Type 0
@@ -186,9 +219,16 @@ Records _ seen kept = SameNames seen.files
 
 -- ---- all of it
 
--- Where nothing failed, the inputs decide: their run is reported and recorded, or they are refused, unless memory ran out.
+-- the run of the inputs is reported and recorded, or the schedule of a replay is refused at its first place that is not
+-- legal
+abbrev pub IsDone : Status → Seen → Kept → Type 0
+IsDone s seen kept =
+    (IsReported s seen kept × IsRecorded seen kept)
+    ⊎ ((at : Illegal) × (s ≡ status.BadSchedule (fault.Illegal at.interval at.place)) × IsRefusedAt seen.command kept at)
+
+-- Where nothing failed, the inputs decide: what comes of their run, or their refusal, unless memory ran out.
 abbrev pub IsDecided : Status → Seen → Kept → Type 0
-IsDecided s seen kept = (s ≡ status.NoMemory) ⊎ MatchResult (setup_of kept) (λ setup. IsReported s seen kept × IsRecorded seen kept) (λ refusal. s ≡ refusal)
+IsDecided s seen kept = (s ≡ status.NoMemory) ⊎ MatchResult (setup_of seen.command kept) (λ setup. IsDone s seen kept) (λ refusal. s ≡ refusal)
 
 -- How a call ended whose words are a command: what its status and what it kept tell. Nothing of it reads standard error,
 -- which has no say in the status.

@@ -6,9 +6,12 @@ use Rattle.elf_load.specs.declared.bad_elf.BadElf.TheVariants as bad
 use Rattle.machine_desc.specs.declared.errors.BadMachine.{BadMachine}
 use Rattle.machine_desc.specs.declared.errors.BadMachine.TheVariants.{Text, Missing, Kind, Range, Unknown, Ratio, Domain}
 use Rattle.report.specs.ReportText.{printed}
+use Rattle.schedule_file.specs.declared.bad_schedule.BadSchedule.TheVariants as wrong
+use Rattle.zsim.specs.declared.ended.ScheduleFault.{ScheduleFault}
+use Rattle.zsim.specs.declared.ended.ScheduleFault.TheVariants as fault
 use Rattle.zsim.specs.declared.ended.Status.{Status}
 use Rattle.zsim.specs.declared.ended.Status.TheVariants as status
-use Rattle.zsim.specs.declared.ended.Which.TheVariants.{Machine, Exe}
+use Rattle.zsim.specs.declared.ended.Which.TheVariants.{Machine, Exe, Schedule}
 
 -- The number of the check that a machine description failed, and the key and the value or the component where there are
 -- any. A key is printed as the bytes of a console are.
@@ -36,6 +39,17 @@ elf_details (bad.SegmentPastMemory index) = codes "10 " ++ decimal index
 elf_details (bad.Overlap first second) = codes "11 " ++ (decimal first ++ (codes " " ++ decimal second))
 elf_details bad.Entry = codes "12"
 
+-- the number of the check that a schedule file failed, and the numbers that it names; then that of a place that is not
+-- legal
+abbrev pub schedule_details : ScheduleFault → List ℕ
+schedule_details (fault.File (wrong.Short at)) = codes "1 " ++ decimal at
+schedule_details (fault.File wrong.Magic) = codes "2"
+schedule_details (fault.File (wrong.Version found)) = codes "3 " ++ decimal found
+schedule_details (fault.File (wrong.Cores found)) = codes "4 " ++ decimal found
+schedule_details (fault.File (wrong.Core interval place)) = codes "5 " ++ (decimal interval ++ (codes " " ++ decimal place))
+schedule_details (fault.File (wrong.After at)) = codes "6 " ++ decimal at
+schedule_details (fault.Illegal interval place) = codes "7 " ++ (decimal interval ++ (codes " " ++ decimal place))
+
 abbrev pub error_line : Status → List ℕ
 error_line status.Ran = []
 error_line status.Limit = codes "zsim: stopped at the limit\n"
@@ -44,8 +58,10 @@ error_line status.ReadFault = codes "zsim: cannot read\n"
 error_line status.WriteFault = codes "zsim: cannot write\n"
 error_line (status.BadMachine bad) = codes "zsim: machine " ++ machine_details bad ++ codes "\n"
 error_line (status.BadElf bad) = codes "zsim: elf " ++ elf_details bad ++ codes "\n"
+error_line (status.BadSchedule wrong) = codes "zsim: schedule " ++ schedule_details wrong ++ codes "\n"
 error_line (status.TooLong Machine) = codes "zsim: too long: machine\n"
 error_line (status.TooLong Exe) = codes "zsim: too long: executable\n"
+error_line (status.TooLong Schedule) = codes "zsim: too long: schedule\n"
 error_line status.NoMemory = codes "zsim: out of memory\n"
 
 -- the number with which the program ends
@@ -58,4 +74,5 @@ status_number status.WriteFault = 5
 status_number (status.BadMachine bad) = 6
 status_number (status.BadElf bad) = 7
 status_number status.NoMemory = 8
+status_number (status.BadSchedule wrong) = 9
 status_number (status.TooLong which) = 10

@@ -7,3 +7,4 @@ pub mod Seen
 pub mod Setup
 pub mod Ended
 pub mod Steps
+pub mod Laws

@@ -8,3 +8,7 @@ machine_limit = 2 ^ 20
 -- the most bytes of an executable
 abbrev pub exe_limit : ℕ
 exe_limit = 2 ^ 26
+
+-- the most bytes of a schedule file
+abbrev pub schedule_limit : ℕ
+schedule_limit = 2 ^ 27

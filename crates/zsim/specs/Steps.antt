@@ -4,16 +4,19 @@ use Rattle.std.specs.Prelude.{◌≡◌, ◌⊎◌, ℕ, Bool, List, [], Option,
 use Rattle.access_log.specs.Schedule.{IntervalLists}
 use Rattle.elf_load.specs.MemoryImage.{MemoryImage}
 use Rattle.machine_desc.specs.declared.machine.Machine.{Machine}
-use Rattle.replay.specs.ReferenceRun.{IsLegalSoFar, IsRunOf}
-use Rattle.replay.specs.Results.{Results}
-use Rattle.schedule_file.specs.ScheduleFile.{file_of}
+use Rattle.replay.specs.ReferenceRun.{Illegal, IsIllegalAt, IsLegalSoFar, IsRunOf}
+use Rattle.replay.specs.Results.{HasCounts, Results}
+use Rattle.schedule_file.specs.ScheduleFile.{schedule_file_of}
 use Rattle.zs_host.specs.declared.files.FileFail.{FileFail}
 use Rattle.zs_host.specs.declared.files.FileFail.TheVariants as fail
+use Rattle.zsim.specs.declared.ended.ScheduleFault.TheVariants as fault
 use Rattle.zsim.specs.declared.ended.Status.{Status}
 use Rattle.zsim.specs.declared.ended.Status.TheVariants as status
 use Rattle.zsim.specs.declared.outputs.OutputFile.{OutputFile}
-use Rattle.zsim.specs.Ended.{status_at}
+use Rattle.zsim.specs.CommandLine.{replay}
+use Rattle.zsim.specs.Ended.{IsScheduleFile, no_intervals, status_at}
 use Rattle.zsim.specs.Report.{report_of}
+use Rattle.zsim.specs.Setup.{schedule_by}
 use Rattle.zsim.specs.Seen.{FilesSeen, SinkSeen, FailedToReadInput, FailedToWrite, NoFileFailed, Gained, GainedNothing, GainedPrefix, NoPutFailed, PutFailed, SameNames, WasCut, WasWritten}
 
 -- ---- inputs
@@ -87,9 +90,26 @@ Finishes s limit text file files out =
     ⊎ ((s ≡ status.WriteFault) × Gained out text × NoPutFailed out × IsSomeAnd file (λ f. FailedToWrite files f.name × WasCut files f.name f.bytes))
     ⊎ ((s ≡ status.NoMemory) × Gained out text × NoPutFailed out × NoFileFailed files × IsSomeAnd file (λ f. WasCut files f.name f.bytes))
 
+-- a run of an image under a schedule gives these results
+abbrev pub RunGives : Machine → MemoryImage → IntervalLists → Results → Type 0
+RunGives machine image schedule r = IsRunOf machine image schedule.lists r × HasCounts machine r
+
 -- what the run of an image came to, of which the schedule is to be written to a file, if one is named
 abbrev pub RunsAs : Status → Machine → MemoryImage → (brief : Bool) → (name : Option (List ℕ)) → IntervalLists → FilesSeen → SinkSeen → Type 0
 RunsAs s machine image brief name schedule files out =
     ((s ≡ status.NoMemory) × IsLegalSoFar machine image schedule.lists × IsUntouched files out)
-    ⊎ ((s ≡ status.NoMemory) × ((r : Results) × IsRunOf machine image schedule.lists r) × IsUntouched files out)
-    ⊎ ((r : Results) × IsRunOf machine image schedule.lists r × Finishes s r.limit (report_of machine brief r) (option_map (λ n. named_file n (file_of schedule)) name) files out)
+    ⊎ ((s ≡ status.NoMemory) × ((r : Results) × RunGives machine image schedule r) × IsUntouched files out)
+    ⊎ ((r : Results) × RunGives machine image schedule r × Finishes s r.limit (report_of machine brief r) (option_map (λ n. named_file n (schedule_file_of schedule)) name) files out)
+
+-- what the run of an image under a schedule that is given came to
+abbrev pub ReplaysAs : Status → Machine → MemoryImage → (brief : Bool) → IntervalLists → FilesSeen → SinkSeen → Type 0
+ReplaysAs s machine image brief schedule files out =
+    ((s ≡ status.NoMemory) × IsUntouched files out)
+    ⊎ ((at : Illegal) × (s ≡ status.BadSchedule (fault.Illegal at.interval at.place)) × IsIllegalAt machine image schedule.lists at × IsUntouched files out)
+    ⊎ ((r : Results) × RunGives machine image schedule r × Finishes s r.limit (report_of machine brief r) None files out)
+
+-- what came of the file of a schedule: it was not taken, or the run of an image under its schedule came to this
+abbrev pub ReplaysFile : Status → Machine → MemoryImage → (brief : Bool) → (name : List ℕ) → IntervalLists → (sched_file : List ℕ) → FilesSeen → SinkSeen → Type 0
+ReplaysFile s machine image brief name schedule sched_file files out =
+    ((schedule ≡ no_intervals machine.cores) × IsNotTaken (λ seen. IsScheduleFile seen (replay name)) (schedule_by machine) (Some name) s files sched_file × NoPutFailed out × GainedNothing out)
+    ⊎ ((schedule_by machine sched_file ≡ Ok schedule) × IsScheduleFile files (replay name) sched_file × ReplaysAs s machine image brief schedule files out)

@@ -3,7 +3,7 @@ ghost use Rattle.std.specs.Prelude.{◌≡◌, map, option_map, string_bytes, If
 ghost use Rattle.std.specs.Char.{is_ascii_digit};
 ghost use Rattle.std.specs.List.{list_all};
 ghost use Rattle.clap.specs.Words.{first_of, found_of, rows_of};
-ghost use Rattle.zsim.specs.CommandLine.{asked_after, asked_by, asked_of, asked_told, command_of, command_told, exe_of, exe_told, is_decimal, machine_of, number_of, replay_of, run_of, runnable, task_told, workers_of};
+ghost use Rattle.zsim.specs.CommandLine.{command_after, command_by, command_of, command_told, decimal_of, exe_of, exe_told, is_decimal, machine_file_of, replay_of, run_of, task_told, workers_of};
 ghost use Rattle.zsim.specs.Options.{replay_options, run_options};
 
 use crate::options::{matched_by, replay_options, run_options};
@@ -19,9 +19,9 @@ pub enum Exe<'w> {
     Generated(u64),
 }
 
-// What is to be done with the executable.
+/// What is to be done with the executable.
 #[derive(Clone, Copy)]
-enum Task<'w> {
+pub enum Task<'w> {
     /// It is run. Its schedule may be written to a file.
     Run {
         /// How many threads are to do the work, from 1 to 64.
@@ -36,86 +36,48 @@ enum Task<'w> {
     },
 }
 
-// What the words ask for.
-#[derive(Clone, Copy)]
-struct Asked<'w> {
-    /// The name of the machine's file, or None for the built-in machine.
-    machine: Option<&'w str>,
-    exe: Exe<'w>,
-    task: Task<'w>,
-    /// Only the summary is reported.
-    brief: bool,
-}
-
-/// A run on a machine.
+/// What the words ask for.
 #[derive(Clone, Copy)]
 pub struct Command<'w> {
     /// The name of the machine's file, or None for the built-in machine.
     pub machine: Option<&'w str>,
     pub exe: Exe<'w>,
-    /// The name of the file to which its schedule is to be written.
-    pub record_to: Option<&'w str>,
+    pub task: Task<'w>,
     /// Only the summary is reported.
     pub brief: bool,
 }
 
-/// The command that the words are, if they are one that can be carried out.
+/// The command that the words are, if they are one.
 #[tactic(auto, unfolding(crate::specs::CommandLine::command_of))]
 pub fn command_of(alloc: Global, words: &[String]) -> Result<Option<Command<'_>>, AllocError>
     ensures { IfOk result (λ command. option_map command_told command ≡ command_of (map string_bytes words.now)) }
-{
-    match asked_of(alloc, words)? {
-        Some(asked) => Ok(runnable(asked)),
-        None => Ok(None),
-    }
-}
-
-// What can be done of what the words ask for.
-fn runnable(asked: Asked<'_>) -> Option<Command<'_>>
-    ensures { option_map command_told result ≡ runnable (asked_told asked.entry) }
-{
-    match asked.task {
-        Task::Run { record_to, .. } => Some(Command {
-            machine: asked.machine,
-            exe: asked.exe,
-            record_to,
-            brief: asked.brief,
-        }),
-        Task::Replay { .. } => None,
-    }
-}
-
-// What the words ask for, where they are well formed.
-#[tactic(auto, unfolding(crate::specs::CommandLine::asked_of))]
-fn asked_of(alloc: Global, words: &[String]) -> Result<Option<Asked<'_>>, AllocError>
-    ensures { IfOk result (λ asked. option_map asked_told asked ≡ asked_of (map string_bytes words.now)) }
 {
     let Some((verb, words)) = words.split_first() else {
         return Ok(None);
     };
     match verb.as_str() {
-        "run" => asked_after_run(alloc, words),
-        "replay" => asked_after_replay(alloc, words),
+        "run" => command_after_run(alloc, words),
+        "replay" => command_after_replay(alloc, words),
         _ => Ok(None),
     }
 }
 
-// What the words after `run` ask for.
-fn asked_after_run(alloc: Global, words: &[String]) -> Result<Option<Asked<'_>>, AllocError>
-    ensures { IfOk result (λ asked. option_map asked_told asked ≡ asked_after run_options run_of (map string_bytes words.now)) }
+// The command that the words after `run` ask for.
+fn command_after_run(alloc: Global, words: &[String]) -> Result<Option<Command<'_>>, AllocError>
+    ensures { IfOk result (λ command. option_map command_told command ≡ command_after run_options run_of (map string_bytes words.now)) }
 {
     match matched_by(run_options(alloc)?, words)? {
-        Some(matches) => Ok(asked_by(&matches, run_of(&matches))),
+        Some(matches) => Ok(command_by(&matches, run_of(&matches))),
         None => Ok(None),
     }
 }
 
-// What the words after `replay` ask for.
-fn asked_after_replay(alloc: Global, words: &[String]) -> Result<Option<Asked<'_>>, AllocError>
-    ensures { IfOk result (λ asked. option_map asked_told asked ≡ asked_after replay_options replay_of (map string_bytes words.now)) }
+// The command that the words after `replay` ask for.
+fn command_after_replay(alloc: Global, words: &[String]) -> Result<Option<Command<'_>>, AllocError>
+    ensures { IfOk result (λ command. option_map command_told command ≡ command_after replay_options replay_of (map string_bytes words.now)) }
 {
     match matched_by(replay_options(alloc)?, words)? {
-        Some(matches) => Ok(asked_by(&matches, replay_of(&matches))),
+        Some(matches) => Ok(command_by(&matches, replay_of(&matches))),
         None => Ok(None),
     }
 }
@@ -140,14 +102,14 @@ fn replay_of<'w>(matches: &ArgMatches<'w>) -> Option<Task<'w>>
 }
 
 // What the matched words ask for beside a task, where their values are well formed.
-#[tactic(auto, unfolding(crate::specs::CommandLine::asked_by))]
-fn asked_by<'w>(matches: &ArgMatches<'w>, task: Option<Task<'w>>) -> Option<Asked<'w>>
-    ensures { option_map asked_told result ≡ asked_by (rows_of (found_of matches.now)) (option_map task_told task.entry) }
+#[tactic(auto, unfolding(crate::specs::CommandLine::command_by))]
+fn command_by<'w>(matches: &ArgMatches<'w>, task: Option<Task<'w>>) -> Option<Command<'w>>
+    ensures { option_map command_told result ≡ command_by (rows_of (found_of matches.now)) (option_map task_told task.entry) }
 {
     let machine = value(matches, "machine")?;
     let exe = exe_of(value(matches, "exe")?)?;
     let task = task?;
-    Some(Asked {
+    Some(Command {
         machine: machine_of(machine),
         exe,
         task,
@@ -163,9 +125,9 @@ fn value<'w>(matches: &ArgMatches<'w>, name: &str) -> Option<&'w str>
 }
 
 // The name of the machine's file, where the word is not that of the built-in machine.
-#[tactic(auto, unfolding(crate::specs::CommandLine::machine_of))]
+#[tactic(auto, unfolding(crate::specs::CommandLine::machine_file_of))]
 fn machine_of(word: &str) -> Option<&str>
-    ensures { option_map (λ name. name.now) result ≡ machine_of word.now }
+    ensures { option_map (λ name. name.now) result ≡ machine_file_of word.now }
 {
     if word == "plain" { None } else { Some(word) }
 }
@@ -197,7 +159,7 @@ fn workers_of(word: Option<&str>) -> Option<u16>
 
 // The number below 2^64 that a word writes.
 fn number_of(word: &str) -> Option<u64>
-    ensures { result ≡ number_of word.now }
+    ensures { result ≡ decimal_of word.now }
 {
     if !is_decimal(word.as_bytes()) {
         return None;

@@ -4,6 +4,7 @@ ghost use Rattle.std.specs.Prelude.{◌≡◌};
 use access_log::Schedule;
 use elf_load::BadElf;
 use machine_desc::BadMachine;
+use schedule_file::BadSchedule;
 use zs_num::Bytes;
 
 /// What a call answers: how it ended, what it could say of that on standard error, and what it kept.
@@ -23,7 +24,7 @@ pub enum Status {
     Limit,
     /// The words are no command.
     Usage,
-    /// The machine or the executable could not be read.
+    /// The machine, the executable or the schedule could not be read.
     ReadFault,
     /// The report or the schedule could not be written.
     WriteFault,
@@ -31,6 +32,8 @@ pub enum Status {
     BadMachine(BadMachine),
     /// The executable fails this check first.
     BadElf(BadElf),
+    /// The schedule of a replay fails this check first, or is not legal for the run.
+    BadSchedule(ScheduleFault),
     /// A file has more bytes than its limit.
     TooLong(Which),
     NoMemory,
@@ -52,6 +55,7 @@ impl Status {
             Status::BadMachine(_) => 6,
             Status::BadElf(_) => 7,
             Status::NoMemory => 8,
+            Status::BadSchedule(_) => 9,
             Status::TooLong(_) => 10,
         }
     }
@@ -64,6 +68,17 @@ pub enum Which {
     Machine,
     /// The executable, of 2^26 bytes at most.
     Exe,
+    /// The schedule file, of 2^27 bytes at most.
+    Schedule,
+}
+
+/// Why a schedule was refused.
+#[derive(Clone, Copy, Debug, PartialEq, Eq)]
+pub enum ScheduleFault {
+    /// The file fails this check first.
+    File(BadSchedule),
+    /// This place of an interval's list is the first that is not legal for the run.
+    Illegal { interval: u32, place: u32 },
 }
 
 /// How much of the status's line went to standard error.
@@ -77,15 +92,16 @@ pub enum Said {
     NoMemory,
 }
 
-/// What was read, and the schedule that the run took.
+/// What was read, and the schedule of the run.
 #[derive(Debug, Drop)]
 pub struct Kept {
     /// The text of the machine. It is empty where it was not read.
     pub machine: Bytes,
     /// The executable. It is empty where it was not read.
     pub exe: Bytes,
-    /// The schedule file of a replay.
+    /// The schedule file of a replay. It is empty where it was not read, and for a run.
     pub sched_file: Bytes,
-    /// The schedule of the intervals that were completed.
+    /// The schedule that the run took, up to the last interval that was completed, or that the replay
+    /// read.
     pub schedule: Schedule,
 }

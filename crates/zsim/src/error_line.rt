@@ -1,12 +1,13 @@
 // The line on standard error for each status.
 ghost use Rattle.std.specs.Prelude.{◌≡◌, ◌++◌, codes, IfOk, OnOk, string_bytes};
 ghost use Rattle.report.specs.ReportText.{printed};
-ghost use Rattle.zsim.specs.ErrorLine.{elf_details, error_line, machine_details};
+ghost use Rattle.zsim.specs.ErrorLine.{elf_details, error_line, machine_details, schedule_details};
 
-use crate::{Status, Which};
+use crate::{ScheduleFault, Status, Which};
 use elf_load::BadElf;
 use machine_desc::{BadMachine, KeyName};
 use report::write_printed;
+use schedule_file::BadSchedule;
 use std::alloc::{AllocError, Global};
 
 /// The line for a status, with its newline.
@@ -21,8 +22,10 @@ pub fn error_line(alloc: Global, status: &Status) -> Result<String, AllocError>
         Status::WriteFault => String::from_str(alloc, "zsim: cannot write\n"),
         Status::BadMachine(bad) => machine_line(alloc, bad),
         Status::BadElf(bad) => elf_line(alloc, *bad),
+        Status::BadSchedule(wrong) => schedule_line(alloc, *wrong),
         Status::TooLong(Which::Machine) => String::from_str(alloc, "zsim: too long: machine\n"),
         Status::TooLong(Which::Exe) => String::from_str(alloc, "zsim: too long: executable\n"),
+        Status::TooLong(Which::Schedule) => String::from_str(alloc, "zsim: too long: schedule\n"),
         Status::NoMemory => String::from_str(alloc, "zsim: out of memory\n"),
     }
 }
@@ -93,5 +96,32 @@ fn write_details(line: &mut String, bad: BadElf) -> Result<(), AllocError>
         BadElf::SegmentPastMemory { index } => write!(line, "10 {index}"),
         BadElf::Overlap { first, second } => write!(line, "11 {first} {second}"),
         BadElf::Entry => line.push_str("12"),
+    }
+}
+
+// The line for a schedule that is refused.
+fn schedule_line(alloc: Global, wrong: ScheduleFault) -> Result<String, AllocError>
+    ensures { IfOk result (λ line. string_bytes line ≡ codes "zsim: schedule " ++ schedule_details wrong ++ codes "\n") }
+{
+    let mut line = String::from_str(alloc, "zsim: schedule ")?;
+    write_schedule_details(&mut line, wrong)?;
+    line.push_str("\n")?;
+    Ok(line)
+}
+
+// Writes the number of the check that a schedule failed, and what it names.
+fn write_schedule_details(line: &mut String, wrong: ScheduleFault) -> Result<(), AllocError>
+    ensures { OnOk result (string_bytes line.new ≡ string_bytes line.old ++ schedule_details wrong) }
+{
+    match wrong {
+        ScheduleFault::File(BadSchedule::Short { at }) => write!(line, "1 {at}"),
+        ScheduleFault::File(BadSchedule::Magic) => line.push_str("2"),
+        ScheduleFault::File(BadSchedule::Version { found }) => write!(line, "3 {found}"),
+        ScheduleFault::File(BadSchedule::Cores { found }) => write!(line, "4 {found}"),
+        ScheduleFault::File(BadSchedule::Core { interval, place }) => {
+            write!(line, "5 {interval} {place}")
+        }
+        ScheduleFault::File(BadSchedule::After { at }) => write!(line, "6 {at}"),
+        ScheduleFault::Illegal { interval, place } => write!(line, "7 {interval} {place}"),
     }
 }

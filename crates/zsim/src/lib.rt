@@ -4,6 +4,7 @@
 mod command_line;
 mod ended;
 mod error_line;
+pub mod laws;
 mod limits;
 mod options;
 mod outputs;
@@ -13,5 +14,5 @@ mod setup;
 mod tests;
 mod top;
 
-pub use ended::{Ended, Kept, Said, Status, Which};
+pub use ended::{Ended, Kept, Said, ScheduleFault, Status, Which};
 pub use top::zsim;

@@ -5,3 +5,6 @@ pub const MACHINE_LIMIT: usize = 1 << 20;
 
 /// The limit of an executable, in bytes.
 pub const EXE_LIMIT: usize = 1 << 26;
+
+/// The limit of a schedule file, in bytes.
+pub const SCHEDULE_LIMIT: usize = 1 << 27;

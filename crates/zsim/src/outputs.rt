@@ -1,7 +1,7 @@
 // The outputs of a run: the report, and behind it the file of its schedule.
 ghost use Rattle.std.specs.Prelude.{◌≡◌, ◌⊎◌, ◌≤◌, IfOk, OnOk, OnErr, IsSomeAnd, MatchOption, option_map};
 ghost use Rattle.replay.specs.Results.{HasCounts};
-ghost use Rattle.schedule_file.specs.ScheduleFile.{file_of};
+ghost use Rattle.schedule_file.specs.ScheduleFile.{schedule_file_of};
 ghost use Rattle.zsim.specs.Ended.{status_at};
 ghost use Rattle.zsim.specs.Report.{report_of};
 ghost use Rattle.zsim.specs.Seen.{SameNames, WasCut, WasWritten, files_seen, sink_seen};
@@ -30,7 +30,7 @@ pub fn output_file<'w>(
     schedule: &Schedule,
 ) -> Result<Option<OutputFile<'w>>, NoMemory>
     requires { schedule.now.cores ≤ 64 }
-    ensures { IfOk result (λ file. option_map file_told file ≡ option_map (λ n. named_file n (file_of schedule.now)) (option_map (λ n. n.now) name.entry)) }
+    ensures { IfOk result (λ file. option_map file_told file ≡ option_map (λ n. named_file n (schedule_file_of schedule.now)) (option_map (λ n. n.now) name.entry)) }
 {
     match name {
         Some(name) => Ok(Some(OutputFile {

@@ -1,18 +1,20 @@
-// What a call is to run: the machine and the executable, each read and checked.
-ghost use Rattle.std.specs.Prelude.{◌≡◌, [], IfOk, option_map};
+// What a call is to run: the machine, the executable and the schedule, each read and checked.
+ghost use Rattle.std.specs.Prelude.{◌≡◌, ◌≤◌, [], Some, IfOk, option_map};
 ghost use Rattle.machine_desc.specs.Machine.{IsMachine};
-ghost use Rattle.zsim.specs.CommandLine.{exe_file, exe_told};
-ghost use Rattle.zsim.specs.Ended.{IsExeOf, IsMachineText};
+ghost use Rattle.zsim.specs.CommandLine.{exe_file, exe_told, replay};
+ghost use Rattle.zsim.specs.Ended.{IsExeOf, IsMachineText, IsScheduleFile};
 ghost use Rattle.zsim.specs.Seen.{files_seen, SameNames};
-ghost use Rattle.zsim.specs.Setup.{image_by, machine_by};
+ghost use Rattle.zsim.specs.Setup.{image_by, machine_by, schedule_by};
 ghost use Rattle.zsim.specs.Steps.{Checks, Reads, Takes, status_of_read};
 
 use crate::command_line::Exe;
-use crate::limits::{EXE_LIMIT, MACHINE_LIMIT};
-use crate::{Status, Which};
+use crate::limits::{EXE_LIMIT, MACHINE_LIMIT, SCHEDULE_LIMIT};
+use crate::{ScheduleFault, Status, Which};
+use access_log::Schedule;
 use elf_load::{Image, LoadFail, load};
 use gen_prog::generate;
 use machine_desc::{Machine, MachineFail, PLAIN};
+use schedule_file::ScheduleReadFail;
 use std::alloc::Global;
 use zs_host::{FileFail, Files};
 use zs_num::Bytes;
@@ -53,6 +55,25 @@ pub fn take_exe<F: Files>(
         Err(fail) => return Err(status_of_read(fail)),
     }
     check_exe(alloc, machine, bytes.as_slice())
+}
+
+/// Reads and checks the schedule of a replay. The bytes of its file are kept.
+pub fn take_schedule<F: Files>(
+    alloc: Global,
+    machine: &Machine,
+    name: &str,
+    files: &mut F,
+    bytes: &mut Bytes,
+) -> Result<Schedule, Status>
+    requires machine { IsMachine machine.now }
+    requires nothing { bytes.old ≡ [] }
+    ensures takes { Takes (λ seen. IsScheduleFile seen (replay name.now)) (schedule_by machine.now) (Some name.now) result (files_seen F.tells F.contents F.faults F.latest files.old files.new) bytes.new }
+{
+    match files.read(alloc, name, SCHEDULE_LIMIT + 1) {
+        Ok(read) => *bytes = read,
+        Err(fail) => return Err(status_of_read(fail)),
+    }
+    check_schedule(alloc, machine, bytes.as_slice())
 }
 
 // The status where an input was not read.
@@ -133,5 +154,22 @@ fn check_exe(alloc: Global, machine: &Machine, exe: &[u8]) -> Result<Image, Stat
         Ok(image) => Ok(image),
         Err(LoadFail::Bad(bad)) => Err(Status::BadElf(bad)),
         Err(LoadFail::NoMemory) => Err(Status::NoMemory),
+    }
+}
+
+// The schedule of a file, or the refusal of the first check that fails: its length, and then the checks
+// of its format.
+#[tactic(auto, unfolding(crate::specs::Setup::schedule_by))]
+fn check_schedule(alloc: Global, machine: &Machine, file: &[u8]) -> Result<Schedule, Status>
+    requires { IsMachine machine.now }
+    ensures { Checks result (schedule_by machine.now file.now) }
+{
+    if file.len() > SCHEDULE_LIMIT {
+        return Err(Status::TooLong(Which::Schedule));
+    }
+    match schedule_file::read(alloc, file, machine.cores) {
+        Ok(schedule) => Ok(schedule),
+        Err(ScheduleReadFail::Bad(bad)) => Err(Status::BadSchedule(ScheduleFault::File(bad))),
+        Err(ScheduleReadFail::NoMemory) => Err(Status::NoMemory),
     }
 }

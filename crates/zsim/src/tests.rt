@@ -1,9 +1,12 @@
-// The longest lines on standard error, and a run that is recorded.
+// Lines on standard error, the longest among them, and a schedule that cannot be written.
 use crate::error_line::error_line;
-use crate::{Ended, Status, zsim};
+use crate::{Ended, ScheduleFault, Status, Which, zsim};
 use elf_load::BadElf;
+use schedule_file::BadSchedule;
 use std::alloc::Global;
+use std::sync::Wait;
 use std::test::Fail;
+use std::thread::Threads;
 use zs_host::{FileFail, Files, MemFiles, MemSink, OpenGate};
 use zs_num::NoMemory;
 
@@ -24,6 +27,26 @@ fn the_longest_error_lines_are_written_whole(rt: HostRuntime) -> Result<(), Fail
     Ok(())
 }
 
+#[test]
+fn the_error_lines_of_schedules_have_their_numbers(rt: HostRuntime) -> Result<(), Fail> {
+    let alloc = rt.alloc();
+    let stranger = BadSchedule::Core {
+        interval: u32::MAX,
+        place: 7,
+    };
+    let line = error_line(alloc, &Status::BadSchedule(ScheduleFault::File(stranger)))?;
+    assert_eq!(rt; line.as_str(), "zsim: schedule 5 4294967295 7\n");
+    let illegal = ScheduleFault::Illegal {
+        interval: 12,
+        place: 345,
+    };
+    let line = error_line(alloc, &Status::BadSchedule(illegal))?;
+    assert_eq!(rt; line.as_str(), "zsim: schedule 7 12 345\n");
+    let line = error_line(alloc, &Status::TooLong(Which::Schedule))?;
+    assert_eq!(rt; line.as_str(), "zsim: too long: schedule\n");
+    Ok(())
+}
+
 // The answer of a call, and what it wrote.
 #[derive(Drop)]
 struct Called {
@@ -32,32 +55,20 @@ struct Called {
     err: MemSink,
 }
 
-fn call(alloc: Global, words: &[&str], files: &mut MemFiles) -> Result<Called, NoMemory> {
+fn call(
+    rt: &(impl Threads + Wait + Sync),
+    alloc: Global,
+    words: &[&str],
+    files: &mut MemFiles,
+) -> Result<Called, NoMemory> {
     let mut out = MemSink::new(alloc, usize::MAX, &[])?;
     let mut err = MemSink::new(alloc, usize::MAX, &[])?;
     let mut owned = Vec::new(alloc);
     for word in words {
         owned.push(String::from_str(alloc, word)?)?;
     }
-    let ended = zsim(alloc, &owned, files, &mut out, &mut err, &OpenGate);
+    let ended = zsim(rt, alloc, &owned, files, &mut out, &mut err, &OpenGate);
     Ok(Called { ended, out, err })
-}
-
-#[test]
-fn a_run_with_record_writes_its_schedule(rt: HostRuntime) -> Result<(), Fail> {
-    let alloc = rt.alloc();
-    let mut files = MemFiles::new(alloc, &[])?;
-    let ran = call(
-        alloc,
-        &["run", "plain", "gen:5", "--record", "s"],
-        &mut files,
-    )?;
-    assert_eq!(rt; ran.ended.status.number(), 0);
-    assert_eq!(rt; ran.ended.kept.schedule.cores(), 1);
-    let file = files.read(alloc, "s", usize::MAX)?;
-    let expected = schedule_file::write(alloc, &ran.ended.kept.schedule)?;
-    assert_eq!(rt; file.as_slice(), expected.as_slice());
-    Ok(())
 }
 
 // The write is the first call on the files here, since neither input has a file.
@@ -66,13 +77,14 @@ fn a_schedule_that_cannot_be_written_leaves_the_report_whole(rt: HostRuntime) ->
     let alloc = rt.alloc();
     let mut files = MemFiles::new(alloc, &[0])?;
     let failed = call(
+        &rt,
         alloc,
         &["run", "plain", "gen:5", "--record", "s"],
         &mut files,
     )?;
     assert_eq!(rt; failed.ended.status.number(), 5);
     assert_eq!(rt; failed.err.bytes(), b"zsim: cannot write\n".as_slice());
-    let whole = call(alloc, &["run", "plain", "gen:5"], &mut files)?;
+    let whole = call(&rt, alloc, &["run", "plain", "gen:5"], &mut files)?;
     assert_eq!(rt; whole.ended.status.number(), 0);
     assert_eq!(rt; failed.out.bytes(), whole.out.bytes());
     assert_eq!(rt; files.read(alloc, "s", 1).err(), Some(FileFail::Failed));

@@ -1,36 +1,40 @@
 // The call that does all that the program does.
-ghost use Rattle.std.specs.Prelude.{◌≡◌, ◌⊎◌, [], IfSome, None, map, option_map, string_bytes};
+ghost use Rattle.std.specs.Prelude.{◌≡◌, ◌⊎◌, [], IfSome, IsSomeAnd, None, Ok, map, option_map, string_bytes};
 ghost use Rattle.machine_desc.specs.Machine.{IsMachine};
-ghost use Rattle.replay.specs.ReferenceRun.{IsRunOf};
 ghost use Rattle.replay.specs.Results.{Results};
 ghost use Rattle.zsim.specs.CommandLine.{command_of, command_told};
-ghost use Rattle.zsim.specs.Ended.{Gives, HasEnded, IsNoCommand, KeepsNothing, Says};
+ghost use Rattle.zsim.specs.Ended.{Gives, HasEnded, IsNoCommand, KeepsNothing, Says, no_intervals};
 ghost use Rattle.zsim.specs.Seen.{files_seen, sink_seen};
-ghost use Rattle.zsim.specs.Steps.{RunsAs};
+ghost use Rattle.zsim.specs.Setup.{schedule_by};
+ghost use Rattle.zsim.specs.Steps.{ReplaysAs, ReplaysFile, RunGives, RunsAs};
 
-use crate::command_line::{Command, command_of};
+use crate::command_line::{Command, Task, command_of};
 use crate::error_line::error_line;
 use crate::outputs::{finish, output_file};
 use crate::put::put_all;
-use crate::setup::{take_exe, take_machine};
-use crate::{Ended, Kept, Said, Status};
+use crate::setup::{take_exe, take_machine, take_schedule};
+use crate::{Ended, Kept, Said, ScheduleFault, Status};
 use access_log::Schedule;
 use elf_load::Image;
 use machine_desc::Machine;
-use replay::run;
+use replay::{ReplayFail, replay, run};
 use std::alloc::{AllocError, Global};
+use std::sync::Wait;
+use std::thread::Threads;
 use zs_host::{Files, Gate, Sink, SinkFail};
 use zs_num::{Bytes, NoMemory};
 
 /// Does what the words say: they are those after the program's name. The report goes to `out`, and
-/// the line of the status to `err`.
-pub fn zsim<F: Files, O: Sink, E: Sink, G: Gate>(
+/// the line of the status to `err`. The workers of a run pass the gate before each access
+/// and each event.
+pub fn zsim<R: Threads + Wait + Sync, F: Files, O: Sink, E: Sink, G: Gate>(
+    rt: &R,
     alloc: Global,
     words: &[String],
     files: &mut F,
     out: &mut O,
     err: &mut E,
-    _gate: &G,
+    gate: &G,
 ) -> Ended
     // Where the words are no command, the status says so, and nothing is touched.
     ensures usage { command_of (map string_bytes words.now) ≡ None → IsNoCommand result.status result.kept × (files.new ≡ files.old) × (out.new ≡ out.old) }
@@ -39,7 +43,7 @@ pub fn zsim<F: Files, O: Sink, E: Sink, G: Gate>(
     ensures ended { IfSome (command_of (map string_bytes words.now)) (λ command. HasEnded (record { command = command; files = files_seen F.tells F.contents F.faults F.latest files.old files.new; out = sink_seen O.tells O.bytes O.faults out.old out.new }) result.status result.kept) }
 
     // Standard output is not touched until a run has come to its end.
-    ensures untouched { (out.new ≡ out.old) ⊎ ((r : Results) × Gives result.kept r) }
+    ensures untouched { (out.new ≡ out.old) ⊎ IsSomeAnd (command_of (map string_bytes words.now)) (λ command. (r : Results) × Gives command result.kept r) }
 
     // Standard error gained the line of the status. It is not touched where the status is Ran.
     ensures error_line { Says result.said result.status (sink_seen E.tells E.bytes E.faults err.old err.new) }
@@ -51,42 +55,46 @@ pub fn zsim<F: Files, O: Sink, E: Sink, G: Gate>(
         sched_file: Bytes::of(Vec::new(alloc)),
         schedule: Schedule::new(alloc, 0),
     };
-    let status = conduct(alloc, words, files, out, &mut kept);
+    let status = conduct(rt, alloc, words, files, out, gate, &mut kept);
     let said = say(alloc, err, &status);
     Ended { status, said, kept }
 }
 
 // Does what the words say, up to the outputs.
-fn conduct<F: Files, O: Sink>(
+fn conduct<R: Threads + Wait + Sync, F: Files, O: Sink, G: Gate>(
+    rt: &R,
     alloc: Global,
     words: &[String],
     files: &mut F,
     out: &mut O,
+    gate: &G,
     kept: &mut Kept,
 ) -> Status
     requires { KeepsNothing kept.old }
     ensures usage { command_of (map string_bytes words.now) ≡ None → IsNoCommand result kept.new × (files.new ≡ files.old) × (out.new ≡ out.old) }
     ensures ended { IfSome (command_of (map string_bytes words.now)) (λ command. HasEnded (record { command = command; files = files_seen F.tells F.contents F.faults F.latest files.old files.new; out = sink_seen O.tells O.bytes O.faults out.old out.new }) result kept.new) }
-    ensures untouched { (out.new ≡ out.old) ⊎ ((r : Results) × Gives kept.new r) }
+    ensures untouched { (out.new ≡ out.old) ⊎ IsSomeAnd (command_of (map string_bytes words.now)) (λ command. (r : Results) × Gives command kept.new r) }
 {
     match command_of(alloc, words) {
-        Ok(Some(command)) => carry_out(alloc, &command, files, out, kept),
+        Ok(Some(command)) => carry_out(rt, alloc, &command, files, out, gate, kept),
         Ok(None) => Status::Usage,
         Err(AllocError) => Status::NoMemory,
     }
 }
 
-// Carries out a command: takes its inputs, and runs.
-fn carry_out<F: Files, O: Sink>(
+// Carries out a command: takes its inputs, and runs or replays.
+fn carry_out<R: Threads + Wait + Sync, F: Files, O: Sink, G: Gate>(
+    rt: &R,
     alloc: Global,
     command: &Command<'_>,
     files: &mut F,
     out: &mut O,
+    gate: &G,
     kept: &mut Kept,
 ) -> Status
     requires { KeepsNothing kept.old }
     ensures ended { HasEnded (record { command = command_told command.now; files = files_seen F.tells F.contents F.faults F.latest files.old files.new; out = sink_seen O.tells O.bytes O.faults out.old out.new }) result kept.new }
-    ensures untouched { (out.new ≡ out.old) ⊎ ((r : Results) × Gives kept.new r) }
+    ensures untouched { (out.new ≡ out.old) ⊎ ((r : Results) × Gives (command_told command.now) kept.new r) }
 {
     let machine = match take_machine(alloc, command.machine, files, &mut kept.machine) {
         Ok(machine) => machine,
@@ -97,24 +105,31 @@ fn carry_out<F: Files, O: Sink>(
         Ok(image) => image,
         Err(status) => return status,
     };
-    let schedule = &mut kept.schedule;
-    run_and_report(
-        alloc,
-        &machine,
-        &image,
-        command.brief,
-        command.record_to,
-        schedule,
-        files,
-        out,
-    )
+    let brief = command.brief;
+    match command.task {
+        Task::Run { workers, record_to } => {
+            let schedule = &mut kept.schedule;
+            run_and_report(
+                rt, alloc, &machine, &image, workers, gate, brief, record_to, schedule, files, out,
+            )
+        }
+        Task::Replay { schedule: name } => {
+            let (sched_file, schedule) = (&mut kept.sched_file, &mut kept.schedule);
+            replay_file(
+                alloc, &machine, &image, brief, name, sched_file, schedule, files, out,
+            )
+        }
+    }
 }
 
 // Runs an image, writes its report, and behind it the schedule's file where one is named.
-fn run_and_report<F: Files, O: Sink>(
+fn run_and_report<R: Threads + Wait + Sync, F: Files, O: Sink, G: Gate>(
+    rt: &R,
     alloc: Global,
     machine: &Machine,
     image: &Image,
+    workers: u16,
+    gate: &G,
     brief: bool,
     record_to: Option<&str>,
     schedule: &mut Schedule,
@@ -128,9 +143,9 @@ fn run_and_report<F: Files, O: Sink>(
     requires cores { schedule.old.cores ≡ machine.now.cores }
     ensures cores { schedule.new.cores ≡ schedule.old.cores }
     ensures run { RunsAs result machine.now image.now brief (option_map (λ n. n.now) record_to.entry) schedule.new (files_seen F.tells F.contents F.faults F.latest files.old files.new) (sink_seen O.tells O.bytes O.faults out.old out.new) }
-    ensures untouched { (out.new ≡ out.old) ⊎ ((r : Results) × IsRunOf machine.now image.now schedule.new.lists r) }
+    ensures untouched { (out.new ≡ out.old) ⊎ ((r : Results) × RunGives machine.now image.now schedule.new r) }
 {
-    let results = match run(alloc, machine, image, schedule) {
+    let results = match run(rt, alloc, machine, image, workers, gate, schedule) {
         Ok(results) => results,
         Err(NoMemory) => return Status::NoMemory,
     };
@@ -139,6 +154,60 @@ fn run_and_report<F: Files, O: Sink>(
         Err(NoMemory) => return Status::NoMemory,
     };
     finish(alloc, machine, brief, &results, file, files, out)
+}
+
+// Reads the schedule of a file, which is kept, and runs an image under it.
+fn replay_file<F: Files, O: Sink>(
+    alloc: Global,
+    machine: &Machine,
+    image: &Image,
+    brief: bool,
+    name: &str,
+    sched_file: &mut Bytes,
+    schedule: &mut Schedule,
+    files: &mut F,
+    out: &mut O,
+) -> Status
+    requires machine { IsMachine machine.now }
+    requires base { image.now.base ≡ machine.now.memory.base }
+    requires size { image.now.size ≡ machine.now.memory.size }
+    requires nothing { sched_file.old ≡ [] }
+    requires empty { schedule.old ≡ no_intervals machine.now.cores }
+    ensures replay { ReplaysFile result machine.now image.now brief name.now schedule.new sched_file.new (files_seen F.tells F.contents F.faults F.latest files.old files.new) (sink_seen O.tells O.bytes O.faults out.old out.new) }
+    ensures untouched { (out.new ≡ out.old) ⊎ ((schedule_by machine.now sched_file.new ≡ Ok schedule.new) × ((r : Results) × RunGives machine.now image.now schedule.new r)) }
+{
+    *schedule = match take_schedule(alloc, machine, name, files, sched_file) {
+        Ok(read) => read,
+        Err(status) => return status,
+    };
+    replay_and_report(alloc, machine, image, brief, schedule, files, out)
+}
+
+// Runs an image under a schedule, and writes its report.
+fn replay_and_report<F: Files, O: Sink>(
+    alloc: Global,
+    machine: &Machine,
+    image: &Image,
+    brief: bool,
+    schedule: &Schedule,
+    files: &mut F,
+    out: &mut O,
+) -> Status
+    requires machine { IsMachine machine.now }
+    requires base { image.now.base ≡ machine.now.memory.base }
+    requires size { image.now.size ≡ machine.now.memory.size }
+    requires cores { schedule.now.cores ≡ machine.now.cores }
+    ensures replay { ReplaysAs result machine.now image.now brief schedule.now (files_seen F.tells F.contents F.faults F.latest files.old files.new) (sink_seen O.tells O.bytes O.faults out.old out.new) }
+    ensures untouched { (out.new ≡ out.old) ⊎ ((r : Results) × RunGives machine.now image.now schedule.now r) }
+{
+    match replay(alloc, machine, image, schedule) {
+        Ok(results) => finish(alloc, machine, brief, &results, None, files, out),
+        Err(ReplayFail::Illegal { interval, place }) => Status::BadSchedule(ScheduleFault::Illegal {
+            interval,
+            place,
+        }),
+        Err(ReplayFail::NoMemory) => Status::NoMemory,
+    }
 }
 
 // Says on standard error how the call ended.

@@ -1,4 +1,4 @@
-//! The simulator: `zsim run plain EXE`.
+//! The simulator: hands its words to the call `zsim`.
 #![tactic(auto)]
 
 use std::env;
@@ -15,8 +15,10 @@ fn main(rt: HostRuntime) -> ExitCode {
     let alloc = rt.alloc();
     let mut out = RealSink::new(rt.stdout());
     let mut err = RealSink::new(rt.stderr());
-    let mut files = RealFiles::new(rt);
-    let ended = zsim(alloc, &words, &mut files, &mut out, &mut err, &OpenGate);
+    let mut files = RealFiles::new(&rt);
+    let ended = zsim(
+        &rt, alloc, &words, &mut files, &mut out, &mut err, &OpenGate,
+    );
     ExitCode::from(ended.status.number())
 }
 

@@ -4,6 +4,9 @@ use std::alloc::{AllocError, Global};
 /// `addi x10, x0, 7`; `addi x17, x0, 93`; `ecall`.
 pub const SEVEN: [u32; 3] = [0x0070_0513, 0x05D0_0893, 0x0000_0073];
 
+/// `ld x5, -8(x2)`; `addi x17, x0, 93`; `ecall`: a load from the core's own stack.
+pub const LOAD: [u32; 3] = [0xFF81_3283, 0x05D0_0893, 0x0000_0073];
+
 /// `addi x5, x0, 9`; `sd x5, -8(x2)`; `ld x10, -8(x2)`; `addi x17, x0, 93`; `ecall`.
 pub const STORE_AND_LOAD: [u32; 5] = [
     0x0090_0293,

@@ -1,6 +1,8 @@
 // Calls the top call on words and files, and looks at what it answered and wrote.
 use std::alloc::{AllocError, Global};
 use std::process::Abort;
+use std::sync::Wait;
+use std::thread::Threads;
 use zs_host::{MemFiles, MemSink, OpenGate};
 use zs_num::NoMemory;
 use zsim::{Ended, zsim};
@@ -15,6 +17,7 @@ pub struct Called {
 
 /// Calls on `run plain A`, over files in which `A` holds `exe`.
 pub fn call(
+    rt: &(impl Threads + Wait + Sync),
     alloc: Global,
     exe: &[u8],
     mut out: MemSink,
@@ -23,24 +26,33 @@ pub fn call(
     let mut files = MemFiles::new(alloc, &[])?;
     files.set(alloc, "A", exe)?;
     let words = owned(alloc, &["run", "plain", "A"])?;
-    let ended = zsim(alloc, &words, &mut files, &mut out, &mut err, &OpenGate);
+    let ended = zsim(rt, alloc, &words, &mut files, &mut out, &mut err, &OpenGate);
     Ok(Called { ended, out, err })
 }
 
 /// Calls on these words, over these files and sinks that take all.
-pub fn call_with(alloc: Global, words: &[&str], files: &mut MemFiles) -> Result<Called, NoMemory> {
+pub fn call_with(
+    rt: &(impl Threads + Wait + Sync),
+    alloc: Global,
+    words: &[&str],
+    files: &mut MemFiles,
+) -> Result<Called, NoMemory> {
     let mut out = MemSink::new(alloc, usize::MAX, &[])?;
     let mut err = MemSink::new(alloc, usize::MAX, &[])?;
     let words = owned(alloc, words)?;
-    let ended = zsim(alloc, &words, files, &mut out, &mut err, &OpenGate);
+    let ended = zsim(rt, alloc, &words, files, &mut out, &mut err, &OpenGate);
     Ok(Called { ended, out, err })
 }
 
 /// Calls on `run plain A`, over sinks that take all.
-pub fn run(alloc: Global, exe: &[u8]) -> Result<Called, NoMemory> {
+pub fn run(
+    rt: &(impl Threads + Wait + Sync),
+    alloc: Global,
+    exe: &[u8],
+) -> Result<Called, NoMemory> {
     let out = MemSink::new(alloc, usize::MAX, &[])?;
     let err = MemSink::new(alloc, usize::MAX, &[])?;
-    call(alloc, exe, out, err)
+    call(rt, alloc, exe, out, err)
 }
 
 /// The words, each on its own.

@@ -11,11 +11,17 @@ mod harness;
 mod kept;
 mod machines;
 #[cfg(test)]
+mod meeting;
+#[cfg(test)]
 mod memory;
+#[cfg(test)]
+mod recording;
 #[cfg(test)]
 mod refusals;
 #[cfg(test)]
 mod sinks;
+#[cfg(test)]
+mod tests;
 
 use std::io::Print;
 use std::process::ExitCode;
@@ -24,8 +30,8 @@ use zs_host::RealFiles;
 fn main(rt: HostRuntime) -> ExitCode {
     let alloc = rt.alloc();
     let stdout = rt.stdout();
-    let mut files = RealFiles::new(rt);
-    match cases::answers(alloc, &mut files) {
+    let mut files = RealFiles::new(&rt);
+    match cases::answers(&rt, alloc, &mut files) {
         Some(out) if stdout.write_all(out.bytes()).is_ok() => ExitCode::SUCCESS,
         _ => ExitCode::FAILURE,
     }

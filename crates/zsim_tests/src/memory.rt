@@ -4,28 +4,34 @@ use crate::executables::{SEVEN, STORE_AND_LOAD, executable};
 use crate::harness::{Called, run};
 use std::alloc::Global;
 use std::process::Abort;
+use std::sync::Wait;
+use std::thread::Threads;
 use zs_num::NoMemory;
 use zsim::{Said, Status};
 
 #[test]
 fn a_run_answers_its_status_or_no_memory(rt: HostRuntime) {
     let alloc = rt.alloc();
-    if let Ok(called) = run_words(alloc, &SEVEN) {
+    if let Ok(called) = run_words(&rt, alloc, &SEVEN) {
         assert_answered(&rt, &called, 0, "");
     }
-    if let Ok(called) = run_words(alloc, &STORE_AND_LOAD) {
+    if let Ok(called) = run_words(&rt, alloc, &STORE_AND_LOAD) {
         assert_answered(&rt, &called, 0, "");
     }
-    if let Ok(called) = run(alloc, b"") {
+    if let Ok(called) = run(&rt, alloc, b"") {
         let number = called.ended.status.number();
         assert!(rt; number == 7 || number == 8);
         assert!(rt; called.out.bytes().is_empty());
     }
 }
 
-fn run_words(alloc: Global, words: &[u32]) -> Result<Called, NoMemory> {
+fn run_words(
+    rt: &(impl Threads + Wait + Sync),
+    alloc: Global,
+    words: &[u32],
+) -> Result<Called, NoMemory> {
     let exe = executable(alloc, words)?;
-    run(alloc, &exe)
+    run(rt, alloc, &exe)
 }
 
 // The call ended so, or out of memory, with what belongs to that on both streams.

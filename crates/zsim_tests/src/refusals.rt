@@ -4,44 +4,60 @@ use crate::harness::{assert_ended, call_with, owned, run};
 use crate::machines::changed;
 use elf_load::BadElf;
 use machine_desc::{BadMachine, PLAIN};
+use std::alloc::Global;
+use std::process::Abort;
+use std::sync::Wait;
 use std::test::Fail;
+use std::thread::Threads;
 use zs_host::{MemFiles, OpenGate, SureFiles, SureSink};
 use zsim::{Status, zsim};
 
-#[test]
-fn an_executable_over_its_limit_is_too_long(rt: HostRuntime) -> Result<(), Fail> {
-    let alloc = rt.alloc();
+pub fn an_executable_over_its_limit_is_too_long(
+    rt: &(impl Abort + Threads + Wait + Sync),
+    alloc: Global,
+) -> Result<(), Fail> {
     let exe = vec![in alloc; 0u8; (1 << 26) + 1]?;
-    let called = run(alloc, &exe)?;
-    assert_ended(&rt, &called, 10, "", "zsim: too long: executable\n");
+    let called = run(rt, alloc, &exe)?;
+    assert_ended(rt, &called, 10, "", "zsim: too long: executable\n");
     assert_eq!(rt; called.ended.kept.exe.as_slice().len(), (1 << 26) + 1);
-    let longest = run(alloc, &exe[1..])?;
+    let longest = run(rt, alloc, &exe[1..])?;
     assert!(rt; matches!(longest.ended.status, Status::BadElf(BadElf::Magic)));
     assert!(rt; longest.ended.kept.exe.as_slice() == &exe[1..]);
     Ok(())
 }
 
 // A description of newlines alone is a text without a key, if it is not too long.
-#[test]
-fn a_description_over_its_limit_is_too_long(rt: HostRuntime) -> Result<(), Fail> {
-    let alloc = rt.alloc();
+pub fn a_description_over_its_limit_is_too_long(
+    rt: &(impl Abort + Threads + Wait + Sync),
+    alloc: Global,
+) -> Result<(), Fail> {
     let newlines = vec![in alloc; b'\n'; (1 << 20) + 1]?;
     let mut files = MemFiles::new(alloc, &[])?;
     files.set(alloc, "m", &newlines)?;
-    let called = call_with(alloc, &["run", "m", "A"], &mut files)?;
-    assert_ended(&rt, &called, 10, "", "zsim: too long: machine\n");
+    let called = call_with(rt, alloc, &["run", "m", "A"], &mut files)?;
+    assert_ended(rt, &called, 10, "", "zsim: too long: machine\n");
     assert_eq!(rt; called.ended.kept.machine.as_slice().len(), (1 << 20) + 1);
     files.set(alloc, "m", &newlines[1..])?;
-    let longest = call_with(alloc, &["run", "m", "A"], &mut files)?;
-    assert_ended(&rt, &longest, 6, "", "zsim: machine 2 version\n");
+    let longest = call_with(rt, alloc, &["run", "m", "A"], &mut files)?;
+    assert_ended(rt, &longest, 6, "", "zsim: machine 2 version\n");
     assert_eq!(rt; files.fault_count(), 0);
     Ok(())
 }
 
+/// All of these.
+pub fn inputs_are_refused(
+    rt: &(impl Abort + Threads + Wait + Sync),
+    alloc: Global,
+) -> Result<(), Fail> {
+    a_read_that_fails_is_a_read_fault(rt, alloc)?;
+    objects_that_never_fail_are_read_and_written(rt, alloc)
+}
+
 // Of the two reads the first or the second fails. The machine is checked before the second.
-#[test]
-fn a_read_that_fails_is_a_read_fault(rt: HostRuntime) -> Result<(), Fail> {
-    let alloc = rt.alloc();
+fn a_read_that_fails_is_a_read_fault(
+    rt: &(impl Abort + Threads + Wait + Sync),
+    alloc: Global,
+) -> Result<(), Fail> {
     for (fails, machine, number, line, kept) in [
         (0, PLAIN, 4, "zsim: cannot read\n", 0),
         (1, PLAIN, 4, "zsim: cannot read\n", 339),
@@ -51,7 +67,7 @@ fn a_read_that_fails_is_a_read_fault(rt: HostRuntime) -> Result<(), Fail> {
         let mut files = MemFiles::new(alloc, &[fails])?;
         files.set(alloc, "m.toml", machine.as_bytes())?;
         files.set(alloc, "A", &executable(alloc, &SEVEN)?)?;
-        let called = call_with(alloc, &["run", "m.toml", "A"], &mut files)?;
+        let called = call_with(rt, alloc, &["run", "m.toml", "A"], &mut files)?;
         assert_eq!(rt; called.ended.status.number(), number, "{fails}");
         assert_eq!(rt; called.err.bytes(), line.as_bytes(), "{fails}");
         assert_eq!(rt; called.out.bytes().is_empty(), number != 0, "{fails}");
@@ -67,9 +83,10 @@ fn a_read_that_fails_is_a_read_fault(rt: HostRuntime) -> Result<(), Fail> {
 }
 
 // Over objects that never fail, a name that was never written holds no bytes.
-#[test]
-fn objects_that_never_fail_are_read_and_written(rt: HostRuntime) -> Result<(), Fail> {
-    let alloc = rt.alloc();
+fn objects_that_never_fail_are_read_and_written(
+    rt: &(impl Abort + Threads + Wait + Sync),
+    alloc: Global,
+) -> Result<(), Fail> {
     let exe = executable(alloc, &SEVEN)?;
     for (intervals, number, first) in [
         (
@@ -93,11 +110,11 @@ fn objects_that_never_fail_are_read_and_written(rt: HostRuntime) -> Result<(), F
         files.set(alloc, "m", machine.as_bytes())?;
         files.set(alloc, "A", &exe)?;
         let words = owned(alloc, &["run", "m", "A"])?;
-        let ended = zsim(alloc, &words, &mut files, &mut out, &mut err, &OpenGate);
+        let ended = zsim(rt, alloc, &words, &mut files, &mut out, &mut err, &OpenGate);
         assert_eq!(rt; ended.status.number(), number);
         assert!(rt; out.bytes().starts_with(first.as_bytes()));
         let words = owned(alloc, &["run", "missing", "A"])?;
-        let ended = zsim(alloc, &words, &mut files, &mut out, &mut err, &OpenGate);
+        let ended = zsim(rt, alloc, &words, &mut files, &mut out, &mut err, &OpenGate);
         assert!(rt; matches!(ended.status, Status::BadMachine(BadMachine::Missing { .. })));
     }
     Ok(())

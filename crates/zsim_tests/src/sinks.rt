@@ -3,36 +3,51 @@ use crate::executables::{SEVEN, executable};
 use crate::harness::{call, run};
 use std::alloc::Global;
 use std::process::Abort;
+use std::sync::Wait;
 use std::test::Fail;
+use std::thread::Threads;
 use zs_host::MemSink;
 use zs_num::NoMemory;
 use zsim::{Said, Status};
 
-#[test]
-fn a_sink_that_takes_a_byte_a_put_gains_the_whole_report(rt: HostRuntime) -> Result<(), Fail> {
-    let alloc = rt.alloc();
+/// All of these.
+pub fn sinks_are_filled(
+    rt: &(impl Abort + Threads + Wait + Sync),
+    alloc: Global,
+) -> Result<(), Fail> {
+    a_sink_that_takes_a_byte_a_put_gains_the_whole_report(rt, alloc)?;
+    a_put_that_fails_leaves_the_bytes_before_it(rt, alloc)?;
+    a_failing_standard_error_changes_no_status(rt, alloc)
+}
+
+fn a_sink_that_takes_a_byte_a_put_gains_the_whole_report(
+    rt: &(impl Abort + Threads + Wait + Sync),
+    alloc: Global,
+) -> Result<(), Fail> {
     let exe = executable(alloc, &SEVEN)?;
-    let whole = run(alloc, &exe)?;
+    let whole = run(rt, alloc, &exe)?;
     let out = MemSink::new(alloc, 1, &[])?;
     let err = MemSink::new(alloc, 1, &[])?;
-    let called = call(alloc, &exe, out, err)?;
+    let called = call(rt, alloc, &exe, out, err)?;
     assert!(rt; matches!(called.ended.status, Status::Ran));
     assert_eq!(rt; called.out.bytes(), whole.out.bytes());
     Ok(())
 }
 
 // The report of 282 bytes takes five puts of 64 bytes, so a fifth fault is none of it.
-#[test]
-fn a_put_that_fails_leaves_the_bytes_before_it(rt: HostRuntime) -> Result<(), Fail> {
-    let alloc = rt.alloc();
+fn a_put_that_fails_leaves_the_bytes_before_it(
+    rt: &(impl Abort + Threads + Wait + Sync),
+    alloc: Global,
+) -> Result<(), Fail> {
     let exe = executable(alloc, &SEVEN)?;
-    let whole = run(alloc, &exe)?;
+    let whole = run(rt, alloc, &exe)?;
     let report = whole.out.bytes();
     assert_eq!(rt; report.len(), 282);
     for fails in 0..5 {
-        assert_cut(&rt, alloc, &exe, report, fails)?;
+        assert_cut(rt, alloc, &exe, report, fails)?;
     }
     let cut = call(
+        rt,
         alloc,
         &exe,
         MemSink::new(alloc, 64, &[1])?,
@@ -40,7 +55,7 @@ fn a_put_that_fails_leaves_the_bytes_before_it(rt: HostRuntime) -> Result<(), Fa
     )?;
     assert!(rt; cut.out.bytes().ends_with(b"cycles 3\naccess"));
     let out = MemSink::new(alloc, 64, &[5])?;
-    let called = call(alloc, &exe, out, MemSink::new(alloc, 7, &[])?)?;
+    let called = call(rt, alloc, &exe, out, MemSink::new(alloc, 7, &[])?)?;
     assert!(rt; matches!(called.ended.status, Status::Ran));
     assert_eq!(rt; called.out.bytes(), report);
     Ok(())
@@ -48,14 +63,14 @@ fn a_put_that_fails_leaves_the_bytes_before_it(rt: HostRuntime) -> Result<(), Fa
 
 // Where this put of 64 bytes fails, those before it stand, and the line is said.
 fn assert_cut(
-    rt: &impl Abort,
+    rt: &(impl Abort + Threads + Wait + Sync),
     alloc: Global,
     exe: &[u8],
     report: &[u8],
     fails: u64,
 ) -> Result<(), NoMemory> {
     let out = MemSink::new(alloc, 64, &[fails])?;
-    let called = call(alloc, exe, out, MemSink::new(alloc, 7, &[])?)?;
+    let called = call(rt, alloc, exe, out, MemSink::new(alloc, 7, &[])?)?;
     assert!(rt;
         matches!(called.ended.status, Status::WriteFault),
         "{fails}"
@@ -77,18 +92,19 @@ fn assert_cut(
     Ok(())
 }
 
-#[test]
-fn a_failing_standard_error_changes_no_status(rt: HostRuntime) -> Result<(), Fail> {
-    let alloc = rt.alloc();
-    assert_says(&rt, alloc, 0, Said::Fault, "")?;
-    assert_says(&rt, alloc, 1, Said::Fault, "zsim: el")?;
-    assert_says(&rt, alloc, 2, Said::All, "zsim: elf 1\n")?;
+fn a_failing_standard_error_changes_no_status(
+    rt: &(impl Abort + Threads + Wait + Sync),
+    alloc: Global,
+) -> Result<(), Fail> {
+    assert_says(rt, alloc, 0, Said::Fault, "")?;
+    assert_says(rt, alloc, 1, Said::Fault, "zsim: el")?;
+    assert_says(rt, alloc, 2, Said::All, "zsim: elf 1\n")?;
     Ok(())
 }
 
 // What is said of an empty executable where this put of eight bytes fails.
 fn assert_says(
-    rt: &impl Abort,
+    rt: &(impl Abort + Threads + Wait + Sync),
     alloc: Global,
     fails: u64,
     said: Said,
@@ -96,7 +112,7 @@ fn assert_says(
 ) -> Result<(), NoMemory> {
     let out = MemSink::new(alloc, 64, &[])?;
     let err = MemSink::new(alloc, 8, &[fails])?;
-    let called = call(alloc, b"", out, err)?;
+    let called = call(rt, alloc, b"", out, err)?;
     assert_eq!(rt; called.ended.status.number(), 7);
     assert_eq!(rt; called.ended.said, said);
     assert_eq!(rt; called.err.bytes(), line.as_bytes());

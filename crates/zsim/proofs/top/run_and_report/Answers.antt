@@ -9,7 +9,7 @@ pub returns-in-Err-output_file-clause-run : goal.returns-in-Err-output_file-clau
 returns-in-Err-output_file-clause-run g c =
     inr (inl (
       refl,
-      (c.in-Ok.results, c.in-Ok.ensures.ok),
+      (c.in-Ok.results, (c.in-Ok.ensures.ok, c.in-Ok.ensures.counted)),
       record {
         quiet = record { no_fault = record { faults = refl; latest = refl }; names = λ _ _. refl };
         no_put = refl;
@@ -25,4 +25,4 @@ returns-clause-run g c =
     (option_map file_told c.in-Ok-output_file.file)
     (files_seen files.tells files.contents files.faults files.latest c.args.files.now c.finish.new.files)
     (sink_seen sink.tells sink.bytes sink.faults c.args.out.now c.finish.new.out)
-    c.in-Ok.ensures.ok c.in-Ok-output_file.ensures c.finish.ensures
+    (c.in-Ok.ensures.ok, c.in-Ok.ensures.counted) c.in-Ok-output_file.ensures c.finish.ensures

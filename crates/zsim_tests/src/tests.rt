@@ -1,0 +1,22 @@
+// The checks that take ample memory for granted, in two tests: each test is a program of its own, and to
+// build a program takes far longer than to run most of these.
+use crate::{kept, recording, refusals, sinks};
+use std::test::Fail;
+
+#[test]
+fn each_check_holds(rt: HostRuntime) -> Result<(), Fail> {
+    let alloc = rt.alloc();
+    kept::what_is_kept(&rt, alloc)?;
+    recording::schedules_are_written_and_read(&rt, alloc)?;
+    refusals::inputs_are_refused(&rt, alloc)?;
+    sinks::sinks_are_filled(&rt, alloc)
+}
+
+// These fill many megabytes.
+#[test]
+fn files_over_their_limits_are_too_long(rt: HostRuntime) -> Result<(), Fail> {
+    let alloc = rt.alloc();
+    refusals::a_description_over_its_limit_is_too_long(&rt, alloc)?;
+    refusals::an_executable_over_its_limit_is_too_long(&rt, alloc)?;
+    recording::a_schedule_over_its_limit_is_too_long(&rt, alloc)
+}
