@@ -23,6 +23,7 @@ import shutil
 import subprocess
 import sys
 import tempfile
+import time
 
 HERE = os.path.dirname(os.path.abspath(__file__))
 TOP = os.path.dirname(HERE)
@@ -31,10 +32,15 @@ PROGRAM = os.path.join(TOP, "crates/zsim_main/out/zsim_main")
 LOOPS = ["loop8", "loop800", "loop4000"]
 C_PROGRAMS = ["bytecode", "sort", "hits", "misses"]
 PARALLEL = ["sum", "lock", "matrix", "histogram"]
-PROGRAMS = LOOPS + C_PROGRAMS + PARALLEL
+BESIDE = ["private", "reading", "contended", "scattered"]
+PROGRAMS = LOOPS + C_PROGRAMS + PARALLEL + BESIDE
 
 SERVER = os.path.join(TOP, "examples/machines/server.toml")
 CORES = [1, 4, 16]
+CORES_BESIDE = [4, 16, 64]
+WORKERS = [1, 2, 4]
+# A memory that is filled at once, so that the time is that of the run.
+SMALL_MEMORY = {"size": 0x100000, "stack": 4160}
 
 HEADINGS = [
     "Program", "Instructions", "Accesses", "Seconds", "Million instructions/s", "Million accesses/s",
@@ -55,25 +61,31 @@ PARTS = {
 PARALLEL_HEADINGS = [
     "Program", "Cores", "Instructions", "Accesses", "Seconds", "Million instructions/s", "Million accesses/s",
 ]
+BESIDE_HEADINGS = [
+    "Program", "Cores", "Workers", "Intervals", "Instructions", "Accesses", "Seconds on the wall", "User seconds",
+    "Million accesses/s", "One worker / these",
+]
 SHARES_HEADINGS = ["Program", "Cores", *(f"{part}, %" for part in PARTS), "Other, %"]
 
 
-def user_time(words):
-    """Runs a command once, and returns its user time in seconds, its status and its standard output."""
+def timed(words):
+    """Runs a command once. Returns its time on the wall and its user time in seconds, its status and its output."""
     with tempfile.TemporaryFile() as out:
+        begin = time.monotonic()
         process = subprocess.Popen(words, stdout=out, stderr=subprocess.DEVNULL, stdin=subprocess.DEVNULL)
         _, status, usage = os.wait4(process.pid, 0)
+        wall = time.monotonic() - begin
         process.returncode = os.waitstatus_to_exitcode(status)
         out.seek(0)
-        return usage.ru_utime, process.returncode, out.read().decode(errors="replace")
+        return wall, usage.ru_utime, process.returncode, out.read().decode(errors="replace")
 
 
 def best_time(words, runs):
     """Returns the least user time of some runs, and the standard output. None where the command failed."""
-    results = [user_time(words) for _ in range(runs)]
-    if any(status != 0 for _, status, _ in results):
+    results = [timed(words) for _ in range(runs)]
+    if any(status != 0 for _, _, status, _ in results):
         return None
-    return min(seconds for seconds, _, _ in results), results[0][2]
+    return min(seconds for _, seconds, _, _ in results), results[0][3]
 
 
 def number(report, word):
@@ -135,14 +147,22 @@ def speed_cells(seconds, report):
     return [str(instructions), str(accesses), f"{seconds:.2f}", *speeds]
 
 
-def server_with(cores, folder):
-    """Writes the description of the server with so many cores, and returns its name."""
+def server_with(cores, folder, **changes):
+    """Writes the description of the server with so many cores and other changes, and returns its name."""
     with open(SERVER, encoding="utf-8") as file:
-        text = re.sub(r"(?m)^cores = \d+$", f"cores = {cores}", file.read())
+        text = file.read()
+    for key, value in {"cores": cores, **changes}.items():
+        text = re.sub(rf"(?m)^{key} = \w+$", f"{key} = {value}", text, count=1)
     name = os.path.join(folder, f"server{cores}.toml")
     with open(name, "w", encoding="utf-8") as file:
         file.write(text)
     return name
+
+
+def failure(report):
+    """Returns how a core halts that does not exit with 0. None where each does."""
+    wrong = [why for why in re.findall(r"(?m)^core \d+ .* halt (.*)$", report) if why != "exit 0"]
+    return f"halts: {wrong[0]}" if wrong else None
 
 
 def parallel_row(name, cores, runs, folder):
@@ -152,10 +172,26 @@ def parallel_row(name, cores, runs, folder):
     if not result:
         return [name, str(cores), "zsim failed"]
     seconds, report = result
-    wrong = [why for why in re.findall(r"(?m)^core \d+ .* halt (.*)$", report) if why != "exit 0"]
-    if wrong:
-        return [name, str(cores), f"halts: {wrong[0]}"]
-    return [name, str(cores), *speed_cells(seconds, report)]
+    return [name, str(cores), failure(report)] if failure(report) else [name, str(cores), *speed_cells(seconds, report)]
+
+
+def beside_rows(name, cores, runs, folder):
+    """Yields the cells of a program's rows on so many cores, one for each number of workers."""
+    alone = None
+    for workers in WORKERS:
+        machine_file = server_with(cores, folder, **SMALL_MEMORY)
+        words = [PROGRAM, "run", machine_file, os.path.join(HERE, f"{name}.elf"), "--workers", str(workers)]
+        front = [name, str(cores), str(workers)]
+        results = [timed(words) for _ in range(runs)]
+        failed = [failure(report) if status == 0 else "zsim failed" for _, _, status, report in results]
+        if any(failed):
+            yield [*front, next(filter(None, failed))]
+            continue
+        wall, user, _, report = min(results)
+        alone = alone or wall
+        counts = [number(report, word) for word in ("intervals", "instructions", "accesses")]
+        speeds = [f"{wall:.2f}", f"{user:.2f}", f"{counts[2] / wall / 1e6:.2f}", f"{alone / wall:.2f}"]
+        yield [*front, *map(str, counts), *speeds]
 
 
 def shares_row(program, cores, folder):
@@ -219,8 +255,9 @@ def main():
     load = os.getloadavg()[0]
     print(f"{datetime.date.today()}, commit {commit()}, {machine()}, {os.cpu_count()} processors, load {load:.1f}\n")
     names = words.names or PROGRAMS
-    alone = [name for name in names if name not in PARALLEL]
+    alone = [name for name in names if name not in PARALLEL + BESIDE]
     together = [name for name in names if name in PARALLEL]
+    beside = [name for name in names if name in BESIDE]
     if alone:
         nothing = [seconds_of(tool("nothing", words.runs)) for tool in (by_qemu, by_cachegrind)]
         print_table(HEADINGS, 1, (row(name, words.runs, nothing) for name in alone))
@@ -228,6 +265,10 @@ def main():
         runs = [(name, cores) for name in together for cores in CORES]
         if runs:
             print_table(PARALLEL_HEADINGS, 1, (parallel_row(*run, words.runs, folder) for run in runs))
+        runs_beside = [(name, cores) for name in beside for cores in CORES_BESIDE]
+        if runs_beside:
+            rows = (row for run in runs_beside for row in beside_rows(*run, words.runs, folder))
+            print_table(BESIDE_HEADINGS, 1, rows)
         if runs and words.shares:
             print_table(SHARES_HEADINGS, 1, (shares_row(*run, folder) for run in runs))
 
