@@ -39,9 +39,24 @@ def test_every_column_is_in_the_documents(repository):
     for name in columns:
         if not re.fullmatch("(core|bank|controller)[0-9]+_.*", name):
             assert f"`{name}`" in text, name
-    assert set(FRACTIONS) < set(columns)
+    whole_run = {name for name in columns if not re.fullmatch("(core|bank|controller)[0-9]+_.*", name)}
+    assert set(FRACTIONS) == {name for name in whole_run if isinstance(columns[name], float)}
     for name in ("executable", "status", "line", "halt", "machine_sha256", "executable_sha256", "zsim_sha256"):
         assert f"`{name}`" in text
+
+
+def test_the_files_that_a_reader_must_believe_have_the_lines_that_are_told(repository):
+    rows = re.findall(r"(?m)^\| (`.*) \| .* \| ([0-9, of]+) \|$", (repository / "docs/reading.md").read_text())
+    assert len(rows) > 20
+    for names, counts in rows:
+        lines, folder = [], None
+        for name in re.findall(r"`([a-z_/]*[A-Za-z_]+[.](?:rt|antt))`", names):
+            *above, name = name.split("/")
+            # A name without a crate is one of the crate before it, and one without a folder lies beside the one before.
+            folder = repository / "crates" / above[0] / above[1] if len(above) == 2 else folder
+            folder = folder.parent / above[0] if len(above) == 1 else folder
+            lines.append(len((folder / name).read_text().splitlines()))
+        assert [int(count.split()[-1]) for count in counts.split(",")] == lines, names
 
 
 @pytest.mark.parametrize("name, runs", [("matrix.toml", 48), ("stream.toml", 64)])

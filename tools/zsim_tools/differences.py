@@ -1,14 +1,11 @@
 """Two reports side by side: what changed, by how much, and the heaviest first."""
 
-import csv
-import json
-import sys
 from dataclasses import asdict, dataclass
 from math import inf, isnan, nan
 
 from . import derived
 from .show import parts_of
-from .texts import SHARES, console, plain_number, print_table, shown_number
+from .texts import SHARES, console, plain_number, print_csv, print_json, print_table, shown_number
 
 # Which whole tells how much a change of a number weighs. A number that is not here is measured by itself.
 KINDS = {
@@ -163,16 +160,13 @@ def shown_change(change):
 def diff_json(a, b):
     """Prints a list with an object for each number that changed. What is no number is null."""
     found, _ = changes(a, b)
-    print(json.dumps([{name: finite(value) for name, value in asdict(change).items()} for change in found], indent=2))
+    print_json([{name: finite(value) for name, value in asdict(change).items()} for change in found])
 
 
 def diff_csv(a, b):
     """Prints a line for each number that changed."""
-    lines = csv.writer(sys.stdout, lineterminator="\n")
-    lines.writerow(Change.__dataclass_fields__)
-    for change in changes(a, b)[0]:
-        values = [finite(value) for value in asdict(change).values()]
-        lines.writerow(["" if value is None else value for value in values])
+    found, _ = changes(a, b)
+    print_csv(Change.__dataclass_fields__, (map(finite, asdict(change).values()) for change in found))
 
 
 def finite(value):

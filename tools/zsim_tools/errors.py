@@ -1,5 +1,8 @@
 """What goes wrong and can be mended by the user: one line each, that names the file, the line or the key."""
 
+from contextlib import contextmanager
+from pathlib import Path
+
 
 class ToolError(Exception):
     """Bad words, bad input, or an output that cannot be written."""
@@ -22,3 +25,18 @@ def one_line(text):
 def reason(error):
     """Returns why the operating system refused, as in `No such file or directory`."""
     return error.strerror or one_line(error)
+
+
+@contextmanager
+def told(what):
+    """Has a refusal of the operating system told as one line: what could not be done, and why."""
+    try:
+        yield
+    except OSError as error:
+        raise ToolError(f"{what}: {reason(error)}") from None
+
+
+def check_ending_of(path, endings, what):
+    """Raises ToolError where the name of a file has none of these endings."""
+    if Path(path).suffix not in endings:
+        raise ToolError(f"cannot write: {path}: the name of a {what} ends with {' or '.join(endings)}")

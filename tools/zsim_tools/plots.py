@@ -6,7 +6,7 @@ They read in grey as well: lines differ in their markers and strokes, and the co
 import difflib
 from pathlib import Path
 
-from .errors import ToolError
+from .errors import ToolError, check_ending_of
 from .labels import label_of
 from .table import write_whole
 
@@ -85,8 +85,7 @@ def plot(table, out, x, y, lines=(), heat=None, where=None, title=None, log_y=Fa
     "l1.ways": [1, 2]}`. Returns the figure of matplotlib, and how many rows were left out since their run did not end
     by the program's exit. ToolError says what is wrong with the words or the table.
     """
-    if Path(out).suffix not in ENDINGS:
-        raise ToolError(f"cannot write: {out}: the name of a plot ends with {' or '.join(ENDINGS)}")
+    check_ending_of(out, ENDINGS, "plot")
     rows = selected(table, where or {}, name)
     rows, left_out = good_rows(rows)
     if rows.empty:

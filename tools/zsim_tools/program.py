@@ -6,7 +6,7 @@ import subprocess
 from functools import cache
 from pathlib import Path
 
-from .errors import RunError, ToolError, reason
+from .errors import RunError, ToolError, told
 from .machine import Machine, read_machine
 from .report import parse_report
 from .task import run_machine, run_words
@@ -61,13 +61,11 @@ def run(machine, exe, zsim=None):
     is no report. A run that reached a limit has one, with the status 3.
     """
     program = find_zsim(zsim)
-    try:
+    with told(f"cannot run: {program}"):
         if isinstance(machine, Machine):
             outcome = run_machine(program, machine.text, str(exe))
         else:
             outcome = run_words([program, "run", str(machine), str(exe)])
-    except OSError as error:
-        raise ToolError(f"cannot run: {program}: {reason(error)}") from None
     if outcome.status not in (RAN, LIMIT):
         raise RunError(outcome.status, outcome.line)
     if not isinstance(machine, Machine):

@@ -10,7 +10,7 @@ from dataclasses import dataclass
 from pathlib import Path
 
 from . import derived
-from .errors import ToolError, reason
+from .errors import ToolError, told
 
 VERSION = "1"
 
@@ -273,9 +273,7 @@ def check_machine(report):
 def read_report(path, machine=None):
     """Reads the report of a file; `-` is standard input. ToolError names the file, and the line that is wrong."""
     name = "standard input" if str(path) == "-" else str(path)
-    try:
+    with told(f"cannot read: {name}"):
         data = sys.stdin.buffer.read() if str(path) == "-" else Path(path).read_bytes()
-    except OSError as error:
-        raise ToolError(f"cannot read: {name}: {reason(error)}") from None
     # A report is ASCII. Any other byte stands for itself in what is shown of a line that is wrong.
     return parse_report(data.decode("latin-1"), name, machine)

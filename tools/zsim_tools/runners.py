@@ -12,7 +12,7 @@ import threading
 from concurrent.futures import ThreadPoolExecutor, as_completed
 from pathlib import Path
 
-from .errors import ToolError, one_line, reason
+from .errors import ToolError, one_line, told
 from .task import run_machine, run_on_worker
 
 PACKAGE = Path(__file__).resolve().parent
@@ -50,10 +50,8 @@ class Here:
             name = run.executable.name
             if run.executable.data is not None and name not in files:
                 files[name] = Path(self.folder.name) / f"{len(files)}.elf"
-                try:
+                with told(f"cannot write: {files[name]}"):
                     files[name].write_bytes(run.executable.data)
-                except OSError as error:
-                    raise ToolError(f"cannot write: {files[name]}: {reason(error)}") from None
             self.futures[self.pool.submit(self._run, run, str(files.get(name, name)))] = run
 
     def outcomes(self):
@@ -72,12 +70,11 @@ class Here:
                     new.kill()
 
         try:
-            outcome = run_machine(self.program, run.machine.text, executable, started)
+            with told(f"cannot run: {self.program}"):
+                outcome = run_machine(self.program, run.machine.text, executable, started)
             if signature(self.program) != self.signature:
                 raise ToolError(f"cannot run: {self.program}: it was changed during the sweep; start the sweep again")
             return outcome
-        except OSError as error:
-            raise ToolError(f"cannot run: {self.program}: {reason(error)}") from None
         finally:
             with self.lock:
                 self.processes.discard(process)
@@ -85,10 +82,8 @@ class Here:
 
 def signature(program):
     """Returns what changes when a file is changed or replaced."""
-    try:
+    with told(f"cannot run: {program}"):
         status = os.stat(program)
-    except OSError as error:
-        raise ToolError(f"cannot run: {program}: {reason(error)}") from None
     return status.st_dev, status.st_ino, status.st_size, status.st_mtime_ns
 
 

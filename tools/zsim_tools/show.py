@@ -1,12 +1,9 @@
 """Shows reports as tables, and gives them as JSON or CSV."""
 
-import csv
-import json
-import sys
 from statistics import mean
 
 from . import derived
-from .texts import console, plain_number, print_table, shown_number
+from .texts import console, plain_number, print_csv, print_json, print_table, shown_number
 
 # The columns of a core in two tables, so that both fit a terminal: what it did, and what follows from that.
 FIRST = ("instructions", "cycles", "delay", "loads", "stores", "atomics")
@@ -43,20 +40,18 @@ def show_json(reports):
         for core, numbers in zip(report.core_list, content["cores"]):
             numbers["console"] = core.console.decode("latin-1")
         listed.append(content)
-    print(json.dumps(listed, indent=2))
+    print_json(listed)
 
 
 def show_csv(reports):
     """Prints a line for each number: the report, the part, its number, what is counted, and how much that is."""
-    lines = csv.writer(sys.stdout, lineterminator="\n")
-    lines.writerow(["report", "part", "number", "name", "value"])
-    for report in reports:
-        for kind, number, numbers in parts_of(report):
-            for name, value in numbers.items():
-                value = plain_number(value)
-                lines.writerow(
-                    [report.name, kind, "" if number is None else number, name, "" if value is None else value]
-                )
+    rows = (
+        (report.name, kind, number, name, plain_number(value))
+        for report in reports
+        for kind, number, numbers in parts_of(report)
+        for name, value in numbers.items()
+    )
+    print_csv(("report", "part", "number", "name", "value"), rows)
 
 
 def show_tables(reports):

@@ -9,7 +9,7 @@ import fcntl
 import json
 import os
 
-from .errors import ToolError, reason
+from .errors import ToolError, reason, told
 from .task import Outcome
 
 HEADER = json.dumps({"zsim-tools runs": 1}).encode("ascii")
@@ -48,11 +48,9 @@ class Store:
             self._append(HEADER)
 
     def _append(self, line):
-        try:
+        with told(f"cannot write: {self.path}"):
             self.file.write(line + b"\n")
             self.file.flush()
-        except OSError as error:
-            raise ToolError(f"cannot write: {self.path}: {reason(error)}") from None
 
     def add(self, key, outcome):
         """Keeps a run that is done."""
@@ -60,8 +58,6 @@ class Store:
         self._append(json.dumps(record).encode("ascii"))
 
     def close(self):
-        try:
+        with told(f"cannot write: {self.path}"):
             os.fsync(self.file.fileno())
             self.file.close()
-        except OSError as error:
-            raise ToolError(f"cannot write: {self.path}: {reason(error)}") from None

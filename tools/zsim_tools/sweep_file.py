@@ -7,7 +7,7 @@ import tomllib
 from dataclasses import dataclass
 from pathlib import Path
 
-from .errors import ToolError, one_line, reason
+from .errors import ToolError, one_line, told
 from .machine import Machine, flat, is_kind, kind_of, read_machine, read_text
 
 GENERATED = re.compile("gen:(0|[1-9][0-9]*)")
@@ -148,8 +148,6 @@ def read_executable(path, folder, name):
         if not GENERATED.fullmatch(name):
             raise ToolError(f"{path}: executables: {name}: behind gen: stands a number")
         return Executable(name, None, sha256(name.encode("utf-8")))
-    try:
+    with told(f"{path}: executables: cannot read: {folder / name}"):
         data = (folder / name).read_bytes()
-    except OSError as error:
-        raise ToolError(f"{path}: executables: cannot read: {folder / name}: {reason(error)}") from None
     return Executable(name, data, sha256(data))

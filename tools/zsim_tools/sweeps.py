@@ -4,7 +4,7 @@ import os
 from contextlib import closing
 from dataclasses import dataclass
 
-from .errors import ToolError, reason
+from .errors import ToolError, reason, told
 from .program import LIMIT, RAN, find_zsim
 from .report import Report, parse_report
 from .runners import Cluster, Here
@@ -129,8 +129,5 @@ def runner_of(program, jobs, scheduler):
 
 
 def hash_of(program):
-    try:
-        with open(program, "rb") as file:
-            return sha256(file.read())
-    except OSError as error:
-        raise ToolError(f"cannot read: {program}: {reason(error)}") from None
+    with told(f"cannot read: {program}"), open(program, "rb") as file:
+        return sha256(file.read())

@@ -7,10 +7,11 @@ import os
 from pathlib import Path
 
 from . import derived
-from .errors import ToolError, one_line, reason
+from .errors import ToolError, check_ending_of, one_line, reason, told
 
 ENDINGS = (".csv", ".parquet")
-TEXTS = ("executable", "line", "halt", "machine_sha256", "executable_sha256", "zsim_sha256")
+SHA256 = ("machine_sha256", "executable_sha256", "zsim_sha256")
+TEXTS = ("executable", "line", "halt", *SHA256)
 # What a table of a sweep has at least.
 NEEDED = ("executable", "status", "line", "halt")
 
@@ -33,7 +34,6 @@ FRACTIONS = (
     "controller_busy",
     "controller_busiest",
 )
-SHA256 = ("machine_sha256", "executable_sha256", "zsim_sha256")
 
 
 def numbers_of(report):
@@ -88,8 +88,7 @@ def write_rows(rows, path):
 
 def check_ending(path):
     """Raises ToolError where no table can be written under this name: for its ending, or for want of a library."""
-    if Path(path).suffix not in ENDINGS:
-        raise ToolError(f"cannot write: {path}: the name of a table ends with {' or '.join(ENDINGS)}")
+    check_ending_of(path, ENDINGS, "table")
     if Path(path).suffix == ".parquet" and importlib.util.find_spec("pyarrow") is None:
         raise ToolError(f"{path}: Parquet needs the Python package pyarrow; tables can also be .csv")
 
@@ -108,15 +107,13 @@ def write_whole(path, write):
     check_output(path)
     target = Path(os.path.realpath(path))
     beside = target.with_name(f".{target.name}.{os.getpid()}")
-    try:
+    with told(f"cannot write: {path}"):
         try:
             with open(beside, "xb") as file:
                 write(file)
             os.replace(beside, target)
         finally:
             beside.unlink(missing_ok=True)
-    except OSError as error:
-        raise ToolError(f"cannot write: {path}: {reason(error)}") from None
 
 
 def write_table(table, path):

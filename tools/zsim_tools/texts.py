@@ -1,5 +1,7 @@
-"""Tables in the terminal, and numbers as they stand there."""
+"""What goes to standard output: tables in the terminal and numbers as they stand there, JSON and CSV."""
 
+import csv
+import json
 import sys
 from math import isnan
 
@@ -51,6 +53,19 @@ def print_table(out, title, headings, rows):
     for row in rows:
         table.add_row(*map(Text, row))
     out.print(table)
+
+
+def print_json(value):
+    """Prints a value as JSON."""
+    print(json.dumps(value, indent=2))
+
+
+def print_csv(headings, rows):
+    """Prints rows of values under headings. What is no number is left empty."""
+    lines = csv.writer(sys.stdout, lineterminator="\n")
+    lines.writerow(headings)
+    for row in rows:
+        lines.writerow(["" if value is None else value for value in row])
 
 
 def plain_number(value):
