@@ -262,6 +262,10 @@ module _ (time : Entry → ℕ) (image : MemoryImage) (end : ℕ) (t : TableStat
       few =
           subst (λ (k : ℕ). length entries ≤ k * (m.interval + 258)) cores_are
           (subst (λ (k : ℕ). length entries ≤ t.cores * k) room_is (subst (λ (k : ℕ). k ≤ t.cores * t.room) (sym (length_recorded (entries_of_seats seats_now))) few_entries));
+      few_each = λ core below.
+          let n = some_at now core (omega (arith, below, size, cores_are)) in
+          let few : length (of_core core entries) ≤ t.room = subst (λ (es : List Entry). length es ≤ t.room) (sym (own core n.0 n.1)) (was core n.0 n.1).4.few in
+          subst (λ (k : ℕ). length (of_core core entries) ≤ k) room_is few;
       clocks = λ most late clocks. each_left (λ (c : TimedCore). c.clock ≤ most + 2 ^ 28) (λ i n at.
           let b = was i n at in
           let there : slice_get cores_first i ≡ Some b.0.core.timed = ap (λ xs. slice_get xs i) (sym timed) ∙ mapped_at (λ (x : NumberedCore). x.timed) cores i b.0.core b.1 in

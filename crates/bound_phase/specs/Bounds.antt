@@ -1,10 +1,11 @@
 -- The bound phase of an interval by several workers.
-use Rattle.std.specs.Prelude.{◌≡◌, ℕ, ◌+◌, ◌*◌, ◌^◌, ◌≤◌, List, length, map, slice_get, All, None, Some, IsNone}
+use Rattle.std.specs.Prelude.{◌≡◌, ℕ, ◌+◌, ◌*◌, ◌^◌, ◌<◌, ◌≤◌, List, length, map, slice_get, All, None, Some, IsNone}
 use Rattle.zs_num.specs.declared.entry.Entry.{Entry}
 use Rattle.machine_desc.specs.declared.machine.Machine.{Machine}
 use Rattle.elf_load.specs.MemoryImage.{MemoryImage}
 use Rattle.shard.specs.Served.{ShardState}
 use Rattle.shard_table.specs.Access.{AreNewSeats, SeatState, TableState}
+use Rattle.access_log.specs.History.{of_core}
 use Rattle.access_log.specs.RecordedOrder.{recorded_order}
 use Rattle.bound_core.specs.History.{IsHistory, after_history}
 use Rattle.bound_core.specs.ShardPort.{AreShardsOf}
@@ -46,6 +47,7 @@ pub record HaveEnded (m : Machine) (end : ℕ) (cores cores_after : List Numbere
   pub over : All (IsOver end) (timed_of cores_after)
   pub starts : All (λ e. e.start ≤ end + 2 ^ 28) entries
   pub few : length entries ≤ m.cores * (m.interval + 258)
+  pub few_each : (core : ℕ) → core < m.cores → length (of_core core entries) ≤ m.interval + 258
   pub clocks : (most : ℕ) → end ≤ most → All (λ c. c.clock ≤ most) (timed_of cores) → All (λ c. c.clock ≤ most + 2 ^ 28) (timed_of cores_after)
 
 -- there is room for so many bytes on the console
