@@ -4,7 +4,7 @@ use Rattle.std.specs.Prelude.{IsSome, slice_get}
 use Rattle.std.specs.List.{list_any, enumerate_from, fold, range_with_len}
 use Rattle.std.proofs.lemmas.Bool.{or_parts}
 use Rattle.std.proofs.lemmas.Bool.Decides.{nat_tests}
-use Rattle.std.proofs.lemmas.List.{length-append, length-map}
+use Rattle.std.proofs.lemmas.List.{length-append, length-map, map-append}
 use Rattle.std.proofs.lemmas.List.Elements.{All-map, All-push}
 use Rattle.std.proofs.lemmas.List.FromFn.{length-enumerate_from, length-map-range_with_len}
 use Rattle.std.proofs.lemmas.List.Sums.{sum_by_push}
@@ -41,7 +41,7 @@ use Rattle.access_log.specs.RecordedOrder.{no_stamps, recorded_order}
 use Rattle.replay.specs.Limits.{access_limit, cycle_limit}
 use Rattle.replay.specs.declared.simulation.Simulation.{Simulation}
 use Rattle.replay.specs.Port.{LoggedPortState}
-use Rattle.replay.specs.ReferenceRun.{RunState, access_room, after_interval, after_weave, all_delayed, at_limit, begun_interval, end_of, first_state, has_ended, have_halted, time_of, world_of, woven_after, woven_interval}
+use Rattle.replay.specs.ReferenceRun.{RunState, access_room, after_interval, after_weave, all_delayed, at_limit, begun_interval, end_of, first_state, has_ended, have_halted, recorded_turns, time_of, world_of, woven_after, woven_interval}
 use Rattle.replay.specs.Simulation.{AreNumbered, CanRunInterval, GoesOn, HasRoomForInterval, IsBoundPhase, IsCounted, LeadsTo, StandsFor, begun_shards, cores_of}
 use Rattle.bound_core.proofs.ShardPorts.{shards_restarted}
 use Rattle.bound_core.proofs.ShardsStay.{shards_after, whatever_stamps}
@@ -373,12 +373,14 @@ module _ (machine : Machine) (ok : IsMachine machine) (image : MemoryImage) (end
 
   pub leads_on : (r : Simulation) → cores_of r ≡ all_delayed i.delays (cores_of q) → AreNumbered r.cores.items → r.port ≡ q.port
       → r.comps ≡ comps_after comp_step i.events s.comps → r.counters ≡ added p.counters i r.comps
-      → LeadsTo machine image s turns r
+      → (leads : LeadsTo machine image s turns r) × (leads.entries ≡ entries)
   leads_on r cores numbered port comps counters =
       let are_next : AreComponents machine r.comps = subst (AreComponents machine) (sym comps) are in
-      record {
+      let leads_to : LeadsTo machine image s turns r = record {
         state = next;
         after = leads;
+        entries = i.entries;
+        recorded = map-append recorded_turns s.intervals (i ∷ []);
         longer = one_longer machine ok end s p g i was_run few_events few;
         come = record {
           cores = ap (all_delayed i.delays) cores_are ∙ sym cores;
@@ -394,6 +396,8 @@ module _ (machine : Machine) (ok : IsMachine machine) (image : MemoryImage) (end
           counted = next_counted;
         };
       }
+      in
+      (leads_to, same)
 
 -- before the first interval
 pub first_counted : (machine : Machine) (image : MemoryImage) (comps : List Comp) → AreFresh machine comps → IsCounted machine (first_state machine image comps)

@@ -1,6 +1,5 @@
 -- A run from its start up to now.
-use Rattle.std.proofs.Common.{◌≡◌, ◌≢◌, ◌<◌, ◌≤◌, ℕ, ◌+◌, ◌*◌, List, [], ◌∷◌, ◌++◌, length, Bool, true, false, if◌then◌else◌, Result, Ok, Err, refl, sym, ◌∙◌, ap, arith}
-use Rattle.std.specs.Prelude.{OnErr}
+use Rattle.std.proofs.Common.{◌≡◌, ◌≢◌, ◌<◌, ◌≤◌, ℕ, ◌+◌, ◌*◌, List, [], ◌∷◌, ◌++◌, length, map, Bool, true, false, if◌then◌else◌, Result, Ok, Err, refl, sym, ◌∙◌, ap, arith}
 use Rattle.std.proofs.lemmas.List.{length-append}
 use Rattle.elf_load.specs.MemoryImage.{MemoryImage}
 use Rattle.machine_desc.specs.declared.machine.Machine.{Machine}
@@ -10,7 +9,7 @@ use Rattle.stats.specs.Counts.{Counts, Interval, counts_of, total_accesses}
 use Rattle.replay.specs.declared.simulation.Simulation.{Simulation}
 use Rattle.bound_core.specs.Timed.{TimedCore}
 use Rattle.replay.specs.Simulation.{GoesOn, LeadsTo, StandsFor, cores_of}
-use Rattle.replay.specs.ReferenceRun.{RunState, after_interval, after_intervals, first_state, has_ended, has_ended_at, IsLegalSoFar, continued, reference_run, results_at, results_of, Illegal, next_place}
+use Rattle.replay.specs.ReferenceRun.{RunState, after_interval, after_intervals, first_state, has_ended, has_ended_at, IsKeptInOrder, continued, recorded_turns, reference_run, results_at, results_of, Illegal, next_place}
 use Rattle.replay.proofs.NextInterval.{goes_on}
 
 -- the code has come to where the run is after the intervals of this schedule
@@ -69,12 +68,12 @@ more_intervals machine image s (first ∷ lists) t more at =
     in
     rw parts.0 (rest (after_interval machine image s first) parts.1)
 
-one_interval : (machine : Machine) (image : MemoryImage) (s : RunState) (lists : List (List ℕ)) (t u : RunState) (turns : List ℕ)
+pub one_interval : (machine : Machine) (image : MemoryImage) (s : RunState) (lists : List (List ℕ)) (t u : RunState) (turns : List ℕ)
     → after_intervals machine image s lists ≡ Ok t → has_ended machine t ≡ false → after_interval machine image t turns ≡ Ok u → after_intervals machine image s (lists ++ turns ∷ []) ≡ Ok u
 one_interval machine image s lists t u turns at on after = more_intervals machine image s lists t (turns ∷ []) at ∙ (rw (on, after) refl)
 
 -- the run is an interval further, and its schedule a list longer
-pub further : (machine : Machine) (image : MemoryImage) (lists : List (List ℕ)) (p q : Simulation) (h : HasRun machine image lists p) (turns : List ℕ) → has_ended machine h.state ≡ false
+abbrev pub further : (machine : Machine) (image : MemoryImage) (lists : List (List ℕ)) (p q : Simulation) (h : HasRun machine image lists p) (turns : List ℕ) → has_ended machine h.state ≡ false
     → LeadsTo machine image h.state turns q → HasRun machine image (lists ++ turns ∷ []) q
 further machine image lists p q h turns on leads = record {
   comps = h.comps;
@@ -83,6 +82,23 @@ further machine image lists p q h turns on leads = record {
   reached = one_interval machine image (first_state machine image h.comps) lists h.state leads.state turns h.reached on leads.after;
   as_long = omega (arith, leads.longer, h.as_long, length-append lists (turns ∷ []));
   come = leads.come;
+}
+
+-- and the schedule names the cores of the accesses in recorded order
+pub record HasRunInOrder (machine : Machine) (image : MemoryImage) (lists : List (List ℕ)) (p : Simulation) : Type 0 where
+  pub run : HasRun machine image lists p
+  pub in_order : lists ≡ map recorded_turns run.state.intervals
+
+-- where the turns of one more interval are those of its accesses in recorded order
+pub further_in_order : (machine : Machine) (image : MemoryImage) (lists : List (List ℕ)) (p q : Simulation) (h : HasRunInOrder machine image lists p) (turns : List ℕ)
+    → has_ended machine h.run.state ≡ false → (leads : LeadsTo machine image h.run.state turns q) → turns ≡ map (λ e. e.core) leads.entries
+    → HasRunInOrder machine image (lists ++ turns ∷ []) q
+further_in_order machine image lists p q h turns on leads same = record {
+  run = further machine image lists p q h.run turns on leads;
+  in_order =
+      ap (λ (all : List (List ℕ)). all ++ turns ∷ []) h.in_order
+      ∙ ap (λ (one : List ℕ). map recorded_turns h.run.state.intervals ++ one ∷ []) same
+      ∙ sym leads.recorded;
 }
 
 -- what the run gives where it ends
@@ -113,21 +129,23 @@ stops_at machine image lists turns rest p h on illegal stops =
     let here : after_intervals machine image h.state (turns ∷ rest) ≡ Err illegal = rw (on, stops) refl in
     ap (continued (results_at machine)) (more_intervals machine image (first_state machine image h.comps) lists h.state (turns ∷ rest) h.reached ∙ here)
 
--- a fact, where there is an error and where there is none
-pub on_err : {T E : Type 0} (P : Type 0) (r : Result T E) → P → OnErr r P
-on_err P (Ok x) p = tt
-on_err P (Err e) p = p
+-- the schedule is kept in order up to where the code has come
+pub kept_in_order : (machine : Machine) (image : MemoryImage) (lists : List (List ℕ)) (p : Simulation) → HasRunInOrder machine image lists p → IsKeptInOrder machine image lists
+kept_in_order machine image lists p h = record {
+  comps = h.run.comps;
+  fresh = h.run.fresh;
+  state = h.run.state;
+  reached = h.run.reached;
+  in_order = h.in_order;
+}
 
--- the schedule has legal lists up to where the code has come
-pub legal_so_far : (machine : Machine) (image : MemoryImage) (lists : List (List ℕ)) (p : Simulation) → HasRun machine image lists p → IsLegalSoFar machine image lists
-legal_so_far machine image lists p h = record { comps = h.comps; fresh = h.fresh; state = h.state; reached = h.reached }
-
-pub nothing_run : (machine : Machine) (image : MemoryImage) (lists : List (List ℕ)) → lists ≡ [] → (comps : List Comp) → AreFresh machine comps → IsLegalSoFar machine image lists
+pub nothing_run : (machine : Machine) (image : MemoryImage) (lists : List (List ℕ)) → lists ≡ [] → (comps : List Comp) → AreFresh machine comps → IsKeptInOrder machine image lists
 nothing_run machine image lists none comps fresh = record {
   comps = comps;
   fresh = fresh;
   state = first_state machine image comps;
   reached = ap (after_intervals machine image (first_state machine image comps)) none;
+  in_order = none;
 }
 
 -- a run that goes on, and what the code needs of it

@@ -174,9 +174,15 @@ pub record IsIllegalAt (machine : Machine) (image : MemoryImage) (lists : List (
   pub fresh : AreFresh machine comps
   pub gives : reference_run machine image comps lists ≡ Err illegal
 
--- the schedule has a legal list for each of the first intervals of a run, as many as it has lists; the run may go on
-pub record IsLegalSoFar (machine : Machine) (image : MemoryImage) (lists : List (List ℕ)) : Type 0 where
+-- the cores of an interval's accesses, in recorded order
+abbrev pub recorded_turns : Interval → List ℕ
+recorded_turns interval = map (λ e. e.core) interval.entries
+
+-- The schedule has a legal list for each of the first intervals of a run, as many as it has lists, and each list names the
+-- cores of its interval's accesses in recorded order. The run may go on.
+pub record IsKeptInOrder (machine : Machine) (image : MemoryImage) (lists : List (List ℕ)) : Type 0 where
   pub comps : List Comp
   pub fresh : AreFresh machine comps
   pub state : RunState
   pub reached : after_intervals machine image (first_state machine image comps) lists ≡ Ok state
+  pub in_order : lists ≡ map recorded_turns state.intervals

@@ -1,6 +1,6 @@
 -- A run between two intervals as the code keeps it: its shards stand for memory and the caches, and its counts for the
 -- intervals, which it does not keep.
-use Rattle.std.specs.Prelude.{◌≡◌, ℕ, ◌+◌, ◌-◌, ◌*◌, ◌^◌, ◌<◌, ◌≤◌, min, false, List, ◌++◌, length, map, slice_get, Some, None, Ok, All}
+use Rattle.std.specs.Prelude.{◌≡◌, ℕ, ◌+◌, ◌-◌, ◌*◌, ◌^◌, ◌<◌, ◌≤◌, min, false, List, [], ◌∷◌, ◌++◌, length, map, slice_get, Some, None, Ok, All}
 use Rattle.zs_num.specs.declared.entry.Entry.{Entry}
 use Rattle.elf_load.specs.MemoryImage.{MemoryImage}
 use Rattle.machine_desc.specs.declared.machine.Machine.{Machine}
@@ -25,7 +25,7 @@ use Rattle.replay.specs.declared.simulation.Simulation.{Simulation}
 use Rattle.replay.specs.IntervalWeave.{HaveFired}
 use Rattle.replay.specs.Limits.{room_beyond}
 use Rattle.replay.specs.Port.{LoggedPortState}
-use Rattle.replay.specs.ReferenceRun.{RunState, access_room, after_interval, end_of, has_ended, time_of, world_of}
+use Rattle.replay.specs.ReferenceRun.{RunState, access_room, after_interval, end_of, has_ended, recorded_turns, time_of, world_of}
 
 -- ---- cores and shards
 
@@ -168,5 +168,8 @@ pub record HasFired (machine : Machine) (image : MemoryImage) (s : RunState) (tu
 pub record LeadsTo (machine : Machine) (image : MemoryImage) (s : RunState) (turns : List ℕ) (p : Simulation) : Type 0 where
   pub state : RunState
   pub after : after_interval machine image s turns ≡ Ok state
+  -- its accesses, in recorded order
+  pub entries : List Entry
+  pub recorded : map recorded_turns state.intervals ≡ map recorded_turns s.intervals ++ map (λ e. e.core) entries ∷ []
   pub longer : length state.intervals ≡ length s.intervals + 1
   pub come : StandsFor machine state p

@@ -1,7 +1,7 @@
 // The run of an executable: intervals until every core halted, or until a limit.
-ghost use Rattle.std.specs.Prelude.{◌≡◌, [], IfOk, OnErr};
+ghost use Rattle.std.specs.Prelude.{◌≡◌, [], IfOk};
 ghost use Rattle.machine_desc.specs.Machine.{IsMachine};
-ghost use Rattle.replay.specs.ReferenceRun.{IsLegalSoFar, IsRunOf};
+ghost use Rattle.replay.specs.ReferenceRun.{IsKeptInOrder, IsRunOf};
 ghost use Rattle.replay.specs.Results.{HasCounts};
 
 use crate::Final;
@@ -40,7 +40,7 @@ pub fn run<R: Threads + Wait + Sync, G: Gate>(
     requires cores_known { schedule.old.cores ≡ machine.now.cores }
     ensures ok { IfOk result (IsRunOf machine.now image.now schedule.new.lists) }
     ensures counted { IfOk result (HasCounts machine.now) }
-    ensures err { OnErr result (IsLegalSoFar machine.now image.now schedule.new.lists) }
+    ensures in_order { IsKeptInOrder machine.now image.now schedule.new.lists }
     ensures cores { schedule.new.cores ≡ schedule.old.cores }
 {
     fresh_components_are_there();

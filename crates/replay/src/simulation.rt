@@ -122,7 +122,7 @@ impl Simulation {
         requires workers { (1 ≤ workers) × (workers ≤ 64) }
         requires room { HasRoomForInterval machine.now end self }
         requires goes_on { (s : RunState) × GoesOn machine.now end s self }
-        ensures leads { IfOk result (λ r. (s : RunState) → GoesOn machine.now end s self → LeadsTo machine.now program.now s (map (λ e. e.core) r.1) r.0) }
+        ensures leads { IfOk result (λ r. (s : RunState) → GoesOn machine.now end s self → (leads : LeadsTo machine.now program.now s (map (λ e. e.core) r.1) r.0) × (leads.entries ≡ r.1)) }
         ensures cores { IfOk result (λ r. All (λ e. e.core < machine.now.cores) r.1) }
         ensures few { IfOk result (λ r. length r.1 < 2 ^ 32) }
     {
@@ -345,7 +345,7 @@ impl Simulation {
         requires core_counts { length self.old.counters.core_counts ≡ machine.now.cores }
         requires comp_counts { length self.old.counters.comp_counts ≡ component_count machine.now }
         requires cores { All (λ e. e.core < machine.now.cores) entries.now }
-        ensures { OnOk result ((image : MemoryImage) (s : RunState) (turns : List ℕ) → HasFired machine.now image s turns self.old entries.now graph fired → LeadsTo machine.now image s turns self.new) }
+        ensures { OnOk result ((image : MemoryImage) (s : RunState) (turns : List ℕ) → HasFired machine.now image s turns self.old entries.now graph fired → (leads : LeadsTo machine.now image s turns self.new) × (leads.entries ≡ entries.now)) }
     {
         stats::laws::counters_are_sums();
         stats::laws::sums_fit();

@@ -3,30 +3,30 @@ use Rattle.std.proofs.lemmas.List.{length-append}
 use Rattle.zs_num.specs.declared.entry.Entry.{Entry}
 use Rattle.elf_load.specs.MemoryImage.{MemoryImage}
 use Rattle.access_log.specs.Schedule.{IntervalLists}
-use Rattle.replay.specs.ReferenceRun.{IsLegalSoFar, after_intervals, first_state, has_ended}
+use Rattle.replay.specs.ReferenceRun.{IsKeptInOrder, after_intervals, first_state, has_ended}
 use Rattle.replay.specs.Simulation.{LeadsTo}
 use Rattle.replay.proofs.NextInterval.{has_room}
 use Rattle.replay.proofs.RunEnds.{counted_results}
-use Rattle.replay.proofs.RunSoFar.{HasRun, accesses_are, below_limit, ends_with, further, goes, legal_so_far, nothing_run, on_err, same_ending}
+use Rattle.replay.proofs.RunSoFar.{HasRunInOrder, accesses_are, below_limit, ends_with, further_in_order, goes, kept_in_order, nothing_run, same_ending}
 use Rattle.replay.proofs.running.run.Goals as goal
 
-pub returns-in_err-places-clause-err : goal.returns-in_err-places-clause-err
-returns-in_err-places-clause-err g c =
+pub returns-in_err-places-clause-in_order : goal.returns-in_err-places-clause-in_order
+returns-in_err-places-clause-in_order g c =
     let machine = c.args.machine.now in
     let there = c.fresh_components_are_there.ensures machine c.requires.machine in
-    on_err (IsLegalSoFar machine c.args.image.now c.args.schedule.now.lists) c.from_residual.result (nothing_run machine c.args.image.now c.args.schedule.now.lists c.requires.empty there.0 there.1)
+    nothing_run machine c.args.image.now c.args.schedule.now.lists c.requires.empty there.0 there.1
 
-pub returns-in_err-program-clause-err : goal.returns-in_err-program-clause-err
-returns-in_err-program-clause-err g c =
+pub returns-in_err-program-clause-in_order : goal.returns-in_err-program-clause-in_order
+returns-in_err-program-clause-in_order g c =
     let machine = c.args.machine.now in
     let there = c.fresh_components_are_there.ensures machine c.requires.machine in
-    on_err (IsLegalSoFar machine c.args.image.now c.args.schedule.now.lists) c.from_residual-in_err-program.result (nothing_run machine c.args.image.now c.args.schedule.now.lists c.requires.empty there.0 there.1)
+    nothing_run machine c.args.image.now c.args.schedule.now.lists c.requires.empty there.0 there.1
 
-pub returns-in_err-simulation-clause-err : goal.returns-in_err-simulation-clause-err
-returns-in_err-simulation-clause-err g c =
+pub returns-in_err-simulation-clause-in_order : goal.returns-in_err-simulation-clause-in_order
+returns-in_err-simulation-clause-in_order g c =
     let machine = c.args.machine.now in
     let there = c.fresh_components_are_there.ensures machine c.requires.machine in
-    on_err (IsLegalSoFar machine c.args.image.now c.args.schedule.now.lists) c.from_residual-in_err-simulation.result (nothing_run machine c.args.image.now c.args.schedule.now.lists c.requires.empty there.0 there.1)
+    nothing_run machine c.args.image.now c.args.schedule.now.lists c.requires.empty there.0 there.1
 
 pub loop-alloc-init : goal.loop-alloc-init
 loop-alloc-init g c =
@@ -36,13 +36,16 @@ loop-alloc-init g c =
     let none : length c.args.schedule.now.lists ≡ 0 = ap length c.requires.empty in
     let accesses = accesses_are machine (first_state machine image first.0) c.in_ok-simulation.simulation first.2 in
     record {
-      run = record {
-        comps = first.0;
-        fresh = first.1;
-        state = first_state machine image first.0;
-        reached = ap (after_intervals machine image (first_state machine image first.0)) c.requires.empty;
-        as_long = sym none;
-        come = first.2;
+      ran = record {
+        run = record {
+          comps = first.0;
+          fresh = first.1;
+          state = first_state machine image first.0;
+          reached = ap (after_intervals machine image (first_state machine image first.0)) c.requires.empty;
+          as_long = sym none;
+          come = first.2;
+        };
+        in_order = c.requires.empty;
       };
       plain = record { l1 = c.of-plain.ensures.l1; l2 = c.of-plain.ensures.l2; controllers = c.of-plain.ensures.controllers };
       count = none;
@@ -59,7 +62,7 @@ returns-clause-ok g c =
     let image = c.args.image.now in
     let lists = c.loop-alloc.schedule.lists in
     let p = c.loop-alloc.simulation in
-    let h = c.loop-alloc.invariant.run in
+    let h = c.loop-alloc.invariant.ran.run in
     let long : length h.state.intervals ≡ c.loop-alloc.k = h.as_long ∙ c.loop-alloc.invariant.count in
     let halts : c.has_ended.result ≡ true = search rules in
     let ends : has_ended machine h.state ≡ true = sym (same_ending machine h.state p h.come c.loop-alloc.k long) ∙ sym c.has_ended.ensures ∙ halts in
@@ -69,9 +72,13 @@ returns-clause-ok g c =
       gives = ends_with machine image lists p h ends ∙ ap Ok (sym (c.results.ensures.results machine h.state h.come long));
     }
 
+pub returns-clause-in_order : goal.returns-clause-in_order
+returns-clause-in_order g c =
+    kept_in_order c.args.machine.now c.args.image.now c.loop-alloc.schedule.lists c.loop-alloc.simulation c.loop-alloc.invariant.ran
+
 pub returns-clause-counted : goal.returns-clause-counted
 returns-clause-counted g c =
-    let h = c.loop-alloc.invariant.run in
+    let h = c.loop-alloc.invariant.ran.run in
     counted_results c.args.machine.now h.state c.loop-alloc.simulation h.come c.results.result c.results.ensures.cores c.results.ensures.counts
 
 pub interval-requires-clause-room : goal.interval-requires-clause-room
@@ -81,41 +88,41 @@ interval-requires-clause-room g c κs within =
     let image = c.args.image.now in
     let p = c.loop-alloc.simulation in
     let running : c.has_ended.result ≡ false = search rules in
-    let on = goes machine image c.loop-alloc.schedule.lists p was.run c.loop-alloc.k c.loop-alloc.end was.count was.end (sym c.has_ended.ensures ∙ running) in
-    has_room machine (c.loop-alloc.end + machine.interval) was.run.state p on
+    let on = goes machine image c.loop-alloc.schedule.lists p was.ran.run c.loop-alloc.k c.loop-alloc.end was.count was.end (sym c.has_ended.ensures ∙ running) in
+    has_room machine (c.loop-alloc.end + machine.interval) was.ran.run.state p on
 
 pub interval-requires-clause-goes_on : goal.interval-requires-clause-goes_on
 interval-requires-clause-goes_on g c κs within =
     let was = c.loop-alloc.invariant in
     let running : c.has_ended.result ≡ false = search rules in
-    (was.run.state, goes c.args.machine.now c.args.image.now c.loop-alloc.schedule.lists c.loop-alloc.simulation was.run c.loop-alloc.k c.loop-alloc.end was.count was.end (sym c.has_ended.ensures ∙ running))
+    (was.ran.run.state, goes c.args.machine.now c.args.image.now c.loop-alloc.schedule.lists c.loop-alloc.simulation was.ran.run c.loop-alloc.k c.loop-alloc.end was.count was.end (sym c.has_ended.ensures ∙ running))
 
 pub add-requires-clause-cores : goal.add-requires-clause-cores
 add-requires-clause-cores g c =
     let known : c.loop-alloc.schedule.cores ≡ c.args.machine.now.cores = c.loop-alloc.invariant.cores ∙ c.requires.cores_known in
     subst (λ (n : ℕ). All (λ (e : Entry). e.core < n) c.in_ok-next.entries) (sym known) c.in_ok-next.ensures.cores
 
-pub returns-in_err-add-clause-err : goal.returns-in_err-add-clause-err
-returns-in_err-add-clause-err g c =
+pub returns-in_err-add-clause-in_order : goal.returns-in_err-add-clause-in_order
+returns-in_err-add-clause-in_order g c =
     let machine = c.args.machine.now in
     let image = c.args.image.now in
-    let legal : IsLegalSoFar machine image c.loop-alloc.schedule.lists = legal_so_far machine image c.loop-alloc.schedule.lists c.loop-alloc.simulation c.loop-alloc.invariant.run in
+    let before : IsKeptInOrder machine image c.loop-alloc.schedule.lists = kept_in_order machine image c.loop-alloc.schedule.lists c.loop-alloc.simulation c.loop-alloc.invariant.ran in
     let same : c.add.new.self ≡ c.loop-alloc.schedule = c.in_err-add.ensures.err in
-    on_err (IsLegalSoFar machine image c.add.new.self.lists) c.from_residual-in_err-add.result (subst (λ (kept : IntervalLists). IsLegalSoFar machine image kept.lists) (sym same) legal)
+    subst (λ (kept : IntervalLists). IsKeptInOrder machine image kept.lists) (sym same) before
 
 pub loop-alloc-smaller : goal.loop-alloc-smaller
 loop-alloc-smaller g c =
     let was = c.loop-alloc.invariant in
     let running : c.has_ended.result ≡ false = search rules in
-    let below = below_limit c.args.machine.now c.args.image.now c.loop-alloc.schedule.lists c.loop-alloc.simulation was.run c.loop-alloc.k c.loop-alloc.end was.count was.end (sym c.has_ended.ensures ∙ running) was.within in
+    let below = below_limit c.args.machine.now c.args.image.now c.loop-alloc.schedule.lists c.loop-alloc.simulation was.ran.run c.loop-alloc.k c.loop-alloc.end was.count was.end (sym c.has_ended.ensures ∙ running) was.within in
     let less : c.args.machine.now.intervals - (c.loop-alloc.k + 1) < c.args.machine.now.intervals - c.loop-alloc.k = omega (arith, below) in
     less
 
-pub returns-in_err-next-clause-err : goal.returns-in_err-next-clause-err
-returns-in_err-next-clause-err g c =
+pub returns-in_err-next-clause-in_order : goal.returns-in_err-next-clause-in_order
+returns-in_err-next-clause-in_order g c =
     let machine = c.args.machine.now in
     let image = c.args.image.now in
-    on_err (IsLegalSoFar machine image c.loop-alloc.schedule.lists) c.from_residual-in_err-next.result (legal_so_far machine image c.loop-alloc.schedule.lists c.loop-alloc.simulation c.loop-alloc.invariant.run)
+    kept_in_order machine image c.loop-alloc.schedule.lists c.loop-alloc.simulation c.loop-alloc.invariant.ran
 
 pub loop-alloc-preserved : goal.loop-alloc-preserved
 loop-alloc-preserved g c =
@@ -126,16 +133,19 @@ loop-alloc-preserved g c =
     let p = c.loop-alloc.simulation in
     let running : c.has_ended.result ≡ false = search rules in
     let test = sym c.has_ended.ensures ∙ running in
-    let below = below_limit machine image lists p was.run c.loop-alloc.k c.loop-alloc.end was.count was.end test was.within in
-    let come = goes machine image lists p was.run c.loop-alloc.k c.loop-alloc.end was.count was.end test in
+    let below = below_limit machine image lists p was.ran.run c.loop-alloc.k c.loop-alloc.end was.count was.end test was.within in
+    let come = goes machine image lists p was.ran.run c.loop-alloc.k c.loop-alloc.end was.count was.end test in
     let turns : List ℕ = map (λ (e : Entry). e.core) c.in_ok-next.entries in
-    let program : LeadsTo machine c.in_ok-program.program was.run.state turns c.in_ok-next.next = c.in_ok-next.ensures.leads was.run.state come in
-    let leads : LeadsTo machine image was.run.state turns c.in_ok-next.next = subst (λ (i : MemoryImage). LeadsTo machine i was.run.state turns c.in_ok-next.next) c.in_ok-program.ensures program in
+    let q = c.in_ok-next.next in
+    let Leads : MemoryImage → Type 0 = λ i. (leads : LeadsTo machine i was.ran.run.state turns q) × (leads.entries ≡ c.in_ok-next.entries) in
+    let found : Leads image = subst Leads c.in_ok-program.ensures (c.in_ok-next.ensures.leads was.ran.run.state come) in
+    let leads : LeadsTo machine image was.ran.run.state turns q = found.0 in
+    let in_order : turns ≡ map (λ (e : Entry). e.core) leads.entries = ap (map (λ (e : Entry). e.core)) (sym found.1) in
     let added : c.add.new.self.lists ≡ lists ++ turns ∷ [] = c.in_ok-add.ensures.ok in
-    let run : HasRun machine image (lists ++ turns ∷ []) c.in_ok-next.next = further machine image lists p c.in_ok-next.next was.run turns come.on leads in
-    let accesses = accesses_are machine leads.state c.in_ok-next.next leads.come in
+    let ran : HasRunInOrder machine image (lists ++ turns ∷ []) q = further_in_order machine image lists p q was.ran turns come.on leads in_order in
+    let accesses = accesses_are machine leads.state q leads.come in
     record {
-      run = subst (λ (all : List (List ℕ)). HasRun machine image all c.in_ok-next.next) (sym added) run;
+      ran = subst (λ (all : List (List ℕ)). HasRunInOrder machine image all q) (sym added) ran;
       plain = was.plain;
       count = omega (arith, ap length added, length-append lists (turns ∷ []), was.count);
       end = omega (arith, was.end);

@@ -1,12 +1,12 @@
--- the run has come to where the intervals of the schedule lead
+-- the run has come to where the intervals of the schedule lead, which is kept in order
 use Rattle.std.proofs.Common.{◌≡◌, ◌≤◌, ◌-◌, ◌*◌, ◌^◌, length}
 use Rattle.replay.specs.IntervalWeave.{IsPlainOf}
-use Rattle.replay.proofs.RunSoFar.{HasRun}
+use Rattle.replay.proofs.RunSoFar.{HasRunInOrder}
 use Rattle.replay.proofs.running.run.Given as goal
 
 abbrev pub invariant-loop-alloc : goal.invariant-loop-alloc
 invariant-loop-alloc g l = record {
-  run : HasRun l.machine l.image l.schedule.lists l.simulation;
+  ran : HasRunInOrder l.machine l.image l.schedule.lists l.simulation;
   plain : IsPlainOf l.machine l.plain;
   count : length l.schedule.lists ≡ l.k;
   end : l.end ≡ l.k * l.machine.interval;

@@ -84,6 +84,8 @@ returns-clause-leads c = λ s g.
     let machine = c.args.machine.now in
     let image = c.args.program.now in
     let ran = c.in_ok-entries.ensures in
-    c.in_ok-take_in.ensures image s c.args.turns.now
+    let leads = c.in_ok-take_in.ensures image s c.args.turns.now
     (has_fired machine image c.args.end s c.args.turns.now c.args.self.now c.bound_under.new.self c.in_ok-entries.entries c.in_ok-graph.graph c.in_ok-fired.fired c.weave_seq.new.comps
     g ran.bounded ran.comps ran.counters c.requires.room.components c.in_ok-graph.ensures c.in_ok-fired.ensures.fired c.in_ok-fired.ensures.comps)
+    in
+    leads.0
