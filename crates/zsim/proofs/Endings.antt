@@ -1,6 +1,6 @@
 -- How a call ended: an input was not taken, memory ran out in the run, a schedule was not legal, or the run came to its end.
 use Rattle.std.proofs.Common.{◌≡◌, ◌⊎◌, ℕ, Bool, true, false, List, [], Option, Some, None, Ok, Err, Result, option_map, refl, sym, inl, inr, ap, subst}
-use Rattle.std.specs.Prelude.{IfSome, IsOk, IsSomeAnd, MatchOption, is_ok, if◌then◌else◌, length, nat_lt}
+use Rattle.std.specs.Prelude.{IsOk, IsSomeAnd, MatchOption, is_ok, if◌then◌else◌, length, nat_lt}
 use Rattle.access_log.specs.Schedule.{IntervalLists}
 use Rattle.machine_desc.specs.declared.errors.BadMachine.{BadMachine}
 use Rattle.machine_desc.specs.declared.machine.Machine.{Machine}
@@ -9,7 +9,7 @@ use Rattle.machine_desc.specs.Description.{machine_of}
 use Rattle.elf_load.specs.declared.bad_elf.BadElf.{BadElf}
 use Rattle.elf_load.specs.Image.{image_of}
 use Rattle.elf_load.specs.MemoryImage.{MemoryImage}
-use Rattle.replay.specs.ReferenceRun.{Illegal, IsIllegalAt, IsLegalSoFar}
+use Rattle.replay.specs.ReferenceRun.{Illegal, IsIllegalAt, IsKeptInOrder}
 use Rattle.replay.specs.Results.{Results}
 use Rattle.schedule_file.specs.declared.bad_schedule.BadSchedule.{BadSchedule}
 use Rattle.schedule_file.specs.ScheduleFile.{schedule_file_of, schedule_of}
@@ -19,7 +19,7 @@ use Rattle.zsim.specs.declared.ended.Status.{Status}
 use Rattle.zsim.specs.declared.ended.Status.TheVariants as status
 use Rattle.zsim.specs.declared.ended.Which.TheVariants as which
 use Rattle.zsim.specs.CommandLine.{Command, exe_file, record_name, replay}
-use Rattle.zsim.specs.Ended.{Gives, HasEnded, IsExeOf, IsMachineText, IsRefusedAt, IsScheduleFile, KeepsAll, KeepsExe, KeepsMachine, KeepsNothing, KeepsText, NothingFailed, Seen, no_intervals, status_at}
+use Rattle.zsim.specs.Ended.{Gives, HasEnded, IsExeOf, IsMachineText, IsRefusedAt, IsScheduleFile, IsScheduleOf, KeepsAll, KeepsExe, KeepsMachine, KeepsNothing, KeepsText, NothingFailed, Seen, no_intervals, status_at}
 use Rattle.zsim.specs.Limits.{exe_limit, machine_limit, schedule_limit}
 use Rattle.zsim.specs.Report.{report_of}
 use Rattle.zsim.specs.Seen.{FilesSeen, FailedToWrite, FileFailed, GainedNothing, NoPutFailed, WasCut, WasWritten}
@@ -269,7 +269,7 @@ module _ (seen : Seen) (k : Kept) (keeps : KeepsAll seen k) (setup : Setup) (set
   sound = ap is_ok setup_is
 
   -- memory ran out before there was a report
-  pub stopped : MatchOption setup.given (IsLegalSoFar setup.machine setup.image k.schedule.lists) (λ schedule. k.schedule ≡ schedule) → IsUntouched seen.files seen.out
+  pub stopped : IsScheduleOf setup k.schedule → IsUntouched seen.files seen.out
       → HasEnded seen status.NoMemory k
   stopped schedule untouched = record {
     kept = inr (inr (inr (inr keeps)));
@@ -293,9 +293,9 @@ module _ (seen : Seen) (k : Kept) (keeps : KeepsAll seen k) (setup : Setup) (set
       }
 
   -- the run came to its end
-  module _ (given : IfSome setup.given (λ schedule. k.schedule ≡ schedule)) (r : Results) (run : RunGives setup.machine setup.image k.schedule r) where
+  module _ (schedule : IsScheduleOf setup k.schedule) (r : Results) (run : RunGives setup.machine setup.image k.schedule r) where
     abbrev gives : Gives seen.command k r
-    gives = record { setup = setup; is = setup_is; sound = valid; given = given; run = run.0; counted = run.1 }
+    gives = record { setup = setup; is = setup_is; sound = valid; schedule = schedule; run = run.0; counted = run.1 }
 
     abbrev text : List ℕ
     text = report_of setup.machine seen.command.brief r
@@ -369,17 +369,17 @@ module _ (seen : Seen) (k : Kept) (keeps : KeepsAll seen k) (setup : Setup) (set
         let ended : HasEnded seen status.NoMemory k = record {
           kept = inr (inr (inr (inr keeps)));
           refusals = record { files = no_file; out = no_put };
-          report = inr (inr (inr (inr (r, gives, whole))));
+          report = inr (inr (inr (inr ((r, gives, whole), record_cut))));
           files = inr ((r, gives, whole), record_cut);
           complete = λ _ _. inl refl;
         } in
         subst (λ (t : Status). HasEnded seen t k) (sym is) ended
 
   -- a run, and a replay
-  pub ran : (s : Status) → setup.given ≡ None → RunsAs s setup.machine setup.image seen.command.brief (record_name seen.command.task) k.schedule seen.files seen.out → HasEnded seen s k
-  ran s none (inl (is, legal, untouched)) = subst (λ (t : Status). HasEnded seen t k) (sym is) (stopped (rw none legal) untouched)
-  ran s none (inr (inl (is, (r, run), untouched))) = subst (λ (t : Status). HasEnded seen t k) (sym is) (unreported (rw none tt) r run untouched)
-  ran s none (inr (inr (r, run, finishes))) = finished (rw none tt) r run s finishes
+  pub ran : (s : Status) → setup.given ≡ None → IsKeptInOrder setup.machine setup.image k.schedule.lists → RunsAs s setup.machine setup.image seen.command.brief (record_name seen.command.task) k.schedule seen.files seen.out → HasEnded seen s k
+  ran s none in_order (inl (is, untouched)) = subst (λ (t : Status). HasEnded seen t k) (sym is) (stopped (rw none in_order) untouched)
+  ran s none in_order (inr (inl (is, (r, run), untouched))) = subst (λ (t : Status). HasEnded seen t k) (sym is) (unreported (rw none in_order) r run untouched)
+  ran s none in_order (inr (inr (r, run, finishes))) = finished (rw none in_order) r run s finishes
 
   pub replayed : (s : Status) → setup.given ≡ Some k.schedule → record_name seen.command.task ≡ None
       → ReplaysAs s setup.machine setup.image seen.command.brief k.schedule seen.files seen.out → HasEnded seen s k
@@ -408,11 +408,11 @@ replayed_file seen k machine image name s valid machine_is image_is text exe is_
 
 -- standard output was not touched, or the run came to its end
 pub untouched_or_run : {S : Type 0} (command : Command) (k : Kept) (setup : Setup) → setup_of command k ≡ Ok setup → IsMachine setup.machine
-    → IfSome setup.given (λ schedule. k.schedule ≡ schedule) → (old new : S)
+    → IsScheduleOf setup k.schedule → (old new : S)
     → (new ≡ old) ⊎ ((r : Results) × RunGives setup.machine setup.image k.schedule r) → (new ≡ old) ⊎ ((r : Results) × Gives command k r)
-untouched_or_run command k setup setup_is valid given old new (inl same) = inl same
-untouched_or_run command k setup setup_is valid given old new (inr (r, run)) =
-    inr (r, record { setup = setup; is = setup_is; sound = valid; given = given; run = run.0; counted = run.1 })
+untouched_or_run command k setup setup_is valid schedule old new (inl same) = inl same
+untouched_or_run command k setup setup_is valid schedule old new (inr (r, run)) =
+    inr (r, record { setup = setup; is = setup_is; sound = valid; schedule = schedule; run = run.0; counted = run.1 })
 
 pub untouched_or_replayed : {S : Type 0} (command : Command) (k : Kept) (machine : Machine) (image : MemoryImage) (name : List ℕ) → IsMachine machine
     → machine_by k.machine ≡ Ok machine → image_by machine k.exe ≡ Ok image → command.task ≡ replay name → (old new : S)

@@ -120,7 +120,7 @@ module _ {F : Type 0} (tells : Bool) (contents : F → List ℕ → Option (List
 
     pub runs_later : (s : Status) (machine : Machine) (image : MemoryImage) (brief : Bool) (name : Option (List ℕ)) (schedule : IntervalLists) (out : SinkSeen)
         → RunsAs s machine image brief name schedule second out → RunsAs s machine image brief name schedule both out
-    runs_later s machine image brief name schedule out (inl (is, legal, untouched)) = inl (is, legal, untouched_later out untouched)
+    runs_later s machine image brief name schedule out (inl (is, untouched)) = inl (is, untouched_later out untouched)
     runs_later s machine image brief name schedule out (inr (inl (is, run, untouched))) = inr (inl (is, run, untouched_later out untouched))
     runs_later s machine image brief name schedule out (inr (inr (r, run, finishes))) = inr (inr (r, run, finishes_later s r.limit _ _ out finishes))
 

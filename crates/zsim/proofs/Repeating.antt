@@ -1,6 +1,6 @@
 -- A replay of a recorded schedule repeats the run.
 use Rattle.std.proofs.Common.{◌≡◌, ◌≢◌, ℕ, ◌+◌, ◌*◌, ◌<◌, ◌≤◌, Bool, true, false, List, [], ◌∷◌, length, Option, Some, None, Result, Ok, Err, All, take, option_map, refl, sym, ◌∙◌, ap, subst, inl, inr, arith, nat_lt}
-use Rattle.std.specs.Prelude.{IfSome, IsOkAnd, MatchOption, MatchResult, sum_by}
+use Rattle.std.specs.Prelude.{IsOkAnd, MatchOption, MatchResult, sum_by}
 use Rattle.std.specs.List.{flat_map}
 use Rattle.std.proofs.lemmas.Bool.Decides.{nat_tests}
 use Rattle.std.proofs.lemmas.List.{length-append, take_all}
@@ -12,7 +12,7 @@ use Rattle.machine_desc.specs.Machine.{IsMachine}
 use Rattle.elf_load.specs.MemoryImage.{MemoryImage}
 use Rattle.replay.specs.declared.replay_fail.ReplayFail.TheVariants as fail
 use Rattle.replay.specs.Laws.{FitsRun, LegalSchedulesFit, ReplaysGiveTheSame}
-use Rattle.replay.specs.ReferenceRun.{Illegal, IsIllegalAt, IsRunOf}
+use Rattle.replay.specs.ReferenceRun.{Illegal, IsIllegalAt, IsKeptInOrder, IsRunOf}
 use Rattle.replay.specs.Results.{HasCounts, Results}
 use Rattle.schedule_file.specs.Laws.{EachScheduleIsReadAgain}
 use Rattle.schedule_file.specs.ScheduleFile.{header_bytes, list_bytes, schedule_file_of, schedule_of}
@@ -211,9 +211,9 @@ module _ (replays : ReplaysGiveTheSame) (fits : LegalSchedulesFit) (read_again :
           | inr none ↦ cc
         ]
 
-    lists_of : (given : Option IntervalLists) → given ≡ Some ran.schedule → (kept : IntervalLists) → IfSome given (λ schedule. kept ≡ schedule) → kept.lists ≡ ran.schedule.lists
-    lists_of None is kept same = cc
-    lists_of (Some schedule) is kept same =
+    lists_of : (given : Option IntervalLists) → given ≡ Some ran.schedule → (kept : IntervalLists) (InOrder : Type 0) → MatchOption given InOrder (λ schedule. kept ≡ schedule) → kept.lists ≡ ran.schedule.lists
+    lists_of None is kept InOrder same = cc
+    lists_of (Some schedule) is kept InOrder same =
         let these : schedule ≡ ran.schedule = cc in
         ap (λ (l : IntervalLists). l.lists) (same ∙ these)
 
@@ -223,7 +223,7 @@ module _ (replays : ReplaysGiveTheSame) (fits : LegalSchedulesFit) (read_again :
         let found = now.0 in
         let run = now.1 in
         let same = same_setup run.setup run.is in
-        let lists = lists_of run.setup.given (ap (λ (x : Setup). x.given) same) replayed.schedule run.given in
+        let lists = lists_of run.setup.given (ap (λ (x : Setup). x.given) same) replayed.schedule (IsKeptInOrder run.setup.machine run.setup.image replayed.schedule.lists) run.schedule in
         let equal : found ≡ results = same_run run.setup same replayed.schedule.lists lists found run.run in
         let texts : report_of run.setup.machine second.command.brief found ≡ report_of machine first.command.brief results = rw (same, again.brief, equal) refl in
         record {

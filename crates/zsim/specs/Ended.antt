@@ -1,13 +1,13 @@
 -- What the answer of a call tells whose words are a command: what was kept, the cause of each status, and what was written
 -- to standard output and to the file of a schedule. And what it says on standard error.
-use Rattle.std.specs.Prelude.{◌≡◌, ◌⊎◌, ℕ, Bool, if◌then◌else◌, List, [], Option, Some, None, IsSomeAnd, IfSome, IsOk, IsOkAnd, Ok, Err, MatchOption, MatchResult}
+use Rattle.std.specs.Prelude.{◌≡◌, ◌⊎◌, ℕ, Bool, if◌then◌else◌, List, [], Option, Some, None, IsSomeAnd, IsOk, IsOkAnd, Ok, Err, MatchOption, MatchResult}
 use Rattle.access_log.specs.Schedule.{IntervalLists}
 use Rattle.machine_desc.specs.declared.machine.Machine.{Machine}
 use Rattle.machine_desc.specs.declared.plain.TheConstants.{PLAIN}
 use Rattle.machine_desc.specs.Machine.{IsMachine}
 use Rattle.elf_write.specs.File.{executable_of}
 use Rattle.gen_prog.specs.Generated.{generated_image}
-use Rattle.replay.specs.ReferenceRun.{Illegal, IsIllegalAt, IsLegalSoFar, IsRunOf}
+use Rattle.replay.specs.ReferenceRun.{Illegal, IsIllegalAt, IsKeptInOrder, IsRunOf}
 use Rattle.replay.specs.Results.{HasCounts, Results}
 use Rattle.schedule_file.specs.ScheduleFile.{schedule_file_of}
 use Rattle.zsim.specs.declared.ended.Kept.{Kept}
@@ -103,21 +103,25 @@ Keeps status.NoMemory seen kept = KeepsNothing kept ⊎ KeepsText seen kept ⊎ 
 
 -- ---- the run, and its report
 
--- What the run of the kept inputs gives under the kept schedule. That of a replay is the one of its file.
+-- The schedule of a replay is the one of its file. That of a run names, for each interval, the cores of the accesses in
+-- recorded order; it is legal as far as it goes.
+abbrev pub IsScheduleOf : Setup → IntervalLists → Type 0
+IsScheduleOf setup schedule = MatchOption setup.given (IsKeptInOrder setup.machine setup.image schedule.lists) (λ given. schedule ≡ given)
+
+-- what the run of the kept inputs gives under the kept schedule
 pub record Gives (command : Command) (kept : Kept) (results : Results) : Type 0 where
   pub setup : Setup
   pub is : setup_of command kept ≡ Ok setup
   pub sound : IsMachine setup.machine
-  pub given : IfSome setup.given (λ schedule. kept.schedule ≡ schedule)
+  pub schedule : IsScheduleOf setup kept.schedule
   pub run : IsRunOf setup.machine setup.image kept.schedule.lists results
   pub counted : HasCounts setup.machine results
 
--- A run or a replay stopped in an interval. The schedule of a run is legal as far as it goes, and that of a replay is the
--- one of its file.
+-- a run or a replay stopped in an interval
 pub record IsStopped (command : Command) (kept : Kept) : Type 0 where
   pub setup : Setup
   pub is : setup_of command kept ≡ Ok setup
-  pub schedule : MatchOption setup.given (IsLegalSoFar setup.machine setup.image kept.schedule.lists) (λ schedule. kept.schedule ≡ schedule)
+  pub schedule : IsScheduleOf setup kept.schedule
 
 -- the schedule of a replay, which is the one of its file, is first not legal at this place
 pub record IsRefusedAt (command : Command) (kept : Kept) (at : Illegal) : Type 0 where
@@ -195,7 +199,7 @@ abbrev pub IsNotBegun : Seen → Kept → Type 0
 IsNotBegun seen kept = (kept.schedule.lists ≡ []) × GainedNothing seen.out
 
 -- What standard output gained. Where memory ran out, that was before the run, in an interval, behind it, in a put, or when
--- the report was whole.
+-- the report was whole and the schedule was being written.
 abbrev pub Reports : Status → Seen → Kept → Type 0
 Reports status.Ran seen kept = IsReported status.Ran seen kept
 Reports status.Limit seen kept = IsReported status.Limit seen kept
@@ -207,7 +211,7 @@ Reports (status.BadElf bad) seen kept = IsNotBegun seen kept
 Reports (status.BadSchedule (fault.File bad)) seen kept = IsNotBegun seen kept
 Reports (status.BadSchedule (fault.Illegal interval place)) seen kept = GainedNothing seen.out
 Reports (status.TooLong which) seen kept = IsNotBegun seen kept
-Reports status.NoMemory seen kept = IsNotBegun seen kept ⊎ (IsStopped seen.command kept × GainedNothing seen.out) ⊎ IsUnreported seen kept ⊎ IsCut seen kept ⊎ IsWhole seen kept
+Reports status.NoMemory seen kept = IsNotBegun seen kept ⊎ (IsStopped seen.command kept × GainedNothing seen.out) ⊎ IsUnreported seen kept ⊎ IsCut seen kept ⊎ (IsWhole seen kept × IsRecordCut seen kept)
 
 -- Which names changed: none but that of the schedule's file, and this one not before the report was whole.
 abbrev pub Records : Status → Seen → Kept → Type 0

@@ -4,7 +4,7 @@ use Rattle.std.specs.Prelude.{◌≡◌, ◌⊎◌, ℕ, Bool, List, [], Option,
 use Rattle.access_log.specs.Schedule.{IntervalLists}
 use Rattle.elf_load.specs.MemoryImage.{MemoryImage}
 use Rattle.machine_desc.specs.declared.machine.Machine.{Machine}
-use Rattle.replay.specs.ReferenceRun.{Illegal, IsIllegalAt, IsLegalSoFar, IsRunOf}
+use Rattle.replay.specs.ReferenceRun.{Illegal, IsIllegalAt, IsRunOf}
 use Rattle.replay.specs.Results.{HasCounts, Results}
 use Rattle.schedule_file.specs.ScheduleFile.{schedule_file_of}
 use Rattle.zs_host.specs.declared.files.FileFail.{FileFail}
@@ -97,7 +97,7 @@ RunGives machine image schedule r = IsRunOf machine image schedule.lists r × Ha
 -- what the run of an image came to, of which the schedule is to be written to a file, if one is named
 abbrev pub RunsAs : Status → Machine → MemoryImage → (brief : Bool) → (name : Option (List ℕ)) → IntervalLists → FilesSeen → SinkSeen → Type 0
 RunsAs s machine image brief name schedule files out =
-    ((s ≡ status.NoMemory) × IsLegalSoFar machine image schedule.lists × IsUntouched files out)
+    ((s ≡ status.NoMemory) × IsUntouched files out)
     ⊎ ((s ≡ status.NoMemory) × ((r : Results) × RunGives machine image schedule r) × IsUntouched files out)
     ⊎ ((r : Results) × RunGives machine image schedule r × Finishes s r.limit (report_of machine brief r) (option_map (λ n. named_file n (schedule_file_of schedule)) name) files out)
 

@@ -1,6 +1,7 @@
 // The call that does all that the program does.
 ghost use Rattle.std.specs.Prelude.{◌≡◌, ◌⊎◌, [], IfSome, IsSomeAnd, None, Ok, map, option_map, string_bytes};
 ghost use Rattle.machine_desc.specs.Machine.{IsMachine};
+ghost use Rattle.replay.specs.ReferenceRun.{IsKeptInOrder};
 ghost use Rattle.replay.specs.Results.{Results};
 ghost use Rattle.zsim.specs.CommandLine.{command_of, command_told};
 ghost use Rattle.zsim.specs.Ended.{Gives, HasEnded, IsNoCommand, KeepsNothing, Says, no_intervals};
@@ -142,6 +143,7 @@ fn run_and_report<R: Threads + Wait + Sync, F: Files, O: Sink, G: Gate>(
     requires empty { schedule.old.lists ≡ [] }
     requires cores { schedule.old.cores ≡ machine.now.cores }
     ensures cores { schedule.new.cores ≡ schedule.old.cores }
+    ensures in_order { IsKeptInOrder machine.now image.now schedule.new.lists }
     ensures run { RunsAs result machine.now image.now brief (option_map (λ n. n.now) record_to.entry) schedule.new (files_seen F.tells F.contents F.faults F.latest files.old files.new) (sink_seen O.tells O.bytes O.faults out.old out.new) }
     ensures untouched { (out.new ≡ out.old) ⊎ ((r : Results) × RunGives machine.now image.now schedule.new r) }
 {

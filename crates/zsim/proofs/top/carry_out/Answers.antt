@@ -77,7 +77,7 @@ returns-in-Run-clause-ended g c =
     let keeps : KeepsAll seen kept = record { machine = text; exe = rw first.0 bytes_stay; sched_file = rw is_run c.requires.sched_file; cores = rw first.0 cores } in
     let runs = runs_later files.tells files.contents files.faults files.latest start loaded end quiet c.run_and_report.result machine image c.args.command.now.brief
     (option_map (λ name. name.now) c.in-Run.record_to) kept.schedule seen.out c.run_and_report.ensures.run in
-    ran seen kept keeps setup setup_is c.in-Ok.ensures.valid c.run_and_report.result refl (rw is_run runs)
+    ran seen kept keeps setup setup_is c.in-Ok.ensures.valid c.run_and_report.result refl c.run_and_report.ensures.in_order (rw is_run runs)
 
 pub returns-in-Run-clause-untouched : goal.returns-in-Run-clause-untouched
 returns-in-Run-clause-untouched g c =
@@ -88,7 +88,7 @@ returns-in-Run-clause-untouched g c =
     let is_run : command.task ≡ run c.in-Run.workers (option_map (λ name. name.now) c.in-Run.record_to) = ap task_told c.in-Run.is in
     let setup : Setup = record { machine = c.in-Ok.machine; image = c.in-Ok-take_exe.image; given = None } in
     let setup_is : setup_of command kept ≡ Ok setup = rw (first.0, second.0, is_run) refl in
-    untouched_or_run command kept setup setup_is c.in-Ok.ensures.valid tt c.args.out.now c.run_and_report.new.out c.run_and_report.ensures.untouched
+    untouched_or_run command kept setup setup_is c.in-Ok.ensures.valid c.run_and_report.ensures.in_order c.args.out.now c.run_and_report.new.out c.run_and_report.ensures.untouched
 
 -- the schedule was read, or not
 pub returns-clause-ended : goal.returns-clause-ended
