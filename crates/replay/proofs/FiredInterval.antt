@@ -1,5 +1,5 @@
 -- An interval whose events have fired, from its bound phase and the weave.
-use Rattle.std.proofs.Common.{◌≡◌, ℕ, List, map, subst, sym, ◌∙◌, ap}
+use Rattle.std.proofs.Common.{◌≡◌, ℕ, List, map, subst, ◌∙◌, ap}
 use Rattle.zs_num.specs.declared.entry.Entry.{Entry}
 use Rattle.elf_load.specs.MemoryImage.{MemoryImage}
 use Rattle.machine_desc.specs.declared.machine.Machine.{Machine}
@@ -10,7 +10,7 @@ use Rattle.event_graph.specs.declared.event.Event.{Event}
 use Rattle.event_graph.specs.declared.fired.Fired.{Fired}
 use Rattle.event_graph.specs.OneListWeave.{comps_after, fired_of, woven}
 use Rattle.replay.specs.declared.simulation.Simulation.{Simulation}
-use Rattle.replay.specs.IntervalWeave.{AreEventsOf, HaveFired}
+use Rattle.replay.specs.IntervalWeave.{AreEventsOf}
 use Rattle.replay.specs.ReferenceRun.{RunState}
 use Rattle.replay.specs.Simulation.{GoesOn, HasFired, IsBoundPhase}
 

@@ -6,6 +6,7 @@ ghost use Rattle.component.specs.Components.{AreComponents};
 ghost use Rattle.event_graph.specs.Fits.{GraphFits};
 ghost use Rattle.event_graph.specs.OneListWeave.{AreSmallSteps, comps_after, fired_of, woven};
 
+use crate::list_gate::ListGate;
 use component::{Comp, Comps};
 use domain_map::split;
 use event_graph::{FiredList, Graph};
@@ -18,9 +19,13 @@ use weave_seq::weave_gated;
 use zs_host::Gate;
 use zs_num::NoMemory;
 
-/// Fires all events by so many workers, who pass the gate before each, and moves the components on.
-/// Answers when the events fired. `places` has the domain of each component. Where memory runs out, the
-/// components are there, and none has moved.
+/// How many events a round of the weave by domains fires where it is worth it.
+const WORTH: u64 = 256;
+
+/// Fires all events by so many workers, who pass the gate before each, and moves the components on:
+/// several fire them by their domains where that is worth it, and then say whether it was. Otherwise they
+/// fire on one list. Answers when the events fired. `places` has the domain of each component. Where memory
+/// runs out, the components are there, and none has moved.
 pub fn fire_all<R: Threads + Sync, G: Gate>(
     rt: &R,
     alloc: Global,
@@ -30,6 +35,7 @@ pub fn fire_all<R: Threads + Sync, G: Gate>(
     workers: u16,
     gate: &G,
     places: &[u16],
+    is_worth: &mut bool,
 ) -> Result<FiredList, NoMemory>
     requires machine { IsMachine machine.now }
     requires components { AreComponents machine.now comps.old }
@@ -40,13 +46,14 @@ pub fn fire_all<R: Threads + Sync, G: Gate>(
     ensures fired { IfOk result (λ fired. fired ≡ map fired_of (woven comp_step graph.now comps.old)) }
     ensures comps { OnOk result (comps.new ≡ comps_after comp_step graph.now comps.old) }
 {
-    if workers == 1 {
-        return weave_gated(alloc, graph, comps, places, gate);
+    if workers > 1 && *is_worth {
+        return fire_by_domains(rt, alloc, machine, graph, comps, workers, gate, is_worth);
     }
-    fire_by_domains(rt, alloc, machine, graph, comps, workers, gate)
+    weave_gated(alloc, graph, comps, places, &ListGate { gate, workers })
 }
 
-/// Fires all events by their domains, each of which belongs to one of the workers.
+/// Fires all events by their domains, each of which belongs to one of the workers. It was worth it where
+/// the rounds fired many events each.
 fn fire_by_domains<R: Threads + Sync, G: Gate>(
     rt: &R,
     alloc: Global,
@@ -55,6 +62,7 @@ fn fire_by_domains<R: Threads + Sync, G: Gate>(
     comps: &mut Comps<Comp>,
     workers: u16,
     gate: &G,
+    is_worth: &mut bool,
 ) -> Result<FiredList, NoMemory>
     requires machine { IsMachine machine.now }
     requires components { AreComponents machine.now comps.old }
@@ -72,6 +80,7 @@ fn fire_by_domains<R: Threads + Sync, G: Gate>(
     let own = mem::replace(comps, Comps::of(Vec::new(alloc)));
     match weave(rt, alloc, graph, &parts, own, workers, gate) {
         Ok(woven) => {
+            *is_worth = graph.events().len() as u64 >= WORTH * u64::from(woven.rounds);
             *comps = woven.comps;
             Ok(woven.fired)
         }

@@ -7,6 +7,7 @@ mod firing;
 mod gated_port;
 pub mod laws;
 mod limits;
+mod list_gate;
 mod logged_port;
 mod own_program;
 mod replay_fail;

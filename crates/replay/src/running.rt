@@ -18,10 +18,15 @@ use std::thread::Threads;
 use zs_host::Gate;
 use zs_num::NoMemory;
 
+/// In which intervals several workers fire the events by their domains, whether or not it was worth it
+/// before: in the first, and in one of so many.
+const TRIED: u32 = 64;
+
 /// Runs an image by so many workers, one at least and 64 at most: in each interval each core to the
-/// interval's end, and then the events, which one worker fires on one list and several by their domains.
-/// Of W workers worker w runs the cores, and then the domains, whose number is w modulo W, in ascending
-/// order; there are no more workers than cores, or than domains. Before each access and each event a
+/// interval's end, and then the events, which one worker fires on one list and several by their domains,
+/// or on one list too where the domains were not worth it. Of W workers worker w runs the cores, and then
+/// the domains, whose number is w modulo W, in ascending order; there are no more workers than cores, or
+/// than domains. Before each access and each event a
 /// worker passes the gate, when it has no shard's turn. The schedule gains a list for each interval, the
 /// cores of its accesses in recorded order; where memory runs out, it has those of the first intervals.
 pub fn run<R: Threads + Wait + Sync, G: Gate>(
@@ -50,13 +55,25 @@ pub fn run<R: Threads + Wait + Sync, G: Gate>(
     let mut simulation = Simulation::new(alloc, machine, image)?;
     let workers = workers.clamp(1, 64);
     let mut list = Vec::new(alloc);
+    let mut is_worth = true;
     let mut k = 0;
     let mut end = 0;
     while !simulation.has_ended(machine, k) {
+        is_worth = is_worth || k % TRIED == 0;
         k += 1;
         end += machine.interval;
         let (next, entries) = simulation.interval(
-            rt, alloc, machine, &program, &plain, end, workers, gate, &places, list,
+            rt,
+            alloc,
+            machine,
+            &program,
+            &plain,
+            end,
+            workers,
+            gate,
+            &places,
+            &mut is_worth,
+            list,
         )?;
         simulation = next;
         schedule.add(alloc, &entries)?;

@@ -102,7 +102,8 @@ impl Simulation {
 
     /// Runs the interval that ends at cycle `end`, at most 2^34: each core to the interval's end, and
     /// then the weave, both by so many workers, but no more than there are cores and domains. `places`
-    /// has the domain of each component. Answers the run after it and its accesses.
+    /// has the domain of each component, and `is_worth` says whether several weave by their domains, and
+    /// then whether that was worth it. Answers the run after it and its accesses.
     pub fn interval<R: Threads + Wait + Sync, G: Gate>(
         self,
         rt: &R,
@@ -114,6 +115,7 @@ impl Simulation {
         workers: u16,
         gate: &G,
         places: &[u16],
+        is_worth: &mut bool,
         list: Vec<Entry>,
     ) -> Result<(Self, Entries), NoMemory>
         requires machine { IsMachine machine.now }
@@ -133,7 +135,9 @@ impl Simulation {
         let weavers = workers.min(machine.domains.count);
         let graph = events_of(alloc, machine, plain, &entries, &simulation.comps)?;
         let comps = &mut simulation.comps;
-        let fired = fire_all(rt, alloc, machine, &graph, comps, weavers, gate, places)?;
+        let fired = fire_all(
+            rt, alloc, machine, &graph, comps, weavers, gate, places, is_worth,
+        )?;
         simulation.take_in(alloc, machine, &entries, graph, fired)?;
         Ok((simulation, entries))
     }

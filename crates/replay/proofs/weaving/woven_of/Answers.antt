@@ -1,8 +1,5 @@
 use Rattle.std.proofs.Common.{◌≡◌, ℕ, ◌^◌, ◌<◌, ◌≤◌, List, length, All, sym, subst}
-use Rattle.zs_num.specs.declared.entry.Entry.{Entry}
-use Rattle.component.specs.declared.comp.Comp.{Comp}
 use Rattle.event_graph.specs.Timely.{AreTimely}
-use Rattle.replay.specs.IntervalWeave.{HaveFired}
 use Rattle.replay.proofs.IntervalWeave.{is_woven}
 use Rattle.replay.proofs.weaving.woven_of.Goals as goal
 

@@ -1,4 +1,4 @@
-use Rattle.std.proofs.Common.{◌≡◌, ◌^◌, ◌≤◌, List, All, map, subst, sym}
+use Rattle.std.proofs.Common.{◌^◌, ◌≤◌, List, All, map, subst, sym}
 use Rattle.zs_num.specs.declared.entry.Entry.{Entry}
 use Rattle.component.specs.declared.comp.Comp.{Comp}
 use Rattle.component.specs.ComponentStep.{free_of}

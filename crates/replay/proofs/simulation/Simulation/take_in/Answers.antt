@@ -3,7 +3,7 @@ use Rattle.std.specs.Vec.{with_items}
 use Rattle.std.proofs.lemmas.List.{with_items_is}
 use Rattle.zs_num.specs.declared.entry.Entry.{Entry}
 use Rattle.component.specs.declared.comp.Comp.{Comp}
-use Rattle.component.specs.ComponentStep.{comp_step, free_of}
+use Rattle.component.specs.ComponentStep.{comp_step}
 use Rattle.component.specs.Components.{AreComponents}
 use Rattle.event_graph.specs.declared.event.Event.{Event}
 use Rattle.event_graph.specs.OneListWeave.{comps_after}
@@ -15,7 +15,7 @@ use Rattle.replay.specs.ReferenceRun.{all_delayed, time_of, woven_interval}
 use Rattle.replay.specs.Simulation.{AreNumbered, cores_of}
 use Rattle.replay.proofs.Cores.{each_clock}
 use Rattle.replay.proofs.IntervalWeave.{woven_events}
-use Rattle.replay.proofs.NextInterval.{Laws, fits_more, goes_on, leads_on}
+use Rattle.replay.proofs.NextInterval.{Laws, fits_more, leads_on}
 use Rattle.replay.proofs.simulation.Simulation.take_in.Goals as goal
 
 pub woven_of-requires-clause-fired : goal.woven_of-requires-clause-fired
