@@ -26,11 +26,13 @@ pub(crate) struct Memory {
 }
 
 impl Memory {
+    /// All memory, that of these logs first.
     pub(crate) fn new(
         alloc: Global,
         shards: &[Shard],
         cores: u16,
         room: u32,
+        earlier: Vec<CoreLog>,
     ) -> Result<Self, NoMemory>
         requires { length shards.now < 2 ^ 16 }
         ensures words { IfOk result (λ m. m.words.items ≡ replicate (16 * length shards.now) 0) }
@@ -43,7 +45,7 @@ impl Memory {
         Ok(Memory {
             words: vec![in alloc; 0; APART * shards.len()]?,
             stamps: last_stamps(alloc, shards)?,
-            logs: logs(alloc, cores, room)?,
+            logs: logs(alloc, cores, room, earlier)?,
             seats: Vec::with_capacity(alloc, usize::from(cores))?,
             shards: Vec::with_capacity(alloc, shards.len())?,
             closed: Vec::with_capacity(alloc, usize::from(cores))?,
@@ -61,13 +63,32 @@ fn last_stamps(alloc: Global, shards: &[Shard]) -> Result<Vec<Stamp>, NoMemory>
     Ok(stamps)
 }
 
-// A log for each core, with so much room.
-fn logs(alloc: Global, cores: u16, room: u32) -> Result<Vec<CoreLog>, NoMemory>
+// An empty log for each core, with so much room: an earlier one, where it has as much.
+fn logs(
+    alloc: Global,
+    cores: u16,
+    room: u32,
+    mut earlier: Vec<CoreLog>,
+) -> Result<Vec<CoreLog>, NoMemory>
     ensures { IfOk result (λ logs. logs.items ≡ new_logs cores room) }
 {
     let mut logs = Vec::with_capacity(alloc, usize::from(cores))?;
     for _ in 0..cores {
-        logs.push_reserved(CoreLog::with_room(alloc, room)?);
+        logs.push_reserved(log_from(alloc, room, earlier.pop())?);
     }
     Ok(logs)
+}
+
+// An empty log with so much room: the earlier one, where it has as much.
+fn log_from(alloc: Global, room: u32, earlier: Option<CoreLog>) -> Result<CoreLog, NoMemory>
+    ensures { IfOk result (λ log. log ≡ record { entries = []; room = room }) }
+{
+    let Some(mut log) = earlier else {
+        return CoreLog::with_room(alloc, room);
+    };
+    log.clear();
+    if log.spare() == room {
+        return Ok(log);
+    }
+    CoreLog::with_room(alloc, room)
 }

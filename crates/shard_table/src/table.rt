@@ -50,7 +50,7 @@ impl ShardTable {
     /// as they were.
     pub fn make(
         alloc: Global,
-        mut shards: Vec<Shard>,
+        shards: Vec<Shard>,
         cores: u16,
         room: u32,
     ) -> Result<(Self, Vec<CoreSeat>), (NoMemory, Vec<Shard>)>
@@ -62,7 +62,28 @@ impl ShardTable {
         ensures seats { IfOk result (λ made. AreNewSeats made.0 made.1.items) }
         ensures err { IfErr result (λ back. back.1.items ≡ shards.items) }
     {
-        let Ok(memory) = Memory::new(alloc, &shards, cores, room) else {
+        ShardTable::make_over(alloc, shards, cores, room, Vec::new(alloc))
+    }
+
+    /// A table of shards that so many cores share, of which each makes at most `room` accesses, and
+    /// the seat of each core, in order. All last stamps are 0. Where memory runs out, the shards come back
+    /// as they were. The memory of the logs that an earlier table handed back is taken first.
+    pub fn make_over(
+        alloc: Global,
+        mut shards: Vec<Shard>,
+        cores: u16,
+        room: u32,
+        earlier: Vec<CoreLog>,
+    ) -> Result<(Self, Vec<CoreSeat>), (NoMemory, Vec<Shard>)>
+        requires numbers { (number : ℕ) (shard : ShardState) → slice_get shards.items number ≡ Some shard → shard.number ≡ number }
+        requires some { 0 < length shards.items }
+        requires few { length shards.items < 2 ^ 16 }
+        requires cores { 0 < cores }
+        ensures table { IfOk result (λ made. (made.0.shards ≡ restarted_shards shards.items) × (made.0.cores ≡ cores) × (made.0.room ≡ room)) }
+        ensures seats { IfOk result (λ made. AreNewSeats made.0 made.1.items) }
+        ensures err { IfErr result (λ back. back.1.items ≡ shards.items) }
+    {
+        let Ok(memory) = Memory::new(alloc, &shards, cores, room, earlier) else {
             return Err((NoMemory, shards));
         };
         let Memory {

@@ -9,7 +9,7 @@ use Rattle.shard_table.specs.Tables.{resumed_all}
 use Rattle.shard_table.specs.Views.{first_view}
 use Rattle.shard_table.proofs.Making.{are_new, restarted_length, resumed_again, written_back}
 use Rattle.shard_table.proofs.Seating.{begins}
-use Rattle.shard_table.proofs.table.ShardTable.make.Goals as goal
+use Rattle.shard_table.proofs.table.ShardTable.make_over.Goals as goal
 
 new_at : (shards : List ShardState) → ((number : ℕ) (shard : ShardState) → slice_get shards number ≡ Some shard → shard.number ≡ number) → AreNew (restarted_shards shards)
 new_at shards numbers = λ number shard at.
