@@ -6,7 +6,7 @@ ghost use Rattle.bound_phase.specs.Shares.{AreEmpty, HaveReturned, mates};
 
 use crate::crew::{Crew, work_all};
 use crate::hiring::{crews, hire, let_go};
-use access_log::Merger;
+use access_log::{CoreLog, Merger};
 use bound_core::BoundCore;
 use event_graph::Expand;
 use machine_desc::Machine;
@@ -14,10 +14,42 @@ use rv_core::Program;
 use shard::Shard;
 use shard_table::{CoreSeat, ShardTable};
 use std::alloc::Global;
+use std::mem;
 use std::sync::Wait;
 use std::thread::Threads;
 use zs_host::Gate;
-use zs_num::{Cycle, Entries, NoMemory};
+use zs_num::{Cycle, Entries, Entry, NoMemory};
+
+/// Memory that one bound phase leaves to the next.
+#[derive(Drop)]
+pub struct PhaseMemory {
+    list: Vec<Entry>,
+    logs: Vec<CoreLog>,
+}
+
+impl PhaseMemory {
+    /// No memory, as before the first bound phase.
+    pub fn new(alloc: Global) -> Self {
+        PhaseMemory {
+            list: Vec::new(alloc),
+            logs: Vec::new(alloc),
+        }
+    }
+
+    /// Leaves the buffer of a list to the next list of accesses.
+    pub fn put_list(&mut self, list: Vec<Entry>) {
+        self.list = list;
+    }
+
+    /// Takes the buffer that was left for a list. Its items mean nothing.
+    pub fn take_list(&mut self, alloc: Global) -> Vec<Entry> {
+        mem::replace(&mut self.list, Vec::new(alloc))
+    }
+
+    fn take_logs(&mut self, alloc: Global) -> Vec<CoreLog> {
+        mem::replace(&mut self.logs, Vec::new(alloc))
+    }
+}
 
 /// What a core can access in an interval, beside one access for each cycle.
 const BESIDE_CYCLES: u32 = 258;
@@ -40,6 +72,50 @@ pub fn bound<R: Threads + Wait + Sync, G: Gate, P: Program + Sync, X: Expand + S
     machine: &Machine,
     program: &P,
     x: &X,
+    cores: Vec<BoundCore>,
+    shards: Vec<Shard>,
+    end: Cycle,
+    workers: u16,
+    gate: &G,
+) -> Result<Bounded, (NoMemory, Bounded)>
+    requires machine { IsMachine machine.now }
+    requires can { CanBound machine.now end cores.items shards.items }
+    requires end { end ≤ 2 ^ 60 }
+    requires workers { (0 < workers) × (workers ≤ 64) }
+    ensures bound { IfOk result (λ b. IsBound (X.time x.now) (P.image program.now) end cores.items shards.items b.cores.items b.shards.items b.entries) }
+    ensures ended { IfOk result (λ b. HaveEnded machine.now end cores.items b.cores.items b.entries) }
+    ensures cores { IfErr result (λ back. (map (λ c. c.timed) back.1.cores.items ≡ map (λ c. c.timed) cores.items) × (map (λ c. c.number) back.1.cores.items ≡ map (λ c. c.number) cores.items)) }
+    ensures shards { IfErr result (λ back. back.1.shards.items ≡ shards.items) }
+    ensures none { IfErr result (λ back. back.1.entries ≡ []) }
+{
+    let mut memory = PhaseMemory::new(alloc);
+    bound_in(
+        rt,
+        alloc,
+        &mut memory,
+        machine,
+        program,
+        x,
+        cores,
+        shards,
+        end,
+        workers,
+        gate,
+    )
+}
+
+/// Runs the cores to the end of the interval, cycle `end`, by so many workers: each runs the cores whose
+/// number is its own modulo the number of workers, in ascending order. Before each access, when it has
+/// no shard's turn, a worker passes the gate. Where memory runs out, cores and shards come back as they
+/// were, with no entries. Of the memory, that which an earlier bound phase left is taken first, and what
+/// the next can take is left.
+pub fn bound_in<R: Threads + Wait + Sync, G: Gate, P: Program + Sync, X: Expand + Sync>(
+    rt: &R,
+    alloc: Global,
+    left: &mut PhaseMemory,
+    machine: &Machine,
+    program: &P,
+    x: &X,
     mut cores: Vec<BoundCore>,
     shards: Vec<Shard>,
     end: Cycle,
@@ -59,7 +135,9 @@ pub fn bound<R: Threads + Wait + Sync, G: Gate, P: Program + Sync, X: Expand + S
     access_log::laws::rising_stamps_are_distinct();
     access_log::laws::rising_lists_stay();
     access_log::laws::cores_decide_the_order();
-    let Ok(memory) = Memory::new(alloc, machine, &mut cores, workers) else {
+    let list = left.take_list(alloc);
+    let earlier = left.take_logs(alloc);
+    let Ok(memory) = Memory::new(alloc, machine, &mut cores, workers, list) else {
         return Err((NoMemory, no_entries(alloc, cores, shards)));
     };
     let Memory {
@@ -69,7 +147,7 @@ pub fn bound<R: Threads + Wait + Sync, G: Gate, P: Program + Sync, X: Expand + S
         merger,
     } = memory;
     let room = machine.interval as u32 + BESIDE_CYCLES;
-    match ShardTable::make(alloc, shards, machine.cores, room) {
+    match ShardTable::make_over(alloc, shards, machine.cores, room, earlier) {
         Ok((table, seats)) => {
             take_turns(
                 rt,
@@ -87,6 +165,7 @@ pub fn bound<R: Threads + Wait + Sync, G: Gate, P: Program + Sync, X: Expand + S
             );
             let (shards, logs) = table.close(seats_back);
             let entries = merger.merge(&logs);
+            left.logs = logs;
             Ok(Bounded {
                 cores: back,
                 shards,
@@ -150,6 +229,7 @@ impl Memory {
         machine: &Machine,
         cores: &mut [BoundCore],
         workers: u16,
+        list: Vec<Entry>,
     ) -> Result<Self, NoMemory>
         requires machine { IsMachine machine.now }
         requires count { length cores.old ≡ machine.now.cores }
@@ -169,7 +249,7 @@ impl Memory {
             crews: crews(alloc, workers.min(machine.cores), machine.cores)?,
             back: Vec::with_capacity(alloc, usize::from(machine.cores))?,
             seats_back: Vec::with_capacity(alloc, usize::from(machine.cores))?,
-            merger: Merger::with_room(alloc, u32::from(machine.cores) * room)?,
+            merger: Merger::over(list, u32::from(machine.cores) * room)?,
         })
     }
 }

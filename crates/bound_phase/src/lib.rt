@@ -12,4 +12,4 @@ mod seat_port;
 #[cfg(test)]
 mod tests;
 
-pub use interval::{Bounded, bound};
+pub use interval::{Bounded, PhaseMemory, bound, bound_in};
