@@ -7,6 +7,7 @@ ghost use Rattle.replay.specs.Results.{HasCounts};
 use crate::Final;
 use crate::simulation::Simulation;
 use access_log::Schedule;
+use bound_phase::PhaseMemory;
 use component::laws::fresh_components_are_there;
 use elf_load::Image;
 use event_graph::Plain;
@@ -54,7 +55,7 @@ pub fn run<R: Threads + Wait + Sync, G: Gate>(
     let program = DecodedProgram::of(alloc, image)?;
     let mut simulation = Simulation::new(alloc, machine, image)?;
     let workers = workers.clamp(1, 64);
-    let mut list = Vec::new(alloc);
+    let mut memory = PhaseMemory::new(alloc);
     let mut is_worth = true;
     let mut k = 0;
     let mut end = 0;
@@ -73,11 +74,11 @@ pub fn run<R: Threads + Wait + Sync, G: Gate>(
             gate,
             &places,
             &mut is_worth,
-            list,
+            &mut memory,
         )?;
         simulation = next;
         schedule.add(alloc, &entries)?;
-        list = entries.into_list();
+        memory.put_list(entries.into_list());
     }
     Ok(simulation.results(k))
 }

@@ -28,7 +28,7 @@ use crate::turns::take_turns;
 use crate::weaving::{events_of, woven_of};
 use crate::{Final, ReplayFail};
 use bound_core::BoundCore;
-use bound_phase::bound;
+use bound_phase::{PhaseMemory, bound_in};
 use component::{Comp, Comps, components};
 use elf_load::Image;
 use event_graph::{FiredList, Graph, Plain};
@@ -116,7 +116,7 @@ impl Simulation {
         gate: &G,
         places: &[u16],
         is_worth: &mut bool,
-        list: Vec<Entry>,
+        memory: &mut PhaseMemory,
     ) -> Result<(Self, Entries), NoMemory>
         requires machine { IsMachine machine.now }
         requires plain { IsPlainOf machine.now plain.now }
@@ -130,7 +130,7 @@ impl Simulation {
     {
         let runners = workers.min(machine.cores);
         let (mut simulation, entries) = self.bound(
-            rt, alloc, machine, program, plain, end, runners, gate, list,
+            rt, alloc, machine, program, plain, end, runners, gate, memory,
         )?;
         let weavers = workers.min(machine.domains.count);
         let graph = events_of(alloc, machine, plain, &entries, &simulation.comps)?;
@@ -184,7 +184,7 @@ impl Simulation {
         end: Cycle,
         workers: u16,
         gate: &G,
-        list: Vec<Entry>,
+        memory: &mut PhaseMemory,
     ) -> Result<(Self, Entries), NoMemory>
         requires machine { IsMachine machine.now }
         requires plain { IsPlainOf machine.now plain.now }
@@ -196,9 +196,12 @@ impl Simulation {
         ensures counters { IfOk result (λ r. r.0.counters ≡ self.counters) }
     {
         if workers == 1 {
+            let list = memory.take_list(alloc);
             return self.bound_alone(alloc, machine, program, plain, end, gate, list);
         }
-        self.bound_by(rt, alloc, machine, program, plain, end, workers, gate)
+        self.bound_by(
+            rt, alloc, machine, program, plain, end, workers, gate, memory,
+        )
     }
 
     // The bound phase of an interval, the cores one after the other. Before each access it passes the
@@ -257,6 +260,7 @@ impl Simulation {
         end: Cycle,
         workers: u16,
         gate: &G,
+        memory: &mut PhaseMemory,
     ) -> Result<(Self, Entries), NoMemory>
         requires machine { IsMachine machine.now }
         requires plain { IsPlainOf machine.now plain.now }
@@ -278,8 +282,8 @@ impl Simulation {
         // Of another type than that of one worker, whose loop is another.
         let program = OwnProgram { program };
         let program = OwnProgram { program: &program };
-        match bound(
-            rt, alloc, machine, &program, plain, cores, shards, end, workers, gate,
+        match bound_in(
+            rt, alloc, memory, machine, &program, plain, cores, shards, end, workers, gate,
         ) {
             Ok(bounded) => {
                 let port = LoggedPort::over(alloc, bounded.shards, machine.cores)?;

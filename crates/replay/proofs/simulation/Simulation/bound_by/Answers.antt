@@ -8,8 +8,8 @@ use Rattle.replay.proofs.ByWorkers.{bounded, can_bound, left_shards}
 use Rattle.replay.proofs.PortTurns.{same_times}
 use Rattle.replay.proofs.simulation.Simulation.bound_by.Goals as goal
 
-pub bound-requires-clause-can : goal.bound-requires-clause-can
-bound-requires-clause-can g c κs within =
+pub bound_in-requires-clause-can : goal.bound_in-requires-clause-can
+bound_in-requires-clause-can g c κs within =
     let p = c.args.self in
     subst (CanBound c.args.machine.now c.args.end p.cores.items) (sym c.into_shards-shards.ensures) (can_bound c.args.machine.now c.args.end p c.requires.room)
 
