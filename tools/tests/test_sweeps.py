@@ -7,11 +7,13 @@ import signal
 import subprocess
 import sys
 import time
+from pathlib import Path
 
 import pytest
 from conftest import environment
 
 import zsim_tools
+from zsim_tools.sweeps import Watcher
 
 
 def text_of(path):
@@ -27,6 +29,16 @@ def wait_for(condition, seconds=60):
 
 def table_of(folder):
     return zsim_tools.read_table(folder / "table.csv")
+
+
+def runs_of(process):
+    """Returns the processes that were given files of this one."""
+    given = f"/proc/{process.pid}/fd/".encode()
+    found = []
+    for path in Path("/proc").glob("[0-9]*/cmdline"):
+        with contextlib.suppress(OSError):
+            found += [path] if given in path.read_bytes() else []
+    return found
 
 
 def test_a_sweep_has_a_row_for_each_run(command, twelve):
@@ -78,8 +90,11 @@ def test_a_sweep_that_was_stopped_goes_on(command, fake_zsim, twelve, by):
     with subprocess.Popen(words, cwd=twelve, env=variables, stderr=subprocess.PIPE, text=True) as process:
         # Five runs are done and kept, and the sixth has begun.
         wait_for(lambda: text_of(log).count("\n") == 6 and text_of(twelve / "table.csv.runs").count("\n") == 6)
+        assert len(runs_of(process)) == 1
         process.send_signal(by)
         _, said = process.communicate(timeout=60)
+        # Whoever can still do so ends the run that goes on.
+        assert by == signal.SIGKILL or not runs_of(process)
     hold.unlink()
     if by == signal.SIGKILL:
         assert process.returncode == -signal.SIGKILL and not (twelve / "table.csv").exists()
@@ -91,6 +106,39 @@ def test_a_sweep_that_was_stopped_goes_on(command, fake_zsim, twelve, by):
     assert (ended.returncode, ended.stderr) == (0, "zsim-tools: table.csv: 7 runs, 5 were done before\n")
     # (the sixth was begun twice)
     assert text_of(log).count("\n") == 13 and list(table_of(twelve)["status"]) == [0] * 12
+
+
+def test_runs_do_not_run_ahead_of_what_is_kept(twelve, fake_zsim, monkeypatch):
+    """A kill loses what ended and is not kept yet. So that may only be few."""
+    text = text_of(twelve / "sweep.toml")
+    (twelve / "sweep.toml").write_text(text.replace("[1, 2, 4]", str(list(range(1, 17)))).replace(', "long.elf"', ""))
+    log, jobs, ahead = twelve / "log", 2, []
+    monkeypatch.setenv("FAKE_LOG", str(log))
+
+    class Slow(Watcher):
+        def ended(self, ended):
+            time.sleep(0.1)
+            kept = text_of(twelve / "table.csv.runs").count("\n") - 1
+            ahead.append(text_of(log).count("\n") - kept)
+
+    zsim_tools.sweep(twelve / "sweep.toml", twelve / "table.csv", zsim=fake_zsim, jobs=jobs, watcher=Slow())
+    assert len(ahead) == 32 and max(ahead) <= 2 * jobs
+
+
+def test_a_standard_input_that_is_closed(twelve, fake_zsim):
+    words = ["sh", "-c", 'exec "$@" <&-', "sh", sys.executable, "-m", "zsim_tools"]
+    words += ["sweep", "sweep.toml", "--out", "table.csv"]
+    ended = subprocess.run(words, cwd=twelve, env=environment(fake_zsim), check=False)
+    assert ended.returncode == 0 and list(table_of(twelve)["status"]) == [0] * 12
+
+
+def test_an_output_that_is_long(twelve, fake_zsim):
+    """More than a pipe holds, which nobody reads while the run goes on."""
+    program = twelve / "zsim"
+    program.write_text("#!/bin/sh\nhead -c 1000000 /dev/zero | tr '\\0' x | tee /dev/stderr\n")
+    program.chmod(0o755)
+    table = zsim_tools.sweep(twelve / "sweep.toml", twelve / "table.csv", zsim=program, jobs=2)
+    assert set(table["line"]) == {"x" * 1000000}
 
 
 def test_a_terminal_gets_a_bar_and_the_failures_as_they_come(fake_zsim, twelve):

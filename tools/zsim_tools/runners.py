@@ -4,80 +4,91 @@ A runner is a context. `start` has runs begun, and `outcomes` gives each with it
 context ends what still runs.
 """
 
-import logging
 import os
-import shutil
-import tempfile
-import threading
-from concurrent.futures import ThreadPoolExecutor, as_completed
-from pathlib import Path
+import selectors
+import signal
+from collections import deque
+from contextlib import contextmanager
 
 from .errors import ToolError, one_line, told
-from .task import run_machine, run_on_worker
-
-PACKAGE = Path(__file__).resolve().parent
+from .task import Started, in_memory, name_of, run_on_worker
 
 
 class Here:
-    """Runs on this machine, at most `jobs` at a time."""
+    """Runs on this machine, at most `jobs` at a time.
+
+    All of it is done in one thread, since threads that hand runs over cost more than the work of a short run.
+    """
 
     def __init__(self, program, jobs):
         self.program = program
         self.jobs = jobs
-        self.pool = ThreadPoolExecutor(jobs)
-        self.futures = {}
-        self.processes = set()
-        self.stopping = False
-        self.lock = threading.Lock()
+        self.runs = {}
+        self.executables = {}
+        self.ends = selectors.DefaultSelector()
 
     def __enter__(self):
-        self.folder = tempfile.TemporaryDirectory(prefix="zsim-tools-")
         self.signature = signature(self.program)
+        # (as it is handed over: it would be encoded anew for each run)
+        self.environment = dict(os.environb)
         return self
 
     def __exit__(self, *_):
-        with self.lock:
-            self.stopping = True
-            for process in self.processes:
-                process.kill()
-        self.pool.shutdown(cancel_futures=True)
-        self.folder.cleanup()
+        self.ends.close()
+        for closable in (*self.runs, *self.executables.values()):
+            closable.close()
 
     def start(self, runs):
-        files = {}
-        for run in runs:
-            # A copy, so that what runs is what the hash was taken of.
-            name = run.executable.name
-            if run.executable.data is not None and name not in files:
-                files[name] = Path(self.folder.name) / f"{len(files)}.elf"
-                with told(f"cannot write: {files[name]}"):
-                    files[name].write_bytes(run.executable.data)
-            self.futures[self.pool.submit(self._run, run, str(files.get(name, name)))] = run
+        self.waiting = iter(runs)
+        for _ in range(self.jobs):
+            self._begin_next()
 
     def outcomes(self):
-        for future in as_completed(self.futures):
-            yield self.futures[future], future.result()
+        ended = deque()
+        while self.runs or ended:
+            # The next run is begun before anything is made of an outcome; but outcomes do not pile up either.
+            if self.runs and len(ended) < self.jobs:
+                for key, _ in self.ends.select(0 if ended else None):
+                    self.ends.unregister(key.fileobj)
+                    self._begin_next()
+                    ended.append((self.runs[key.fileobj], key.fileobj.outcome()))
+                    del self.runs[key.fileobj]
+            if ended:
+                self._check_program()
+                yield ended.popleft()
 
-    def _run(self, run, executable):
-        process = None
+    def _begin_next(self):
+        run = next(self.waiting, None)
+        if run is None:
+            return
+        with told(f"cannot run: {self.program}"), undisturbed():
+            machine = in_memory(run.machine.text.encode("utf-8"))
+            words = [self.program, "run", name_of(machine), self._name_of_executable(run.executable)]
+            started = Started(words, [machine], self.environment)
+            self.runs[started] = run
+            self.ends.register(started, selectors.EVENT_READ)
 
-        def started(new):
-            nonlocal process
-            process = new
-            with self.lock:
-                self.processes.add(new)
-                if self.stopping:
-                    new.kill()
+    def _check_program(self):
+        if signature(self.program) != self.signature:
+            raise ToolError(f"cannot run: {self.program}: it was changed during the sweep; start the sweep again")
 
-        try:
-            with told(f"cannot run: {self.program}"):
-                outcome = run_machine(self.program, run.machine.text, executable, started)
-            if signature(self.program) != self.signature:
-                raise ToolError(f"cannot run: {self.program}: it was changed during the sweep; start the sweep again")
-            return outcome
-        finally:
-            with self.lock:
-                self.processes.discard(process)
+    def _name_of_executable(self, executable):
+        if executable.data is None:
+            return executable.name
+        # A copy, so that what runs is what the hash was taken of.
+        if executable.name not in self.executables:
+            self.executables[executable.name] = in_memory(executable.data)
+        return name_of(self.executables[executable.name])
+
+
+@contextmanager
+def undisturbed():
+    """Has interruptions wait until this is done. So a run that was started is one that will be ended."""
+    before = signal.pthread_sigmask(signal.SIG_BLOCK, (signal.SIGINT, signal.SIGTERM))
+    try:
+        yield
+    finally:
+        signal.pthread_sigmask(signal.SIG_SETMASK, before)
 
 
 def signature(program):
@@ -96,6 +107,8 @@ class Cluster:
         self.futures = {}
 
     def __enter__(self):
+        import logging
+
         try:
             import distributed
         except ImportError:
@@ -112,9 +125,9 @@ class Cluster:
         self.client.close()
 
     def start(self, runs):
-        with tempfile.TemporaryDirectory() as folder:
-            self.client.upload_file(shutil.make_archive(f"{folder}/zsim_tools", "zip", PACKAGE.parent, PACKAGE.name))
-        program = self.client.scatter(Path(self.program).read_bytes(), broadcast=True, hash=False)
+        self._send_package()
+        with told(f"cannot read: {self.program}"), open(self.program, "rb") as file:
+            program = self.client.scatter(file.read(), broadcast=True, hash=False)
         sent = {}
         for run in runs:
             executable = run.executable
@@ -123,6 +136,14 @@ class Cluster:
                 sent[executable.name] = executable.name if data is None else self.client.scatter(data, hash=False)
             words = (run.machine.text, sent[executable.name], program)
             self.futures[self.client.submit(run_on_worker, *words, pure=False)] = run
+
+    def _send_package(self):
+        import shutil
+        import tempfile
+
+        above, name = os.path.split(os.path.dirname(os.path.abspath(__file__)))
+        with tempfile.TemporaryDirectory() as folder:
+            self.client.upload_file(shutil.make_archive(f"{folder}/zsim_tools", "zip", above, name))
 
     def outcomes(self):
         for future in self.library.as_completed(list(self.futures), loop=self.client.loop):

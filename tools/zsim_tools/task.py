@@ -1,15 +1,14 @@
 """One run of zsim, on this machine or on a worker of a cluster. Needs nothing beyond Python."""
 
-import hashlib
 import os
-import subprocess
-import tempfile
-from dataclasses import dataclass
-from pathlib import Path
+import signal
+from typing import NamedTuple
+
+# The signals that Python ignores, and that a program it starts has to meet as any other does.
+NOT_IGNORED = (signal.SIGPIPE, signal.SIGXFSZ)
 
 
-@dataclass(frozen=True)
-class Outcome:
+class Outcome(NamedTuple):
     """How a run ended: its status, its line on standard error, and its standard output.
 
     A status below 0 is that of a signal, as Python has it.
@@ -20,27 +19,97 @@ class Outcome:
     output: str
 
 
-def run_words(words, started=lambda process: None):
-    """Runs a command to its end. `started` is told of the process. OSError where it cannot be started."""
-    # A group of its own: a Ctrl-C at the terminal is for the one who started the runs, and who then ends them.
-    process = subprocess.Popen(
-        words, stdin=subprocess.DEVNULL, stdout=subprocess.PIPE, stderr=subprocess.PIPE, process_group=0
-    )
-    started(process)
-    output, said = process.communicate()
-    lines = said.decode("utf-8", "replace").split("\n")
-    line = " ".join(line.strip() for line in lines if line.strip())
-    if process.returncode < 0:
-        line = line or f"ended by signal {-process.returncode}"
-    return Outcome(process.returncode, line, output.decode("latin-1"))
+def in_memory(data=b""):
+    """Returns an open file with these bytes, which is in memory alone and gone when it is closed."""
+    file = open(os.memfd_create("zsim-tools"), "w+b", buffering=0)
+    file.write(data)
+    return file
 
 
-def run_machine(program, machine_text, executable, started=lambda process: None):
+def name_of(file):
+    """Returns a name under which a program that is started here finds an open file."""
+    return f"/proc/{os.getpid()}/fd/{file.fileno()}"
+
+
+class Started:
+    """A run that was started: its process, and what it prints, in files in memory. So nobody has to read along.
+
+    It is a context; leaving it ends the run. A selector can wait for it, beside others: it is readable at its end.
+    """
+
+    def __init__(self, words, inputs=(), environment=os.environ):
+        """Starts a command. `inputs` are open files that it reads. OSError where it cannot be started."""
+        self.files = [*inputs, in_memory(), in_memory()]
+        self.process = self.pidfd = None
+        output, said = (file.fileno() for file in self.files[-2:])
+        streams = [
+            (os.POSIX_SPAWN_DUP2, output, 1),
+            (os.POSIX_SPAWN_DUP2, said, 2),
+            (os.POSIX_SPAWN_OPEN, 0, os.devnull, os.O_RDONLY, 0),
+        ]
+        try:
+            # A group of its own: a Ctrl-C at the terminal is for the one who started the runs, and who then ends them.
+            self.process = os.posix_spawn(
+                words[0], words, environment, file_actions=streams, setpgroup=0, setsigmask=(), setsigdef=NOT_IGNORED
+            )
+            self.pidfd = os.pidfd_open(self.process)
+        except OSError:
+            self.close()
+            raise
+
+    def __enter__(self):
+        return self
+
+    def __exit__(self, *_):
+        self.close()
+
+    def fileno(self):
+        """Returns the number for selectors."""
+        return self.pidfd
+
+    def outcome(self):
+        """Waits for the end of the run, and returns its outcome."""
+        status = self._wait()
+        output, said = map(content_of, self.files[-2:])
+        self.close()
+        lines = said.decode("utf-8", "replace").split("\n")
+        line = " ".join(line.strip() for line in lines if line.strip())
+        if status < 0:
+            line = line or f"ended by signal {-status}"
+        return Outcome(status, line, output.decode("latin-1"))
+
+    def close(self):
+        """Ends the run, if it is still there, and closes its files."""
+        if self.process is not None:
+            os.kill(self.process, signal.SIGKILL)
+            self._wait()
+        if self.pidfd is not None:
+            os.close(self.pidfd)
+            self.pidfd = None
+        for file in self.files:
+            file.close()
+
+    def _wait(self):
+        _, ended = os.waitpid(self.process, 0)
+        self.process = None
+        return os.waitstatus_to_exitcode(ended)
+
+
+def content_of(file):
+    file.seek(0)
+    return file.read()
+
+
+def run_words(words, inputs=()):
+    """Runs a command to its end, and returns its outcome. OSError where it cannot be started."""
+    with Started(words, inputs) as started:
+        return started.outcome()
+
+
+def run_machine(program, machine_text, executable):
     """Runs an executable on the machine of a text."""
-    with tempfile.NamedTemporaryFile(prefix="zsim-", suffix=".toml") as file:
-        file.write(machine_text.encode("utf-8"))
-        file.flush()
-        return run_words([program, "run", file.name, executable], started)
+    machine = in_memory(machine_text.encode("utf-8"))
+    return run_words([program, "run", name_of(machine), executable], [machine])
 
 
 def run_on_worker(machine_text, executable, program):
@@ -56,6 +125,12 @@ def run_on_worker(machine_text, executable, program):
 
 def kept_file(data):
     """Returns a file of this user's with these bytes, that can be executed; writes it where it is not there yet."""
+    # (loaded here, since a sweep on this machine needs none of them)
+    import hashlib
+    import subprocess
+    import tempfile
+    from pathlib import Path
+
     folder = Path(tempfile.gettempdir()) / f"zsim-tools-{os.getuid()}"
     folder.mkdir(mode=0o700, exist_ok=True)
     if folder.stat().st_uid != os.getuid():
