@@ -1,6 +1,7 @@
 """Says on standard error how a sweep gets on: a bar and the time that is left, and failures as they come."""
 
 import sys
+import threading
 
 from .sweeps import Watcher
 
@@ -11,6 +12,7 @@ class Progress(Watcher):
     def __init__(self, out):
         self.out = out
         self.bar = None
+        self.loading = None
         self.begun = False
         self.failures = 0
         self.done = 0
@@ -21,8 +23,14 @@ class Progress(Watcher):
         self.before = len(before)
         self.failures = sum(ended.failure is not None for ended in before)
         if sys.stderr.isatty():
-            self.bar = started_bar()
-            self.task = self.bar.add_task("sweep", total=runs)
+            # (in a thread, since the bar's library takes longer to load than many a run)
+            self.loading = threading.Thread(target=self._show_bar)
+            self.loading.start()
+
+    def _show_bar(self):
+        bar = started_bar()
+        self.task = bar.add_task("sweep", total=self.runs, completed=self.done)
+        self.bar = bar
 
     def ended(self, ended):
         self.done += 1
@@ -30,12 +38,14 @@ class Progress(Watcher):
             self.failures += 1
             self.say(f"{ended.run.label}: {ended.failure}")
         if self.bar:
-            self.bar.advance(self.task)
+            self.bar.update(self.task, completed=self.done)
 
     def end(self):
         if not self.begun:
             return
-        if self.bar:
+        if self.loading:
+            self.loading.join()
+            self.bar.update(self.task, completed=self.done)
             self.bar.stop()
         noun = "run" if self.done == 1 else "runs"
         before = f", {self.before} were done before" if self.before else ""
