@@ -7,6 +7,7 @@ import os
 import re
 import subprocess
 import sys
+from pathlib import Path
 
 import pytest
 from conftest import WORKED, environment
@@ -14,6 +15,7 @@ from conftest import WORKED, environment
 import zsim_tools
 
 COMMANDS = ("show", "diff", "sweep", "plot")
+DEBIAN = "/usr/lib/python3/dist-packages"
 
 
 def test_help(command):
@@ -209,8 +211,45 @@ def test_missing_packages_are_named(repository):
     assert f"{sys.executable} has no no_such_package nor_this" in ended.stderr
 
 
+def python_that_tells(folder, name, says):
+    """Writes a program that stands in for a Python: it notes that it was started, and says what was asked."""
+    program = folder / name
+    program.write_text(f'#!/bin/sh\necho started >>{folder}/started\n{says}\n')
+    program.chmod(0o755)
+
+
+@pytest.mark.skipif(not Path(DEBIAN, "rich").is_dir(), reason="there are no packages of Debian's")
+def test_no_python_is_started_to_look_for_the_packages_of_debian(repository, tmp_path):
+    python_that_tells(tmp_path, "python3", "echo")
+    unset = {name: "" for name in ("ZSIM_PYTHON", "VIRTUAL_ENV", "CONDA_PREFIX")}
+    variables = {**os.environ, **unset, "PATH": f"{tmp_path}:{os.environ['PATH']}"}
+
+    def found(*names, **others):
+        words = [repository / "tools/find-python", *names]
+        ended = subprocess.run(words, env=variables | others, capture_output=True, text=True, check=True)
+        return ended.stdout
+
+    assert found("rich", "tomlkit") == "/usr/bin/python3\n" and not (tmp_path / "started").exists()
+    # A package that is not there is asked for, and so is who is in an environment of Python's, or names one.
+    assert found("rich", "no_such_package") == "python3\n"
+    assert found("rich", VIRTUAL_ENV=str(tmp_path)) == "python3\n"
+    assert found("rich", ZSIM_PYTHON=f"{tmp_path}/python3") == f"{tmp_path}/python3\n"
+    assert (tmp_path / "started").read_text() == "started\n" * 3
+
+
+def loaded_by(code):
+    """Returns the modules that are there after a piece of Python."""
+    words = [sys.executable, "-c", f"import sys\n{code}\nprint(*sys.modules)"]
+    ended = subprocess.run(words, env=environment("zsim"), stdout=subprocess.PIPE, text=True, check=True)
+    return set(ended.stdout.split())
+
+
 def test_the_library_loads_little_at_first():
-    code = (
-        "import sys, zsim_tools; zsim_tools.run; assert not {'pandas', 'matplotlib', 'distributed'} & set(sys.modules)"
-    )
-    assert subprocess.run([sys.executable, "-c", code], env=environment("zsim"), check=False).returncode == 0
+    assert not {"pandas", "matplotlib", "distributed"} & loaded_by("import zsim_tools; zsim_tools.run")
+
+
+def test_a_sweep_loads_little_before_its_first_run():
+    """Nothing of what is large, nor of what only shows, reads reports or runs elsewhere."""
+    loaded = loaded_by("from zsim_tools import command, progress, sweeps") - loaded_by("")
+    late = {"pandas", "matplotlib", "rich", "distributed", "dataclasses", "pathlib", "subprocess", "zsim_tools.report"}
+    assert "zsim_tools.runners" in loaded and not late & loaded

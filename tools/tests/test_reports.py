@@ -6,8 +6,8 @@ import pytest
 from conftest import WORKED
 
 import zsim_tools
+from zsim_tools.outcomes import judge, row_of
 from zsim_tools.report import parse_report
-from zsim_tools.sweeps import judge, row_of
 from zsim_tools.sweep_file import Executable, Planned
 from zsim_tools.task import Outcome
 

@@ -3,7 +3,7 @@
 A quotient with a divisor of 0 is no number (NaN).
 """
 
-from math import nan
+from math import isnan, nan
 
 CORE_SUMS = ("instructions", "delay", "loads", "stores", "atomics", "hits", "upgrades", "l2hits", "misses")
 
@@ -48,42 +48,41 @@ def controller_occupancy(machine):
 
 def totals(report):
     """Returns the sums over the cores, the banks and the controllers, by name."""
-    sums = {name: sum(core.counters[name] for core in report.core_list) for name in CORE_SUMS}
+    cores = [core.counters for core in report.core_list]
+    sums = {name: sum([core[name] for core in cores]) for name in CORE_SUMS}
     for kind, components in (("bank", report.bank_list), ("controller", report.controller_list)):
         for name in ("events", "waited"):
-            sums[f"{kind}_{name}"] = sum(component.counters[name] for component in components)
+            sums[f"{kind}_{name}"] = sum([component.counters[name] for component in components])
     return sums
 
 
 def spread(values):
     """Returns the difference between the greatest and the least, as a share of the mean."""
     values = list(values)
-    if any(value != value for value in values):
+    if any(map(isnan, values)):
         return nan
     mean = sum(values) / len(values)
     return (max(values) - min(values)) / mean if mean else 0.0
 
 
-def of_run(report):
-    """Returns the derived numbers of a whole run: of the sums over its cores, the spreads, the means and maxima."""
+def of_run(report, sums):
+    """Returns the derived numbers of a whole run: of its `totals`, the spreads, the means and maxima."""
     if report.brief:
         one = report.summary["cores"] == 1
         return {"cpi": quotient(report.summary["cycles"], report.summary["instructions"])} if one else {}
     cores = [core.counters for core in report.core_list]
-    numbers = of_core({**totals(report), "cycles": sum(core["cycles"] for core in cores)})
+    numbers = of_core({**sums, "cycles": sum(core["cycles"] for core in cores)})
     numbers["instructions_spread"] = spread(core["instructions"] for core in cores)
     numbers["cycles_spread"] = spread(core["cycles"] for core in cores)
     numbers["cpi_spread"] = spread(of_core(core)["cpi"] for core in cores)
-    numbers |= of_kind(report, "bank", report.bank_list, bank_occupancy(report.machine))
-    numbers |= of_kind(report, "controller", report.controller_list, controller_occupancy(report.machine))
+    numbers |= of_kind(report, "bank", report.bank_list, bank_occupancy(report.machine), sums)
+    numbers |= of_kind(report, "controller", report.controller_list, controller_occupancy(report.machine), sums)
     return numbers
 
 
-def of_kind(report, kind, components, occupancy):
+def of_kind(report, kind, components, occupancy, sums):
     """Returns the derived numbers of all banks, or of all controllers."""
-    events = sum(component.counters["events"] for component in components)
-    waited = sum(component.counters["waited"] for component in components)
-    numbers = {f"{kind}_wait": quotient(waited, events)}
+    numbers = {f"{kind}_wait": quotient(sums[f"{kind}_waited"], sums[f"{kind}_events"])}
     if occupancy is not None:
         cycles = report.summary["cycles"]
         busy = [of_component(component.counters, cycles, occupancy)["busy"] for component in components]

@@ -1,7 +1,7 @@
 """What goes wrong and can be mended by the user: one line each, that names the file, the line or the key."""
 
+import os
 from contextlib import contextmanager
-from pathlib import Path
 
 
 class ToolError(Exception):
@@ -36,7 +36,12 @@ def told(what):
         raise ToolError(f"{what}: {reason(error)}") from None
 
 
+def ending_of(path):
+    """Returns the ending of a file's name, as `.csv`; nothing where it has none."""
+    return os.path.splitext(path)[1]
+
+
 def check_ending_of(path, endings, what):
     """Raises ToolError where the name of a file has none of these endings."""
-    if Path(path).suffix not in endings:
+    if ending_of(path) not in endings:
         raise ToolError(f"cannot write: {path}: the name of a {what} ends with {' or '.join(endings)}")

@@ -4,29 +4,23 @@ What a description means and which values are in range, zsim says when it runs i
 `l1.ways`, and it has to stand in the description. All else of the text stays, the comments too.
 """
 
-from dataclasses import dataclass
-from functools import cached_property
-from pathlib import Path
+import os
+import re
+import tomllib
+from functools import lru_cache
+from typing import NamedTuple
 
-import tomlkit
-from tomlkit.exceptions import ParseError, TOMLKitError
+from .errors import ToolError, one_line, told
 
-from .errors import ToolError, one_line, reason
-
-PLAIN = Path(__file__).with_name("plain.toml")
+PLAIN = os.path.join(os.path.dirname(os.path.abspath(__file__)), "plain.toml")
 
 
-@dataclass(frozen=True)
-class Machine:
+class Machine(NamedTuple):
     """A machine description: where it comes from, its text, and the value of each key."""
 
     name: str
     text: str
     values: dict
-
-    @cached_property
-    def _document(self):
-        return tomlkit.parse(self.text)
 
     def number(self, key):
         """Returns the integer of a key, or None where there is none."""
@@ -52,22 +46,33 @@ class Machine:
 
     def template(self, keys):
         """Returns a function from values of these keys to the machine with them. It is quick, and checks nothing."""
+        from tomlkit import item  # (what only reads a machine need not load it)
+
+        document = document_of(self.text)
         # Each value is replaced by a number that is nowhere else in the text, at which the text is then cut.
         numbers = (str(number) for number in range(10**17, 2 * 10**17) if str(number) not in self.text)
         marks = dict(zip(keys, numbers))
-        before = {key: set_item(self._document, key, int(mark)) for key, mark in marks.items()}
-        rest = self._document.as_string()
-        for key, item in before.items():
-            set_item(self._document, key, item)
+        before = {key: set_item(document, key, int(mark)) for key, mark in marks.items()}
+        rest = document.as_string()
+        for key, value in before.items():
+            set_item(document, key, value)
         pieces = {}
         for key in sorted(marks, key=lambda key: rest.index(marks[key])):
             pieces[key], _, rest = rest.partition(marks[key])
 
         def filled(values):
-            parts = [piece + tomlkit.item(values[key]).as_string() for key, piece in pieces.items()]
+            parts = [piece + item(values[key]).as_string() for key, piece in pieces.items()]
             return Machine(self.name, "".join(parts) + rest, {**self.values, **values})
 
         return filled
+
+
+@lru_cache(maxsize=8)
+def document_of(text):
+    """Returns the document of a machine's text, in which values can be changed while all else stays."""
+    import tomlkit
+
+    return tomlkit.parse(text)
 
 
 def set_item(document, key, value):
@@ -114,27 +119,36 @@ def flat(table, before=""):
 
 def parse_machine(text, name):
     """Returns the Machine of a text. ToolError names the line where the text is no TOML."""
+    return Machine(name, text, flat(parse_toml(text, name)))
+
+
+def parse_toml(text, name):
+    """Returns the content of a text. ToolError names the line where it is no TOML."""
     try:
-        return Machine(name, text, flat(tomlkit.parse(text).unwrap()))
-    except ParseError as error:
-        raise ToolError(f"{name}: line {error.line}: no TOML: {one_line(error)}") from None
-    except TOMLKitError as error:
-        raise ToolError(f"{name}: no TOML: {one_line(error)}") from None
+        return tomllib.loads(text)
+    except tomllib.TOMLDecodeError as error:
+        line = re.search("at line ([0-9]+)", str(error))
+        number = line[1] if line else len(text.splitlines())
+        raise ToolError(f"{name}: line {number}: no TOML: {one_line(error)}") from None
 
 
 def read_machine(path):
     """Reads a machine description. `plain` is the one that is built into zsim."""
     if str(path) == "plain":
-        return parse_machine(PLAIN.read_text(encoding="utf-8"), "plain")
+        return parse_machine(read_text(PLAIN), "plain")
     return parse_machine(read_text(path), str(path))
+
+
+def read_bytes(path):
+    """Reads a file, or raises ToolError."""
+    with told(f"cannot read: {path}"), open(path, "rb") as file:
+        return file.read()
 
 
 def read_text(path):
     """Reads a file in UTF-8, or raises ToolError."""
     try:
-        return Path(path).read_bytes().decode("utf-8")
-    except OSError as error:
-        raise ToolError(f"cannot read: {path}: {reason(error)}") from None
+        return read_bytes(path).decode("utf-8")
     except UnicodeDecodeError as error:
         line = error.object[: error.start].count(b"\n") + 1
         raise ToolError(f"{path}: line {line}: no UTF-8") from None

@@ -2,19 +2,16 @@
 
 import os
 import shutil
-import subprocess
 from functools import cache
-from pathlib import Path
 
 from .errors import RunError, ToolError, told
 from .machine import Machine, read_machine
-from .report import parse_report
 from .task import run_machine, run_words
 
 # The statuses with a report: every core halted, or a limit was reached.
 RAN, LIMIT = 0, 3
 
-REPOSITORY = Path(__file__).resolve().parents[2]
+REPOSITORY = os.path.dirname(os.path.dirname(os.path.dirname(os.path.realpath(__file__))))
 
 
 def find_zsim(given=None):
@@ -29,7 +26,7 @@ def find_zsim(given=None):
         if not found:
             raise ToolError(f"cannot run: {named}: {why_not(named)}")
         return os.path.abspath(found)
-    if (REPOSITORY / "zsim").is_file() and (REPOSITORY / "crates/zsim_main").is_dir():
+    if os.path.isfile(f"{REPOSITORY}/zsim") and os.path.isdir(f"{REPOSITORY}/crates/zsim_main"):
         return built_here()
     found = shutil.which("zsim")
     if not found:
@@ -38,19 +35,20 @@ def find_zsim(given=None):
 
 
 def why_not(name):
-    path = Path(name)
-    return "No such file or directory" if not path.exists() else "it is no program that can be executed"
+    return "it is no program that can be executed" if os.path.exists(name) else "No such file or directory"
 
 
 @cache
 def built_here():
     """Returns the program of this checkout. The script beside it builds it where it has to, and says so."""
-    script, program = REPOSITORY / "zsim", REPOSITORY / "crates/zsim_main/out/zsim_main"
-    words = [script, "run", "plain", REPOSITORY / "examples/seven.elf"]
+    import subprocess
+
+    script, program = f"{REPOSITORY}/zsim", f"{REPOSITORY}/crates/zsim_main/out/zsim_main"
+    words = [script, "run", "plain", f"{REPOSITORY}/examples/seven.elf"]
     built = subprocess.run(words, stdin=subprocess.DEVNULL, stdout=subprocess.DEVNULL, check=False)
-    if built.returncode != RAN or not program.is_file():
+    if built.returncode != RAN or not os.path.isfile(program):
         raise ToolError(f"cannot run: {script}: it could not be built (see above); name another with --zsim")
-    return str(program)
+    return program
 
 
 def run(machine, exe, zsim=None):
@@ -60,6 +58,8 @@ def run(machine, exe, zsim=None):
     program, where it is not to be looked for. RunError, with the status and the line of standard error, says that there
     is no report. A run that reached a limit has one, with the status 3.
     """
+    from .report import parse_report  # (a sweep loads it when its first runs have begun)
+
     program = find_zsim(zsim)
     with told(f"cannot run: {program}"):
         if isinstance(machine, Machine):

@@ -6,11 +6,11 @@ the data frames are made where someone asks for them.
 
 import re
 import sys
-from dataclasses import dataclass
-from pathlib import Path
+from typing import NamedTuple
 
 from . import derived
 from .errors import ToolError, told
+from .machine import read_bytes
 
 VERSION = "1"
 
@@ -31,9 +31,11 @@ COMPONENT_COUNTERS = ("events", "waited", "free")
 SUMMARY = ("cores", "intervals", "instructions", "cycles", "accesses", "events")
 
 NUMBER = "(0|[1-9][0-9]*)"
+FIRST_LINE = re.compile(f"zsim report {VERSION}")
 HALT = "(exit [0-9]+|illegal [0-9a-f]{8}|(?:misaligned|atomic|fetch|access) [0-9a-f]{16}|break|running)"
 CORE_LINE = re.compile(" ".join([f"core {NUMBER}", *(f"{name} {NUMBER}" for name in CORE_COUNTERS), f"halt {HALT}"]))
 CONSOLE_LINE = re.compile(rf'core {NUMBER} console {NUMBER} "((?:[ !#-\[\]-~]|\\x[0-9a-f]{{2}})*)"')
+SUMMARY_LINES = {word: re.compile(f"{word} {NUMBER}") for word in SUMMARY}
 COMPONENT_LINE = re.compile(
     " ".join([f"(bank|controller) {NUMBER}", *(f"{name} {NUMBER}" for name in COMPONENT_COUNTERS)])
 )
@@ -45,8 +47,7 @@ LONGEST = 40
 GREATEST = 2**63 - 1
 
 
-@dataclass(frozen=True)
-class Core:
+class Core(NamedTuple):
     """What the report says of a core: its counters by name, why it halted, and the bytes of its console."""
 
     number: int
@@ -60,16 +61,14 @@ class Core:
         return self.halt.startswith("exit ")
 
 
-@dataclass(frozen=True)
-class Component:
+class Component(NamedTuple):
     """What the report says of a bank or of a controller: its counters by name."""
 
     number: int
     counters: dict
 
 
-@dataclass(frozen=True)
-class Report:
+class Report(NamedTuple):
     """A report of zsim. `machine`, where it is known, is the Machine of the run: the busy shares need its occupancies.
 
     `status` is that of the run, 0 or 3, where it was run by these tools. A brief report has the summary alone.
@@ -109,7 +108,7 @@ class Report:
     @property
     def derived(self):
         """The derived numbers of the whole run, by name."""
-        return derived.of_run(self)
+        return derived.of_run(self, derived.totals(self))
 
     def _components(self, kind, components, occupancy):
         cycles = self.summary["cycles"]
@@ -152,17 +151,18 @@ class Lines:
             if self.rest:
                 self.fail(f"the report is cut off in this line, where {what} belongs")
             self.fail(f"the report is cut off before this line, where {what} belongs")
-        match = re.fullmatch(pattern, self.lines[self.next])
+        match = pattern.fullmatch(self.lines[self.next])
         if not match:
             self.fail(f"here belongs {what}, not {shown(self.lines[self.next])}")
         self.next += 1
         return match
 
-    def number(self, text):
-        """Returns a number of the line that was just taken."""
-        if int(text) > GREATEST:
-            self.fail(f"the number {text} is too large", self.next)
-        return int(text)
+    def numbers(self, texts):
+        """Returns numbers of the line that was just taken."""
+        numbers = list(map(int, texts))
+        if max(numbers) > GREATEST:
+            self.fail(f"the number {max(numbers)} is too large", self.next)
+        return numbers
 
 
 def shown(line):
@@ -176,9 +176,9 @@ def parse_report(text, name="report", machine=None, status=None):
     lines = Lines(name, text)
     take_header(lines, text)
     summary = {}
-    for word in SUMMARY:
-        match = lines.take(f"{word} {NUMBER}", f'"{word} N"')
-        summary[word] = lines.number(match[1])
+    for word, pattern in SUMMARY_LINES.items():
+        match = lines.take(pattern, f'"{word} N"')
+        (summary[word],) = lines.numbers(match.groups())
     if lines.at_end:
         return Report(name, summary, machine=machine, status=status)
     cores = tuple(take_core(lines, number) for number in range(summary["cores"]))
@@ -203,12 +203,12 @@ def take_header(lines, text):
         lines.fail(
             f"a report of version {shown(first.removeprefix('zsim report '))}; these tools read version {VERSION}"
         )
-    lines.take(f"zsim report {VERSION}", f'"zsim report {VERSION}"')
+    lines.take(FIRST_LINE, f'"zsim report {VERSION}"')
 
 
 def take_core(lines, number):
     match = lines.take(CORE_LINE, f"the line of core {number}")
-    numbers = [lines.number(text) for text in match.groups()[:-1]]
+    numbers = lines.numbers(match.groups()[:-1])
     if numbers[0] != number:
         lines.fail(f"core {numbers[0]} where core {number} belongs", lines.next)
     console = lines.take(CONSOLE_LINE, f"the console of core {number}")
@@ -231,7 +231,7 @@ def take_components(lines, kind):
         match = lines.take(COMPONENT_LINE, f"the line of {kind} {len(components)}")
         if match[1] != kind or int(match[2]) != len(components):
             lines.fail(f"{match[1]} {match[2]} where {kind} {len(components)} belongs", lines.next)
-        numbers = [lines.number(text) for text in match.groups()[2:]]
+        numbers = lines.numbers(match.groups()[2:])
         components.append(Component(len(components), dict(zip(COMPONENT_COUNTERS, numbers))))
     return tuple(components)
 
@@ -274,6 +274,6 @@ def read_report(path, machine=None):
     """Reads the report of a file; `-` is standard input. ToolError names the file, and the line that is wrong."""
     name = "standard input" if str(path) == "-" else str(path)
     with told(f"cannot read: {name}"):
-        data = sys.stdin.buffer.read() if str(path) == "-" else Path(path).read_bytes()
+        data = sys.stdin.buffer.read() if str(path) == "-" else read_bytes(path)
     # A report is ASCII. Any other byte stands for itself in what is shown of a line that is wrong.
     return parse_report(data.decode("latin-1"), name, machine)

@@ -2,19 +2,17 @@
 
 import hashlib
 import itertools
+import os
 import re
-import tomllib
-from dataclasses import dataclass
-from pathlib import Path
+from typing import NamedTuple
 
-from .errors import ToolError, one_line, told
-from .machine import Machine, flat, is_kind, kind_of, read_machine, read_text
+from .errors import ToolError, told
+from .machine import Machine, flat, is_kind, kind_of, parse_toml, read_machine, read_text
 
 GENERATED = re.compile("gen:(0|[1-9][0-9]*)")
 
 
-@dataclass(frozen=True)
-class Executable:
+class Executable(NamedTuple):
     """An executable: its name in the file of the sweep, and its bytes; None for a program that zsim generates."""
 
     name: str
@@ -22,16 +20,14 @@ class Executable:
     sha256: str
 
 
-@dataclass(frozen=True)
-class Axis:
+class Axis(NamedTuple):
     """Keys that vary together: their names, and the points, each with a value for each key."""
 
     keys: tuple
     points: tuple
 
 
-@dataclass(frozen=True)
-class Planned:
+class Planned(NamedTuple):
     """A run to be done: the values of the axes by key, the machine with these values, and the executable."""
 
     values: dict
@@ -45,8 +41,7 @@ class Planned:
         return " ".join([self.executable.name, *(f"{key}={cell(value)}" for key, value in self.values.items())])
 
 
-@dataclass(frozen=True)
-class SweepFile:
+class SweepFile(NamedTuple):
     """What a sweep's file says."""
 
     name: str
@@ -77,13 +72,7 @@ def cell(value):
 
 def read_sweep(path):
     """Reads the file of a sweep, its machine and its executables. ToolError names the file and the line or key."""
-    text = read_text(path)
-    try:
-        content = tomllib.loads(text)
-    except tomllib.TOMLDecodeError as error:
-        line = re.search("at line ([0-9]+)", str(error))
-        number = line[1] if line else len(text.splitlines())
-        raise ToolError(f"{path}: line {number}: no TOML: {one_line(error)}") from None
+    content = parse_toml(read_text(path), path)
     known = {"machine": "string", "executables": "array of strings", "axes": "table", "tied": "array of tables"}
     for key, value in content.items():
         if key not in known:
@@ -93,7 +82,7 @@ def read_sweep(path):
     for key in ("machine", "executables"):
         if not content.get(key):
             raise ToolError(f"{path}: {key}: is missing")
-    folder = Path(path).parent
+    folder = os.path.dirname(path)
     machine = read_base(path, folder, content["machine"])
     axes = read_axes(path, machine, content)
     executables = tuple(read_executable(path, folder, name) for name in content["executables"])
@@ -106,9 +95,10 @@ def read_base(path, folder, name):
     """Reads the machine that the axes change. File names are relative to the folder of the sweep's file."""
     if name == "plain":
         return read_machine(name)
-    if not (folder / name).exists():
-        raise ToolError(f"{path}: machine: cannot read: {folder / name}: No such file or directory")
-    return read_machine(folder / name)
+    machine = os.path.join(folder, name)
+    if not os.path.exists(machine):
+        raise ToolError(f"{path}: machine: cannot read: {machine}: No such file or directory")
+    return read_machine(machine)
 
 
 def read_axes(path, machine, content):
@@ -148,6 +138,7 @@ def read_executable(path, folder, name):
         if not GENERATED.fullmatch(name):
             raise ToolError(f"{path}: executables: {name}: behind gen: stands a number")
         return Executable(name, None, sha256(name.encode("utf-8")))
-    with told(f"{path}: executables: cannot read: {folder / name}"):
-        data = (folder / name).read_bytes()
+    executable = os.path.join(folder, name)
+    with told(f"{path}: executables: cannot read: {executable}"), open(executable, "rb") as file:
+        data = file.read()
     return Executable(name, data, sha256(data))

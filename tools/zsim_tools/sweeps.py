@@ -2,65 +2,13 @@
 
 import os
 from contextlib import closing
-from dataclasses import dataclass
 
-from .errors import ToolError, reason, told
-from .program import LIMIT, RAN, find_zsim
-from .report import Report, parse_report
+from .errors import told
+from .program import find_zsim
 from .runners import Cluster, Here
 from .store import Store
-from .sweep_file import Planned, cell, read_sweep, sha256
-from .table import SHA256, check_ending, check_output, halts_of, make_table, numbers_of, write_rows
-from .task import Outcome
-
-# What a run with such a status gave depends on its inputs alone: it ran, or its words, its machine or its executable
-# were refused. With any other it is tried again: a disk or the memory was full, or it was killed.
-DECIDED = (0, 2, 3, 6, 7, 10)
-
-
-@dataclass(frozen=True)
-class Ended:
-    """A run at its end: what was planned, its outcome, its report or None, and what was not as it should be, or None.
-
-    As it should be is a run whose cores all ended by their program's exit.
-    """
-
-    run: Planned
-    outcome: Outcome
-    report: Report | None
-    failure: str | None
-
-    @property
-    def done(self):
-        """Whether another run would give the same."""
-        return self.outcome.status in DECIDED and (self.report is not None or self.outcome.status not in (RAN, LIMIT))
-
-
-def judge(run, outcome):
-    """Returns a run at its end."""
-    if outcome.status not in (RAN, LIMIT):
-        return Ended(run, outcome, None, f"status {outcome.status}: {outcome.line}")
-    try:
-        report = parse_report(outcome.output, "its output", run.machine, outcome.status)
-    except ToolError as error:
-        return Ended(run, outcome, None, str(error))
-    if outcome.status == LIMIT:
-        return Ended(run, outcome, report, f"status {LIMIT}: {outcome.line}")
-    faults = [core for core in report.core_list if not core.exited]
-    failure = f"core {faults[0].number} halted: {faults[0].halt}" if faults else None
-    return Ended(run, outcome, report, failure)
-
-
-def row_of(run, ended, zsim_sha256):
-    """Returns the row of a run."""
-    row = {key: cell(value) for key, value in run.values.items()}
-    row |= {"executable": run.executable.name, "status": ended.outcome.status, "line": ended.outcome.line, "halt": ""}
-    if ended.report:
-        row["halt"] = halts_of(ended.report)
-        row |= {name: value for name, value in numbers_of(ended.report).items() if name not in run.values}
-    elif not row["line"]:
-        row["line"] = ended.failure
-    return row | dict(zip(SHA256, (run.machine_sha256, run.executable.sha256, zsim_sha256)))
+from .sweep_file import read_sweep, sha256
+from .table import check_ending, check_output, make_table, write_rows
 
 
 class Watcher:
@@ -108,7 +56,7 @@ def carry_out(path, out, jobs=None, scheduler=None, zsim=None, watcher=None):
             else:
                 with runner_of(program, jobs, scheduler) as runner:
                     runner.start(waiting.values())
-                    # (runs go on from here, while a bar is loaded that takes longer than a short run)
+                    # (runs go on from here, while modules and a bar are loaded that take longer than a short run)
                     watcher.begin(len(waiting), before)
                     for run, outcome in runner.outcomes():
                         one = ended[key_of(run)] = judge(run, outcome)
@@ -116,11 +64,20 @@ def carry_out(path, out, jobs=None, scheduler=None, zsim=None, watcher=None):
                             store.add(key_of(run), outcome)
                         watcher.ended(one)
         finally:
+            from .outcomes import row_of
+
             watcher.end()
             rows = [row_of(run, ended[key_of(run)], zsim_sha256) for run in planned if key_of(run) in ended]
             if rows:
                 write_rows(rows, out)
     return rows
+
+
+def judge(run, outcome):
+    """Returns a run at its end."""
+    from . import outcomes  # (which loads what reads reports, so that the first runs have begun before)
+
+    return outcomes.judge(run, outcome)
 
 
 def runner_of(program, jobs, scheduler):

@@ -4,10 +4,10 @@ import csv
 import importlib.util
 import io
 import os
-from pathlib import Path
+from contextlib import suppress
+from itertools import chain
 
-from . import derived
-from .errors import ToolError, check_ending_of, one_line, reason, told
+from .errors import ToolError, check_ending_of, ending_of, one_line, reason, told
 
 ENDINGS = (".csv", ".parquet")
 SHA256 = ("machine_sha256", "executable_sha256", "zsim_sha256")
@@ -36,29 +36,10 @@ FRACTIONS = (
 )
 
 
-def numbers_of(report):
-    """Returns the columns that a report gives: of the run, derived ones, and then of each part."""
-    summary = dict(report.summary)
-    numbers = {"cores": summary.pop("cores"), "intervals_run": summary.pop("intervals"), **summary}
-    numbers |= {name: total for name, total in derived.totals(report).items() if name != "instructions"}
-    numbers |= report.derived
-    for core in report.core_list:
-        numbers |= {f"core{core.number}_{name}": value for name, value in core.counters.items()}
-        numbers[f"core{core.number}_halt"] = core.halt
-    for kind, components in (("bank", report.bank_list), ("controller", report.controller_list)):
-        for part in components:
-            numbers |= {f"{kind}{part.number}_{name}": value for name, value in part.counters.items()}
-    return numbers
-
-
-def halts_of(report):
-    """Returns why the cores halted: each reason once, in the order of the cores."""
-    return "; ".join(dict.fromkeys(core.halt for core in report.core_list))
-
-
 def columns_of(rows):
     """Returns the columns of rows of which some may lack columns. The hashes come last."""
-    return [*dict.fromkeys(name for row in rows for name in row if name not in SHA256), *SHA256]
+    names = dict.fromkeys(chain.from_iterable(rows))
+    return [*(name for name in names if name not in SHA256), *SHA256]
 
 
 def make_table(rows):
@@ -76,50 +57,54 @@ def make_table(rows):
 
 def write_rows(rows, path):
     """Writes the table of rows. As CSV it is written at once, since pandas takes longer to load than many a sweep."""
-    if Path(path).suffix != ".csv":
+    if ending_of(path) != ".csv":
         return write_table(make_table(rows), path)
     text = io.StringIO(newline="")
-    lines = csv.DictWriter(text, columns_of(rows), restval="", lineterminator="\n")
-    lines.writeheader()
+    columns = columns_of(rows)
+    lines = csv.writer(text, lineterminator="\n")
+    lines.writerow(columns)
     for row in rows:
-        lines.writerow({name: "" if value != value else value for name, value in row.items()})
+        cells = [row.get(name, "") for name in columns]
+        lines.writerow(["" if value != value else value for value in cells])
     return write_whole(path, lambda file: file.write(text.getvalue().encode("utf-8")))
 
 
 def check_ending(path):
     """Raises ToolError where no table can be written under this name: for its ending, or for want of a library."""
     check_ending_of(path, ENDINGS, "table")
-    if Path(path).suffix == ".parquet" and importlib.util.find_spec("pyarrow") is None:
+    if ending_of(path) == ".parquet" and importlib.util.find_spec("pyarrow") is None:
         raise ToolError(f"{path}: Parquet needs the Python package pyarrow; tables can also be .csv")
 
 
 def check_output(path):
     """Raises ToolError where a file could not be written, as far as that can be told before."""
-    path = Path(path)
-    if path.exists() and not path.is_file():
+    folder = os.path.dirname(path) or "."
+    if os.path.exists(path) and not os.path.isfile(path):
         raise ToolError(f"cannot write: {path}: it is no regular file")
-    if not path.parent.is_dir():
-        raise ToolError(f"cannot write: {path}: {path.parent} is no folder")
+    if not os.path.isdir(folder):
+        raise ToolError(f"cannot write: {path}: {folder} is no folder")
 
 
 def write_whole(path, write):
     """Has a file written beside, by `write` with an open file, and then renamed. So it is there whole or not at all."""
     check_output(path)
-    target = Path(os.path.realpath(path))
-    beside = target.with_name(f".{target.name}.{os.getpid()}")
+    target = os.path.realpath(path)
+    folder, name = os.path.split(target)
+    beside = os.path.join(folder, f".{name}.{os.getpid()}")
     with told(f"cannot write: {path}"):
         try:
             with open(beside, "xb") as file:
                 write(file)
             os.replace(beside, target)
         finally:
-            beside.unlink(missing_ok=True)
+            with suppress(FileNotFoundError):
+                os.unlink(beside)
 
 
 def write_table(table, path):
     """Writes a table as CSV or Parquet, by the ending of its name."""
     check_ending(path)
-    if Path(path).suffix == ".parquet":
+    if ending_of(path) == ".parquet":
         write_whole(path, lambda file: table.to_parquet(file, engine="pyarrow", index=False))
     else:
         write_whole(path, lambda file: table.to_csv(file, index=False))
@@ -131,7 +116,7 @@ def read_table(path):
 
     check_readable(path)
     try:
-        if Path(path).suffix == ".parquet":
+        if ending_of(path) == ".parquet":
             table = pandas.read_parquet(path, engine="pyarrow")
         else:
             texts = {name: "string" for name in TEXTS}
@@ -158,10 +143,9 @@ def read_table(path):
 
 
 def check_readable(path):
-    check = Path(path)
-    if check.suffix not in ENDINGS:
+    if ending_of(path) not in ENDINGS:
         raise ToolError(f"{path}: no table: its name ends neither with {' nor with '.join(ENDINGS)}")
-    if check.suffix == ".parquet" and check.is_file():
+    if ending_of(path) == ".parquet" and os.path.isfile(path):
         check_ending(path)
 
 
