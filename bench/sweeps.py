@@ -6,7 +6,8 @@
 Each round runs an executable on so many machines (500, if not given), once by `xargs` with so many jobs (4) at a time,
 and once by `zsim-tools sweep`, right after each other so that both meet the same load. It prints the seconds of both,
 their quotient, and the processor seconds that the tool took of its own. Where others use the machine, the least
-quotient and the processor seconds mean most.
+quotient and the processor seconds mean most. Python keeps the tool's modules compiled, whatever PYTHONDONTWRITEBYTECODE
+says.
 """
 
 import argparse
@@ -76,7 +77,8 @@ def by_tool(program, folder, jobs):
         "--zsim",
         program,
     ]
-    return timed(words, stderr=subprocess.DEVNULL)
+    variables = {name: value for name, value in os.environ.items() if name != "PYTHONDONTWRITEBYTECODE"}
+    return timed(words, stderr=subprocess.DEVNULL, env=variables)
 
 
 def main():
