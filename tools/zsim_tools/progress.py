@@ -45,6 +45,7 @@ class Progress(Watcher):
             return
         if self.loading:
             self.loading.join()
+        if self.bar:
             self.bar.update(self.task, completed=self.done)
             self.bar.stop()
         noun = "run" if self.done == 1 else "runs"

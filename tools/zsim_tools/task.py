@@ -2,6 +2,7 @@
 
 import os
 import signal
+from contextlib import suppress
 from typing import NamedTuple
 
 # The signals that Python ignores, and that a program it starts has to meet as any other does.
@@ -81,8 +82,10 @@ class Started:
     def close(self):
         """Ends the run, if it is still there, and closes its files."""
         if self.process is not None:
-            os.kill(self.process, signal.SIGKILL)
-            self._wait()
+            # (an interruption can come when it has ended and that is not noted yet)
+            with suppress(ProcessLookupError, ChildProcessError):
+                os.kill(self.process, signal.SIGKILL)
+                self._wait()
         if self.pidfd is not None:
             os.close(self.pidfd)
             self.pidfd = None
