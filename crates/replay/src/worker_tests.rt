@@ -1,12 +1,13 @@
 // Runs by several workers.
 ghost use Rattle.std.specs.Prelude.{◌≡◌, ◌≤◌, IfOk};
+ghost use Rattle.machine_desc.specs.Machine.{IsMachine};
 ghost use Rattle.replay.specs.Results.{HasCounts};
 
 use crate::tests::{file_of, plain};
 use crate::{Final, replay, run};
 use access_log::Schedule;
 use elf_load::load;
-use machine_desc::Machine;
+use machine_desc::{Machine, read};
 use rv_core::Why;
 use std::alloc::Global;
 use std::process::Abort;
@@ -15,6 +16,7 @@ use std::sync::atomic::{AtomicU64, Ordering};
 use std::test::Fail;
 use std::thread::Threads;
 use zs_host::{Gate, OpenGate, Point};
+use zs_num::NoMemory;
 
 // lui x5, 17; addi x6, x0, 100; amoadd.d x10, x11, (x5); addi x6, x6, -1; bne x6, x0, -8;
 // addi x17, x0, 93; ecall
@@ -148,5 +150,99 @@ fn each_access_and_each_event_passes_the_gate(rt: HostRuntime) -> Result<(), Fai
         let events = gate.events.load(Ordering::SeqCst);
         assert!(rt; events > 0 && events == results.counters.events());
     }
+    Ok(())
+}
+
+// Four cores, and two domains: the bank is in the second.
+static TWO_DOMAINS: &str = "version = 1
+cores = 4
+interval = 100
+intervals = 100000
+
+[memory]
+base = 65536
+size = 1048576
+stack = 4096
+
+[l1]
+sets = 2
+ways = 1
+latency = 1
+
+[l2]
+banks = 1
+sets = 4
+ways = 2
+latency = 10
+remote = 5
+fill = 2
+occupancy = 4
+
+[controllers]
+count = 1
+read = 100
+write = 40
+occupancy = 20
+
+[domains]
+count = 2
+banks = [1]
+controllers = [0]
+";
+
+fn two_domains(alloc: Global) -> Result<Machine, NoMemory>
+    ensures { IfOk result IsMachine }
+{
+    match read(alloc, TWO_DOMAINS.as_bytes()) {
+        Ok(machine) => Ok(machine),
+        Err(_) => Err(NoMemory),
+    }
+}
+
+// A gate that counts the events, by the domains, and those that its owner among two workers fires.
+#[derive(Drop)]
+struct Owning {
+    events: AtomicU64,
+    of_second: AtomicU64,
+    by_owner: AtomicU64,
+}
+
+impl Gate for Owning {
+    fn pass(&self, worker: u16, point: Point) {
+        let Point::Fire { domain } = point else {
+            return;
+        };
+        self.events.fetch_add(1, Ordering::SeqCst);
+        if domain == 1 {
+            self.of_second.fetch_add(1, Ordering::SeqCst);
+        }
+        if worker == domain % 2 {
+            self.by_owner.fetch_add(1, Ordering::SeqCst);
+        }
+    }
+}
+
+// The first interval's events fire by their domains. Few fire in a round, so those of the others fire on one
+// list: there too each passes the gate by the worker that has its domain.
+#[test]
+fn events_on_one_list_pass_by_the_workers_of_their_domains(rt: HostRuntime) -> Result<(), Fail> {
+    let alloc = rt.alloc();
+    let file = file_of(alloc, &RACE)?;
+    let machine = two_domains(alloc)?;
+    let image = load(alloc, &file, machine.memory.base, machine.memory.size)?;
+    let gate = Owning {
+        events: AtomicU64::new(0),
+        of_second: AtomicU64::new(0),
+        by_owner: AtomicU64::new(0),
+    };
+    let mut schedule = Schedule::new(alloc, machine.cores);
+    let results = run(&rt, alloc, &machine, &image, 2, &gate, &mut schedule)?;
+    assert!(rt; results.intervals > 1);
+    let events = gate.events.load(Ordering::SeqCst);
+    assert_eq!(rt; events, results.counters.events());
+    assert_eq!(rt; gate.by_owner.load(Ordering::SeqCst), events);
+    assert!(rt; gate.of_second.load(Ordering::SeqCst) > 1);
+    let again = replay(alloc, &machine, &image, &schedule)?;
+    assert_same(&rt, &results, &again);
     Ok(())
 }
