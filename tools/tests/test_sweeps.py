@@ -371,7 +371,9 @@ def test_a_missing_program(command, twelve, zsim, told):
 
 def test_a_program_that_changes_ends_the_sweep(command, twelve, fake_zsim):
     program = twelve / "zsim"
-    program.write_text(f'#!/bin/sh\necho "# changed" >>"$0"\nexec {fake_zsim} "$@"\n')
+    # Exchanged, not written: a file that is open for writing cannot be run.
+    exchange = '{ cat "$0"; echo "# changed"; } >"$0.$$" && chmod +x "$0.$$" && mv "$0.$$" "$0"'
+    program.write_text(f'#!/bin/sh\n{exchange}\nexec {fake_zsim} "$@"\n')
     program.chmod(0o755)
     ended = command("sweep", "sweep.toml", "--out", "table.csv", "--zsim", program)
     assert ended.returncode == 2 and "it was changed during the sweep" in ended.stderr
