@@ -67,7 +67,7 @@ def newer_source():
     """Returns a source that is newer than the program, if there is one, as the script `zsim` looks for it."""
     built = BUILT.stat().st_mtime_ns
     for folder, folders, files in os.walk(REPOSITORY / "crates"):
-        folders[:] = [name for name in folders if name not in ("out", "must-fail", "zsim_tests")]
+        folders[:] = [name for name in folders if name not in ("out", "must-fail") and not name.endswith("_tests")]
         for name in files:
             path = Path(folder, name)
             if path.stat().st_mtime_ns > built:

@@ -1,15 +1,10 @@
--- A history: the entries of the accesses of an interval, in an order in which the turns were taken. What one core did is
--- told by its own entries, and what one bank did by those of the bank.
-use Rattle.std.specs.Prelude.{◌≡◌, ℕ, ◌==◌, ◌%◌, ◌<◌, List, [], ◌∷◌, map}
+-- A history: the entries of the accesses of an interval, in an order in which the turns were taken. What one core did
+-- is told by its own entries, and what one bank did by those of the bank.
+use Rattle.std.specs.Prelude.{◌≡◌, ℕ, ◌==◌, ◌<◌, List, [], ◌∷◌, map}
 use Rattle.std.specs.List.{enumerate_from, filter, fold}
-use Rattle.zs_num.specs.Request.{line_of}
+use Rattle.zs_num.specs.Request.{bank_of}
 use Rattle.zs_num.specs.declared.entry.Entry.{Entry}
-use Rattle.zs_num.specs.declared.request.Request.{Request}
 use Rattle.access_log.specs.RecordedOrder.{Stamps, next_stamp, stamped}
-
--- the bank that has the line of a request: lines go round the banks
-abbrev pub bank_of : (banks : ℕ) → Request → ℕ
-bank_of banks request = line_of request % banks
 
 abbrev pub core_of_entry : Entry → ℕ
 core_of_entry e = e.core

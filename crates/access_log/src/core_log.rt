@@ -1,4 +1,4 @@
-// The accesses of one core in an interval.
+//! The accesses of one core in an interval.
 ghost use Rattle.std.specs.Prelude.{◌≡◌, ◌+◌, ◌-◌, ◌<◌, ◌≤◌, [], ◌∷◌, ◌++◌, length, IfOk};
 
 use std::alloc::Global;

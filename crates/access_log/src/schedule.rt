@@ -1,4 +1,5 @@
-// The schedule of a run: for each interval the numbers of the cores, in the order of their accesses.
+//! The schedule of a run: for each interval the numbers of the cores, in the order of their
+//! accesses.
 ghost use Rattle.access_log.specs.Schedule.{AreTurns};
 ghost use Rattle.std.specs.Prelude.{◌≡◌, ◌<◌, ◌+◌, ◌-◌, ◌^◌, [], ◌∷◌, ◌++◌, All, Some, length, map, slice_get, vec_len, OnOk, OnErr};
 
@@ -15,9 +16,9 @@ pub struct Schedule {
 
 impl Model for Schedule {
     ghost use Rattle.std.specs.Prelude.{◌^◌, ◌<◌, map, vec_len};
-    ghost use Rattle.access_log.specs.Schedule.{AreTurns, IntervalLists};
+    ghost use Rattle.access_log.specs.Schedule.{AreTurns, ScheduleState};
 
-    ghost Value = { IntervalLists };
+    ghost Value = { ScheduleState };
 
     ghost view = { λ s. record { cores = s.cores; lists = map (λ v. v.items) s.lists.items } };
 

@@ -7,7 +7,7 @@ use Rattle.rv_core.specs.CoreState.{CoreState, InProgress}
 use Rattle.rv_core.specs.Pairing.{IsPairedRight, pairing_after}
 use Rattle.rv_core.specs.Sound.{IsSoundCore}
 use Rattle.rv_core.specs.Step.{advanced, answered, executed, is_free}
-use Rattle.bound_core.specs.Timed.{TimedCore, after_instruction, after_instructions, goes_on_alone, next_request, ran_to}
+use Rattle.bound_core.specs.TimedCore.{TimedCore, after_instruction, after_instructions, goes_on_alone, next_request, ran_to}
 
 -- the laws of a core
 pub record CoreLaws : Type 0 where

@@ -12,7 +12,7 @@ use Rattle.access_log.specs.RecordedOrder.{Stamps}
 use Rattle.bound_core.specs.History.{AreTurnsOf, after_turn}
 use Rattle.bound_core.specs.ReferenceMachine.{BoundState, at_end, bound_from}
 use Rattle.bound_core.specs.ShardWorld.{ShardWorld, shards_serve}
-use Rattle.bound_core.specs.Timed.{TimedCore, asks, ran_to}
+use Rattle.bound_core.specs.TimedCore.{TimedCore, asks, ran_to}
 use Rattle.bound_core.proofs.HistoryTurn.{IsNext, bank_in, last_at, next, stamps_of, takes_next}
 use Rattle.bound_core.proofs.Numbered.{EachHolds, after_first, after_none, all_hold, first_holds, rest_holds}
 

@@ -11,7 +11,7 @@ use Rattle.access_log.specs.RecordedOrder.{Stamps}
 use Rattle.bound_core.specs.History.{after_turn}
 use Rattle.bound_core.specs.ReferenceMachine.{BoundState, turn}
 use Rattle.bound_core.specs.ShardWorld.{ShardWorld, no_shard, recorded_by_shard, shard_for, shards_serve}
-use Rattle.bound_core.specs.Timed.{TimedCore, asks, ran_to}
+use Rattle.bound_core.specs.TimedCore.{TimedCore, asks, ran_to}
 
 -- the stamps of a world
 abbrev pub stamps_of : ShardWorld → Stamps

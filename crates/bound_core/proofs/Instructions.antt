@@ -5,7 +5,7 @@ use Rattle.elf_load.specs.MemoryImage.{MemoryImage}
 use Rattle.rv_core.specs.declared.why.Why.{Why}
 use Rattle.rv_core.specs.declared.why.Why.TheVariants.{Exit, Illegal, Misaligned, AtomicAlign, Fetch, Access, Break}
 use Rattle.rv_core.specs.Step.{cost, is_free}
-use Rattle.bound_core.specs.Timed.{TimedCore, after_instruction, after_instructions, goes_on_alone, ran_to}
+use Rattle.bound_core.specs.TimedCore.{TimedCore, after_instruction, after_instructions, goes_on_alone, ran_to}
 
 -- an instruction costs a cycle, or it halts the core
 costs_or_halts : (halted : Option Why) → (cost halted ≡ 1) ⊎ ((cost halted ≡ 0) × (is_none halted ≡ false))

@@ -12,7 +12,7 @@ use Rattle.access_log.specs.RecordedOrder.{Stamps, no_stamps, recorded_order}
 use Rattle.bound_core.specs.History.{AreTurnsOf, IsHistory, after_history, after_turn, begun_over_shards}
 use Rattle.bound_core.specs.ReferenceMachine.{BoundState, bound_phase}
 use Rattle.bound_core.specs.ShardWorld.{ShardWorld, shards_serve}
-use Rattle.bound_core.specs.Timed.{TimedCore}
+use Rattle.bound_core.specs.TimedCore.{TimedCore}
 use Rattle.bound_core.proofs.Histories.{Follows, IsReady, history_is_phase}
 use Rattle.bound_core.proofs.HistoryTurn.{stamps_of}
 use Rattle.bound_core.proofs.Numbered.{after_same_entries}

@@ -20,7 +20,7 @@ use Rattle.access_log.specs.RecordedOrder.{no_stamps}
 use Rattle.bound_core.specs.MachineOfShards.{IsCoreOf, StandForMachine, paired_bytes, pairings_of}
 use Rattle.bound_core.specs.MachineWorld.{MachineWorld, first_world}
 use Rattle.bound_core.specs.ShardWorld.{ShardWorld, begun_world, restarted}
-use Rattle.bound_core.specs.Timed.{TimedCore, first_core}
+use Rattle.bound_core.specs.TimedCore.{TimedCore, first_core}
 use Rattle.bound_core.proofs.Restarted.{no_last, stand_again}
 
 -- ---- the next interval

@@ -23,6 +23,6 @@ pub mod ShardKept
 pub mod ShardPorts
 pub mod ShardsStay
 pub mod ShardsTurn
-pub mod Simulation
+pub mod Correspondence
 pub mod Turns
 pub mod WholeInstructions

@@ -12,8 +12,8 @@ use Rattle.bound_core.specs.MachineWorld as machine
 use Rattle.bound_core.specs.MachineWorld.{MachineWorld}
 use Rattle.bound_core.specs.ReferenceMachine.{BoundState, bound_phase}
 use Rattle.bound_core.specs.ShardWorld.{ShardWorld, begun_world}
-use Rattle.bound_core.specs.Simulation.{AreRelated, EndAlike}
-use Rattle.bound_core.specs.Timed.{TimedCore}
+use Rattle.bound_core.specs.Correspondence.{AreRelated, EndAlike}
+use Rattle.bound_core.specs.TimedCore.{TimedCore}
 
 -- what ends like a legal bound phase is legal
 legal_alike : (s : BoundState ShardWorld) (r : Result (BoundState MachineWorld) ℕ) → EndAlike StandForMachine (Ok s) r → (t : BoundState MachineWorld) × (r ≡ Ok t) × AreRelated StandForMachine s t

@@ -6,7 +6,7 @@ use Rattle.zs_num.specs.declared.request.Request.{Request}
 use Rattle.elf_load.specs.MemoryImage.{MemoryImage}
 use Rattle.bound_core.specs.History.{AreTurnsOf, after_turn}
 use Rattle.bound_core.specs.HistoryLaws.{TellsWhatWasAsked}
-use Rattle.bound_core.specs.Timed.{TimedCore, ran_to}
+use Rattle.bound_core.specs.TimedCore.{TimedCore, ran_to}
 use Rattle.bound_core.specs.Turn.{TurnsToEnd}
 
 module _ {Port : Type 0} (gives : Port → (start : ℕ) → Request → Entry → Port → Type 0) (tells : TellsWhatWasAsked gives) (time : Entry → ℕ) (image : MemoryImage) (end : ℕ) where

@@ -8,11 +8,11 @@ use Rattle.zs_num.specs.declared.request.Request.TheVariants.{Load, Store, Lr, S
 use Rattle.rv_core.specs.declared.pairing.Pairing.{Pairing}
 use Rattle.rv_core.specs.Pairing as core
 use Rattle.flat_memory.specs.FlatMemory.{is_reservation}
-use Rattle.shard.specs.Marks.{IsPairedRight, pairing_after, pairing_of}
+use Rattle.shard.specs.Marks.{IsReservedRight, reserved_after, pairing_of}
 use Rattle.bound_core.specs.MachineOfShards.{paired_bytes, pairings_of}
-use Rattle.bound_core.specs.Timed.{TimedCore}
+use Rattle.bound_core.specs.TimedCore.{TimedCore}
 
-pub bytes_after : (pairing : Option Pairing) (request : Request) → paired_bytes (core.pairing_after pairing request) ≡ pairing_after (paired_bytes pairing) request
+pub bytes_after : (pairing : Option Pairing) (request : Request) → paired_bytes (core.pairing_after pairing request) ≡ reserved_after (paired_bytes pairing) request
 bytes_after pairing (Load addr width) = refl
 bytes_after pairing (Store addr width value) = refl
 bytes_after pairing (Lr addr width) = refl
@@ -23,7 +23,7 @@ paired_as : (pairing : Option Pairing) (addr width : ℕ) → core.is_paired pai
 paired_as None addr width = refl
 paired_as (Some pairing) addr width = refl
 
-pub right_as : (pairing : Option Pairing) (request : Request) → core.IsPairedRight pairing request → IsPairedRight (paired_bytes pairing) request
+pub right_as : (pairing : Option Pairing) (request : Request) → core.IsPairedRight pairing request → IsReservedRight (paired_bytes pairing) request
 right_as pairing (Load addr width) right = tt
 right_as pairing (Store addr width value) right = tt
 right_as pairing (Lr addr width) right = tt

@@ -11,7 +11,7 @@ use Rattle.elf_load.specs.MemoryImage.{MemoryImage}
 use Rattle.rv_core.specs.declared.why.Why.{Why}
 use Rattle.bound_core.specs.Laws.{moved, with_core, AnswersAsWorld}
 use Rattle.bound_core.specs.ReferenceMachine.{BoundState, access_served, and_then, at_end, bound_from, legal_at, turn, turn_at}
-use Rattle.bound_core.specs.Timed.{TimedCore, asks, core_after_access, goes_on_alone, ran_to}
+use Rattle.bound_core.specs.TimedCore.{TimedCore, asks, core_after_access, goes_on_alone, ran_to}
 use Rattle.bound_core.specs.Turn.{IsOver, TakesTurn, TurnsToEnd}
 use Rattle.bound_core.proofs.Lists.{all_head, all_tail, get_set, map_again, set_again, set_same}
 use Rattle.bound_core.proofs.Instructions.{late_stops, ran_again, ran_stays}

@@ -10,7 +10,7 @@ use Rattle.elf_load.specs.MemoryImage.{MemoryImage}
 use Rattle.shard.specs.Served.{ShardState, met_by, shard_reply}
 use Rattle.bound_core.specs.ReferenceMachine.{BoundState, are_done, at_end, bound_from, turn}
 use Rattle.bound_core.specs.ShardWorld.{ShardWorld, no_shard, number_for, recorded_by_shard, shard_for, shards_serve}
-use Rattle.bound_core.specs.Timed.{TimedCore, asks, ran_to}
+use Rattle.bound_core.specs.TimedCore.{TimedCore, asks, ran_to}
 use Rattle.bound_core.proofs.Histories.{Follows, IsReady, is_there, left, next_left, next_ready, none_left, whole_follows}
 use Rattle.bound_core.proofs.HistoryTurn.{IsNext, next, takes_next}
 

@@ -8,7 +8,7 @@ use Rattle.elf_load.specs.MemoryImage.{MemoryImage}
 use Rattle.bound_core.specs.Laws.{AnswersAsWorld, moved, with_core}
 use Rattle.bound_core.specs.Reaching.{Reaches}
 use Rattle.bound_core.specs.ReferenceMachine.{BoundState, bound_from, bound_phase}
-use Rattle.bound_core.specs.Timed.{TimedCore, ran_to}
+use Rattle.bound_core.specs.TimedCore.{TimedCore, ran_to}
 use Rattle.bound_core.specs.Turn.{IsOver, TakesTurn, TurnsToEnd}
 use Rattle.bound_core.proofs.Phase.{all_over, local_alone, turn_scheduled, turns_scheduled}
 

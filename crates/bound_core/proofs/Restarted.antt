@@ -5,7 +5,8 @@ use Rattle.std.specs.Option.{option_map}
 use Rattle.std.proofs.lemmas.List.{length-map}
 use Rattle.std.proofs.lemmas.Option.{same_Some, slice_get-map}
 use Rattle.shard.specs.Coherence.{Caches}
-use Rattle.shard.specs.Lines.{line_at, set_of, shard_of}
+use Rattle.zs_num.specs.Request.{line_at, bank_of_line}
+use Rattle.shard.specs.Lines.{set_of}
 use Rattle.shard.specs.Marks.{MarkedMemory}
 use Rattle.shard.specs.Served.{ShardState, place_of}
 use Rattle.shard.specs.StandsFor.{AreShards, StandFor}
@@ -53,14 +54,14 @@ module _ (shards : List ShardState) where
 
     -- what a shard has of its lines
     abbrev Bytes : (many i : ℕ) → ShardState → Type 0
-    Bytes many i s = (addr : ℕ) → memory.base ≤ addr → addr < memory.base + length memory.bytes → shard_of many (line_at addr) ≡ i
+    Bytes many i s = (addr : ℕ) → memory.base ≤ addr → addr < memory.base + length memory.bytes → bank_of_line many (line_at addr) ≡ i
         → slice_get memory.bytes (addr - memory.base) ≡ slice_get s.bytes (place_of many memory.base addr)
 
     abbrev L1Sets : (many i : ℕ) → ShardState → Type 0
-    L1Sets many i s = (core line : ℕ) → shard_of many line ≡ i → set_of 1 line (slice_index_or c.l1 core []) ≡ set_of many line (slice_index_or s.caches.l1 core [])
+    L1Sets many i s = (core line : ℕ) → bank_of_line many line ≡ i → set_of 1 line (slice_index_or c.l1 core []) ≡ set_of many line (slice_index_or s.caches.l1 core [])
 
     abbrev L2Sets : (many i : ℕ) → ShardState → Type 0
-    L2Sets many i s = (line : ℕ) → shard_of many line ≡ i → set_of 1 line c.l2 ≡ set_of many line s.caches.l2
+    L2Sets many i s = (line : ℕ) → bank_of_line many line ≡ i → set_of 1 line c.l2 ≡ set_of many line s.caches.l2
 
     bytes_each : (i : ℕ) (s : ShardState) → slice_get shards i ≡ Some s → Bytes (length shards) i s
     bytes_each i s here addr low high at = r.bytes addr s low high (ap (slice_get shards) at ∙ here)
@@ -74,11 +75,11 @@ module _ (shards : List ShardState) where
     pub stand_again : StandFor again memory c
     stand_again = record {
       are = are_again;
-      bytes = λ addr s low high keeps. each_again Bytes (λ many i s is. is) bytes_each (shard_of (length again) (line_at addr)) s keeps addr low high refl;
+      bytes = λ addr s low high keeps. each_again Bytes (λ many i s is. is) bytes_each (bank_of_line (length again) (line_at addr)) s keeps addr low high refl;
       marks = r.marks ∙ sym (same_marks shards);
       whole = r.whole;
-      l1 = λ core line s keeps. each_again L1Sets (λ many i s is. is) l1_each (shard_of (length again) line) s keeps core line refl;
-      l2 = λ line s keeps. each_again L2Sets (λ many i s is. is) l2_each (shard_of (length again) line) s keeps line refl;
+      l1 = λ core line s keeps. each_again L1Sets (λ many i s is. is) l1_each (bank_of_line (length again) line) s keeps core line refl;
+      l2 = λ line s keeps. each_again L2Sets (λ many i s is. is) l2_each (bank_of_line (length again) line) s keeps line refl;
       l1_sets = λ i core s here. each_again (λ many i s. length (slice_index_or c.l1 core []) ≡ many * length (slice_index_or s.caches.l1 core [])) (λ many i s is. is)
           (λ i s here. r.l1_sets i core s here) i s here;
       l2_sets = each_again (λ many i s. length c.l2 ≡ many * length s.caches.l2) (λ many i s is. is) r.l2_sets;

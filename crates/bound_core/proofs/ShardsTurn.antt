@@ -4,7 +4,7 @@ use Rattle.std.specs.Prelude.{slice_get, slice_index, slice_set}
 use Rattle.std.proofs.lemmas.List.{length-map, length-set, map-set}
 use Rattle.std.proofs.lemmas.List.Elements.{All-cons, All-head, All-map, All-nil, All-set, All-tail, All-weaker}
 use Rattle.std.proofs.lemmas.Option.{get_or_from_slice_get, slice_get_within}
-use Rattle.zs_num.specs.Request.{IsServable}
+use Rattle.zs_num.specs.Request.{IsServable, bank_of}
 use Rattle.zs_num.specs.declared.entry.Entry.{Entry}
 use Rattle.zs_num.specs.declared.entry.Outcome.{Outcome}
 use Rattle.zs_num.specs.declared.request.Request.{Request}
@@ -18,24 +18,23 @@ use Rattle.flat_memory.specs.FlatMemory as flat
 use Rattle.shard.specs.Coherence.{Caches, outcome_of}
 use Rattle.shard.specs.Coherence as caches
 use Rattle.shard.specs.Laws.{MarksAreReservations, ShardsStandForAMachine}
-use Rattle.shard.specs.Marks.{MarkedMemory, marked_after, marked_reply, pairing_after, pairing_of, pairings_after}
+use Rattle.shard.specs.Marks.{MarkedMemory, marked_after, marked_reply, reserved_after, pairing_of, pairings_after}
 use Rattle.shard.specs.Served.{ShardState, met_by, shard_after, shard_reply}
 use Rattle.shard.specs.StandsFor.{StandFor, flat_for}
-use Rattle.access_log.specs.History.{bank_of}
 use Rattle.access_log.specs.RecordedOrder.{next_stamp}
 use Rattle.bound_core.specs.MachineOfShards.{IsCoreOf, StandForMachine, paired_bytes, pairings_of}
 use Rattle.bound_core.specs.MachineWorld as machine
 use Rattle.bound_core.specs.MachineWorld.{MachineWorld, bank_for}
 use Rattle.bound_core.specs.ReferenceMachine.{BoundState, bound_from}
-use Rattle.bound_core.specs.Simulation.{AreRelated, EndAlike}
+use Rattle.bound_core.specs.Correspondence.{AreRelated, EndAlike}
 use Rattle.bound_core.specs.ShardWorld.{ShardWorld, no_shard, number_for, recorded_by_shard, shards_serve}
-use Rattle.bound_core.specs.Timed.{TimedCore, asks, core_after_access, ran_to}
+use Rattle.bound_core.specs.TimedCore.{TimedCore, asks, core_after_access, ran_to}
 use Rattle.bound_core.proofs.CoreKept.{CoreLaws, StaysSound, ran_stays_sound, waits_for}
 use Rattle.bound_core.proofs.Histories.{after_last, is_there}
 use Rattle.bound_core.proofs.HistoryTurn.{last_at}
 use Rattle.bound_core.proofs.Lists.{get_set}
 use Rattle.bound_core.proofs.Pairings.{bytes_after, pairing_at, right_as}
-use Rattle.bound_core.proofs.Simulation.{KeptByTurns, same_phases}
+use Rattle.bound_core.proofs.Correspondence.{KeptByTurns, same_phases}
 use Rattle.bound_core.proofs.ShardKept.{marks_kept, recorded_outcome, recorded_reply, size_kept}
 
 core_after : (time : Entry → ℕ) (e : Entry) (c : TimedCore) → (core_after_access time e c).core ≡ answered e.reply c.core
@@ -208,14 +207,14 @@ module _ (laws : CoreLaws) (step : ShardsStandForAMachine) (marks_law : MarksAre
   stand_after : StandFor w_after.shards marked_left m_after.caches
   stand_after = subst (λ (n : ℕ). StandFor (slice_set w.shards n (shard_after shard e)) marked_left m_after.caches) own_number stepped.2
 
-  pairing_left : paired_bytes c_after.core.pairing ≡ pairing_after (pairing_of pairings number) request
+  pairing_left : paired_bytes c_after.core.pairing ≡ reserved_after (pairing_of pairings number) request
   pairing_left =
       ap (λ (core : CoreState). paired_bytes core.pairing) (core_after time e ran)
       ∙ ap paired_bytes (laws.answered_pairing e.reply ran.core waiting.0 stays.sound waiting.1)
       ∙ ap (λ (x : Request). paired_bytes (core.pairing_after ran.core.pairing x)) waiting.2
       ∙ bytes_after ran.core.pairing request
-      ∙ ap (λ (x : _). pairing_after (paired_bytes x) request) stays.pairing
-      ∙ ap (λ (x : Option Reservation). pairing_after x request) (sym pairing_here)
+      ∙ ap (λ (x : _). reserved_after (paired_bytes x) request) stays.pairing
+      ∙ ap (λ (x : Option Reservation). reserved_after x request) (sym pairing_here)
 
   pairings_left : pairings_after pairings number request ≡ pairings_of cores_after
   pairings_left =

@@ -1,5 +1,6 @@
--- What the history of an interval is: whatever the order in which the cores took their turns at the shards, the entries of
--- each core are the core's turns, those of each shard are what the shard gave, and the stamps are those of logical clocks.
+-- What the history of an interval is: whatever the order in which the cores took their turns at the shards, the entries
+-- of each core are the core's turns, those of each shard are what the shard gave, and the stamps are those of logical
+-- clocks.
 use Rattle.std.specs.Prelude.{◌≡◌, ℕ, ◌<◌, List, [], ◌∷◌, length, map, replicate, slice_get, All, Some, None}
 use Rattle.zs_num.specs.declared.entry.Entry.{Entry}
 use Rattle.elf_load.specs.MemoryImage.{MemoryImage}
@@ -8,7 +9,7 @@ use Rattle.access_log.specs.History.{AreStamped, bank_of_entry, core_of_entry, e
 use Rattle.access_log.specs.RecordedOrder.{no_stamps}
 use Rattle.bound_core.specs.ReferenceMachine.{BoundState}
 use Rattle.bound_core.specs.ShardWorld.{ShardWorld, begun_world}
-use Rattle.bound_core.specs.Timed.{TimedCore, asks, core_after_access, ran_to}
+use Rattle.bound_core.specs.TimedCore.{TimedCore, asks, core_after_access, ran_to}
 
 -- the bound phase of an interval before its first access
 abbrev pub begun_over_shards : List TimedCore → List ShardState → BoundState ShardWorld

@@ -1,5 +1,5 @@
--- That the turns of an interval may be taken in any order, and are as good as those of the machine of one thread in recorded
--- order.
+-- That the turns of an interval may be taken in any order, and are as good as those of the machine of one thread in
+-- recorded order.
 use Rattle.std.specs.Prelude.{◌≡◌, ℕ, ◌<◌, List, length, map, All, Ok}
 use Rattle.std.specs.List.{fold}
 use Rattle.zs_num.specs.declared.entry.Entry.{Entry}
@@ -11,7 +11,7 @@ use Rattle.bound_core.specs.History.{AreTurnsOf, IsHistory, after_history, after
 use Rattle.bound_core.specs.Reaching.{Reaches}
 use Rattle.bound_core.specs.ReferenceMachine.{BoundState, bound_phase}
 use Rattle.bound_core.specs.ShardWorld.{ShardWorld, shards_serve}
-use Rattle.bound_core.specs.Timed.{TimedCore, ran_to}
+use Rattle.bound_core.specs.TimedCore.{TimedCore, ran_to}
 use Rattle.bound_core.specs.Turn.{IsOver, TurnsToEnd}
 
 module _ (time : Entry → ℕ) (image : MemoryImage) (end : ℕ) where
@@ -35,8 +35,8 @@ module _ (time : Entry → ℕ) (image : MemoryImage) (end : ℕ) where
       × (after_history time image end cores shards (recorded_order entries)
       ≡ record (after_history time image end cores shards entries) { entries = recorded_order entries })
 
-  -- Turns that were taken one after the other, by whomever and through whatever ports, make a history, once every core is
-  -- over.
+  -- Turns that were taken one after the other, by whomever and through whatever ports, make a history, once every core
+  -- is over.
   abbrev pub TurnsMakeAHistory : Type 0
   TurnsMakeAHistory = (cores : List TimedCore) (shards : List ShardState) (numbers : List ℕ) (s : BoundState ShardWorld)
       → 0 < length shards → All (λ shard. shard.last ≡ 0) shards

@@ -1,5 +1,5 @@
--- Whole instructions of one core over flat memory, and what they make of each other (RISC-V Unprivileged ISA manual, "Load
--- and Store Instructions", "Load-Reserved/Store-Conditional Instructions").
+-- Whole instructions of one core over flat memory, and what they make of each other (RISC-V Unprivileged ISA manual,
+-- "Load and Store Instructions", "Load-Reserved/Store-Conditional Instructions").
 use Rattle.std.specs.Prelude.{◌≡◌, ◌≢◌, ◌⊎◌, ℕ, zero, suc, ◌+◌, ◌-◌, ◌/◌, ◌%◌, ◌<◌, ◌≤◌, ◌==◌, Bool, true, false, ◌&&◌, ◌||◌, if◌then◌else◌, IsTrue, List, [], ◌∷◌, length, slice_index, All, Option, Some, None}
 use Rattle.zs_num.specs.Request.{line_of}
 use Rattle.zs_num.specs.declared.request.Request.{Request}
@@ -17,7 +17,7 @@ use Rattle.rv_core.specs.Effect.{address, effect, goes_on, register}
 use Rattle.rv_core.specs.Fetch.{fetched_at}
 use Rattle.rv_core.specs.Sound.{IsSoundCore}
 use Rattle.rv_core.specs.Step.{advanced, answered, is_free}
-use Rattle.bound_core.specs.Timed.{left_of_instruction, next_request}
+use Rattle.bound_core.specs.TimedCore.{left_of_instruction, next_request}
 
 -- ---- a whole instruction
 

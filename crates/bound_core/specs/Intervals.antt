@@ -9,7 +9,7 @@ use Rattle.access_log.specs.RecordedOrder.{no_stamps}
 use Rattle.bound_core.specs.MachineOfShards.{StandForMachine}
 use Rattle.bound_core.specs.MachineWorld.{MachineWorld, first_world}
 use Rattle.bound_core.specs.ShardWorld.{ShardWorld, begun_world, restarted}
-use Rattle.bound_core.specs.Timed.{TimedCore, first_core}
+use Rattle.bound_core.specs.TimedCore.{TimedCore, first_core}
 
 -- A machine's cores and new shards stand for its first world.
 abbrev pub FirstIntervalBegins : Type 0

@@ -5,7 +5,7 @@ use Rattle.zs_num.specs.declared.request.Request.{Request}
 use Rattle.elf_load.specs.MemoryImage.{MemoryImage}
 use Rattle.rv_core.specs.Sound.{IsSoundCore}
 use Rattle.bound_core.specs.ReferenceMachine.{BoundState, bound_from}
-use Rattle.bound_core.specs.Timed.{TimedCore, most_accesses, ran_to}
+use Rattle.bound_core.specs.TimedCore.{TimedCore, most_accesses, ran_to}
 use Rattle.bound_core.specs.Turn.{IsOver, TakesTurn, TurnsToEnd}
 
 -- the core of this number stands there, the world is this one, and there are these entries more
@@ -49,8 +49,8 @@ module _ {Port World : Type 0} (gives : Port → (start : ℕ) → Request → E
       → bound_from serve time image end place (e.core ∷ numbers) s
       ≡ bound_from serve time image end (place + 1) numbers (moved s e.core after (world port_after) (e ∷ []))
 
-  -- The schedule names a core for each of its turns up to the end of its interval, and goes on where they leave the core
-  -- and the world.
+  -- The schedule names a core for each of its turns up to the end of its interval, and goes on where they leave the
+  -- core and the world.
   abbrev pub TurnsAreScheduled : Type 0
   TurnsAreScheduled = AnswersAsWorld
       → (time : Entry → ℕ) (image : MemoryImage) (end : ℕ) (s : BoundState World) (number : ℕ) (port port_after : Port) (before after : TimedCore) (entries : List Entry)

@@ -10,6 +10,6 @@ pub mod Reaching
 pub mod ReferenceMachine
 pub mod ShardPort
 pub mod ShardWorld
-pub mod Simulation
-pub mod Timed
+pub mod Correspondence
+pub mod TimedCore
 pub mod Turn

@@ -1,5 +1,5 @@
--- When cores and shards with marks stand for the machine of one thread: one flat memory with a reservation for each core, and
--- one list for each set of the caches.
+-- When cores and shards with marks stand for the machine of one thread: one flat memory with a reservation for each
+-- core, and one list for each set of the caches.
 use Rattle.std.specs.Prelude.{◌≡◌, ℕ, ◌<◌, List, [], length, map, All, Option, Some, None, Ok}
 use Rattle.zs_num.specs.declared.entry.Entry.{Entry}
 use Rattle.elf_load.specs.MemoryImage.{MemoryImage}
@@ -16,8 +16,8 @@ use Rattle.bound_core.specs.MachineWorld.{MachineWorld}
 use Rattle.bound_core.specs.ReferenceMachine.{BoundState, bound_from, bound_phase}
 use Rattle.bound_core.specs.ShardWorld as shards
 use Rattle.bound_core.specs.ShardWorld.{ShardWorld, begun_world}
-use Rattle.bound_core.specs.Simulation.{AreRelated, EndAlike}
-use Rattle.bound_core.specs.Timed.{TimedCore}
+use Rattle.bound_core.specs.Correspondence.{AreRelated, EndAlike}
+use Rattle.bound_core.specs.TimedCore.{TimedCore}
 
 -- the bytes of a core's pairing, as they can be reserved
 abbrev pub paired_bytes : Option Pairing → Option Reservation
@@ -33,8 +33,8 @@ pub record IsCoreOf (base size : ℕ) (c : TimedCore) : Type 0 where
   pub base_is : c.core.memory.base ≡ base
   pub size_is : c.core.memory.size ≡ size
 
--- The memory and the caches are those for which the shards stand: a core has reserved the bytes of its pairing, where they
--- are marked in their shard. The stamps are the same.
+-- The memory and the caches are those for which the shards stand: a core has reserved the bytes of its pairing, where
+-- they are marked in their shard. The stamps are the same.
 pub record StandForMachine (cores : List TimedCore) (w : ShardWorld) (m : MachineWorld) : Type 0 where
   pub memory : MarkedMemory
   pub stand : StandFor w.shards memory m.caches
@@ -57,7 +57,8 @@ module _ (time : Entry → ℕ) (image : MemoryImage) (end : ℕ) where
       → EndAlike StandForMachine (bound_from shards.shards_serve time image end place numbers s) (bound_from machine.serve time image end place numbers t)
 
   -- What the machine of one thread did, where cores took their turns at shards in any order: under the schedule of the
-  -- entries in recorded order, its bound phase gave these entries and the same cores, and the shards stand for what it left.
+  -- entries in recorded order, its bound phase gave these entries and the same cores, and the shards stand for what it
+  -- left.
   pub record IsRunOfTheMachine (cores : List TimedCore) (shards : List ShardState) (entries : List Entry) (m : MachineWorld) : Type 0 where
     pub left : BoundState MachineWorld
     pub phase : bound_phase machine.serve time image end (map (λ e. e.core) (recorded_order entries)) (begun_over_machine cores m) ≡ Ok left
@@ -65,8 +66,8 @@ module _ (time : Entry → ℕ) (image : MemoryImage) (end : ℕ) where
     pub entries_are : left.entries ≡ recorded_order entries
     pub stand : StandForMachine left.cores (after_history time image end cores shards entries).world left.world
 
-  -- Whatever the order in which cores took their turns at shards that stand for a machine, in recorded order the entries are
-  -- a run of that machine.
+  -- Whatever the order in which cores took their turns at shards that stand for a machine, in recorded order the
+  -- entries are a run of that machine.
   abbrev pub HistoriesAreRunsOfTheMachine : Type 0
   HistoriesAreRunsOfTheMachine = (cores : List TimedCore) (shards : List ShardState) (entries : List Entry) (m : MachineWorld)
       → IsHistory time image end cores shards entries → StandForMachine cores (begun_world (length cores) shards) m → IsRunOfTheMachine cores shards entries m

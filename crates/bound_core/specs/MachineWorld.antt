@@ -1,4 +1,5 @@
--- What serves the accesses of the machine of one thread: flat memory, the cache lists of the whole machine, and the stamps.
+-- What serves the accesses of the machine of one thread: flat memory, the cache lists of the whole machine, and the
+-- stamps.
 use Rattle.std.specs.Prelude.{ℕ, length}
 use Rattle.zs_num.specs.declared.entry.Entry.{Entry}
 use Rattle.zs_num.specs.declared.request.Request.{Request}
@@ -7,7 +8,7 @@ use Rattle.machine_desc.specs.declared.machine.Machine.{Machine}
 use Rattle.flat_memory.specs.FlatMemory.{MemoryState, loaded, memory_after, memory_reply}
 use Rattle.shard.specs.Coherence.{Caches, caches_after, outcome_of}
 use Rattle.shard.specs.StandsFor.{new_caches}
-use Rattle.access_log.specs.History.{bank_of}
+use Rattle.zs_num.specs.Request.{bank_of}
 use Rattle.access_log.specs.RecordedOrder.{Stamps, next_stamp, no_stamps, stamped}
 
 pub record MachineWorld : Type 0 where

@@ -1,12 +1,12 @@
--- A bound phase on its way: the turns so far, one after the other, lead from a state to another. Whoever takes turns keeps
--- this from turn to turn, for as many cores as there are and in whatever order.
+-- A bound phase on its way: the turns so far, one after the other, lead from a state to another. Whoever takes turns
+-- keeps this from turn to turn, for as many cores as there are and in whatever order.
 use Rattle.std.specs.Prelude.{◌≡◌, ℕ, ◌+◌, List, [], ◌∷◌, ◌++◌, length, map, slice_get, Some, All, Ok}
 use Rattle.zs_num.specs.declared.entry.Entry.{Entry}
 use Rattle.zs_num.specs.declared.request.Request.{Request}
 use Rattle.elf_load.specs.MemoryImage.{MemoryImage}
 use Rattle.bound_core.specs.Laws.{AnswersAsWorld, moved, with_core}
 use Rattle.bound_core.specs.ReferenceMachine.{BoundState, bound_from, bound_phase}
-use Rattle.bound_core.specs.Timed.{TimedCore, ran_to}
+use Rattle.bound_core.specs.TimedCore.{TimedCore, ran_to}
 use Rattle.bound_core.specs.Turn.{IsOver, TakesTurn, TurnsToEnd}
 
 module _ {World : Type 0} (serve : World → (core start : ℕ) → Request → Entry × World) (time : Entry → ℕ) (image : MemoryImage) (end : ℕ) where

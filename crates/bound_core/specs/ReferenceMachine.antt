@@ -1,12 +1,12 @@
--- The machine of one thread in an interval. Its cores take turns, each with one access, in the order of a schedule, and a
--- world serves the accesses one after the other.
+-- The machine of one thread in an interval. Its cores take turns, each with one access, in the order of a schedule, and
+-- a world serves the accesses one after the other.
 use Rattle.std.specs.Prelude.{ℕ, ◌+◌, Bool, if◌then◌else◌, List, [], ◌∷◌, ◌++◌, map, slice_get, slice_set, Option, Some, None, is_none, Result, Ok, Err}
 use Rattle.std.specs.List.{list_all}
 use Rattle.std.specs.Option.{option_and_then, option_map}
 use Rattle.zs_num.specs.declared.entry.Entry.{Entry}
 use Rattle.zs_num.specs.declared.request.Request.{Request}
 use Rattle.elf_load.specs.MemoryImage.{MemoryImage}
-use Rattle.bound_core.specs.Timed.{TimedCore, asks, core_after_access, ran_to}
+use Rattle.bound_core.specs.TimedCore.{TimedCore, asks, core_after_access, ran_to}
 
 -- the cores in order of their numbers, what serves their accesses, and the accesses so far in the order of the turns
 pub record BoundState (World : Type 0) : Type 0 where
@@ -53,8 +53,8 @@ module _ {World : Type 0} (serve : World → (core start : ℕ) → Request → 
   turn s number = option_and_then (λ c. turn_at s number (ran_to image end c)) (slice_get s.cores number)
 
   -- The bound phase under a schedule, which names a core for each turn, or the first place of the schedule that is not
-  -- legal: it names a core that is not there or has no access; or it is the place after the last, where a core still has
-  -- one.
+  -- legal: it names a core that is not there or has no access; or it is the place after the last, where a core still
+  -- has one.
   abbrev pub bound_from : (place : ℕ) → List ℕ → BoundState World → Result (BoundState World) ℕ
   bound_from place [] s = if are_done image end s then Ok (at_end image end s) else Err place
   bound_from place (number ∷ numbers) s = and_then (bound_from (place + 1) numbers) (legal_at place (turn s number))

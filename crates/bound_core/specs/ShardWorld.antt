@@ -5,7 +5,7 @@ use Rattle.zs_num.specs.declared.entry.Outcome.TheVariants.{Hit}
 use Rattle.zs_num.specs.declared.request.Request.{Request}
 use Rattle.shard.specs.Coherence.{empty_caches}
 use Rattle.shard.specs.Served.{ShardState, met_by, shard_after, shard_reply}
-use Rattle.access_log.specs.History.{bank_of}
+use Rattle.zs_num.specs.Request.{bank_of}
 
 pub record ShardWorld : Type 0 where
   -- in order of their numbers

@@ -6,7 +6,7 @@ use Rattle.elf_load.specs.MemoryImage.{MemoryImage}
 use Rattle.bound_core.specs.declared.turned.Turned.{Turned}
 use Rattle.bound_core.specs.declared.turned.Turned.TheVariants.{Took, Ended}
 use Rattle.bound_core.specs.Port.{Gains}
-use Rattle.bound_core.specs.Timed.{TimedCore, asks, core_after_access, latest_clock, most_accesses, ran_to}
+use Rattle.bound_core.specs.TimedCore.{TimedCore, asks, core_after_access, latest_clock, most_accesses, ran_to}
 
 -- of the entry of a turn that took one
 abbrev pub IfTook : Turned → (Entry → Type 0) → Type 0
@@ -44,8 +44,8 @@ module _ {Port : Type 0} (time : Entry → ℕ) (image : MemoryImage) (end : ℕ
   TurnsToEnd (e ∷ entries) port port_after before after =
       (next : Port) × ((core : TimedCore) × (TakesTurn port next before core e × TurnsToEnd entries next port_after core after))
 
-  -- What the core of this number does up to the end of its interval: its turns, and the entries that they took. `told_of`
-  -- are the entries that the port answered so far, where it tells them.
+  -- What the core of this number does up to the end of its interval: its turns, and the entries that they took.
+  -- `told_of` are the entries that the port answered so far, where it tells them.
   pub record RunsToEnd (told_of : Port → Option (List Entry)) (number : ℕ) (port port_after : Port) (before after : TimedCore) : Type 0 where
     pub entries : List Entry
     pub turns : TurnsToEnd entries port port_after before after

@@ -1,11 +1,11 @@
-// One core in an interval.
+//! One core in an interval.
 ghost use Rattle.std.specs.Prelude.{◌≡◌, ◌+◌, ◌-◌, ◌≤◌, ◌<◌, ◌^◌, max, false, ◌∷◌, [], Some, None, IfOk, OnOk, IsTrue, if◌then◌else◌};
 ghost use Rattle.zs_num.specs.Request.{IsServable};
 ghost use Rattle.machine_desc.specs.Machine.{IsMachine};
 ghost use Rattle.rv_core.specs.Sound.{IsSoundCore};
 ghost use Rattle.rv_core.specs.Step.{cost, is_free};
 ghost use Rattle.bound_core.specs.Port.{Gains};
-ghost use Rattle.bound_core.specs.Timed.{after_instruction, ahead, asks, core_after_access, delayed, first_core, goes_on_alone, latest_clock, most_accesses, ran_to};
+ghost use Rattle.bound_core.specs.TimedCore.{after_instruction, ahead, asks, core_after_access, delayed, first_core, goes_on_alone, latest_clock, most_accesses, ran_to};
 ghost use Rattle.bound_core.specs.Turn.{IfTook, IsOver, RunsToEnd, TurnsAs};
 
 use crate::{Port, Turned};
@@ -17,8 +17,9 @@ use std::alloc::Global;
 use std::marker::Model;
 use zs_num::{Cycle, Entry, NoMemory, Request};
 
-/// What a core can write in an interval, beside a byte for each cycle.
-const BESIDE_CYCLES: u64 = 258;
+/// How many accesses a core can make in an interval beside one for each cycle, and so how many
+/// bytes it can write: an instruction that accesses memory many times may begin in the last cycle.
+pub const BESIDE_CYCLES: u64 = 258;
 
 /// A core in time: its state, its clock in cycles, and the bytes that it wrote on its console.
 #[derive(Drop)]
@@ -32,7 +33,7 @@ pub struct BoundCore {
 
 impl Model for BoundCore {
     ghost use Rattle.std.specs.Prelude.{◌≤◌, ◌-◌, vec_len, vec_capacity};
-    ghost use Rattle.bound_core.specs.Timed.{NumberedCore};
+    ghost use Rattle.bound_core.specs.TimedCore.{NumberedCore};
 
     ghost Value = { NumberedCore };
 
@@ -136,7 +137,7 @@ impl BoundCore {
         &self.core
     }
 
-    // All that the core asks for can be served.
+    /// All that the core asks for can be served.
     #[inline(always)]
     fn keeps_sound(&self)
         ensures { IsSoundCore self.now.timed.core }
@@ -190,8 +191,8 @@ impl BoundCore {
         }
     }
 
-    /// Runs to the end of the interval: turns until Ended. The accesses go through the port, which tells
-    /// their entries where it keeps a list of them.
+    /// Runs to the end of the interval: turns until Ended. The accesses go through the port, which
+    /// tells their entries where it keeps a list of them.
     pub fn run_one<P: Program, X: Expand, Q: Port>(
         &mut self,
         program: &P,
@@ -224,9 +225,9 @@ impl BoundCore {
         while let Turned::Took(_entry) = self.turn(program, x, end, port) {}
     }
 
-    // Makes the access that the core waits for.
+    /// Makes the access that the core waits for.
     #[inline(always)]
-    #[tactic(auto, unfolding(crate::specs::Timed::core_after_access))]
+    #[tactic(auto, unfolding(crate::specs::TimedCore::core_after_access))]
     fn access<X: Expand, Q: Port>(&mut self, x: &X, port: &mut Q, request: Request) -> Entry
         requires asked { asks self.old.timed ≡ Some request }
         requires core { Q.core port.old ≡ self.old.number }
@@ -261,7 +262,7 @@ impl BoundCore {
         entry
     }
 
-    // Executes its local instructions: up to an access, a halt or the end of the interval.
+    /// Executes its local instructions: up to an access, a halt or the end of the interval.
     #[inline(always)]
     fn run_local<P: Program>(&mut self, program: &P, end: Cycle)
         ensures value { self.new.timed ≡ ran_to (P.image program.now) end self.old.timed }
@@ -283,11 +284,11 @@ impl BoundCore {
         self.instructions += counted;
     }
 
-    // Executes one instruction, up to its first access if it has one, and counts it. It answers whether
-    // the core comes to a next instruction. The clock and the count of instructions stay behind, by
-    // what was counted: so the loop has them at hand, and not in memory.
+    /// Executes one instruction, up to its first access if it has one, and counts it. It answers
+    /// whether the core comes to a next instruction. The clock and the count of instructions stay
+    /// behind, by what was counted: so the loop has them at hand, and not in memory.
     #[inline(always)]
-    #[tactic(auto, unfolding(crate::specs::Timed::after_instruction))]
+    #[tactic(auto, unfolding(crate::specs::TimedCore::after_instruction))]
     fn step<P: Program>(&mut self, program: &P, counted: &mut u64) -> bool
         requires free { IsTrue (is_free self.old.timed.core) }
         requires few { counted.old < 2 ^ 64 - 1 }
@@ -306,7 +307,7 @@ impl BoundCore {
     }
 }
 
-// Whether the instruction that left a core halted for this reason, or not halted, is counted.
+/// Whether the instruction that left a core halted for this reason, or not halted, is counted.
 #[inline]
 fn is_counted(halted: Option<Why>) -> bool
     ensures { cost halted ≡ (if result then 1 else 0) }

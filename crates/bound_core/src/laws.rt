@@ -83,8 +83,8 @@ pub fn ends_where_all_are_over<World>()
         → EndsWhereAllAreOver serve time image end }
 {}
 
-/// Where a port answers what a world does, the turns of a core through it are those of the machine of
-/// one thread under the schedule that names the core for each.
+/// Where a port answers what a world does, the turns of a core through it are those of the machine
+/// of one thread under the schedule that names the core for each.
 pub fn turns_are_scheduled<Q: Port, World>()
     ensures one { (world : Q → World) (serve : World → (core start : ℕ) → Request → Entry × World)
         → TurnIsScheduled Q.gives world serve }
@@ -92,9 +92,9 @@ pub fn turns_are_scheduled<Q: Port, World>()
         → TurnsAreScheduled Q.gives world serve }
 {}
 
-/// How a bound phase is followed from turn to turn: it begins without a turn, goes on by a turn, by a
-/// core's local instructions or by all turns of a core that are left, and is the whole bound phase where
-/// every core is over.
+/// How a bound phase is followed from turn to turn: it begins without a turn, goes on by a turn, by
+/// a core's local instructions or by all turns of a core that are left, and is the whole bound
+/// phase where every core is over.
 pub fn turns_lead_on<Q: Port, World>()
     ensures begins { (serve : World → (core start : ℕ) → Request → Entry × World) (time : Entry → ℕ) (image : MemoryImage) (end : ℕ)
         → BeginsAtItself serve time image end }
@@ -108,9 +108,9 @@ pub fn turns_lead_on<Q: Port, World>()
         → IsThePhaseAtTheEnd serve time image end }
 {}
 
-/// A history of an interval is a bound phase: whatever the order in which the cores took their turns at
-/// the shards, the schedule of the entries' cores is legal, and gives these entries, these cores and
-/// these shards.
+/// A history of an interval is a bound phase: whatever the order in which the cores took their
+/// turns at the shards, the schedule of the entries' cores is legal, and gives these entries, these
+/// cores and these shards.
 pub fn histories_are_phases()
     ensures { (time : Entry → ℕ) (image : MemoryImage) (end : ℕ) → HistoriesArePhases time image end }
 {}
@@ -120,8 +120,8 @@ pub fn phases_are_histories()
     ensures { (time : Entry → ℕ) (image : MemoryImage) (end : ℕ) → PhasesAreHistories time image end }
 {}
 
-/// Turns that were taken one after the other make a history, once every core is over: so do those of
-/// cores that run to the end of the interval one after the other.
+/// Turns that were taken one after the other make a history, once every core is over: so do those
+/// of cores that run to the end of the interval one after the other.
 pub fn turns_make_a_history()
     ensures { (time : Entry → ℕ) (image : MemoryImage) (end : ℕ) → TurnsMakeAHistory time image end }
 {
@@ -133,16 +133,16 @@ pub fn turns_are_the_cores_own<Q: Port>()
     ensures { TurnsAreTheCoresOwn Q.gives }
 {}
 
-/// The entries of a history in recorded order are a history of the same cores and shards. So the turns
-/// in recorded order are legal, and leave what the turns left as they were taken.
+/// The entries of a history in recorded order are a history of the same cores and shards. So the
+/// turns in recorded order are legal, and leave what the turns left as they were taken.
 pub fn recorded_order_is_a_history()
     ensures { (time : Entry → ℕ) (image : MemoryImage) (end : ℕ) → RecordedOrderIsHistory time image end }
 {
     access_log::laws::recorded_order_keeps_the_stamps();
 }
 
-/// Where cores and shards stand for a machine, every bound phase over the shards is that of the machine,
-/// and so is every place at which a schedule is not legal.
+/// Where cores and shards stand for a machine, every bound phase over the shards is that of the
+/// machine, and so is every place at which a schedule is not legal.
 pub fn shards_do_as_the_machine()
     ensures { (time : Entry → ℕ) (image : MemoryImage) (end : ℕ) → ShardsDoAsTheMachine time image end }
 {
@@ -152,8 +152,8 @@ pub fn shards_do_as_the_machine()
     shard::laws::shards_stand_for_a_machine();
 }
 
-/// Whatever the order in which cores took their turns at the shards, in recorded order the entries are a
-/// run of the machine of one thread for which the cores and the shards stand.
+/// Whatever the order in which cores took their turns at the shards, in recorded order the entries
+/// are a run of the machine of one thread for which the cores and the shards stand.
 pub fn histories_are_runs_of_the_machine()
     ensures { (time : Entry → ℕ) (image : MemoryImage) (end : ℕ) → HistoriesAreRunsOfTheMachine time image end }
 {
@@ -162,8 +162,8 @@ pub fn histories_are_runs_of_the_machine()
     shards_do_as_the_machine();
 }
 
-/// The cores and the new shards of a machine stand for its first world, and cores and shards that stand
-/// for a machine stand for it in the next interval, where all last stamps are 0 again.
+/// The cores and the new shards of a machine stand for its first world, and cores and shards that
+/// stand for a machine stand for it in the next interval, where all last stamps are 0 again.
 pub fn intervals_begin()
     ensures first { FirstIntervalBegins }
     ensures next { NextIntervalBegins }

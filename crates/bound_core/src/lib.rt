@@ -5,11 +5,9 @@ mod bounded;
 pub mod laws;
 mod port;
 mod shard_port;
-#[cfg(test)]
-mod tests;
 mod turned;
 
-pub use bounded::BoundCore;
+pub use bounded::{BESIDE_CYCLES, BoundCore};
 pub use port::Port;
 pub use shard_port::ShardPort;
 pub use turned::Turned;

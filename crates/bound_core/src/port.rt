@@ -1,4 +1,4 @@
-// What serves the accesses of a core.
+//! What serves the accesses of a core.
 ghost use Rattle.std.specs.Prelude.{◌≡◌, ◌+◌, ◌≤◌, ℕ, List, [], ◌∷◌, Option};
 ghost use Rattle.zs_num.specs.declared.entry.Entry.{Entry};
 ghost use Rattle.zs_num.specs.declared.request.Request.{Request};

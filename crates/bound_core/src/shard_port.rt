@@ -1,4 +1,4 @@
-// The accesses of cores to a plain list of shards.
+//! The accesses of cores to a plain list of shards.
 ghost use Rattle.std.specs.Prelude.{◌≡◌, ◌<◌, ◌≤◌, ◌-◌, ◌^◌, length, map, replicate, IfOk, IfErr, OnErr};
 ghost use Rattle.bound_core.specs.ShardPort.{base_in, base_of, room_of, size_in, size_of, AreShardsOf};
 ghost use Rattle.bound_core.specs.ShardWorld.{begun_world, restarted, shards_serve};
@@ -10,8 +10,9 @@ use std::alloc::Global;
 use std::marker::Model;
 use zs_num::{Cycle, Entry, NoMemory, Request, Stamp};
 
-/// Shards in order of their numbers, and the stamp of each core's latest access. The accesses are those
-/// of one core until another is chosen. Contracts see the shards with the stamps, and the core.
+/// Shards in order of their numbers, and the stamp of each core's latest access. The accesses are
+/// those of one core until another is chosen. Contracts see the shards with the stamps, and the
+/// core.
 #[derive(Drop)]
 pub struct ShardPort {
     shards: Vec<Shard>,
@@ -30,8 +31,8 @@ impl Model for ShardPort {
 }
 
 impl ShardPort {
-    /// A port for so many cores, the first of which is chosen, before the first access of an interval.
-    /// Where memory runs out, the shards come back as they were.
+    /// A port for so many cores, the first of which is chosen, before the first access of an
+    /// interval. Where memory runs out, the shards come back as they were.
     pub fn new(
         alloc: Global,
         shards: Vec<Shard>,
@@ -82,7 +83,7 @@ impl ShardPort {
     }
 }
 
-// Sets the last stamps of all shards to 0.
+/// Sets the last stamps of all shards to 0.
 fn restart_all(shards: &mut [Shard])
     ensures { shards.new ≡ map restarted shards.old }
 {

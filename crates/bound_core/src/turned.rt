@@ -1,4 +1,4 @@
-// What a turn of a core gives.
+//! What a turn of a core gives.
 use zs_num::Entry;
 
 /// What a turn gives.

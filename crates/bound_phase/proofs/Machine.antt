@@ -19,8 +19,8 @@ use Rattle.bound_core.specs.MachineWorld as machine
 use Rattle.bound_core.specs.MachineWorld.{MachineWorld}
 use Rattle.bound_core.specs.ReferenceMachine.{BoundState, access_served, and_then, are_done, at_end, bound_from, bound_phase, legal_at, turn, turn_at}
 use Rattle.bound_core.specs.ShardWorld.{ShardWorld, restarted}
-use Rattle.bound_core.specs.Timed.{TimedCore, asks, ran_to, timed_of}
-use Rattle.bound_phase.specs.Laws.{AreOfOneMemory, BoundsAreOfTheMachine, BoundsArePhases, schedule_of}
+use Rattle.bound_core.specs.TimedCore.{TimedCore, asks, ran_to, timed_of}
+use Rattle.bound_phase.specs.Laws.{AreOfOneMemory, BoundsAreOfTheMachine, BoundsArePhases, turns_of}
 
 -- ---- what was legal
 
@@ -108,9 +108,9 @@ module _ (time : Entry → ℕ) (image : MemoryImage) (end : ℕ) where
       let left : BoundState MachineWorld = run.left in
       let cores_are : left.cores ≡ timed_of cores_after = run.cores_are ∙ sym b.cores_are in
       let entries_are : left.entries ≡ entries = run.entries_are ∙ b.in_order in
-      let phase : bound_phase machine.serve time image end (schedule_of entries) (begun_over_machine timed m) ≡ Ok left =
-      subst (λ (es : List Entry). bound_phase machine.serve time image end (schedule_of es) (begun_over_machine timed m) ≡ Ok left) b.in_order run.phase in
-      let served = served_from 0 (schedule_of entries) (begun_over_machine timed m) left phase in
+      let phase : bound_phase machine.serve time image end (turns_of entries) (begun_over_machine timed m) ≡ Ok left =
+      subst (λ (es : List Entry). bound_phase machine.serve time image end (turns_of es) (begun_over_machine timed m) ≡ Ok left) b.in_order run.phase in
+      let served = served_from 0 (turns_of entries) (begun_over_machine timed m) left phase in
       let same : served.0 ≡ entries = sym served.1 ∙ entries_are in
       let after_all : ShardWorld = (after_history time image end timed begun_shards entries).world in
       record {

@@ -8,7 +8,7 @@ use Rattle.shard.specs.Served.{ShardState}
 use Rattle.shard_table.specs.Access.{AreNewSeats, SeatState, TableState}
 use Rattle.bound_core.specs.ShardPort.{AreShardsOf, IsShardAt}
 use Rattle.bound_core.specs.ShardWorld.{restarted}
-use Rattle.bound_core.specs.Timed.{NumberedCore, TimedCore, timed_of}
+use Rattle.bound_core.specs.TimedCore.{NumberedCore, TimedCore, timed_of}
 use Rattle.bound_phase.specs.Bounds.{AreSeated, CanBound, HasConsoleRoom, IsAtStart}
 use Rattle.bound_phase.proofs.Ending.{all_here, made_at}
 use Rattle.bound_phase.proofs.Whole.{agreed_at}

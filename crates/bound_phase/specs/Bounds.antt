@@ -10,11 +10,11 @@ use Rattle.access_log.specs.RecordedOrder.{recorded_order}
 use Rattle.bound_core.specs.History.{IsHistory, after_history}
 use Rattle.bound_core.specs.ShardPort.{AreShardsOf}
 use Rattle.bound_core.specs.ShardWorld.{restarted}
-use Rattle.bound_core.specs.Timed.{NumberedCore, timed_of}
+use Rattle.bound_core.specs.TimedCore.{NumberedCore, timed_of}
 use Rattle.bound_core.specs.Turn.{IsOver}
 
--- A core of this machine between two instructions. Unless it has halted, the interval that ends at `end` is one of the machine's
--- length at most from its clock.
+-- A core of this machine between two instructions. Unless it has halted, the interval that ends at `end` is one of the
+-- machine's length at most from its clock.
 pub record IsAtStart (m : Machine) (end : ℕ) (c : NumberedCore) : Type 0 where
   pub idle : c.timed.core.instruction ≡ None
   pub base : c.timed.core.memory.base ≡ m.memory.base
@@ -30,8 +30,8 @@ pub record CanBound (m : Machine) (end : ℕ) (cores : List NumberedCore) (shard
   pub shards_are : AreShardsOf m.cores shards m.memory.base m.memory.size
   pub banks : length shards ≡ m.l2.banks
 
--- The entries, in recorded order, are a history of the interval, whatever the order in which the cores took their turns; the
--- cores and the shards are what it leaves.
+-- The entries, in recorded order, are a history of the interval, whatever the order in which the cores took their
+-- turns; the cores and the shards are what it leaves.
 pub record IsBound (time : Entry → ℕ) (image : MemoryImage) (end : ℕ) (cores : List NumberedCore) (shards : List ShardState)
     (cores_after : List NumberedCore) (shards_after : List ShardState) (entries : List Entry) : Type 0 where
   pub history : IsHistory time image end (timed_of cores) (map restarted shards) entries
@@ -40,9 +40,9 @@ pub record IsBound (time : Entry → ℕ) (image : MemoryImage) (end : ℕ) (cor
   pub numbers : map (λ c. c.number) cores_after ≡ map (λ c. c.number) cores
   pub shards_are : shards_after ≡ (after_history time image end (timed_of cores) (map restarted shards) entries).world.shards
 
--- Every core has halted or come to the end of the interval. No access starts more than 2^28 cycles behind the end, no clock
--- is more than 2^28 cycles behind where it began or behind the end, and each core has an access for each cycle and 258 more
--- at most.
+-- Every core has halted or come to the end of the interval. No access starts more than 2^28 cycles behind the end, no
+-- clock is more than 2^28 cycles behind where it began or behind the end, and each core has an access for each cycle
+-- and 258 more at most.
 pub record HaveEnded (m : Machine) (end : ℕ) (cores cores_after : List NumberedCore) (entries : List Entry) : Type 0 where
   pub over : All (IsOver end) (timed_of cores_after)
   pub starts : All (λ e. e.start ≤ end + 2 ^ 28) entries

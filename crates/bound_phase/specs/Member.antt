@@ -7,7 +7,7 @@ use Rattle.elf_load.specs.MemoryImage.{MemoryImage}
 use Rattle.shard_table.specs.Access.{IsSameSeat, IsSeatOf, TableState}
 use Rattle.bound_core.specs.History.{AreTurnsOf, after_turn}
 use Rattle.bound_core.specs.ShardPort.{AreShardsOf}
-use Rattle.bound_core.specs.Timed.{ran_to}
+use Rattle.bound_core.specs.TimedCore.{ran_to}
 use Rattle.bound_core.specs.Turn.{IsOver}
 use Rattle.bound_phase.specs.declared.member.Member.{Member}
 

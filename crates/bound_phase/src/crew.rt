@@ -43,8 +43,8 @@ fn work<R: Wait, G: Gate, P: Program, X: Expand>(
     }
 }
 
-/// All workers run their cores to the end of the interval, each in a thread of its own where one can be
-/// made.
+/// All workers run their cores to the end of the interval, each in a thread of its own where one
+/// can be made.
 pub(crate) fn work_all<R: Threads + Wait + Sync, G: Gate, P: Program + Sync, X: Expand + Sync>(
     rt: &R,
     gate: &G,

@@ -1,4 +1,5 @@
-//! Which worker runs which cores: worker w of W those whose number is w modulo W, in ascending order.
+//! Which worker runs which cores: worker w of W those whose number is w modulo W, in ascending
+//! order.
 ghost use Rattle.std.specs.Prelude.{◌≡◌, ◌<◌, ◌≤◌, ℕ, [], All, length, map, slice_index_or, vec_capacity, IfOk};
 ghost use Rattle.bound_phase.specs.declared.crew.Crew.{Crew};
 ghost use Rattle.bound_phase.specs.Shares.{AreEmpty, AreReturned, HaveShares, HaveSizes, mates};

@@ -7,7 +7,7 @@ ghost use Rattle.bound_phase.specs.Shares.{AreEmpty, HaveReturned, mates};
 use crate::crew::{Crew, work_all};
 use crate::hiring::{crews, hire, let_go};
 use access_log::{CoreLog, Merger};
-use bound_core::BoundCore;
+use bound_core::{BESIDE_CYCLES, BoundCore};
 use event_graph::Expand;
 use machine_desc::Machine;
 use rv_core::Program;
@@ -22,15 +22,15 @@ use zs_num::{Cycle, Entries, Entry, NoMemory};
 
 /// Memory that one bound phase leaves to the next.
 #[derive(Drop)]
-pub struct PhaseMemory {
+pub struct PhaseBuffers {
     list: Vec<Entry>,
     logs: Vec<CoreLog>,
 }
 
-impl PhaseMemory {
+impl PhaseBuffers {
     /// No memory, as before the first bound phase.
     pub fn new(alloc: Global) -> Self {
-        PhaseMemory {
+        PhaseBuffers {
             list: Vec::new(alloc),
             logs: Vec::new(alloc),
         }
@@ -51,9 +51,6 @@ impl PhaseMemory {
     }
 }
 
-/// What a core can access in an interval, beside one access for each cycle.
-const BESIDE_CYCLES: u32 = 258;
-
 /// Cores and shards at the end of an interval, and the accesses of all cores in recorded order.
 #[derive(Drop)]
 pub struct Bounded {
@@ -62,10 +59,10 @@ pub struct Bounded {
     pub entries: Entries,
 }
 
-/// Runs the cores to the end of the interval, cycle `end`, by so many workers: each runs the cores whose
-/// number is its own modulo the number of workers, in ascending order. Before each access, when it has
-/// no shard's turn, a worker passes the gate. Where memory runs out, cores and shards come back as they
-/// were, with no entries.
+/// Runs the cores to the end of the interval, cycle `end`, by so many workers: each runs the cores
+/// whose number is its own modulo the number of workers, in ascending order. Before each access,
+/// when it holds no shard, a worker passes the gate. Where memory runs out, cores and shards come
+/// back as they were, with no entries.
 pub fn bound<R: Threads + Wait + Sync, G: Gate, P: Program + Sync, X: Expand + Sync>(
     rt: &R,
     alloc: Global,
@@ -88,11 +85,11 @@ pub fn bound<R: Threads + Wait + Sync, G: Gate, P: Program + Sync, X: Expand + S
     ensures shards { IfErr result (λ back. back.1.shards.items ≡ shards.items) }
     ensures none { IfErr result (λ back. back.1.entries ≡ []) }
 {
-    let mut memory = PhaseMemory::new(alloc);
+    let mut buffers = PhaseBuffers::new(alloc);
     bound_in(
         rt,
         alloc,
-        &mut memory,
+        &mut buffers,
         machine,
         program,
         x,
@@ -104,15 +101,15 @@ pub fn bound<R: Threads + Wait + Sync, G: Gate, P: Program + Sync, X: Expand + S
     )
 }
 
-/// Runs the cores to the end of the interval, cycle `end`, by so many workers: each runs the cores whose
-/// number is its own modulo the number of workers, in ascending order. Before each access, when it has
-/// no shard's turn, a worker passes the gate. Where memory runs out, cores and shards come back as they
-/// were, with no entries. Of the memory, that which an earlier bound phase left is taken first, and what
-/// the next can take is left.
+/// Runs the cores to the end of the interval, cycle `end`, by so many workers: each runs the cores
+/// whose number is its own modulo the number of workers, in ascending order. Before each access,
+/// when it holds no shard, a worker passes the gate. Where memory runs out, cores and shards come
+/// back as they were, with no entries. Of the memory, that which an earlier bound phase left is
+/// taken first, and what the next can take is left.
 pub fn bound_in<R: Threads + Wait + Sync, G: Gate, P: Program + Sync, X: Expand + Sync>(
     rt: &R,
     alloc: Global,
-    left: &mut PhaseMemory,
+    left: &mut PhaseBuffers,
     machine: &Machine,
     program: &P,
     x: &X,
@@ -137,19 +134,18 @@ pub fn bound_in<R: Threads + Wait + Sync, G: Gate, P: Program + Sync, X: Expand 
     access_log::laws::cores_decide_the_order();
     let list = left.take_list(alloc);
     let earlier = left.take_logs(alloc);
-    let Ok(memory) = Memory::new(alloc, machine, &mut cores, workers, list) else {
+    let Ok(memory) = Buffers::new(alloc, machine, &mut cores, workers, list) else {
         return Err((NoMemory, no_entries(alloc, cores, shards)));
     };
-    let Memory {
+    let Buffers {
         mut crews,
         mut back,
         mut seats_back,
         merger,
     } = memory;
-    let room = machine.interval as u32 + BESIDE_CYCLES;
-    match ShardTable::make_over(alloc, shards, machine.cores, room, earlier) {
+    match ShardTable::make_over(alloc, shards, machine.cores, room_of(machine), earlier) {
         Ok((table, seats)) => {
-            take_turns(
+            run_crews(
                 rt,
                 gate,
                 &table,
@@ -176,8 +172,9 @@ pub fn bound_in<R: Threads + Wait + Sync, G: Gate, P: Program + Sync, X: Expand 
     }
 }
 
-// All cores run to the end of the interval, and come back in order of their numbers with their seats.
-fn take_turns<R: Threads + Wait + Sync, G: Gate, P: Program + Sync, X: Expand + Sync>(
+/// All cores run to the end of the interval, and come back in order of their numbers with their
+/// seats.
+fn run_crews<R: Threads + Wait + Sync, G: Gate, P: Program + Sync, X: Expand + Sync>(
     rt: &R,
     gate: &G,
     table: &ShardTable,
@@ -204,7 +201,7 @@ fn take_turns<R: Threads + Wait + Sync, G: Gate, P: Program + Sync, X: Expand + 
     let_go(crews, machine.cores, back, seats_back);
 }
 
-// Cores and shards as they were handed in.
+/// Cores and shards as they were handed in.
 fn no_entries(alloc: Global, cores: Vec<BoundCore>, shards: Vec<Shard>) -> Bounded
     ensures { result ≡ record { cores = cores; shards = shards; entries = [] } }
 {
@@ -215,15 +212,23 @@ fn no_entries(alloc: Global, cores: Vec<BoundCore>, shards: Vec<Shard>) -> Bound
     }
 }
 
-// All memory that a bound phase takes, beside that of the table.
-struct Memory {
+/// The room for the accesses of a core.
+fn room_of(machine: &Machine) -> u32
+    requires { IsMachine machine.now }
+    ensures { result ≡ machine.now.interval + 258 }
+{
+    (machine.interval + BESIDE_CYCLES) as u32
+}
+
+/// All memory that a bound phase takes, beside that of the table.
+struct Buffers {
     crews: Vec<Crew>,
     back: Vec<BoundCore>,
     seats_back: Vec<CoreSeat>,
     merger: Merger,
 }
 
-impl Memory {
+impl Buffers {
     fn new(
         alloc: Global,
         machine: &Machine,
@@ -244,17 +249,16 @@ impl Memory {
         ensures merger { IfOk result (λ m. m.merger ≡ machine.now.cores * (machine.now.interval + 258)) }
     {
         reserve_all(cores, machine.interval)?;
-        let room = machine.interval as u32 + BESIDE_CYCLES;
-        Ok(Memory {
+        Ok(Buffers {
             crews: crews(alloc, workers.min(machine.cores), machine.cores)?,
             back: Vec::with_capacity(alloc, usize::from(machine.cores))?,
             seats_back: Vec::with_capacity(alloc, usize::from(machine.cores))?,
-            merger: Merger::over(list, u32::from(machine.cores) * room)?,
+            merger: Merger::over(list, u32::from(machine.cores) * room_of(machine))?,
         })
     }
 }
 
-// Makes room on the console of each core for what it can write in the interval.
+/// Makes room on the console of each core for what it can write in the interval.
 fn reserve_all(cores: &mut [BoundCore], interval: u64) -> Result<(), NoMemory>
     requires { interval ≤ 10000 }
     ensures count { length cores.new ≡ length cores.old }

@@ -1,5 +1,5 @@
-//! The bound phase of an interval by several workers: each runs its cores to the end of the interval,
-//! and their accesses go to shards that all share. Whatever the order in which they take their turns at
+//! The bound phase of an interval by several workers: each runs its cores to the end of the
+//! interval, and their accesses go to shards that all share. Whatever the order in which they hold
 //! the shards, the accesses in recorded order are those of the machine of one thread.
 #![tactic(auto)]
 
@@ -12,4 +12,4 @@ mod seat_port;
 #[cfg(test)]
 mod tests;
 
-pub use interval::{Bounded, PhaseMemory, bound, bound_in};
+pub use interval::{Bounded, PhaseBuffers, bound, bound_in};

@@ -9,8 +9,8 @@ use std::sync::Wait;
 use zs_host::{Gate, Point};
 use zs_num::{Cycle, Entry, Request};
 
-/// What serves the accesses of a core through its seat at a table of shards. Before each access, when
-/// it has no shard's turn, it passes the gate.
+/// What serves the accesses of a core through its seat at a table of shards. Before each access,
+/// when it holds no shard, it passes the gate.
 #[derive(Drop)]
 pub(crate) struct SeatPort<'a, R: Wait, G: Gate> {
     pub rt: &'a R,

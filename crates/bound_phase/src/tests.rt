@@ -1,9 +1,9 @@
-// The first interval of small programs by several workers.
+//! The first interval of small programs by several workers.
 ghost use Rattle.std.specs.Prelude.{◌≡◌, ◌<◌, ◌≤◌, ℕ, All, IfOk, Some, length, slice_get};
 ghost use Rattle.machine_desc.specs.Machine.{IsMachine};
 ghost use Rattle.shard.specs.StandsFor.{new_shards};
 ghost use Rattle.bound_core.specs.ShardPort.{AreShardsOf};
-ghost use Rattle.bound_core.specs.Timed.{NumberedCore};
+ghost use Rattle.bound_core.specs.TimedCore.{NumberedCore};
 ghost use Rattle.bound_phase.specs.Bounds.{IsAtStart};
 
 use crate::{Bounded, bound};
@@ -14,15 +14,13 @@ use machine_desc::{Machine, read};
 use rv_core::{DecodedProgram, Why};
 use shard::Shard;
 use std::alloc::Global;
-use std::hint;
 use std::sync::Wait;
-use std::sync::atomic::{AtomicU64, Ordering};
 use std::test::Fail;
 use std::thread::Threads;
-use zs_host::{Gate, OpenGate, Point};
+use zs_host::{Gate, MeetingGate, OpenGate, Passes};
 use zs_num::{NoMemory, Request};
 
-// Two cores, and two banks. The cores' stacks end in lines of different banks.
+/// Two cores, and two banks. The cores' stacks end in lines of different banks.
 static TWO_CORES: &str = "version = 1
 cores = 2
 interval = 10000
@@ -59,7 +57,7 @@ banks = [0, 1]
 controllers = [1]
 ";
 
-// Four cores, and one bank.
+/// Four cores, and one bank.
 static FOUR_CORES: &str = "version = 1
 cores = 4
 interval = 10000
@@ -96,7 +94,7 @@ banks = [0]
 controllers = [0]
 ";
 
-// An executable of eight words, by the ELF-64 object file format, up to its code at byte 120.
+/// An executable of eight words, by the ELF-64 object file format, up to its code at byte 120.
 static FRONT: [u8; 120] = [
     0x7f, 0x45, 0x4c, 0x46, 0x02, 0x01, 0x01, 0x00, 0x00, 0x00, 0x00, 0x00, 0x00, 0x00, 0x00, 0x00,
     0x02, 0x00, 0xf3, 0x00, 0x01, 0x00, 0x00, 0x00, 0x00, 0x00, 0x01, 0x00, 0x00, 0x00, 0x00, 0x00,
@@ -108,11 +106,11 @@ static FRONT: [u8; 120] = [
     0x01, 0x00, 0x00, 0x00, 0x00, 0x00, 0x00, 0x00,
 ];
 
-// ld x5, -8(x2); addi x17, x0, 93; ecall
+/// ld x5, -8(x2); addi x17, x0, 93; ecall
 static ONE_LOAD: [u32; 8] = [0xFF81_3283, 0x05D0_0893, 0x0000_0073, 0, 0, 0, 0, 0];
 
-// lui x5, 17; addi x6, x0, 100; amoadd.d x10, x11, (x5); addi x6, x6, -1; bne x6, x0, -8;
-// addi x17, x0, 93; ecall
+/// lui x5, 17; addi x6, x0, 100; amoadd.d x10, x11, (x5); addi x6, x6, -1; bne x6, x0, -8;
+/// addi x17, x0, 93; ecall
 static RACE: [u32; 8] = [
     0x0001_12B7,
     0x0640_0313,
@@ -124,7 +122,7 @@ static RACE: [u32; 8] = [
     0,
 ];
 
-// The machine of a description.
+/// The machine of a description.
 fn described(alloc: Global, text: &str) -> Result<Machine, NoMemory>
     ensures { IfOk result IsMachine }
 {
@@ -134,7 +132,7 @@ fn described(alloc: Global, text: &str) -> Result<Machine, NoMemory>
     }
 }
 
-// The image of eight words in the machine's memory.
+/// The image of eight words in the machine's memory.
 fn image_of(alloc: Global, machine: &Machine, words: &[u32; 8]) -> Result<Image, NoMemory>
     requires { IsMachine machine.now }
     ensures base { IfOk result (λ image. image.base ≡ machine.now.memory.base) }
@@ -150,7 +148,7 @@ fn image_of(alloc: Global, machine: &Machine, words: &[u32; 8]) -> Result<Image,
     }
 }
 
-// The cores of a machine before its first interval.
+/// The cores of a machine before its first interval.
 fn first_cores(alloc: Global, machine: &Machine, image: &Image) -> Result<Vec<BoundCore>, NoMemory>
     requires { IsMachine machine.now }
     ensures count { IfOk result (λ cores. length cores.items ≡ machine.now.cores) }
@@ -164,7 +162,7 @@ fn first_cores(alloc: Global, machine: &Machine, image: &Image) -> Result<Vec<Bo
     Ok(cores)
 }
 
-// The shards of a machine before its first interval.
+/// The shards of a machine before its first interval.
 fn first_shards(alloc: Global, machine: &Machine, image: &Image) -> Result<Vec<Shard>, NoMemory>
     requires machine { IsMachine machine.now }
     requires base { image.now.base ≡ machine.now.memory.base }
@@ -189,7 +187,7 @@ fn shards_of(alloc: Global, machine: &Machine, image: &Image) -> Result<Vec<Shar
     Ok(shards)
 }
 
-// The first interval of eight words on a machine.
+/// The first interval of eight words on a machine.
 fn first_interval<R: Threads + Wait + Sync, G: Gate>(
     rt: &R,
     alloc: Global,
@@ -215,66 +213,20 @@ fn first_interval<R: Threads + Wait + Sync, G: Gate>(
     }
 }
 
-// A gate at which the first access of each of two cores waits until the other core has come to its own.
-// It counts the accesses of each, and the cores that met the other one.
-#[derive(Drop)]
-struct Meeting {
-    first: AtomicU64,
-    second: AtomicU64,
-    met: AtomicU64,
-}
-
-impl Meeting {
-    fn new() -> Self {
-        Meeting {
-            first: AtomicU64::new(0),
-            second: AtomicU64::new(0),
-            met: AtomicU64::new(0),
-        }
-    }
-
-    // How often the first core passed, how often the second did, and how many of them met the other.
-    fn counts(&self) -> (u64, u64, u64) {
-        (
-            self.first.load(Ordering::SeqCst),
-            self.second.load(Ordering::SeqCst),
-            self.met.load(Ordering::SeqCst),
-        )
-    }
-
-    fn meet(&self, own: &AtomicU64, other: &AtomicU64) {
-        if own.fetch_add(1, Ordering::SeqCst) > 0 {
-            return;
-        }
-        for _ in 0..50_000_000 {
-            if other.load(Ordering::SeqCst) > 0 {
-                self.met.fetch_add(1, Ordering::SeqCst);
-                return;
-            }
-            hint::spin_loop();
-        }
-    }
-}
-
-impl Gate for Meeting {
-    fn pass(&self, _worker: u16, point: Point) {
-        match point {
-            Point::Access { core: 0 } => self.meet(&self.first, &self.second),
-            Point::Access { .. } => self.meet(&self.second, &self.first),
-            Point::Fire { .. } => {}
-        }
-    }
-}
-
-// Both cores come to their first access before either makes it, so two workers run them beside each
-// other. One worker runs them one after the other: then the first core waits in vain.
+/// Both cores come to their first access before either makes it, so two workers run them beside
+/// each other. One worker runs them one after the other: then the first core waits in vain.
 #[test]
 fn two_workers_run_two_cores_beside_each_other(rt: HostRuntime) -> Result<(), Fail> {
     let alloc = rt.alloc();
     for (workers, met) in [(2, 2), (1, 1)] {
-        let gate = Meeting::new();
+        let gate = MeetingGate::new();
         let bounded = first_interval(&rt, alloc, TWO_CORES, &ONE_LOAD, workers, &gate)?;
-        assert_eq!(rt; gate.counts(), (1, 1, met));
+        let passes = Passes {
+            first: 1,
+            second: 1,
+            met,
+        };
+        assert_eq!(rt; gate.cores(), passes);
         assert_eq!(rt; bounded.shards.len(), 2);
         assert_eq!(rt; bounded.cores.len(), 2);
         for core in &bounded.cores {
@@ -289,8 +241,8 @@ fn two_workers_run_two_cores_beside_each_other(rt: HostRuntime) -> Result<(), Fa
     Ok(())
 }
 
-// Each of four cores adds 4 a hundred times to one number. Whoever runs them, the additions in recorded
-// order find 0, 4, 8 and so on, and the core that came last found 1,596.
+/// Each of four cores adds 4 a hundred times to one number. Whoever runs them, the additions in
+/// recorded order find 0, 4, 8 and so on, and the core that came last found 1,596.
 #[test]
 fn cores_that_race_lose_no_addition(rt: HostRuntime) -> Result<(), Fail> {
     let alloc = rt.alloc();

@@ -1,4 +1,4 @@
-// The states of a line in a core's cache.
+//! The states of a line in a core's cache.
 ghost use Rattle.std.specs.Prelude.{◌≡◌};
 ghost use Rattle.cache_set.specs.Letters.{mark_of, letter_of};
 

@@ -4,8 +4,6 @@
 
 mod letter;
 mod set;
-#[cfg(test)]
-mod tests;
 
 pub use letter::Letter;
 pub use set::{Set, Way};

@@ -1,4 +1,4 @@
-// One set: its tags in one list, the most recently used first, and their marks beside it.
+//! One set: its tags in one list, the most recently used first, and their marks beside it.
 ghost use Rattle.std.specs.Prelude.{◌≡◌, ◌+◌, ◌<◌, ◌≤◌, ◌↔◌, [], ◌∷◌, length, nat_eq, vec_len, vec_capacity, slice_index_or, option_map, IfOk, IfSome, IsSome, IsNone};
 ghost use Rattle.std.specs.List.{position, remove};
 ghost use Rattle.cache_set.specs.Ways.{IsWaySet, kept_of, without, used, filled, changed, last_of_full, way_of};
@@ -123,7 +123,7 @@ impl Set {
     }
 }
 
-// The place of a line among the tags.
+/// The place of a line among the tags.
 fn place_of(tags: &[u64], line: u64) -> Option<usize>
     ensures value { result ≡ position (nat_eq line) tags.now }
     ensures bound { IfSome result (λ place. place < length tags.now) }
@@ -131,7 +131,7 @@ fn place_of(tags: &[u64], line: u64) -> Option<usize>
     tags.iter().position(|tag| line == *tag)
 }
 
-// Moves an item to the front. Those before it move up.
+/// Moves an item to the front. Those before it move up.
 fn to_front<T: Drop>(list: &mut Vec<T>, place: usize)
     requires { place < vec_len list.old }
     ensures items { (d : T) → list.new.items
@@ -144,7 +144,7 @@ fn to_front<T: Drop>(list: &mut Vec<T>, place: usize)
     }
 }
 
-// Puts an item before the others, for which there is room.
+/// Puts an item before the others, for which there is room.
 fn put_first<T: Drop>(list: &mut Vec<T>, item: T)
     requires { vec_len list.old < vec_capacity list.old }
     ensures items { list.new.items ≡ item ∷ list.old.items }

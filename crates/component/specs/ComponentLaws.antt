@@ -2,8 +2,8 @@
 use Rattle.std.specs.Prelude.{◌≡◌, ◌+◌, ◌≤◌, ℕ, Bool, IsTrue}
 use Rattle.component.specs.declared.kind.Kind.{Kind}
 
--- whether a component serves a kind; the least time from an event's start to its finish; the component after an event of
--- a kind that starts then, and the event's finish; and the greatest sum of that step
+-- whether a component serves a kind; the least time from an event's start to its finish; the component after an event
+-- of a kind that starts then, and the event's finish; and the greatest sum of that step
 abbrev pub Serves : Type 0 → Type 0
 Serves C = C → Kind → Bool
 

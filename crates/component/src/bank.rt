@@ -1,4 +1,4 @@
-// A bank of the shared cache.
+//! A bank of the shared cache.
 ghost use Rattle.std.specs.Prelude.{◌≤◌};
 
 use crate::{Component, Kind};

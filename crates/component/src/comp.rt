@@ -1,4 +1,4 @@
-// A component of this machine: a bank or a controller.
+//! A component of this machine: a bank or a controller.
 use crate::{Bank, Component, Controller, Kind};
 use zs_num::Cycle;
 

@@ -1,4 +1,4 @@
-// What the weave asks of a component.
+//! What the weave asks of a component.
 ghost use Rattle.std.specs.Prelude.{◌≡◌, ◌≤◌, ◌^◌, IsTrue};
 ghost use Rattle.component.specs.ComponentLaws.{Serves, Floor, Stepped, Greatest};
 ghost use Rattle.component.specs.ComponentLaws.{FloorAtLeastOne, FloorHolds, ServesStays};

@@ -1,4 +1,4 @@
-// A list of components.
+//! A list of components.
 use std::marker::Model;
 
 /// The components of a machine in order of their numbers, which contracts see as a list.

@@ -1,4 +1,4 @@
-// A memory controller.
+//! A memory controller.
 ghost use Rattle.std.specs.Prelude.{◌≤◌};
 
 use crate::{Component, Kind};

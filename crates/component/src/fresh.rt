@@ -1,4 +1,4 @@
-// The components of a machine.
+//! The components of a machine.
 ghost use Rattle.std.specs.Prelude.{◌≡◌, IfOk};
 ghost use Rattle.machine_desc.specs.Machine.{IsMachine, IsL2, IsControllers};
 ghost use Rattle.component.specs.Components.{AreFresh, HasBankTimes, HasControllerTimes};

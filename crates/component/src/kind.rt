@@ -1,4 +1,4 @@
-// What an event asks of its component.
+//! What an event asks of its component.
 
 /// What an event asks of its component.
 #[derive(Clone, Copy, Debug, PartialEq, Eq)]

@@ -18,6 +18,3 @@ pub use comps::Comps;
 pub use controller::Controller;
 pub use fresh::components;
 pub use kind::Kind;
-
-#[cfg(test)]
-mod tests;

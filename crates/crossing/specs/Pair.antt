@@ -4,7 +4,7 @@ use Rattle.component.specs.declared.bank.Bank.{Bank}
 use Rattle.component.specs.declared.kind.Kind.TheVariants.{Lookup}
 use Rattle.event_graph.specs.declared.event.Event.{Event}
 use Rattle.domain_map.specs.declared.crossing.Crossing.{Crossing}
-use Rattle.domain_map.specs.Domains.{Division}
+use Rattle.domain_map.specs.Domains.{Partition}
 
 abbrev pub pair : List Event
 pair =
@@ -13,7 +13,7 @@ pair =
     ∷ []
 
 -- the crossing between them is the only one, and the banks are idle and take 10 cycles
-pub record IsPairOfEvents (events : List Event) (p : Division) (banks : List Bank) : Type 0 where
+pub record IsPairOfEvents (events : List Event) (p : Partition) (banks : List Bank) : Type 0 where
   pub events_are : events ≡ pair
   pub domains_are : length p.events ≡ 2
   pub crossing : Crossing

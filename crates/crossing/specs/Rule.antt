@@ -5,7 +5,8 @@ use lib.ListN.{get_elem?}
 use Rattle.atomic_table.specs.Table.{State, Step, Me}
 use Rattle.crossing.specs.declared.knows.Knows.{Knows}
 
--- The word of crossing x is word 16 x + 16, so that two of them share no pair of cache lines. Word 0 is written by nobody.
+-- The word of crossing x is word 16 x + 16, so that two of them share no pair of cache lines. Word 0 is written by
+-- nobody.
 abbrev pub crossing_number : List ℕ → (x : ℕ) → ℕ
 crossing_number words x = slice_index words (16 * x + 16)
 
@@ -32,8 +33,8 @@ pub record IsTrueNumber (finish n : ℕ) : Type 0 where
   pub exact : n % 2 ≡ 1 → n ≡ 2 * finish + 1
 
 module _ (finishes owners : List ℕ) where
-  -- A seat knows the finishes and owners. What it found isn't above the word, and an exact one is the word; the word of a
-  -- crossing that it owns is what it last wrote. The words of domains whose seats aren't made yet say nothing.
+  -- A seat knows the finishes and owners. What it found isn't above the word, and an exact one is the word; the word of
+  -- a crossing that it owns is what it last wrote. The words of domains whose seats aren't made yet say nothing.
   pub record IsCrossingSeat (words : List ℕ) (v : Knows) : Type 0 where
     pub told_is : v.told ≡ true
     pub finishes_are : v.finishes ≡ finishes
@@ -44,8 +45,8 @@ module _ (finishes owners : List ℕ) where
     pub own : v.makes ≡ false → (x : ℕ) → x < length owners → slice_index owners x ≡ v.domain → crossing_number words x ≡ slice_index v.wrote x
     pub next : v.makes ≡ true → (x : ℕ) → x < length owners → v.domain ≤ slice_index owners x → crossing_number words x ≡ 0
 
-  -- Each word is true of its crossing's finish, no two seats are one domain's, and the domains whose seats are made are below
-  -- the next.
+  -- Each word is true of its crossing's finish, no two seats are one domain's, and the domains whose seats are made are
+  -- below the next.
   pub record AreCrossings (s : State (Unit {0}) Knows) : Type 0 where
     pub wide : length s.words ≡ 16 * length owners + 1
     pub is_true : (x : ℕ) → x < length owners → IsTrueNumber (slice_index finishes x) (crossing_number s.words x)

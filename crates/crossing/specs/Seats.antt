@@ -6,7 +6,7 @@ use Rattle.zs_num.specs.declared.time.Word.TheVariants.{Bound, Exact}
 use Rattle.component.specs.declared.kind.Kind.{Kind}
 use Rattle.event_graph.specs.declared.event.Event.{Event}
 use Rattle.event_graph.specs.OneListWeave.{finish_in, woven}
-use Rattle.domain_map.specs.Domains.{Division}
+use Rattle.domain_map.specs.Domains.{Partition}
 
 -- The number by which a word is kept.
 abbrev pub kept_number : Word → ℕ
@@ -17,8 +17,8 @@ kept_number (Exact f) = 2 * f + 1
 abbrev pub word_kept_as : ℕ → Word
 word_kept_as n = (if n % 2 == 0 then Bound (n / 2) else Exact (n / 2))
 
--- Whose seat it is and at which crossings; the finish of each crossing's parent and the domain that it comes from; and of
--- each crossing's word what this seat last wrote to it, what it last found in it, and how often it looked.
+-- Whose seat it is and at which crossings; the finish of each crossing's parent and the domain that it comes from; and
+-- of each crossing's word what this seat last wrote to it, what it last found in it, and how often it looked.
 pub record SeatValue : Type 0 where
   pub crossings : TableId
   pub domain : ℕ
@@ -41,11 +41,11 @@ new_seat crossings finishes owners domain = record {
 }
 
 -- The finishes of the parents of the crossings in the one-list weave.
-abbrev pub finishes_of : {C : Type 0} (stepped : C → Kind → ℕ → C × ℕ) → List Event → Division → List C → List ℕ
+abbrev pub finishes_of : {C : Type 0} (stepped : C → Kind → ℕ → C × ℕ) → List Event → Partition → List C → List ℕ
 finishes_of stepped events p comps = map (λ x. finish_in (woven stepped events comps) x.parent) p.crossings
 
 -- The domains that the crossings come from.
-abbrev pub owners_of : Division → List ℕ
+abbrev pub owners_of : Partition → List ℕ
 owners_of p = map (λ x. x.source) p.crossings
 
 -- Each domain has its seat.
@@ -72,8 +72,8 @@ abbrev pub IsTrueOfFinish : (finish : ℕ) → Word → Type 0
 IsTrueOfFinish finish (Bound b) = b ≤ finish
 IsTrueOfFinish finish (Exact f) = f ≡ finish
 
--- What a look found: the word that the seat now notes, after one look more. It is true of the crossing's finish, it doesn't
--- fall, an exact word stays, and the owner finds what it last wrote.
+-- What a look found: the word that the seat now notes, after one look more. It is true of the crossing's finish, it
+-- doesn't fall, an exact word stays, and the owner finds what it last wrote.
 pub record Looked (old new : SeatValue) (x : ℕ) (word : Word) : Type 0 where
   pub new_is : new ≡ with_found old x (kept_number word)
   pub is_true : IsTrueOfFinish (slice_index old.finishes x) word

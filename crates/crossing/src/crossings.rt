@@ -1,4 +1,4 @@
-// The words of the crossings, for all domains at once.
+//! The words of the crossings, for all domains at once.
 ghost use Rattle.std.specs.Prelude.{◌≡◌, ◌≤◌, ◌<◌, ◌+◌, ◌*◌, ◌^◌, All, length, slice_index};
 ghost use Rattle.crossing.specs.Seats.{Looked, MayWrite, with_written};
 
@@ -40,8 +40,8 @@ impl Crossings {
             .store::<Write>(&mut seat.place, 16 * x as usize + 16, 2 * bound);
     }
 
-    /// Publishes the finish of the parent of a crossing that the seat's domain owns. Takes no memory
-    /// and waits for nobody.
+    /// Publishes the finish of the parent of a crossing that the seat's domain owns. Takes no
+    /// memory and waits for nobody.
     pub fn publish(&self, seat: &mut DomainSeat, x: u32, finish: Cycle)
         requires crossings { seat.old.crossings ≡ self.now }
         requires may { MayWrite seat.old x }

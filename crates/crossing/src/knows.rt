@@ -1,4 +1,4 @@
-// What a seat knows of the crossings, and the rule that ties it to the words.
+//! What a seat knows of the crossings, and the rule that ties it to the words.
 use atomic_table::{Seat, Table, TableRule};
 use std::alloc::Global;
 

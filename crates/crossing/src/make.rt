@@ -1,14 +1,14 @@
-// How the words of the crossings are made.
+//! How the words of the crossings are made.
 ghost use Rattle.std.specs.Prelude.{◌≡◌, ◌≤◌, ◌<◌, ◌+◌, ◌-◌, ◌*◌, ◌^◌, [], IfOk, length, map, vec_len, replicate};
 ghost use Rattle.std.specs.Vec.{vec_capacity};
 ghost use Rattle.event_graph.specs.Fits.{GraphFits};
-ghost use Rattle.domain_map.specs.Domains.{Divides};
+ghost use Rattle.domain_map.specs.Domains.{IsPartition};
 ghost use Rattle.crossing.specs.Rule.{untold};
 ghost use Rattle.crossing.specs.Seats.{AreSeats, finishes_of, owners_of};
 
 use crate::crossings::Crossings;
 use crate::knows::{Place, Words};
-use crate::plays::{Finishes, Next, Say};
+use crate::plays::{Finishes, NextSeat, Say};
 use crate::seat::DomainSeat;
 use component::{Component, Comps};
 use domain_map::Parts;
@@ -29,7 +29,7 @@ impl Crossings {
         comps: &Comps<C>,
     ) -> Result<(Crossings, Vec<DomainSeat>), NoMemory>
         requires fits { GraphFits C.serves C.floor g.now comps.now }
-        requires divides { Divides g.now p.now }
+        requires partitions { IsPartition g.now p.now }
         ensures { IfOk result (λ made. AreSeats made.0 (finishes_of C.stepped g.now p.now comps.now) (owners_of p.now) (length p.now.events) made.1.items) }
     {
         let count = p.crossings().len();
@@ -65,7 +65,7 @@ fn seated<C: Component, F: Finishes>(
 {
     words.shared.load::<Say<F>>(&mut first, 0);
     for domain in 0..domains {
-        let place = words.shared.split_seat::<Next>(&mut first);
+        let place = words.shared.split_seat::<NextSeat>(&mut first);
         seats.push_reserved(DomainSeat { place });
     }
     seats

@@ -1,4 +1,4 @@
-// What each step on a word tells the seat that makes it.
+//! What each step on a word tells the seat that makes it.
 ghost use Rattle.crossing.specs.Rule.{TellsFirstSeat, Wrote, Found, with_one_more, seat_of_next_domain};
 
 use crate::knows::Knows;
@@ -47,9 +47,9 @@ impl Play<(), Knows> for Find {
 }
 
 /// The next domain gets its seat.
-pub(crate) struct Next;
+pub(crate) struct NextSeat;
 
-impl Split<Knows> for Next {
+impl Split<Knows> for NextSeat {
     ghost left = { with_one_more };
 
     ghost right = { seat_of_next_domain };

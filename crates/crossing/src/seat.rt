@@ -1,4 +1,4 @@
-// A domain's right to write its crossings, and what it found in the others.
+//! A domain's right to write its crossings, and what it found in the others.
 ghost use Rattle.std.specs.Prelude.{◌≡◌};
 
 use crate::knows::Place;

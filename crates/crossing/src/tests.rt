@@ -1,7 +1,8 @@
-// Two events that a crossing joins.
+//! Two events that a crossing joins.
 ghost use Rattle.std.specs.Prelude.{◌≡◌, ◌+◌, [], ◌∷◌, IfOk, IsTrue, Some, None, true, false};
+ghost use Rattle.machine_desc.specs.Components.{component_count};
 ghost use Rattle.machine_desc.specs.Machine.{IsMachine};
-ghost use Rattle.domain_map.specs.Domains.{Divides};
+ghost use Rattle.domain_map.specs.Domains.{IsPartition};
 ghost use Rattle.crossing.specs.Pair.{IsPairOfEvents, pair};
 ghost use Rattle.crossing.specs.Seats.{new_seat};
 ghost use Rattle.domain_map.specs.declared.crossing.Crossing.{Crossing};
@@ -18,7 +19,7 @@ use zs_num::{NoMemory, Word};
 /// One core, two banks in two domains, and a controller in the first.
 fn machine(alloc: Global) -> Result<Machine, NoMemory>
     ensures machine { IfOk result IsMachine }
-    ensures components { IfOk result (λ m. m.l2.banks + m.controllers.count ≡ 3) }
+    ensures components { IfOk result (λ m. component_count m ≡ 3) }
     ensures domains { IfOk result (λ m. m.domains.count ≡ 2) }
 {
     Ok(Machine {
@@ -131,7 +132,7 @@ fn found_by_the_second(
     comps: &Comps<Bank>,
 ) -> Result<[Word; 3], NoMemory>
     requires pair { IsPairOfEvents g.now p.now comps.now }
-    requires divides { Divides g.now p.now }
+    requires partitions { IsPartition g.now p.now }
 {
     let (crossings, mut seats) = Crossings::make(alloc, g, p, comps)?;
     let mut first = seats.remove(0);

@@ -1,5 +1,5 @@
-//! Division by numbers that are mostly powers of two, as the counts of banks and of sets are: a shift or
-//! a mask takes a processor a few cycles, and a division some twenty to forty.
+//! Division by numbers that are mostly powers of two, as the counts of banks and of sets are: a
+//! shift or a mask takes a processor a few cycles, and a division some twenty to forty.
 #![tactic(auto)]
 
 ghost use Rattle.std.specs.Prelude.{◌≡◌, ◌^◌, ◌/◌, ◌%◌, ◌<◌, IfSome};
@@ -28,7 +28,7 @@ pub fn remainder(number: u64, by: u64) -> u64
     }
 }
 
-// The power of two that a number is, if it is one.
+/// The power of two that a number is, if it is one.
 #[inline(always)]
 #[tactic(auto, using(crate::proofs::Powers::below_width))]
 fn power_of(number: u64) -> Option<u32>

@@ -10,7 +10,7 @@ use Rattle.std.specs.declared.alloc.Global.{Global}
 use Rattle.event_graph.specs.declared.event.Event.{Event}
 use Rattle.event_graph.specs.declared.event.Parent.{Parent}
 use Rattle.domain_map.specs.declared.crossing.Crossing.{Crossing}
-use Rattle.domain_map.specs.Domains.{Divides, crossings_into, crossings_into_all, domain_of, events_in}
+use Rattle.domain_map.specs.Domains.{IsPartition, crossings_into, crossings_into_all, domain_of_event, events_in}
 use Rattle.domain_map.specs.Inside.{list_at, lists_of, with_event_number, with_event_of_domain}
 
 -- a push to one of the lists
@@ -24,12 +24,12 @@ pushed lists domain number list longer below read is =
 -- one event more in a domain
 events_in-more : (places : List ℕ) (events : List Event) (i : ℕ) (e : Event) (domain : ℕ) → i < length events
     → events_in places (take (i + 1) events) domain
-    ≡ events_in places (take i events) domain ++ cond (eqb (domain_of places (get_or events i e)) domain) ((get_or events i e).number ∷ []) []
+    ≡ events_in places (take i events) domain ++ cond (eqb (domain_of_event places (get_or events i e)) domain) ((get_or events i e).number ∷ []) []
 unfolding events_in
 events_in-more places events i e domain below =
-    ap (map (λ (x : Event). x.number)) (filter_more (λ x. eqb (domain_of places x) domain) events i e below)
-    ∙ (map-append (λ (x : Event). x.number) (filter (λ x. eqb (domain_of places x) domain) (take i events)) _
-    ∙ ap (λ ns. events_in places (take i events) domain ++ ns) (by_test (eqb (domain_of places (get_or events i e)) domain)))
+    ap (map (λ (x : Event). x.number)) (filter_more (λ x. eqb (domain_of_event places x) domain) events i e below)
+    ∙ (map-append (λ (x : Event). x.number) (filter (λ x. eqb (domain_of_event places x) domain) (take i events)) _
+    ∙ ap (λ ns. events_in places (take i events) domain ++ ns) (by_test (eqb (domain_of_event places (get_or events i e)) domain)))
   where
     by_test : (t : Bool) → map (λ (x : Event). x.number) (cond t (get_or events i e ∷ []) []) ≡ cond t ((get_or events i e).number ∷ []) []
     by_test true = refl
@@ -56,9 +56,9 @@ pub each_more : (places : List ℕ) (lists : List (List ℕ)) (events : List Eve
     → list_at (with_event_of_domain places lists e) domain ≡ events_in places (take (i + 1) events) domain
 each_more places lists events i e domain below is there so_far =
     sym (events_in-more places events i e domain below
-    ∙ (ap (λ (x : Event). events_in places (take i events) domain ++ cond (eqb (domain_of places x) domain) (x.number ∷ []) []) (get_or_from_slice_get events i e e is)
-    ∙ (ap (λ ns. ns ++ cond (eqb (domain_of places e) domain) (e.number ∷ []) []) (sym so_far)
-    ∙ at_domain lists (domain_of places e) domain e.number there)))
+    ∙ (ap (λ (x : Event). events_in places (take i events) domain ++ cond (eqb (domain_of_event places x) domain) (x.number ∷ []) []) (get_or_from_slice_get events i e e is)
+    ∙ (ap (λ ns. ns ++ cond (eqb (domain_of_event places e) domain) (e.number ∷ []) []) (sym so_far)
+    ∙ at_domain lists (domain_of_event places e) domain e.number there)))
 
 pub crossings_more : (places : List ℕ) (graph events : List Event) (i : ℕ) (e : Event) → i < length events → slice_get events i ≡ Some e
     → crossings_into_all places graph (take (i + 1) events) ≡ crossings_into_all places graph (take i events) ++ crossings_into places graph e
@@ -88,7 +88,7 @@ pub whole : (places : List ℕ) (events : List Event) (lists : List (List ℕ)) 
     → All (λ domain. domain < length lists) places
     → ((domain : ℕ) → domain < length lists → list_at lists domain ≡ events_in places (take i events) domain)
     → crossings ≡ crossings_into_all places events (take i events)
-    → Divides events (record { places = places; events = lists; crossings = crossings })
+    → IsPartition events (record { places = places; events = lists; crossings = crossings })
 whole places events lists crossings i far there each is =
     let all : take i events ≡ events = take_all i events far in
     record {

@@ -12,27 +12,27 @@ abbrev pub domain_at : (places : List ℕ) → (component : ℕ) → ℕ
 domain_at places component = slice_index places component
 
 -- the domain of an event, and of the event of a number
-abbrev pub domain_of : List ℕ → Event → ℕ
-domain_of places e = domain_at places e.component
+abbrev pub domain_of_event : List ℕ → Event → ℕ
+domain_of_event places e = domain_at places e.component
 
 abbrev pub domain_of_number : List ℕ → List Event → (number : ℕ) → ℕ
-domain_of_number places events number = option_map_or (domain_of places) (slice_get events number) 0
+domain_of_number places events number = option_map_or (domain_of_event places) (slice_get events number) 0
 
 -- the numbers of a domain's events, in the order of the events
 unfoldable pub events_in : List ℕ → List Event → (domain : ℕ) → List ℕ
-events_in places events domain = map (λ e. e.number) (filter (λ e. domain_of places e == domain) events)
+events_in places events domain = map (λ e. e.number) (filter (λ e. domain_of_event places e == domain) events)
 
 -- the crossing from a parent to an event: there is one where their domains differ
 abbrev pub crossing_from : List ℕ → List Event → Event → Option Parent → List Crossing
 crossing_from places events e None = []
 crossing_from places events e (Some p) =
-    (if domain_of_number places events p.number == domain_of places e
+    (if domain_of_number places events p.number == domain_of_event places e
     then []
     else record {
       parent = p.number;
       child = e.number;
       source = domain_of_number places events p.number;
-      target = domain_of places e;
+      target = domain_of_event places e;
       delay = p.delay;
     } ∷ [])
 
@@ -48,23 +48,23 @@ abbrev pub crossings_of : List ℕ → List Event → List Crossing
 crossings_of places events = crossings_into_all places events events
 
 -- The domain of each component, for each domain the numbers of its events, and the crossings between domains.
-pub record Division : Type 0 where
+pub record Partition : Type 0 where
   pub places : List ℕ
   pub events : List (List ℕ)
   pub crossings : List Crossing
 
 -- each component's domain is there
-pub record HasDomains (p : Division) : Type 0 where
+pub record HasDomains (p : Partition) : Type 0 where
   pub below : All (λ domain. domain < length p.events) p.places
 
--- the division of these events by the domains that it has
-pub record Divides (events : List Event) (p : Division) : Type 0 where
+-- the partition of these events by the domains that it has
+pub record IsPartition (events : List Event) (p : Partition) : Type 0 where
   pub there : HasDomains p
   pub each : (domain : ℕ) → domain < length p.events → slice_get p.events domain ≡ Some (events_in p.places events domain)
   pub crossings : p.crossings ≡ crossings_of p.places events
 
--- the division of these events by the domains of a machine
-pub record IsSplit (events : List Event) (m : Machine) (p : Division) : Type 0 where
+-- the partition of these events by the domains of a machine
+pub record IsSplit (events : List Event) (m : Machine) (p : Partition) : Type 0 where
   pub places : p.places ≡ m.domains.banks ++ m.domains.controllers
   pub domains : length p.events ≡ m.domains.count
-  pub divides : Divides events p
+  pub partitions : IsPartition events p

@@ -1,4 +1,4 @@
-// A parent and a child in different domains.
+//! A parent and a child in different domains.
 
 /// A parent in one domain and its child in another: the child's domain has to learn the parent's
 /// finish from the parent's.

@@ -6,8 +6,5 @@ mod make;
 mod parts;
 
 pub use crossing::Crossing;
-pub use make::split;
+pub use make::{places_of, split};
 pub use parts::Parts;
-
-#[cfg(test)]
-mod tests;

@@ -1,8 +1,9 @@
-// How a graph's events are split into domains.
+//! How a graph's events are split into domains.
 ghost use Rattle.std.specs.Prelude.{◌≡◌, ◌+◌, ◌<◌, ◌^◌, ◌++◌, [], IfOk, OnOk, IfSome, All, length, vec_len};
+ghost use Rattle.machine_desc.specs.Components.{component_count, component_domains};
 ghost use Rattle.machine_desc.specs.Machine.{IsMachine};
 ghost use Rattle.event_graph.specs.Numbered.{IsNumbered};
-ghost use Rattle.domain_map.specs.Domains.{Divides, IsSplit, crossing_from, crossings_into, domain_of as the_domain_of, domain_of_number as the_domain_of_number};
+ghost use Rattle.domain_map.specs.Domains.{IsPartition, IsSplit, crossing_from, crossings_into, domain_of_event as the_domain_of_event, domain_of_number as the_domain_of_number};
 ghost use Rattle.domain_map.specs.Inside.{lists_of, with_event_number, with_event_of_domain};
 
 use crate::{Crossing, Parts};
@@ -14,18 +15,18 @@ use zs_num::NoMemory;
 /// The events of a graph by the domains of a machine.
 pub fn split(alloc: Global, g: &Graph, m: &Machine) -> Result<Parts, NoMemory>
     requires machine { IsMachine m.now }
-    requires components { All (λ e. e.component < m.now.l2.banks + m.now.controllers.count) g.now }
+    requires components { All (λ e. e.component < component_count m.now) g.now }
     requires few { length g.now < 2 ^ 31 }
     ensures { IfOk result (IsSplit g.now m.now) }
 {
-    divide(alloc, g.events(), places_of(alloc, m)?, m.domains.count)
+    partition(alloc, g.events(), places_of(alloc, m)?, m.domains.count)
 }
 
 /// The domain of each component, by number.
-fn places_of(alloc: Global, m: &Machine) -> Result<Vec<u16>, NoMemory>
+pub fn places_of(alloc: Global, m: &Machine) -> Result<Vec<u16>, NoMemory>
     requires { IsMachine m.now }
-    ensures listed { IfOk result (λ places. places.items ≡ m.now.domains.banks ++ m.now.domains.controllers) }
-    ensures count { IfOk result (λ places. length places.items ≡ m.now.l2.banks + m.now.controllers.count) }
+    ensures listed { IfOk result (λ places. places.items ≡ component_domains m.now) }
+    ensures count { IfOk result (λ places. length places.items ≡ component_count m.now) }
     ensures below { IfOk result (λ places. All (λ domain. domain < m.now.domains.count) places.items) }
 {
     let mut places = Vec::from_slice(alloc, m.domains.banks.as_slice())?;
@@ -34,13 +35,18 @@ fn places_of(alloc: Global, m: &Machine) -> Result<Vec<u16>, NoMemory>
 }
 
 /// The events by the domains of their components.
-fn divide(alloc: Global, events: &[Event], places: Vec<u16>, count: u16) -> Result<Parts, NoMemory>
+fn partition(
+    alloc: Global,
+    events: &[Event],
+    places: Vec<u16>,
+    count: u16,
+) -> Result<Parts, NoMemory>
     requires numbered { IsNumbered events.now }
     requires components { All (λ e. e.component < length places.items) events.now }
     requires below { All (λ domain. domain < count) places.items }
     ensures places { IfOk result (λ p. p.places ≡ places.items) }
     ensures domains { IfOk result (λ p. length p.events ≡ count) }
-    ensures divides { IfOk result (Divides events.now) }
+    ensures partitions { IfOk result (IsPartition events.now) }
 {
     let mut lists = empty_lists(alloc, count)?;
     let mut crossings = Vec::new(alloc);
@@ -83,7 +89,7 @@ fn add_event(
     ensures event { OnOk result (lists_of lists.new.items ≡ with_event_of_domain places.now (lists_of lists.old.items) event.now) }
     ensures crossings { OnOk result (crossings.new.items ≡ crossings.old.items ++ crossings_into places.now events.now event.now) }
 {
-    push_number(lists, domain_of(places, event), event.number)?;
+    push_number(lists, domain_of_event(places, event), event.number)?;
     push_crossing(crossings, places, events, event, event.first)?;
     push_crossing(crossings, places, events, event, event.second)?;
     Ok(())
@@ -100,9 +106,9 @@ fn push_number(lists: &mut Vec<Vec<u32>>, domain: u16, number: u32) -> Result<()
 }
 
 /// The domain of an event.
-fn domain_of(places: &[u16], event: &Event) -> u16
+fn domain_of_event(places: &[u16], event: &Event) -> u16
     requires { event.now.component < length places.now }
-    ensures { result ≡ the_domain_of places.now event.now }
+    ensures { result ≡ the_domain_of_event places.now event.now }
 {
     places[usize::from(event.component)]
 }
@@ -113,7 +119,7 @@ fn domain_of_number(places: &[u16], events: &[Event], number: u32) -> u16
     requires there { number < length events.now }
     ensures { result ≡ the_domain_of_number places.now events.now number }
 {
-    domain_of(places, &events[number as usize])
+    domain_of_event(places, &events[number as usize])
 }
 
 /// Puts the crossing from an event's parent to it behind the others, where there is one.
@@ -134,7 +140,7 @@ fn push_crossing(
         return Ok(());
     };
     let source = domain_of_number(places, events, parent.number);
-    let target = domain_of(places, event);
+    let target = domain_of_event(places, event);
     if source != target {
         crossings.push(Crossing {
             parent: parent.number,

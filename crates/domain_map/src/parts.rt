@@ -1,4 +1,4 @@
-// A graph's events by their domains.
+//! A graph's events by their domains.
 ghost use Rattle.std.specs.Prelude.{◌≡◌, ◌<◌, length, slice_get, Some};
 ghost use Rattle.domain_map.specs.Domains.{HasDomains};
 
@@ -16,15 +16,15 @@ pub struct Parts {
 }
 
 impl Model for Parts {
-    ghost use Rattle.domain_map.specs.Domains.{Division};
+    ghost use Rattle.domain_map.specs.Domains.{Partition};
 
-    ghost Value = { Division };
+    ghost Value = { Partition };
 
-    ghost use Rattle.domain_map.specs.Inside.{division_of, IsWholeDivision};
+    ghost use Rattle.domain_map.specs.Inside.{partition_of, IsWholePartition};
 
-    ghost view = { division_of };
+    ghost view = { partition_of };
 
-    ghost invariant = { IsWholeDivision };
+    ghost invariant = { IsWholePartition };
 }
 
 impl Parts {

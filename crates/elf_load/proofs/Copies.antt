@@ -99,7 +99,8 @@ zeros addr count =
     let inside : i < count = omega (arith, length-replicate {A = ℕ} count 0) in
     get_or-replicate count i 0 0 inside ∙ sym (get_or-map-range_with_len (byte_at []) addr count i (addr + i) 0 inside refl))
 
--- bytes of a segment, from place `skipped` on, that were written from place `start` on over others, which begin at `addr`
+-- bytes of a segment, from place `skipped` on, that were written from place `start` on over others, which begin at
+-- `addr`
 pub written : (s : Segment) (addr : ℕ) (out : List ℕ) (skipped start count i : ℕ) → skipped ≡ addr - s.vaddr → start ≡ s.vaddr - addr → skipped < length s.bytes → start < length out → count ≡ min (length s.bytes - skipped) (length out - start) → i < length out → slice_index (take start out ++ (take count (drop skipped s.bytes) ++ drop count (drop start out))) i ≡ byte_over s (addr + i) (slice_index out i)
 written s addr out skipped start count i e f a b g l =
     let front : length (take start out) ≡ start = omega (arith, length-take start out) in

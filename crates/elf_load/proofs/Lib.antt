@@ -1,7 +1,7 @@
 pub mod Lists
 pub mod Table
 pub mod Fetch
-pub mod Faults
+pub mod Refusals
 pub mod Sound
 pub mod Meanings
 pub mod Pairs

@@ -5,14 +5,14 @@ use Rattle.elf_load.specs.declared.bad_elf.BadElf.{BadElf}
 use Rattle.elf_load.specs.declared.bad_elf.BadElf.TheVariants as bad
 use Rattle.elf_load.specs.declared.header.Header.{Header}
 use Rattle.elf_load.specs.declared.segment.Segment.{Segment}
-use Rattle.elf_load.specs.Checks.{header_fault, has_table, fault_unless}
+use Rattle.elf_load.specs.Checks.{header_refusal, has_table, refusal_unless}
 use Rattle.elf_load.specs.Constants.{elf_magic, elfclass64, elfdata2lsb, et_exec, em_riscv, ef_riscv_rvc, ef_riscv_float_abi}
 use Rattle.elf_load.specs.Meaning.{IsAmong}
 use Rattle.elf_load.specs.Header.{header_of, program_headers}
-use Rattle.elf_load.specs.Image.{image_of, image_unless, elf_fault}
+use Rattle.elf_load.specs.Image.{image_of, image_unless, elf_refusal}
 use Rattle.elf_load.specs.MemoryImage.{MemoryImage, IsSoundImage, is_placed, do_meet, covers}
 use Rattle.elf_load.proofs.Lists.{option_or-None}
-use Rattle.elf_load.proofs.Faults.{passes, unless-None}
+use Rattle.elf_load.proofs.Refusals.{passes, unless-None}
 use Rattle.elf_load.proofs.Sound.{sound}
 use Rattle.elf_load.proofs.Table.{few_in_table}
 
@@ -30,7 +30,7 @@ do_meet-from_common first count second others x a b =
     let b_ends = b.ends in
     lt-ltb (max first second) (min (first + count) (second + others)) (omega arith)
 
-unless_ok : (fault : Option BadElf) (image other : MemoryImage) → image_unless fault image ≡ Ok other → (fault ≡ None) × (image ≡ other)
+unless_ok : (refusal : Option BadElf) (image other : MemoryImage) → image_unless refusal image ≡ Ok other → (refusal ≡ None) × (image ≡ other)
 unless_ok None image other h = (refl, cc)
 unless_ok (Some b) image other h = cc
 
@@ -41,25 +41,25 @@ image_of-memory file base size image h =
     let same = (unless_ok _ _ _ h).1 in
     (ap (λ i. i.base) (sym same), ap (λ i. i.size) (sym same))
 
-header_fault-None : (h : Header) (len : ℕ) → header_fault h len ≡ None → has_table h len ≡ true
-unfolding header_fault
-header_fault-None h len e =
-    let magic = (option_or-None (fault_unless (h.magic == elf_magic) bad.Magic) _ e).1 in
-    let class = (option_or-None (fault_unless ((h.class == elfclass64) && (h.encoding == elfdata2lsb)) bad.ClassOrData) _ magic).1 in
-    let kind = (option_or-None (fault_unless (h.type_ == et_exec) bad.Type_) _ class).1 in
-    let machine = (option_or-None (fault_unless (h.machine == em_riscv) bad.Machine) _ kind).1 in
-    let flags = (option_or-None (fault_unless (bit_and h.flags (bit_or ef_riscv_rvc ef_riscv_float_abi) == 0) bad.Flags) _ machine).1 in
-    unless-None (has_table h len) bad.Headers (option_or-None (fault_unless (has_table h len) bad.Headers) None flags).0
+header_refusal-None : (h : Header) (len : ℕ) → header_refusal h len ≡ None → has_table h len ≡ true
+unfolding header_refusal
+header_refusal-None h len e =
+    let magic = (option_or-None (refusal_unless (h.magic == elf_magic) bad.Magic) _ e).1 in
+    let class = (option_or-None (refusal_unless ((h.class == elfclass64) && (h.encoding == elfdata2lsb)) bad.ClassOrData) _ magic).1 in
+    let kind = (option_or-None (refusal_unless (h.type_ == et_exec) bad.Type_) _ class).1 in
+    let machine = (option_or-None (refusal_unless (h.machine == em_riscv) bad.Machine) _ kind).1 in
+    let flags = (option_or-None (refusal_unless (bit_and h.flags (bit_or ef_riscv_rvc ef_riscv_float_abi) == 0) bad.Flags) _ machine).1 in
+    unless-None (has_table h len) bad.Headers (option_or-None (refusal_unless (has_table h len) bad.Headers) None flags).0
 
 -- the image of a file is sound
 pub image_of-sound : (file : List ℕ) (base size : ℕ) (image : MemoryImage) → base + size ≤ 2 ^ 48 → image_of file base size ≡ Ok image → IsSoundImage image
-unfolding image_of elf_fault
+unfolding image_of elf_refusal
 image_of-sound file base size image reach h =
     let read = header_of file in
     let ps = program_headers file read in
     let answer = unless_ok _ _ _ h in
     let checks = option_or-None _ _ (option_or-None _ _ answer.0).1 in
-    let few = few_in_table file read ps (length file) refl (header_fault-None read (length file) checks.0) in
+    let few = few_in_table file read ps (length file) refl (header_refusal-None read (length file) checks.0) in
     subst IsSoundImage answer.1 (sound file read ps base size reach few (passes ps read.entry (length file) base size (sym checks.1)))
 
 -- one executable segment in memory, with the entry in it, is a sound image

@@ -3,7 +3,7 @@ use Rattle.std.proofs.Common.{◌≡◌, ℕ, zero, suc, ◌+◌, ◌<◌, ◌�
 use Rattle.std.specs.List.{position, list_any}
 use Rattle.std.specs.Option.{option_or, option_map}
 use Rattle.std.proofs.lemmas.List.Quantifiers.{position-Some}
-use Rattle.elf_load.specs.Checks.{first_pair, overlap_fault, overlaps}
+use Rattle.elf_load.specs.Checks.{first_pair, overlap_refusal, overlaps}
 use Rattle.elf_load.specs.declared.bad_elf.BadElf.TheVariants as bad
 use Rattle.elf_load.specs.declared.header.ProgramHeader.{ProgramHeader}
 use Rattle.elf_load.specs.Meaning.{IsLeastPair}
@@ -61,6 +61,6 @@ overlap_of (Some pair) first second h =
     ap₂ (λ x y. Some (x, y)) a b
 overlap_of None first second h = cc
 
-pub overlap_fault-least : (headers : List ProgramHeader) (d : ProgramHeader) (first second : ℕ) → overlap_fault headers ≡ Some (bad.Overlap first second) → IsLeastPair overlaps headers d first second
-unfolding overlap_fault
-overlap_fault-least headers d first second h = first_pair-least overlaps headers d first second (overlap_of (first_pair overlaps 0 headers) first second h)
+pub overlap_refusal-least : (headers : List ProgramHeader) (d : ProgramHeader) (first second : ℕ) → overlap_refusal headers ≡ Some (bad.Overlap first second) → IsLeastPair overlaps headers d first second
+unfolding overlap_refusal
+overlap_refusal-least headers d first second h = first_pair-least overlaps headers d first second (overlap_of (first_pair overlaps 0 headers) first second h)

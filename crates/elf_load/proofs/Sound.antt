@@ -8,7 +8,7 @@ use Rattle.elf_load.specs.Checks.{is_loaded, is_past_file, is_past_memory, overl
 use Rattle.elf_load.specs.Image.{segment_of, segments_of, image_in}
 use Rattle.elf_load.specs.MemoryImage.{IsSoundImage, is_within, is_placed, do_overlap, are_apart, covers, fetched}
 use Rattle.elf_load.proofs.Lists.{position-None, option_or-None, option_map-None}
-use Rattle.elf_load.proofs.Faults.{Passes}
+use Rattle.elf_load.proofs.Refusals.{Passes}
 
 -- a segment to load takes memory, where it has no more bytes than that
 loaded-takes : (p : ProgramHeader) → is_loaded p ≡ true → p.filesz ≤ p.memsz → 0 < p.memsz

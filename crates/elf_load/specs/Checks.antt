@@ -10,14 +10,14 @@ use Rattle.elf_load.specs.declared.header.Header.{Header}
 use Rattle.elf_load.specs.declared.header.ProgramHeader.{ProgramHeader}
 use Rattle.elf_load.specs.MemoryImage.{is_within, do_meet}
 
--- the fault, unless the test passes
-abbrev pub fault_unless : Bool → BadElf → Option BadElf
-fault_unless test fault = if test then None else Some fault
+-- the refusal, unless the test passes
+abbrev pub refusal_unless : Bool → BadElf → Option BadElf
+refusal_unless test refusal = if test then None else Some refusal
 
--- the first fault of a list of checks
-abbrev pub first_fault : List (Option BadElf) → Option BadElf
-first_fault [] = None
-first_fault (check ∷ checks) = option_or check (first_fault checks)
+-- the first refusal of a list of checks
+abbrev pub first_refusal : List (Option BadElf) → Option BadElf
+first_refusal [] = None
+first_refusal (check ∷ checks) = option_or check (first_refusal checks)
 
 -- at most 128 program headers of 56 bytes, which lie in a file of this length
 unfoldable pub has_table : Header → ℕ → Bool
@@ -27,14 +27,14 @@ has_table h len =
 
 -- the first check of the ELF header that fails, in a file of this length: an executable of 64 bits, little-endian, for
 -- RISC-V, that needs neither compressed instructions nor a floating-point ABI
-unfoldable pub header_fault : Header → ℕ → Option BadElf
-header_fault h len = first_fault (
-    fault_unless (h.magic == elf_magic) bad.Magic
-    ∷ fault_unless ((h.class == elfclass64) && (h.encoding == elfdata2lsb)) bad.ClassOrData
-    ∷ fault_unless (h.type_ == et_exec) bad.Type_
-    ∷ fault_unless (h.machine == em_riscv) bad.Machine
-    ∷ fault_unless (bit_and h.flags (bit_or ef_riscv_rvc ef_riscv_float_abi) == 0) bad.Flags
-    ∷ fault_unless (has_table h len) bad.Headers
+unfoldable pub header_refusal : Header → ℕ → Option BadElf
+header_refusal h len = first_refusal (
+    refusal_unless (h.magic == elf_magic) bad.Magic
+    ∷ refusal_unless ((h.class == elfclass64) && (h.encoding == elfdata2lsb)) bad.ClassOrData
+    ∷ refusal_unless (h.type_ == et_exec) bad.Type_
+    ∷ refusal_unless (h.machine == em_riscv) bad.Machine
+    ∷ refusal_unless (bit_and h.flags (bit_or ef_riscv_rvc ef_riscv_float_abi) == 0) bad.Flags
+    ∷ refusal_unless (has_table h len) bad.Headers
     ∷ [])
 
 -- for an executable that is linked as it is loaded
@@ -71,23 +71,23 @@ first_pair test i (x ∷ xs) =
     option_or (option_map (λ k. (i, i + 1 + k)) (position (test x) xs)) (first_pair test (i + 1) xs)
 
 -- the first segment that passes the file's end
-unfoldable pub file_fault : List ProgramHeader → ℕ → Option BadElf
-file_fault ps len = option_map (λ i. bad.SegmentPastFile i) (position (is_past_file len) ps)
+unfoldable pub file_refusal : List ProgramHeader → ℕ → Option BadElf
+file_refusal ps len = option_map (λ i. bad.SegmentPastFile i) (position (is_past_file len) ps)
 
 -- the first segment that has no place in memory
-unfoldable pub memory_fault : List ProgramHeader → (base size : ℕ) → Option BadElf
-memory_fault ps base size = option_map (λ i. bad.SegmentPastMemory i) (position (is_past_memory base size) ps)
+unfoldable pub memory_refusal : List ProgramHeader → (base size : ℕ) → Option BadElf
+memory_refusal ps base size = option_map (λ i. bad.SegmentPastMemory i) (position (is_past_memory base size) ps)
 
 -- the least pair of segments that have an address in common
-unfoldable pub overlap_fault : List ProgramHeader → Option BadElf
-overlap_fault ps = option_map (λ pair. bad.Overlap pair.0 pair.1) (first_pair overlaps 0 ps)
+unfoldable pub overlap_refusal : List ProgramHeader → Option BadElf
+overlap_refusal ps = option_map (λ pair. bad.Overlap pair.0 pair.1) (first_pair overlaps 0 ps)
 
 -- the first check of the program headers that fails, in a file of this length
-unfoldable pub segment_fault : List ProgramHeader → (entry len base size : ℕ) → Option BadElf
-segment_fault ps entry len base size = first_fault (
-    fault_unless (not (list_any is_dynamic ps)) bad.Dynamic
-    ∷ file_fault ps len
-    ∷ memory_fault ps base size
-    ∷ overlap_fault ps
-    ∷ fault_unless ((entry % 4 == 0) && list_any (is_entered entry) ps) bad.Entry
+unfoldable pub segment_refusal : List ProgramHeader → (entry len base size : ℕ) → Option BadElf
+segment_refusal ps entry len base size = first_refusal (
+    refusal_unless (not (list_any is_dynamic ps)) bad.Dynamic
+    ∷ file_refusal ps len
+    ∷ memory_refusal ps base size
+    ∷ overlap_refusal ps
+    ∷ refusal_unless ((entry % 4 == 0) && list_any (is_entered entry) ps) bad.Entry
     ∷ [])

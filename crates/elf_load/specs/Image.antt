@@ -9,7 +9,7 @@ use Rattle.elf_load.specs.declared.bad_elf.LoadFail.TheVariants as fail
 use Rattle.elf_load.specs.declared.header.Header.{Header}
 use Rattle.elf_load.specs.declared.header.ProgramHeader.{ProgramHeader}
 use Rattle.elf_load.specs.declared.segment.Segment.{Segment}
-use Rattle.elf_load.specs.Checks.{fault_unless, header_fault, segment_fault, is_loaded, is_executable}
+use Rattle.elf_load.specs.Checks.{refusal_unless, header_refusal, segment_refusal, is_loaded, is_executable}
 use Rattle.elf_load.specs.Header.{header_of, program_headers}
 use Rattle.elf_load.specs.MemoryImage.{MemoryImage}
 
@@ -31,23 +31,23 @@ abbrev pub image_in : List ℕ → Header → List ProgramHeader → (base size 
 image_in file h ps base size = record { base = base; size = size; entry = h.entry; segments = segments_of file ps }
 
 -- the first check of a file that fails: of its length, of the ELF header, of the program headers
-unfoldable pub elf_fault : List ℕ → (base size : ℕ) → Option BadElf
-elf_fault file base size =
+unfoldable pub elf_refusal : List ℕ → (base size : ℕ) → Option BadElf
+elf_refusal file base size =
     let h = header_of file in
-    option_or (fault_unless (nat_le header_len (length file)) bad.Short)
-    (option_or (header_fault h (length file))
-    (segment_fault (program_headers file h) h.entry (length file) base size))
+    option_or (refusal_unless (nat_le header_len (length file)) bad.Short)
+    (option_or (header_refusal h (length file))
+    (segment_refusal (program_headers file h) h.entry (length file) base size))
 
--- an image, where there is no fault
+-- an image, where there is no refusal
 abbrev pub image_unless : Option BadElf → MemoryImage → Result MemoryImage BadElf
 image_unless None image = Ok image
-image_unless (Some fault) image = Err fault
+image_unless (Some refusal) image = Err refusal
 
 -- the image of a file, or the first check that fails
 unfoldable pub image_of : List ℕ → (base size : ℕ) → Result MemoryImage BadElf
 image_of file base size =
     let h = header_of file in
-    image_unless (elf_fault file base size) (image_in file h (program_headers file h) base size)
+    image_unless (elf_refusal file base size) (image_in file h (program_headers file h) base size)
 
 -- the call answers the image or the first check that fails, unless memory runs out
 abbrev pub AnswersImage : Result MemoryImage LoadFail → Result MemoryImage BadElf → Type 0

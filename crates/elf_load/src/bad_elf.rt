@@ -1,4 +1,4 @@
-// Why a file is not an executable that can be run here.
+//! Why a file is not an executable that can be run here.
 ghost use Rattle.std.specs.Prelude.{◌≡◌};
 ghost use Rattle.elf_load.specs.declared.bad_elf.LoadFail.TheVariants as fail;
 

@@ -1,7 +1,7 @@
-// The checks of an executable, each over all program headers. `load` makes them in their order.
+//! The checks of an executable, each over all program headers. `load` makes them in their order.
 ghost use Rattle.std.specs.Prelude.{◌≡◌, ◌≤◌, ◌<◌, ◌+◌, length, position, IfNone, IfSome, IsTrue};
 ghost use Rattle.std.specs.List.{list_any};
-ghost use Rattle.elf_load.specs.Checks.{file_fault, has_table, header_fault, is_dynamic, is_entered, is_executable, is_loaded, is_past_file, is_past_memory, memory_fault, overlap_fault, overlaps, segment_fault};
+ghost use Rattle.elf_load.specs.Checks.{file_refusal, has_table, header_refusal, is_dynamic, is_entered, is_executable, is_loaded, is_past_file, is_past_memory, memory_refusal, overlap_refusal, overlaps, segment_refusal};
 
 use crate::BadElf;
 use crate::constants::{
@@ -12,9 +12,9 @@ use crate::header::{Header, ProgramHeader};
 use crate::range::{do_meet, is_within};
 
 /// The first check of the ELF header that fails, in a file of `len` bytes.
-#[tactic(auto, unfolding(crate::specs::Checks::header_fault))]
-pub fn header_fault(header: &Header, len: usize) -> Option<BadElf>
-    ensures value { result ≡ header_fault header.now len }
+#[tactic(auto, unfolding(crate::specs::Checks::header_refusal))]
+pub fn header_refusal(header: &Header, len: usize) -> Option<BadElf>
+    ensures value { result ≡ header_refusal header.now len }
     ensures table { IfNone result (IsTrue (has_table header.now len)) }
 {
     if header.magic != ELF_MAGIC {
@@ -52,8 +52,8 @@ fn has_table(header: &Header, len: usize) -> bool
 
 /// The first check of the program headers that fails, in a file of `len` bytes and a memory of
 /// `size` bytes from `base` on.
-#[tactic(auto, unfolding(crate::specs::Checks::segment_fault))]
-pub fn segment_fault(
+#[tactic(auto, unfolding(crate::specs::Checks::segment_refusal))]
+pub fn segment_refusal(
     headers: &[ProgramHeader],
     entry: u64,
     len: usize,
@@ -61,19 +61,19 @@ pub fn segment_fault(
     size: u64,
 ) -> Option<BadElf>
     requires { length headers.now ≤ MOST_HEADERS }
-    ensures { result ≡ segment_fault headers.now entry len base size }
+    ensures { result ≡ segment_refusal headers.now entry len base size }
 {
     if is_any_dynamic(headers) {
         return Some(BadElf::Dynamic);
     }
-    if let Some(fault) = file_fault(headers, len) {
-        return Some(fault);
+    if let Some(refusal) = file_refusal(headers, len) {
+        return Some(refusal);
     }
-    if let Some(fault) = memory_fault(headers, base, size) {
-        return Some(fault);
+    if let Some(refusal) = memory_refusal(headers, base, size) {
+        return Some(refusal);
     }
-    if let Some(fault) = overlap_fault(headers) {
-        return Some(fault);
+    if let Some(refusal) = overlap_refusal(headers) {
+        return Some(refusal);
     }
     if entry % 4 != 0 || !is_entered_by(headers, entry) {
         return Some(BadElf::Entry);
@@ -87,10 +87,10 @@ fn is_any_dynamic(headers: &[ProgramHeader]) -> bool
     headers.iter().any(is_dynamic)
 }
 
-#[tactic(auto, unfolding(crate::specs::Checks::file_fault))]
-fn file_fault(headers: &[ProgramHeader], len: usize) -> Option<BadElf>
+#[tactic(auto, unfolding(crate::specs::Checks::file_refusal))]
+fn file_refusal(headers: &[ProgramHeader], len: usize) -> Option<BadElf>
     requires { length headers.now ≤ MOST_HEADERS }
-    ensures { result ≡ file_fault headers.now len }
+    ensures { result ≡ file_refusal headers.now len }
 {
     let index = first_past_file(headers, len)?;
     Some(BadElf::SegmentPastFile {
@@ -105,10 +105,10 @@ fn first_past_file(headers: &[ProgramHeader], len: usize) -> Option<usize>
     headers.iter().position(|p| is_past_file(p, len))
 }
 
-#[tactic(auto, unfolding(crate::specs::Checks::memory_fault))]
-fn memory_fault(headers: &[ProgramHeader], base: u64, size: u64) -> Option<BadElf>
+#[tactic(auto, unfolding(crate::specs::Checks::memory_refusal))]
+fn memory_refusal(headers: &[ProgramHeader], base: u64, size: u64) -> Option<BadElf>
     requires { length headers.now ≤ MOST_HEADERS }
-    ensures { result ≡ memory_fault headers.now base size }
+    ensures { result ≡ memory_refusal headers.now base size }
 {
     let index = first_past_memory(headers, base, size)?;
     Some(BadElf::SegmentPastMemory {
@@ -123,11 +123,11 @@ fn first_past_memory(headers: &[ProgramHeader], base: u64, size: u64) -> Option<
     headers.iter().position(|p| is_past_memory(p, base, size))
 }
 
-// The least pair of segments that have an address in common.
-#[tactic(auto, unfolding(crate::specs::Checks::overlap_fault))]
-fn overlap_fault(headers: &[ProgramHeader]) -> Option<BadElf>
+/// The least pair of segments that have an address in common.
+#[tactic(auto, unfolding(crate::specs::Checks::overlap_refusal))]
+fn overlap_refusal(headers: &[ProgramHeader]) -> Option<BadElf>
     requires { length headers.now ≤ MOST_HEADERS }
-    ensures { result ≡ overlap_fault headers.now }
+    ensures { result ≡ overlap_refusal headers.now }
 {
     for (first, header) in headers.iter().enumerate() {
         if let Some(after) = first_overlap(header, &headers[first + 1..]) {
@@ -140,7 +140,7 @@ fn overlap_fault(headers: &[ProgramHeader]) -> Option<BadElf>
     None
 }
 
-// The first of these segments that has an address in common with another one.
+/// The first of these segments that has an address in common with another one.
 fn first_overlap(header: &ProgramHeader, others: &[ProgramHeader]) -> Option<usize>
     ensures value { result ≡ position (overlaps header.now) others.now }
     ensures bound { IfSome result (λ index. index < length others.now) }

@@ -1,4 +1,4 @@
-// Executables that the tests read.
+//! Executables that the tests read.
 
 /// Three instructions that exit with 7: one segment of 12 bytes at 0x10000, at place 120 of the
 /// file.

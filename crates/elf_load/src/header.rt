@@ -1,5 +1,5 @@
-// The two kinds of header, read field by field (ELF-64 object file format, sections "ELF header"
-// and "Program header table").
+//! The two kinds of header, read field by field (ELF-64 object file format, sections "ELF header"
+//! and "Program header table").
 ghost use Rattle.std.specs.Prelude.{◌≡◌, ◌≤◌, ◌+◌, length, IsTrue, IfOk};
 ghost use Rattle.elf_load.specs.Checks.{has_table};
 ghost use Rattle.elf_load.specs.Header.{header_of, read_field, program_header_at, program_headers};

@@ -1,4 +1,4 @@
-// What memory holds when an executable was loaded.
+//! What memory holds when an executable was loaded.
 ghost use Rattle.std.specs.Prelude.{◌≡◌, ◌≤◌, ◌<◌, ◌+◌, ◌&&◌, ℕ, length, slice_index, IsTrue};
 ghost use Rattle.elf_load.specs.Copying.{byte_over};
 ghost use Rattle.elf_load.specs.MemoryImage.{byte_at, bytes_from, covers, fetched, word_in, IsSoundImage};
@@ -142,14 +142,14 @@ impl Image {
     }
 }
 
-// Whether instructions may be fetched from the four bytes from `pc` on.
+/// Whether instructions may be fetched from the four bytes from `pc` on.
 fn has_word(segment: &Segment, pc: u64) -> bool
     ensures { result ≡ (segment.now.exec && covers segment.now pc 4) }
 {
     segment.exec && is_within(pc, 4, segment.vaddr, segment.memsz)
 }
 
-// The four bytes from `pc` on, which lie in the segment.
+/// The four bytes from `pc` on, which lie in the segment.
 fn word_in(segment: &Segment, pc: u64) -> u32
     requires { IsTrue (covers segment.now pc 4) }
     ensures { result ≡ word_in segment.now pc }
@@ -168,7 +168,8 @@ fn word_in(segment: &Segment, pc: u64) -> u32
     }
 }
 
-// Copies the bytes that the file has of a segment to their places in `out`, which begins at `addr`.
+/// Copies the bytes that the file has of a segment to their places in `out`, which begins at
+/// `addr`.
 fn copy_segment(segment: &Segment, addr: u64, out: &mut [u8])
     ensures { (i : ℕ) → i < length out.old
         → slice_index out.new i ≡ byte_over segment.now (addr + i) (slice_index out.old i) }
@@ -182,7 +183,7 @@ fn copy_segment(segment: &Segment, addr: u64, out: &mut [u8])
     }
 }
 
-// A byte of a segment, which is 0 past those of the file.
+/// A byte of a segment, which is 0 past those of the file.
 fn byte_at(bytes: &[u8], offset: usize) -> u8
     ensures { result ≡ slice_index bytes.now offset }
 {

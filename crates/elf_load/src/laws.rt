@@ -1,7 +1,7 @@
 //! Laws of the definitions by which executables are read. Each is the contract of a function that
 //! does nothing.
 ghost use Rattle.std.specs.Prelude.{◌≡◌, ◌↔◌, ◌+◌, ◌^◌, ◌≤◌, ℕ, true, List, Ok, Some};
-ghost use Rattle.elf_load.specs.Checks.{overlap_fault, overlaps};
+ghost use Rattle.elf_load.specs.Checks.{overlap_refusal, overlaps};
 ghost use Rattle.elf_load.specs.Image.{image_of};
 ghost use Rattle.elf_load.specs.Meaning.{IsAmong, IsLeastPair};
 ghost use Rattle.elf_load.specs.MemoryImage.{do_meet, IsSoundImage, MemoryImage};
@@ -17,7 +17,7 @@ pub fn ranges()
 /// The segments that a refusal names are the least pair that have an address in common.
 pub fn least_overlap()
     ensures { (headers : List ProgramHeader) (d : ProgramHeader) (first second : ℕ)
-        → overlap_fault headers ≡ Some (bad.Overlap first second)
+        → overlap_refusal headers ≡ Some (bad.Overlap first second)
         → IsLeastPair overlaps headers d first second }
 {}
 

@@ -1,10 +1,10 @@
-// Reads an executable: the checks in their order, and the image.
+//! Reads an executable: the checks in their order, and the image.
 ghost use Rattle.std.specs.Prelude.{◌≡◌, ◌≤◌, ◌+◌, ◌^◌, length, false, IfOk};
 ghost use Rattle.std.specs.List.{list_any};
 ghost use Rattle.elf_load.specs.Checks.{is_past_file};
 ghost use Rattle.elf_load.specs.Image.{image_of, segment_of, segments_of, AnswersImage};
 
-use crate::checks::{header_fault, is_executable, is_loaded, segment_fault};
+use crate::checks::{header_refusal, is_executable, is_loaded, segment_refusal};
 use crate::constants::HEADER_LEN;
 use crate::header::{Header, ProgramHeader, program_headers};
 use crate::{BadElf, Image, LoadFail, Segment};
@@ -22,18 +22,18 @@ pub fn load(alloc: Global, file: &[u8], base: u64, size: u64) -> Result<Image, L
         return Err(LoadFail::Bad(BadElf::Short));
     }
     let header = Header::read(file);
-    if let Some(fault) = header_fault(&header, file.len()) {
-        return Err(LoadFail::Bad(fault));
+    if let Some(refusal) = header_refusal(&header, file.len()) {
+        return Err(LoadFail::Bad(refusal));
     }
     let headers = program_headers(alloc, file, &header)?;
-    if let Some(fault) = segment_fault(&headers, header.entry, file.len(), base, size) {
-        return Err(LoadFail::Bad(fault));
+    if let Some(refusal) = segment_refusal(&headers, header.entry, file.len(), base, size) {
+        return Err(LoadFail::Bad(refusal));
     }
     let segments = segments(alloc, file, &headers)?;
     Ok(Image::make(base, size, header.entry, segments))
 }
 
-// The segments to load, in the order of their headers.
+/// The segments to load, in the order of their headers.
 fn segments(alloc: Global, file: &[u8], headers: &[ProgramHeader]) -> Result<Vec<Segment>, NoMemory>
     requires { list_any (is_past_file (length file.now)) headers.now ≡ false }
     ensures { IfOk result (λ s. s.items ≡ segments_of file.now headers.now) }

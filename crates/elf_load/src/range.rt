@@ -1,4 +1,4 @@
-// Ranges of numbers, given by their start and their length, whose ends may pass the type.
+//! Ranges of numbers, given by their start and their length, whose ends may pass the type.
 ghost use Rattle.std.specs.Prelude.{◌≡◌, ◌+◌};
 ghost use Rattle.elf_load.specs.MemoryImage.{do_meet, is_within};
 

@@ -1,4 +1,4 @@
-// A segment of an executable.
+//! A segment of an executable.
 use zs_num::Bytes;
 
 /// A range of memory that the executable fills: its first bytes are those of the file, the rest are

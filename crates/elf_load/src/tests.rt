@@ -1,4 +1,4 @@
-// What no clause says: files that linkers made, each check, and files at the limits.
+//! What no clause says: files that linkers made, each check, and files at the limits.
 ghost use Rattle.std.specs.Prelude.{◌≡◌, [], ◌∷◌, true, IfOk};
 
 use crate::executables::{GREETING, LINKED_APART, LINKED_AS_ONE, SEVEN};
@@ -11,7 +11,7 @@ const BASE: u64 = 0x10000;
 
 const SIZE: u64 = 0x10_0000;
 
-// A number to write at a place of a file, in so many bytes.
+/// A number to write at a place of a file, in so many bytes.
 #[derive(Clone, Copy)]
 struct Change {
     at: usize,
@@ -23,7 +23,7 @@ fn put(at: usize, width: usize, value: u64) -> Change {
     Change { at, width, value }
 }
 
-// The fields of SEVEN's headers.
+/// The fields of SEVEN's headers.
 const CLASS: usize = 4;
 
 const DATA: usize = 5;
@@ -54,7 +54,7 @@ const P_FILESZ: usize = 96;
 
 const P_MEMSZ: usize = 104;
 
-// A copy of these bytes with the changes made.
+/// A copy of these bytes with the changes made.
 fn changed(alloc: Global, bytes: &[u8], changes: &[Change]) -> Result<Vec<u8>, AllocError> {
     let mut file = Vec::from_slice(alloc, bytes)?;
     for change in changes {
@@ -70,12 +70,12 @@ fn changed(alloc: Global, bytes: &[u8], changes: &[Change]) -> Result<Vec<u8>, A
     Ok(file)
 }
 
-// What is answered for a memory of `SIZE` bytes from `BASE` on: the fault, or None for an image.
-fn fault_of(alloc: Global, file: &[u8]) -> Option<LoadFail> {
+/// What is answered for a memory of `SIZE` bytes from `BASE` on: the refusal, or None for an image.
+fn refusal_of(alloc: Global, file: &[u8]) -> Option<LoadFail> {
     load(alloc, file, BASE, SIZE).err()
 }
 
-// The byte at an address, where it is in memory.
+/// The byte at an address, where it is in memory.
 fn byte_of(image: &Image, addr: u64) -> Option<u8> {
     if image.base() <= addr && addr - image.base() < image.size() {
         Some(image.byte(addr))
@@ -84,7 +84,7 @@ fn byte_of(image: &Image, addr: u64) -> Option<u8> {
     }
 }
 
-// The bytes from an address on, where all are in memory.
+/// The bytes from an address on, where all are in memory.
 fn bytes_of<const N: usize>(image: &Image, addr: u64) -> Option<[u8; N]> {
     let mut bytes = [0xff; N];
     if image.base() <= addr
@@ -98,9 +98,9 @@ fn bytes_of<const N: usize>(image: &Image, addr: u64) -> Option<[u8; N]> {
     }
 }
 
-// A fault, and the change of SEVEN that makes it.
+/// A refusal, and the change of SEVEN that makes it.
 struct Row {
-    fault: BadElf,
+    refusal: BadElf,
     at: usize,
     width: usize,
     value: u64,
@@ -110,133 +110,133 @@ struct Row {
 fn each_field_out_of_order_is_refused_by_its_check(rt: HostRuntime) -> Result<(), Fail> {
     static ROWS: [Row; 22] = [
         Row {
-            fault: BadElf::Magic,
+            refusal: BadElf::Magic,
             at: 3,
             width: 1,
             value: 0x47,
         },
         Row {
-            fault: BadElf::ClassOrData,
+            refusal: BadElf::ClassOrData,
             at: CLASS,
             width: 1,
             value: 1,
         },
         Row {
-            fault: BadElf::ClassOrData,
+            refusal: BadElf::ClassOrData,
             at: DATA,
             width: 1,
             value: 2,
         },
         Row {
-            fault: BadElf::Type_,
+            refusal: BadElf::Type_,
             at: E_TYPE,
             width: 2,
             value: 3,
         },
         Row {
-            fault: BadElf::Machine,
+            refusal: BadElf::Machine,
             at: E_MACHINE,
             width: 2,
             value: 62,
         },
         Row {
-            fault: BadElf::Flags,
+            refusal: BadElf::Flags,
             at: E_FLAGS,
             width: 4,
             value: 1,
         },
         Row {
-            fault: BadElf::Flags,
+            refusal: BadElf::Flags,
             at: E_FLAGS,
             width: 4,
             value: 4,
         },
         Row {
-            fault: BadElf::Headers,
+            refusal: BadElf::Headers,
             at: E_PHOFF,
             width: 8,
             value: u64::MAX,
         },
         Row {
-            fault: BadElf::Headers,
+            refusal: BadElf::Headers,
             at: E_PHNUM,
             width: 2,
             value: 129,
         },
         Row {
-            fault: BadElf::Headers,
+            refusal: BadElf::Headers,
             at: E_PHENTSIZE,
             width: 2,
             value: 55,
         },
         Row {
-            fault: BadElf::Dynamic,
+            refusal: BadElf::Dynamic,
             at: P_TYPE,
             width: 4,
             value: 2,
         },
         Row {
-            fault: BadElf::Dynamic,
+            refusal: BadElf::Dynamic,
             at: P_TYPE,
             width: 4,
             value: 3,
         },
         Row {
-            fault: BadElf::SegmentPastFile { index: 0 },
+            refusal: BadElf::SegmentPastFile { index: 0 },
             at: P_OFFSET,
             width: 8,
             value: u64::MAX,
         },
         Row {
-            fault: BadElf::SegmentPastMemory { index: 0 },
+            refusal: BadElf::SegmentPastMemory { index: 0 },
             at: P_VADDR,
             width: 8,
             value: u64::MAX - 3,
         },
         Row {
-            fault: BadElf::SegmentPastMemory { index: 0 },
+            refusal: BadElf::SegmentPastMemory { index: 0 },
             at: P_MEMSZ,
             width: 8,
             value: u64::MAX,
         },
         Row {
-            fault: BadElf::SegmentPastMemory { index: 0 },
+            refusal: BadElf::SegmentPastMemory { index: 0 },
             at: P_MEMSZ,
             width: 8,
             value: 11,
         },
         Row {
-            fault: BadElf::Entry,
+            refusal: BadElf::Entry,
             at: E_ENTRY,
             width: 8,
             value: 0x10002,
         },
         Row {
-            fault: BadElf::Entry,
+            refusal: BadElf::Entry,
             at: E_ENTRY,
             width: 8,
             value: 0x1000C,
         },
         Row {
-            fault: BadElf::Entry,
+            refusal: BadElf::Entry,
             at: E_ENTRY,
             width: 8,
             value: u64::MAX - 3,
         },
         Row {
-            fault: BadElf::Entry,
+            refusal: BadElf::Entry,
             at: P_FLAGS,
             width: 4,
             value: 6,
         },
         Row {
-            fault: BadElf::Entry,
+            refusal: BadElf::Entry,
             at: E_PHNUM,
             width: 2,
             value: 0,
         },
         Row {
-            fault: BadElf::Entry,
+            refusal: BadElf::Entry,
             at: P_TYPE,
             width: 4,
             value: 4,
@@ -244,7 +244,10 @@ fn each_field_out_of_order_is_refused_by_its_check(rt: HostRuntime) -> Result<()
     ];
     for row in &ROWS {
         let file = changed(rt.alloc(), &SEVEN, &[put(row.at, row.width, row.value)])?;
-        assert_eq!(rt; fault_of(rt.alloc(), &file), Some(LoadFail::Bad(row.fault)));
+        assert_eq!(rt;
+            refusal_of(rt.alloc(), &file),
+            Some(LoadFail::Bad(row.refusal))
+        );
     }
     Ok(())
 }
@@ -252,10 +255,10 @@ fn each_field_out_of_order_is_refused_by_its_check(rt: HostRuntime) -> Result<()
 #[test]
 fn a_segment_of_more_bytes_than_the_file_and_an_empty_one(rt: HostRuntime) -> Result<(), Fail> {
     let cut = BadElf::SegmentPastFile { index: 0 };
-    for (size, fault) in [(13, cut), (0, BadElf::Entry)] {
+    for (size, refusal) in [(13, cut), (0, BadElf::Entry)] {
         let sizes = [put(P_FILESZ, 8, size), put(P_MEMSZ, 8, size)];
         let file = changed(rt.alloc(), &SEVEN, &sizes)?;
-        assert_eq!(rt; fault_of(rt.alloc(), &file), Some(LoadFail::Bad(fault)));
+        assert_eq!(rt; refusal_of(rt.alloc(), &file), Some(LoadFail::Bad(refusal)));
     }
     Ok(())
 }
@@ -263,25 +266,25 @@ fn a_segment_of_more_bytes_than_the_file_and_an_empty_one(rt: HostRuntime) -> Re
 #[test]
 fn short_and_empty_files_are_refused(rt: HostRuntime) {
     assert_eq!(rt;
-        fault_of(rt.alloc(), &[]),
+        refusal_of(rt.alloc(), &[]),
         Some(LoadFail::Bad(BadElf::Short))
     );
     assert_eq!(rt;
-        fault_of(rt.alloc(), &SEVEN[..63]),
+        refusal_of(rt.alloc(), &SEVEN[..63]),
         Some(LoadFail::Bad(BadElf::Short))
     );
     assert_eq!(rt;
-        fault_of(rt.alloc(), &[0; 64]),
+        refusal_of(rt.alloc(), &[0; 64]),
         Some(LoadFail::Bad(BadElf::Magic))
     );
     assert_eq!(rt;
-        fault_of(rt.alloc(), &SEVEN[..131]),
+        refusal_of(rt.alloc(), &SEVEN[..131]),
         Some(LoadFail::Bad(BadElf::SegmentPastFile { index: 0 }))
     );
 }
 
-// The headers of SEVEN's segment with changes of their own, each at its place in SEVEN, and the
-// bytes of the segment.
+/// The headers of SEVEN's segment with changes of their own, each at its place in SEVEN, and the
+/// bytes of the segment.
 fn with_headers(alloc: Global, headers: &[[Change; 2]]) -> Result<Vec<u8>, AllocError> {
     let phnum = headers.len();
     let mut file = changed(alloc, &SEVEN[..64], &[put(E_PHNUM, 2, phnum as u64)])?;
@@ -313,7 +316,7 @@ fn a_check_is_made_of_all_headers_before_the_next_check(rt: HostRuntime) -> Resu
     let past_file = [put(P_OFFSET, 8, 177), put(P_VADDR, 8, BASE)];
     let past_memory = [put(P_OFFSET, 8, 176), put(P_VADDR, 8, 0)];
     let dynamic = [put(P_OFFSET, 8, 176), put(P_TYPE, 4, 2)];
-    for (first, second, fault) in [
+    for (first, second, refusal) in [
         (past_file, dynamic, BadElf::Dynamic),
         (past_memory, past_file, BadElf::SegmentPastFile { index: 1 }),
         (loaded, past_memory, BadElf::SegmentPastMemory { index: 1 }),
@@ -327,7 +330,7 @@ fn a_check_is_made_of_all_headers_before_the_next_check(rt: HostRuntime) -> Resu
         ),
     ] {
         let file = with_headers(rt.alloc(), &[first, second])?;
-        assert_eq!(rt; fault_of(rt.alloc(), &file), Some(LoadFail::Bad(fault)));
+        assert_eq!(rt; refusal_of(rt.alloc(), &file), Some(LoadFail::Bad(refusal)));
     }
     Ok(())
 }
@@ -361,7 +364,7 @@ fn headers_of_other_types_are_skipped(rt: HostRuntime) -> Result<(), Fail> {
     Ok(())
 }
 
-// The addresses, lengths and words are those that readelf and objdump tell.
+/// The addresses, lengths and words are those that readelf and objdump tell.
 #[test]
 fn a_linked_executable_begins_with_its_header(rt: HostRuntime) -> Result<(), Fail> {
     let image = load(rt.alloc(), &LINKED_AS_ONE, BASE, SIZE)?;
@@ -426,7 +429,7 @@ fn a_linked_executable_has_gaps_between_segments(rt: HostRuntime) -> Result<(), 
     Ok(())
 }
 
-// One executable segment of eight bytes, of which the file has none.
+/// One executable segment of eight bytes, of which the file has none.
 fn alone(alloc: Global) -> Result<Vec<Segment>, NoMemory>
     ensures { IfOk result (λ s.
         s.items ≡ record { vaddr = BASE; bytes = []; memsz = 8; exec = true } ∷ []) }

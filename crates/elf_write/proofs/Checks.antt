@@ -7,7 +7,7 @@ use Rattle.std.proofs.lemmas.List.{append_assoc, take_at, drop_at}
 use Rattle.elf_load.specs.Constants.{pf_x}
 use Rattle.elf_load.specs.declared.header.ProgramHeader.{ProgramHeader}
 use Rattle.elf_load.specs.declared.segment.Segment.{Segment}
-use Rattle.elf_load.specs.Checks.{is_loaded, is_executable, is_dynamic, is_past_file, is_past_memory, overlaps, is_entered, first_pair, file_fault, memory_fault, overlap_fault, segment_fault}
+use Rattle.elf_load.specs.Checks.{is_loaded, is_executable, is_dynamic, is_past_file, is_past_memory, overlaps, is_entered, first_pair, file_refusal, memory_refusal, overlap_refusal, segment_refusal}
 use Rattle.elf_load.specs.Image.{segment_of, segments_of}
 use Rattle.elf_load.specs.MemoryImage.{is_placed, do_overlap, are_apart, covers, fetched}
 use Rattle.elf_write.specs.File.{contents, permissions}
@@ -89,14 +89,14 @@ enters (segment ∷ segments) offset entry base size placed h =
       | inr miss ↦ or_right _ _ (enters segments (offset + length segment.bytes) entry base size parts.1 (rw miss at h))
     ]
 
-no_fault : (ps : List ProgramHeader) (entry len base size : ℕ) → list_any is_dynamic ps ≡ false → position (is_past_file len) ps ≡ None → position (is_past_memory base size) ps ≡ None → first_pair overlaps 0 ps ≡ None → (entry % 4 == 0) ≡ true → list_any (is_entered entry) ps ≡ true → segment_fault ps entry len base size ≡ None
-unfolding segment_fault file_fault memory_fault overlap_fault
-no_fault ps entry len base size dynamic file memory apart aligned entered = rw (dynamic, file, memory, apart, aligned, entered) refl
+no_refusal : (ps : List ProgramHeader) (entry len base size : ℕ) → list_any is_dynamic ps ≡ false → position (is_past_file len) ps ≡ None → position (is_past_memory base size) ps ≡ None → first_pair overlaps 0 ps ≡ None → (entry % 4 == 0) ≡ true → list_any (is_entered entry) ps ≡ true → segment_refusal ps entry len base size ≡ None
+unfolding segment_refusal file_refusal memory_refusal overlap_refusal
+no_refusal ps entry len base size dynamic file memory apart aligned entered = rw (dynamic, file, memory, apart, aligned, entered) refl
 
-pub segment_fault-written : (segments : List Segment) (offset entry len base size : ℕ) → offset + length (contents segments) ≤ len → list_all (is_placed base size) segments ≡ true → are_apart segments ≡ true → entry % 4 ≡ 0 → IsSome (fetched segments entry) → segment_fault (written_table segments offset) entry len base size ≡ None
-segment_fault-written segments offset entry len base size fits placed apart aligned entered =
+pub segment_refusal-written : (segments : List Segment) (offset entry len base size : ℕ) → offset + length (contents segments) ≤ len → list_all (is_placed base size) segments ≡ true → are_apart segments ≡ true → entry % 4 ≡ 0 → IsSome (fetched segments entry) → segment_refusal (written_table segments offset) entry len base size ≡ None
+segment_refusal-written segments offset entry len base size fits placed apart aligned entered =
     let ps = written_table segments offset in
-    no_fault ps entry len base size (none_dynamic segments offset)
+    no_refusal ps entry len base size (none_dynamic segments offset)
     (position-none (is_past_file len) ps (none_past_file segments offset len fits))
     (position-none (is_past_memory base size) ps (none_past_memory segments offset base size placed))
     (no_pair_overlaps segments offset 0 apart)

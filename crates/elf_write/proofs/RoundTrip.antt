@@ -4,9 +4,9 @@ use Rattle.std.specs.List.{list_all}
 use Rattle.std.proofs.lemmas.Bool.{and_parts, and_from, or_right, le-leb, leb-true, cases_Bool}
 use Rattle.std.proofs.lemmas.List.{append_assoc}
 use Rattle.elf_load.specs.declared.segment.Segment.{Segment}
-use Rattle.elf_load.specs.Checks.{has_table, header_fault, segment_fault}
+use Rattle.elf_load.specs.Checks.{has_table, header_refusal, segment_refusal}
 use Rattle.elf_load.specs.Header.{header_of, program_headers}
-use Rattle.elf_load.specs.Image.{image_of, image_in, elf_fault, segments_of}
+use Rattle.elf_load.specs.Image.{image_of, image_in, elf_refusal, segments_of}
 use Rattle.elf_load.specs.MemoryImage.{MemoryImage, IsSoundImage, is_placed, fetched, covers}
 use Rattle.elf_load.specs.declared.header.Header.{Header}
 use Rattle.elf_load.specs.declared.header.ProgramHeader.{ProgramHeader}
@@ -14,15 +14,15 @@ use Rattle.elf_write.specs.File.{fields_bytes, header_fields, table_bytes, conte
 use Rattle.elf_write.proofs.Fields.{length-fields_bytes}
 use Rattle.elf_write.proofs.Written.{written_header, header_of-written}
 use Rattle.elf_write.proofs.Table.{place_of, written_table, headers_from-written, length-table_bytes}
-use Rattle.elf_write.proofs.Checks.{segment_fault-written, segments_of-written}
+use Rattle.elf_write.proofs.Checks.{segment_refusal-written, segments_of-written}
 
 has_table-written : (entry count len : ℕ) → count ≤ 128 → 64 + 56 * count ≤ len → has_table (written_header entry count) len ≡ true
 unfolding has_table
 has_table-written entry count len few fits = and_from _ _ (le-leb count 128 few) (or_right _ _ (le-leb (64 + 56 * count) len fits))
 
-header_fault-written : (entry count len : ℕ) → count ≤ 128 → 64 + 56 * count ≤ len → header_fault (written_header entry count) len ≡ None
-unfolding header_fault
-header_fault-written entry count len few fits = rw (has_table-written entry count len few fits) refl
+header_refusal-written : (entry count len : ℕ) → count ≤ 128 → 64 + 56 * count ≤ len → header_refusal (written_header entry count) len ≡ None
+unfolding header_refusal
+header_refusal-written entry count len few fits = rw (has_table-written entry count len few fits) refl
 
 -- the entry is the address of an instruction in memory
 entry_fits : (segments : List Segment) (entry base size : ℕ) → base + size ≤ 2 ^ 48 → list_all (is_placed base size) segments ≡ true → IsSome (fetched segments entry) → entry < 2 ^ 64
@@ -39,8 +39,8 @@ entry_fits (segment ∷ segments) entry base size reach placed h =
     ]
 
 -- a file whose headers pass the checks is read as their image
-accepted : (file : List ℕ) (base size : ℕ) (h : Header) (ps : List ProgramHeader) → 64 ≤ length file → h ≡ header_of file → None ≡ header_fault h (length file) → ps ≡ program_headers file h → None ≡ segment_fault ps h.entry (length file) base size → image_of file base size ≡ Ok (image_in file h ps base size)
-unfolding image_of elf_fault
+accepted : (file : List ℕ) (base size : ℕ) (h : Header) (ps : List ProgramHeader) → 64 ≤ length file → h ≡ header_of file → None ≡ header_refusal h (length file) → ps ≡ program_headers file h → None ≡ segment_refusal ps h.entry (length file) base size → image_of file base size ≡ Ok (image_in file h ps base size)
+unfolding image_of elf_refusal
 accepted file base size h ps long read passed listed sound = rw (le-leb 64 (length file) long, ← read, ← passed, ← listed, ← sound) refl
 
 pub image_of-file_of : (image : MemoryImage) → IsSoundImage image → image_of (executable_of image) image.base image.size ≡ Ok image
@@ -59,15 +59,15 @@ image_of-file_of image sound =
     let table_len : length table ≡ 56 * count = length-table_bytes segments place in
     let file_len : length file ≡ place + length (contents segments) = omega (arith, length-append header (table ++ contents segments), length-append table (contents segments)) in
     let read : h ≡ header_of file = sym (header_of-written image.entry count (table ++ contents segments) (entry_fits segments image.entry image.base image.size sound.reach sound.placed sound.entered) few) in
-    let passed : None ≡ header_fault h (length file) = sym (header_fault-written image.entry count (length file) few (omega arith)) in
+    let passed : None ≡ header_refusal h (length file) = sym (header_refusal-written image.entry count (length file) few (omega arith)) in
     let bound : place + 2 ^ 48 * count < 2 ^ 60 = omega arith in
     let listed : ps ≡ program_headers file h = sym (headers_from-written segments header (contents segments) 64 place image.base image.size header_len sound.reach sound.placed bound) in
-    let fault : None ≡ segment_fault ps image.entry (length file) image.base image.size = sym (segment_fault-written segments place image.entry (length file) image.base image.size (omega arith) sound.placed sound.apart sound.aligned sound.entered) in
+    let refusal : None ≡ segment_refusal ps image.entry (length file) image.base image.size = sym (segment_refusal-written segments place image.entry (length file) image.base image.size (omega arith) sound.placed sound.apart sound.aligned sound.entered) in
     let front_len : length (header ++ table) ≡ place = omega (arith, length-append header table) in
     let back : segments_of file ps ≡ segments =
     ap (λ f. segments_of f ps) (sym (append_assoc header table (contents segments))) ∙ segments_of-written (header ++ table) segments place image.base image.size front_len sound.placed in
     let made : List Segment → MemoryImage = λ s. record { base = image.base; size = image.size; entry = image.entry; segments = s } in
-    accepted file image.base image.size h ps (omega arith) read passed listed fault ∙ ap (λ s. Ok (made s)) back
+    accepted file image.base image.size h ps (omega arith) read passed listed refusal ∙ ap (λ s. Ok (made s)) back
 
 -- no segment has more bytes than memory
 pub short_segments : (segments : List Segment) (base size k : ℕ) (d : Segment) → base + size ≤ 2 ^ 48 → list_all (is_placed base size) segments ≡ true → k < length segments → length (get_or segments k d).bytes ≤ 2 ^ 48

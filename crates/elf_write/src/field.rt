@@ -1,4 +1,4 @@
-// Fields of a file: numbers of one to eight bytes, little-endian.
+//! Fields of a file: numbers of one to eight bytes, little-endian.
 ghost use Rattle.std.specs.Prelude.{◌≡◌, ◌++◌, IsTrue, OnOk};
 ghost use Rattle.std.specs.List.{list_all};
 ghost use Rattle.byteorder.specs.Endian.{little_bytes};

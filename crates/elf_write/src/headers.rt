@@ -1,5 +1,5 @@
-// The two kinds of header as tables of fields (ELF-64 object file format, "ELF header" and "Program
-// header table").
+//! The two kinds of header as tables of fields (ELF-64 object file format, "ELF header" and
+//! "Program header table").
 ghost use Rattle.std.specs.Prelude.{◌≡◌};
 ghost use Rattle.elf_write.specs.File.{header_fields, program_header_fields};
 

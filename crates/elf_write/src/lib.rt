@@ -6,6 +6,3 @@ mod headers;
 mod writer;
 
 pub use writer::write;
-
-#[cfg(test)]
-mod tests;

@@ -1,4 +1,4 @@
-// Writes the file of an image: the headers, and then the bytes of the segments without gaps.
+//! Writes the file of an image: the headers, and then the bytes of the segments without gaps.
 ghost use Rattle.std.specs.Prelude.{◌≡◌, ◌≤◌, ◌+◌, ◌*◌, ◌^◌, ◌++◌, length, All, Ok, IfOk, OnOk};
 ghost use Rattle.elf_load.specs.Image.{image_of};
 ghost use Rattle.elf_write.specs.File.{contents, executable_of, fields_bytes, header_fields, table_bytes};

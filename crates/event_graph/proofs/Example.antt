@@ -4,7 +4,7 @@ use Rattle.component.specs.declared.kind.Kind.{Kind}
 use Rattle.component.specs.declared.kind.Kind.TheVariants.{Lookup, Remote, Fill, Read, Write}
 use Rattle.event_graph.specs.declared.event.Event.{Event}
 use Rattle.event_graph.specs.declared.event.Parent.{Parent}
-use Rattle.event_graph.specs.OneListWeave.{round, after_rounds, woven, comps_after}
+use Rattle.event_graph.specs.OneListWeave.{fire_least, after_firings, woven, comps_after}
 
 record Server : Type 0 where
   occupancy : ℕ
@@ -34,13 +34,13 @@ abbrev comps : List Server
 comps = record { occupancy = 4; free = 0 } ∷ record { occupancy = 20; free = 0 } ∷ []
 
 finishes : map (λ x. x.finish) (woven step graph comps) ≡ (12 ∷ 112 ∷ 114 ∷ 16 ∷ 132 ∷ 134 ∷ [])
-unfolding round after_rounds woven
+unfolding fire_least after_firings woven
 finishes = refl
 
 starts : map (λ x. x.start) (woven step graph comps) ≡ (2 ∷ 12 ∷ 112 ∷ 2 ∷ 16 ∷ 132 ∷ [])
-unfolding round after_rounds woven
+unfolding fire_least after_firings woven
 starts = refl
 
 frees : map (λ x. x.free) (comps_after step graph comps) ≡ (136 ∷ 52 ∷ [])
-unfolding round after_rounds woven
+unfolding fire_least after_firings woven
 frees = refl

@@ -1,5 +1,6 @@
 mod AccessSteps
 mod AllEvents
+mod BetweenFirings
 mod CriticalSteps
 mod Example
 pub mod FindFired
@@ -17,7 +18,6 @@ mod Order
 mod PlainCounts
 mod PlainFits
 mod Progress
-mod Rounds
 mod SmallSteps
 mod Solves
 mod Theorem

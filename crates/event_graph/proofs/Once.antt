@@ -1,4 +1,4 @@
--- Each round fires one event, until each event has fired once.
+-- Each firing is of one event, until each event has fired once.
 use Rattle.std.proofs.Common.{◌≡◌, ◌+◌, ◌-◌, ◌≤◌, ◌<◌, ℕ, zero, suc, Bool, true, false, not, cond, List, [], ◌∷◌, ◌++◌, map, length, take, inl, inr, Option, Some, None, is_some, sym, ◌∙◌, ap, subst, refl, arith, append_assoc, length-append}
 use Rattle.std.specs.Prelude.{slice_get}
 use Rattle.std.specs.List.{filter}
@@ -9,15 +9,15 @@ use Rattle.std.proofs.lemmas.List.Sorted.{IsPermutation-refl, IsPermutation-cons
 use Rattle.std.proofs.Math.Seq.{take-append_seam}
 use Rattle.component.specs.declared.kind.Kind.{Kind}
 use Rattle.event_graph.specs.declared.event.Event.{Event}
-use Rattle.event_graph.specs.Firing.{IsRound}
+use Rattle.event_graph.specs.Firing.{FiresNext}
 use Rattle.event_graph.specs.Numbered.{IsNumbered}
-use Rattle.event_graph.specs.OneListWeave.{Timed, after_rounds, is_fired, least_ready, served, weave}
+use Rattle.event_graph.specs.OneListWeave.{Timed, after_firings, is_fired, least_ready, served, weave}
 use Rattle.event_graph.proofs.FindFired.{find_push_other, is_fired_from_in}
 use Rattle.event_graph.proofs.Least.{IsLeast, least_some, next_from_least, ready_parts}
 use Rattle.event_graph.proofs.Lists.{In, get_within, in_at, in_push}
 use Rattle.event_graph.proofs.Indices.{slice_get_left, slice_get_right}
-use Rattle.event_graph.proofs.Progress.{AllFired, after_first_round, after_more, all_fired, all_fired_from_none, holds, round_fires, round_stays, stays}
-use Rattle.event_graph.proofs.Rounds.{IsLawful, IsServed}
+use Rattle.event_graph.proofs.Progress.{AllFired, after_first_firing, after_more, all_fired, all_fired_from_none, fire_least_serves, fire_least_stays, holds, stays}
+use Rattle.event_graph.proofs.BetweenFirings.{IsLawful, IsServed}
 
 -- no event has the number of one after it
 abbrev HasOneEach : List Event → Type 0
@@ -102,9 +102,9 @@ one_more_done events left rest fired x all now =
 module _ {C : Type 0} (serves : C → Kind → Bool) (stepped : C → Kind → ℕ → C × ℕ) (events : List Event) (comps : List C)
     (lawful : IsLawful serves stepped) (numbered : IsNumbered events) (fits : (e : Event) → In e events → IsServed serves comps e) where
   abbrev fired_after : ℕ → List Timed
-  fired_after n = (after_rounds stepped events comps n).fired
+  fired_after n = (after_firings stepped events comps n).fired
 
-  -- a round fires the least ready event, or none is ready
+  -- the least ready event fires, or none is ready
   record Fires (n : ℕ) (r : Event × ℕ) : Type 0 where
     next : Timed
     event : next.event ≡ r.0
@@ -115,17 +115,17 @@ module _ {C : Type 0} (serves : C → Kind → Bool) (stepped : C → Kind → �
   fires : (n : ℕ) (r : Event × ℕ) → least_ready (fired_after n) events ≡ Some r → Fires n r
   fires n r is =
       let l : IsLeast (fired_after n) events r.0 r.1 = least_some (fired_after n) events r is in
-      let f : IsServed serves (after_rounds stepped events comps n).comps r.0 = (holds serves stepped events comps lawful numbered fits n).are_served r.0 l.member in
+      let f : IsServed serves (after_firings stepped events comps n).comps r.0 = (holds serves stepped events comps lawful numbered fits n).are_served r.0 l.member in
       record {
         next = record { event = r.0; start = r.1; finish = (stepped f.0 r.0.kind r.1).1 };
         event = refl;
         start = refl;
         least = l;
-        fired = ap (λ v. v.fired) (after_more serves stepped events comps n) ∙ ap (λ v. v.fired) (round_fires serves stepped events comps (after_rounds stepped events comps n) r f.0 is f.1.0);
+        fired = ap (λ v. v.fired) (after_more serves stepped events comps n) ∙ ap (λ v. v.fired) (fire_least_serves serves stepped events comps (after_firings stepped events comps n) r f.0 is f.1.0);
       }
 
   fires_none : (n : ℕ) → least_ready (fired_after n) events ≡ None → fired_after (suc n) ≡ fired_after n
-  fires_none n is = ap (λ v. v.fired) (after_more serves stepped events comps n ∙ round_stays serves stepped events comps (after_rounds stepped events comps n) is)
+  fires_none n is = ap (λ v. v.fired) (after_more serves stepped events comps n ∙ fire_least_stays serves stepped events comps (after_firings stepped events comps n) is)
 
   -- what fired and what didn't are all events
   once_by : (n : ℕ) → IsPermutation events (events_of (fired_after n) ++ unfired_among (fired_after n) events) → (o : Option (Event × ℕ)) → least_ready (fired_after n) events ≡ o
@@ -141,7 +141,7 @@ module _ {C : Type 0} (serves : C → Kind → Bool) (stepped : C → Kind → �
 
   once : (n : ℕ) → IsPermutation events (events_of (fired_after n) ++ unfired_among (fired_after n) events)
   once zero =
-      subst (λ xs. IsPermutation events (events_of xs ++ unfired_among xs events)) (sym (ap (λ v. v.fired) (after_first_round serves stepped events comps)))
+      subst (λ xs. IsPermutation events (events_of xs ++ unfired_among xs events)) (sym (ap (λ v. v.fired) (after_first_firing serves stepped events comps)))
       (subst (λ zs. IsPermutation events zs) (sym (none_fired events)) (IsPermutation-refl events))
   once (suc n) = once_by n (once n) (least_ready (fired_after n) events) refl
 
@@ -150,7 +150,7 @@ module _ {C : Type 0} (serves : C → Kind → Bool) (stepped : C → Kind → �
       let none : unfired_among (weave stepped events comps).fired events ≡ [] = fired_all (weave stepped events comps).fired events (all_fired serves stepped events comps lawful numbered fits) in
       subst (λ zs. IsPermutation events zs) (ap (λ zs. events_of (weave stepped events comps).fired ++ zs) none ∙ append-nil (events_of (weave stepped events comps).fired)) (once (length events))
 
-  -- so many rounds fire so many events
+  -- so many firings are of so many events
   some_ready : (n : ℕ) → n < length events → length (fired_after n) ≡ n → (o : Option (Event × ℕ)) → least_ready (fired_after n) events ≡ o → (r : Event × ℕ) × (o ≡ Some r)
   some_ready n l count None is =
       let none : unfired_among (fired_after n) events ≡ [] = fired_all (fired_after n) events (all_fired_from_none events numbered (fired_after n) is) in
@@ -159,7 +159,7 @@ module _ {C : Type 0} (serves : C → Kind → Bool) (stepped : C → Kind → �
   some_ready n l count (Some r) is = (r, refl)
 
   pub counted : (n : ℕ) → n ≤ length events → length (fired_after n) ≡ n
-  counted zero l = ap (λ v. length v.fired) (after_first_round serves stepped events comps)
+  counted zero l = ap (λ v. length v.fired) (after_first_firing serves stepped events comps)
   counted (suc n) l =
       let count : length (fired_after n) ≡ n = counted n (omega arith) in
       let r : (r : Event × ℕ) × (least_ready (fired_after n) events ≡ Some r) = some_ready n (omega arith) count (least_ready (fired_after n) events) refl in
@@ -214,15 +214,15 @@ module _ {C : Type 0} (serves : C → Kind → Bool) (stepped : C → Kind → �
       subst (λ (z : Timed). IsLeast (fired_after n) events z.event z.start) same
       (subst (λ e. IsLeast (fired_after n) events e f.next.start) (sym f.event) (subst (λ s. IsLeast (fired_after n) events r.0.0 s) (sym f.start) f.least))
 
-  -- a round while an event is unfired
-  pub round_at : (n : ℕ) → n < length events → (x : Timed) × (c : C) × IsRound serves stepped events (after_rounds stepped events comps n) (after_rounds stepped events comps (suc n)) x c
-  round_at n l =
+  -- a firing while an event is unfired
+  pub firing_at : (n : ℕ) → n < length events → (x : Timed) × (c : C) × FiresNext serves stepped events (after_firings stepped events comps n) (after_firings stepped events comps (suc n)) x c
+  firing_at n l =
       let count : length (fired_after n) ≡ n = counted n (omega (arith, l)) in
       let r : (r : Event × ℕ) × (least_ready (fired_after n) events ≡ Some r) = some_ready n l count (least_ready (fired_after n) events) refl in
       let m : IsLeast (fired_after n) events r.0.0 r.0.1 = least_some (fired_after n) events r.0 r.1 in
-      let f : IsServed serves (after_rounds stepped events comps n).comps r.0.0 = (holds serves stepped events comps lawful numbered fits n).are_served r.0.0 m.member in
-      let next : after_rounds stepped events comps (suc n) ≡ served stepped (after_rounds stepped events comps n) r.0.0 r.0.1 (Some f.0) =
-      after_more serves stepped events comps n ∙ round_fires serves stepped events comps (after_rounds stepped events comps n) r.0 f.0 r.1 f.1.0
+      let f : IsServed serves (after_firings stepped events comps n).comps r.0.0 = (holds serves stepped events comps lawful numbered fits n).are_served r.0.0 m.member in
+      let next : after_firings stepped events comps (suc n) ≡ served stepped (after_firings stepped events comps n) r.0.0 r.0.1 (Some f.0) =
+      after_more serves stepped events comps n ∙ fire_least_serves serves stepped events comps (after_firings stepped events comps n) r.0 f.0 r.1 f.1.0
       in
       let x : Timed = record { event = r.0.0; start = r.0.1; finish = (stepped f.0 r.0.0.kind r.0.1).1 } in (
         x,

@@ -6,11 +6,11 @@ use Rattle.component.specs.declared.kind.Kind.{Kind}
 use Rattle.event_graph.specs.declared.event.Event.{Event}
 use Rattle.event_graph.specs.declared.event.Parent.{Parent}
 use Rattle.event_graph.specs.Numbered.{IsNumbered}
-use Rattle.event_graph.specs.OneListWeave.{Timed, Weave, after_rounds, fire, is_fired, is_parent_fired, least_ready, round, served, weave}
+use Rattle.event_graph.specs.OneListWeave.{Timed, Weave, after_firings, fire, fire_least, is_fired, is_parent_fired, least_ready, served, weave}
 use Rattle.event_graph.proofs.FindFired.{fired_in, is_fired_from_in}
 use Rattle.event_graph.proofs.Least.{IsLeast, least_none, least_some, ready_from, ready_parts}
 use Rattle.event_graph.proofs.Lists.{In, at_in, count, count_all, count_less, count_none, in_at, in_left, in_push}
-use Rattle.event_graph.proofs.Rounds.{HoldsBetween, IsLawful, IsServed, holds_after, holds_at_first}
+use Rattle.event_graph.proofs.BetweenFirings.{HoldsBetween, IsLawful, IsServed, holds_after, holds_at_first}
 
 abbrev pub AllFired : List Timed → List Event → Type 0
 AllFired fired events = (e : Event) → In e events → is_fired fired e.number ≡ true
@@ -84,61 +84,61 @@ pub none_from_all : (events : List Event) (fired : List Timed) → AllFired fire
 none_from_all events fired all = none_from_all_by events fired all (least_ready fired events) refl
 
 module _ {C : Type 0} (serves : C → Kind → Bool) (stepped : C → Kind → ℕ → C × ℕ) (events : List Event) (comps : List C) where
-  pub round_stays : (w : Weave C) → least_ready w.fired events ≡ None → round stepped events w ≡ w
-  unfolding round
-  round_stays w h = ap (λ o. fire stepped w o) h
+  pub fire_least_stays : (w : Weave C) → least_ready w.fired events ≡ None → fire_least stepped events w ≡ w
+  unfolding fire_least
+  fire_least_stays w h = ap (λ o. fire stepped w o) h
 
-  pub round_fires : (w : Weave C) (r : Event × ℕ) (c : C) → least_ready w.fired events ≡ Some r → slice_get w.comps r.0.component ≡ Some c → round stepped events w ≡ served stepped w r.0 r.1 (Some c)
-  unfolding round
-  round_fires w r c h k = ap (λ o. fire stepped w o) h ∙ ap (λ o. served stepped w r.0 r.1 o) k
+  pub fire_least_serves : (w : Weave C) (r : Event × ℕ) (c : C) → least_ready w.fired events ≡ Some r → slice_get w.comps r.0.component ≡ Some c → fire_least stepped events w ≡ served stepped w r.0 r.1 (Some c)
+  unfolding fire_least
+  fire_least_serves w r c h k = ap (λ o. fire stepped w o) h ∙ ap (λ o. served stepped w r.0 r.1 o) k
 
-  pub after_first_round : after_rounds stepped events comps 0 ≡ record { fired = []; comps = comps }
-  unfolding after_rounds
-  after_first_round = refl
+  pub after_first_firing : after_firings stepped events comps 0 ≡ record { fired = []; comps = comps }
+  unfolding after_firings
+  after_first_firing = refl
 
-  pub after_more : (n : ℕ) → after_rounds stepped events comps (suc n) ≡ round stepped events (after_rounds stepped events comps n)
-  unfolding after_rounds
+  pub after_more : (n : ℕ) → after_firings stepped events comps (suc n) ≡ fire_least stepped events (after_firings stepped events comps n)
+  unfolding after_firings
   after_more n = refl
 
   module _ (lawful : IsLawful serves stepped) (numbered : IsNumbered events) (fits : (e : Event) → In e events → IsServed serves comps e) where
-    holds_round_by : (w : Weave C) → HoldsBetween serves stepped events comps w → (o : Option (Event × ℕ)) → least_ready w.fired events ≡ o → HoldsBetween serves stepped events comps (round stepped events w)
-    holds_round_by w h None is = subst (λ v. HoldsBetween serves stepped events comps v) (sym (round_stays w is)) h
-    holds_round_by w h (Some r) is =
+    holds_firing_by : (w : Weave C) → HoldsBetween serves stepped events comps w → (o : Option (Event × ℕ)) → least_ready w.fired events ≡ o → HoldsBetween serves stepped events comps (fire_least stepped events w)
+    holds_firing_by w h None is = subst (λ v. HoldsBetween serves stepped events comps v) (sym (fire_least_stays w is)) h
+    holds_firing_by w h (Some r) is =
         let l : IsLeast w.fired events r.0 r.1 = least_some w.fired events r is in
         let f : IsServed serves w.comps r.0 = h.are_served r.0 l.member in
-        subst (λ v. HoldsBetween serves stepped events comps v) (sym (round_fires w r f.0 is f.1.0))
+        subst (λ v. HoldsBetween serves stepped events comps v) (sym (fire_least_serves w r f.0 is f.1.0))
         (holds_after serves stepped events comps lawful numbered w r.0 r.1 f.0 h l f.1.0)
 
-    pub holds : (n : ℕ) → HoldsBetween serves stepped events comps (after_rounds stepped events comps n)
-    holds zero = subst (λ v. HoldsBetween serves stepped events comps v) (sym after_first_round) (holds_at_first serves stepped events comps fits)
+    pub holds : (n : ℕ) → HoldsBetween serves stepped events comps (after_firings stepped events comps n)
+    holds zero = subst (λ v. HoldsBetween serves stepped events comps v) (sym after_first_firing) (holds_at_first serves stepped events comps fits)
     holds (suc n) =
         subst (λ v. HoldsBetween serves stepped events comps v) (sym (after_more n))
-        (holds_round_by (after_rounds stepped events comps n) (holds n) (least_ready (after_rounds stepped events comps n).fired events) refl)
+        (holds_firing_by (after_firings stepped events comps n) (holds n) (least_ready (after_firings stepped events comps n).fired events) refl)
 
     -- how many events are unfired
     abbrev pub unfired : List Timed → ℕ
     unfired fired = count (λ e. not (is_fired fired e.number)) events
 
     fewer_by : (w : Weave C) → HoldsBetween serves stepped events comps w → (o : Option (Event × ℕ)) → least_ready w.fired events ≡ o
-        → AllFired w.fired events ⊎ (unfired (round stepped events w).fired + 1 ≤ unfired w.fired)
+        → AllFired w.fired events ⊎ (unfired (fire_least stepped events w).fired + 1 ≤ unfired w.fired)
     fewer_by w h None is = inl (all_fired_from_none events numbered w.fired is)
     fewer_by w h (Some r) is =
         let l : IsLeast w.fired events r.0 r.1 = least_some w.fired events r is in
         let f : IsServed serves w.comps r.0 = h.are_served r.0 l.member in
         let next : Timed = record { event = r.0; start = r.1; finish = (stepped f.0 r.0.kind r.1).1 } in
-        inr (subst (λ v. unfired v.fired + 1 ≤ unfired w.fired) (sym (round_fires w r f.0 is f.1.0))
+        inr (subst (λ v. unfired v.fired + 1 ≤ unfired w.fired) (sym (fire_least_serves w r f.0 is f.1.0))
         (count_less (λ e. not (is_fired w.fired e.number)) (λ e. not (is_fired (w.fired ++ next ∷ []) e.number)) events r.0 l.member
         (not_from_false _ (ready_parts w.fired r.0 l.ready).0)
         (not_from_true _ (is_fired_from_in (w.fired ++ next ∷ []) next r.0.number (in_push w.fired next) refl))
         (λ x k. not_from_false _ (unfired_before x w.fired next (not-true _ k)))))
 
-    progress : (n : ℕ) → AllFired (after_rounds stepped events comps n).fired events ⊎ (unfired (after_rounds stepped events comps n).fired + n ≤ length events)
-    progress zero = inr (omega (arith, count_all (λ e. not (is_fired (after_rounds stepped events comps 0).fired e.number)) events))
+    progress : (n : ℕ) → AllFired (after_firings stepped events comps n).fired events ⊎ (unfired (after_firings stepped events comps n).fired + n ≤ length events)
+    progress zero = inr (omega (arith, count_all (λ e. not (is_fired (after_firings stepped events comps 0).fired e.number)) events))
     progress (suc n) =
-        let w : Weave C = after_rounds stepped events comps n in
-        let more : after_rounds stepped events comps (suc n) ≡ round stepped events w = after_more n in
-        let stay : AllFired w.fired events → AllFired (after_rounds stepped events comps (suc n)).fired events =
-        λ all. subst (λ v. AllFired v.fired events) (sym (more ∙ round_stays w (none_from_all events w.fired all))) all
+        let w : Weave C = after_firings stepped events comps n in
+        let more : after_firings stepped events comps (suc n) ≡ fire_least stepped events w = after_more n in
+        let stay : AllFired w.fired events → AllFired (after_firings stepped events comps (suc n)).fired events =
+        λ all. subst (λ v. AllFired v.fired events) (sym (more ∙ fire_least_stays w (none_from_all events w.fired all))) all
         in
         elim (progress n) [
           | inl all ↦ inl (stay all)
@@ -148,7 +148,7 @@ module _ {C : Type 0} (serves : C → Kind → Bool) (stepped : C → Kind → �
           ]
         ]
 
-    -- after as many rounds as there are events, all fired
+    -- after as many firings as there are events, all fired
     pub all_fired : AllFired (weave stepped events comps).fired events
     all_fired =
         elim (progress (length events)) [
@@ -157,11 +157,11 @@ module _ {C : Type 0} (serves : C → Kind → Bool) (stepped : C → Kind → �
         ]
 
     -- then nothing changes any more
-    pub stays : (n : ℕ) → AllFired (after_rounds stepped events comps n).fired events → (m : ℕ) → n ≤ m → after_rounds stepped events comps m ≡ after_rounds stepped events comps n
-    stays n all zero l = ap (λ k. after_rounds stepped events comps k) (omega arith)
+    pub stays : (n : ℕ) → AllFired (after_firings stepped events comps n).fired events → (m : ℕ) → n ≤ m → after_firings stepped events comps m ≡ after_firings stepped events comps n
+    stays n all zero l = ap (λ k. after_firings stepped events comps k) (omega arith)
     stays n all (suc m) l =
         elim (cases_eq n (suc m)) [
-          | inl same ↦ ap (λ k. after_rounds stepped events comps k) (sym same)
+          | inl same ↦ ap (λ k. after_firings stepped events comps k) (sym same)
           | inr apart ↦
-              after_more m ∙ (ap (λ w. round stepped events w) (stays n all m (omega arith)) ∙ round_stays (after_rounds stepped events comps n) (none_from_all events (after_rounds stepped events comps n).fired all))
+              after_more m ∙ (ap (λ w. fire_least stepped events w) (stays n all m (omega arith)) ∙ fire_least_stays (after_firings stepped events comps n) (none_from_all events (after_firings stepped events comps n).fired all))
         ]

@@ -11,7 +11,7 @@ use Rattle.event_graph.proofs.FindFired.{IsOneEach, find_from_in, found_in, exte
 use Rattle.event_graph.proofs.Least.{same_event}
 use Rattle.event_graph.proofs.Lists.{In, contains_in, from_map, in_contains, in_map, map_itself, map_map, map_same}
 use Rattle.event_graph.proofs.Progress.{all_fired, holds}
-use Rattle.event_graph.proofs.Rounds.{HoldsBetween, IsLawful, IsServed}
+use Rattle.event_graph.proofs.BetweenFirings.{HoldsBetween, IsLawful, IsServed}
 
 abbrev times_of : ℕ → ℕ → ℕ → Fired
 times_of n s f = record { number = n; start = s; finish = f }

@@ -8,7 +8,7 @@ use Rattle.event_graph.specs.Numbered.{IsNumbered}
 use Rattle.event_graph.specs.OneListWeave.{Timed, woven}
 use Rattle.event_graph.specs.TimingSolution.{IsSolution}
 use Rattle.event_graph.proofs.Lists.{In, in_at}
-use Rattle.event_graph.proofs.Rounds.{IsLawful, IsServed}
+use Rattle.event_graph.proofs.BetweenFirings.{IsLawful, IsServed}
 use Rattle.event_graph.proofs.Solves.{solves}
 use Rattle.event_graph.proofs.Unique.{is_woven}
 

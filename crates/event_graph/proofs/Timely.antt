@@ -11,7 +11,7 @@ use Rattle.event_graph.specs.OneListWeave.{AreSmallSteps, Timed, find_fired, fir
 use Rattle.event_graph.specs.Timely.{AreTimely, IsTimely}
 use Rattle.event_graph.specs.TimingSolution.{of_component}
 use Rattle.event_graph.proofs.Lists.{In, at_in, from_filter, get-map, in_at, in_filter}
-use Rattle.event_graph.proofs.Rounds.{HoldsBetween, IsLawful, IsServed}
+use Rattle.event_graph.proofs.BetweenFirings.{HoldsBetween, IsLawful, IsServed}
 use Rattle.event_graph.proofs.Solves.{timed_at, held, woven-is}
 use Rattle.event_graph.proofs.SmallSteps.{times}
 use Rattle.event_graph.proofs.Theorem.{served_from}

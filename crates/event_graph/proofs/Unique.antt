@@ -9,14 +9,14 @@ use Rattle.component.specs.declared.kind.Kind.{Kind}
 use Rattle.event_graph.specs.declared.event.Event.{Event}
 use Rattle.event_graph.specs.declared.event.Parent.{Parent}
 use Rattle.event_graph.specs.Numbered.{IsNumbered}
-use Rattle.event_graph.specs.OneListWeave.{Timed, Weave, after_rounds, finish_in, finish_or_zero, is_event_before, is_fired, is_parent_fired, least_ready, round, start_of, timed_in, weave, woven}
+use Rattle.event_graph.specs.OneListWeave.{Timed, Weave, after_firings, finish_in, finish_or_zero, fire_least, is_event_before, is_fired, is_parent_fired, least_ready, start_of, timed_in, weave, woven}
 use Rattle.event_graph.specs.TimingSolution.{IsSolution, ServesInTurn, after_serving, of_component}
 use Rattle.event_graph.proofs.FindFired.{AreParentsFired, Extends, IsOneEach, after_first, after_second, find_from_in, extends_from, fired_in, is_fired_from_in, start_extends}
 use Rattle.event_graph.proofs.Least.{least_is, ready_from, ready_parts}
 use Rattle.event_graph.proofs.Lists.{In, contains_in, from_filter, from_map, get-map, in_at, in_cases, in_contains, in_filter, in_left, in_map, in_right, map_itself, map_map, pairs_from, pairs_front}
 use Rattle.event_graph.proofs.Order.{not_before_itself, start_from_before}
-use Rattle.event_graph.proofs.Progress.{AllFired, after_first_round, after_more, all_fired, event_below, first_below, holds, round_fires, second_below, stays}
-use Rattle.event_graph.proofs.Rounds.{HoldsBetween, IsLawful, IsServed}
+use Rattle.event_graph.proofs.Progress.{AllFired, after_first_firing, after_more, all_fired, event_below, fire_least_serves, first_below, holds, second_below, stays}
+use Rattle.event_graph.proofs.BetweenFirings.{HoldsBetween, IsLawful, IsServed}
 use Rattle.event_graph.proofs.Solves.{answer_at, woven-is}
 use Rattle.event_graph.proofs.Turns.{turns_at, turns_grow}
 
@@ -150,7 +150,7 @@ module _ {C : Type 0} (serves : C → Kind → Bool) (stepped : C → Kind → �
           ]
         ])
 
-    fires : (round stepped events w).fired ≡ w.fired ++ x ∷ []
+    fires : (fire_least stepped events w).fired ≡ w.fired ++ x ∷ []
     fires =
         let k : ℕ = x.event.component in
         let f : IsServed serves comps x.event = fits x.event (member x (to_timed x now)) in
@@ -172,14 +172,14 @@ module _ {C : Type 0} (serves : C → Kind → Bool) (stepped : C → Kind → �
         let finish : (stepped g.0 x.event.kind (start_of (finish_in w.fired) x.event)).1 ≡ x.finish =
         ap (λ n. (stepped g.0 x.event.kind n).1) (sym s) ∙ (ap (λ c. (stepped c x.event.kind x.start).1) state ∙ sym turn)
         in
-        ap (λ v. v.fired) (round_fires serves stepped events comps w (x.event, start_of (finish_in w.fired) x.event) g.0 least g.1.0)
+        ap (λ v. v.fired) (fire_least_serves serves stepped events comps w (x.event, start_of (finish_in w.fired) x.event) g.0 least g.1.0)
         ∙ ap (λ t. w.fired ++ t ∷ []) (same_timed x (start_of (finish_in w.fired) x.event) (stepped g.0 x.event.kind (start_of (finish_in w.fired) x.event)).1 (sym s) finish)
 
-  reaches : (rest : List Timed) (n : ℕ) → sol.sorted ≡ (after_rounds stepped events comps n).fired ++ rest → (m : ℕ) × ((after_rounds stepped events comps m).fired ≡ sol.sorted)
-  reaches [] n split = (n, sym (split ∙ append-nil (after_rounds stepped events comps n).fired))
+  reaches : (rest : List Timed) (n : ℕ) → sol.sorted ≡ (after_firings stepped events comps n).fired ++ rest → (m : ℕ) × ((after_firings stepped events comps m).fired ≡ sol.sorted)
+  reaches [] n split = (n, sym (split ∙ append-nil (after_firings stepped events comps n).fired))
   reaches (x ∷ rest) n split =
-      let w : Weave C = after_rounds stepped events comps n in
-      let next : (after_rounds stepped events comps (suc n)).fired ≡ w.fired ++ x ∷ [] =
+      let w : Weave C = after_firings stepped events comps n in
+      let next : (after_firings stepped events comps (suc n)).fired ≡ w.fired ++ x ∷ [] =
       ap (λ v. v.fired) (after_more serves stepped events comps n)
       ∙ fires w x rest (holds serves stepped events comps lawful numbered fits n) split
       in
@@ -192,10 +192,10 @@ module _ {C : Type 0} (serves : C → Kind → Bool) (stepped : C → Kind → �
 
   fired_is_sorted : (weave stepped events comps).fired ≡ sol.sorted
   fired_is_sorted =
-      let r : (m : ℕ) × ((after_rounds stepped events comps m).fired ≡ sol.sorted) =
-      reaches sol.sorted 0 (ap (λ (v : Weave C). v.fired ++ sol.sorted) (sym (after_first_round serves stepped events comps)))
+      let r : (m : ℕ) × ((after_firings stepped events comps m).fired ≡ sol.sorted) =
+      reaches sol.sorted 0 (ap (λ (v : Weave C). v.fired ++ sol.sorted) (sym (after_first_firing serves stepped events comps)))
       in
-      let at_m : AllFired (after_rounds stepped events comps r.0).fired events = subst (λ xs. AllFired xs events) (sym r.1) all_sorted in
+      let at_m : AllFired (after_firings stepped events comps r.0).fired events = subst (λ xs. AllFired xs events) (sym r.1) all_sorted in
       let at_end : AllFired (weave stepped events comps).fired events = all_fired serves stepped events comps lawful numbered fits in
       elim (cases_lt r.0 (length events)) [
         | inl l ↦ ap (λ v. v.fired) (stays serves stepped events comps lawful numbered fits r.0 at_m (length events) (omega arith)) ∙ r.1

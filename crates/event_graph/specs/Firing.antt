@@ -1,4 +1,4 @@
--- How events fire: the next one, a round of the weave, and what is known of the events so far.
+-- How events fire: the next one, a firing of the weave, and what is known of the events so far.
 use Rattle.std.specs.Prelude.{◌≡◌, ◌<◌, ◌⊎◌, ◌++◌, ◌∷◌, [], ℕ, Bool, IsTrue, List, Some, slice_get, slice_set}
 use Rattle.std.specs.List.{Contains}
 use Rattle.component.specs.declared.kind.Kind.{Kind}
@@ -13,8 +13,8 @@ pub record IsNext (fired : List Timed) (events : List Event) (x : Timed) : Type 
   pub start : x.start ≡ start_of (finish_in fired) x.event
   pub first : (y : Event) → Contains events y → IsTrue (is_ready fired y) → (y ≡ x.event) ⊎ IsTrue (is_event_before x.event x.start y (start_of (finish_in fired) y))
 
--- a round: x fires next, and its component c serves it
-pub record IsRound {C : Type 0} (serves : C → Kind → Bool) (stepped : C → Kind → ℕ → C × ℕ) (events : List Event) (before after : Weave C) (x : Timed) (c : C) : Type 0 where
+-- a firing: x fires next, and its component c serves it
+pub record FiresNext {C : Type 0} (serves : C → Kind → Bool) (stepped : C → Kind → ℕ → C × ℕ) (events : List Event) (before after : Weave C) (x : Timed) (c : C) : Type 0 where
   pub next : IsNext before.fired events x
   pub there : slice_get before.comps x.event.component ≡ Some c
   pub served : IsTrue (serves c x.event.kind)

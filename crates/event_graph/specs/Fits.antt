@@ -3,7 +3,8 @@ use Rattle.std.specs.Prelude.{◌≡◌, ◌+◌, ℕ, Bool, IsTrue, List, slice
 use Rattle.component.specs.declared.kind.Kind.{Kind}
 use Rattle.event_graph.specs.declared.event.Event.{Event}
 
--- The event's component is there, serves the event's kind, and takes at least from `min_start` to `min_finish` for it: that is its floor.
+-- The event's component is there, serves the event's kind, and takes at least from `min_start` to `min_finish` for it:
+-- that is its floor.
 pub record EventFits {C : Type 0} (serves : C → Kind → Bool) (floor : C → Kind → ℕ) (comps : List C) (e : Event) : Type 0 where
   pub component : C
   pub there : slice_get comps e.component ≡ Some component

@@ -2,7 +2,8 @@
 use Rattle.std.specs.Prelude.{◌≡◌, ◌≤◌, ◌+◌, ℕ, max, Bool, IsTrue, List, slice_get, Some}
 use Rattle.component.specs.declared.kind.Kind.{Kind}
 
--- A step of a paced component computes at most `most` above the later of the start and the cycle until which the component is busy, and leaves it paced and busy until then at most.
+-- A step of a paced component computes at most `most` above the later of the start and the cycle until which the
+-- component is busy, and leaves it paced and busy until then at most.
 pub record IsPaced {C : Type 0} (serves : C → Kind → Bool) (stepped : C → Kind → ℕ → C × ℕ) (greatest : C → Kind → ℕ → ℕ) (paced : C → Bool) (busy : C → ℕ) (most : ℕ) : Type 0 where
   pub sum : (c : C) (kind : Kind) (start : ℕ) → IsTrue (paced c) → IsTrue (serves c kind) → greatest c kind start ≤ max start (busy c) + most
   pub stays : (c : C) (kind : Kind) (start : ℕ) → IsTrue (paced c) → IsTrue (serves c kind) → IsTrue (paced (stepped c kind start).0)

@@ -39,7 +39,8 @@ PlainAccessesHaveFewEvents = (l1 : L1) (l2 : L2) (controllers : Controllers) (en
 abbrev pub MachineComponentsStay : Type 0
 MachineComponentsStay = (m : Machine) (comps : List Comp) (events : List Event) → AreComponents m comps → AreComponents m (comps_after comp_step events comps)
 
--- On a machine's components that are free by `base`, no sum of a weave passes 2^62 where 2^17 cycles and the delay for each event still have room above `base`.
+-- On a machine's components that are free by `base`, no sum of a weave passes 2^62 where 2^17 cycles and the delay for
+-- each event still have room above `base`.
 abbrev pub MachineStepsStaySmall : Type 0
 MachineStepsStaySmall = (m : Machine) (comps : List Comp) (events : List Event) (base delay : ℕ) → IsMachine m → AreComponents m comps → All (λ c. free_of c ≤ base) comps
     → IsNumbered events → GraphFits comp_serves comp_latency events comps → AreNear base delay events → base + length events * (delay + 2 ^ 17) ≤ 2 ^ 62

@@ -1,4 +1,5 @@
--- The one-list weave: while an event is unfired, of the events whose parents are fired the one with the least (start, number) fires.
+-- The one-list weave: while an event is unfired, of the events whose parents are fired the one with the least (start,
+-- number) fires.
 use Rattle.std.specs.Prelude.{◌≤◌, ◌+◌, ◌^◌, ◌==◌, ◌&&◌, ◌||◌, ℕ, zero, suc, max, Bool, true, not, cond, nat_lt, List, [], ◌∷◌, ◌++◌, map, length, slice_get, slice_set, Option, Some, None, is_some, IfSome}
 use Rattle.std.specs.List.{find}
 use Rattle.component.specs.declared.kind.Kind.{Kind}
@@ -71,7 +72,7 @@ fired_or_unfired e (Some x) = x
 abbrev pub timed_in : List Timed → Event → Timed
 timed_in fired e = fired_or_unfired e (find_fired fired e.number)
 
--- The rounds of the weave.
+-- The firings of the weave.
 
 -- the events that fired, in the order in which they did, and the components
 pub record Weave (C : Type 0) : Type 0 where
@@ -92,17 +93,17 @@ module _ {C : Type 0} (stepped : C → Kind → ℕ → C × ℕ) where
   fire w (Some next) = served w next.0 next.1 (slice_get w.comps next.0.component)
 
   -- the least ready event fires
-  unfoldable pub round : List Event → Weave C → Weave C
-  round events w = fire w (least_ready w.fired events)
+  unfoldable pub fire_least : List Event → Weave C → Weave C
+  fire_least events w = fire w (least_ready w.fired events)
 
-  -- after so many rounds
-  unfoldable pub after_rounds : List Event → List C → ℕ → Weave C
-  after_rounds events comps zero = record { fired = []; comps = comps }
-  after_rounds events comps (suc rounds) = round events (after_rounds events comps rounds)
+  -- after so many firings
+  unfoldable pub after_firings : List Event → List C → ℕ → Weave C
+  after_firings events comps zero = record { fired = []; comps = comps }
+  after_firings events comps (suc firings) = fire_least events (after_firings events comps firings)
 
-  -- after as many rounds as there are events
+  -- after as many firings as there are events
   abbrev pub weave : List Event → List C → Weave C
-  weave events comps = after_rounds events comps (length events)
+  weave events comps = after_firings events comps (length events)
 
   -- What the weave answers: each event with its start and finish, in order of number, and the components after.
 
@@ -119,7 +120,7 @@ module _ {C : Type 0} (stepped : C → Kind → ℕ → C × ℕ) where
 
   abbrev pub AreSmallSteps : (C → Kind → ℕ → ℕ) → List Event → List C → Type 0
   AreSmallSteps greatest events comps =
-      (rounds : ℕ) → IsSmallStep greatest (after_rounds events comps rounds) (least_ready (after_rounds events comps rounds).fired events)
+      (firings : ℕ) → IsSmallStep greatest (after_firings events comps firings) (least_ready (after_firings events comps firings).fired events)
 
 -- an event's number, start and finish
 abbrev pub fired_of : Timed → Fired

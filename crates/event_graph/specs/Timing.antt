@@ -1,5 +1,5 @@
 -- The time of an access where nothing else runs, and the events that it is made of.
-use Rattle.std.specs.Prelude.{◌+◌, ◌/◌, ◌%◌, ℕ, Bool, true, false, ◌&&◌, nat_lt, nat_le, max, if◌then◌else◌, List, [], ◌∷◌, Option, None, Some}
+use Rattle.std.specs.Prelude.{◌+◌, ◌%◌, ℕ, Bool, true, false, ◌&&◌, nat_lt, nat_le, max, if◌then◌else◌, List, [], ◌∷◌, Option, None, Some}
 use Rattle.component.specs.declared.kind.Kind.{Kind}
 use Rattle.component.specs.declared.kind.Kind.TheVariants.{Lookup, Remote, Fill, Read, Write}
 use Rattle.machine_desc.specs.declared.machine.L1.{L1}
@@ -8,7 +8,7 @@ use Rattle.machine_desc.specs.declared.machine.Controllers.{Controllers}
 use Rattle.zs_num.specs.declared.entry.Entry.{Entry}
 use Rattle.zs_num.specs.declared.entry.Outcome.{Outcome}
 use Rattle.zs_num.specs.declared.entry.Outcome.TheVariants.{Hit, Upgrade, L2 as FoundInL2, Miss}
-use Rattle.zs_num.specs.Request.{addr_of}
+use Rattle.zs_num.specs.Request.{bank_of}
 use Rattle.event_graph.specs.declared.piece.Piece.{Piece}
 
 -- a look-up in the shared cache; others: another core has to change its copy
@@ -26,13 +26,10 @@ time_by l1 l2 controllers (Upgrade others) = l1.latency + look_up_time l2 others
 time_by l1 l2 controllers (FoundInL2 others) = l1.latency + look_up_time l2 others
 time_by l1 l2 controllers (Miss dirty) = l1.latency + l2.latency + memory_time controllers dirty + l2.fill
 
--- the line of 64 bytes that an access is in, the bank that has the line, and the bank's controller:
--- bank b is component b, and controller m is component banks + m
-abbrev pub line_of_entry : Entry → ℕ
-line_of_entry e = addr_of e.request / 64
-
+-- the bank that has the line of an access, and the bank's controller: bank b is component b, and controller m is
+-- component banks + m
 abbrev pub bank_component : L2 → Entry → ℕ
-bank_component l2 e = line_of_entry e % l2.banks
+bank_component l2 e = bank_of l2.banks e.request
 
 abbrev pub controller_of : L2 → Controllers → Entry → ℕ
 controller_of l2 controllers e = l2.banks + bank_component l2 e % controllers.count

@@ -24,7 +24,8 @@ module _ {C : Type 0} (stepped : C → Kind → ℕ → C × ℕ) where
   ServesInTurn c (x ∷ xs) =
       (x.finish ≡ (stepped c x.event.kind x.start).1) × ServesInTurn (stepped c x.event.kind x.start).0 xs
 
-  -- A start and a finish for each event, by the rules alone: each start is that of the start rule, and each component serves its events in order of (start, number).
+  -- A start and a finish for each event, by the rules alone: each start is that of the start rule, and each component
+  -- serves its events in order of (start, number).
   pub record IsSolution (events : List Event) (comps : List C) (timed : List Timed) : Type 0 where
     pub events_are : map (λ x. x.event) timed ≡ events
     pub starts : (x : Timed) → Contains timed x → x.start ≡ start_of (finish_in timed) x.event

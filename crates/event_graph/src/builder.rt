@@ -1,4 +1,4 @@
-// How the events of an interval are made from its accesses.
+//! How the events of an interval are made from its accesses.
 ghost use Rattle.std.specs.Prelude.{◌≡◌, ◌+◌, ◌<◌, ◌^◌, ◌++◌, ◌∷◌, [], IfOk, OnOk, All, length, vec_len, sum_by};
 ghost use Rattle.std.specs.Option.{ForSome};
 ghost use Rattle.event_graph.specs.EventGraph.{all_events, access_events};
@@ -33,7 +33,8 @@ fn parent_at(events: &[Event], base: u32, place: Option<u16>, start: Cycle) -> O
     }
 }
 
-/// Where an event stands: the number of its access's event 0, its place, and whether it is the last.
+/// Where an event stands: the number of its access's event 0, its place, and whether it is the
+/// last.
 #[derive(Clone, Copy)]
 struct Spot {
     base: u32,

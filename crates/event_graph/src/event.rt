@@ -1,4 +1,4 @@
-// A recorded event.
+//! A recorded event.
 use component::Kind;
 use zs_num::Cycle;
 
@@ -11,8 +11,8 @@ pub struct Parent {
     pub delay: u64,
 }
 
-/// A recorded event. Events are numbered from 0 in each interval; a parent has a smaller number. There
-/// are millions of them in an interval, so the small fields lie side by side.
+/// A recorded event. Events are numbered from 0 in each interval; a parent has a smaller number.
+/// There are millions of them in an interval, so the small fields lie side by side.
 #[derive(Clone, Copy, Debug, PartialEq, Eq)]
 pub struct Event {
     pub number: u32,

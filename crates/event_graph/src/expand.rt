@@ -1,4 +1,4 @@
-// What events an access is made of.
+//! What events an access is made of.
 ghost use Rattle.std.specs.Prelude.{◌≡◌, ◌<◌, ◌≤◌, ◌^◌, ℕ, List, length, Option, Some, slice_get};
 ghost use Rattle.component.specs.declared.kind.Kind.{Kind};
 ghost use Rattle.zs_num.specs.declared.entry.Entry.{Entry};

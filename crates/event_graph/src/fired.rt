@@ -1,4 +1,4 @@
-// Events as the weave fired them.
+//! Events as the weave fired them.
 ghost use Rattle.std.specs.Prelude.{◌≡◌};
 
 use std::marker::Model;

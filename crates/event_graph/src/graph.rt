@@ -1,4 +1,4 @@
-// The events of an interval.
+//! The events of an interval.
 ghost use Rattle.std.specs.Prelude.{◌≡◌};
 
 use crate::Event;

@@ -6,13 +6,13 @@ ghost use Rattle.zs_num.specs.declared.entry.Entry.{Entry};
 ghost use Rattle.event_graph.specs.declared.event.Event.{Event};
 ghost use Rattle.event_graph.specs.Critical.{is_critical_of, last_critical};
 ghost use Rattle.event_graph.specs.EventGraph.{all_events};
-ghost use Rattle.event_graph.specs.Firing.{FiredByTheRules, IsNext, IsRound, time_so_far};
+ghost use Rattle.event_graph.specs.Firing.{FiredByTheRules, FiresNext, IsNext, time_so_far};
 ghost use Rattle.event_graph.specs.Fits.{GraphFits};
 ghost use Rattle.event_graph.specs.Growth.{BeginBy, IsPaced};
 ghost use Rattle.event_graph.specs.Laws.{MachineComponentsStay, MachineStepsStaySmall, PlainAccessesHaveFewEvents, PlainGraphsFit, PlainTellsComponents};
 ghost use Rattle.event_graph.specs.Near.{AreNear};
 ghost use Rattle.event_graph.specs.Numbered.{IsNumbered};
-ghost use Rattle.event_graph.specs.OneListWeave.{AreSmallSteps, Timed, after_rounds, finish_in, fired_of, start_of, weave, woven};
+ghost use Rattle.event_graph.specs.OneListWeave.{AreSmallSteps, Timed, after_firings, finish_in, fired_of, start_of, weave, woven};
 ghost use Rattle.event_graph.specs.Timely.{AreTimely};
 ghost use Rattle.event_graph.specs.TimingSolution.{IsInOrder, IsSolution, ServesInTurn, after_serving, of_component};
 ghost use Rattle.event_graph.specs.Told.{IsTrueOfComponents};
@@ -83,14 +83,15 @@ pub fn events_fire_in_order<C: Component>()
         IsInOrder (weave C.stepped events comps).fired }
 {}
 
-/// So many rounds fire so many events, the first that the weave fires.
-pub fn rounds_fire_the_first_events<C: Component>()
-    ensures { (events : List Event) (comps : List C) (rounds : ℕ) →
+/// So many firings are of so many events, the first that the weave fires.
+pub fn firings_are_of_the_first_events<C: Component>()
+    ensures { (events : List Event) (comps : List C) (firings : ℕ) →
         IsNumbered events → GraphFits C.serves C.floor events comps →
-        (after_rounds C.stepped events comps rounds).fired ≡ take rounds (weave C.stepped events comps).fired }
+        (after_firings C.stepped events comps firings).fired ≡ take firings (weave C.stepped events comps).fired }
 {}
 
-/// Each event that the weave fires was the least ready one, with those fired that the weave fires before it.
+/// Each event that the weave fires was the least ready one, with those fired that the weave fires
+/// before it.
 pub fn the_least_ready_event_fires<C: Component>()
     ensures { (events : List Event) (comps : List C) (index : ℕ) (x : Timed) →
         IsNumbered events → GraphFits C.serves C.floor events comps →
@@ -98,18 +99,18 @@ pub fn the_least_ready_event_fires<C: Component>()
         IsNext (take index (weave C.stepped events comps).fired) events x }
 {}
 
-/// While an event is unfired, a round fires the next one, which its component serves.
-pub fn each_round_fires_the_next_event<C: Component>()
-    ensures { (events : List Event) (comps : List C) (rounds : ℕ) →
-        IsNumbered events → GraphFits C.serves C.floor events comps → rounds < length events →
-        (x : Timed) × (c : C) × IsRound C.serves C.stepped events (after_rounds C.stepped events comps rounds) (after_rounds C.stepped events comps (suc rounds)) x c }
+/// While an event is unfired, a firing is of the next one, which its component serves.
+pub fn each_firing_is_of_the_next_event<C: Component>()
+    ensures { (events : List Event) (comps : List C) (firings : ℕ) →
+        IsNumbered events → GraphFits C.serves C.floor events comps → firings < length events →
+        (x : Timed) × (c : C) × FiresNext C.serves C.stepped events (after_firings C.stepped events comps firings) (after_firings C.stepped events comps (suc firings)) x c }
 {}
 
 /// Each event that fired did so after its parents, started by the start rule, and took time.
 pub fn events_fire_by_the_rules<C: Component>()
-    ensures { (events : List Event) (comps : List C) (rounds : ℕ) →
+    ensures { (events : List Event) (comps : List C) (firings : ℕ) →
         IsNumbered events → GraphFits C.serves C.floor events comps →
-        All (FiredByTheRules events (after_rounds C.stepped events comps rounds).fired) (after_rounds C.stepped events comps rounds).fired }
+        All (FiredByTheRules events (after_firings C.stepped events comps firings).fired) (after_firings C.stepped events comps firings).fired }
 {}
 
 /// What is known of the events once all fired is what the weave answers.
@@ -119,39 +120,41 @@ pub fn times_so_far_become_the_weaves<C: Component>()
         map (time_so_far (weave C.stepped events comps).fired) events ≡ map fired_of (woven C.stepped events comps) }
 {}
 
-/// After each round a component is what its own events left, served in the order in which they fired.
+/// After each firing a component is what its own events left, served in the order in which they
+/// fired.
 pub fn components_serve_their_own_events<C: Component>()
-    ensures { (events : List Event) (comps : List C) (rounds number : ℕ) →
+    ensures { (events : List Event) (comps : List C) (firings number : ℕ) →
         IsNumbered events → GraphFits C.serves C.floor events comps →
-        (slice_get (after_rounds C.stepped events comps rounds).comps number
-        ≡ option_map (λ c. after_serving C.stepped c (of_component number (after_rounds C.stepped events comps rounds).fired)) (slice_get comps number)) }
+        (slice_get (after_firings C.stepped events comps firings).comps number
+        ≡ option_map (λ c. after_serving C.stepped c (of_component number (after_firings C.stepped events comps firings).fired)) (slice_get comps number)) }
 {}
 
-/// The finish of each event is what its component computed when it served the event, after the events
-/// of its own that fired before.
+/// The finish of each event is what its component computed when it served the event, after the
+/// events of its own that fired before.
 pub fn finishes_are_served_in_turn<C: Component>()
     ensures { (events : List Event) (comps : List C) (number : ℕ) (c : C) →
         IsNumbered events → GraphFits C.serves C.floor events comps → slice_get comps number ≡ Some c →
         ServesInTurn C.stepped c (of_component number (weave C.stepped events comps).fired) }
 {}
 
-/// After each round the graph fits the components.
+/// After each firing the graph fits the components.
 pub fn graphs_keep_fitting<C: Component>()
-    ensures { (events : List Event) (comps : List C) (rounds : ℕ) →
+    ensures { (events : List Event) (comps : List C) (firings : ℕ) →
         IsNumbered events → GraphFits C.serves C.floor events comps →
-        GraphFits C.serves C.floor events (after_rounds C.stepped events comps rounds).comps }
+        GraphFits C.serves C.floor events (after_firings C.stepped events comps firings).comps }
 {}
 
-/// The one-list weave solves the timing rules, and nothing else does: the rules, which say nothing of
-/// an order of execution, fix every start and finish.
+/// The one-list weave solves the timing rules, and nothing else does: the rules, which say nothing
+/// of an order of execution, fix every start and finish.
 pub fn weave_is_the_one_solution<C: Component>()
     ensures { (events : List Event) (comps : List C) (timed : List Timed) →
         IsNumbered events → GraphFits C.serves C.floor events comps →
         (IsSolution C.stepped events comps timed ↔ (timed ≡ woven C.stepped events comps)) }
 {}
 
-/// Where a step computes no more than `most` above the later of its start and the cycle until which the
-/// component is busy, no sum of a weave passes that of all its steps and delays, from `base` on.
+/// Where a step computes no more than `most` above the later of its start and the cycle until which
+/// the component is busy, no sum of a weave passes that of all its steps and delays, from `base`
+/// on.
 pub fn steps_stay_small<C: Component>()
     ensures { (paced : C → Bool) (busy : C → ℕ) (most delay base : ℕ) (events : List Event) (comps : List C) →
         IsNumbered events → GraphFits C.serves C.floor events comps →
@@ -169,9 +172,9 @@ pub fn events_take_their_time<C: Component>()
 
 /// No event's start so far passes 2^62.
 pub fn starts_so_far_stay_small<C: Component>()
-    ensures { (events : List Event) (comps : List C) (rounds : ℕ) →
+    ensures { (events : List Event) (comps : List C) (firings : ℕ) →
         IsNumbered events → GraphFits C.serves C.floor events comps → AreSmallSteps C.stepped C.greatest events comps →
-        All (λ e. start_of (finish_in (after_rounds C.stepped events comps rounds).fired) e ≤ 2 ^ 62) events }
+        All (λ e. start_of (finish_in (after_firings C.stepped events comps firings).fired) e ≤ 2 ^ 62) events }
 {}
 
 /// The components of a machine stay its components in a weave.
@@ -181,8 +184,8 @@ pub fn machine_components_stay()
     component::laws::components_stay();
 }
 
-/// On the components of a machine no sum of a weave passes 2^62, where 2^17 cycles and the delay for
-/// each event still have room above `base`.
+/// On the components of a machine no sum of a weave passes 2^62, where 2^17 cycles and the delay
+/// for each event still have room above `base`.
 pub fn machine_steps_stay_small()
     ensures { MachineStepsStaySmall }
 {

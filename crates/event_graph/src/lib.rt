@@ -18,6 +18,3 @@ pub use fired::{Fired, FiredList};
 pub use graph::Graph;
 pub use piece::Piece;
 pub use plain::Plain;
-
-#[cfg(test)]
-mod tests;

@@ -1,4 +1,4 @@
-// One of the events of an access, before it has a number.
+//! One of the events of an access, before it has a number.
 use component::Kind;
 
 /// One of the events of an access, by its place in the access. Times are in cycles.

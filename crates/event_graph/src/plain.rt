@@ -1,4 +1,4 @@
-// The events of an access in a machine whose banks and controllers are joined without a network.
+//! The events of an access in a machine whose banks and controllers are joined without a network.
 ghost use Rattle.machine_desc.specs.Machine.{IsL1, IsL2, IsControllers};
 
 use crate::{Expand, Piece};

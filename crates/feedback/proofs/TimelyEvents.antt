@@ -10,7 +10,7 @@ use Rattle.event_graph.specs.declared.fired.Fired.{Fired}
 use Rattle.event_graph.specs.Critical.{last_critical}
 use Rattle.event_graph.specs.Numbered.{IsNumbered}
 use Rattle.event_graph.specs.Timely.{IsTimely, AreTimely}
-use Rattle.feedback.specs.FeedbackDelay.{IsWoven, fired_finish, delay_of, feedback_delays}
+use Rattle.feedback.specs.FeedbackDelay.{HaveFinished, fired_finish, delay_of, feedback_delays}
 
 module _ (events : List Event) (fired : List Fired) (timely : AreTimely events fired) where
   -- the event that was fired as this one
@@ -22,8 +22,8 @@ module _ (events : List Event) (fired : List Fired) (timely : AreTimely events f
         | inr past ↦ absurd (omega (arith, timely.count))
       ]
 
-  pub timely_is_woven : IsNumbered events → IsWoven events fired
-  timely_is_woven numbered = record {
+  pub timely_have_finished : IsNumbered events → HaveFinished events fired
+  timely_have_finished numbered = record {
     count = timely.count;
     number = λ i f is.
         let of = event_of i f is in

@@ -7,7 +7,7 @@ use Rattle.event_graph.specs.declared.fired.Fired.{Fired}
 use Rattle.event_graph.specs.Critical.{last_critical}
 
 -- each event was fired once, in order of number, and none finished before its zero-load finish
-pub record IsWoven (events : List Event) (fired : List Fired) : Type 0 where
+pub record HaveFinished (events : List Event) (fired : List Fired) : Type 0 where
   pub count : length fired ≡ length events
   pub number : (i : ℕ) (f : Fired) → slice_get fired i ≡ Some f → f.number ≡ i
   pub finish : (i : ℕ) (e : Event) (f : Fired) → slice_get events i ≡ Some e → slice_get fired i ≡ Some f → e.min_finish ≤ f.finish

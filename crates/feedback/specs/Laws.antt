@@ -4,11 +4,11 @@ use Rattle.event_graph.specs.declared.event.Event.{Event}
 use Rattle.event_graph.specs.declared.fired.Fired.{Fired}
 use Rattle.event_graph.specs.Numbered.{IsNumbered}
 use Rattle.event_graph.specs.Timely.{AreTimely}
-use Rattle.feedback.specs.FeedbackDelay.{IsWoven, feedback_delays}
+use Rattle.feedback.specs.FeedbackDelay.{HaveFinished, feedback_delays}
 
 -- timely events have all that is asked of a weave
-abbrev pub TimelyEventsAreWoven : Type 0
-TimelyEventsAreWoven = (events : List Event) (fired : List Fired) → IsNumbered events → AreTimely events fired → IsWoven events fired
+abbrev pub TimelyEventsHaveFinished : Type 0
+TimelyEventsHaveFinished = (events : List Event) (fired : List Fired) → IsNumbered events → AreTimely events fired → HaveFinished events fired
 
 -- there is a delay for each core, and none is over 2^62 cycles
 abbrev pub DelaysAreSmall : Type 0

@@ -1,6 +1,6 @@
-// How the delays of an interval are found.
+//! How the delays of an interval are found.
 ghost use Rattle.std.specs.Prelude.{◌≡◌, ◌<◌, IfOk, All};
-ghost use Rattle.feedback.specs.FeedbackDelay.{IsWoven, feedback_delays};
+ghost use Rattle.feedback.specs.FeedbackDelay.{HaveFinished, feedback_delays};
 
 use crate::Delays;
 use event_graph::{FiredList, Graph, laws};
@@ -10,7 +10,7 @@ use zs_num::NoMemory;
 /// The delay of each core: how much later its last critical event of the interval finished in the
 /// weave than at zero load. A core without events has none.
 pub fn delays(alloc: Global, g: &Graph, fired: &FiredList, cores: u16) -> Result<Delays, NoMemory>
-    requires woven { IsWoven g.now fired.now }
+    requires finished { HaveFinished g.now fired.now }
     requires cores { All (λ e. e.core < cores) g.now }
     ensures { IfOk result (λ d. d ≡ feedback_delays g.now fired.now cores) }
 {

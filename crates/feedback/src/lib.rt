@@ -7,6 +7,3 @@ mod list;
 
 pub use core_delays::delays;
 pub use list::Delays;
-
-#[cfg(test)]
-mod tests;

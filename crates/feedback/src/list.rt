@@ -1,9 +1,10 @@
-// The delays of the cores.
+//! The delays of the cores.
 ghost use Rattle.std.specs.Prelude.{◌≡◌};
 
 use std::marker::Model;
 
-/// How many cycles each core's clock has to grow, by the cores' numbers. Contracts see it as a list.
+/// How many cycles each core's clock has to grow, by the cores' numbers. Contracts see it as a
+/// list.
 #[derive(Debug, Drop)]
 pub struct Delays {
     list: Vec<u64>,

@@ -1,6 +1,6 @@
--- Memory as one list of bytes, with at most one reservation for each core: what accesses are answered, and what they leave.
--- Accesses take effect whole and one after the other. Numbers are little-endian (RISC-V Unprivileged ISA manual, "Load and
--- Store Instructions", "Load-Reserved/Store-Conditional Instructions", "Atomic Memory Operations").
+-- Memory as one list of bytes, with at most one reservation for each core: what accesses are answered, and what they
+-- leave. Accesses take effect whole and one after the other. Numbers are little-endian (RISC-V Unprivileged ISA manual,
+-- "Load and Store Instructions", "Load-Reserved/Store-Conditional Instructions", "Atomic Memory Operations").
 use Rattle.std.specs.Prelude.{ℕ, ◌+◌, ◌-◌, ◌/◌, ◌==◌, Bool, false, not, ◌&&◌, if◌then◌else◌, List, ◌++◌, map, take, drop, replicate, slice_index_or, slice_set, Option, Some, None}
 use Rattle.std.specs.List.{enumerate_from}
 use Rattle.byteorder.specs.Endian.{little_bytes, little_number}
@@ -43,7 +43,8 @@ is_reservation (Some r) addr width = (r.addr == addr) && (r.width == width)
 unfoldable pub is_reserved : MemoryState → (core addr width : ℕ) → Bool
 is_reserved memory core addr width = is_reservation (slice_index_or memory.reservations core None) addr width
 
--- What a core has still reserved when a core wrote to an address. It ends where another core wrote to its line of 64 bytes.
+-- What a core has still reserved when a core wrote to an address. It ends where another core wrote to its line of 64
+-- bytes.
 abbrev pub unless_written : (is_writer : Bool) → (addr : ℕ) → Option Reservation → Option Reservation
 unless_written is_writer addr None = None
 unless_written is_writer addr (Some r) = if not is_writer && (r.addr / 64 == addr / 64) then None else Some r
@@ -71,8 +72,8 @@ memory_reply memory core (Lr addr width) = memory_number memory addr width
 memory_reply memory core (Sc addr width value paired) = if is_reserved memory core addr width then 0 else 1
 memory_reply memory core (Amo op addr width value) = memory_number memory addr width
 
--- The memory after an access. A store-conditional stores only where the core has reserved the bytes, and ends what it has
--- reserved in any case.
+-- The memory after an access. A store-conditional stores only where the core has reserved the bytes, and ends what it
+-- has reserved in any case.
 abbrev pub memory_after : MemoryState → (core : ℕ) → Request → MemoryState
 memory_after memory core (Load addr width) = memory
 memory_after memory core (Store addr width value) = written memory core addr width value

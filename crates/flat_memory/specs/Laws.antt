@@ -37,7 +37,8 @@ ConditionalFailsAfterOthersStore = (memory : MemoryState) (core other addr width
 abbrev pub reservation_of : MemoryState → (core : ℕ) → Option Reservation
 reservation_of memory core = slice_index_or memory.reservations core None
 
--- whether an access writes: a store and an atomic operation do, and a store-conditional where the core has reserved the bytes
+-- whether an access writes: a store and an atomic operation do, and a store-conditional where the core has reserved the
+-- bytes
 abbrev pub does_write : MemoryState → (core : ℕ) → Request → Bool
 does_write memory core (Load addr width) = false
 does_write memory core (Store addr width value) = true

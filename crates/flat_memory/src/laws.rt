@@ -16,7 +16,8 @@ pub fn a_pair_stores()
     ensures { ConditionalStoresAfterReserved }
 {}
 
-/// A store-conditional does not store where another core stored to the line since the load-reserved.
+/// A store-conditional does not store where another core stored to the line since the
+/// load-reserved.
 pub fn a_store_between_ends_a_pair()
     ensures { ConditionalFailsAfterOthersStore }
 {}

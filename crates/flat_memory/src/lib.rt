@@ -5,8 +5,6 @@ pub mod laws;
 mod memory;
 pub mod numbers;
 mod reservation;
-#[cfg(test)]
-mod tests;
 
 pub use memory::FlatMemory;
 pub use reservation::{Reservation, end_others, is_reserved};

@@ -1,4 +1,4 @@
-// Memory as one list of bytes.
+//! Memory as one list of bytes.
 ghost use Rattle.std.specs.Prelude.{◌≡◌, ◌+◌, ◌-◌, ◌≤◌, ◌<◌, length, slice_index, IfOk, IsTrue};
 ghost use Rattle.zs_num.specs.Request.{IsServable};
 ghost use Rattle.flat_memory.specs.FlatMemory.{is_reserved as is_reserved_by, loaded, memory_after, memory_number, memory_reply, written};
@@ -95,7 +95,7 @@ impl FlatMemory {
         }
     }
 
-    // Stores where the core has reserved the bytes, and ends what it has reserved.
+    /// Stores where the core has reserved the bytes, and ends what it has reserved.
     #[tactic(auto, unfolding(crate::specs::FlatMemory::is_reserved))]
     fn store_conditional(&mut self, core: u16, addr: u64, width: u8, value: u64) -> u64
         requires core { core < length self.old.reservations }
@@ -116,7 +116,7 @@ impl FlatMemory {
         if stores { 0 } else { 1 }
     }
 
-    // The number in so many bytes from an address on.
+    /// The number in so many bytes from an address on.
     fn number(&self, addr: u64, width: u8) -> u64
         requires some { 1 ≤ width }
         requires few { width ≤ 8 }
@@ -127,7 +127,7 @@ impl FlatMemory {
         numbers::read(&self.bytes, (addr - self.base) as usize, width)
     }
 
-    // Stores the low bytes of a number for a core.
+    /// Stores the low bytes of a number for a core.
     #[tactic(auto, unfolding(crate::specs::FlatMemory::written))]
     fn write(&mut self, core: u16, addr: u64, width: u8, value: u64)
         requires few { width ≤ 8 }

@@ -37,7 +37,7 @@ pub fn write(bytes: &mut [u8], place: usize, width: u8, value: u64)
     }
 }
 
-// Puts bytes over those from a place on.
+/// Puts bytes over those from a place on.
 #[inline(always)]
 fn put(bytes: &mut [u8], place: usize, others: &[u8])
     requires { place + length others.now ≤ length bytes.old }

@@ -1,4 +1,4 @@
-// What the cores have reserved.
+//! What the cores have reserved.
 ghost use Rattle.std.specs.Prelude.{◌≡◌, ◌<◌, IsTrue, length, slice_index_or, None};
 ghost use Rattle.flat_memory.specs.FlatMemory.{is_reservation, after_write, unless_written};
 

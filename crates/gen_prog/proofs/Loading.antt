@@ -7,9 +7,9 @@ use Rattle.elf_load.specs.declared.bad_elf.BadElf.{BadElf}
 use Rattle.elf_load.specs.declared.bad_elf.BadElf.TheVariants as bad
 use Rattle.elf_load.specs.declared.header.Header.{Header}
 use Rattle.elf_load.specs.declared.header.ProgramHeader.{ProgramHeader}
-use Rattle.elf_load.specs.Checks.{file_fault, has_table, header_fault, is_dynamic, is_entered, is_executable, is_loaded, is_past_file, is_past_memory, memory_fault, overlap_fault, overlaps, segment_fault}
+use Rattle.elf_load.specs.Checks.{file_refusal, has_table, header_refusal, is_dynamic, is_entered, is_executable, is_loaded, is_past_file, is_past_memory, memory_refusal, overlap_refusal, overlaps, segment_refusal}
 use Rattle.elf_load.specs.Header.{header_of, program_header_at, program_headers}
-use Rattle.elf_load.specs.Image.{elf_fault, image_in, image_of, image_unless, segment_of, segments_of}
+use Rattle.elf_load.specs.Image.{elf_refusal, image_in, image_of, image_unless, segment_of, segments_of}
 use Rattle.elf_load.specs.declared.segment.Segment.{Segment}
 use Rattle.elf_load.specs.MemoryImage.{MemoryImage, do_meet, is_within}
 use Rattle.elf_write.specs.declared.field.Field.{Field}
@@ -76,43 +76,43 @@ unfolding program_headers header table
 table_is base rest low = rw (code_header_is base rest (omega (arith, low)), data_header_is base rest low) refl
 
 -- the checks of the headers
-header_passes : (base len : ℕ) → 176 ≤ len → header_fault (header base) len ≡ None
-unfolding header_fault has_table header
+header_passes : (base len : ℕ) → 176 ≤ len → header_refusal (header base) len ≡ None
+unfolding header_refusal has_table header
 header_passes base len long = rw (le-leb 176 len long) refl
 
-only_fault : (fault : Option BadElf) → option_or fault None ≡ fault
-only_fault None = refl
-only_fault (Some bad) = refl
+only_refusal : (refusal : Option BadElf) → option_or refusal None ≡ refusal
+only_refusal None = refl
+only_refusal (Some bad) = refl
 
 -- of the checks of the program headers, that of memory alone can fail
-fault_is : (base len size : ℕ) → 304 ≤ len → base % 4096 ≡ 0 → segment_fault (table base) base len base size ≡ memory_fault (table base) base size
-unfolding segment_fault file_fault overlap_fault is_dynamic is_past_file is_loaded overlaps is_entered is_executable table code_header data_header
-fault_is base len size long page =
+refusal_is : (base len size : ℕ) → 304 ≤ len → base % 4096 ≡ 0 → segment_refusal (table base) base len base size ≡ memory_refusal (table base) base size
+unfolding segment_refusal file_refusal overlap_refusal is_dynamic is_past_file is_loaded overlaps is_entered is_executable table code_header data_header
+refusal_is base len size long page =
     let first : nat_lt len 288 ≡ false = le-ltb len 288 (omega (arith, long)) in
     let second : nat_lt len 304 ≡ false = le-ltb len 304 long in
     let no_meeting : do_meet base 112 (base + 4096) 2112 ≡ false = apart base 112 (base + 4096) 2112 (omega arith) in
     let aligned : base % 4 ≡ 0 = omega (arith, page) in
     let entered : is_within base 4 base 112 ≡ true = within base 4 base 112 (omega arith) (omega arith) in
-    rw (first, second, no_meeting, aligned, entered) (only_fault (memory_fault (table base) base size))
+    rw (first, second, no_meeting, aligned, entered) (only_refusal (memory_refusal (table base) base size))
 
 -- which segment does not lie in memory
 module _ (base size : ℕ) where
-  all_fit : 6208 ≤ size → memory_fault (table base) base size ≡ None
-  unfolding memory_fault is_past_memory is_loaded table code_header data_header
+  all_fit : 6208 ≤ size → memory_refusal (table base) base size ≡ None
+  unfolding memory_refusal is_past_memory is_loaded table code_header data_header
   all_fit room =
       let first : is_within base 112 base size ≡ true = within base 112 base size (omega arith) (omega (arith, room)) in
       let second : is_within (base + 4096) 2112 base size ≡ true = within (base + 4096) 2112 base size (omega arith) (omega (arith, room)) in
       rw (first, second) refl
 
-  data_is_past : 112 ≤ size → size < 6208 → memory_fault (table base) base size ≡ Some (bad.SegmentPastMemory 1)
-  unfolding memory_fault is_past_memory is_loaded table code_header data_header
+  data_is_past : 112 ≤ size → size < 6208 → memory_refusal (table base) base size ≡ Some (bad.SegmentPastMemory 1)
+  unfolding memory_refusal is_past_memory is_loaded table code_header data_header
   data_is_past room short =
       let first : is_within base 112 base size ≡ true = within base 112 base size (omega arith) (omega (arith, room)) in
       let second : is_within (base + 4096) 2112 base size ≡ false = past (base + 4096) 2112 base size (omega (arith, short)) in
       rw (first, second) refl
 
-  code_is_past : size < 112 → memory_fault (table base) base size ≡ Some (bad.SegmentPastMemory 0)
-  unfolding memory_fault is_past_memory is_loaded table code_header data_header
+  code_is_past : size < 112 → memory_refusal (table base) base size ≡ Some (bad.SegmentPastMemory 0)
+  unfolding memory_refusal is_past_memory is_loaded table code_header data_header
   code_is_past short =
       let first : is_within base 112 base size ≡ false = past base 112 base size (omega (arith, short)) in
       rw first refl
@@ -127,30 +127,30 @@ unfolding headed code_fields data_fields contents
 length-file n base = refl
 
 -- what is answered of a file whose header passes its checks
-answered : (file : List ℕ) (base size : ℕ) (h : Header) (ps : List ProgramHeader) (fault : Option BadElf) → 64 ≤ length file → h ≡ header_of file
-    → None ≡ header_fault h (length file) → ps ≡ program_headers file h → fault ≡ segment_fault ps h.entry (length file) base size
-    → image_of file base size ≡ image_unless fault (image_in file h ps base size)
-unfolding image_of elf_fault
-answered file base size h ps fault long read passed listed checked = rw (le-leb 64 (length file) long, ← read, ← passed, ← listed, ← checked) refl
+answered : (file : List ℕ) (base size : ℕ) (h : Header) (ps : List ProgramHeader) (refusal : Option BadElf) → 64 ≤ length file → h ≡ header_of file
+    → None ≡ header_refusal h (length file) → ps ≡ program_headers file h → refusal ≡ segment_refusal ps h.entry (length file) base size
+    → image_of file base size ≡ image_unless refusal (image_in file h ps base size)
+unfolding image_of elf_refusal
+answered file base size h ps refusal long read passed listed checked = rw (le-leb 64 (length file) long, ← read, ← passed, ← listed, ← checked) refl
 
 image_is : (n base size : ℕ) → image_in (headed base (contents n)) (header base) (table base) base size ≡ record (generated_image n base) { size = size }
 unfolding header generated_image
 image_is n base size = ap (λ (s : List Segment). let image : MemoryImage = record { base = base; size = size; entry = base; segments = s } in image) (segments_are n base)
 
 -- the memory decides
-by_memory : (n base size : ℕ) (fault : Option BadElf) → base % 4096 ≡ 0 → base ≤ 2 ^ 40 → memory_fault (table base) base size ≡ fault
-    → image_of (executable_of (generated_image n base)) base size ≡ image_unless fault (record (generated_image n base) { size = size })
+by_memory : (n base size : ℕ) (refusal : Option BadElf) → base % 4096 ≡ 0 → base ≤ 2 ^ 40 → memory_refusal (table base) base size ≡ refusal
+    → image_of (executable_of (generated_image n base)) base size ≡ image_unless refusal (record (generated_image n base) { size = size })
 unfolding header
-by_memory n base size fault page low memory =
+by_memory n base size refusal page low memory =
     let file = headed base (contents n) in
     let long : length file ≡ 304 = length-file n base in
     let read : header base ≡ header_of file = sym (header_is base (contents n) (omega (arith, low))) in
-    let passed : None ≡ header_fault (header base) (length file) = sym (header_passes base (length file) (omega (arith, long))) in
+    let passed : None ≡ header_refusal (header base) (length file) = sym (header_passes base (length file) (omega (arith, long))) in
     let listed : table base ≡ program_headers file (header base) = sym (table_is base (contents n) (omega (arith, low))) in
-    let checked : fault ≡ segment_fault (table base) base (length file) base size = sym (fault_is base (length file) size (omega (arith, long)) page ∙ memory) in
+    let checked : refusal ≡ segment_refusal (table base) base (length file) base size = sym (refusal_is base (length file) size (omega (arith, long)) page ∙ memory) in
     ap (λ (bytes : List ℕ). image_of bytes base size) (file_is n base)
-    ∙ answered file base size (header base) (table base) fault (omega (arith, long)) read passed listed checked
-    ∙ ap (image_unless fault) (image_is n base size)
+    ∙ answered file base size (header base) (table base) refusal (omega (arith, long)) read passed listed checked
+    ∙ ap (image_unless refusal) (image_is n base size)
 
 pub programs_load : (n base size : ℕ) → base % 4096 ≡ 0 → base ≤ 2 ^ 40 → image_of (executable_of (generated_image n base)) base size ≡ loaded_in n base size
 unfolding loaded_in

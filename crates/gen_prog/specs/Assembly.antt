@@ -14,28 +14,28 @@ abbrev pub upper : Name → (rd imm : ℕ) → Inst
 upper name rd imm = record { name = name; rd = rd; rs1 = 0; rs2 = 0; imm = pos (imm * 2 ^ 12) }
 
 -- of two registers and an immediate; a load has its offset there
-abbrev pub immediate : Name → (rd rs1 : ℕ) → ℤ → Inst
-immediate name rd rs1 imm = record { name = name; rd = rd; rs1 = rs1; rs2 = 0; imm = imm }
+abbrev pub with_immediate : Name → (rd rs1 : ℕ) → ℤ → Inst
+with_immediate name rd rs1 imm = record { name = name; rd = rd; rs1 = rs1; rs2 = 0; imm = imm }
 
 -- of three registers; an atomic has neither aq nor rl
 abbrev pub registers : Name → (rd rs1 rs2 : ℕ) → Inst
 registers name rd rs1 rs2 = record { name = name; rd = rd; rs1 = rs1; rs2 = rs2; imm = pos 0 }
 
 -- a store of rs2 at an offset from rs1
-abbrev pub store : Name → (rs2 rs1 : ℕ) → (offset : ℤ) → Inst
-store name rs2 rs1 offset = record { name = name; rd = 0; rs1 = rs1; rs2 = rs2; imm = offset }
+abbrev pub store_at : Name → (rs2 rs1 : ℕ) → (offset : ℤ) → Inst
+store_at name rs2 rs1 offset = record { name = name; rd = 0; rs1 = rs1; rs2 = rs2; imm = offset }
 
 -- a branch by so many bytes
-abbrev pub branch : Name → (rs1 rs2 : ℕ) → (offset : ℤ) → Inst
-branch name rs1 rs2 offset = record { name = name; rd = 0; rs1 = rs1; rs2 = rs2; imm = offset }
+abbrev pub branch_by : Name → (rs1 rs2 : ℕ) → (offset : ℤ) → Inst
+branch_by name rs1 rs2 offset = record { name = name; rd = 0; rs1 = rs1; rs2 = rs2; imm = offset }
 
 -- a jump by so many bytes
-abbrev pub jump : Name → (rd : ℕ) → (offset : ℤ) → Inst
-jump name rd offset = record { name = name; rd = rd; rs1 = 0; rs2 = 0; imm = offset }
+abbrev pub jump_by : Name → (rd : ℕ) → (offset : ℤ) → Inst
+jump_by name rd offset = record { name = name; rd = rd; rs1 = 0; rs2 = 0; imm = offset }
 
 -- an instruction without operands
-abbrev pub system : Name → Inst
-system name = record { name = name; rd = 0; rs1 = 0; rs2 = 0; imm = pos 0 }
+abbrev pub without_operands : Name → Inst
+without_operands name = record { name = name; rd = 0; rs1 = 0; rs2 = 0; imm = pos 0 }
 
 -- the word of an instruction: the bits that its row of the instruction table states, its registers and its immediate
 unfoldable pub encoded : Inst → ℕ

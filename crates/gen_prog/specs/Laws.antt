@@ -10,7 +10,7 @@ use Rattle.gen_prog.specs.Generated.{generated_image, instructions, loaded_in}
 abbrev pub WordsDecode : Type 0
 WordsDecode = (n : ℕ) → map decoded (map encoded (instructions n)) ≡ map Some (instructions n)
 
--- The file of a program passes all checks where memory has 6208 bytes at least. With fewer, its second segment, and with
--- fewer than 112 its first, is not in memory.
+-- The file of a program passes all checks where memory has 6208 bytes at least. With fewer, its second segment, and
+-- with fewer than 112 its first, is not in memory.
 abbrev pub ProgramsLoad : Type 0
 ProgramsLoad = (n base size : ℕ) → base % 4096 ≡ 0 → base ≤ 2 ^ 40 → image_of (executable_of (generated_image n base)) base size ≡ loaded_in n base size

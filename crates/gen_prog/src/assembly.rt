@@ -1,6 +1,6 @@
-// Instructions, with their operands in the order of assembly language.
+//! Instructions, with their operands in the order of assembly language.
 ghost use Rattle.std.specs.Prelude.{◌≡◌, ◌<◌};
-ghost use Rattle.gen_prog.specs.Assembly.{branch, immediate, jump, registers, store, system, upper};
+ghost use Rattle.gen_prog.specs.Assembly.{branch_by, jump_by, registers, store_at, upper, with_immediate, without_operands};
 
 use rv_decode::{Inst, Name};
 
@@ -18,8 +18,8 @@ pub fn upper(name: Name, rd: u8, imm: u16) -> Inst
 }
 
 /// An instruction of two registers and an immediate. A load has its offset there.
-pub fn immediate(name: Name, rd: u8, rs1: u8, imm: i64) -> Inst
-    ensures { result ≡ immediate name rd rs1 imm }
+pub fn with_immediate(name: Name, rd: u8, rs1: u8, imm: i64) -> Inst
+    ensures { result ≡ with_immediate name rd rs1 imm }
 {
     Inst {
         name,
@@ -44,8 +44,8 @@ pub fn registers(name: Name, rd: u8, rs1: u8, rs2: u8) -> Inst
 }
 
 /// A store of rs2 at an offset from rs1.
-pub fn store(name: Name, rs2: u8, rs1: u8, offset: i64) -> Inst
-    ensures { result ≡ store name rs2 rs1 offset }
+pub fn store_at(name: Name, rs2: u8, rs1: u8, offset: i64) -> Inst
+    ensures { result ≡ store_at name rs2 rs1 offset }
 {
     Inst {
         name,
@@ -57,8 +57,8 @@ pub fn store(name: Name, rs2: u8, rs1: u8, offset: i64) -> Inst
 }
 
 /// A branch by so many bytes.
-pub fn branch(name: Name, rs1: u8, rs2: u8, offset: i64) -> Inst
-    ensures { result ≡ branch name rs1 rs2 offset }
+pub fn branch_by(name: Name, rs1: u8, rs2: u8, offset: i64) -> Inst
+    ensures { result ≡ branch_by name rs1 rs2 offset }
 {
     Inst {
         name,
@@ -70,8 +70,8 @@ pub fn branch(name: Name, rs1: u8, rs2: u8, offset: i64) -> Inst
 }
 
 /// A jump by so many bytes.
-pub fn jump(name: Name, rd: u8, offset: i64) -> Inst
-    ensures { result ≡ jump name rd offset }
+pub fn jump_by(name: Name, rd: u8, offset: i64) -> Inst
+    ensures { result ≡ jump_by name rd offset }
 {
     Inst {
         name,
@@ -83,8 +83,8 @@ pub fn jump(name: Name, rd: u8, offset: i64) -> Inst
 }
 
 /// An instruction without operands.
-pub fn system(name: Name) -> Inst
-    ensures { result ≡ system name }
+pub fn without_operands(name: Name) -> Inst
+    ensures { result ≡ without_operands name }
 {
     Inst {
         name,

@@ -1,4 +1,4 @@
-// The executable of the program of a number.
+//! The executable of the program of a number.
 ghost use Rattle.std.specs.Prelude.{◌≡◌, ◌≤◌, ℕ, ◌+◌, ◌%◌, ◌^◌, ◌++◌, All, IfOk, OnOk};
 ghost use Rattle.elf_load.specs.Image.{image_of};
 ghost use Rattle.elf_write.specs.File.{executable_of};
@@ -6,7 +6,7 @@ ghost use Rattle.gen_prog.specs.Assembly.{assembled, encoded, IsEncodable};
 ghost use Rattle.gen_prog.specs.Generated.{data_of, generated_image, instructions, loaded_in};
 
 use crate::laws;
-use crate::program::{mask, program, rounds};
+use crate::program::{iterations, mask, program};
 use elf_load::{Image, Segment};
 use rv_decode::Inst;
 use rv_encode::encode;
@@ -36,7 +36,7 @@ pub fn generate(alloc: Global, n: u64, base: u64) -> Result<Bytes, NoMemory>
     elf_write::write(alloc, &image)
 }
 
-// The image of the program.
+/// The image of the program.
 fn image(alloc: Global, n: u64, base: u64) -> Result<Image, NoMemory>
     requires page { base % 4096 ≡ 0 }
     requires low { base ≤ 2 ^ 40 }
@@ -58,7 +58,7 @@ fn image(alloc: Global, n: u64, base: u64) -> Result<Image, NoMemory>
     Ok(Image::make(base, SIZE, base, segments))
 }
 
-// The bytes of the instructions.
+/// The bytes of the instructions.
 fn code(alloc: Global, n: u64) -> Result<Bytes, NoMemory>
     ensures { IfOk result (λ bytes. bytes ≡ assembled (instructions n)) }
 {
@@ -67,7 +67,7 @@ fn code(alloc: Global, n: u64) -> Result<Bytes, NoMemory>
     Ok(Bytes::of(bytes))
 }
 
-// Appends the words of instructions.
+/// Appends the words of instructions.
 fn assemble(bytes: &mut Vec<u8>, instructions: &[Inst]) -> Result<(), NoMemory>
     requires { All IsEncodable instructions.now }
     ensures { OnOk result (bytes.new.items ≡ bytes.old.items ++ assembled instructions.now) }
@@ -78,7 +78,7 @@ fn assemble(bytes: &mut Vec<u8>, instructions: &[Inst]) -> Result<(), NoMemory>
     Ok(())
 }
 
-// The word of an instruction.
+/// The word of an instruction.
 fn word(instruction: Inst) -> u32
     requires { IsEncodable instruction }
     ensures { result ≡ encoded instruction }
@@ -87,12 +87,12 @@ fn word(instruction: Inst) -> u32
     encode(instruction)
 }
 
-// The bytes of the data that the program reads.
+/// The bytes of the data that the program reads.
 fn data(alloc: Global, n: u64) -> Result<Bytes, NoMemory>
     ensures { IfOk result (λ bytes. bytes ≡ data_of n) }
 {
     let mut bytes = Vec::new(alloc);
     bytes.extend_from_slice(&n.to_le_bytes())?;
-    bytes.extend_from_slice(&rounds(n).to_le_bytes())?;
+    bytes.extend_from_slice(&iterations(n).to_le_bytes())?;
     Ok(Bytes::of(bytes))
 }

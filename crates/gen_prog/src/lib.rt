@@ -7,6 +7,3 @@ pub mod laws;
 mod program;
 
 pub use generator::generate;
-
-#[cfg(test)]
-mod tests;

@@ -9,7 +9,7 @@ use Rattle.toml.specs.Data.{Members}
 use Rattle.machine_desc.specs.Keys.{KeyPath, Check, Ratio, range_check, pages_check, array_check, top, at, top_checks, memory_checks, l1_checks, l2_checks, controller_checks, domain_checks, version_1_checks, version_1_ratios}
 use Rattle.machine_desc.specs.Text.{natural, integer_at, version_of, integers_at}
 use Rattle.machine_desc.specs.Machine.{IsBetween, IsMemory, IsL1, IsL2, IsControllers, IsDomains, IsMachine}
-use Rattle.machine_desc.specs.Description.{checks_of, ratios_of, is_named, checks_fault, ratios_fault, written_domains, domain_fault, names_fault, document_fault, memory_of, l1_of, l2_of, controllers_of, domains_of, numbers_of}
+use Rattle.machine_desc.specs.Description.{checks_of, ratios_of, is_named, checks_refusal, ratios_refusal, written_domains, domain_refusal, names_refusal, document_refusal, memory_of, l1_of, l2_of, controllers_of, domains_of, numbers_of}
 use Rattle.machine_desc.proofs.Valid.{IsWithin, checks_none-append, check_none, integer_holds, share_holds, array_holds, ratio_none, ratio_holds, domains_hold, first_none, second_none, map_none}
 
 -- the check and the ratio of this key
@@ -21,15 +21,15 @@ is_ratio_of key r = bytes_eq r.key.table key.table && bytes_eq r.key.name key.na
 
 -- the lists of checks of a document, none of which finds anything
 record Passed (document : Members) : Type 0 where
-  pub top : checks_fault document top_checks ≡ None
-  pub memory : checks_fault document memory_checks ≡ None
-  pub l1 : checks_fault document l1_checks ≡ None
-  pub l2 : checks_fault document l2_checks ≡ None
-  pub controllers : checks_fault document controller_checks ≡ None
-  pub domains : checks_fault document domain_checks ≡ None
+  pub top : checks_refusal document top_checks ≡ None
+  pub memory : checks_refusal document memory_checks ≡ None
+  pub l1 : checks_refusal document l1_checks ≡ None
+  pub l2 : checks_refusal document l2_checks ≡ None
+  pub controllers : checks_refusal document controller_checks ≡ None
+  pub domains : checks_refusal document domain_checks ≡ None
 
 -- a document whose checks find nothing is of version 1
-is_version_1 : (document : Members) → checks_fault document (checks_of document) ≡ None → (version_of document == 1) ≡ true
+is_version_1 : (document : Members) → checks_refusal document (checks_of document) ≡ None → (version_of document == 1) ≡ true
 unfolding checks_of
 is_version_1 document h =
     elim (cases_Bool (version_of document == 1)) [
@@ -39,10 +39,10 @@ is_version_1 document h =
           eq-eqb (version_of document) 1 (omega (arith, holds.low, holds.high))
     ]
 
-passed : (document : Members) → checks_fault document (checks_of document) ≡ None → Passed document
+passed : (document : Members) → checks_refusal document (checks_of document) ≡ None → Passed document
 unfolding checks_of version_1_checks
 passed document h =
-    let all : checks_fault document version_1_checks ≡ None = rw (is_version_1 document h) at h in
+    let all : checks_refusal document version_1_checks ≡ None = rw (is_version_1 document h) at h in
     let (to_controllers, domains) = checks_none-append document (top_checks ++ memory_checks ++ l1_checks ++ l2_checks ++ controller_checks) domain_checks all in
     let (to_l2, controllers) = checks_none-append document (top_checks ++ memory_checks ++ l1_checks ++ l2_checks) controller_checks to_controllers in
     let (to_l1, l2) = checks_none-append document (top_checks ++ memory_checks ++ l1_checks) l2_checks to_l2 in
@@ -50,12 +50,12 @@ passed document h =
     let (top, memory) = checks_none-append document top_checks memory_checks to_memory in
     record { top = top; memory = memory; l1 = l1; l2 = l2; controllers = controllers; domains = domains }
 
-ratios_hold : (document : Members) → checks_fault document (checks_of document) ≡ None → ratios_fault document (ratios_of document) ≡ None → ratios_fault document version_1_ratios ≡ None
+ratios_hold : (document : Members) → checks_refusal document (checks_of document) ≡ None → ratios_refusal document (ratios_of document) ≡ None → ratios_refusal document version_1_ratios ≡ None
 unfolding ratios_of
 ratios_hold document h r = rw (is_version_1 document h) at r
 
 -- what a list of checks that finds nothing says of a key, which is found by its name
-module _ (document : Members) (cs : List Check) (none : checks_fault document cs ≡ None) where
+module _ (document : Members) (cs : List Check) (none : checks_refusal document cs ≡ None) where
   between : (key : KeyPath) (low high : ℕ) → find (is_check_of key) cs ≡ Some (range_check key low high) → IsBetween low (integer_at document key) high
   between key low high found =
       let holds = integer_holds document key (record { low = low; high = high; step = 1 }) (check_none document cs (is_check_of key) _ none found) in
@@ -84,7 +84,7 @@ memory_holds document p =
       stacks = stack.1;
     }
 
-l1_holds : (document : Members) → Passed document → ratios_fault document version_1_ratios ≡ None → IsL1 (integer_at document (at (codes "l2") (codes "banks"))) (l1_of document)
+l1_holds : (document : Members) → Passed document → ratios_refusal document version_1_ratios ≡ None → IsL1 (integer_at document (at (codes "l2") (codes "banks"))) (l1_of document)
 unfolding l1_checks version_1_ratios l1_of
 l1_holds document p r = let in_range = between document l1_checks p.l1 in record {
   sets = in_range (at (codes "l1") (codes "sets")) 1 4096 refl;
@@ -93,7 +93,7 @@ l1_holds document p r = let in_range = between document l1_checks p.l1 in record
   latency = in_range (at (codes "l1") (codes "latency")) 1 65536 refl;
 }
 
-l2_holds : (document : Members) → Passed document → ratios_fault document version_1_ratios ≡ None → IsL2 (l2_of document)
+l2_holds : (document : Members) → Passed document → ratios_refusal document version_1_ratios ≡ None → IsL2 (l2_of document)
 unfolding l2_checks version_1_ratios l2_of
 l2_holds document p r = let in_range = between document l2_checks p.l2 in record {
   banks = in_range (at (codes "l2") (codes "banks")) 1 64 refl;
@@ -124,7 +124,7 @@ controllers_listed : (document : Members) → Passed document → length (intege
 unfolding domain_checks
 controllers_listed document p = listed document domain_checks p.domains (at (codes "domains") (codes "controllers")) (at (codes "controllers") (codes "count")) refl
 
-pub domains_short : (document : Members) → checks_fault document (checks_of document) ≡ None → length (written_domains document) ≤ 80
+pub domains_short : (document : Members) → checks_refusal document (checks_of document) ≡ None → length (written_domains document) ≤ 80
 unfolding l2_checks controller_checks written_domains
 domains_short document h =
     let p = passed document h in
@@ -142,11 +142,11 @@ all_second P xs ys h = λ k d within.
     subst P (get_or-append-add xs ys k d) (h (length xs + k) d (rw length-append (omega arith)))
 
 -- every written domain is below their count
-domains_below : (document : Members) → domain_fault document ≡ None → All (λ z. natural z < integer_at document (at (codes "domains") (codes "count"))) (written_domains document)
-unfolding domain_fault
+domains_below : (document : Members) → domain_refusal document ≡ None → All (λ z. natural z < integer_at document (at (codes "domains") (codes "count"))) (written_domains document)
+unfolding domain_refusal
 domains_below document h = domains_hold _ (written_domains document) (map_none _ _ h)
 
-domains_all : (document : Members) → Passed document → domain_fault document ≡ None
+domains_all : (document : Members) → Passed document → domain_refusal document ≡ None
     → IsDomains (integer_at document (at (codes "l2") (codes "banks"))) (integer_at document (at (codes "controllers") (codes "count"))) (domains_of document)
 unfolding domain_checks written_domains domains_of
 domains_all document p below =
@@ -165,14 +165,14 @@ domains_all document p below =
     }
 
 -- the machine of a document in which no check fails
-pub accepted : (document : Members) → document_fault document ≡ None → IsMachine (numbers_of document)
-unfolding top_checks document_fault numbers_of l2_of controllers_of
+pub accepted : (document : Members) → document_refusal document ≡ None → IsMachine (numbers_of document)
+unfolding top_checks document_refusal numbers_of l2_of controllers_of
 accepted document none =
-    let known = first_none (checks_fault document (checks_of document)) _ none in
-    let rest = second_none (checks_fault document (checks_of document)) _ none in
-    let rest' = second_none (names_fault document (checks_of document)) _ rest in
-    let ratio = ratios_hold document known (first_none (ratios_fault document (ratios_of document)) _ rest') in
-    let domain = second_none (ratios_fault document (ratios_of document)) _ rest' in
+    let known = first_none (checks_refusal document (checks_of document)) _ none in
+    let rest = second_none (checks_refusal document (checks_of document)) _ none in
+    let rest' = second_none (names_refusal document (checks_of document)) _ rest in
+    let ratio = ratios_hold document known (first_none (ratios_refusal document (ratios_of document)) _ rest') in
+    let domain = second_none (ratios_refusal document (ratios_of document)) _ rest' in
     let p = passed document known in
     let in_range = between document top_checks p.top in
     record {

@@ -13,7 +13,7 @@ use Rattle.toml.specs.View.{members_view}
 use Rattle.toml.proofs.Views.{Entry}
 use Rattle.machine_desc.specs.Keys.{Check, at}
 use Rattle.machine_desc.specs.Text.{full_name}
-use Rattle.machine_desc.specs.Description.{is_known, unknown_names, lesser, least_name, members_fault, unless}
+use Rattle.machine_desc.specs.Description.{is_known, unknown_names, lesser, least_name, members_refusal, unless}
 use Rattle.machine_desc.specs.declared.errors.BadMachine.{BadMachine}
 use Rattle.machine_desc.specs.declared.errors.BadMachine.TheVariants.{Unknown}
 
@@ -47,12 +47,12 @@ stays name (Some m) h =
     let above : slice_cmp nat_cmp m name ≡ Greater = nat_list_cmp_total.antisymm m name ∙ ap ordering_reverse h in
     rw above
 
-pub members_fault-first : (checks : List Check) (table : List ℕ) (es : List Entry) → IsStrictlySortedBy string_cmp (keys_of es)
-    → members_fault checks table (members_view es) ≡ first_unknown checks table (members_view es)
+pub members_refusal-first : (checks : List Check) (table : List ℕ) (es : List Entry) → IsStrictlySortedBy string_cmp (keys_of es)
+    → members_refusal checks table (members_view es) ≡ first_unknown checks table (members_view es)
 unfolding IsStrictlySortedBy
-members_fault-first checks table [] h = refl
-members_fault-first checks table (e ∷ es) h =
+members_refusal-first checks table [] h = refl
+members_refusal-first checks table (e ∷ es) h =
     elim (cases_Bool (is_known checks table (string_bytes e.0))) [
-      | inl known ↦ rw known (members_fault-first checks table es h.1)
+      | inl known ↦ rw known (members_refusal-first checks table es h.1)
       | inr unknown ↦ rw (unknown, stays (string_bytes e.0) _ (below_least checks table (string_bytes e.0) es h.0))
     ]

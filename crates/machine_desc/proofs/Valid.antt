@@ -8,10 +8,10 @@ use Rattle.std.proofs.lemmas.Iterator.Adapters.{position_from-zero}
 use Rattle.toml.specs.Data.{Data, Members, as_integer}
 use Rattle.machine_desc.specs.Keys.{KeyPath, Range, Check, Ratio, is_integer, is_share, is_array}
 use Rattle.machine_desc.specs.Text.{natural, integer_at, natural_of, integers_at, array_integers, value_at}
-use Rattle.machine_desc.specs.Description.{is_in_range, is_share_of, unless, integer_fault, array_fault, value_fault, refusal_of, check_fault, checks_fault, ratio_fault, ratios_fault, is_below}
+use Rattle.machine_desc.specs.Description.{is_in_range, is_share_of, unless, bad_integer, bad_array, bad_value, refusal_of, check_refusal, checks_refusal, ratio_refusal, ratios_refusal, is_below}
 use Rattle.machine_desc.specs.Answers.{passed_unless}
-use Rattle.machine_desc.specs.declared.checks.Fault.{Fault}
-use Rattle.machine_desc.specs.declared.checks.Fault.TheVariants.{OtherKind, OutOfRange}
+use Rattle.machine_desc.specs.declared.checks.BadValue.{BadValue}
+use Rattle.machine_desc.specs.declared.checks.BadValue.TheVariants.{OtherKind, OutOfRange}
 use Rattle.machine_desc.specs.declared.errors.BadMachine.{BadMachine}
 
 -- neither of two finds anything
@@ -24,34 +24,34 @@ second_none None b h = h
 second_none (Some x) b h = cc
 
 -- a check that passed found nothing
-pub fault_none : (fault : Option BadMachine) (x : Unit {0}) → passed_unless fault ≡ Ok x → fault ≡ None
-fault_none None x h = refl
-fault_none (Some bad) x h = cc
+pub refusal_none : (wrong : Option BadMachine) (x : Unit {0}) → passed_unless wrong ≡ Ok x → wrong ≡ None
+refusal_none None x h = refl
+refusal_none (Some bad) x h = cc
 
 -- neither of two lists of checks finds anything
-pub checks_none-append : (document : Members) (xs ys : List Check) → checks_fault document (xs ++ ys) ≡ None
-    → (checks_fault document xs ≡ None) × (checks_fault document ys ≡ None)
+pub checks_none-append : (document : Members) (xs ys : List Check) → checks_refusal document (xs ++ ys) ≡ None
+    → (checks_refusal document xs ≡ None) × (checks_refusal document ys ≡ None)
 checks_none-append document [] ys h = (refl, h)
 checks_none-append document (x ∷ xs) ys h =
-    let rest = checks_none-append document xs ys (second_none (check_fault document x) _ h) in
-    (rw (first_none (check_fault document x) _ h) rest.0, rest.1)
+    let rest = checks_none-append document xs ys (second_none (check_refusal document x) _ h) in
+    (rw (first_none (check_refusal document x) _ h) rest.0, rest.1)
 
 -- the check of a key finds nothing where its list finds nothing
-pub check_none : (document : Members) (cs : List Check) (p : Check → Bool) (c : Check) → checks_fault document cs ≡ None → find p cs ≡ Some c → check_fault document c ≡ None
+pub check_none : (document : Members) (cs : List Check) (p : Check → Bool) (c : Check) → checks_refusal document cs ≡ None → find p cs ≡ Some c → check_refusal document c ≡ None
 check_none document [] p c h found = cc
 check_none document (x ∷ xs) p c h found =
     elim (cases_Bool (p x)) [
       | inl passes ↦ let same = rw passes at found in let is : x ≡ c = cc in rw (← is) (first_none _ _ h)
-      | inr other ↦ check_none document xs p c (second_none (check_fault document x) _ h) (rw other at found)
+      | inr other ↦ check_none document xs p c (second_none (check_refusal document x) _ h) (rw other at found)
     ]
 
 -- some integer that passes the test is the number
 abbrev pub Passes : (ℤ → Bool) → ℕ → Type 0
 Passes is_good n = (z : ℤ) × ((is_good z ≡ true) × (n ≡ natural z))
 
-unless_none : {F : Type 0} (b : Bool) (fault : F) → unless b fault ≡ None → b ≡ true
-unless_none true fault h = refl
-unless_none false fault h = cc
+unless_none : {F : Type 0} (b : Bool) (wrong : F) → unless b wrong ≡ None → b ≡ true
+unless_none true wrong h = refl
+unless_none false wrong h = cc
 
 pub map_none : {A B : Type 0} (f : A → B) (o : Option A) → option_map f o ≡ None → o ≡ None
 map_none f None h = refl
@@ -61,8 +61,8 @@ integer_passes : (is_good : ℤ → Bool) (o : Option ℤ) → option_map_or (λ
 integer_passes is_good None h = cc
 integer_passes is_good (Some z) h = (z, (unless_none (is_good z) _ h, refl))
 
-value_passes : (is_good : ℤ → Bool) (refusal : Fault → BadMachine) (missing : BadMachine) (o : Option Data)
-    → option_map_or (λ d. option_map refusal (integer_fault is_good d)) o (Some missing) ≡ None → Passes is_good (option_map_or natural_of o 0)
+value_passes : (is_good : ℤ → Bool) (refusal : BadValue → BadMachine) (missing : BadMachine) (o : Option Data)
+    → option_map_or (λ d. option_map refusal (bad_integer is_good d)) o (Some missing) ≡ None → Passes is_good (option_map_or natural_of o 0)
 value_passes is_good refusal missing None h = cc
 value_passes is_good refusal missing (Some d) h = integer_passes is_good (as_integer d) (map_none refusal _ h)
 
@@ -79,15 +79,15 @@ from_range range (pos n) h =
     record { low = grind (arith, nat_tests); high = grind (arith, nat_tests); step = grind (arith, nat_tests) }
 from_range range (negsuc n) h = cc
 
-pub integer_holds : (document : Members) (key : KeyPath) (range : Range) → check_fault document (record { key = key; rule = is_integer range }) ≡ None → IsWithin range (integer_at document key)
-unfolding check_fault value_fault integer_at
+pub integer_holds : (document : Members) (key : KeyPath) (range : Range) → check_refusal document (record { key = key; rule = is_integer range }) ≡ None → IsWithin range (integer_at document key)
+unfolding check_refusal bad_value integer_at
 integer_holds document key range h =
     let (z, passes) = value_passes (is_in_range range) (refusal_of key) _ (value_at document key) h in
     rw passes.1 (from_range range z passes.0)
 
-pub share_holds : (document : Members) (key : KeyPath) (range : Range) (times whole : KeyPath) → check_fault document (record { key = key; rule = is_share range times whole }) ≡ None
+pub share_holds : (document : Members) (key : KeyPath) (range : Range) (times whole : KeyPath) → check_refusal document (record { key = key; rule = is_share range times whole }) ≡ None
     → IsWithin range (integer_at document key) × (integer_at document times * integer_at document key ≤ integer_at document whole)
-unfolding check_fault value_fault integer_at
+unfolding check_refusal bad_value integer_at
 share_holds document key range times whole h =
     let (z, passes) = value_passes (λ z. is_in_range range z && is_share_of (integer_at document times) (integer_at document whole) z) (refusal_of key) _ (value_at document key) h in
     let (inside, share) = and_parts _ _ passes.0 in
@@ -99,25 +99,25 @@ array_long count (Some zs) h =
     let same = unless_none (length zs == count) _ h in
     grind (arith, nat_tests)
 
-array_passes : (count : ℕ) (refusal : Fault → BadMachine) (missing : BadMachine) (o : Option Data)
-    → option_map_or (λ d. option_map refusal (array_fault count d)) o (Some missing) ≡ None → length (unwrap_or (option_and_then array_integers o) []) ≡ count
+array_passes : (count : ℕ) (refusal : BadValue → BadMachine) (missing : BadMachine) (o : Option Data)
+    → option_map_or (λ d. option_map refusal (bad_array count d)) o (Some missing) ≡ None → length (unwrap_or (option_and_then array_integers o) []) ≡ count
 array_passes count refusal missing None h = cc
 array_passes count refusal missing (Some d) h = array_long count (array_integers d) (map_none refusal _ h)
 
-pub array_holds : (document : Members) (key count : KeyPath) → check_fault document (record { key = key; rule = is_array count }) ≡ None → length (integers_at document key) ≡ integer_at document count
-unfolding check_fault value_fault integers_at
+pub array_holds : (document : Members) (key count : KeyPath) → check_refusal document (record { key = key; rule = is_array count }) ≡ None → length (integers_at document key) ≡ integer_at document count
+unfolding check_refusal bad_value integers_at
 array_holds document key count h = array_passes (integer_at document count) (refusal_of key) _ (value_at document key) h
 
 -- the ratio of a key finds nothing where its list finds nothing
-pub ratio_none : (document : Members) (rs : List Ratio) (p : Ratio → Bool) (r : Ratio) → ratios_fault document rs ≡ None → find p rs ≡ Some r → ratio_fault document r ≡ None
+pub ratio_none : (document : Members) (rs : List Ratio) (p : Ratio → Bool) (r : Ratio) → ratios_refusal document rs ≡ None → find p rs ≡ Some r → ratio_refusal document r ≡ None
 ratio_none document [] p r h found = cc
 ratio_none document (x ∷ xs) p r h found =
     elim (cases_Bool (p x)) [
       | inl passes ↦ let same = rw passes at found in let is : x ≡ r = cc in rw (← is) (first_none _ _ h)
-      | inr other ↦ ratio_none document xs p r (second_none (ratio_fault document x) _ h) (rw other at found)
+      | inr other ↦ ratio_none document xs p r (second_none (ratio_refusal document x) _ h) (rw other at found)
     ]
 
-pub ratio_holds : (document : Members) (r : Ratio) → ratio_fault document r ≡ None → integer_at document r.key % integer_at document r.divisor ≡ 0
+pub ratio_holds : (document : Members) (r : Ratio) → ratio_refusal document r ≡ None → integer_at document r.key % integer_at document r.divisor ≡ 0
 ratio_holds document r h =
     let divides = unless_none (integer_at document r.key % integer_at document r.divisor == 0) _ h in
     grind (arith, nat_tests)

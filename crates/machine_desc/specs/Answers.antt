@@ -16,7 +16,7 @@ Answers (Ok x) answer = answer ≡ Ok x
 Answers (Err (Bad bad)) answer = answer ≡ Err bad
 Answers (Err NoMemory) answer = ⊤
 
--- the answer of a check: that it passed, or the fault that it found
+-- the answer of a check: that it passed, or the refusal that it found
 abbrev pub passed_unless : Option BadMachine → Result (Unit {0}) BadMachine
 passed_unless None = Ok tt
 passed_unless (Some bad) = Err bad

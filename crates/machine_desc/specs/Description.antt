@@ -9,8 +9,8 @@ use Rattle.machine_desc.specs.Keys.{KeyPath, Range as Bounds, Rule, is_table, is
 use Rattle.machine_desc.specs.Text.{document_of, table_at, value_at, integer_at, version_of, natural, array_integers, integers_at, full_name}
 use Rattle.machine_desc.specs.declared.errors.BadMachine.{BadMachine}
 use Rattle.machine_desc.specs.declared.errors.BadMachine.TheVariants.{Text, Missing, Kind, Range, Unknown, Ratio as BadRatio, Domain}
-use Rattle.machine_desc.specs.declared.checks.Fault.{Fault}
-use Rattle.machine_desc.specs.declared.checks.Fault.TheVariants.{OtherKind, OutOfRange}
+use Rattle.machine_desc.specs.declared.checks.BadValue.{BadValue}
+use Rattle.machine_desc.specs.declared.checks.BadValue.TheVariants.{OtherKind, OutOfRange}
 use Rattle.machine_desc.specs.declared.machine.Memory.{Memory}
 use Rattle.machine_desc.specs.declared.machine.L1.{L1}
 use Rattle.machine_desc.specs.declared.machine.L2.{L2}
@@ -18,8 +18,8 @@ use Rattle.machine_desc.specs.declared.machine.Controllers.{Controllers}
 use Rattle.machine_desc.specs.declared.machine.Domains.{Domains}
 use Rattle.machine_desc.specs.declared.machine.Machine.{Machine}
 
--- The checks of a document, in order: those of its version. Of a version that there is not, the version alone is checked,
--- and fails.
+-- The checks of a document, in order: those of its version. Of a version that there is not, the version alone is
+-- checked, and fails.
 unfoldable pub checks_of : Members → List Check
 checks_of document = if version_of document == 1 then version_1_checks else version_check ∷ []
 
@@ -31,45 +31,45 @@ abbrev pub is_in_range : Bounds → ℤ → Bool
 is_in_range range (pos n) = (nat_le range.low n && nat_le n range.high) && (n % range.step == 0)
 is_in_range range (negsuc n) = false
 
--- nothing where the test holds, and else this fault
+-- nothing where the test holds, and else what is wrong
 abbrev pub unless : {F : Type 0} → Bool → F → Option F
-unless true fault = None
-unless false fault = Some fault
+unless true wrong = None
+unless false wrong = Some wrong
 
 -- the integer, taken so often, is at most the whole
 abbrev pub is_share_of : (times whole : ℕ) → ℤ → Bool
 is_share_of times whole z = nat_le (times * natural z) whole
 
 -- what is wrong with an integer, with the length of an array, and with a value: nothing, its kind or its range
-abbrev pub integer_fault : (ℤ → Bool) → Data → Option Fault
-integer_fault is_good d = option_map_or (λ z. unless (is_good z) (OutOfRange z)) (as_integer d) (Some OtherKind)
+abbrev pub bad_integer : (ℤ → Bool) → Data → Option BadValue
+bad_integer is_good d = option_map_or (λ z. unless (is_good z) (OutOfRange z)) (as_integer d) (Some OtherKind)
 
-abbrev pub array_fault : ℕ → Data → Option Fault
-array_fault count d =
+abbrev pub bad_array : ℕ → Data → Option BadValue
+bad_array count d =
     option_map_or (λ zs. unless (length zs == count) (OutOfRange (pos (length zs)))) (array_integers d) (Some OtherKind)
 
-unfoldable pub value_fault : Members → Rule → Data → Option Fault
-value_fault document is_table d = unless (is_some (as_table d)) OtherKind
-value_fault document (is_integer range) d = integer_fault (is_in_range range) d
-value_fault document (is_share range times whole) d =
-    integer_fault (λ z. is_in_range range z && is_share_of (integer_at document times) (integer_at document whole) z) d
-value_fault document (is_array count) d = array_fault (integer_at document count) d
+unfoldable pub bad_value : Members → Rule → Data → Option BadValue
+bad_value document is_table d = unless (is_some (as_table d)) OtherKind
+bad_value document (is_integer range) d = bad_integer (is_in_range range) d
+bad_value document (is_share range times whole) d =
+    bad_integer (λ z. is_in_range range z && is_share_of (integer_at document times) (integer_at document whole) z) d
+bad_value document (is_array count) d = bad_array (integer_at document count) d
 
 -- the refusal of a key's value
-abbrev pub refusal_of : KeyPath → Fault → BadMachine
+abbrev pub refusal_of : KeyPath → BadValue → BadMachine
 refusal_of key OtherKind = Kind (full_name key)
 refusal_of key (OutOfRange z) = Range (full_name key) z
 
 -- what a check finds: its key is missing, or its value is refused
-unfoldable pub check_fault : Members → Check → Option BadMachine
-check_fault document check =
-    option_map_or (λ d. option_map (refusal_of check.key) (value_fault document check.rule d)) (value_at document check.key)
+unfoldable pub check_refusal : Members → Check → Option BadMachine
+check_refusal document check =
+    option_map_or (λ d. option_map (refusal_of check.key) (bad_value document check.rule d)) (value_at document check.key)
     (Some (Missing (full_name check.key)))
 
 -- what the first of the checks finds that finds something
-abbrev pub checks_fault : Members → List Check → Option BadMachine
-checks_fault document [] = None
-checks_fault document (c ∷ cs) = option_or (check_fault document c) (checks_fault document cs)
+abbrev pub checks_refusal : Members → List Check → Option BadMachine
+checks_refusal document [] = None
+checks_refusal document (c ∷ cs) = option_or (check_refusal document c) (checks_refusal document cs)
 
 -- the check is of this name in this table
 abbrev pub is_named : (table name : List ℕ) → Check → Bool
@@ -95,35 +95,35 @@ least_name [] = None
 least_name (n ∷ ns) = Some (option_map_or (lesser n) (least_name ns) n)
 
 -- the least unknown name of a table
-abbrev pub members_fault : List Check → List ℕ → Members → Option BadMachine
-members_fault checks table ms = option_map (λ name. Unknown (full_name (at table name))) (least_name (unknown_names checks table ms))
+abbrev pub members_refusal : List Check → List ℕ → Members → Option BadMachine
+members_refusal checks table ms = option_map (λ name. Unknown (full_name (at table name))) (least_name (unknown_names checks table ms))
 
-unfoldable pub table_fault : Members → List Check → List ℕ → Option BadMachine
-table_fault document checks table = option_map_or (members_fault checks table) (table_at document table) None
+unfoldable pub table_refusal : Members → List Check → List ℕ → Option BadMachine
+table_refusal document checks table = option_map_or (members_refusal checks table) (table_at document table) None
 
 -- the unknown member of the table that a check asks for, if it asks for one
-abbrev pub inside_fault : Members → List Check → Check → Option BadMachine
-inside_fault document checks c = inside c.rule
+abbrev pub inside_refusal : Members → List Check → Check → Option BadMachine
+inside_refusal document checks c = inside c.rule
   where
     inside : Rule → Option BadMachine
-    inside is_table = table_fault document checks c.key.name
+    inside is_table = table_refusal document checks c.key.name
     inside _ = None
 
-abbrev pub tables_fault : Members → List Check → List Check → Option BadMachine
-tables_fault document checks [] = None
-tables_fault document checks (c ∷ cs) = option_or (inside_fault document checks c) (tables_fault document checks cs)
+abbrev pub tables_refusal : Members → List Check → List Check → Option BadMachine
+tables_refusal document checks [] = None
+tables_refusal document checks (c ∷ cs) = option_or (inside_refusal document checks c) (tables_refusal document checks cs)
 
 -- the least unknown key of the top level, and then of the tables in the order of their checks
-abbrev pub names_fault : Members → List Check → Option BadMachine
-names_fault document checks = option_or (table_fault document checks []) (tables_fault document checks checks)
+abbrev pub names_refusal : Members → List Check → Option BadMachine
+names_refusal document checks = option_or (table_refusal document checks []) (tables_refusal document checks checks)
 
 -- the first number that is no multiple of the one that it has to be a multiple of
-abbrev pub ratio_fault : Members → Ratio → Option BadMachine
-ratio_fault document r = unless (integer_at document r.key % integer_at document r.divisor == 0) (BadRatio (full_name r.key))
+abbrev pub ratio_refusal : Members → Ratio → Option BadMachine
+ratio_refusal document r = unless (integer_at document r.key % integer_at document r.divisor == 0) (BadRatio (full_name r.key))
 
-abbrev pub ratios_fault : Members → List Ratio → Option BadMachine
-ratios_fault document [] = None
-ratios_fault document (r ∷ rs) = option_or (ratio_fault document r) (ratios_fault document rs)
+abbrev pub ratios_refusal : Members → List Ratio → Option BadMachine
+ratios_refusal document [] = None
+ratios_refusal document (r ∷ rs) = option_or (ratio_refusal document r) (ratios_refusal document rs)
 
 -- the domains of all components as they are written: of the banks, and then of the controllers
 unfoldable pub written_domains : Members → List ℤ
@@ -137,17 +137,17 @@ is_below count (pos n) = nat_lt n count
 is_below count (negsuc n) = false
 
 -- the least component whose domain is not there
-unfoldable pub domain_fault : Members → Option BadMachine
-domain_fault document =
+unfoldable pub domain_refusal : Members → Option BadMachine
+domain_refusal document =
     let count = integer_at document (at (codes "domains") (codes "count")) in
     option_map Domain (position (λ z. not (is_below count z)) (written_domains document))
 
 -- what the first check finds that finds something
-unfoldable pub document_fault : Members → Option BadMachine
-document_fault document =
+unfoldable pub document_refusal : Members → Option BadMachine
+document_refusal document =
     let checks = checks_of document in
-    option_or (checks_fault document checks)
-    (option_or (names_fault document checks) (option_or (ratios_fault document (ratios_of document)) (domain_fault document)))
+    option_or (checks_refusal document checks)
+    (option_or (names_refusal document checks) (option_or (ratios_refusal document (ratios_of document)) (domain_refusal document)))
 
 unfoldable pub memory_of : Members → Memory
 memory_of document = record {
@@ -205,7 +205,7 @@ numbers_of document = record {
 
 -- the machine of a document, or the first check that fails
 unfoldable pub machine_of_document : Members → Result Machine BadMachine
-machine_of_document document = option_map_or Err (document_fault document) (Ok (numbers_of document))
+machine_of_document document = option_map_or Err (document_refusal document) (Ok (numbers_of document))
 
 -- the machine of a text, or the first check that fails
 unfoldable pub machine_of : List ℕ → Result Machine BadMachine

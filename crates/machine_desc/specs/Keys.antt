@@ -1,4 +1,5 @@
--- The keys of a machine description, with what each has to be, in the order in which they are checked: one list for each table.
+-- The keys of a machine description, with what each has to be, in the order in which they are checked: one list for
+-- each table.
 use Rattle.std.specs.Prelude.{ℕ, ◌^◌, List, [], ◌∷◌, ◌++◌, codes}
 
 -- where a value stands: the name of its table, which is empty at the top level, and its own name

@@ -1,4 +1,4 @@
-// What stands at the keys of a TOML document.
+//! What stands at the keys of a TOML document.
 ghost use Rattle.std.specs.Prelude.{◌≡◌, option_map, IfOk};
 ghost use Rattle.toml.specs.Data.{get_member};
 ghost use Rattle.toml.specs.View.{view, table_view};

@@ -1,7 +1,7 @@
-// The domains of the components: the least component whose domain is not there.
+//! The domains of the components: the least component whose domain is not there.
 ghost use Rattle.std.specs.Prelude.{◌≡◌, ◌≤◌, IfOk, length, not, position};
 ghost use Rattle.toml.specs.View.{table_view};
-ghost use Rattle.machine_desc.specs.Description.{is_below, written_domains, domain_fault};
+ghost use Rattle.machine_desc.specs.Description.{is_below, written_domains, domain_refusal};
 ghost use Rattle.machine_desc.specs.Answers.{Answers, passed_unless};
 
 use crate::document::{integer_at, integers_at, natural};
@@ -10,10 +10,10 @@ use std::alloc::{AllocError, Global};
 use toml::Table;
 
 /// Each component is in a domain that is there, or the least that is not.
-#[tactic(auto, unfolding(crate::specs::Description::domain_fault))]
+#[tactic(auto, unfolding(crate::specs::Description::domain_refusal))]
 pub(crate) fn check_domains(alloc: Global, document: &Table) -> Result<(), MachineFail>
     requires { length (written_domains (table_view document.now)) ≤ 80 }
-    ensures { Answers result (passed_unless (domain_fault (table_view document.now))) }
+    ensures { Answers result (passed_unless (domain_refusal (table_view document.now))) }
 {
     let count = integer_at(document, "domains", "count");
     let domains = written_domains(alloc, document)?;

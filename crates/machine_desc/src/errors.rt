@@ -1,4 +1,4 @@
-// Why a text is no machine description.
+//! Why a text is no machine description.
 use crate::KeyName;
 use std::alloc::{AllocError, AllocFailed};
 use thiserror::Error;

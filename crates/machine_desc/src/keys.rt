@@ -1,4 +1,4 @@
-// The checks of a description as data. A later version of the description adds rows.
+//! The checks of a description as data. A later version of the description adds rows.
 ghost use Rattle.std.specs.Prelude.{◌≡◌, map, IfOk, string_bytes};
 ghost use Rattle.toml.specs.View.{table_view};
 ghost use Rattle.machine_desc.specs.Description.{is_in_range, checks_of, ratios_of};

@@ -14,8 +14,6 @@ mod numbers;
 mod plain;
 mod ratios;
 mod reader;
-#[cfg(test)]
-mod tests;
 mod unknown;
 
 pub use components::{component_count, domain_of};

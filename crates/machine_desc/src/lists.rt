@@ -1,4 +1,4 @@
-// Small lists, which contracts see as lists.
+//! Small lists, which contracts see as lists.
 ghost use Rattle.std.specs.Prelude.{◌≡◌};
 ghost use Rattle.std.specs.Str.{IsUtf8};
 

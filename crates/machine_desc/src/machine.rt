@@ -1,4 +1,4 @@
-// The numbers of a machine.
+//! The numbers of a machine.
 use crate::Places;
 
 /// The memory of a machine, in bytes.

@@ -1,4 +1,4 @@
-// The machine with the numbers of a document that passed the checks.
+//! The machine with the numbers of a document that passed the checks.
 ghost use Rattle.std.specs.Prelude.{◌≡◌, ◌<◌, ◌^◌, All, IfOk, length, map, codes};
 ghost use Rattle.toml.specs.View.{table_view};
 ghost use Rattle.machine_desc.specs.Description.{memory_of, l1_of, l2_of, controllers_of, domains_of, numbers_of};

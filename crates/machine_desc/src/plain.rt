@@ -1,4 +1,4 @@
-// The built-in description.
+//! The built-in description.
 
 /// The description of a small machine of one core, which is built in under the name `plain`.
 pub const PLAIN: &str = "version = 1

@@ -1,7 +1,7 @@
-// The numbers that have to be multiples of others: the first that is none.
+//! The numbers that have to be multiples of others: the first that is none.
 ghost use Rattle.std.specs.Prelude.{map};
 ghost use Rattle.toml.specs.View.{table_view};
-ghost use Rattle.machine_desc.specs.Description.{ratio_fault, ratios_fault};
+ghost use Rattle.machine_desc.specs.Description.{ratio_refusal, ratios_refusal};
 ghost use Rattle.machine_desc.specs.Answers.{Answers, passed_unless};
 ghost use Rattle.machine_desc.specs.Rows.{ratio_of};
 
@@ -18,7 +18,7 @@ pub(crate) fn check_ratios(
     ratios: &[Ratio],
 ) -> Result<(), MachineFail>
     ensures { Answers result
-        (passed_unless (ratios_fault (table_view document.now) (map ratio_of ratios.now))) }
+        (passed_unless (ratios_refusal (table_view document.now) (map ratio_of ratios.now))) }
 {
     for ratio in ratios {
         check_ratio(alloc, document, ratio)?;
@@ -28,7 +28,7 @@ pub(crate) fn check_ratios(
 
 fn check_ratio(alloc: Global, document: &Table, ratio: &Ratio) -> Result<(), MachineFail>
     ensures { Answers result
-        (passed_unless (ratio_fault (table_view document.now) (ratio_of ratio.now))) }
+        (passed_unless (ratio_refusal (table_view document.now) (ratio_of ratio.now))) }
 {
     let number = integer_at(document, ratio.key.table, ratio.key.name);
     let divisor = integer_at(document, ratio.divisor.table, ratio.divisor.name);

@@ -1,7 +1,7 @@
-// The reader of machine descriptions.
+//! The reader of machine descriptions.
 ghost use Rattle.std.specs.Prelude.{IfOk};
 ghost use Rattle.toml.specs.View.{table_view};
-ghost use Rattle.machine_desc.specs.Description.{document_fault, machine_of, machine_of_document};
+ghost use Rattle.machine_desc.specs.Description.{document_refusal, machine_of, machine_of_document};
 ghost use Rattle.machine_desc.specs.Machine.{IsMachine};
 ghost use Rattle.machine_desc.specs.Answers.{Answers, passed_unless};
 
@@ -38,9 +38,9 @@ fn read_document(alloc: Global, document: &Table) -> Result<Machine, MachineFail
 }
 
 /// No check of a document fails, or the first that does.
-#[tactic(auto, unfolding(crate::specs::Description::document_fault))]
+#[tactic(auto, unfolding(crate::specs::Description::document_refusal))]
 fn check_document(alloc: Global, document: &Table) -> Result<(), MachineFail>
-    ensures { Answers result (passed_unless (document_fault (table_view document.now))) }
+    ensures { Answers result (passed_unless (document_refusal (table_view document.now))) }
 {
     let checks = checks(document);
     check_keys(alloc, document, checks)?;

@@ -1,7 +1,7 @@
-// The keys that no check names: the first of the top level, and then of the tables.
+//! The keys that no check names: the first of the top level, and then of the tables.
 ghost use Rattle.std.specs.Prelude.{◌≡◌, map};
 ghost use Rattle.toml.specs.View.{table_view};
-ghost use Rattle.machine_desc.specs.Description.{is_named, is_known, members_fault, table_fault, tables_fault, inside_fault, names_fault};
+ghost use Rattle.machine_desc.specs.Description.{is_named, is_known, members_refusal, table_refusal, tables_refusal, inside_refusal, names_refusal};
 ghost use Rattle.machine_desc.specs.Answers.{Answers, passed_unless};
 ghost use Rattle.machine_desc.specs.Rows.{check_of};
 
@@ -18,7 +18,7 @@ pub(crate) fn check_names(
     checks: &[Check],
 ) -> Result<(), MachineFail>
     ensures { Answers result
-        (passed_unless (names_fault (table_view document.now) (map check_of checks.now))) }
+        (passed_unless (names_refusal (table_view document.now) (map check_of checks.now))) }
 {
     check_table(alloc, document, checks, "")?;
     check_tables(alloc, document, checks)
@@ -26,7 +26,7 @@ pub(crate) fn check_names(
 
 fn check_tables(alloc: Global, document: &Table, checks: &[Check]) -> Result<(), MachineFail>
     ensures { let rows = map check_of checks.now in
-        Answers result (passed_unless (tables_fault (table_view document.now) rows rows)) }
+        Answers result (passed_unless (tables_refusal (table_view document.now) rows rows)) }
 {
     for check in checks {
         check_inside(alloc, document, checks, check)?;
@@ -42,7 +42,7 @@ fn check_inside(
     check: &Check,
 ) -> Result<(), MachineFail>
     ensures { Answers result (passed_unless
-        (inside_fault (table_view document.now) (map check_of checks.now) (check_of check.now))) }
+        (inside_refusal (table_view document.now) (map check_of checks.now) (check_of check.now))) }
 {
     match check.rule {
         Rule::Table => check_table(alloc, document, checks, check.key.name),
@@ -51,7 +51,7 @@ fn check_inside(
 }
 
 /// The table of a name, where it is there.
-#[tactic(auto, unfolding(crate::specs::Description::table_fault))]
+#[tactic(auto, unfolding(crate::specs::Description::table_refusal))]
 fn check_table(
     alloc: Global,
     document: &Table,
@@ -59,7 +59,7 @@ fn check_table(
     table: &str,
 ) -> Result<(), MachineFail>
     ensures { Answers result (passed_unless
-        (table_fault (table_view document.now) (map check_of checks.now) table.now)) }
+        (table_refusal (table_view document.now) (map check_of checks.now) table.now)) }
 {
     match table_at(document, table) {
         Some(members) => check_members(alloc, checks, table, members),
@@ -74,7 +74,7 @@ fn check_members(
     members: &Table,
 ) -> Result<(), MachineFail>
     ensures { Answers result (passed_unless
-        (members_fault (map check_of checks.now) table.now (table_view members.now))) }
+        (members_refusal (map check_of checks.now) table.now (table_view members.now))) }
 {
     for (name, _) in members.iter() {
         if !is_known(checks, table, name.as_str()) {

@@ -1,12 +1,10 @@
 -- What the public calls do to the sharing of a line.
-use Rattle.std.proofs.Common.{◌≡◌, ◌≢◌, ℕ, ◌<◌, ◌≤◌, Bool, true, false, not, ◌&&◌, ◌||◌, cond, eqb, List, [], ◌∷◌, Option, Some, None, refl, sym, ap, ◌∙◌, subst, arith, rules, inl, inr}
-use Rattle.std.specs.Prelude.{nat_eq, IsTrue, ◌⊎◌, ◌↔◌, if◌then◌else◌}
+use Rattle.std.proofs.Common.{◌≡◌, ◌≢◌, ℕ, ◌<◌, Bool, true, false, not, ◌&&◌, ◌||◌, List, [], ◌∷◌, Option, Some, None, refl, sym, ap, ◌∙◌, subst, inl, inr}
+use Rattle.std.specs.Prelude.{nat_eq, IsTrue, if◌then◌else◌}
 use Rattle.std.specs.Bool.{then_some}
-use Rattle.std.specs.Set.{is_member}
-use Rattle.std.proofs.lemmas.Bool.{eqb-true, eq-eqb, ne_eqb, cases_eq, cases_Bool, and_parts, or_cases, not-true}
-use Rattle.mesi_dir.specs.declared.row.Row.{Row}
+use Rattle.std.proofs.lemmas.Bool.{eqb-true, eq-eqb, ne_eqb, cases_eq, and_parts, or_cases, not-true}
 use Rattle.mesi_dir.specs.CoreSets.{has_core, cores_in, HasNone}
-use Rattle.mesi_dir.specs.LineMap.{Sharing, LineMap, nobody, is_among, sharing_of, is_sharer, owner_of, owner_without, HasOther, HasRoomForLine, IsSharing, IsLineMap, KeepsOthers}
+use Rattle.mesi_dir.specs.LineMap.{Sharing, LineMap, nobody, is_among, sharing_of, is_sharer, owner_of, owner_without, HasOther, IsSharing, IsLineMap}
 use Rattle.mesi_dir.proofs.CoreSets.{is_member-cores_in, some_core, cores_in-none, zeros_have_none}
 
 abbrev pub sharing_by : (words : List ℕ) → Option ℕ → Sharing

@@ -1,10 +1,10 @@
 -- What a map of lines is when one line's sharing has changed.
-use Rattle.std.proofs.Common.{◌≡◌, ◌≢◌, ℕ, zero, suc, ◌+◌, ◌-◌, ◌<◌, ◌≤◌, Bool, true, false, cond, eqb, List, [], ◌∷◌, length, Option, Some, None, refl, sym, ap, ◌∙◌, subst, arith, rules, inl, inr}
+use Rattle.std.proofs.Common.{◌≡◌, ◌≢◌, ℕ, ◌≤◌, cond, length, Option, refl, sym, arith, inl, inr}
 use Rattle.std.specs.List.{IsDistinct}
 use Rattle.std.specs.Map.{keys_of, lookup}
-use Rattle.std.specs.Prelude.{nat_eq, unwrap_or, IsSome, IsTrue, ◌⊎◌}
-use Rattle.std.proofs.lemmas.Bool.{eqb-true, eq-eqb, ne_eqb, cases_eq}
-use Rattle.mesi_dir.specs.LineMap.{Sharing, LineMap, nobody, is_among, sharing_of, is_sharer, owner_of, HasRoomForLine, IsSharing, IsLineMap, KeepsOthers}
+use Rattle.std.specs.Prelude.{nat_eq, unwrap_or, IsSome, IsTrue}
+use Rattle.std.proofs.lemmas.Bool.{eq-eqb, ne_eqb, cases_eq}
+use Rattle.mesi_dir.specs.LineMap.{Sharing, LineMap, nobody, is_among, sharing_of, is_sharer, IsSharing, IsLineMap, KeepsOthers}
 
 -- a line has this sharing now, where there is one, and each other line the one that it had
 pub record IsUpdated (old new : LineMap) (line : ℕ) (w : Option Sharing) : Type 0 where

@@ -1,8 +1,8 @@
 -- What the rows of a directory say, and that they stay those of a map when one line's row changes.
-use Rattle.std.proofs.Common.{◌≡◌, ◌≢◌, ℕ, zero, suc, ◌+◌, ◌-◌, ◌<◌, ◌≤◌, Bool, true, false, cond, eqb, List, [], ◌∷◌, ◌++◌, length, get_or, set, map, Option, Some, None, refl, sym, ap, ◌∙◌, subst, arith, rules, inl, inr}
-use Rattle.std.specs.List.{position, zip, remove, insert, list_any, IsDistinct}
-use Rattle.std.specs.Map.{keys_of, lookup, remove_entry, set_value}
-use Rattle.std.specs.Prelude.{nat_eq, unwrap_or, IsSome, IsTrue, ◌⊎◌}
+use Rattle.std.proofs.Common.{◌≡◌, ℕ, ◌+◌, ◌<◌, ◌≤◌, true, false, List, [], ◌∷◌, ◌++◌, length, get_or, set, map, Option, Some, None, refl, sym, ap, ◌∙◌, arith, inl, inr}
+use Rattle.std.specs.List.{position, zip, remove, insert, IsDistinct}
+use Rattle.std.specs.Map.{keys_of, lookup}
+use Rattle.std.specs.Prelude.{nat_eq, IsTrue}
 use Rattle.std.specs.Set.{is_member}
 use Rattle.std.proofs.lemmas.Bool.{eqb-true, eq-eqb}
 use Rattle.std.proofs.lemmas.Cmp.{nat_eq_equiv}
@@ -13,16 +13,16 @@ use Rattle.std.proofs.lemmas.Map.{none_passes_from_lookup, lookup-insert, lookup
 use Rattle.std.proofs.lemmas.Map.Keys.{IsDistinct-push}
 use Rattle.std.proofs.lemmas.Map.Made.{keys_of-zip}
 use Rattle.std.proofs.lemmas.Slice.Zip.{length-zip}
-use Rattle.mesi_dir.specs.declared.row.Row.{Row}
-use Rattle.mesi_dir.specs.CoreSets.{has_core, cores_in, HasNone}
-use Rattle.mesi_dir.specs.LineMap.{Sharing, LineMap, nobody, is_among, sharing_of, is_sharer, owner_of, HasRoomForLine, IsSharing, IsLineMap, KeepsOthers}
+use Rattle.mesi_dir.specs.declared.row.DirectoryRow.{DirectoryRow}
+use Rattle.mesi_dir.specs.CoreSets.{cores_in, HasNone}
+use Rattle.mesi_dir.specs.LineMap.{Sharing, nobody, is_among, sharing_of, is_sharer, HasRoomForLine, IsSharing}
 use Rattle.mesi_dir.specs.Rows.{sharing_in, directory_view, AreDirectoryRows}
 use Rattle.mesi_dir.proofs.CoreSets.{is_member-cores_in, cores_in-none, some_core}
-use Rattle.mesi_dir.proofs.Maps.{IsUpdated, updated_here, updated_keeps, updated_map}
+use Rattle.mesi_dir.proofs.Maps.{IsUpdated, updated_map}
 use Rattle.mesi_dir.proofs.Places.{first-position, lookup_at, remove_at, set_at, absent, zip-push, distinct-remove, map-remove}
 
 -- ---- rows alone
-owner_none : (cores : ℕ) (row : Row) (owner : Option ℕ) → row.owner ≡ owner → IsSharing cores (sharing_in row) → cores_in row.sharers.words ≡ [] → owner ≡ None
+owner_none : (cores : ℕ) (row : DirectoryRow) (owner : Option ℕ) → row.owner ≡ owner → IsSharing cores (sharing_in row) → cores_in row.sharers.words ≡ [] → owner ≡ None
 owner_none cores row None e s h = refl
 owner_none cores row (Some o) e s h =
     let one : is_member nat_eq (cores_in row.sharers.words) o ≡ nat_eq o o = s.alone o o e in
@@ -31,13 +31,13 @@ owner_none cores row (Some o) e s h =
     absurd cc
 
 -- a row in which no core has the line says that nobody has it
-pub empty_row : (cores : ℕ) (row : Row) → IsSharing cores (sharing_in row) → HasNone row.sharers.words → sharing_in row ≡ nobody
+pub empty_row : (cores : ℕ) (row : DirectoryRow) → IsSharing cores (sharing_in row) → HasNone row.sharers.words → sharing_in row ≡ nobody
 empty_row cores row s h =
     let e : cores_in row.sharers.words ≡ [] = cores_in-none row.sharers.words h in
     rw (e, owner_none cores row row.owner refl s e) refl
 
 -- in another row some core has it
-pub shared_row : (row : Row) → (HasNone row.sharers.words → ⊥) → (core : ℕ) × IsTrue (is_among (sharing_in row) core)
+pub shared_row : (row : DirectoryRow) → (HasNone row.sharers.words → ⊥) → (core : ℕ) × IsTrue (is_among (sharing_in row) core)
 shared_row row h =
     let c = some_core row.sharers.words h in (c.0, is_member-cores_in row.sharers.words c.0 ∙ c.1)
 
@@ -51,7 +51,7 @@ same_key : (line x y : ℕ) → nat_eq line x ≡ true → nat_eq line y ≡ nat
 same_key line x y h = rw (eqb-true line x h) refl
 
 -- ---- the rows of a directory
-module _ {room cores : ℕ} {tags : List ℕ} {rows : List Row} {tag_room row_room : ℕ} (r : AreDirectoryRows room cores tags rows tag_room row_room) (line : ℕ) where
+module _ {room cores : ℕ} {tags : List ℕ} {rows : List DirectoryRow} {tag_room row_room : ℕ} (r : AreDirectoryRows room cores tags rows tag_room row_room) (line : ℕ) where
   paired : length (map sharing_in rows) ≡ length tags
   paired = length-map rows sharing_in ∙ r.together
 
@@ -71,15 +71,15 @@ module _ {room cores : ℕ} {tags : List ℕ} {rows : List Row} {tag_room row_ro
     is_place : i < length tags
     is_place = (position-Some (nat_eq line) tags i 0 h).0
 
-    looked : (row : Row) → row ≡ get_or rows i row → lookup (nat_eq line) (zip tags (map sharing_in rows)) ≡ Some (sharing_in row)
+    looked : (row : DirectoryRow) → row ≡ get_or rows i row → lookup (nat_eq line) (zip tags (map sharing_in rows)) ≡ Some (sharing_in row)
     looked row at =
         let within : i < length rows = omega (arith, r.together, is_place) in
         let one : get_or (map sharing_in rows) i nobody ≡ sharing_in (get_or rows i row) = get_or-map sharing_in rows i row nobody within in
-        let other : sharing_in row ≡ sharing_in (get_or rows i row) = ap (λ (x : Row). sharing_in x) at in
+        let other : sharing_in row ≡ sharing_in (get_or rows i row) = ap (λ (x : DirectoryRow). sharing_in x) at in
         lookup_at (nat_eq line) tags (map sharing_in rows) i nobody paired (first-position (nat_eq line) tags i h)
         ∙ ap (λ (s : Sharing). Some s) (one ∙ sym other)
 
-    pub row_some : (row : Row) → row ≡ get_or rows i row → sharing_in row ≡ sharing_of (directory_view room cores tags rows) line
+    pub row_some : (row : DirectoryRow) → row ≡ get_or rows i row → sharing_in row ≡ sharing_of (directory_view room cores tags rows) line
     row_some row at = rw (looked row at) refl
 
     pub row_removed : IsUpdated (directory_view room cores tags rows) (directory_view room cores (remove tags i) (remove rows i)) line None
@@ -106,7 +106,7 @@ module _ {room cores : ℕ} {tags : List ℕ} {rows : List Row} {tag_room row_ro
           row_rooms = omega (arith, r.row_rooms);
         }
 
-    module _ (row : Row) where
+    module _ (row : DirectoryRow) where
       pub row_replaced : IsUpdated (directory_view room cores tags rows) (directory_view room cores tags (set rows i row)) line (Some (sharing_in row))
       row_replaced = record {
         looks = λ q. rw (map-set sharing_in rows i row, set_at (nat_eq line) tags (map sharing_in rows) i (sharing_in row) paired (first-position (nat_eq line) tags i h))
@@ -131,7 +131,7 @@ module _ {room cores : ℕ} {tags : List ℕ} {rows : List Row} {tag_room row_ro
             row_rooms = omega (arith, r.row_rooms);
           }
 
-  module _ (h : position (nat_eq line) tags ≡ None) (row : Row) where
+  module _ (h : position (nat_eq line) tags ≡ None) (row : DirectoryRow) where
     added : zip (tags ++ line ∷ []) (map sharing_in (rows ++ row ∷ [])) ≡ insert (zip tags (map sharing_in rows)) (length (zip tags (map sharing_in rows))) (line, sharing_in row)
     added =
         let e : map sharing_in (rows ++ row ∷ []) ≡ map sharing_in rows ++ sharing_in row ∷ [] = map-append sharing_in rows (row ∷ []) in

@@ -1,10 +1,10 @@
-// A directory: its tags in one list, and beside each the row of its line.
+//! A directory: its tags in one list, and beside each the row of its line.
 ghost use Rattle.std.specs.Prelude.{◌≡◌, ◌≢◌, ℕ, ◌<◌, ◌≤◌, ◌↔◌, ◌&&◌, ◌||◌, not, false, true, if◌then◌else◌, [], length, nat_eq, IsTrue, IfOk, IfSome, IfNone, Some, None};
 ghost use Rattle.std.specs.List.{position};
 ghost use Rattle.mesi_dir.specs.LineMap.{nobody, sharing_of, is_among, is_sharer, owner_of, owner_without, HasOther, HasRoomForLine, IsSharing, IsLineMap, KeepsOthers};
 ghost use Rattle.mesi_dir.specs.Rows.{sharing_in};
 
-use crate::row::Row;
+use crate::row::DirectoryRow;
 use std::alloc::Global;
 use std::marker::Model;
 use zs_num::NoMemory;
@@ -16,7 +16,7 @@ pub struct Directory {
     room: usize,
     cores: u16,
     tags: Vec<u64>,
-    rows: Vec<Row>,
+    rows: Vec<DirectoryRow>,
 }
 
 impl Model for Directory {
@@ -117,22 +117,22 @@ impl Directory {
         ensures line { sharing_of self.new line ≡ nobody }
         ensures others { KeepsOthers self.old self.new line }
     {
-        self.set_row(line, Row::NOBODY);
+        self.set_row(line, DirectoryRow::NOBODY);
     }
 
-    // The row of a line, also of one that no core has.
-    fn row(&self, line: u64) -> Row
+    /// The row of a line, also of one that no core has.
+    fn row(&self, line: u64) -> DirectoryRow
         ensures row { sharing_in result ≡ sharing_of self.now line }
         ensures is_map { IsLineMap self.now }
     {
         match self.found(line) {
             Some(row) => *row,
-            None => Row::NOBODY,
+            None => DirectoryRow::NOBODY,
         }
     }
 
-    // The row of a line that some core has, in place.
-    fn found(&self, line: u64) -> Option<&Row>
+    /// The row of a line that some core has, in place.
+    fn found(&self, line: u64) -> Option<&DirectoryRow>
         ensures some { IfSome result (λ row. sharing_in row.now ≡ sharing_of self.now line) }
         ensures none { IfNone result (sharing_of self.now line ≡ nobody) }
         ensures is_map { IsLineMap self.now }
@@ -143,8 +143,8 @@ impl Directory {
         }
     }
 
-    // Gives a line another row.
-    fn set_row(&mut self, line: u64, row: Row)
+    /// Gives a line another row.
+    fn set_row(&mut self, line: u64, row: DirectoryRow)
         requires sharing { IsSharing self.old.cores (sharing_in row) }
         requires room { (core : ℕ) → IsTrue (is_among (sharing_in row) core) → HasRoomForLine self.old line }
         ensures line { sharing_of self.new line ≡ sharing_in row }
@@ -165,7 +165,7 @@ impl Directory {
     }
 }
 
-// The owner of a line that this core has no more.
+/// The owner of a line that this core has no more.
 fn owner_without(owner: Option<u16>, core: u16) -> Option<u16>
     ensures { result ≡ owner_without core owner }
 {
@@ -175,7 +175,7 @@ fn owner_without(owner: Option<u16>, core: u16) -> Option<u16>
     }
 }
 
-// The place of a line among the tags.
+/// The place of a line among the tags.
 fn place_of(tags: &[u64], line: u64) -> Option<usize>
     ensures value { result ≡ position (nat_eq line) tags.now }
     ensures bound { IfSome result (λ place. place < length tags.now) }

@@ -4,7 +4,5 @@
 mod core_set;
 mod directory;
 mod row;
-#[cfg(test)]
-mod tests;
 
 pub use directory::Directory;

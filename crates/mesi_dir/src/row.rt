@@ -1,16 +1,16 @@
-// What a directory keeps of one line.
+//! What a directory keeps of one line.
 use crate::core_set::CoreSet;
 
 /// The cores that have a line, and the one that may write it.
 #[derive(Clone, Copy, Debug)]
-pub struct Row {
+pub struct DirectoryRow {
     pub sharers: CoreSet,
     pub owner: Option<u16>,
 }
 
-impl Row {
+impl DirectoryRow {
     /// No core has the line.
-    pub const NOBODY: Row = Row {
+    pub const NOBODY: DirectoryRow = DirectoryRow {
         sharers: CoreSet::EMPTY,
         owner: None,
     };

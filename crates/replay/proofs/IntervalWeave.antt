@@ -49,8 +49,8 @@ module _ (machine : Machine) (ok : IsMachine machine) (plain : Plain) (is : IsPl
       let all : length graph ≡ length (all_events (pieces_of plain.l1 plain.l2 plain.controllers) entries) = ap length made in
       omega (arith, few, all, counted)
 
-  -- the events of an interval begin before cycle 2^36 + 2^20, and its components are free by cycle 2^56, so that no sum of
-  -- the weave reaches 2^62
+  -- the events of an interval begin before cycle 2^36 + 2^20, and its components are free by cycle 2^56, so that no sum
+  -- of the weave reaches 2^62
   pub steps_are_small : MachineStepsStaySmall → All (λ c. free_of c ≤ 2 ^ 56) comps → IsNumbered graph → GraphFits comp_serves comp_latency graph comps
       → AreNear (2 ^ 36 + 2 ^ 20) (2 ^ 36 + 2 ^ 20) (all_events (pieces_of plain.l1 plain.l2 plain.controllers) entries) → length graph ≤ 4 * length entries → length entries ≤ 2 ^ 20
       → AreSmallSteps comp_step comp_greatest graph comps

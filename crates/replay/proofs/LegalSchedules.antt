@@ -15,7 +15,7 @@ use Rattle.component.specs.declared.comp.Comp.{Comp}
 use Rattle.stats.specs.Counts.{Interval, total_accesses}
 use Rattle.bound_core.specs.MachineWorld.{MachineWorld, serve}
 use Rattle.bound_core.specs.ReferenceMachine.{BoundState, access_served, and_then, are_done, at_end, bound_from, legal_at, turn, turn_at}
-use Rattle.bound_core.specs.Timed.{TimedCore, asks, first_core, ran_to}
+use Rattle.bound_core.specs.TimedCore.{TimedCore, asks, first_core, ran_to}
 use Rattle.access_log.specs.RecordedOrder.{recorded_order}
 use Rattle.bound_phase.proofs.RecordedOrder.{length_recorded}
 use Rattle.replay.specs.Laws.{FitsRun}

@@ -33,8 +33,8 @@ use Rattle.bound_core.specs.ReferenceMachine.{BoundState, bound_phase}
 use Rattle.bound_core.specs.ShardPort.{AreShardsOf, base_of, size_of}
 use Rattle.bound_core.specs.ShardWorld as served
 use Rattle.bound_core.specs.ShardWorld.{ShardWorld, begun_world, no_shard, restarted}
-use Rattle.bound_core.specs.Simulation.{AreRelated, EndAlike}
-use Rattle.bound_core.specs.Timed.{NumberedCore, TimedCore, first_core}
+use Rattle.bound_core.specs.Correspondence.{AreRelated, EndAlike}
+use Rattle.bound_core.specs.TimedCore.{NumberedCore, TimedCore, first_core}
 use Rattle.bound_core.specs.Turn.{IsOver}
 use Rattle.access_log.specs.History.{bank_of_entry, each_after, of_number}
 use Rattle.access_log.specs.RecordedOrder.{no_stamps, recorded_order}

@@ -7,7 +7,7 @@ use Rattle.component.specs.declared.comp.Comp.{Comp}
 use Rattle.component.specs.Components.{AreFresh}
 use Rattle.stats.specs.Counts.{Counts, Interval, counts_of, total_accesses}
 use Rattle.replay.specs.declared.simulation.Simulation.{Simulation}
-use Rattle.bound_core.specs.Timed.{TimedCore}
+use Rattle.bound_core.specs.TimedCore.{TimedCore}
 use Rattle.replay.specs.Simulation.{GoesOn, LeadsTo, StandsFor, cores_of}
 use Rattle.replay.specs.ReferenceRun.{RunState, after_interval, after_intervals, first_state, has_ended, has_ended_at, IsKeptInOrder, continued, recorded_turns, reference_run, results_at, results_of, Illegal, next_place}
 use Rattle.replay.proofs.NextInterval.{goes_on}

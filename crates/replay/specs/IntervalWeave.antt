@@ -17,7 +17,7 @@ use Rattle.event_graph.specs.OneListWeave.{AreSmallSteps, comps_after, fired_of,
 use Rattle.event_graph.specs.Timing.{pieces_of}
 use Rattle.event_graph.specs.Timely.{AreTimely}
 use Rattle.stats.specs.Counts.{Interval}
-use Rattle.replay.specs.declared.weaving.Woven.{Woven}
+use Rattle.replay.specs.declared.weaving.WovenInterval.{WovenInterval}
 use Rattle.replay.specs.ReferenceRun.{woven_interval}
 
 -- the expansion of this machine
@@ -43,11 +43,11 @@ pub record HaveFired (machine : Machine) (comps : List Comp) (entries : List Ent
   pub after_are : after ≡ comps_after comp_step graph comps
 
 -- the interval as it is counted
-abbrev pub interval_of : List Entry → Woven → Interval
+abbrev pub interval_of : List Entry → WovenInterval → Interval
 interval_of entries w = record { entries = entries; events = w.graph; fired = w.fired; delays = w.delays }
 
 -- the weave of these accesses on these components, with what holds of every weave
-pub record IsWeaveOf (machine : Machine) (comps : List Comp) (entries : List Entry) (w : Woven) : Type 0 where
+pub record IsWeaveOf (machine : Machine) (comps : List Comp) (entries : List Entry) (w : WovenInterval) : Type 0 where
   pub is : interval_of entries w ≡ woven_interval machine comps entries
   pub timely : AreTimely w.graph w.fired
   pub delays : length w.delays ≡ machine.cores

@@ -11,5 +11,5 @@ cycle_limit = 2 ^ 56
 
 -- The most accesses of a core in an interval, beyond one a cycle: an instruction that accesses memory many times may
 -- begin in the last cycle.
-abbrev pub room_beyond : ℕ
-room_beyond = 258
+abbrev pub beside_cycles : ℕ
+beside_cycles = 258

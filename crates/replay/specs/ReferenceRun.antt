@@ -1,5 +1,5 @@
--- The run of the machine of one thread under a schedule, which has a list of turns for each interval. An interval is its
--- bound phase, the weave of the events that were recorded in it, and the feedback of what the cores waited.
+-- The run of the machine of one thread under a schedule, which has a list of turns for each interval. An interval is
+-- its bound phase, the weave of the events that were recorded in it, and the feedback of what the cores waited.
 use Rattle.std.specs.Prelude.{◌≡◌, ℕ, ◌+◌, ◌*◌, ◌==◌, nat_lt, Bool, ◌||◌, not, if◌then◌else◌, List, [], ◌∷◌, ◌++◌, length, map, slice_index, is_some, Result, Ok, Err}
 use Rattle.std.specs.List.{enumerate_from, list_all, list_any, range_with_len}
 use Rattle.zs_num.specs.declared.entry.Entry.{Entry}
@@ -13,9 +13,9 @@ use Rattle.event_graph.specs.OneListWeave.{comps_after, fired_of, woven}
 use Rattle.event_graph.specs.Timing.{pieces_of, time_by}
 use Rattle.feedback.specs.FeedbackDelay.{feedback_delays}
 use Rattle.stats.specs.Counts.{Interval, counts_of, total_accesses}
-use Rattle.replay.specs.Limits.{access_limit, cycle_limit, room_beyond}
+use Rattle.replay.specs.Limits.{access_limit, cycle_limit, beside_cycles}
 use Rattle.bound_core.specs.ReferenceMachine.{BoundState, bound_phase}
-use Rattle.bound_core.specs.Timed.{TimedCore, delayed, first_core}
+use Rattle.bound_core.specs.TimedCore.{TimedCore, delayed, first_core}
 use Rattle.bound_core.specs.MachineWorld.{MachineWorld, first_world, serve}
 use Rattle.flat_memory.specs.FlatMemory.{MemoryState}
 use Rattle.shard.specs.Coherence.{Caches}
@@ -38,8 +38,8 @@ pub record RunState : Type 0 where
 abbrev pub time_of : Machine → Entry → ℕ
 time_of machine e = time_by machine.l1 machine.l2 machine.controllers e.outcome
 
--- An interval as it is recorded, from the components before it and its accesses: the events of these, the one-list weave
--- of the events, and the delay of each core.
+-- An interval as it is recorded, from the components before it and its accesses: the events of these, the one-list
+-- weave of the events, and the delay of each core.
 unfoldable pub woven_interval : Machine → List Comp → List Entry → Interval
 woven_interval machine comps entries =
     let events = all_events (pieces_of machine.l1 machine.l2 machine.controllers) entries in
@@ -50,8 +50,8 @@ woven_interval machine comps entries =
 abbrev pub all_delayed : List ℕ → List TimedCore → List TimedCore
 all_delayed delays cores = map (λ at. delayed (slice_index delays at.0) at.1) (enumerate_from 0 cores)
 
--- After the weave and the feedback of an interval with this bound phase. The weave takes the accesses in recorded order,
--- whatever the order of the turns.
+-- After the weave and the feedback of an interval with this bound phase. The weave takes the accesses in recorded
+-- order, whatever the order of the turns.
 unfoldable pub after_weave : Machine → RunState → BoundState MachineWorld → RunState
 after_weave machine s b = let interval = woven_interval machine s.comps (recorded_order b.entries) in record {
   cores = all_delayed interval.delays b.cores;
@@ -91,7 +91,7 @@ after_interval machine image s turns =
 -- The room for the accesses of an interval: for each core one a cycle, and those of an instruction that accesses memory
 -- many times and begins in the last cycle.
 abbrev pub access_room : Machine → ℕ
-access_room machine = machine.cores * (machine.interval + room_beyond)
+access_room machine = machine.cores * (machine.interval + beside_cycles)
 
 -- Whether one of the limits is reached: of intervals; of accesses, with the room for one more interval's; of cycles, by
 -- a clock or by a component.
@@ -178,8 +178,8 @@ pub record IsIllegalAt (machine : Machine) (image : MemoryImage) (lists : List (
 abbrev pub recorded_turns : Interval → List ℕ
 recorded_turns interval = map (λ e. e.core) interval.entries
 
--- The schedule has a legal list for each of the first intervals of a run, as many as it has lists, and each list names the
--- cores of its interval's accesses in recorded order. The run may go on.
+-- The schedule has a legal list for each of the first intervals of a run, as many as it has lists, and each list names
+-- the cores of its interval's accesses in recorded order. The run may go on.
 pub record IsKeptInOrder (machine : Machine) (image : MemoryImage) (lists : List (List ℕ)) : Type 0 where
   pub comps : List Comp
   pub fresh : AreFresh machine comps

@@ -2,7 +2,7 @@
 use Rattle.std.specs.Prelude.{◌≡◌, ◌≤◌, ℕ, Bool, List, length}
 use Rattle.machine_desc.specs.declared.machine.Machine.{Machine}
 use Rattle.machine_desc.specs.Components.{component_count}
-use Rattle.bound_core.specs.Timed.{TimedCore}
+use Rattle.bound_core.specs.TimedCore.{TimedCore}
 use Rattle.stats.specs.Counts.{Counts}
 use Rattle.replay.specs.Limits.{access_limit}
 
@@ -16,8 +16,8 @@ pub record Results : Type 0 where
   -- whether it ended by a limit, with a core that has not halted
   pub limit : Bool
 
--- the results have the cores of the machine, a count for each of them and for each component, and no more accesses than a
--- run may have
+-- the results have the cores of the machine, a count for each of them and for each component, and no more accesses than
+-- a run may have
 pub record HasCounts (machine : Machine) (r : Results) : Type 0 where
   pub cores : length r.cores ≡ machine.cores
   pub core_counts : length r.counts.core_counts ≡ machine.cores

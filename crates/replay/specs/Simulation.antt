@@ -16,14 +16,14 @@ use Rattle.bound_core.specs.Reaching.{Reaches}
 use Rattle.bound_core.specs.ReferenceMachine.{BoundState, bound_phase}
 use Rattle.bound_core.specs.ShardPort.{AreShardsOf, base_of, room_of, size_of}
 use Rattle.bound_core.specs.ShardWorld.{ShardWorld, begun_world, restarted, shards_serve}
-use Rattle.bound_core.specs.Timed.{NumberedCore, TimedCore, timed_of}
+use Rattle.bound_core.specs.TimedCore.{NumberedCore, TimedCore, timed_of}
 use Rattle.bound_core.specs.Turn.{IsOver}
 use Rattle.access_log.specs.RecordedOrder.{recorded_order}
 use Rattle.stats.specs.Counts.{counts_of, total_accesses, total_events}
 use Rattle.stats.specs.Laws.{WasRun}
 use Rattle.replay.specs.declared.simulation.Simulation.{Simulation}
 use Rattle.replay.specs.IntervalWeave.{HaveFired}
-use Rattle.replay.specs.Limits.{room_beyond}
+use Rattle.replay.specs.Limits.{beside_cycles}
 use Rattle.replay.specs.Port.{LoggedPortState}
 use Rattle.replay.specs.ReferenceRun.{RunState, access_room, after_interval, end_of, has_ended, recorded_turns, time_of, world_of}
 
@@ -88,9 +88,10 @@ phase_of cores port = record { cores = timed_of cores; world = port.world; entri
 
 -- how many accesses a core has in an interval at most
 abbrev pub core_room : Machine → ℕ
-core_room machine = machine.interval + room_beyond
+core_room machine = machine.interval + beside_cycles
 
--- The turns of a core through a port, up to the end of the interval: wherever a bound phase has come to, they lead it on.
+-- The turns of a core through a port, up to the end of the interval: wherever a bound phase has come to, they lead it
+-- on.
 pub record HasRunThroughPort (machine : Machine) (image : MemoryImage) (end : ℕ) (core core_after : NumberedCore) (port port_after : LoggedPortState) : Type 0 where
   -- those of the turns
   pub entries : List Entry
@@ -136,8 +137,8 @@ pub record HasRoomForInterval (machine : Machine) (end : ℕ) (p : Simulation) :
   pub cores : length p.counters.core_counts ≡ machine.cores
   pub comps : length p.counters.comp_counts ≡ component_count machine
 
--- The bound phase of an interval under these turns, from one point of the code to another. The last stamps of the shards
--- are not kept.
+-- The bound phase of an interval under these turns, from one point of the code to another. The last stamps of the
+-- shards are not kept.
 pub record IsBoundPhase (machine : Machine) (image : MemoryImage) (end : ℕ) (before : Simulation) (turns : List ℕ) (after : Simulation) (entries : List Entry) : Type 0 where
   -- what it comes to
   pub left : BoundState ShardWorld
@@ -154,8 +155,8 @@ pub record IsBoundPhase (machine : Machine) (image : MemoryImage) (end : ℕ) (b
   pub over : All (IsOver end) (cores_of after)
   pub stamps : length after.port.world.stamps ≡ machine.cores
 
--- The run has the bound phase of its next interval behind it, under these turns and with these entries, and the events of
--- these have fired.
+-- The run has the bound phase of its next interval behind it, under these turns and with these entries, and the events
+-- of these have fired.
 pub record HasFired (machine : Machine) (image : MemoryImage) (s : RunState) (turns : List ℕ) (p : Simulation) (entries : List Entry) (graph : List Event) (fired : List Fired) : Type 0 where
   pub end : ℕ
   pub before : Simulation

@@ -9,7 +9,7 @@ use Rattle.bound_core.specs.Reaching.{Reaches}
 use Rattle.bound_core.specs.ReferenceMachine.{BoundState, bound_phase}
 use Rattle.bound_core.specs.ShardPort.{base_of, room_of, size_of}
 use Rattle.bound_core.specs.ShardWorld.{ShardWorld, shards_serve}
-use Rattle.bound_core.specs.Timed.{NumberedCore, latest_clock, most_accesses, timed_of}
+use Rattle.bound_core.specs.TimedCore.{NumberedCore, latest_clock, most_accesses, timed_of}
 use Rattle.bound_core.specs.Turn.{EndsInterval, IsOver, TakesTurn}
 use Rattle.replay.specs.Port.{LoggedPortState, gives}
 use Rattle.replay.specs.ReferenceRun.{access_room, time_of}
@@ -27,8 +27,8 @@ pub record IsOnItsWay (end base size left : ℕ) (c : NumberedCore) : Type 0 whe
   pub base_is : c.timed.core.memory.base ≡ base
   pub size_is : c.timed.core.memory.size ≡ size
 
--- These turns lead from the first state to where cores and port are now. The port had room for more than so many accesses,
--- and together the cores have no more.
+-- These turns lead from the first state to where cores and port are now. The port had room for more than so many
+-- accesses, and together the cores have no more.
 pub record HaveTaken (time : Entry → ℕ) (image : MemoryImage) (end most : ℕ) (first : BoundState ShardWorld) (turns : List ℕ) (cores : List NumberedCore) (port : LoggedPortState) : Type 0 where
   pub reaches : Reaches shards_serve time image end first turns (phase_of cores port)
   pub left : List ℕ

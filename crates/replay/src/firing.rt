@@ -1,4 +1,4 @@
-// How the events of an interval fire: by one worker on one list, or by several in their domains.
+//! How the events of an interval fire: by one worker on one list, or by several in their domains.
 ghost use Rattle.std.specs.Prelude.{◌≡◌, ◌<◌, ◌≤◌, ◌^◌, IfOk, OnOk, length, map};
 ghost use Rattle.machine_desc.specs.Machine.{IsMachine};
 ghost use Rattle.component.specs.ComponentStep.{comp_greatest, comp_latency, comp_serves, comp_step};
@@ -20,12 +20,12 @@ use zs_host::Gate;
 use zs_num::NoMemory;
 
 /// How many events a round of the weave by domains fires where it is worth it.
-const WORTH: u64 = 256;
+const WORTH_OF_DOMAINS: u64 = 256;
 
 /// Fires all events by so many workers, who pass the gate before each, and moves the components on:
-/// several fire them by their domains where that is worth it, and then say whether it was. Otherwise they
-/// fire on one list. Answers when the events fired. `places` has the domain of each component. Where memory
-/// runs out, the components are there, and none has moved.
+/// several fire them by their domains where that is worth it, and then say whether it was.
+/// Otherwise they fire on one list. Answers when the events fired. `places` has the domain of each
+/// component. Where memory runs out, the components are there, and none has moved.
 pub fn fire_all<R: Threads + Sync, G: Gate>(
     rt: &R,
     alloc: Global,
@@ -52,8 +52,8 @@ pub fn fire_all<R: Threads + Sync, G: Gate>(
     weave_gated(alloc, graph, comps, places, &ListGate { gate, workers })
 }
 
-/// Fires all events by their domains, each of which belongs to one of the workers. It was worth it where
-/// the rounds fired many events each.
+/// Fires all events by their domains, each of which belongs to one of the workers. It was worth it
+/// where the rounds fired many events each.
 fn fire_by_domains<R: Threads + Sync, G: Gate>(
     rt: &R,
     alloc: Global,
@@ -80,7 +80,7 @@ fn fire_by_domains<R: Threads + Sync, G: Gate>(
     let own = mem::replace(comps, Comps::of(Vec::new(alloc)));
     match weave(rt, alloc, graph, &parts, own, workers, gate) {
         Ok(woven) => {
-            *is_worth = graph.events().len() as u64 >= WORTH * u64::from(woven.rounds);
+            *is_worth = graph.events().len() as u64 >= WORTH_OF_DOMAINS * u64::from(woven.rounds);
             *comps = woven.comps;
             Ok(woven.fired)
         }

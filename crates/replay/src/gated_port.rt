@@ -1,4 +1,4 @@
-// The accesses of a core to shards, each behind a gate.
+//! The accesses of a core to shards, each behind a gate.
 ghost use Rattle.std.specs.Prelude.{◌≡◌, ◌+◌, ◌≤◌};
 
 use crate::logged_port::LoggedPort;
@@ -6,8 +6,8 @@ use bound_core::Port;
 use zs_host::{Gate, Point};
 use zs_num::{Cycle, Entry, Request};
 
-/// What serves the accesses of a core of this number. Before each access it passes the gate, as the one
-/// worker that there is.
+/// What serves the accesses of a core of this number. Before each access it passes the gate, as the
+/// one worker that there is.
 #[derive(Drop)]
 pub struct GatedPort<'a, G: Gate> {
     pub gate: &'a G,

@@ -11,8 +11,8 @@ pub fn results_are_one()
     fresh_components_are_one();
 }
 
-/// A run keeps a schedule, and a replay of that schedule gives what the run gave: the same cores, the
-/// same counts, as many intervals, and the same end. So the one's report is the other's.
+/// A run keeps a schedule, and a replay of that schedule gives what the run gave: the same cores,
+/// the same counts, as many intervals, and the same end. So the one's report is the other's.
 pub fn replays_give_the_same()
     ensures { ReplaysGiveTheSame }
 {
@@ -28,8 +28,8 @@ pub fn one_core_has_one_schedule()
     fresh_components_are_one();
 }
 
-/// A legal schedule names the machine's cores. It has a turn for each access of its run, and a list for
-/// each interval, of which there are at most as many as the machine's limit.
+/// A legal schedule names the machine's cores. It has a turn for each access of its run, and a list
+/// for each interval, of which there are at most as many as the machine's limit.
 pub fn legal_schedules_fit()
     ensures { LegalSchedulesFit }
 {}

@@ -1,6 +1,6 @@
-//! The run of an executable by one worker or several, and its replay: whoever ran the cores, what comes
-//! of it is what the machine of one thread gives, which takes the cores' turns in the order of a
-//! schedule, weaves each interval's events on one list, and delays the cores.
+//! The run of an executable by one worker or several, and its replay: whoever ran the cores, what
+//! comes of it is what the machine of one thread gives, which takes the cores' turns in the order
+//! of a schedule, weaves each interval's events on one list, and delays the cores.
 #![tactic(auto)]
 
 mod firing;

@@ -1,4 +1,4 @@
-// The limits of a run.
+//! The limits of a run.
 use zs_num::Cycle;
 
 /// The limit of the accesses of a run.
@@ -6,7 +6,3 @@ pub const ACCESS_LIMIT: u64 = 1 << 26;
 
 /// The latest cycle of a clock or a component at which an interval may begin.
 pub const CYCLE_LIMIT: Cycle = 1 << 56;
-
-/// The room for accesses of a core in an interval, beyond one a cycle: an instruction that accesses
-/// memory many times may begin in the last cycle.
-pub const ROOM_BEYOND: u64 = 258;

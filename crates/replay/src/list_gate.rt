@@ -1,10 +1,10 @@
-// The gate of a weave on one list.
+//! The gate of a weave on one list.
 ghost use Rattle.std.specs.Prelude.{◌<◌};
 
 use zs_host::{Gate, Point};
 
-/// A gate for a weave on one list, which stands for so many workers: an event passes it by the worker
-/// that has its domain, the domain's number modulo the number of workers.
+/// A gate for a weave on one list, which stands for so many workers: an event passes it by the
+/// worker that has its domain, the domain's number modulo the number of workers.
 #[derive(Drop)]
 pub struct ListGate<'a, G: Gate> {
     pub gate: &'a G,

@@ -1,4 +1,4 @@
-// The accesses of cores to shards, and a log of them.
+//! The accesses of cores to shards, and a log of them.
 ghost use Rattle.std.specs.Prelude.{◌≡◌, ◌≤◌, ◌<◌, [], length, map, min, Some, IfOk, OnOk};
 ghost use Rattle.machine_desc.specs.Machine.{IsMachine};
 ghost use Rattle.shard.specs.StandsFor.{new_shards};
@@ -18,7 +18,8 @@ use std::marker::Model;
 use std::mem;
 use zs_num::{Cycle, Entries, Entry, NoMemory, Request};
 
-/// The shards of a machine, and the accesses that they served in an interval, in the order of the turns.
+/// The shards of a machine, and the accesses that they served in an interval, in the order of the
+/// turns.
 #[derive(Drop)]
 pub struct LoggedPort {
     port: ShardPort,
@@ -62,8 +63,8 @@ impl LoggedPort {
         }
     }
 
-    /// Makes it ready for an interval: without an access, and with room for so many in the buffer of
-    /// this list.
+    /// Makes it ready for an interval: without an access, and with room for so many in the buffer
+    /// of this list.
     pub fn begin(&mut self, room: usize, mut list: Vec<Entry>) -> Result<(), NoMemory>
         ensures world { OnOk result (self.new.world ≡ begun_world (length self.old.world.stamps) (map restarted self.old.world.shards)) }
         ensures none { OnOk result (self.new.entries ≡ []) }
@@ -125,8 +126,8 @@ impl Port for LoggedPort {
     }
 }
 
-// The same entry, made of its fields. One that is moved as a whole takes the bytes between its fields
-// along, in pieces for which the processor waits.
+/// The same entry, made of its fields. One that is moved as a whole takes the bytes between its
+/// fields along, in pieces for which the processor waits.
 #[inline(always)]
 fn anew(entry: &Entry) -> Entry
     ensures { result ≡ entry.now }
@@ -141,7 +142,7 @@ fn anew(entry: &Entry) -> Entry
     }
 }
 
-// The shards of a machine, in order of their numbers.
+/// The shards of a machine, in order of their numbers.
 fn shards_of(alloc: Global, machine: &Machine, image: &Image) -> Result<Vec<Shard>, NoMemory>
     requires machine { IsMachine machine.now }
     requires base { image.now.base ≡ machine.now.memory.base }

@@ -1,12 +1,12 @@
-// A program as a type of its own.
+//! A program as a type of its own.
 ghost use Rattle.std.specs.Prelude.{◌≡◌};
 
 use rv_core::{Fetched, Program};
 use rv_decode::Inst;
 
-/// A program as a type of its own. What is compiled for it is compiled for one loop over instructions, so
-/// that the compiler sets the arms of all instructions into that loop; where several loops share them, it
-/// keeps them apart, and each loop is slower.
+/// A program as a type of its own. What is compiled for it is compiled for one loop over
+/// instructions, so that the compiler sets the arms of all instructions into that loop; where
+/// several loops share them, it keeps them apart, and each loop is slower.
 #[derive(Drop)]
 pub struct OwnProgram<'a, P: Program> {
     pub program: &'a P,

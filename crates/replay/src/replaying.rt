@@ -1,4 +1,4 @@
-// The run of an executable under a schedule that is handed in.
+//! The run of an executable under a schedule that is handed in.
 ghost use Rattle.std.specs.Prelude.{◌≡◌, IfOk};
 ghost use Rattle.machine_desc.specs.Machine.{IsMachine};
 ghost use Rattle.replay.specs.Replay.{Replays};

@@ -1,4 +1,4 @@
-// What a run gives: its cores, what was counted, and whether a limit ended it.
+//! What a run gives: its cores, what was counted, and whether a limit ended it.
 use bound_core::BoundCore;
 use stats::Counters;
 use std::marker::Model;

@@ -1,4 +1,4 @@
-// The run of an executable: intervals until every core halted, or until a limit.
+//! The run of an executable: intervals until every core halted, or until a limit.
 ghost use Rattle.std.specs.Prelude.{◌≡◌, [], IfOk};
 ghost use Rattle.machine_desc.specs.Machine.{IsMachine};
 ghost use Rattle.replay.specs.ReferenceRun.{IsKeptInOrder, IsRunOf};
@@ -7,8 +7,9 @@ ghost use Rattle.replay.specs.Results.{HasCounts};
 use crate::Final;
 use crate::simulation::Simulation;
 use access_log::Schedule;
-use bound_phase::PhaseMemory;
+use bound_phase::PhaseBuffers;
 use component::laws::fresh_components_are_there;
+use domain_map::places_of;
 use elf_load::Image;
 use event_graph::Plain;
 use machine_desc::Machine;
@@ -19,17 +20,17 @@ use std::thread::Threads;
 use zs_host::Gate;
 use zs_num::NoMemory;
 
-/// In which intervals several workers fire the events by their domains, whether or not it was worth it
-/// before: in the first, and in one of so many.
+/// In which intervals several workers fire the events by their domains, whether or not it was worth
+/// it before: in the first, and in one of so many.
 const TRIED: u32 = 64;
 
 /// Runs an image by so many workers, one at least and 64 at most: in each interval each core to the
-/// interval's end, and then the events, which one worker fires on one list and several by their domains,
-/// or on one list too where the domains were not worth it. Of W workers worker w runs the cores, and then
-/// the domains, whose number is w modulo W, in ascending order; there are no more workers than cores, or
-/// than domains. Before each access and each event a
-/// worker passes the gate, when it has no shard's turn. The schedule gains a list for each interval, the
-/// cores of its accesses in recorded order; where memory runs out, it has those of the first intervals.
+/// interval's end, and then the events, which one worker fires on one list and several by their
+/// domains, or on one list too where the domains were not worth it. Of W workers worker w runs the
+/// cores, and then the domains, whose number is w modulo W, in ascending order; there are no more
+/// workers than cores, or than domains. Before each access and each event a worker passes the gate,
+/// when it holds no shard. The schedule gains a list for each interval, the cores of its accesses
+/// in recorded order; where memory runs out, it has those of the first intervals.
 pub fn run<R: Threads + Wait + Sync, G: Gate>(
     rt: &R,
     alloc: Global,
@@ -55,7 +56,7 @@ pub fn run<R: Threads + Wait + Sync, G: Gate>(
     let program = DecodedProgram::of(alloc, image)?;
     let mut simulation = Simulation::new(alloc, machine, image)?;
     let workers = workers.clamp(1, 64);
-    let mut memory = PhaseMemory::new(alloc);
+    let mut buffers = PhaseBuffers::new(alloc);
     let mut is_worth = true;
     let mut k = 0;
     let mut end = 0;
@@ -74,18 +75,11 @@ pub fn run<R: Threads + Wait + Sync, G: Gate>(
             gate,
             &places,
             &mut is_worth,
-            &mut memory,
+            &mut buffers,
         )?;
         simulation = next;
         schedule.add(alloc, &entries)?;
-        memory.put_list(entries.into_list());
+        buffers.put_list(entries.into_list());
     }
     Ok(simulation.results(k))
-}
-
-// The domain of each component, by number.
-fn places_of(alloc: Global, machine: &Machine) -> Result<Vec<u16>, NoMemory> {
-    let mut places = Vec::from_slice(alloc, machine.domains.banks.as_slice())?;
-    places.extend_from_slice(machine.domains.controllers.as_slice())?;
-    Ok(places)
 }

@@ -1,4 +1,4 @@
-// A run between two intervals.
+//! A run between two intervals.
 ghost use Rattle.std.specs.Prelude.{◌≡◌, ◌+◌, ◌-◌, ◌*◌, ◌<◌, ◌≤◌, ◌^◌, min, ℕ, List, [], All, Some, Err, IfErr, IfOk, OnOk, is_some, length, map, nat_lt, slice_get};
 ghost use Rattle.std.specs.List.{list_all, list_any, range_with_len};
 ghost use Rattle.machine_desc.specs.declared.machine.Machine.{Machine};
@@ -11,7 +11,7 @@ ghost use Rattle.bound_core.specs.History.{begun_over_shards};
 ghost use Rattle.bound_core.specs.ReferenceMachine.{bound_phase};
 ghost use Rattle.bound_core.specs.ShardPort.{base_of, room_of, size_of};
 ghost use Rattle.bound_core.specs.ShardWorld.{restarted, shards_serve};
-ghost use Rattle.bound_core.specs.Timed.{NumberedCore, first_core, timed_of};
+ghost use Rattle.bound_core.specs.TimedCore.{NumberedCore, first_core, timed_of};
 ghost use Rattle.replay.specs.ReferenceRun.{RunState, access_room, after_interval, all_delayed, at_limit, first_state, has_ended_at, have_halted, results_of, time_of};
 ghost use Rattle.replay.specs.Limits.{cycle_limit};
 ghost use Rattle.replay.specs.Replay.{IfIllegal};
@@ -21,14 +21,14 @@ ghost use Rattle.replay.specs.IntervalWeave.{IsPlainOf};
 
 use crate::firing::fire_all;
 use crate::gated_port::GatedPort;
-use crate::limits::{ACCESS_LIMIT, CYCLE_LIMIT, ROOM_BEYOND};
+use crate::limits::{ACCESS_LIMIT, CYCLE_LIMIT};
 use crate::logged_port::LoggedPort;
 use crate::own_program::OwnProgram;
 use crate::turns::take_turns;
 use crate::weaving::{events_of, woven_of};
 use crate::{Final, ReplayFail};
-use bound_core::BoundCore;
-use bound_phase::{PhaseMemory, bound_in};
+use bound_core::{BESIDE_CYCLES, BoundCore};
+use bound_phase::{PhaseBuffers, bound_in};
 use component::{Comp, Comps, components};
 use elf_load::Image;
 use event_graph::{FiredList, Graph, Plain};
@@ -79,7 +79,7 @@ impl Simulation {
         self.has_halted() || self.is_at_limit(machine, k)
     }
 
-    // Whether every core has halted.
+    /// Whether every core has halted.
     #[tactic(auto, using(crate::proofs::Cores::halted_each))]
     fn has_halted(&self) -> bool
         ensures { result ≡ have_halted (cores_of self.now) }
@@ -87,7 +87,7 @@ impl Simulation {
         have_halted(&self.cores)
     }
 
-    // Whether a limit is reached before interval k.
+    /// Whether a limit is reached before interval k.
     #[tactic(auto, using(crate::proofs::Cores::late_each), unfolding(crate::specs::ReferenceRun::at_limit))]
     fn is_at_limit(&self, machine: &Machine, k: u32) -> bool
         requires machine { IsMachine machine.now }
@@ -100,10 +100,11 @@ impl Simulation {
             || is_one_late(self.comps.as_slice())
     }
 
-    /// Runs the interval that ends at cycle `end`, at most 2^34: each core to the interval's end, and
-    /// then the weave, both by so many workers, but no more than there are cores and domains. `places`
-    /// has the domain of each component, and `is_worth` says whether several weave by their domains, and
-    /// then whether that was worth it. Answers the run after it and its accesses.
+    /// Runs the interval that ends at cycle `end`, at most 2^34: each core to the interval's end,
+    /// and then the weave, both by so many workers, but no more than there are cores and domains.
+    /// `places` has the domain of each component, and `is_worth` says whether several weave by
+    /// their domains, and then whether that was worth it. Answers the run after it and its
+    /// accesses.
     pub fn interval<R: Threads + Wait + Sync, G: Gate>(
         self,
         rt: &R,
@@ -116,7 +117,7 @@ impl Simulation {
         gate: &G,
         places: &[u16],
         is_worth: &mut bool,
-        memory: &mut PhaseMemory,
+        memory: &mut PhaseBuffers,
     ) -> Result<(Self, Entries), NoMemory>
         requires machine { IsMachine machine.now }
         requires plain { IsPlainOf machine.now plain.now }
@@ -173,7 +174,7 @@ impl Simulation {
         Ok(entries.into_list())
     }
 
-    // The bound phase of an interval, and its accesses. One worker needs no table of shards.
+    /// The bound phase of an interval, and its accesses. One worker needs no table of shards.
     fn bound<R: Threads + Wait + Sync, G: Gate>(
         self,
         rt: &R,
@@ -184,7 +185,7 @@ impl Simulation {
         end: Cycle,
         workers: u16,
         gate: &G,
-        memory: &mut PhaseMemory,
+        memory: &mut PhaseBuffers,
     ) -> Result<(Self, Entries), NoMemory>
         requires machine { IsMachine machine.now }
         requires plain { IsPlainOf machine.now plain.now }
@@ -204,8 +205,8 @@ impl Simulation {
         )
     }
 
-    // The bound phase of an interval, the cores one after the other. Before each access it passes the
-    // gate as worker 0.
+    /// The bound phase of an interval, the cores one after the other. Before each access it passes
+    /// the gate as worker 0.
     fn bound_alone<G: Gate>(
         self,
         alloc: Global,
@@ -249,7 +250,7 @@ impl Simulation {
         Ok((simulation, entries))
     }
 
-    // The bound phase of an interval by several workers, which share the shards.
+    /// The bound phase of an interval by several workers, which share the shards.
     fn bound_by<R: Threads + Wait + Sync, G: Gate>(
         self,
         rt: &R,
@@ -260,7 +261,7 @@ impl Simulation {
         end: Cycle,
         workers: u16,
         gate: &G,
-        memory: &mut PhaseMemory,
+        memory: &mut PhaseBuffers,
     ) -> Result<(Self, Entries), NoMemory>
         requires machine { IsMachine machine.now }
         requires plain { IsPlainOf machine.now plain.now }
@@ -299,7 +300,7 @@ impl Simulation {
         }
     }
 
-    // The bound phase of interval k under a list of turns. Answers its accesses.
+    /// The bound phase of interval k under a list of turns. Answers its accesses.
     fn bound_under(
         &mut self,
         alloc: Global,
@@ -339,7 +340,7 @@ impl Simulation {
         Ok(self.port.take_sorted(alloc))
     }
 
-    // Takes in an interval whose events have fired: counts it, and lets the cores wait.
+    /// Takes in an interval whose events have fired: counts it, and lets the cores wait.
     fn take_in(
         &mut self,
         alloc: Global,
@@ -389,7 +390,7 @@ impl Simulation {
     }
 }
 
-// The cores of a machine before their first instruction, in order of their numbers.
+/// The cores of a machine before their first instruction, in order of their numbers.
 fn first_cores(alloc: Global, machine: &Machine, image: &Image) -> Result<Vec<BoundCore>, NoMemory>
     requires machine { IsMachine machine.now }
     ensures timed { IfOk result (λ cores. timed_of cores.items ≡ map (first_core machine.now image.now) (range_with_len 0 machine.now.cores)) }
@@ -402,7 +403,7 @@ fn first_cores(alloc: Global, machine: &Machine, image: &Image) -> Result<Vec<Bo
     Ok(cores)
 }
 
-// Runs the cores to the end of the interval, one after the other.
+/// Runs the cores to the end of the interval, one after the other.
 fn run_cores<G: Gate>(
     machine: &Machine,
     program: &DecodedProgram<'_>,
@@ -438,7 +439,7 @@ fn run_cores<G: Gate>(
     Ok(port)
 }
 
-// Runs the core of this number to the end of the interval. One that has halted stays as it is.
+/// Runs the core of this number to the end of the interval. One that has halted stays as it is.
 fn run_core<G: Gate>(
     machine: &Machine,
     program: &DecodedProgram<'_>,
@@ -473,7 +474,7 @@ fn run_core<G: Gate>(
     Ok(port)
 }
 
-// Runs the cores to the end of interval k under a list of turns.
+/// Runs the cores to the end of interval k under a list of turns.
 fn run_turns(
     machine: &Machine,
     program: &DecodedProgram<'_>,
@@ -505,7 +506,7 @@ fn run_turns(
     }
 }
 
-// Each core gets room on its console for an interval.
+/// Each core gets room on its console for an interval.
 fn reserve_all(machine: &Machine, cores: &mut [BoundCore]) -> Result<(), NoMemory>
     requires { IsMachine machine.now }
     ensures timed { OnOk result (timed_of cores.new ≡ timed_of cores.old) }
@@ -518,7 +519,7 @@ fn reserve_all(machine: &Machine, cores: &mut [BoundCore]) -> Result<(), NoMemor
     Ok(())
 }
 
-// Each core waits for the cycles of its number.
+/// Each core waits for the cycles of its number.
 fn delay_all(cores: &mut [BoundCore], delays: &[u64])
     requires count { length delays.now ≡ length cores.old }
     requires clocks { All (λ c. c.timed.clock ≤ 2 ^ 57) cores.old }
@@ -531,30 +532,30 @@ fn delay_all(cores: &mut [BoundCore], delays: &[u64])
     }
 }
 
-// The room for the accesses of all cores in an interval.
+/// The room for the accesses of all cores in an interval.
 fn access_room(machine: &Machine) -> u64
     requires { IsMachine machine.now }
     ensures value { result ≡ access_room machine.now }
     ensures small { result ≤ 2 ^ 20 }
 {
-    u64::from(machine.cores) * (machine.interval + ROOM_BEYOND)
+    u64::from(machine.cores) * (machine.interval + BESIDE_CYCLES)
 }
 
-// Whether every core has halted.
+/// Whether every core has halted.
 fn have_halted(cores: &[BoundCore]) -> bool
     ensures { result ≡ list_all (λ c. is_some c.timed.core.halted) cores.now }
 {
     cores.iter().all(|c| c.halted().is_some())
 }
 
-// Whether the clock of a core is too late for another interval.
+/// Whether the clock of a core is too late for another interval.
 fn is_one_clock_late(cores: &[BoundCore]) -> bool
     ensures { result ≡ list_any (λ c. nat_lt cycle_limit c.timed.clock) cores.now }
 {
     cores.iter().any(|c| c.clock() > CYCLE_LIMIT)
 }
 
-// Whether a component is busy for too long for another interval.
+/// Whether a component is busy for too long for another interval.
 fn is_one_late(comps: &[Comp]) -> bool
     ensures { result ≡ list_any (λ c. nat_lt cycle_limit (free_of c)) comps.now }
 {

@@ -1,4 +1,4 @@
-// Runs of small programs.
+//! Runs of small programs.
 ghost use Rattle.std.specs.Prelude.{◌≡◌, ◌<◌, ◌≤◌, ◌^◌, All, IfOk, length};
 ghost use Rattle.machine_desc.specs.Plain.{plain_machine};
 
@@ -17,7 +17,7 @@ use weave_seq::weave_seq;
 use zs_host::OpenGate;
 use zs_num::{Entries, Entry, NoMemory, Outcome, Request};
 
-// An executable of eight words, by the ELF-64 object file format, up to its code at byte 120.
+/// An executable of eight words, by the ELF-64 object file format, up to its code at byte 120.
 static FRONT: [u8; 120] = [
     0x7f, 0x45, 0x4c, 0x46, 0x02, 0x01, 0x01, 0x00, 0x00, 0x00, 0x00, 0x00, 0x00, 0x00, 0x00, 0x00,
     0x02, 0x00, 0xf3, 0x00, 0x01, 0x00, 0x00, 0x00, 0x00, 0x00, 0x01, 0x00, 0x00, 0x00, 0x00, 0x00,
@@ -29,13 +29,13 @@ static FRONT: [u8; 120] = [
     0x01, 0x00, 0x00, 0x00, 0x00, 0x00, 0x00, 0x00,
 ];
 
-// addi x10, x0, 7; addi x17, x0, 93; ecall
+/// addi x10, x0, 7; addi x17, x0, 93; ecall
 static SEVEN: [u32; 8] = [0x0070_0513, 0x05D0_0893, 0x0000_0073, 0, 0, 0, 0, 0];
 
-// jal x0, 0
+/// jal x0, 0
 static FOREVER: [u32; 8] = [0x0000_006F, 0, 0, 0, 0, 0, 0, 0];
 
-// ld x5, -8(x2); ld x6, -72(x2); addi x17, x0, 93; ecall
+/// ld x5, -8(x2); ld x6, -72(x2); addi x17, x0, 93; ecall
 static TWO_LOADS: [u32; 8] = [
     0xFF81_3283,
     0xFB81_3303,
@@ -47,7 +47,7 @@ static TWO_LOADS: [u32; 8] = [
     0,
 ];
 
-// The built-in machine.
+/// The built-in machine.
 pub(crate) fn plain(alloc: Global) -> Result<Machine, NoMemory>
     ensures { IfOk result (λ machine. machine ≡ plain_machine) }
 {
@@ -58,7 +58,7 @@ pub(crate) fn plain(alloc: Global) -> Result<Machine, NoMemory>
     }
 }
 
-// The file of eight words.
+/// The file of eight words.
 pub(crate) fn file_of(alloc: Global, words: &[u32; 8]) -> Result<Vec<u8>, NoMemory> {
     let mut file = Vec::from_slice(alloc, &FRONT)?;
     for word in words {
@@ -67,8 +67,8 @@ pub(crate) fn file_of(alloc: Global, words: &[u32; 8]) -> Result<Vec<u8>, NoMemo
     Ok(file)
 }
 
-// The length of an interval, the limit of intervals, whether a limit ends the run, and after how
-// many intervals and instructions.
+/// The length of an interval, the limit of intervals, whether a limit ends the run, and after how
+/// many intervals and instructions.
 #[test]
 fn a_run_ends_at_the_limit_of_intervals(rt: HostRuntime) -> Result<(), Fail> {
     let alloc = rt.alloc();
@@ -96,9 +96,9 @@ fn a_run_ends_at_the_limit_of_intervals(rt: HostRuntime) -> Result<(), Fail> {
     Ok(())
 }
 
-// At a bank that is busy for 20 cycles with each event, the second load's look-up starts at 116 and
-// waits for the first load's fill until 132. The core has halted by then, and its clock grows all
-// the same.
+/// At a bank that is busy for 20 cycles with each event, the second load's look-up starts at 116
+/// and waits for the first load's fill until 132. The core has halted by then, and its clock grows
+/// all the same.
 #[test]
 fn a_busy_bank_delays_the_core(rt: HostRuntime) -> Result<(), Fail> {
     let alloc = rt.alloc();
@@ -134,7 +134,7 @@ fn a_busy_bank_delays_the_core(rt: HostRuntime) -> Result<(), Fail> {
     Ok(())
 }
 
-// The second core's loads come later at the one bank. Each core has its own lines.
+/// The second core's loads come later at the one bank. Each core has its own lines.
 #[test]
 fn cores_take_their_turns_in_order(rt: HostRuntime) -> Result<(), Fail> {
     let alloc = rt.alloc();
@@ -154,7 +154,7 @@ fn cores_take_their_turns_in_order(rt: HostRuntime) -> Result<(), Fail> {
     Ok(())
 }
 
-// A miss of this core on the address, which its clock makes at 1.
+/// A miss of this core on the address, which its clock makes at 1.
 fn miss(core: u16, addr: u64) -> Entry
     ensures core { result.core ≡ core }
     ensures start { result.start ≡ 1 }
@@ -171,7 +171,7 @@ fn miss(core: u16, addr: u64) -> Entry
     }
 }
 
-// A miss of each of two cores.
+/// A miss of each of two cores.
 fn two_misses(alloc: Global) -> Result<Entries, NoMemory>
     ensures cores { IfOk result (All (λ e. e.core < 2)) }
     ensures starts { IfOk result (All (λ e. e.start ≤ 2 ^ 36)) }
@@ -183,7 +183,7 @@ fn two_misses(alloc: Global) -> Result<Entries, NoMemory>
     Ok(Entries::of(list))
 }
 
-// Both look up at 2. The second waits for the bank until 6, and then for the controller until 32.
+/// Both look up at 2. The second waits for the bank until 6, and then for the controller until 32.
 #[test]
 fn two_misses_at_one_bank_wait_for_each_other(rt: HostRuntime) -> Result<(), Fail> {
     let alloc = rt.alloc();
@@ -221,8 +221,8 @@ fn two_misses_at_one_bank_wait_for_each_other(rt: HostRuntime) -> Result<(), Fai
     Ok(())
 }
 
-// Each interval is a cycle here, and there are more of them than numbers of 16 bits. The lists have no
-// turn, since no core has an access, and are replayed one by one.
+/// Each interval is a cycle here, and there are more of them than numbers of 16 bits. The lists
+/// have no turn, since no core has an access, and are replayed one by one.
 #[test]
 fn a_long_run_keeps_a_list_for_each_interval(rt: HostRuntime) -> Result<(), Fail> {
     let alloc = rt.alloc();
@@ -241,10 +241,10 @@ fn a_long_run_keeps_a_list_for_each_interval(rt: HostRuntime) -> Result<(), Fail
     Ok(())
 }
 
-// ld x5, -8(x2); addi x17, x0, 93; ecall
+/// ld x5, -8(x2); addi x17, x0, 93; ecall
 static ONE_LOAD: [u32; 8] = [0xFF81_3283, 0x05D0_0893, 0x0000_0073, 0, 0, 0, 0, 0];
 
-// The replay of one load on each of two cores, which take these turns in one interval.
+/// The replay of one load on each of two cores, which take these turns in one interval.
 fn replay_loads(alloc: Global, turns: &[u16]) -> Result<Result<Final, ReplayFail>, Fail>
     requires cores { All (λ core. core < 2) turns.now }
     requires few { length turns.now < 2 ^ 32 }
@@ -266,7 +266,8 @@ fn clocks(alloc: Global, run: &Final) -> Result<Vec<u64>, NoMemory> {
     Ok(clocks)
 }
 
-// Whichever core comes first reads memory at once; the other waits for the bank and the controller.
+/// Whichever core comes first reads memory at once; the other waits for the bank and the
+/// controller.
 #[test]
 fn the_schedule_decides_which_core_waits(rt: HostRuntime) -> Result<(), Fail> {
     let alloc = rt.alloc();
@@ -283,7 +284,7 @@ fn the_schedule_decides_which_core_waits(rt: HostRuntime) -> Result<(), Fail> {
     Ok(())
 }
 
-// A core has no access left, a core still has one after the last place.
+/// A core has no access left, a core still has one after the last place.
 #[test]
 fn the_first_place_that_is_not_legal_is_named(rt: HostRuntime) -> Result<(), Fail> {
     let alloc = rt.alloc();

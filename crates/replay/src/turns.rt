@@ -1,10 +1,10 @@
-// The turns of an interval in the order of a list.
+//! The turns of an interval in the order of a list.
 ghost use Rattle.std.specs.Prelude.{◌≡◌, ◌<◌, ◌≤◌, ◌^◌, ℕ, List, [], All, false, length, min, true, Err, IfErr, IfOk, Ok};
 ghost use Rattle.zs_num.specs.declared.entry.Entry.{Entry};
 ghost use Rattle.bound_core.specs.ReferenceMachine.{BoundState, bound_phase};
 ghost use Rattle.bound_core.specs.ShardWorld.{ShardWorld, shards_serve};
 ghost use Rattle.bound_core.specs.ShardPort.{base_of, room_of, size_of};
-ghost use Rattle.bound_core.specs.Timed.{timed_of};
+ghost use Rattle.bound_core.specs.TimedCore.{timed_of};
 ghost use Rattle.bound_core.specs.Turn.{IsOver};
 ghost use Rattle.replay.specs.Simulation.{phase_of};
 ghost use Rattle.replay.specs.Turns.{HaveTaken, IsOnItsWay, TakesAccess, TakesNone, chosen, time_by_plain};
@@ -15,9 +15,9 @@ use event_graph::Plain;
 use rv_core::DecodedProgram;
 use zs_num::Cycle;
 
-/// Takes the turns of a list, and then has each core end its interval. Where the list is not legal, it
-/// answers the first place that is not: the core there has no access before it ends its interval; or
-/// it is the place after the last, and a core still has one.
+/// Takes the turns of a list, and then has each core end its interval. Where the list is not legal,
+/// it answers the first place that is not: the core there has no access before it ends its
+/// interval; or it is the place after the last, and a core still has one.
 pub fn take_turns(
     program: &DecodedProgram<'_>,
     plain: &Plain,
@@ -50,7 +50,7 @@ pub fn take_turns(
     }
 }
 
-// Has each core end its interval. Answers false where one still has an access.
+/// Has each core end its interval. Answers false where one still has an access.
 fn end_all(
     program: &DecodedProgram<'_>,
     plain: &Plain,
@@ -74,8 +74,8 @@ fn end_all(
     true
 }
 
-// A turn of a core, which has this number: its local instructions, and then one access. Answers
-// whether it had one before it ended its interval.
+/// A turn of a core, which has this number: its local instructions, and then one access. Answers
+/// whether it had one before it ended its interval.
 fn take_turn(
     program: &DecodedProgram<'_>,
     plain: &Plain,

@@ -1,4 +1,4 @@
-// The weave of an interval: its events, when they fired, and the delays of the cores.
+//! The weave of an interval: its events, when they fired, and the delays of the cores.
 ghost use Rattle.std.specs.Prelude.{◌≡◌, ◌<◌, ◌≤◌, ◌^◌, All, IfOk, List, length};
 ghost use Rattle.zs_num.specs.declared.entry.Entry.{Entry};
 ghost use Rattle.machine_desc.specs.Machine.{IsMachine};
@@ -16,7 +16,7 @@ use zs_num::{Entries, NoMemory};
 
 /// What the weave of an interval gives.
 #[derive(Drop)]
-pub struct Woven {
+pub struct WovenInterval {
     /// The events of the interval's accesses.
     pub graph: Graph,
     /// When they fired.
@@ -61,17 +61,17 @@ pub fn woven_of(
     machine: &Machine,
     graph: Graph,
     fired: FiredList,
-) -> Result<Woven, NoMemory>
+) -> Result<WovenInterval, NoMemory>
     requires machine { IsMachine machine.now }
     requires fired { (comps : List Comp) × (entries : List Entry) × (after : List Comp) × HaveFired machine.now comps entries graph fired after }
     ensures { IfOk result (λ w. (comps : List Comp) (entries : List Entry) (after : List Comp) → HaveFired machine.now comps entries graph fired after → IsWeaveOf machine.now comps entries w) }
 {
     event_graph::laws::fitting_events_are_there::<Comp>();
     event_graph::laws::events_take_their_time::<Comp>();
-    feedback::laws::timely_events_are_woven();
+    feedback::laws::timely_events_have_finished();
     feedback::laws::delays_are_small();
     let delays = delays(alloc, &graph, &fired, machine.cores)?;
-    Ok(Woven {
+    Ok(WovenInterval {
         graph,
         fired,
         delays,

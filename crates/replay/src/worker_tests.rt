@@ -1,4 +1,4 @@
-// Runs by several workers.
+//! Runs by several workers.
 ghost use Rattle.std.specs.Prelude.{◌≡◌, ◌≤◌, IfOk};
 ghost use Rattle.machine_desc.specs.Machine.{IsMachine};
 ghost use Rattle.replay.specs.Results.{HasCounts};
@@ -18,8 +18,8 @@ use std::thread::Threads;
 use zs_host::{Gate, OpenGate, Point};
 use zs_num::NoMemory;
 
-// lui x5, 17; addi x6, x0, 100; amoadd.d x10, x11, (x5); addi x6, x6, -1; bne x6, x0, -8;
-// addi x17, x0, 93; ecall
+/// lui x5, 17; addi x6, x0, 100; amoadd.d x10, x11, (x5); addi x6, x6, -1; bne x6, x0, -8;
+/// addi x17, x0, 93; ecall
 static RACE: [u32; 8] = [
     0x0001_12B7,
     0x0640_0313,
@@ -31,7 +31,7 @@ static RACE: [u32; 8] = [
     0,
 ];
 
-// The greatest of the numbers with which the cores ended.
+/// The greatest of the numbers with which the cores ended.
 fn last_found(run: &Final) -> u64 {
     let mut last = 0;
     for core in &run.cores {
@@ -42,7 +42,7 @@ fn last_found(run: &Final) -> u64 {
     last
 }
 
-// Two runs gave the same.
+/// Two runs gave the same.
 fn assert_same(rt: &impl Abort, first: &Final, second: &Final) {
     assert_eq!(rt; first.intervals, second.intervals);
     assert_eq!(rt; first.limit, second.limit);
@@ -57,9 +57,9 @@ fn assert_same(rt: &impl Abort, first: &Final, second: &Final) {
     assert_eq!(rt; first.counters.comp_counts(), second.counters.comp_counts());
 }
 
-// Each of four cores adds 4 a hundred times to one number. Whoever runs them, and however long an
-// interval is, no addition is lost: the last of them found 1,596. The schedule that was kept gives the
-// same run on one thread.
+/// Each of four cores adds 4 a hundred times to one number. Whoever runs them, and however long an
+/// interval is, no addition is lost: the last of them found 1,596. The schedule that was kept gives
+/// the same run on one thread.
 #[test]
 fn cores_that_race_lose_no_addition(rt: HostRuntime) -> Result<(), Fail> {
     let alloc = rt.alloc();
@@ -88,7 +88,7 @@ fn cores_that_race_lose_no_addition(rt: HostRuntime) -> Result<(), Fail> {
     Ok(())
 }
 
-// A gate that counts who passed it: for accesses worker 0, the others, and core 3; and for events.
+/// A gate that counts who passed it: for accesses worker 0, the others, and core 3; and for events.
 #[derive(Drop)]
 struct Counting {
     by_first: AtomicU64,
@@ -133,8 +133,8 @@ impl Gate for Counting {
     }
 }
 
-// Each access of each core passes the gate, by the worker that runs the core: of two, the first runs the
-// cores 0 and 2. And each event does, by whoever fires it.
+/// Each access of each core passes the gate, by the worker that runs the core: of two, the first
+/// runs the cores 0 and 2. And each event does, by whoever fires it.
 #[test]
 fn each_access_and_each_event_passes_the_gate(rt: HostRuntime) -> Result<(), Fail> {
     let alloc = rt.alloc();
@@ -153,7 +153,7 @@ fn each_access_and_each_event_passes_the_gate(rt: HostRuntime) -> Result<(), Fai
     Ok(())
 }
 
-// Four cores, and two domains: the bank is in the second.
+/// Four cores, and two domains: the bank is in the second.
 static TWO_DOMAINS: &str = "version = 1
 cores = 4
 interval = 100
@@ -199,7 +199,7 @@ fn two_domains(alloc: Global) -> Result<Machine, NoMemory>
     }
 }
 
-// A gate that counts the events, by the domains, and those that its owner among two workers fires.
+/// A gate that counts the events, by the domains, and those that its owner among two workers fires.
 #[derive(Drop)]
 struct Owning {
     events: AtomicU64,
@@ -222,8 +222,8 @@ impl Gate for Owning {
     }
 }
 
-// The first interval's events fire by their domains. Few fire in a round, so those of the others fire on one
-// list: there too each passes the gate by the worker that has its domain.
+/// The first interval's events fire by their domains. Few fire in a round, so those of the others
+/// fire on one list: there too each passes the gate by the worker that has its domain.
 #[test]
 fn events_on_one_list_pass_by_the_workers_of_their_domains(rt: HostRuntime) -> Result<(), Fail> {
     let alloc = rt.alloc();

@@ -1,4 +1,4 @@
-// The two lines of each core: what was counted of it, and its console.
+//! The two lines of each core: what was counted of it, and its console.
 ghost use Rattle.std.specs.Prelude.{◌≡◌, ◌++◌, OnOk, length, map, string_bytes};
 ghost use Rattle.std.specs.List.{zip};
 ghost use Rattle.report.specs.ReportText.{console_line, core_line, core_lines, count_text, halt_text, numbered_lines};
@@ -41,8 +41,9 @@ fn write_core(
     write_console_line(text, n, core.console())
 }
 
+/// Writes what a core did and what was counted of it.
 #[tactic(auto, unfolding(crate::specs::ReportText::core_line))]
-fn write_core_line(
+pub fn write_core_line(
     text: &mut String,
     n: u16,
     core: &BoundCore,

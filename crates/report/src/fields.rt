@@ -1,4 +1,4 @@
-// Numbers behind their labels.
+//! Numbers behind their labels.
 ghost use Rattle.std.specs.Prelude.{◌≡◌, ◌<◌, ◌++◌, OnOk, map, string_bytes};
 ghost use Rattle.report.specs.ReportText.{hex_digit, hexadecimal, labelled};
 
@@ -40,7 +40,7 @@ fn write_digits(text: &mut String, digits: u8, number: u64) -> Result<(), AllocE
     text.push(hex_digit((number % 16) as u8))
 }
 
-// A hexadecimal digit, in lower case.
+/// A hexadecimal digit, in lower case.
 fn hex_digit(number: u8) -> char
     requires { number < 16 }
     ensures value { result ≡ hex_digit number }

@@ -1,4 +1,4 @@
-// The bytes of a console as they are printed.
+//! The bytes of a console as they are printed.
 ghost use Rattle.std.specs.Prelude.{◌≡◌, ◌++◌, OnOk, string_bytes};
 ghost use Rattle.report.specs.ReportText.{printed, printed_byte};
 

@@ -1,4 +1,4 @@
-// The seven lines of the summary.
+//! The seven lines of the summary.
 ghost use Rattle.std.specs.Prelude.{◌≡◌, ◌++◌, OnOk, map, string_bytes};
 ghost use Rattle.report.specs.ReportText.{all_instructions, greatest_clock, summary, summary_of};
 
@@ -53,7 +53,7 @@ fn write_numbers(
     write_labelled(text, &fields)
 }
 
-// How many instructions all cores executed.
+/// How many instructions all cores executed.
 fn all_instructions(cores: &[BoundCore]) -> u128
     ensures { result ≡ all_instructions (map (λ c. c.timed) cores.now) }
 {
@@ -64,7 +64,7 @@ fn all_instructions(cores: &[BoundCore]) -> u128
     sum
 }
 
-// The greatest clock of a core.
+/// The greatest clock of a core.
 fn greatest_clock(cores: &[BoundCore]) -> Cycle
     ensures { result ≡ greatest_clock (map (λ c. c.timed) cores.now) }
 {

@@ -1,4 +1,4 @@
-// The whole text, or its summary alone.
+//! The whole text, or its summary alone.
 ghost use Rattle.std.specs.Prelude.{◌≡◌, ◌++◌, IfOk, OnOk, length, map, string_bytes};
 ghost use Rattle.machine_desc.specs.Components.{component_count};
 ghost use Rattle.report.specs.ReportText.{details, report_text};
@@ -37,7 +37,7 @@ pub fn text(
     Ok(Bytes::of(text.into_bytes()))
 }
 
-// Writes what follows the summary: the lines of the cores, of the banks and of the controllers.
+/// Writes what follows the summary: the lines of the cores, of the banks and of the controllers.
 fn write_details(
     text: &mut String,
     machine: &Machine,

@@ -1,4 +1,4 @@
-// The results of the register-immediate and register-register instructions.
+//! The results of the register-immediate and register-register instructions.
 ghost use Rattle.std.specs.Prelude.{◌≡◌, IsTrue};
 ghost use Rattle.rv_alu.specs.Arithmetic.{is_arithmetic, result_of};
 

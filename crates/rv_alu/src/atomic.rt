@@ -1,4 +1,4 @@
-// The new numbers of atomic read-modify-writes.
+//! The new numbers of atomic read-modify-writes.
 ghost use Rattle.std.specs.Prelude.{◌≡◌, ◌⊎◌, ◌^◌, ◌<◌};
 ghost use Rattle.rv_alu.specs.Atomic.{new_number};
 

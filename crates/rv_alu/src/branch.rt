@@ -1,4 +1,4 @@
-// The conditions of the branches.
+//! The conditions of the branches.
 ghost use Rattle.std.specs.Prelude.{◌≡◌, IsTrue};
 ghost use Rattle.rv_alu.specs.Branch.{is_branch, is_taken};
 

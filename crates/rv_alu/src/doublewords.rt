@@ -1,4 +1,4 @@
-// Operations on 64 bits that take more than one step.
+//! Operations on 64 bits that take more than one step.
 ghost use Rattle.std.specs.Prelude.{◌≡◌, pos, ◌*ℤ◌};
 ghost use Rattle.std.specs.Int.{w64, cast_signed};
 ghost use Rattle.rv_alu.specs.Atomic.{updated};

@@ -13,6 +13,3 @@ mod words;
 pub use arithmetic::{alu, is_arithmetic};
 pub use atomic::amo;
 pub use branch::{is_branch, taken};
-
-#[cfg(test)]
-mod tests;

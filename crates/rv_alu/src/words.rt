@@ -1,4 +1,4 @@
-// Words of 32 bits: the low half of a register, and operations on it.
+//! Words of 32 bits: the low half of a register, and operations on it.
 ghost use Rattle.std.specs.Prelude.{◌≡◌};
 ghost use Rattle.std.specs.Int.{w32};
 ghost use Rattle.rv_alu.specs.Atomic.{updated};

@@ -1,6 +1,6 @@
--- What an instruction does to a core, by its name (RISC-V Unprivileged ISA manual, "RV32I Base Integer Instruction Set",
--- "RV64I Base Integer Instruction Set", the "M" extension and the "A" extension). Numbers are of 64 bits, and sums are
--- modulo 2^64. An instruction with accesses is in progress until its last access has its reply.
+-- What an instruction does to a core, by its name (RISC-V Unprivileged ISA manual, "RV32I Base Integer Instruction
+-- Set", "RV64I Base Integer Instruction Set", the "M" extension and the "A" extension). Numbers are of 64 bits, and
+-- sums are modulo 2^64. An instruction with accesses is in progress until its last access has its reply.
 use Rattle.std.specs.Prelude.{ℕ, ◌+◌, ◌-◌, ◌%◌, ◌^◌, ◌==◌, min, Bool, true, false, ◌&&◌, ◌||◌, if◌then◌else◌, List, [], ◌∷◌, slice_index, slice_set, Some}
 use Rattle.std.specs.Int.{w64, cast_unsigned}
 use Rattle.zs_num.specs.declared.request.AmoOp.{AmoOp}
@@ -64,8 +64,8 @@ goes_through [] replies ending core = ended ending replies core
 goes_through (request ∷ requests) replies ending core =
     record core { instruction = Some (record { next = request; later = requests; replies = replies; ending = ending }) }
 
--- An instruction with accesses, all to bytes among so many from an address on. Where these are not all in memory the core
--- halts, and makes no access.
+-- An instruction with accesses, all to bytes among so many from an address on. Where these are not all in memory the
+-- core halts, and makes no access.
 unfoldable pub accesses : (addr width : ℕ) → List Request → Ending → CoreState → CoreState
 accesses addr width requests ending core =
     if is_in_memory core.memory addr width then goes_through requests [] ending core else halts (Access addr) core
@@ -97,8 +97,8 @@ computes_immediate n i core = goes_on core i.rd (result_of n (register core i.rs
 abbrev pub computes : Name → Inst → CoreState → CoreState
 computes n i core = goes_on core i.rd (result_of n (register core i.rs1) (register core i.rs2))
 
--- "Control Transfer Instructions": rd gets the address of the next instruction. A target that is not a multiple of 4 halts
--- the core, and nothing is written.
+-- "Control Transfer Instructions": rd gets the address of the next instruction. A target that is not a multiple of 4
+-- halts the core, and nothing is written.
 unfoldable pub jumps : (rd target : ℕ) → CoreState → CoreState
 jumps rd target core = if target % 4 == 0 then goes_to core rd (following core) target else halts (Misaligned target) core
 

@@ -28,8 +28,8 @@ abbrev pub IsNarrow : Option Reply → Type 0
 IsNarrow None = Unit {0}
 IsNarrow (Some reply) = reply.width < 8
 
--- What the record keeps beside: an access to a lower line is narrower than a register, and the bytes of a write call that
--- are left lie in memory and are 256 at most.
+-- What the record keeps beside: an access to a lower line is narrower than a register, and the bytes of a write call
+-- that are left lie in memory and are 256 at most.
 abbrev pub IsBounded : MemoryRange → Progress → Type 0
 IsBounded memory Idle = Unit {0}
 IsBounded memory (Lower next upper destination) = width_of next < 8

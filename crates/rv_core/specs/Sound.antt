@@ -18,8 +18,8 @@ EndsInRegister (ToRegister destination) = (destination.rd < 32) × (1 ≤ destin
 EndsInRegister (ToConsole count) = Unit {0}
 EndsInRegister ToNothing = Unit {0}
 
--- There are 32 registers, and x0 is 0; memory ends at 2^48 at most; the accesses that are left of an instruction can all be
--- served, and say of the pairing what it is, and there are 256 of them at most.
+-- There are 32 registers, and x0 is 0; memory ends at 2^48 at most; the accesses that are left of an instruction can
+-- all be served, and say of the pairing what it is, and there are 256 of them at most.
 pub record IsSoundCore (core : CoreState) : Type 0 where
   pub registers : length core.registers ≡ 32
   pub zero : slice_index core.registers 0 ≡ 0

@@ -1,4 +1,4 @@
-// The instructions that compute: of registers, of immediates, and of the "M" extension.
+//! The instructions that compute: of registers, of immediates, and of the "M" extension.
 ghost use Rattle.std.specs.Prelude.{◌≡◌, ◌<◌, IsTrue};
 ghost use Rattle.rv_alu.specs.Arithmetic.{is_arithmetic};
 ghost use Rattle.rv_core.specs.Effect.{computes, computes_immediate};

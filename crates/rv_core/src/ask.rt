@@ -1,4 +1,4 @@
-// What a core asks for.
+//! What a core asks for.
 use crate::Why;
 use zs_num::Request;
 

@@ -1,4 +1,4 @@
-// Load-reserved, store-conditional and atomic read-modify-writes.
+//! Load-reserved, store-conditional and atomic read-modify-writes.
 ghost use Rattle.std.specs.Prelude.{◌≡◌, ◌<◌, ◌≤◌, ◌+◌, ◌%◌, ◌==◌, ◌⊎◌, IsTrue, [], ◌∷◌};
 ghost use Rattle.zs_num.specs.Request.{addr_of, width_of};
 ghost use Rattle.rv_core.specs.Effect.{atomic, load_reserved, store_conditional, updates};
@@ -65,7 +65,7 @@ impl Core {
         self.ask_atomic(request, number_to(inst.rd, width, true))
     }
 
-    // Asks for the access of an atomic, unless it is not aligned or not in memory.
+    /// Asks for the access of an atomic, unless it is not aligned or not in memory.
     #[tactic(auto, unfolding(crate::specs::Effect::accesses, crate::specs::Effect::atomic))]
     fn ask_atomic(&mut self, request: Request, destination: Destination) -> bool
         requires free { IsTrue (is_free self.old) }
@@ -89,14 +89,14 @@ impl Core {
     }
 }
 
-// A register that gets a number of so many bytes.
+/// A register that gets a number of so many bytes.
 fn number_to(rd: u8, width: u8, signed: bool) -> Destination
     ensures { result ≡ record { rd = rd; width = width; signed = signed } }
 {
     Destination { rd, width, signed }
 }
 
-// Whether an address is a multiple of a width.
+/// Whether an address is a multiple of a width.
 fn is_aligned(addr: u64, width: u8) -> bool
     requires { (width ≡ 4) ⊎ (width ≡ 8) }
     ensures value { result ≡ (addr % width == 0) }

@@ -1,11 +1,10 @@
-// The calls of the environment.
+//! The calls of the environment.
 ghost use Rattle.std.specs.Prelude.{◌≡◌, IsTrue};
 ghost use Rattle.rv_core.specs.Effect.{calls, writes};
 ghost use Rattle.rv_core.specs.Step.{is_free};
 
+use crate::state::A0;
 use crate::{Core, Why};
-
-const A0: u8 = 10;
 
 const A1: u8 = 11;
 
@@ -50,7 +49,7 @@ impl Core {
         }
     }
 
-    // The write call: its bytes are loaded one by one.
+    /// The write call: its bytes are loaded one by one.
     #[tactic(auto, unfolding(crate::specs::Effect::writes))]
     fn write_call(&mut self) -> bool
         requires { IsTrue (is_free self.old) }

@@ -1,4 +1,4 @@
-// The instructions that transfer control: jumps and branches.
+//! The instructions that transfer control: jumps and branches.
 ghost use Rattle.std.specs.Prelude.{◌≡◌, ◌<◌, IsTrue};
 ghost use Rattle.rv_alu.specs.Branch.{is_branch};
 ghost use Rattle.rv_core.specs.Effect.{address, branches, even, jumps, relative};
@@ -52,8 +52,8 @@ impl Core {
         }
     }
 
-    // Jumps, and writes the address of the next instruction to a register. Where the target is not a
-    // multiple of 4 the core halts.
+    /// Jumps, and writes the address of the next instruction to a register. Where the target is not
+    /// a multiple of 4 the core halts.
     #[inline(always)]
     #[tactic(auto, unfolding(crate::specs::Effect::jumps))]
     fn jump_to(&mut self, rd: u8, target: u64) -> bool

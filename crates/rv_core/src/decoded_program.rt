@@ -1,4 +1,4 @@
-// A program whose words are decoded once.
+//! A program whose words are decoded once.
 ghost use Rattle.std.specs.Prelude.{◌≡◌, ◌+◌, ◌*◌, ◌^◌, ◌≤◌, All, IfOk, IfSome};
 ghost use Rattle.rv_core.specs.Fetch.{fetched_at, HasRegisters, IsKnown};
 
@@ -32,19 +32,20 @@ struct Span {
 }
 
 impl Span {
-    // Whether an address is one of them.
+    /// Whether an address is one of them.
     fn has(&self, pc: u64) -> bool {
         pc.wrapping_sub(self.first) / WORD < self.count as u64
     }
 
-    // What leads from a word's number in all addresses to its place.
+    /// What leads from a word's number in all addresses to its place.
     fn near(&self) -> usize {
         self.place.wrapping_sub((self.first / WORD) as usize)
     }
 }
 
-/// An executable in memory and its instructions, decoded once for a whole run. What it does not hold
-/// decoded it decodes each time: words past the first 2^20, and those past the bytes of the file.
+/// An executable in memory and its instructions, decoded once for a whole run. What it does not
+/// hold decoded it decodes each time: words past the first 2^20, and those past the bytes of the
+/// file.
 #[derive(Drop)]
 pub struct DecodedProgram<'a> {
     image: &'a Image,
@@ -80,7 +81,7 @@ impl<'a> DecodedProgram<'a> {
         Ok(program)
     }
 
-    // Decodes the words of a segment, as far as there is room.
+    /// Decodes the words of a segment, as far as there is room.
     fn add(&mut self, segment: &Segment) -> Result<(), NoMemory>
         ensures { self.new ≡ self.old }
     {
@@ -106,7 +107,7 @@ impl<'a> DecodedProgram<'a> {
         Ok(())
     }
 
-    // Decodes the word at an address.
+    /// Decodes the word at an address.
     fn decode(&mut self, pc: u64) -> Result<(), NoMemory>
         ensures { self.new ≡ self.old }
     {
@@ -115,7 +116,7 @@ impl<'a> DecodedProgram<'a> {
         Ok(())
     }
 
-    // What the word of an address is, if `near` leads to it.
+    /// What the word of an address is, if `near` leads to it.
     #[inline(always)]
     fn word_at(&self, near: usize, pc: u64) -> Option<&Fetched>
         ensures value { IfSome result (λ fetched. fetched.now ≡ fetched_at self.now pc) }

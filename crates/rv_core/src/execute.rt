@@ -1,4 +1,4 @@
-// What each instruction does, by its name.
+//! What each instruction does, by its name.
 ghost use Rattle.std.specs.Prelude.{◌≡◌, ◌<◌, IsTrue};
 ghost use Rattle.rv_core.specs.Effect.{effect};
 ghost use Rattle.rv_core.specs.Step.{is_free};
@@ -8,9 +8,10 @@ use rv_decode::{Inst, Name};
 use zs_num::AmoOp;
 
 impl Core {
-    /// Executes an instruction, up to its first access if it has one. Each name has an arm of its own,
-    /// so that what depends on the name is settled there. The type `T` means nothing: each caller takes
-    /// another, and the compiler then sets all arms into the loop of the one that has a loop.
+    /// Executes an instruction, up to its first access if it has one. Each name has an arm of its
+    /// own, so that what depends on the name is settled there. The type `T` means nothing: each
+    /// caller takes another, and the compiler then sets all arms into the loop of the one that has
+    /// a loop.
     #[inline(always)]
     #[tactic(auto, unfolding(crate::specs::Effect::effect))]
     pub(crate) fn execute<T>(&mut self, inst: &Inst) -> bool

@@ -1,5 +1,5 @@
-//! Laws over whole instructions and whole runs of a core, in the words of the RISC-V Unprivileged ISA
-//! manual. Each is the contract of a function that does nothing.
+//! Laws over whole instructions and whole runs of a core, in the words of the RISC-V Unprivileged
+//! ISA manual. Each is the contract of a function that does nothing.
 ghost use Rattle.std.specs.Prelude.{◌≡◌, ◌<◌, ℕ, List, All, Some, length};
 ghost use Rattle.std.specs.List.{flat_map};
 ghost use Rattle.elf_load.specs.MemoryImage.{MemoryImage};
@@ -27,8 +27,8 @@ pub fn reached_cores_are_sound()
     rv_decode::laws::ranges();
 }
 
-/// A step and a reply leave a sound core sound, and its memory where it is. A step leaves its pairing,
-/// and a reply gives it the one that the access leaves.
+/// A step and a reply leave a sound core sound, and its memory where it is. A step leaves its
+/// pairing, and a reply gives it the one that the access leaves.
 pub fn cores_stay_sound()
     ensures advanced { (image : MemoryImage) (core : CoreState) → IsSoundCore core → IsSoundCore (advanced image core) }
     ensures advanced_memory { (image : MemoryImage) (core : CoreState) → IsSoundCore core → (advanced image core).memory ≡ core.memory }
@@ -41,9 +41,9 @@ pub fn cores_stay_sound()
     rv_decode::laws::ranges();
 }
 
-/// Every access that a core asks for says of the pairing what it is, and so does every list of them:
-/// where a store-conditional is paired, the core's latest load-reserved was at its address and width,
-/// and no store-conditional came since; and where it is not, that is not so.
+/// Every access that a core asks for says of the pairing what it is, and so does every list of
+/// them: where a store-conditional is paired, the core's latest load-reserved was at its address
+/// and width, and no store-conditional came since; and where it is not, that is not so.
 pub fn accesses_are_paired_right()
     ensures next { (core : CoreState) (now : InProgress) → IsSoundCore core → core.instruction ≡ Some now
         → IsPairedRight core.pairing now.next }

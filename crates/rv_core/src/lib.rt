@@ -1,5 +1,5 @@
-//! One core as its program sees it: it executes RV64I with the extensions M and A (RISC-V Unprivileged
-//! ISA manual), asks for accesses and takes their replies.
+//! One core as its program sees it: it executes RV64I with the extensions M and A (RISC-V
+//! Unprivileged ISA manual), asks for accesses and takes their replies.
 #![tactic(auto)]
 
 mod arithmetic;
@@ -25,6 +25,3 @@ pub use decoded_program::DecodedProgram;
 pub use program::{Fetched, Program};
 pub use state::Core;
 pub use why::Why;
-
-#[cfg(test)]
-mod tests;

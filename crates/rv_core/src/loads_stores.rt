@@ -1,4 +1,4 @@
-// Loads and stores.
+//! Loads and stores.
 ghost use Rattle.std.specs.Prelude.{◌≡◌, ◌<◌, ◌≤◌, IsTrue};
 ghost use Rattle.rv_core.specs.Accesses.{is_in_line, left_in_line, low_bytes};
 ghost use Rattle.rv_core.specs.Effect.{loads, stores};
@@ -8,10 +8,7 @@ use crate::progress::Destination;
 use crate::replies::{high_bytes, low_bytes};
 use crate::{Core, Why};
 use rv_decode::Inst;
-use zs_num::Request;
-
-/// The bytes of a line of the caches.
-const LINE: u64 = 64;
+use zs_num::{LINE, Request};
 
 impl Core {
     /// A load of so many bytes: one access, or two where it crosses a line.
@@ -80,7 +77,7 @@ impl Core {
     }
 }
 
-// An access that stores the lowest bytes of a number.
+/// An access that stores the lowest bytes of a number.
 fn store_of(addr: u64, width: u8, value: u64) -> Request
     requires { width ≤ 8 }
     ensures { result ≡ Request.Store addr width (low_bytes width value) }
@@ -92,14 +89,14 @@ fn store_of(addr: u64, width: u8, value: u64) -> Request
     }
 }
 
-// Whether so many bytes from an address on lie in one line.
+/// Whether so many bytes from an address on lie in one line.
 fn is_in_line(addr: u64, width: u8) -> bool
     ensures { result ≡ is_in_line addr width }
 {
     addr % LINE + u64::from(width) <= LINE
 }
 
-// How many bytes there are from an address on to the end of its line.
+/// How many bytes there are from an address on to the end of its line.
 fn left_in_line(addr: u64) -> u8
     ensures value { result ≡ left_in_line addr }
     ensures some { 1 ≤ result }

@@ -1,4 +1,4 @@
-// Where memory lies.
+//! Where memory lies.
 ghost use Rattle.std.specs.Prelude.{◌≡◌, ◌+◌, ◌≤◌, ◌^◌};
 ghost use Rattle.rv_core.specs.Accesses.{is_in_memory};
 

@@ -1,4 +1,4 @@
-// Which load-reserved a store-conditional is paired with.
+//! Which load-reserved a store-conditional is paired with.
 ghost use Rattle.std.specs.Prelude.{◌≡◌};
 ghost use Rattle.rv_core.specs.Pairing.{is_paired, pairing_after};
 

@@ -1,4 +1,4 @@
-// What a core reads its instructions from.
+//! What a core reads its instructions from.
 ghost use Rattle.std.specs.Prelude.{◌≡◌, IfSome};
 ghost use Rattle.elf_load.specs.MemoryImage.{MemoryImage};
 ghost use Rattle.rv_decode.specs.InstructionTable.{decoded};
@@ -51,7 +51,7 @@ impl Program for Image {
     }
 }
 
-// The instruction that a word is, if it is one.
+/// The instruction that a word is, if it is one.
 fn of_word(word: u32) -> Fetched
     ensures value { result ≡ of_decoded word (decoded word) }
     ensures registers { HasRegisters result }

@@ -1,4 +1,4 @@
-// How far an instruction with accesses has come.
+//! How far an instruction with accesses has come.
 use zs_num::Request;
 
 /// A register that gets what an instruction's accesses reply.
@@ -30,8 +30,8 @@ pub enum Progress {
         upper: Request,
         destination: Option<Destination>,
     },
-    /// A load, a store or an atomic has its last access next. A load that crosses a line has had the
-    /// reply from the lower line.
+    /// A load, a store or an atomic has its last access next. A load that crosses a line has had
+    /// the reply from the lower line.
     Last {
         next: Request,
         lower: Option<Reply>,

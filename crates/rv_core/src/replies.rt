@@ -1,4 +1,4 @@
-// The number that the replies of an instruction's accesses make.
+//! The number that the replies of an instruction's accesses make.
 ghost use Rattle.std.specs.Prelude.{◌≡◌, ◌++◌, ◌∷◌, [], ◌%◌, ◌^◌, ◌<◌, ◌≤◌, option_to_list};
 ghost use Rattle.zs_num.specs.Request.{width_of};
 ghost use Rattle.rv_core.specs.Accesses.{high_bytes, joined, low_bytes, reply_to, sign_extended_bytes};
@@ -60,7 +60,7 @@ pub fn received(lower: Option<Reply>, last: Reply, destination: Destination) -> 
     }
 }
 
-// The last reply above the one from the lower line, as a number of 64 bits.
+/// The last reply above the one from the lower line, as a number of 64 bits.
 #[inline(always)]
 fn joined(lower: Option<Reply>, last: Reply) -> u64
     requires { IsNarrow lower }
@@ -72,7 +72,7 @@ fn joined(lower: Option<Reply>, last: Reply) -> u64
     }
 }
 
-// The number of so many bytes, sign-extended.
+/// The number of so many bytes, sign-extended.
 #[inline(always)]
 #[tactic(auto, using(crate::proofs::SignExtension::extended), unfolding(crate::specs::Accesses::sign_extended_bytes))]
 fn sign_extended_bytes(width: u8, number: u64) -> u64

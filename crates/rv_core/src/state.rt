@@ -1,4 +1,4 @@
-// The state of a core.
+//! The state of a core.
 ghost use Rattle.std.specs.Prelude.{◌≡◌, ◌+◌, ◌<◌, ◌≤◌, ◌^◌, ◌++◌, [], ◌∷◌, None, IsTrue, IsSome, IfSome, option_map, is_some, option_to_list};
 ghost use Rattle.zs_num.specs.Request.{width_of};
 ghost use Rattle.rv_core.specs.Accesses.{byte_loads, is_in_memory, IsServed};
@@ -20,7 +20,7 @@ use std::marker::Model;
 use zs_num::Request;
 
 /// The register a0.
-const A0: u8 = 10;
+pub(crate) const A0: u8 = 10;
 
 /// The registers of a core, the address of its next instruction, and what it is about.
 #[derive(Debug, Drop)]
@@ -246,10 +246,10 @@ impl Core {
         };
     }
 
-    /// Takes the reply to the access that the instruction in progress needs next. Where that was the
-    /// last, the instruction ends, and the core comes to the next one. Of a reply the lowest bytes
-    /// count, as many as the access has. The answer is the byte that goes to the console, where the
-    /// access belongs to a write call.
+    /// Takes the reply to the access that the instruction in progress needs next. Where that was
+    /// the last, the instruction ends, and the core comes to the next one. Of a reply the lowest
+    /// bytes count, as many as the access has. The answer is the byte that goes to the console,
+    /// where the access belongs to a write call.
     #[inline(always)]
     pub fn answer(&mut self, reply: u64) -> Option<u8>
         requires { IsSome self.old.instruction }
@@ -301,7 +301,7 @@ impl Core {
         }
     }
 
-    // Ends an instruction with its last reply, beside the one from the lower line.
+    /// Ends an instruction with its last reply, beside the one from the lower line.
     #[tactic(auto, unfolding(crate::specs::Effect::ended))]
     fn end(&mut self, lower: Option<Reply>, reply: Reply, destination: Option<Destination>)
         requires narrow { IsNarrow lower }
@@ -314,7 +314,7 @@ impl Core {
         }
     }
 
-    // A byte was written, and so many are left from an address on.
+    /// A byte was written, and so many are left from an address on.
     #[tactic(auto, using(crate::proofs::ByteLoads::loads_first), unfolding(crate::specs::Effect::ended))]
     fn wrote(&mut self, addr: u64, left: u64, count: u64)
         requires begins { self.old.memory.base ≤ addr }
@@ -334,7 +334,7 @@ impl Core {
     }
 }
 
-// The reply from the lower line, which only a load keeps.
+/// The reply from the lower line, which only a load keeps.
 fn kept(destination: Option<Destination>, reply: Reply) -> Option<Reply>
     ensures value { option_to_list result ≡ replies_with (ending_of destination) [] reply }
     ensures narrow { reply.width < 8 → IsNarrow result }

@@ -1,4 +1,4 @@
-// A step of a core: its next instruction, up to its first access if it has one.
+//! A step of a core: its next instruction, up to its first access if it has one.
 ghost use Rattle.std.specs.Prelude.{◌≡◌, ◌<◌, false, IfNone, IfSome, IsTrue, OnSome};
 ghost use Rattle.rv_core.specs.Effect.{effect, goes_on, halts};
 ghost use Rattle.rv_core.specs.Fetch.{fetched_at, HasRegisters};
@@ -25,7 +25,7 @@ impl Core {
         self.ask()
     }
 
-    // What the core asks for.
+    /// What the core asks for.
     fn ask(&self) -> Ask
         ensures value { result ≡ asked self.now.halted self.now.instruction }
         ensures served { IsServedAsk self.now.memory result }
@@ -68,7 +68,7 @@ impl Core {
         }
     }
 
-    // Executes an instruction that the program does not have decoded.
+    /// Executes an instruction that the program does not have decoded.
     #[inline(never)]
     fn execute_apart(&mut self, inst: &Inst) -> bool
         requires free { IsTrue (is_free self.old) }
@@ -79,8 +79,8 @@ impl Core {
         self.execute::<Image>(inst)
     }
 
-    // The instruction at pc, where the program does not have it decoded. Where there is none, the core
-    // halts.
+    /// The instruction at pc, where the program does not have it decoded. Where there is none, the
+    /// core halts.
     #[cold]
     #[inline(never)]
     fn decode<P: Program>(&mut self, program: &P) -> Option<Inst>
@@ -98,7 +98,7 @@ impl Core {
         None
     }
 
-    // Halts, and answers that the core comes to no next instruction.
+    /// Halts, and answers that the core comes to no next instruction.
     pub(crate) fn stop(&mut self, why: Why) -> bool
         ensures value { self.new ≡ halts why self.old }
         ensures free { result ≡ false }
@@ -107,7 +107,7 @@ impl Core {
         false
     }
 
-    // Writes a register, and answers that the core comes to its next instruction.
+    /// Writes a register, and answers that the core comes to its next instruction.
     #[inline(always)]
     pub(crate) fn write(&mut self, rd: u8, value: u64) -> bool
         requires free { IsTrue (is_free self.old) }

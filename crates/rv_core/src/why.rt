@@ -1,4 +1,4 @@
-// Why a core halted.
+//! Why a core halted.
 
 /// Why a core halted.
 #[derive(Clone, Copy, Debug, PartialEq, Eq)]

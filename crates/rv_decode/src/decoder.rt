@@ -1,4 +1,4 @@
-// The decoder: it branches over the fields of a word.
+//! The decoder: it branches over the fields of a word.
 ghost use Rattle.std.specs.Prelude.{◌≡◌, ◌==◌, ◌<◌, ◌↔◌, if◌then◌else◌, option_map, Contains, IsTrue, IfSome};
 ghost use Rattle.rv_decode.specs.InstructionWord.{opcode_of, rs2_of};
 ghost use Rattle.rv_decode.specs.InstructionTable as spec;

@@ -1,5 +1,5 @@
-// The fields of an instruction word and the immediates that it encodes (RISC-V Unprivileged ISA
-// manual, "Base Instruction Formats" and "Immediate Encoding Variants").
+//! The fields of an instruction word and the immediates that it encodes (RISC-V Unprivileged ISA
+//! manual, "Base Instruction Formats" and "Immediate Encoding Variants").
 ghost use Rattle.std.specs.Prelude.{◌≡◌, ◌+◌, ◌-◌, ◌^◌, ◌<◌, ◌≤◌};
 ghost use Rattle.rv_decode.specs.InstructionWord.{bits_of, opcode_of, rd_of, funct3_of, rs1_of, rs2_of, funct7_of, signed};
 ghost use Rattle.rv_decode.specs.InstructionWord as spec;

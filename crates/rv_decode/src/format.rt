@@ -1,4 +1,4 @@
-// The formats of instructions.
+//! The formats of instructions.
 
 /// What a word holds beside the bits that its row of the instruction table states (RISC-V
 /// Unprivileged ISA manual, "Base Instruction Formats" and "Immediate Encoding Variants").

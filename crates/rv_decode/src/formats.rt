@@ -1,4 +1,4 @@
-// The instruction that a word is in each format. A field that the format does not have is 0.
+//! The instruction that a word is in each format. A field that the format does not have is 0.
 ghost use Rattle.std.specs.Prelude.{◌≡◌};
 ghost use Rattle.rv_decode.specs.InstructionTable.{instruction};
 ghost use Rattle.rv_decode.specs.declared.format.Format.TheVariants.{U, J, I, B, S, R, Shift, WordShift, Atomic, LoadReserved, Whole};

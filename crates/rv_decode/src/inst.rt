@@ -1,4 +1,4 @@
-// What a word decodes to.
+//! What a word decodes to.
 use crate::Name;
 
 /// A decoded instruction. A field that its format does not have is 0.

@@ -16,6 +16,3 @@ pub use fields::bits;
 pub use format::Format;
 pub use inst::Inst;
 pub use name::Name;
-
-#[cfg(test)]
-mod tests;

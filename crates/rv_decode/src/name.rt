@@ -1,4 +1,4 @@
-// The names of instructions.
+//! The names of instructions.
 
 /// The instructions of RV64I with the extensions M and A, one variant a row of the instruction
 /// table. The names are those of the RISC-V Unprivileged ISA manual; atomics end in `W` for words

@@ -1,5 +1,5 @@
-// The opcodes of RV64I with the extensions M and A (RISC-V Unprivileged ISA manual, "RISC-V base
-// opcode map"), by the names of the manual.
+//! The opcodes of RV64I with the extensions M and A (RISC-V Unprivileged ISA manual, "RISC-V base
+//! opcode map"), by the names of the manual.
 
 pub const LOAD: u32 = 0x03;
 

@@ -1,4 +1,4 @@
-// The encoder: the bits of the instruction's row, and the fields.
+//! The encoder: the bits of the instruction's row, and the fields.
 ghost use Rattle.std.specs.Prelude.{◌≡◌, ℕ, ◌^◌, ◌<◌, Some};
 ghost use Rattle.rv_decode.specs.InstructionTable.{decoded};
 ghost use Rattle.rv_decode.specs.Ranges.{IsInRange, AreRegisters};

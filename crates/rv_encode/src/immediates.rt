@@ -1,5 +1,5 @@
-// The bits of a word that hold an immediate (RISC-V Unprivileged ISA manual, "Immediate Encoding
-// Variants").
+//! The bits of a word that hold an immediate (RISC-V Unprivileged ISA manual, "Immediate Encoding
+//! Variants").
 ghost use Rattle.std.specs.Prelude.{◌≡◌, ◌+◌, ◌-◌, ◌^◌, ◌<◌, ◌≤◌, ◌<ℤ◌, ◌≤ℤ◌, pos, neg_ℤ};
 ghost use Rattle.rv_encode.specs.Encoding as spec;
 ghost use Rattle.rv_decode.specs.Ranges.{IsImmediate};

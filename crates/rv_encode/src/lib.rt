@@ -7,6 +7,3 @@ mod immediates;
 mod rows;
 
 pub use encoder::encode;
-
-#[cfg(test)]
-mod tests;

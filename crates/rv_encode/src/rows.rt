@@ -1,4 +1,4 @@
-// The bits that each instruction's row of the instruction table states, with its format.
+//! The bits that each instruction's row of the instruction table states, with its format.
 use rv_decode::Format;
 
 /// The value and the format of the row of each name, in the order of the names (RISC-V Unprivileged

@@ -10,7 +10,7 @@ use Rattle.std.specs.Int.{byte_at, bytes_low_first}
 use Rattle.std.specs.List.{flat_map, position_or_len}
 use Rattle.byteorder.specs.Endian.{little_bytes, little_number}
 use Rattle.byteorder.specs.Numbers.{little_from-cons, little_from-lt}
-use Rattle.access_log.specs.Schedule.{AreTurns, IntervalLists}
+use Rattle.access_log.specs.Schedule.{AreTurns, ScheduleState}
 use Rattle.schedule_file.specs.declared.bad_schedule.BadSchedule.{BadSchedule}
 use Rattle.schedule_file.specs.declared.bad_schedule.BadSchedule.TheVariants as bad
 use Rattle.schedule_file.specs.ScheduleFile.{count_of, field_at, header_bytes, known_turns, list_bytes, lists_from, magic, read_number, schedule_file_of, schedule_of, then_read, turns_at}
@@ -206,14 +206,14 @@ header_read cores bytes count low is =
       few = count_field.1;
     }
 
-pub written_again : (cores : ℕ) (bytes : List ℕ) (s : IntervalLists) → All (λ byte. byte < 256) bytes → schedule_of cores bytes ≡ Ok s
+pub written_again : (cores : ℕ) (bytes : List ℕ) (s : ScheduleState) → All (λ byte. byte < 256) bytes → schedule_of cores bytes ≡ Ok s
     → (schedule_file_of s ≡ bytes) × (s.cores ≡ cores) × AreTurns s
 unfolding schedule_of header_bytes
 written_again cores bytes s low is =
     let header = first_read (count_of cores bytes) (λ count. then_read (lists_from cores bytes count 0 16) (λ lists. Ok (record { cores = cores; lists = lists }))) s is in
     let count = header.0 in
     let body = first_read (lists_from cores bytes count 0 16) (λ lists. Ok (record { cores = cores; lists = lists })) s header.2 in
-    let read : IntervalLists = record { cores = cores; lists = body.0 } in
+    let read : ScheduleState = record { cores = cores; lists = body.0 } in
     let all : read ≡ s = cc (body.2) in
     let head = header_read cores bytes count low header.1 in
     let rest = lists_read cores bytes count 0 16 body.0 low body.1 in

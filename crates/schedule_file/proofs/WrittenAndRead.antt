@@ -7,7 +7,7 @@ use Rattle.std.proofs.lemmas.List.Sums.{position_or_len_is}
 use Rattle.std.specs.List.{flat_map, position_or_len}
 use Rattle.byteorder.specs.Endian.{little_bytes, little_number}
 use Rattle.byteorder.specs.Numbers.{length-bytes_low_first, little_number-reads_back}
-use Rattle.access_log.specs.Schedule.{AreTurns, IntervalLists}
+use Rattle.access_log.specs.Schedule.{AreTurns, ScheduleState}
 use Rattle.schedule_file.specs.ScheduleFile.{count_of, field_at, header_bytes, known_turns, list_bytes, lists_from, magic, read_number, schedule_file_of, schedule_of, then_read, turns_at}
 
 -- a field, and then the rest
@@ -82,7 +82,7 @@ lists_are cores bytes interval at (turns ∷ lists) known short is =
 
 -- ---- the header
 
-pub read_again : (s : IntervalLists) → AreTurns s → s.cores ≤ 64 → schedule_of s.cores (schedule_file_of s) ≡ Ok s
+pub read_again : (s : ScheduleState) → AreTurns s → s.cores ≤ 64 → schedule_of s.cores (schedule_file_of s) ≡ Ok s
 unfolding schedule_of count_of header_bytes
 read_again s turns few =
     let cores = little_bytes 4 s.cores in

@@ -1,13 +1,13 @@
 -- Schedules and their files, both ways.
 use Rattle.std.specs.Prelude.{◌≡◌, ℕ, ◌≤◌, ◌<◌, List, All, Ok}
-use Rattle.access_log.specs.Schedule.{AreTurns, IntervalLists}
+use Rattle.access_log.specs.Schedule.{AreTurns, ScheduleState}
 use Rattle.schedule_file.specs.ScheduleFile.{schedule_file_of, schedule_of}
 
 -- A schedule of at most 64 cores is what its file says.
 abbrev pub EachScheduleIsReadAgain : Type 0
-EachScheduleIsReadAgain = (s : IntervalLists) → AreTurns s → s.cores ≤ 64 → schedule_of s.cores (schedule_file_of s) ≡ Ok s
+EachScheduleIsReadAgain = (s : ScheduleState) → AreTurns s → s.cores ≤ 64 → schedule_of s.cores (schedule_file_of s) ≡ Ok s
 
 -- What a list of bytes says, for any number of cores, is a schedule of that many, which has these bytes as its file.
 abbrev pub EachFileIsWrittenAgain : Type 0
-EachFileIsWrittenAgain = (cores : ℕ) (bytes : List ℕ) (s : IntervalLists) → All (λ byte. byte < 256) bytes → schedule_of cores bytes ≡ Ok s
+EachFileIsWrittenAgain = (cores : ℕ) (bytes : List ℕ) (s : ScheduleState) → All (λ byte. byte < 256) bytes → schedule_of cores bytes ≡ Ok s
     → (schedule_file_of s ≡ bytes) × (s.cores ≡ cores) × AreTurns s

@@ -3,7 +3,7 @@ use Rattle.std.specs.Prelude.{◌≡◌, ℕ, zero, suc, ◌+◌, ◌==◌, nat_
 use Rattle.std.specs.List.{flat_map, position}
 use Rattle.std.specs.Str.{bytes_eq}
 use Rattle.byteorder.specs.Endian.{little_bytes, little_number}
-use Rattle.access_log.specs.Schedule.{IntervalLists}
+use Rattle.access_log.specs.Schedule.{ScheduleState}
 use Rattle.schedule_file.specs.declared.bad_schedule.BadSchedule.{BadSchedule}
 use Rattle.schedule_file.specs.declared.bad_schedule.BadSchedule.TheVariants as bad
 use Rattle.schedule_file.specs.declared.bad_schedule.ScheduleReadFail.{ScheduleReadFail}
@@ -19,11 +19,11 @@ abbrev pub list_bytes : List ℕ → List ℕ
 list_bytes turns = little_bytes 4 (length turns) ++ turns
 
 -- the magic, the version, how many cores there are, and how many intervals
-unfoldable pub header_bytes : IntervalLists → List ℕ
+unfoldable pub header_bytes : ScheduleState → List ℕ
 header_bytes s = magic ++ (little_bytes 4 1 ++ (little_bytes 4 s.cores ++ little_bytes 4 (length s.lists)))
 
 -- the header, and the list of each interval
-abbrev pub schedule_file_of : IntervalLists → List ℕ
+abbrev pub schedule_file_of : ScheduleState → List ℕ
 schedule_file_of s = header_bytes s ++ flat_map list_bytes s.lists
 
 -- ---- read, from front to back
@@ -69,7 +69,7 @@ count_of cores bytes =
     else Err bad.Magic)
 
 -- what a file for so many cores says, or the first thing that is wrong with it
-unfoldable pub schedule_of : (cores : ℕ) → (bytes : List ℕ) → Result IntervalLists BadSchedule
+unfoldable pub schedule_of : (cores : ℕ) → (bytes : List ℕ) → Result ScheduleState BadSchedule
 schedule_of cores bytes =
     then_read (count_of cores bytes) (λ count.
     then_read (lists_from cores bytes count 0 16) (λ lists. Ok (record { cores = cores; lists = lists })))

@@ -1,4 +1,4 @@
-// Why a file is not a schedule.
+//! Why a file is not a schedule.
 ghost use Rattle.std.specs.Prelude.{◌≡◌};
 ghost use Rattle.schedule_file.specs.declared.bad_schedule.ScheduleReadFail.TheVariants as fail;
 

@@ -11,10 +11,7 @@ pub use bad_schedule::{BadSchedule, ScheduleReadFail};
 pub use reader::read;
 pub use writer::write;
 
-// What a file begins with.
+/// What a file begins with.
 const MAGIC: [u8; 4] = *b"ZSCH";
 
 const VERSION: u32 = 1;
-
-#[cfg(test)]
-mod tests;

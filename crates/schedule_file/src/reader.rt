@@ -1,4 +1,4 @@
-// Reads a schedule from front to back.
+//! Reads a schedule from front to back.
 ghost use Rattle.std.specs.Prelude.{◌≡◌, ◌≤◌, ◌<◌, ◌+◌, ◌^◌, All, length, take, drop, vec_len, nat_le, IfOk, IfErr, IfSome, Ok, Err, None};
 ghost use Rattle.std.specs.List.{position};
 ghost use Rattle.schedule_file.specs.ScheduleFile.{field_at, read_number, schedule_of, turns_at, count_of, AnswersAs};
@@ -9,10 +9,11 @@ use byteorder::{ByteOrder, LittleEndian};
 use std::alloc::Global;
 use zs_num::NoMemory;
 
-// Where the lists of the intervals begin.
+/// Where the lists of the intervals begin.
 const HEADER_LEN: usize = 16;
 
-/// The schedule of a file for a machine of so many cores, or the first thing that is wrong with the file.
+/// The schedule of a file for a machine of so many cores, or the first thing that is wrong with the
+/// file.
 #[tactic(auto, unfolding(crate::specs::ScheduleFile::schedule_of))]
 pub fn read(alloc: Global, bytes: &[u8], cores: u16) -> Result<Schedule, ScheduleReadFail>
     ensures { AnswersAs (λ s. s) result (schedule_of cores bytes.now) }
@@ -32,7 +33,7 @@ pub fn read(alloc: Global, bytes: &[u8], cores: u16) -> Result<Schedule, Schedul
     }
 }
 
-// How many intervals the header tells, of a schedule for so many cores.
+/// How many intervals the header tells, of a schedule for so many cores.
 #[tactic(auto, unfolding(crate::specs::ScheduleFile::count_of))]
 fn intervals(bytes: &[u8], cores: u16) -> Result<u32, BadSchedule>
     ensures value { result ≡ count_of cores bytes.now }
@@ -52,7 +53,7 @@ fn intervals(bytes: &[u8], cores: u16) -> Result<u32, BadSchedule>
     number(bytes, 12)
 }
 
-// The list of an interval, which begins at this byte.
+/// The list of an interval, which begins at this byte.
 #[tactic(auto, unfolding(crate::specs::ScheduleFile::turns_at))]
 fn turns(
     alloc: Global,
@@ -79,7 +80,7 @@ fn turns(
     }
 }
 
-// The first place of a list whose number is that of no core.
+/// The first place of a list whose number is that of no core.
 fn stranger(list: &[u8], cores: u16) -> Option<usize>
     ensures value { result ≡ position (nat_le cores) list.now }
     ensures bound { IfSome result (λ place. place < length list.now) }
@@ -88,7 +89,7 @@ fn stranger(list: &[u8], cores: u16) -> Option<usize>
     list.iter().position(|core| cores <= u16::from(*core))
 }
 
-// The numbers of a list of bytes.
+/// The numbers of a list of bytes.
 fn widened(alloc: Global, list: &[u8]) -> Result<Vec<u16>, NoMemory>
     ensures { IfOk result (λ wide. wide.items ≡ list.now) }
 {
@@ -96,7 +97,7 @@ fn widened(alloc: Global, list: &[u8]) -> Result<Vec<u16>, NoMemory>
     Ok(wide)
 }
 
-// The number at this byte.
+/// The number at this byte.
 fn number(bytes: &[u8], at: usize) -> Result<u32, BadSchedule>
     requires { at ≤ length bytes.now + 16 }
     ensures value { result ≡ read_number bytes.now at }
@@ -105,7 +106,7 @@ fn number(bytes: &[u8], at: usize) -> Result<u32, BadSchedule>
     Ok(LittleEndian::read_u32(field(bytes, at, 4)?))
 }
 
-// So many bytes from this one on.
+/// So many bytes from this one on.
 fn field(bytes: &[u8], at: usize, count: usize) -> Result<&[u8], BadSchedule>
     requires place { at ≤ length bytes.now + 16 }
     requires count { count < 2 ^ 32 }

@@ -1,4 +1,4 @@
-// Writes a schedule.
+//! Writes a schedule.
 ghost use Rattle.std.specs.Prelude.{◌≡◌, ◌≤◌, ◌<◌, ◌^◌, ◌++◌, All, length, IfOk, OnOk};
 ghost use Rattle.byteorder.specs.Endian.{little_bytes};
 ghost use Rattle.schedule_file.specs.ScheduleFile.{header_bytes, list_bytes, schedule_file_of};
@@ -20,7 +20,7 @@ pub fn write(alloc: Global, s: &Schedule) -> Result<Bytes, NoMemory>
     Ok(Bytes::of(out))
 }
 
-// The magic, the version, how many cores there are, and how many intervals.
+/// The magic, the version, how many cores there are, and how many intervals.
 #[tactic(auto, unfolding(crate::specs::ScheduleFile::header_bytes))]
 fn header(alloc: Global, s: &Schedule) -> Result<Vec<u8>, NoMemory>
     ensures { IfOk result (λ out. out.items ≡ header_bytes s.now) }
@@ -39,7 +39,7 @@ fn put_number(out: &mut Vec<u8>, number: u32) -> Result<(), NoMemory>
     Ok(())
 }
 
-// How many turns a list has, and the core of each in a byte.
+/// How many turns a list has, and the core of each in a byte.
 fn put_list(out: &mut Vec<u8>, turns: &[u16]) -> Result<(), NoMemory>
     requires bytes { All (λ core. core < 256) turns.now }
     requires count { length turns.now < 2 ^ 32 }

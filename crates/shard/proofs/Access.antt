@@ -9,7 +9,7 @@ use Rattle.cache_set.specs.declared.letter.Letter.{Letter}
 use Rattle.cache_set.specs.declared.letter.Letter.TheVariants.{M, E, S, I}
 use Rattle.cache_set.specs.Ways.{kept_of, without, used, changed}
 use Rattle.shard.specs.CacheSteps.{ChangesOne, DropsAll, DropsOthers, LeavesFree, MakesL2Room, MakesRoom, after_at, copies_at}
-use Rattle.shard.specs.Coherence.{Caches, dirty_at, in_own_set_of, is_alone, is_held, is_modified, l2_victim, letter_at, looked_up, marked_dirty, on_others, other_after, others_changed, own_after, own_victim, recalled, room_made, some_other, taken_in, taken_into_l2, written_back}
+use Rattle.shard.specs.Coherence.{Caches, dirty_at, in_own_set_of, is_alone, is_valid, is_modified, l2_victim, letter_at, looked_up, marked_dirty, on_others, other_after, others_changed, own_after, own_victim, recalled, room_made, some_other, taken_in, taken_into_l2, written_back}
 use Rattle.shard.specs.Lines.{in_set_of, set_number, set_of}
 use Rattle.shard.proofs.Entries.{still_there, used_kept}
 use Rattle.shard.proofs.Others.{fills, has_left}
@@ -169,7 +169,7 @@ quiet_after E = refl
 quiet_after S = refl
 quiet_after I = refl
 
-held_after_read : (l : Letter) → is_held (other_after false l) ≡ is_held l
+held_after_read : (l : Letter) → is_valid (other_after false l) ≡ is_valid l
 held_after_read M = refl
 held_after_read E = refl
 held_after_read S = refl
@@ -197,7 +197,7 @@ module _ (c : Caches) (core line : ℕ) (b : Bool) (none : letter_at c core line
     in_l2 = subst (λ (o : Option Bool). IsSome o) (sym (ap (λ (x : Caches). dirty_at x line) after ∙ l2_others (other_after false) core line collected line)) (collected_in_l2 b line line c there);
     shared = λ o apart. ap is_alone (here o) ∙ quiet_after (letter_at collected o line);
     written = λ wrote. absurd (not_both write wrote is);
-    held = λ _ o apart. ap is_held (here o) ∙ (held_after_read (letter_at collected o line) ∙ ap is_held (letters_collected b line c o line));
+    held = λ _ o apart. ap is_valid (here o) ∙ (held_after_read (letter_at collected o line) ∙ ap is_valid (letters_collected b line c o line));
   } where
     here : (x : ℕ) → letter_at new x line ≡ other_after false (letter_at collected x line)
     here x = letters x line ∙ rw (eq-eqb line line refl) refl
@@ -207,8 +207,8 @@ pub own_same : (write : Bool) (h k : Bool) → (write ≡ false → h ≡ k) →
 own_same true h k e = refl
 own_same false h k e = rw (e refl) refl
 
-pub held_same : (c d : Caches) (core line : ℕ) → length c.l1 ≡ length d.l1 → ((o : ℕ) → o ≢ core → is_held (letter_at c o line) ≡ is_held (letter_at d o line)) → some_other is_held c core line ≡ some_other is_held d core line
-held_same c d core line longer e = some_other_same is_held is_held c d core line longer e
+pub held_same : (c d : Caches) (core line : ℕ) → length c.l1 ≡ length d.l1 → ((o : ℕ) → o ≢ core → is_valid (letter_at c o line) ≡ is_valid (letter_at d o line)) → some_other is_valid c core line ≡ some_other is_valid d core line
+held_same c d core line longer e = some_other_same is_valid is_valid c d core line longer e
 
 -- ---- room in the L2
 dirty_recalled : (v : ℕ) (c : Caches) (q : ℕ) → dirty_at (recalled v c) q ≡ dirty_at c q
@@ -243,11 +243,11 @@ l2_room c new line victim is after drops = record {
 
 -- ---- the cases of the table in which the core has no copy
 pub after_l2 : (c : Caches) (core line : ℕ) (write : Bool) → letter_at c core line ≡ I → IsSome (dirty_at c line)
-    → taken_in core line (own_after write I (some_other is_held c core line)) (on_others (L2 false) write core line (looked_up line c)) ≡ after_at c core line write
+    → taken_in core line (own_after write I (some_other is_valid c core line)) (on_others (L2 false) write core line (looked_up line c)) ≡ after_at c core line write
 after_l2 c core line true is there = rw (is, there) refl
 after_l2 c core line false is there = rw (is, there) refl
 
 pub after_miss : (c : Caches) (core line : ℕ) (write : Bool) → letter_at c core line ≡ I → dirty_at c line ≡ None
-    → taken_in core line (own_after write I (some_other is_held c core line)) (taken_into_l2 line (room_made (l2_victim c line) c)) ≡ after_at c core line write
+    → taken_in core line (own_after write I (some_other is_valid c core line)) (taken_into_l2 line (room_made (l2_victim c line) c)) ≡ after_at c core line write
 after_miss c core line true is none = rw (is, none) refl
 after_miss c core line false is none = rw (is, none) refl

@@ -11,7 +11,7 @@ use Rattle.cache_set.specs.Ways.{kept_of, used, changed, filled, last_of_full}
 use Rattle.mesi_dir.specs.LineMap.{LineMap, Sharing, HasOther, KeepsOthers, is_among, is_sharer, nobody, owner_of, sharing_of}
 use Rattle.shard.specs.CacheLayout.{AreLists, ChangesLetter, CoreLines, HasCopies, IsCore, IsShared, SharedLines, Tells, TellsLetter, copies_of, is_owner, lists_view, no_lines, own_letter, shared_of, sharing_at, sharing_without}
 use Rattle.shard.specs.CacheSteps.{ChangesOne, HaveCopies}
-use Rattle.shard.specs.Coherence.{Caches, is_alone, is_held, letter_at, dirty_at, empty_caches, taken_into_l2, in_own_set_of, l2_victim, looked_up, marked_dirty, own_after, own_victim, some_other}
+use Rattle.shard.specs.Coherence.{Caches, is_alone, is_valid, letter_at, dirty_at, empty_caches, taken_into_l2, in_own_set_of, l2_victim, looked_up, marked_dirty, own_after, own_victim, some_other}
 use Rattle.shard.specs.Lines.{in_set_of, set_number, set_of}
 use Rattle.shard.proofs.SomeCores.{some_other_false, some_other_true}
 
@@ -21,14 +21,14 @@ module _ {letters new_letters : (core line : ℕ) → Letter} {sharing new_shari
   pub tells_letter : (core line : ℕ) (letter : Letter)
       → ((c q : ℕ) → new_letters c q ≡ cond (nat_eq core c) (cond (nat_eq line q) letter (letters c q)) (letters c q))
       → ((q : ℕ) → q ≢ line → new_sharing q ≡ sharing q)
-      → ((c : ℕ) → is_among (new_sharing line) c ≡ cond (nat_eq core c) (is_held letter) (is_among (sharing line) c))
+      → ((c : ℕ) → is_among (new_sharing line) c ≡ cond (nat_eq core c) (is_valid letter) (is_among (sharing line) c))
       → ((c : ℕ) → is_owner (new_sharing line).owner c ≡ cond (nat_eq core c) (is_alone letter) (is_owner (sharing line).owner c))
       → Tells new_letters new_sharing
   tells_letter core line letter now others holds owns = record {
     holds = λ c q.
-        elim (cases_eq q line) as (λ _. is_among (new_sharing q) c ≡ is_held (new_letters c q)) [
-          | inl e ↦ rw (now c q, e, eq-eqb line line refl) (holds c ∙ by_core is_held (nat_eq core c) (letters c line) (is_among (sharing line) c) (tells.holds c line))
-          | inr e ↦ rw (now c q, others q e, ne_eqb line q (λ k. e (sym k))) (tells.holds c q ∙ same is_held (nat_eq core c) (letters c q))
+        elim (cases_eq q line) as (λ _. is_among (new_sharing q) c ≡ is_valid (new_letters c q)) [
+          | inl e ↦ rw (now c q, e, eq-eqb line line refl) (holds c ∙ by_core is_valid (nat_eq core c) (letters c line) (is_among (sharing line) c) (tells.holds c line))
+          | inr e ↦ rw (now c q, others q e, ne_eqb line q (λ k. e (sym k))) (tells.holds c q ∙ same is_valid (nat_eq core c) (letters c q))
         ];
     owns = λ c q.
         elim (cases_eq q line) as (λ _. is_owner (new_sharing q).owner c ≡ is_alone (new_letters c q)) [
@@ -44,7 +44,7 @@ module _ {letters new_letters : (core line : ℕ) → Letter} {sharing new_shari
     same test true l = refl
     same test false l = refl
 
-  pub tells_same : ((c q : ℕ) → is_held (new_letters c q) ≡ is_held (letters c q)) → ((c q : ℕ) → is_alone (new_letters c q) ≡ is_alone (letters c q)) → ((q : ℕ) → new_sharing q ≡ sharing q) → Tells new_letters new_sharing
+  pub tells_same : ((c q : ℕ) → is_valid (new_letters c q) ≡ is_valid (letters c q)) → ((c q : ℕ) → is_alone (new_letters c q) ≡ is_alone (letters c q)) → ((q : ℕ) → new_sharing q ≡ sharing q) → Tells new_letters new_sharing
   tells_same held alone same = record {
     holds = λ c q. rw (same q, held c q) (tells.holds c q);
     owns = λ c q. rw (same q, alone c q) (tells.owns c q);
@@ -164,7 +164,7 @@ module _ (shards l1_ways l2_ways : ℕ) (l1 : List CoreLines) (l2 : List SharedL
   -- another letter that tells the same
   pub step_core : (core line : ℕ) (letter : Letter) (old new : CoreLines)
       → old ≡ get_or l1 core old → core < length l1 → IsCore shards l1_ways new → ChangesLetter old new line letter
-      → is_held letter ≡ is_held (own_letter old line) → is_alone letter ≡ is_alone (own_letter old line)
+      → is_valid letter ≡ is_valid (own_letter old line) → is_alone letter ≡ is_alone (own_letter old line)
       → AreLists shards l1_ways l2_ways (set l1 core new) l2
   step_core core line letter old new is within new_core changes held alone =
       let old_core : IsCore shards l1_ways old = is_core shards l1_ways l2_ways l1 l2 are core old is within in
@@ -178,7 +178,7 @@ module _ (shards l1_ways l2_ways : ℕ) (l1 : List CoreLines) (l2 : List SharedL
         each_core = All-set (IsCore shards l1_ways) l1 core new new_core are.each_core;
         each_set = rw (length-set l1 core new) are.each_set;
         tells = tells_same are.tells
-            (λ c q. rw (now c q) (keeps is_held (held ∙ ap is_held (sym was)) c q))
+            (λ c q. rw (now c q) (keeps is_valid (held ∙ ap is_valid (sym was)) c q))
             (λ c q. rw (now c q) (keeps is_alone (alone ∙ ap is_alone (sym was)) c q))
             (λ q. refl);
       } where
@@ -205,7 +205,7 @@ module _ (shards l1_ways l2_ways : ℕ) (l1 : List CoreLines) (l2 : List SharedL
         few_cores = are.few_cores;
         each_core = are.each_core;
         each_set = All-set (IsShared l2_ways (length l1)) l2 i t (record { same_ways = ways ∙ old_set.same_ways; same_cores = ap (λ (m : LineMap). m.cores) maps ∙ old_set.same_cores }) are.each_set;
-        tells = tells_same are.tells (λ c q. ap is_held (letter_same shards l1_ways l2_ways l1 l2 (set l2 i t) c q)) (λ c q. ap is_alone (letter_same shards l1_ways l2_ways l1 l2 (set l2 i t) c q))
+        tells = tells_same are.tells (λ c q. ap is_valid (letter_same shards l1_ways l2_ways l1 l2 (set l2 i t) c q)) (λ c q. ap is_alone (letter_same shards l1_ways l2_ways l1 l2 (set l2 i t) c q))
             (λ q. sharing_set shards l2 line i s t number here is_s (λ _ x. x) (λ q. ap (λ (m : LineMap). sharing_of m q) maps) q ∙ either (nat_eq (q / shards % length l2) i) (sharing_at shards l2 q));
       } where
         either : (b : Bool) (x : Sharing) → cond b x x ≡ x
@@ -286,7 +286,7 @@ module _ (shards l1_ways l2_ways : ℕ) (l1 : List CoreLines) (l2 : List SharedL
   dirty_is = ap (kept_of line) list_is
 
   -- the directory tells the letters
-  pub holds_is : (core : ℕ) → is_sharer s.map line core ≡ is_held (letter_at before core line)
+  pub holds_is : (core : ℕ) → is_sharer s.map line core ≡ is_valid (letter_at before core line)
   holds_is core = ap (λ (x : Sharing). is_among x core) (sym (sharing_of_set shards l1_ways l2_ways l1 l2 are line i s at_place is)) ∙ are.tells.holds core line
 
   pub owns_is : (core : ℕ) → is_owner (owner_of s.map line) core ≡ is_alone (letter_at before core line)
@@ -351,7 +351,7 @@ module _ (shards l1_ways l2_ways : ℕ) (l1 : List CoreLines) (l2 : List SharedL
       tells = record {
         holds = λ core q.
             rw (sharing_set shards l2 line i s come_set at_place below_sets is (sharing_without (last_of_full s.ways s.list)) sharing q, letter_same shards l1_ways l2_ways l1 l2 (set l2 i come_set) core q)
-            (told is_held is_among refl (λ c. refl) are.tells.holds (last_of_full s.ways s.list) refl core q (nat_eq (q / shards % length l2) i));
+            (told is_valid is_among refl (λ c. refl) are.tells.holds (last_of_full s.ways s.list) refl core q (nat_eq (q / shards % length l2) i));
         owns = λ core q.
             rw (sharing_set shards l2 line i s come_set at_place below_sets is (sharing_without (last_of_full s.ways s.list)) sharing q, letter_same shards l1_ways l2_ways l1 l2 (set l2 i come_set) core q)
             (told is_alone (λ x c. is_owner x.owner c) refl (λ c. refl) are.tells.owns (last_of_full s.ways s.list) refl core q (nat_eq (q / shards % length l2) i));
@@ -394,7 +394,7 @@ module _ (shards l1_ways l2_ways : ℕ) (l1 : List CoreLines) (l2 : List SharedL
         letter_set shards l1_ways l2_ways l1 l2 other_l2 core old new is below_cores core_is.same_shards (core_stays copies).same_shards line letter changes
 
     -- with a letter that tells the directory nothing new
-    pub alone_are : (letter : Letter) → ChangesLetter old new line letter → HasCopies new → is_held letter ≡ is_held (own_letter old line) → is_alone letter ≡ is_alone (own_letter old line)
+    pub alone_are : (letter : Letter) → ChangesLetter old new line letter → HasCopies new → is_valid letter ≡ is_valid (own_letter old line) → is_alone letter ≡ is_alone (own_letter old line)
         → AreLists shards l1_ways l2_ways (set l1 core new) l2
     alone_are letter changes copies held alone =
         step_core shards l1_ways l2_ways l1 l2 are core line letter old new is below_cores (core_stays copies) changes held alone
@@ -410,13 +410,13 @@ module _ (shards l1_ways l2_ways : ℕ) (l1 : List CoreLines) (l2 : List SharedL
           (at_place shards l1_ways l2_ways l1 l2 are line i s number within is_s) is_s (ap (λ (s : SharedLines). s.ways) rest) tells
 
 -- ---- letters
-pub alone_held : (letter : Letter) → is_alone letter ≡ true → is_held letter ≡ true
+pub alone_held : (letter : Letter) → is_alone letter ≡ true → is_valid letter ≡ true
 alone_held M h = refl
 alone_held E h = refl
 alone_held S h = absurd cc
 alone_held I h = absurd cc
 
-pub told_as : (old new : LineMap) (core line : ℕ) (letter other : Letter) → is_held letter ≡ is_held other → is_alone letter ≡ is_alone other → TellsLetter old new core line letter → TellsLetter old new core line other
+pub told_as : (old new : LineMap) (core line : ℕ) (letter other : Letter) → is_valid letter ≡ is_valid other → is_alone letter ≡ is_alone other → TellsLetter old new core line letter → TellsLetter old new core line other
 told_as old new core line letter other held alone t = record {
   holds = λ c. t.holds c ∙ ap (λ (b : Bool). cond (nat_eq core c) b (is_sharer old line c)) held;
   owns = λ c. t.owns c ∙ ap (λ (b : Bool). cond (nat_eq core c) b (is_owner (owner_of old line) c)) alone;
@@ -429,7 +429,7 @@ told_new old new core line true false h t = let bad : false ≡ true = h refl in
 told_new old new core line false true h t = t
 told_new old new core line false false h t = t
 
-pub not_held : (letter : Letter) → is_held letter ≡ false → letter ≡ I
+pub not_held : (letter : Letter) → is_valid letter ≡ false → letter ≡ I
 not_held M h = absurd cc
 not_held E h = absurd cc
 not_held S h = absurd cc
@@ -445,42 +445,42 @@ module _ (shards l1_ways l2_ways : ℕ) (l1 : List CoreLines) (l2 : List SharedL
   now = lists_view shards l1_ways l2_ways l1 l2
 
   -- a core that has the line is known
-  pub held_below : (core : ℕ) → is_held (letter_at now core line) ≡ true → core < length now.l1
+  pub held_below : (core : ℕ) → is_valid (letter_at now core line) ≡ true → core < length now.l1
   held_below core h =
       elim (cases_lt core (length now.l1)) as (λ _. core < length now.l1) [
         | inl l ↦ l
         | inr l ↦
             let none : letter_at now core line ≡ I = letter_past shards l1_ways l2_ways l1 l2 core line (omega (arith, length-map l1 (λ (c : CoreLines). c.sets))) in
-            let bad : is_held I ≡ true = rw none at h in absurd cc
+            let bad : is_valid I ≡ true = rw none at h in absurd cc
       ]
 
   module _ (core : ℕ) where
-    pub other_held : HasOther s.map line core → some_other is_held now core line ≡ true
+    pub other_held : HasOther s.map line core → some_other is_valid now core line ≡ true
     other_held other =
-        let held : is_held (letter_at now other.0 line) ≡ true = sym (holds_is shards l1_ways l2_ways l1 l2 are line i s number within is other.0) ∙ other.2 in
-        some_other_true is_held now line core other.0 (held_below other.0 held) other.1 held
+        let held : is_valid (letter_at now other.0 line) ≡ true = sym (holds_is shards l1_ways l2_ways l1 l2 are line i s number within is other.0) ∙ other.2 in
+        some_other_true is_valid now line core other.0 (held_below other.0 held) other.1 held
 
-    pub none_held : (HasOther s.map line core → ⊥) → (other : ℕ) → other ≢ core → is_held (letter_at now other line) ≡ false
+    pub none_held : (HasOther s.map line core → ⊥) → (other : ℕ) → other ≢ core → is_valid (letter_at now other line) ≡ false
     none_held h other apart =
-        elim (cases_Bool (is_held (letter_at now other line))) as (λ _. is_held (letter_at now other line) ≡ false) [
+        elim (cases_Bool (is_valid (letter_at now other line))) as (λ _. is_valid (letter_at now other line) ≡ false) [
           | inl t ↦ absurd (h (other, apart, holds_is shards l1_ways l2_ways l1 l2 are line i s number within is other ∙ t))
           | inr f ↦ f
         ]
 
     pub no_other : ((other : ℕ) → other ≢ core → letter_at now other line ≡ I) → HasOther s.map line core → ⊥
     no_other none other =
-        both_ways (is_sharer s.map line other.0) other.2 (holds_is shards l1_ways l2_ways l1 l2 are line i s number within is other.0 ∙ ap is_held (none other.0 other.1))
+        both_ways (is_sharer s.map line other.0) other.2 (holds_is shards l1_ways l2_ways l1 l2 are line i s number within is other.0 ∙ ap is_valid (none other.0 other.1))
 
-    pub some_other_is : (r : Bool) → (IsTrue r ↔ HasOther s.map line core) → r ≡ some_other is_held now core line
+    pub some_other_is : (r : Bool) → (IsTrue r ↔ HasOther s.map line core) → r ≡ some_other is_valid now core line
     some_other_is true h = sym (other_held (h.0 refl))
-    some_other_is false h = sym (some_other_false is_held now line core (none_held (λ other. both_ways false (h.1 other) refl)))
+    some_other_is false h = sym (some_other_false is_valid now line core (none_held (λ other. both_ways false (h.1 other) refl)))
 
-    pub some_other_not : (r : Bool) → (IsTrue r ↔ (HasOther s.map line core → ⊥)) → some_other is_held now core line ≡ not r
-    some_other_not true h = some_other_false is_held now line core (none_held (h.0 refl))
+    pub some_other_not : (r : Bool) → (IsTrue r ↔ (HasOther s.map line core → ⊥)) → some_other is_valid now core line ≡ not r
+    some_other_not true h = some_other_false is_valid now line core (none_held (h.0 refl))
     some_other_not false h =
-        elim (cases_Bool (some_other is_held now core line)) as (λ _. some_other is_held now core line ≡ true) [
+        elim (cases_Bool (some_other is_valid now core line)) as (λ _. some_other is_valid now core line ≡ true) [
           | inl t ↦ t
-          | inr f ↦ absurd (both_ways false (h.1 (λ other. both_ways (some_other is_held now core line) (other_held other) f)) refl)
+          | inr f ↦ absurd (both_ways false (h.1 (λ other. both_ways (some_other is_valid now core line) (other_held other) f)) refl)
         ]
 
   -- the owner is known
@@ -498,7 +498,7 @@ module _ (shards l1_ways l2_ways : ℕ) (l1 : List CoreLines) (l2 : List SharedL
       not_held (letter_at now core line) (sym (holds_is shards l1_ways l2_ways l1 l2 are line i s number within is core) ∙ within_set absent core)
 
   -- a line that a core has is in the L2
-  pub in_l2 : ((c : ℕ) → is_sharer s.map line c ≡ true → IsSome (kept_of line s.list)) → (core : ℕ) → is_held (letter_at now core line) ≡ true → IsSome (dirty_at now line)
+  pub in_l2 : ((c : ℕ) → is_sharer s.map line c ≡ true → IsSome (kept_of line s.list)) → (core : ℕ) → is_valid (letter_at now core line) ≡ true → IsSome (dirty_at now line)
   in_l2 within_set core held =
       subst (λ (o : Option Bool). IsSome o) (sym (dirty_is shards l1_ways l2_ways l1 l2 are line i s number within is)) (within_set core (holds_is shards l1_ways l2_ways l1 l2 are line i s number within is core ∙ held))
 

@@ -6,7 +6,7 @@ use Rattle.zs_num.specs.declared.entry.Outcome.TheVariants.{L2, Miss}
 use Rattle.zs_num.specs.declared.request.Request.{Request}
 use Rattle.cache_set.specs.declared.letter.Letter.{Letter}
 use Rattle.cache_set.specs.declared.letter.Letter.TheVariants.{M, E, S, I}
-use Rattle.shard.specs.Coherence.{Caches, caches_after, dirty_at, is_alone, is_dirty_victim, is_held, is_write, l2_victim, letter_at, on_l2, on_others, on_own, outcome_by, outcome_of, own_after, recalled, room_made, some_other, taken_into_l2}
+use Rattle.shard.specs.Coherence.{Caches, caches_after, dirty_at, is_alone, is_dirty_victim, is_valid, is_write, l2_victim, letter_at, on_l2, on_others, on_own, outcome_by, outcome_of, own_after, recalled, room_made, some_other, taken_into_l2}
 use Rattle.shard.specs.Laws.{CoherentStays}
 use Rattle.shard.specs.StandsFor.{AreCoherent, HaveRoomForLines, HaveSets}
 use Rattle.shard.proofs.CoherentDirty.{dirty_fetched_line, dirty_fetched_room, dirty_fetched_same, dirty_room_made}
@@ -41,17 +41,17 @@ made_victim (Some w) c line = refl
 
 module _ (c : Caches) (core line : ℕ) (h : AreCoherent c) (known : core < length c.l1) (room : HaveRoomForLines c) where
   -- a line that a core still has stays in the L2
-  fetched_lines : (victim : Option (ℕ × Bool)) → l2_victim c line ≡ victim → HaveSets (room_made victim c) → HaveRoomForLines (room_made victim c) → (a l : ℕ) → l ≢ line → is_held (letter_at (taken_into_l2 line (room_made victim c)) a l) ≡ true → is_some (dirty_at (taken_into_l2 line (room_made victim c)) l) ≡ true
+  fetched_lines : (victim : Option (ℕ × Bool)) → l2_victim c line ≡ victim → HaveSets (room_made victim c) → HaveRoomForLines (room_made victim c) → (a l : ℕ) → l ≢ line → is_valid (letter_at (taken_into_l2 line (room_made victim c)) a l) ≡ true → is_some (dirty_at (taken_into_l2 line (room_made victim c)) l) ≡ true
   fetched_lines None e sets some a l apart held =
-      rw (dirty_fetched_room line c room.l2_ways l e apart) (h.inclusive a l (subst (λ (x : Letter). is_held x ≡ true) (letter_fetched line c a l) held))
+      rw (dirty_fetched_room line c room.l2_ways l e apart) (h.inclusive a l (subst (λ (x : Letter). is_valid x ≡ true) (letter_fetched line c a l) held))
   fetched_lines (Some w) e sets some a l apart held =
       let made : Caches = recalled w.0 c in
-      let still : is_held (letter_at made a l) ≡ true = subst (λ (x : Letter). is_held x ≡ true) (letter_fetched line made a l) held in
+      let still : is_valid (letter_at made a l) ≡ true = subst (λ (x : Letter). is_valid x ≡ true) (letter_fetched line made a l) held in
       elim (cases_eq l w.0) as (λ _. is_some (dirty_at (taken_into_l2 line made) l) ≡ true) [
         | inl same ↦ absurd (lost (letter_at made a l) (subst (λ (x : ℕ). letter_at made a x ≡ I) (sym same) (letter_recalled_same w.0 c a h.sets)) still)
         | inr stays ↦
             rw (dirty_fetched_line line made some.l2_ways l w sets (made_victim (Some w) c line ∙ e) apart stays, dirty_room_made (Some w) c l)
-            (h.inclusive a l (subst (λ (x : Letter). is_held x ≡ true) (letter_recalled_other w.0 c a l stays) still))
+            (h.inclusive a l (subst (λ (x : Letter). is_valid x ≡ true) (letter_recalled_other w.0 c a l stays) still))
       ]
 
   missed : (letter : Letter) → is_some (dirty_at c line) ≡ false → IsReady c (taken_into_l2 line (room_made (l2_victim c line) c)) core line letter
@@ -83,7 +83,7 @@ module _ (c : Caches) (core line : ℕ) (h : AreCoherent c) (known : core < leng
   -- ---- one access, by the table
   abbrev after_row : (own : Letter) (write in_l2 alone dirty : Bool) → Caches
   after_row own write in_l2 alone dirty =
-      let has = some_other is_held c core line in
+      let has = some_other is_valid c core line in
       let outcome = outcome_by write own in_l2 alone has dirty in
       on_own own core line (own_after write own has) (on_others outcome write core line (on_l2 outcome line c))
 
@@ -95,13 +95,13 @@ module _ (c : Caches) (core line : ℕ) (h : AreCoherent c) (known : core < leng
   row_settles S e true in_l2 alone dirty i = upgrade c core line h known room (rw e refl)
   row_settles S e false in_l2 alone dirty i = hit c core line h known room S (rw e refl) (λ k. absurd cc)
   row_settles I e true true alone dirty i =
-      comes c (on_others (L2 (some_other is_held c core line)) true core line (on_l2 (L2 (some_other is_held c core line)) line c)) core line M (found c core line h known room true (some_other is_held c core line) i)
+      comes c (on_others (L2 (some_other is_valid c core line)) true core line (on_l2 (L2 (some_other is_valid c core line)) line c)) core line M (found c core line h known room true (some_other is_valid c core line) i)
   row_settles I e true false alone dirty i = comes c (taken_into_l2 line (room_made (l2_victim c line) c)) core line M (missed M i)
   row_settles I e false true alone dirty i =
-      let has : Bool = some_other is_held c core line in
+      let has : Bool = some_other is_valid c core line in
       comes c (on_others (L2 alone) false core line (on_l2 (L2 alone) line c)) core line (own_after false I has) (found c core line h known room false alone i)
   row_settles I e false false alone dirty i =
-      let has : Bool = some_other is_held c core line in
+      let has : Bool = some_other is_valid c core line in
       comes c (taken_into_l2 line (room_made (l2_victim c line) c)) core line (own_after false I has) (missed (own_after false I has) i)
 
 access_settles : (c : Caches) (core : ℕ) (request : Request) → AreCoherent c → HaveRoomForLines c → core < length c.l1 → Settles c (caches_after c core request) core (line_of request)

@@ -4,7 +4,7 @@ use Rattle.std.proofs.lemmas.Bool.{cases_eq}
 use Rattle.zs_num.specs.declared.entry.Outcome.TheVariants.{Upgrade, L2}
 use Rattle.cache_set.specs.declared.letter.Letter.{Letter}
 use Rattle.cache_set.specs.declared.letter.Letter.TheVariants.{M, E, S, I}
-use Rattle.shard.specs.Coherence.{Caches, dirty_at, is_alone, is_held, is_modified, kept_first, letter_at, looked_up, marked_dirty, on_l2, on_others, other_after, others_changed, own_after, own_victim, some_other, taken_in}
+use Rattle.shard.specs.Coherence.{Caches, dirty_at, is_alone, is_valid, is_modified, kept_first, letter_at, looked_up, marked_dirty, on_l2, on_others, other_after, others_changed, own_after, own_victim, some_other, taken_in}
 use Rattle.shard.specs.StandsFor.{AreCoherent, HaveRoomForLines, HaveSets}
 use Rattle.shard.proofs.CoherentDirty.{dirty_first, dirty_looked_up, dirty_others, dirty_taken, there_after_back, there_after_marked}
 use Rattle.shard.proofs.CoherentLetters.{letter_first_core, letter_first_line, letter_first_same, letter_looked_up, letter_marked, letter_others_other, letter_others_same, letter_taken_core, letter_taken_line, letter_taken_room, letter_taken_same, letter_taken_victim}
@@ -21,26 +21,26 @@ looked_sets line c h =
 
 -- ---- a hit
 module _ (c : Caches) (core line : ℕ) (h : AreCoherent c) (known : core < length c.l1) (room : HaveRoomForLines c) where
-  hit_shared : (a : ℕ) → a ≢ core → is_held (letter_at c core line) ≡ true → is_alone (letter_at c a line) ≡ false
+  hit_shared : (a : ℕ) → a ≢ core → is_valid (letter_at c core line) ≡ true → is_alone (letter_at c a line) ≡ false
   hit_shared a apart held =
       elim (is_alone (letter_at c a line)) as (λ b. is_alone (letter_at c a line) ≡ b → b ≡ false) [
         | true ↦ λ (k : is_alone (letter_at c a line) ≡ true). absurd (lost (letter_at c core line) (h.single a core line (λ e. apart (sym e)) k) held)
         | false ↦ λ _. refl
       ] refl
 
-  pub hit : (letter : Letter) → is_held (letter_at c core line) ≡ true → (is_alone letter ≡ true → is_alone (letter_at c core line) ≡ true) → Settles c (kept_first core line letter c) core line
+  pub hit : (letter : Letter) → is_valid (letter_at c core line) ≡ true → (is_alone letter ≡ true → is_alone (letter_at c core line) ≡ true) → Settles c (kept_first core line letter c) core line
   hit letter held same = record {
     others = λ a l apart. inl (letter_first_line core line letter c a l apart);
     alone = λ alone a apart.
         letter_first_core core line letter c a line apart
         ∙ h.single core a line apart (same (subst (λ (x : Letter). is_alone x ≡ true) (letter_first_same core line letter c known (room.l1_sets core known)) alone));
     shared = λ a apart. rw (letter_first_core core line letter c a line apart) (hit_shared a apart held);
-    lines = λ a l apart k. rw (dirty_first core line letter c l) (h.inclusive a l (subst (λ (x : Letter). is_held x ≡ true) (letter_first_line core line letter c a l apart) k));
+    lines = λ a l apart k. rw (dirty_first core line letter c l) (h.inclusive a l (subst (λ (x : Letter). is_valid x ≡ true) (letter_first_line core line letter c a l apart) k));
     there = rw (dirty_first core line letter c line) (h.inclusive core line held);
   }
 
   -- ---- an upgrade: the others lose the line
-  pub upgrade : is_held (letter_at c core line) ≡ true → Settles c (kept_first core line M (others_changed (other_after true) core line (looked_up line c))) core line
+  pub upgrade : is_valid (letter_at c core line) ≡ true → Settles c (kept_first core line M (others_changed (other_after true) core line (looked_up line c))) core line
   upgrade held =
       let d : Caches = others_changed (other_after true) core line (looked_up line c) in
       let gone : (a : ℕ) → a ≢ core → letter_at (kept_first core line M d) a line ≡ I
@@ -53,7 +53,7 @@ module _ (c : Caches) (core line : ℕ) (h : AreCoherent c) (known : core < leng
         others = λ a l apart. inl (letters a l apart);
         alone = λ alone a apart. gone a apart;
         shared = λ a apart. lost_alone (letter_at (kept_first core line M d) a line) (gone a apart);
-        lines = λ a l apart k. rw (lines l) (h.inclusive a l (subst (λ (x : Letter). is_held x ≡ true) (letters a l apart) k));
+        lines = λ a l apart k. rw (lines l) (h.inclusive a l (subst (λ (x : Letter). is_valid x ≡ true) (letters a l apart) k));
         there = rw (lines line) (h.inclusive core line held);
       }
 
@@ -66,7 +66,7 @@ pub record IsReady (c d : Caches) (core line : ℕ) (letter : Letter) : Type 0 w
   pub others : (a l : ℕ) → l ≢ line → (letter_at d a l ≡ letter_at c a l) ⊎ (letter_at d a l ≡ I)
   pub alone : is_alone letter ≡ true → (a : ℕ) → a ≢ core → letter_at d a line ≡ I
   pub shared : (a : ℕ) → a ≢ core → is_alone (letter_at d a line) ≡ false
-  pub lines : (a l : ℕ) → l ≢ line → is_held (letter_at d a l) ≡ true → is_some (dirty_at d l) ≡ true
+  pub lines : (a l : ℕ) → l ≢ line → is_valid (letter_at d a l) ≡ true → is_some (dirty_at d l) ≡ true
   pub there : is_some (dirty_at d line) ≡ true
 
 module _ (c d : Caches) (core line : ℕ) (letter : Letter) (r : IsReady c d core line letter) where
@@ -105,7 +105,7 @@ module _ (c d : Caches) (core line : ℕ) (letter : Letter) (r : IsReady c d cor
         alone = λ k a apart. others a apart ∙ r.alone (subst (λ (x : Letter). is_alone x ≡ true) (letter_taken_same core line letter d r.room.l1_ways r.known some_set) k) a apart;
         shared = λ a apart. rw (others a apart) (r.shared a apart);
         lines = λ a l apart held. rw (there_after l) (elim (kept_or_lost a l apart) as (λ _. is_some (dirty_at d l) ≡ true) [
-          | inl same ↦ r.lines a l apart (subst (λ (x : Letter). is_held x ≡ true) same held)
+          | inl same ↦ r.lines a l apart (subst (λ (x : Letter). is_valid x ≡ true) same held)
           | inr gone ↦ absurd (lost (letter_at T a l) gone held)
         ]);
         there = rw (there_after line) r.there;
@@ -146,7 +146,7 @@ room_after c d same k r = record {
 }
 
 module _ (c : Caches) (core line : ℕ) (h : AreCoherent c) (known : core < length c.l1) (room : HaveRoomForLines c) where
-  pub found : (write others : Bool) → is_some (dirty_at c line) ≡ true → IsReady c (on_others (L2 others) write core line (on_l2 (L2 others) line c)) core line (own_after write I (some_other is_held c core line))
+  pub found : (write others : Bool) → is_some (dirty_at c line) ≡ true → IsReady c (on_others (L2 others) write core line (on_l2 (L2 others) line c)) core line (own_after write I (some_other is_valid c core line))
   found write others there =
       let d1 : Caches = looked_up line c in
       let b : Bool = some_other is_modified d1 core line in
@@ -171,11 +171,11 @@ module _ (c : Caches) (core line : ℕ) (h : AreCoherent c) (known : core < leng
         room = room_after c d3 shape keeps room;
         known = omega (arith, keeps.cores);
         others = λ a l apart. inl (letters a l apart);
-        alone = λ k a apart. elim (alone_from write (some_other is_held c core line) k) as (λ _. letter_at d3 a line ≡ I) [
+        alone = λ k a apart. elim (alone_from write (some_other is_valid c core line) k) as (λ _. letter_at d3 a line ≡ I) [
           | inl is ↦ here a apart ∙ rw is refl
           | inr none ↦ here a apart ∙ rw (no_other c core line a apart none) (other_lost write)
         ];
         shared = λ a apart. rw (here a apart) (other_shared write (letter_at c a line));
-        lines = λ a l apart held. rw (lines l) (h.inclusive a l (subst (λ (x : Letter). is_held x ≡ true) (letters a l apart) held));
+        lines = λ a l apart held. rw (lines l) (h.inclusive a l (subst (λ (x : Letter). is_valid x ≡ true) (letters a l apart) held));
         there = rw (lines line) there;
       }

@@ -7,7 +7,7 @@ use Rattle.std.proofs.lemmas.List.Elements.{All-head, All-tail}
 use Rattle.zs_num.specs.declared.request.Request.{Request}
 use Rattle.cache_set.specs.declared.letter.Letter.{Letter}
 use Rattle.cache_set.specs.declared.letter.Letter.TheVariants.{I}
-use Rattle.shard.specs.Coherence.{Caches, caches_after, caches_after_all, empty_caches, is_held, letter_at}
+use Rattle.shard.specs.Coherence.{Caches, caches_after, caches_after_all, empty_caches, is_valid, letter_at}
 use Rattle.shard.specs.StandsFor.{AreCoherent, HaveRoomForLines}
 use Rattle.shard.proofs.Coherent.{coherent_stays}
 use Rattle.shard.proofs.CoherentLists.{empty_at}
@@ -49,7 +49,7 @@ module _ (cores shards l1_sets l1_ways l2_sets l2_ways : ℕ) where
   empty_coherent = record {
     sets = sets_of_fit empty (empty_fit cores shards l1_sets l1_ways l2_sets l2_ways) (empty_placed cores shards l1_sets l1_ways l2_sets l2_ways);
     single = λ core other line apart alone. no_letter other line;
-    inclusive = λ core line held. let bad : is_held I ≡ true = subst (λ (x : Letter). is_held x ≡ true) (no_letter core line) held in absurd cc;
+    inclusive = λ core line held. let bad : is_valid I ≡ true = subst (λ (x : Letter). is_valid x ≡ true) (no_letter core line) held in absurd cc;
   }
 
   pub empty_room : 1 ≤ l1_sets → 1 ≤ l1_ways → 1 ≤ l2_sets → 1 ≤ l2_ways → HaveRoomForLines empty

@@ -3,15 +3,15 @@ use Rattle.std.proofs.Common.{◌≡◌, ℕ, ◌/◌, ◌%◌, true, List, [], 
 use Rattle.std.specs.List.{All}
 use Rattle.std.proofs.lemmas.List.Elements.{All-cons, All-from_get_or, All-head, All-nil, All-tail, All-weaker}
 use Rattle.cache_set.specs.declared.letter.Letter.{Letter}
-use Rattle.shard.specs.Coherence.{Caches, is_held}
+use Rattle.shard.specs.Coherence.{Caches, is_valid}
 use Rattle.shard.specs.StandsFor.{HaveSets, IsSet}
 use Rattle.shard.proofs.CoherentPlaced.{Placed}
 use Rattle.shard.proofs.CoherentStand.{Stand, stand_all}
 use Rattle.shard.proofs.Fits.{Fits, Held, IsL1, at_or, l1_nil, own_sets}
 
-held_all : (s : List (ℕ × Letter)) → Held s → All (λ (way : ℕ × Letter). is_held way.1 ≡ true) s
-held_all [] h = All-nil (λ (way : ℕ × Letter). is_held way.1 ≡ true)
-held_all (e ∷ s) h = All-cons (λ (way : ℕ × Letter). is_held way.1 ≡ true) e s h.0 (held_all s h.1)
+held_all : (s : List (ℕ × Letter)) → Held s → All (λ (way : ℕ × Letter). is_valid way.1 ≡ true) s
+held_all [] h = All-nil (λ (way : ℕ × Letter). is_valid way.1 ≡ true)
+held_all (e ∷ s) h = All-cons (λ (way : ℕ × Letter). is_valid way.1 ≡ true) e s h.0 (held_all s h.1)
 
 pub sets_of_fit : (c : Caches) → Fits c → Placed c → HaveSets c
 sets_of_fit c f p = record {
@@ -22,10 +22,10 @@ sets_of_fit c f p = record {
   l2_placed = λ n. stand_all c.shards (length c.l2) n (get_or c.l2 n []) (p.l2.each n);
 }
 
-all_held : (s : List (ℕ × Letter)) → All (λ (way : ℕ × Letter). is_held way.1 ≡ true) s → Held s
+all_held : (s : List (ℕ × Letter)) → All (λ (way : ℕ × Letter). is_valid way.1 ≡ true) s → Held s
 all_held [] h = tt
 all_held (e ∷ s) h =
-    let P : ℕ × Letter → Type 0 = λ way. is_held way.1 ≡ true in
+    let P : ℕ × Letter → Type 0 = λ way. is_valid way.1 ≡ true in
     (All-head P e s h, all_held s (All-tail P e s h))
 
 all_stand : {X : Type 0} (shards count n : ℕ) (s : List (ℕ × X)) → All (λ (way : ℕ × X). way.0 / shards % count ≡ n) s → Stand shards count n s

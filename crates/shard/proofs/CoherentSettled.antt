@@ -7,7 +7,7 @@ use Rattle.std.proofs.lemmas.List.Folds.{list_any_at}
 use Rattle.std.proofs.lemmas.List.FromFn.{get_or-range_with_len, length-range_with_len}
 use Rattle.cache_set.specs.declared.letter.Letter.{Letter}
 use Rattle.cache_set.specs.declared.letter.Letter.TheVariants.{M, E, S, I}
-use Rattle.shard.specs.Coherence.{Caches, dirty_at, is_alone, is_held, letter_at, some_other}
+use Rattle.shard.specs.Coherence.{Caches, dirty_at, is_alone, is_valid, letter_at, some_other}
 use Rattle.shard.specs.StandsFor.{AreCoherent, HaveSets}
 
 -- What an access of a core to a line leaves of coherent caches: its letter and the others' for the line agree, and for
@@ -16,17 +16,17 @@ pub record Settles (c d : Caches) (core line : ℕ) : Type 0 where
   pub others : (a l : ℕ) → l ≢ line → (letter_at d a l ≡ letter_at c a l) ⊎ (letter_at d a l ≡ I)
   pub alone : is_alone (letter_at d core line) ≡ true → (a : ℕ) → a ≢ core → letter_at d a line ≡ I
   pub shared : (a : ℕ) → a ≢ core → is_alone (letter_at d a line) ≡ false
-  pub lines : (a l : ℕ) → l ≢ line → is_held (letter_at d a l) ≡ true → is_some (dirty_at d l) ≡ true
+  pub lines : (a l : ℕ) → l ≢ line → is_valid (letter_at d a l) ≡ true → is_some (dirty_at d l) ≡ true
   pub there : is_some (dirty_at d line) ≡ true
 
-lone_is_held : (x : Letter) → is_alone x ≡ true → is_held x ≡ true
+lone_is_held : (x : Letter) → is_alone x ≡ true → is_valid x ≡ true
 lone_is_held M h = refl
 lone_is_held E h = refl
 lone_is_held S h = absurd cc
 lone_is_held I h = absurd cc
 
-pub lost : (x : Letter) → x ≡ I → is_held x ≡ true → ⊥
-lost x e h = let bad : is_held I ≡ true = rw e at h in absurd cc
+pub lost : (x : Letter) → x ≡ I → is_valid x ≡ true → ⊥
+lost x e h = let bad : is_valid I ≡ true = rw e at h in absurd cc
 
 pub lost_alone : (x : Letter) → x ≡ I → is_alone x ≡ false
 lost_alone x e = rw e refl
@@ -62,7 +62,7 @@ module _ (c d : Caches) (core line : ℕ) (h : AreCoherent c) (s : Settles c d c
   }
 
 -- ---- whether another core has the line
-pub held_or_lost : (x : Letter) → (is_held x ≡ true) ⊎ (x ≡ I)
+pub held_or_lost : (x : Letter) → (is_valid x ≡ true) ⊎ (x ≡ I)
 held_or_lost M = inl refl
 held_or_lost E = inl refl
 held_or_lost S = inl refl
@@ -80,11 +80,11 @@ some_other_at test c core line a apart known h =
     let passes : p a ≡ true = rw (ne_eqb a core apart, h) refl in
     list_any_at p (range_with_len 0 (length c.l1)) a 0 long (subst (λ (x : ℕ). p x ≡ true) (sym at) passes)
 
-pub no_other : (c : Caches) (core line a : ℕ) → a ≢ core → some_other is_held c core line ≡ false → letter_at c a line ≡ I
+pub no_other : (c : Caches) (core line a : ℕ) → a ≢ core → some_other is_valid c core line ≡ false → letter_at c a line ≡ I
 no_other c core line a apart none =
     elim (cases_lt a (length c.l1)) as (λ _. letter_at c a line ≡ I) [
       | inl known ↦ elim (held_or_lost (letter_at c a line)) as (λ _. letter_at c a line ≡ I) [
-        | inl held ↦ let bad : true ≡ false = sym (some_other_at is_held c core line a apart known held) ∙ none in absurd cc
+        | inl held ↦ let bad : true ≡ false = sym (some_other_at is_valid c core line a apart known held) ∙ none in absurd cc
         | inr e ↦ e
       ]
       | inr past ↦ letter_past c a line past

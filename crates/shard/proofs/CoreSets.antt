@@ -13,7 +13,7 @@ use Rattle.cache_set.specs.Ways.{WaySet, IsWaySet, kept_of, without, used, fille
 use Rattle.cache_set.specs.declared.set.Way.{Way}
 use Rattle.cache_set.proofs.Sets.{set-without, set-used, set-changed, set-filled}
 use Rattle.shard.specs.CacheLayout.{AreCoreSets, HasCopies, IsCoreSet, copies_in, copies_of, core_view, letter_without, own_letter}
-use Rattle.shard.specs.Coherence.{is_held, letter_in}
+use Rattle.shard.specs.Coherence.{is_valid, letter_in}
 use Rattle.shard.specs.Lines.{in_set_of, set_number, set_of}
 use Rattle.shard.proofs.Entries.{kept_without, kept-without, kept-changed, kept-first, kept-filled, last_kept, kept-as, without-as, changed-as, filled-as, last-as, first_changed, each_as, take-as, without_last}
 
@@ -50,8 +50,8 @@ pub record IsEdit (line : ℕ) (victim : Option (ℕ × ℕ)) (mark : Option ℕ
 no_victim : (v : ℕ × ℕ) (s : WaySet) → None ≡ Some v → IsSome (kept_of v.0 s.list)
 no_victim v s e = absurd cc
 
-held_mark : (letter : Letter) → is_held letter ≡ true → mark_letter (Some (mark_of letter)) ≡ I → Some (mark_of letter) ≡ None
-held_mark letter h e = let is : letter ≡ I = sym (letter_back letter) ∙ e in let bad : is_held I ≡ true = rw is at h in absurd cc
+held_mark : (letter : Letter) → is_valid letter ≡ true → mark_letter (Some (mark_of letter)) ≡ I → Some (mark_of letter) ≡ None
+held_mark letter h e = let is : letter ≡ I = sym (letter_back letter) ∙ e in let bad : is_valid I ≡ true = rw is at h in absurd cc
 
 pub without_edit : (line : ℕ) (s : WaySet) → IsWaySet s → IsEdit line None None s (record { ways = s.ways; list = without line s.list })
 without_edit line s is = record {
@@ -62,7 +62,7 @@ without_edit line s is = record {
   held = λ e. refl;
 }
 
-pub changed_edit : (line : ℕ) (letter : Letter) (s : WaySet) → IsWaySet s → IsSome (kept_of line s.list) → is_held letter ≡ true
+pub changed_edit : (line : ℕ) (letter : Letter) (s : WaySet) → IsWaySet s → IsSome (kept_of line s.list) → is_valid letter ≡ true
     → IsEdit line None (Some (mark_of letter)) s (record { ways = s.ways; list = changed line (mark_of letter) s.list })
 changed_edit line letter s is there held = record {
   is_set = set-changed s.ways line (mark_of letter) s.list is;
@@ -76,7 +76,7 @@ nested : {X : Type 0} → (b : Bool) (x y z : X) → cond b x (cond b y z) ≡ c
 nested true x y z = refl
 nested false x y z = refl
 
-pub first_edit : (line : ℕ) (letter : Letter) (s : WaySet) → IsWaySet s → IsSome (kept_of line s.list) → is_held letter ≡ true
+pub first_edit : (line : ℕ) (letter : Letter) (s : WaySet) → IsWaySet s → IsSome (kept_of line s.list) → is_valid letter ≡ true
     → IsEdit line None (Some (mark_of letter)) s (record { ways = s.ways; list = changed line (mark_of letter) (used line s.list) })
 first_edit line letter s is there held = record {
   is_set = set-changed s.ways line (mark_of letter) (used line s.list) (set-used s.ways line s.list is);
@@ -89,7 +89,7 @@ first_edit line letter s is there held = record {
   held = held_mark letter held;
 }
 
-pub filled_edit : (line : ℕ) (letter : Letter) (s : WaySet) → IsWaySet s → kept_of line s.list ≡ None → is_held letter ≡ true
+pub filled_edit : (line : ℕ) (letter : Letter) (s : WaySet) → IsWaySet s → kept_of line s.list ≡ None → is_valid letter ≡ true
     → IsEdit line (last_of_full s.ways s.list) (Some (mark_of letter)) s (record { ways = s.ways; list = filled s.ways line (mark_of letter) s.list })
 filled_edit line letter s is absent held = record {
   is_set = set-filled s.ways line (mark_of letter) s.list is absent;
@@ -178,9 +178,9 @@ module _ (shards ways : ℕ) (sets : List WaySet) (are : AreCoreSets shards ways
   old_copies = copies_at shards ways sets old are line ∙ ap copies_in (subst (λ (j : ℕ). get_or sets j old ≡ old) place (sym is))
 
   -- whether the line is there
-  pub there : is_held (own_letter (core_view shards ways sets) line) ≡ true → IsSome (kept_of line old.list)
-  there h = some (kept_of line old.list) (sym (ap is_held (ap (letter_in line) old_copies ∙ letter-kept line old)) ∙ h) where
-    some : (o : Option ℕ) → is_held (mark_letter o) ≡ true → IsSome o
+  pub there : is_valid (own_letter (core_view shards ways sets) line) ≡ true → IsSome (kept_of line old.list)
+  there h = some (kept_of line old.list) (sym (ap is_valid (ap (letter_in line) old_copies ∙ letter-kept line old)) ∙ h) where
+    some : (o : Option ℕ) → is_valid (mark_letter o) ≡ true → IsSome o
     some None k = absurd cc
     some (Some m) k = refl
 
@@ -246,12 +246,12 @@ module _ (shards ways : ℕ) (sets : List WaySet) (are : AreCoreSets shards ways
   taken_out =
       step (record { ways = old.ways; list = without line old.list }) (without_edit line old old_core.is_set) (without line) (without-as letter_of line old.list)
 
-  module _ (held : is_held (own_letter (core_view shards ways sets) line) ≡ true) where
+  module _ (held : is_valid (own_letter (core_view shards ways sets) line) ≡ true) where
     pub shared : IsStep shards ways sets i line (record { ways = old.ways; list = changed line (mark_of S) old.list }) (changed line S) (λ q l. cond (nat_eq line q) S l)
     shared =
         step (record { ways = old.ways; list = changed line (mark_of S) old.list }) (changed_edit line S old old_core.is_set (there held) refl) (changed line S) (changed-as letter_of line (mark_of S) old.list)
 
-    pub first : (letter : Letter) → is_held letter ≡ true
+    pub first : (letter : Letter) → is_valid letter ≡ true
         → IsStep shards ways sets i line (record { ways = old.ways; list = changed line (mark_of letter) (used line old.list) }) (λ copies. (line, letter) ∷ without line copies) (λ q l. cond (nat_eq line q) letter l)
     first letter k =
         subst (λ (x : Letter). IsStep shards ways sets i line (record { ways = old.ways; list = changed line (mark_of letter) (used line old.list) }) (λ copies. (line, x) ∷ without line copies) (λ q l. cond (nat_eq line q) x l)) (letter_back letter)
@@ -261,7 +261,7 @@ module _ (shards ways : ℕ) (sets : List WaySet) (are : AreCoreSets shards ways
   last_letters : as_letters (last_of_full old.ways old.list) ≡ last_of_full ways (copies_of (core_view shards ways sets) line)
   last_letters = rw (old_copies, ← old_core.same_ways) (sym (last-as letter_of (old.ways - 1) old.list))
 
-  pub filled_up : (letter : Letter) → own_letter (core_view shards ways sets) line ≡ I → is_held letter ≡ true
+  pub filled_up : (letter : Letter) → own_letter (core_view shards ways sets) line ≡ I → is_valid letter ≡ true
       → IsStep shards ways sets i line (record { ways = old.ways; list = filled old.ways line (mark_of letter) old.list }) (filled ways line letter)
       (λ q l. cond (nat_eq line q) letter (letter_without (last_of_full ways (copies_of (core_view shards ways sets) line)) q l))
   filled_up letter absent k =

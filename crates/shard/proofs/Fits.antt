@@ -16,7 +16,7 @@ use Rattle.cache_set.specs.declared.letter.Letter.{Letter}
 use Rattle.cache_set.specs.declared.letter.Letter.TheVariants.{M, E, S, I}
 use Rattle.cache_set.specs.Ways.{kept_of, without, used, filled, changed}
 use Rattle.cache_set.proofs.Sets.{lacks-absent, lacks-take, distinct-without, lacks-others, length-without, length-without_some}
-use Rattle.shard.specs.Coherence.{Caches, letter_in, letter_at, dirty_at, outcome_by, outcome_of, is_write, is_alone, is_dirty_victim, some_other, is_held, is_modified, own_after, own_victim, on_l2, on_others, on_own, l2_victim, room_made, written_back, caches_after, caches_after_all, empty_caches, recalled, marked_dirty, taken_into_l2, looked_up, other_after, others_changed, kept_first, taken_in, with_letter}
+use Rattle.shard.specs.Coherence.{Caches, letter_in, letter_at, dirty_at, outcome_by, outcome_of, is_write, is_alone, is_dirty_victim, some_other, is_valid, is_modified, own_after, own_victim, on_l2, on_others, on_own, l2_victim, room_made, written_back, caches_after, caches_after_all, empty_caches, recalled, marked_dirty, taken_into_l2, looked_up, other_after, others_changed, kept_first, taken_in, with_letter}
 use Rattle.shard.specs.Lines.{set_of, in_set_of, set_number}
 use Rattle.shard.specs.StandsFor.{IsSet}
 
@@ -65,7 +65,7 @@ module _ {X : Type 0} where
 -- ---- a set of an L1, in which no letter is I
 abbrev pub Held : List (ℕ × Letter) → Type 0
 Held [] = Unit {0}
-Held (e ∷ es) = (is_held e.1 ≡ true) × Held es
+Held (e ∷ es) = (is_valid e.1 ≡ true) × Held es
 
 pub record IsL1 (ways : ℕ) (s : List (ℕ × Letter)) : Type 0 where
   pub fits : IsSet ways s
@@ -77,7 +77,7 @@ held_without line (e ∷ s) h =
     elim (eqb line e.0) as (λ b. Held (cond b s (e ∷ without line s)))
     [ true ↦ h.1 | false ↦ (h.0, held_without line s h.1) ]
 
-held_changed : (line : ℕ) (v : Letter) (s : List (ℕ × Letter)) → is_held v ≡ true → Held s → Held (changed line v s)
+held_changed : (line : ℕ) (v : Letter) (s : List (ℕ × Letter)) → is_valid v ≡ true → Held s → Held (changed line v s)
 held_changed line v [] k h = tt
 held_changed line v (e ∷ s) k h =
     elim (eqb line e.0) as (λ b. Held (cond b ((e.0, v) ∷ s) (e ∷ changed line v s)))
@@ -88,11 +88,11 @@ held_take zero s h = tt
 held_take (suc n) [] h = tt
 held_take (suc n) (e ∷ s) h = (h.0, held_take n s h.1)
 
-held_kept : (line : ℕ) (s : List (ℕ × Letter)) → Held s → (v : Letter) → kept_of line s ≡ Some v → is_held v ≡ true
+held_kept : (line : ℕ) (s : List (ℕ × Letter)) → Held s → (v : Letter) → kept_of line s ≡ Some v → is_valid v ≡ true
 held_kept line [] h v e = absurd cc
 held_kept line (x ∷ s) h v e =
-    elim (eqb line x.0) as (λ b. cond b (Some x.1) (kept_of line s) ≡ Some v → is_held v ≡ true) [
-      | true ↦ λ (k : Some x.1 ≡ Some v). let same : x.1 ≡ v = cc in subst (λ (l : Letter). is_held l ≡ true) same h.0
+    elim (eqb line x.0) as (λ b. cond b (Some x.1) (kept_of line s) ≡ Some v → is_valid v ≡ true) [
+      | true ↦ λ (k : Some x.1 ≡ Some v). let same : x.1 ≡ v = cc in subst (λ (l : Letter). is_valid l ≡ true) same h.0
       | false ↦ λ k. held_kept line s h.1 v k
     ] e
 
@@ -101,18 +101,18 @@ absent_as : (line : ℕ) (s : List (ℕ × Letter)) (o : Option Letter) → kept
 absent_as line s None e h i = refl
 absent_as line s (Some v) e h i =
     let is : v ≡ I = rw e at i in
-    let held : is_held v ≡ true = held_kept line s h v e in
-    let bad : is_held I ≡ true = rw is at held in
+    let held : is_valid v ≡ true = held_kept line s h v e in
+    let bad : is_valid I ≡ true = rw is at held in
     absurd cc
 
 absent_at : (line : ℕ) (s : List (ℕ × Letter)) → Held s → letter_in line s ≡ I → kept_of line s ≡ None
 absent_at line s h i = absent_as line s (kept_of line s) refl h i
 
-there_as : (line : ℕ) (s : List (ℕ × Letter)) (o : Option Letter) → kept_of line s ≡ o → is_held (letter_in line s) ≡ true → is_some o ≡ true
-there_as line s None e h = let bad : is_held I ≡ true = rw e at h in absurd cc
+there_as : (line : ℕ) (s : List (ℕ × Letter)) (o : Option Letter) → kept_of line s ≡ o → is_valid (letter_in line s) ≡ true → is_some o ≡ true
+there_as line s None e h = let bad : is_valid I ≡ true = rw e at h in absurd cc
 there_as line s (Some v) e h = refl
 
-there_at : (line : ℕ) (s : List (ℕ × Letter)) → is_held (letter_in line s) ≡ true → IsSome (kept_of line s)
+there_at : (line : ℕ) (s : List (ℕ × Letter)) → is_valid (letter_in line s) ≡ true → IsSome (kept_of line s)
 there_at line s h = there_as line s (kept_of line s) refl h
 
 pub l1_nil : (ways : ℕ) → IsL1 ways []
@@ -126,7 +126,7 @@ set_nil ways = record { distinct = tt; within = omega arith }
 l1_without : (ways line : ℕ) (s : List (ℕ × Letter)) → IsL1 ways s → IsL1 ways (without line s)
 l1_without ways line s h = record { fits = set_without ways line s h.fits; held = held_without line s h.held }
 
-l1_changed : (ways line : ℕ) (v : Letter) (s : List (ℕ × Letter)) → is_held v ≡ true → IsL1 ways s → IsL1 ways (changed line v s)
+l1_changed : (ways line : ℕ) (v : Letter) (s : List (ℕ × Letter)) → is_valid v ≡ true → IsL1 ways s → IsL1 ways (changed line v s)
 l1_changed ways line v s k h = record { fits = set_changed ways line v s h.fits; held = held_changed line v s k h.held }
 
 l1_letter : (ways line : ℕ) (v : Letter) (s : List (ℕ × Letter)) → IsL1 ways s → IsL1 ways (with_letter line v s)
@@ -135,10 +135,10 @@ l1_letter ways line E s h = l1_changed ways line E s refl h
 l1_letter ways line S s h = l1_changed ways line S s refl h
 l1_letter ways line I s h = l1_without ways line s h
 
-l1_first : (ways line : ℕ) (v : Letter) (s : List (ℕ × Letter)) → is_held v ≡ true → is_held (letter_in line s) ≡ true → IsL1 ways s → IsL1 ways ((line, v) ∷ without line s)
+l1_first : (ways line : ℕ) (v : Letter) (s : List (ℕ × Letter)) → is_valid v ≡ true → is_valid (letter_in line s) ≡ true → IsL1 ways s → IsL1 ways ((line, v) ∷ without line s)
 l1_first ways line v s k there h = record { fits = set_first ways line v s h.fits (there_at line s there); held = (k, held_without line s h.held) }
 
-l1_filled : (ways line : ℕ) (v : Letter) (s : List (ℕ × Letter)) → is_held v ≡ true → kept_of line s ≡ None → IsL1 ways s → IsL1 ways (filled ways line v s)
+l1_filled : (ways line : ℕ) (v : Letter) (s : List (ℕ × Letter)) → is_valid v ≡ true → kept_of line s ≡ None → IsL1 ways s → IsL1 ways (filled ways line v s)
 l1_filled ways line v s k none h = record { fits = set_filled ways line v s h.fits none; held = held_take ways ((line, v) ∷ s) (k, h.held) }
 
 -- ---- lists of sets
@@ -212,7 +212,7 @@ others_fits change core line c f = record {
   l2 = f.l2;
 }
 
-first_fits : (core line : ℕ) (letter : Letter) (c : Caches) → is_held letter ≡ true → is_held (letter_at c core line) ≡ true → Fits c → Fits (kept_first core line letter c)
+first_fits : (core line : ℕ) (letter : Letter) (c : Caches) → is_valid letter ≡ true → is_valid (letter_at c core line) ≡ true → Fits c → Fits (kept_first core line letter c)
 unfolding kept_first letter_at
 first_fits core line letter c k there f = record {
   l1 = All-set (All (IsL1 c.l1_ways)) c.l1 core (in_set_of c.shards line (λ copies. (line, letter) ∷ without line copies) (get_or c.l1 core []))
@@ -236,7 +236,7 @@ back_same_l1 (Some victim) c f =
       | false ↦ record { ways = refl; fits = f; letters = λ core line. refl }
     ]
 
-put_fits : (ways core line : ℕ) (letter : Letter) (d : Caches) → d.l1_ways ≡ ways → is_held letter ≡ true → letter_at d core line ≡ I → Fits d
+put_fits : (ways core line : ℕ) (letter : Letter) (d : Caches) → d.l1_ways ≡ ways → is_valid letter ≡ true → letter_at d core line ≡ I → Fits d
     → Fits (record d { l1 = set d.l1 core (in_set_of d.shards line (filled ways line letter) (get_or d.l1 core [])) })
 unfolding letter_at
 put_fits ways core line letter d e k i f =
@@ -249,7 +249,7 @@ put_fits ways core line letter d e k i f =
       l2 = f.l2;
     }
 
-taken_fits : (core line : ℕ) (letter : Letter) (c : Caches) → is_held letter ≡ true → letter_at c core line ≡ I → Fits c → Fits (taken_in core line letter c)
+taken_fits : (core line : ℕ) (letter : Letter) (c : Caches) → is_valid letter ≡ true → letter_at c core line ≡ I → Fits c → Fits (taken_in core line letter c)
 unfolding taken_in
 taken_fits core line letter c k i f =
     let back : SameL1 (written_back (own_victim c core line) c) c = back_same_l1 (own_victim c core line) c f in
@@ -298,7 +298,7 @@ own_others change core line c =
     rw sets refl
 
 -- ---- one access
-held_after : (write : Bool) (own : Letter) (has : Bool) → is_held (own_after write own has) ≡ true
+held_after : (write : Bool) (own : Letter) (has : Bool) → is_valid (own_after write own has) ≡ true
 held_after true own has = refl
 held_after false M has = refl
 held_after false E has = refl
@@ -340,7 +340,7 @@ none_from : {X : Type 0} (o : Option X) → is_some o ≡ false → o ≡ None
 none_from None h = refl
 none_from (Some x) h = absurd cc
 
-miss_fits : (core line : ℕ) (letter : Letter) (c : Caches) → is_held letter ≡ true → letter_at c core line ≡ I → is_some (dirty_at c line) ≡ false → Fits c
+miss_fits : (core line : ℕ) (letter : Letter) (c : Caches) → is_valid letter ≡ true → letter_at c core line ≡ I → is_some (dirty_at c line) ≡ false → Fits c
     → Fits (taken_in core line letter (taken_into_l2 line (room_made (l2_victim c line) c)))
 miss_fits core line letter c k i out f =
     let made : Caches = room_made (l2_victim c line) c in
@@ -348,7 +348,7 @@ miss_fits core line letter c k i out f =
     taken_fits core line letter (taken_into_l2 line made) k (fetched_own core line made ∙ room_own (l2_victim c line) core line c f i)
     (fetched_fits line made none (room_fits (l2_victim c line) c f))
 
-found_fits : (core line : ℕ) (letter : Letter) (write : Bool) (c : Caches) → is_held letter ≡ true → letter_at c core line ≡ I → Fits c
+found_fits : (core line : ℕ) (letter : Letter) (write : Bool) (c : Caches) → is_valid letter ≡ true → letter_at c core line ≡ I → Fits c
     → Fits (taken_in core line letter (others_changed (other_after write) core line (cond (some_other is_modified (looked_up line c) core line) (marked_dirty line (looked_up line c)) (looked_up line c))))
 found_fits core line letter write c k i f =
     let b : Bool = some_other is_modified (looked_up line c) core line in
@@ -376,7 +376,7 @@ pub access_fits : (c : Caches) (core : ℕ) (request : Request) → Fits c → F
 unfolding caches_after outcome_of
 access_fits c core request f =
     steps_fit c f core (line_of request) (letter_at c core (line_of request)) refl (is_write request) (is_some (dirty_at c (line_of request)))
-    (some_other is_alone c core (line_of request)) (some_other is_held c core (line_of request)) (is_dirty_victim c (l2_victim c (line_of request))) refl
+    (some_other is_alone c core (line_of request)) (some_other is_valid c core (line_of request)) (is_dirty_victim c (l2_victim c (line_of request))) refl
 
 pub accesses_fit : (accesses : List (ℕ × Request)) (c : Caches) → Fits c → Fits (caches_after_all c accesses)
 accesses_fit [] c f = f

@@ -12,7 +12,7 @@ use Rattle.cache_set.specs.declared.letter.Letter.{Letter}
 use Rattle.cache_set.specs.declared.letter.Letter.TheVariants.{M, E, S, I}
 use Rattle.flat_memory.specs.declared.reservation.Reservation.{Reservation}
 use Rattle.flat_memory.specs.FlatMemory.{after_write}
-use Rattle.shard.specs.Coherence.{Caches, letter_at, outcome_of, is_write, some_other, is_held, is_modified, own_after, own_victim, on_l2, on_others, on_own, l2_victim, room_made, written_back, caches_after, recalled, marked_dirty, taken_into_l2, looked_up, other_after, others_changed, kept_first, taken_in}
+use Rattle.shard.specs.Coherence.{Caches, letter_at, outcome_of, is_write, some_other, is_valid, is_modified, own_after, own_victim, on_l2, on_others, on_own, l2_victim, room_made, written_back, caches_after, recalled, marked_dirty, taken_into_l2, looked_up, other_after, others_changed, kept_first, taken_in}
 use Rattle.cache_set.specs.Ways.{without}
 use Rattle.shard.specs.Lines.{in_set_of}
 use Rattle.shard.specs.Marks.{marks_after, does_store}
@@ -109,7 +109,7 @@ access_same c core request =
     let write : Bool = is_write request in
     let own : Letter = letter_at c core line in
     let outcome : Outcome = outcome_of c core request in
-    let letter : Letter = own_after write own (some_other is_held c core line) in
+    let letter : Letter = own_after write own (some_other is_valid c core line) in
     let first : Caches = on_l2 outcome line c in
     let second : Caches = on_others outcome write core line first in
     after_same (on_own own core line letter second) second c

@@ -5,14 +5,13 @@ use Rattle.std.proofs.lemmas.Bool.{eqb-true, eq-eqb, ne_eqb, cases_eq, and_parts
 use Rattle.std.proofs.lemmas.List.{get_or-map, get_or-set_same, get_or-set_other, length-set}
 use Rattle.std.proofs.lemmas.List.Elements.{All-set, All-head, All-tail}
 use Rattle.std.proofs.lemmas.List.FromFn.{get_or-enumerate_from, length-enumerate_from, get_or-map-range_with_len}
-use Rattle.zs_num.specs.Request.{addr_of}
+use Rattle.zs_num.specs.Request.{addr_of, line_at, bank_of_line}
 use Rattle.zs_num.specs.declared.request.Request.{Request}
 use Rattle.zs_num.specs.declared.request.Request.TheVariants.{Load, Store, Lr, Sc, Amo}
 use Rattle.rv_alu.specs.Atomic.{new_number}
 use Rattle.flat_memory.specs.declared.reservation.Reservation.{Reservation}
 use Rattle.flat_memory.specs.FlatMemory as flat
-use Rattle.shard.specs.Lines.{line_at, shard_of}
-use Rattle.shard.specs.Marks.{MarkedMemory, IsPairedRight, ArePairedRight, bytes_after, does_store, marked_after, marked_reply, marks_after, marks_for, pairing_after, pairing_of, pairings_after, reply_from, shard_number}
+use Rattle.shard.specs.Marks.{MarkedMemory, IsReservedRight, AreReservedRight, bytes_after, does_store, marked_after, marked_reply, marks_after, marks_for, reserved_after, pairing_of, pairings_after, reply_from, shard_number}
 use Rattle.shard.specs.Laws.{marked_replies, marked_after_all, flat_replies, flat_after_all, pairings_after_all}
 use Rattle.shard.specs.StandsFor.{flat_for, mark_at, reserved_by}
 use Rattle.shard.proofs.Kept.{length-marks_after}
@@ -103,22 +102,22 @@ module _ (m : MarkedMemory) (cores : ℕ) (are : AreMarks m cores) (core : ℕ) 
   }
 
   -- the mark in the shard of an address after the access
-  mark_here : (k addr : ℕ) → shard_of (length m.marks) (line_at addr) ≡ shard_number m request → mark_at (marked_after m core request) k addr ≡ get_or (marks_after (marks_for m request) core request) k None
+  mark_here : (k addr : ℕ) → bank_of_line (length m.marks) (line_at addr) ≡ shard_number m request → mark_at (marked_after m core request) k addr ≡ get_or (marks_after (marks_for m request) core request) k None
   mark_here k addr e =
       rw (length-set m.marks (shard_number m request) (marks_after (marks_for m request) core request), e, get_or-set_same m.marks (shard_number m request) (marks_after (marks_for m request) core request) [] shard_within) refl
 
-  mark_there : (k addr : ℕ) → (shard_of (length m.marks) (line_at addr) ≡ shard_number m request → ⊥) → mark_at (marked_after m core request) k addr ≡ mark_at m k addr
+  mark_there : (k addr : ℕ) → (bank_of_line (length m.marks) (line_at addr) ≡ shard_number m request → ⊥) → mark_at (marked_after m core request) k addr ≡ mark_at m k addr
   mark_there k addr e =
-      rw (length-set m.marks (shard_number m request) (marks_after (marks_for m request) core request), get_or-set_other m.marks (shard_number m request) (shard_of (length m.marks) (line_at addr)) (marks_after (marks_for m request) core request) [] e) refl
+      rw (length-set m.marks (shard_number m request) (marks_after (marks_for m request) core request), get_or-set_other m.marks (shard_number m request) (bank_of_line (length m.marks) (line_at addr)) (marks_after (marks_for m request) core request) [] e) refl
 
-  mark_before : (k addr : ℕ) → shard_of (length m.marks) (line_at addr) ≡ shard_number m request → mark_at m k addr ≡ get_or (marks_for m request) k None
+  mark_before : (k addr : ℕ) → bank_of_line (length m.marks) (line_at addr) ≡ shard_number m request → mark_at m k addr ≡ get_or (marks_for m request) k None
   mark_before k addr e = rw e refl
 
   -- a core whose mark in the shard stays has reserved what it had
   pub reserved_stays : (k : ℕ) → get_or (marks_after (marks_for m request) core request) k None ≡ get_or (marks_for m request) k None → (p : Reserved) → reserved_by (marked_after m core request) k p ≡ reserved_by m k p
   reserved_stays k h None = refl
   reserved_stays k h (Some q) =
-      elim (cases_eq (shard_of (length m.marks) (line_at q.addr)) (shard_number m request)) as (λ _. kept_if (flat.is_reservation (mark_at (marked_after m core request) k q.addr) q.addr q.width) q ≡ kept_if (flat.is_reservation (mark_at m k q.addr) q.addr q.width) q) [
+      elim (cases_eq (bank_of_line (length m.marks) (line_at q.addr)) (shard_number m request)) as (λ _. kept_if (flat.is_reservation (mark_at (marked_after m core request) k q.addr) q.addr q.width) q ≡ kept_if (flat.is_reservation (mark_at m k q.addr) q.addr q.width) q) [
         | inl e ↦ rw (mark_here k q.addr e, h, mark_before k q.addr e) refl
         | inr e ↦ rw (mark_there k q.addr e) refl
       ]
@@ -127,7 +126,7 @@ module _ (m : MarkedMemory) (cores : ℕ) (are : AreMarks m cores) (core : ℕ) 
   pub reserved_written : (k : ℕ) → get_or (marks_after (marks_for m request) core request) k None ≡ flat.unless_written (eqb k core) (addr_of request) (get_or (marks_for m request) k None) → (p : Reserved) → reserved_by (marked_after m core request) k p ≡ flat.unless_written (eqb k core) (addr_of request) (reserved_by m k p)
   reserved_written k h None = refl
   reserved_written k h (Some q) =
-      elim (cases_eq (shard_of (length m.marks) (line_at q.addr)) (shard_number m request)) as (λ _. kept_if (flat.is_reservation (mark_at (marked_after m core request) k q.addr) q.addr q.width) q ≡ flat.unless_written (eqb k core) (addr_of request) (kept_if (flat.is_reservation (mark_at m k q.addr) q.addr q.width) q)) [
+      elim (cases_eq (bank_of_line (length m.marks) (line_at q.addr)) (shard_number m request)) as (λ _. kept_if (flat.is_reservation (mark_at (marked_after m core request) k q.addr) q.addr q.width) q ≡ flat.unless_written (eqb k core) (addr_of request) (kept_if (flat.is_reservation (mark_at m k q.addr) q.addr q.width) q)) [
         | inl e ↦ rw (mark_here k q.addr e, h, mark_before k q.addr e) (mark_written (eqb k core) (addr_of request) (get_or (marks_for m request) k None) q)
         | inr e ↦ rw (mark_there k q.addr e) (sym (apart_stays (eqb k core) (addr_of request) q (flat.is_reservation (mark_at m k q.addr) q.addr q.width) (λ l. e (ap (λ (x : ℕ). x % length m.marks) l))))
       ]
@@ -290,7 +289,7 @@ module _ (m : MarkedMemory) (pairings : List Reserved) (are : AreMarks m (length
     stores_alike (Some q) e h = alike q (flat.is_reservation (Some q) addr width) refl h
 
   -- ---- one access
-  step_reply : (request : Request) → IsPairedRight (pairing_of pairings core) request → marked_reply m core request ≡ flat.memory_reply (flat_for m pairings) core request
+  step_reply : (request : Request) → IsReservedRight (pairing_of pairings core) request → marked_reply m core request ≡ flat.memory_reply (flat_for m pairings) core request
   unfolding reply_from flat.is_reserved
   step_reply (Load addr width) h = refl
   step_reply (Store addr width value) h = refl
@@ -305,7 +304,7 @@ module _ (m : MarkedMemory) (pairings : List Reserved) (are : AreMarks m (length
   sc_state addr width value paired true e = rw (e, after_sc addr width value paired true e) refl
   sc_state addr width value paired false e = rw (e, after_sc addr width value paired false e) refl
 
-  pub step_after : (request : Request) → IsPairedRight (pairing_of pairings core) request → flat_for (marked_after m core request) (pairings_after pairings core request) ≡ flat.memory_after (flat_for m pairings) core request
+  pub step_after : (request : Request) → IsReservedRight (pairing_of pairings core) request → flat_for (marked_after m core request) (pairings_after pairings core request) ≡ flat.memory_after (flat_for m pairings) core request
   unfolding bytes_after flat.written flat.is_reserved
   step_after (Load addr width) h = state_from m.bytes _ _ (after_load addr width)
   step_after (Store addr width value) h = state_from (flat.with_number m.bytes (addr - m.base) width value) _ _ (after_store addr width value)
@@ -317,7 +316,7 @@ module _ (m : MarkedMemory) (pairings : List Reserved) (are : AreMarks m (length
   step_after (Amo op addr width value) h = state_from (flat.with_number m.bytes (addr - m.base) width (new_number op width (flat.number_in m.bytes (addr - m.base) width) value)) _ _ (after_amo op addr width value)
 
 -- ---- lists of accesses
-all_steps : (accesses : List (ℕ × Request)) (m : MarkedMemory) (pairings : List Reserved) → AreMarks m (length pairings) → All (λ access. access.0 < length pairings) accesses → ArePairedRight pairings accesses
+all_steps : (accesses : List (ℕ × Request)) (m : MarkedMemory) (pairings : List Reserved) → AreMarks m (length pairings) → All (λ access. access.0 < length pairings) accesses → AreReservedRight pairings accesses
     → (marked_replies m accesses ≡ flat_replies (flat_for m pairings) accesses)
     × (flat_for (marked_after_all m accesses) (pairings_after_all pairings accesses) ≡ flat_after_all (flat_for m pairings) accesses)
 all_steps [] m pairings are cores right = (refl, refl)
@@ -326,7 +325,7 @@ all_steps (access ∷ accesses) m pairings are cores right =
     let within : access.0 < length pairings = All-head P access accesses cores in
     let reply = step_reply m pairings are access.0 within access.1 right.0 in
     let state = step_after m pairings are access.0 within access.1 right.0 in
-    let longer : length (pairings_after pairings access.0 access.1) ≡ length pairings = length-set pairings access.0 (pairing_after (pairing_of pairings access.0) access.1) in
+    let longer : length (pairings_after pairings access.0 access.1) ≡ length pairings = length-set pairings access.0 (reserved_after (pairing_of pairings access.0) access.1) in
     let rest = all_steps accesses (marked_after m access.0 access.1) (pairings_after pairings access.0 access.1)
     (subst (λ (n : ℕ). AreMarks (marked_after m access.0 access.1) n) (sym longer) (marks_stay m (length pairings) are access.0 access.1))
     (subst (λ (n : ℕ). All (λ (a : ℕ × Request). a.0 < n) accesses) (sym longer) (All-tail P access accesses cores))
@@ -337,7 +336,7 @@ all_steps (access ∷ accesses) m pairings are cores right =
 
 pub marks_are_reservations : (memory : MarkedMemory) (pairings : List Reserved) (accesses : List (ℕ × Request))
     → 0 < length memory.marks → All (λ marks. length marks ≡ length pairings) memory.marks → All (λ access. access.0 < length pairings) accesses
-    → ArePairedRight pairings accesses
+    → AreReservedRight pairings accesses
     → (marked_replies memory accesses ≡ flat_replies (flat_for memory pairings) accesses)
     × (flat_for (marked_after_all memory accesses) (pairings_after_all pairings accesses) ≡ flat_after_all (flat_for memory pairings) accesses)
 marks_are_reservations memory pairings accesses some each cores right =

@@ -6,7 +6,7 @@ use Rattle.std.proofs.lemmas.Bool.{eq-eqb, ne_eqb, cases_Bool, cases_eq, cases_l
 use Rattle.std.proofs.lemmas.List.{get_or_past}
 use Rattle.cache_set.specs.declared.letter.Letter.{Letter}
 use Rattle.cache_set.specs.declared.letter.Letter.TheVariants.{M, E, S, I}
-use Rattle.shard.specs.Coherence.{Caches, is_held, letter_at, some_core, some_other}
+use Rattle.shard.specs.Coherence.{Caches, is_valid, letter_at, some_core, some_other}
 
 any_true : (p : ℕ → Bool) (a n o : ℕ) → a ≤ o → o < a + n → p o ≡ true → list_any p (range_with_len a n) ≡ true
 any_true p a zero o low high t = absurd (omega arith)
@@ -71,17 +71,17 @@ unfolding letter_at
 unknown c core line past = rw (get_or_past c.l1 core [] past) refl
 
 -- where no other core has the line, each has the letter I for it
-pub some_other_none : (c : Caches) (line core : ℕ) → some_other is_held c core line ≡ false → (o : ℕ) → o ≢ core → letter_at c o line ≡ I
+pub some_other_none : (c : Caches) (line core : ℕ) → some_other is_valid c core line ≡ false → (o : ℕ) → o ≢ core → letter_at c o line ≡ I
 some_other_none c line core none o apart =
     elim (cases_lt o (length c.l1)) as (λ _. letter_at c o line ≡ I) [
       | inl l ↦
-          elim (cases_Bool (is_held (letter_at c o line))) as (λ _. letter_at c o line ≡ I) [
-            | inl t ↦ absurd (both (some_other is_held c core line) (some_other_true is_held c line core o l apart t) none)
+          elim (cases_Bool (is_valid (letter_at c o line))) as (λ _. letter_at c o line ≡ I) [
+            | inl t ↦ absurd (both (some_other is_valid c core line) (some_other_true is_valid c line core o l apart t) none)
             | inr f ↦ not_held (letter_at c o line) f
           ]
       | inr l ↦ unknown c o line l
     ] where
-      not_held : (letter : Letter) → is_held letter ≡ false → letter ≡ I
+      not_held : (letter : Letter) → is_valid letter ≡ false → letter ≡ I
       not_held M h = absurd cc
       not_held E h = absurd cc
       not_held S h = absurd cc

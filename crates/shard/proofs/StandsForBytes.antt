@@ -1,4 +1,5 @@
--- The bytes of a memory, and those of them that one shard keeps: the same are read, and the same are left after a write.
+-- The bytes of a memory, and those of them that one shard keeps: the same are read, and the same are left after a
+-- write.
 use Rattle.std.proofs.Common.{◌≡◌, ◌⊎◌, ℕ, zero, suc, ◌+◌, ◌-◌, ◌*◌, ◌/◌, ◌%◌, ◌<◌, ◌≤◌, List, ◌++◌, length, get_or, take, drop, Some, refl, sym, ap, ◌∙◌, subst, arith, inl, inr, length-append, length-drop}
 use Rattle.std.specs.Prelude.{slice_get}
 use Rattle.std.proofs.Math.Nat.{div-add-mod, div-mul-le_self}
@@ -10,7 +11,7 @@ use Rattle.std.proofs.lemmas.Option.{get_or_from_slice_get, slice_get-get_or, sl
 use Rattle.byteorder.specs.Endian.{little_bytes, little_from}
 use Rattle.byteorder.specs.Numbers.{length-bytes_low_first}
 use Rattle.flat_memory.specs.FlatMemory.{number_in, with_number}
-use Rattle.shard.specs.Lines.{line_at}
+use Rattle.zs_num.specs.Request.{line_at}
 use Rattle.shard.specs.Served.{place_of}
 
 -- ---- a number in a list of bytes

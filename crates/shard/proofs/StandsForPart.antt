@@ -1,12 +1,12 @@
--- The caches of a whole machine and those of one shard, of which the latter are a part: what is read of the shard's lines is
--- the same.
+-- The caches of a whole machine and those of one shard, of which the latter are a part: what is read of the shard's
+-- lines is the same.
 use Rattle.std.proofs.Common.{◌≡◌, ℕ, zero, suc, ◌+◌, ◌/◌, ◌%◌, ◌<◌, Bool, eqb, not, ◌&&◌, List, [], length, get_or, Option, Some, None, is_some, refl, ap, ◌∙◌, subst}
 use Rattle.std.specs.List.{list_any, range_with_len}
 use Rattle.zs_num.specs.Request.{line_of}
 use Rattle.zs_num.specs.declared.request.Request.{Request}
 use Rattle.cache_set.specs.declared.letter.Letter.{Letter}
 use Rattle.cache_set.specs.Ways.{kept_of}
-use Rattle.shard.specs.Coherence.{Caches, dirty_at, is_alone, is_dirty_victim, is_held, is_modified, is_write, l2_victim, letter_at, letter_in, outcome_by, outcome_of, own_victim, some_core, some_other}
+use Rattle.shard.specs.Coherence.{Caches, dirty_at, is_alone, is_dirty_victim, is_valid, is_modified, is_write, l2_victim, letter_at, letter_in, outcome_by, outcome_of, own_victim, some_core, some_other}
 use Rattle.shard.specs.Lines.{set_of, set_number}
 use Rattle.shard.proofs.CoherentLetters.{at_victim}
 use Rattle.shard.proofs.CoherentPlaced.{Placed}
@@ -82,8 +82,8 @@ outcome_same n number c d p some placed core request is =
     let line : ℕ = line_of request in
     let victim : is_dirty_victim c (l2_victim c line) ≡ is_dirty_victim d (l2_victim d line)
     = dirty_victim_same n number c d p (l2_victim c line) (l2_victim_number n number c d p line is some placed) ∙ ap (is_dirty_victim d) (l2_victim_same n number c d p line is) in
-    ap (λ (own : Letter). outcome_by (is_write request) own (is_some (dirty_at c line)) (some_other is_alone c core line) (some_other is_held c core line) (is_dirty_victim c (l2_victim c line))) (letter_same n number c d p line is core)
-    ∙ (ap (λ (there : Option Bool). outcome_by (is_write request) (letter_at d core line) (is_some there) (some_other is_alone c core line) (some_other is_held c core line) (is_dirty_victim c (l2_victim c line))) (dirty_same n number c d p line is)
-    ∙ (ap (λ (alone : Bool). outcome_by (is_write request) (letter_at d core line) (is_some (dirty_at d line)) alone (some_other is_held c core line) (is_dirty_victim c (l2_victim c line))) (some_other_same n number c d p line is is_alone core)
-    ∙ (ap (λ (has : Bool). outcome_by (is_write request) (letter_at d core line) (is_some (dirty_at d line)) (some_other is_alone d core line) has (is_dirty_victim c (l2_victim c line))) (some_other_same n number c d p line is is_held core)
-    ∙ ap (λ (dirty : Bool). outcome_by (is_write request) (letter_at d core line) (is_some (dirty_at d line)) (some_other is_alone d core line) (some_other is_held d core line) dirty) victim)))
+    ap (λ (own : Letter). outcome_by (is_write request) own (is_some (dirty_at c line)) (some_other is_alone c core line) (some_other is_valid c core line) (is_dirty_victim c (l2_victim c line))) (letter_same n number c d p line is core)
+    ∙ (ap (λ (there : Option Bool). outcome_by (is_write request) (letter_at d core line) (is_some there) (some_other is_alone c core line) (some_other is_valid c core line) (is_dirty_victim c (l2_victim c line))) (dirty_same n number c d p line is)
+    ∙ (ap (λ (alone : Bool). outcome_by (is_write request) (letter_at d core line) (is_some (dirty_at d line)) alone (some_other is_valid c core line) (is_dirty_victim c (l2_victim c line))) (some_other_same n number c d p line is is_alone core)
+    ∙ (ap (λ (has : Bool). outcome_by (is_write request) (letter_at d core line) (is_some (dirty_at d line)) (some_other is_alone d core line) has (is_dirty_victim c (l2_victim c line))) (some_other_same n number c d p line is is_valid core)
+    ∙ ap (λ (dirty : Bool). outcome_by (is_write request) (letter_at d core line) (is_some (dirty_at d line)) (some_other is_alone d core line) (some_other is_valid d core line) dirty) victim)))

@@ -3,7 +3,7 @@ use Rattle.std.proofs.Common.{◌≡◌, ◌≢◌, ℕ, ◌+◌, ◌-◌, ◌/�
 use Rattle.std.specs.List.{All}
 use Rattle.std.proofs.lemmas.Bool.{cases_lt}
 use Rattle.std.proofs.lemmas.List.Elements.{All-head, All-tail}
-use Rattle.zs_num.specs.Request.{addr_of, line_of, IsServable}
+use Rattle.zs_num.specs.Request.{addr_of, line_of, IsServable, line_at}
 use Rattle.zs_num.specs.declared.entry.Entry.{Entry}
 use Rattle.zs_num.specs.declared.request.Request.{Request}
 use Rattle.zs_num.specs.declared.request.Request.TheVariants.{Load, Store, Lr, Sc, Amo}
@@ -11,7 +11,6 @@ use Rattle.flat_memory.specs.FlatMemory.{MemoryState, number_in, with_number, wr
 use Rattle.flat_memory.specs.Laws.{LoadGivesWhatWasStored}
 use Rattle.shard.specs.Coherence.{Caches, caches_after}
 use Rattle.shard.specs.Laws.{ReadAfterWrite, has_written}
-use Rattle.shard.specs.Lines.{line_at}
 use Rattle.shard.specs.Marks.{MarkedMemory, bytes_after, does_store, marked_after, marked_reply, marks_for, reply_from}
 use Rattle.shard.specs.Served.{ShardState, shard_after}
 use Rattle.shard.specs.StandsFor.{AreAnswered, StandFor}

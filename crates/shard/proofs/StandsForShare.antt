@@ -1,13 +1,12 @@
 -- A shard's share of memory: accesses to it are answered alike, and it is the share of the memory that they leave.
 use Rattle.std.proofs.Common.{◌≡◌, ◌≢◌, ℕ, ◌+◌, ◌-◌, ◌/◌, ◌%◌, ◌<◌, ◌≤◌, Bool, true, false, cond, List, length, get_or, Option, refl, sym, ap, ◌∙◌, subst, arith, inl, inr}
 use Rattle.std.proofs.lemmas.Bool.{cases_lt}
-use Rattle.zs_num.specs.Request.{addr_of, line_of, IsServable}
+use Rattle.zs_num.specs.Request.{addr_of, line_of, IsServable, line_at}
 use Rattle.zs_num.specs.declared.request.Request.{Request}
 use Rattle.zs_num.specs.declared.request.Request.TheVariants.{Load, Store, Lr, Sc, Amo}
 use Rattle.rv_alu.specs.Atomic.{new_number}
 use Rattle.flat_memory.specs.declared.reservation.Reservation.{Reservation}
 use Rattle.flat_memory.specs.FlatMemory.{number_in, with_number}
-use Rattle.shard.specs.Lines.{line_at}
 use Rattle.shard.specs.Marks.{bytes_after, does_store, reply_from}
 use Rattle.shard.specs.Served.{place_of}
 use Rattle.shard.proofs.StandsForBytes.{Share, length_written, number_same, outside, place_step, read_same, slice_same, written_before, written_behind, written_here}

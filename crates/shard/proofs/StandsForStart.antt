@@ -14,7 +14,7 @@ use Rattle.machine_desc.specs.declared.machine.Machine.{Machine}
 use Rattle.flat_memory.specs.declared.reservation.Reservation.{Reservation}
 use Rattle.flat_memory.specs.FlatMemory as flat
 use Rattle.shard.specs.Laws.{NewShardsStand}
-use Rattle.shard.specs.Lines.{line_at}
+use Rattle.zs_num.specs.Request.{line_at}
 use Rattle.shard.specs.Marks.{pairing_of}
 use Rattle.shard.specs.Served.{ShardState, first_bytes, lines_below, lines_kept, new_shard, place_of}
 use Rattle.shard.specs.StandsFor.{StandFor, flat_for, new_caches, new_memory, new_shards, reserved_by}

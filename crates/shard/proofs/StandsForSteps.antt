@@ -10,7 +10,7 @@ use Rattle.zs_num.specs.declared.request.Request.{Request}
 use Rattle.cache_set.specs.declared.letter.Letter.{Letter}
 use Rattle.cache_set.specs.declared.letter.Letter.TheVariants.{M, E, S, I}
 use Rattle.cache_set.specs.Ways.{without, used, filled, changed}
-use Rattle.shard.specs.Coherence.{Caches, caches_after, in_own_set_of, is_held, is_modified, is_write, kept_first, l2_victim, letter_at, letter_in, looked_up, marked_dirty, on_l2, on_others, on_own, other_after, others_changed, outcome_of, own_after, own_victim, recalled, room_made, some_other, taken_in, taken_into_l2, with_letter, written_back}
+use Rattle.shard.specs.Coherence.{Caches, caches_after, in_own_set_of, is_valid, is_modified, is_write, kept_first, l2_victim, letter_at, letter_in, looked_up, marked_dirty, on_l2, on_others, on_own, other_after, others_changed, outcome_of, own_after, own_victim, recalled, room_made, some_other, taken_in, taken_into_l2, with_letter, written_back}
 use Rattle.shard.specs.Lines.{in_set_of}
 use Rattle.shard.proofs.CoherentLists.{both_set, mapped_at, numbered_at}
 use Rattle.shard.proofs.CoherentPlaced.{Keeps, Placed, if_other, l2_step, none_other, others_step}
@@ -142,7 +142,7 @@ module _ (n number : ℕ) (some : 0 < n) where
       let write : Bool = is_write request in
       let own : Letter = letter_at c core line in
       let outcome : Outcome = outcome_of c core request in
-      let has : Bool = some_other is_held c core line in
+      let has : Bool = some_other is_valid c core line in
       let letter : Letter = own_after write own has in
       let first : Part n number (on_l2 outcome line c) (on_l2 outcome line d) = on_l2_part line is c d p placed outcome in
       let second : Part n number (on_others outcome write core line (on_l2 outcome line c)) (on_others outcome write core line (on_l2 outcome line d))
@@ -152,6 +152,6 @@ module _ (n number : ℕ) (some : 0 < n) where
       let whole : Caches = steps own letter outcome write core line c in
       let third : Part n number whole (steps own letter outcome write core line d)
       = on_own_part line is (on_others outcome write core line (on_l2 outcome line c)) (on_others outcome write core line (on_l2 outcome line d)) second (others_keep.placed (l2_keeps.placed placed)) own core letter in
-      subst (λ (o : Outcome). Part n number whole (steps (letter_at d core line) (own_after write (letter_at d core line) (some_other is_held d core line)) o write core line d)) (outcome_same n number c d p some placed core request is)
-      (subst (λ (b : Bool). Part n number whole (steps (letter_at d core line) (own_after write (letter_at d core line) b) outcome write core line d)) (some_other_same n number c d p line is is_held core)
+      subst (λ (o : Outcome). Part n number whole (steps (letter_at d core line) (own_after write (letter_at d core line) (some_other is_valid d core line)) o write core line d)) (outcome_same n number c d p some placed core request is)
+      (subst (λ (b : Bool). Part n number whole (steps (letter_at d core line) (own_after write (letter_at d core line) b) outcome write core line d)) (some_other_same n number c d p line is is_valid core)
       (subst (λ (x : Letter). Part n number whole (steps x (own_after write x has) outcome write core line d)) (letter_same n number c d p line is core) third))

@@ -1,5 +1,5 @@
--- Worked examples, computed by the definitions. The machine has sets of 64-byte lines: two L1 sets of one way for each core,
--- and four L2 sets of two ways in one shard.
+-- Worked examples, computed by the definitions. The machine has sets of 64-byte lines: two L1 sets of one way for each
+-- core, and four L2 sets of two ways in one shard.
 use Rattle.std.proofs.Common.{◌≡◌, ℕ, Bool, true, false, List, [], ◌∷◌, Some, None, refl, replicate, take}
 use Rattle.zs_num.specs.declared.entry.Entry.{Entry}
 use Rattle.zs_num.specs.declared.entry.Outcome.{Outcome}

@@ -1,4 +1,5 @@
--- How a shard's caches are laid out: for each core its sets, and for each set of the L2 its lines and a directory of them.
+-- How a shard's caches are laid out: for each core its sets, and for each set of the L2 its lines and a directory of
+-- them.
 use Rattle.std.specs.Prelude.{◌≡◌, ℕ, ◌<◌, ◌≤◌, ◌/◌, ◌%◌, Bool, false, if◌then◌else◌, IsTrue, IsSome, List, [], length, map, nat_eq, slice_index_or, Option, Some, None}
 use Rattle.std.specs.List.{All}
 use Rattle.cache_set.specs.declared.letter.Letter.{Letter}
@@ -6,7 +7,7 @@ use Rattle.cache_set.specs.declared.letter.Letter.TheVariants.{I}
 use Rattle.cache_set.specs.Letters.{letter_of}
 use Rattle.cache_set.specs.Ways.{WaySet, IsWaySet, kept_of}
 use Rattle.mesi_dir.specs.LineMap.{LineMap, Sharing, KeepsOthers, is_among, is_sharer, nobody, owner_of, sharing_of}
-use Rattle.shard.specs.Coherence.{Caches, is_alone, is_held, letter_at, letter_in}
+use Rattle.shard.specs.Coherence.{Caches, is_alone, is_valid, letter_at, letter_in}
 use Rattle.shard.specs.Lines.{set_of}
 
 -- ---- the cache of one core
@@ -89,7 +90,7 @@ is_owner (Some owner) core = nat_eq owner core
 
 -- a core has this letter for a line now, as far as a directory tells
 pub record TellsLetter (old new : LineMap) (core line : ℕ) (letter : Letter) : Type 0 where
-  pub holds : (c : ℕ) → is_sharer new line c ≡ (if nat_eq core c then is_held letter else is_sharer old line c)
+  pub holds : (c : ℕ) → is_sharer new line c ≡ (if nat_eq core c then is_valid letter else is_sharer old line c)
   pub owns : (c : ℕ) → is_owner (owner_of new line) c ≡ (if nat_eq core c then is_alone letter else is_owner (owner_of old line) c)
   pub others : KeepsOthers old new line
 
@@ -131,7 +132,7 @@ pub record IsShared (ways cores : ℕ) (s : SharedLines) : Type 0 where
 
 -- who has which lines is what the cores' letters say, and the owner is the core with M or E
 pub record Tells (letters : (core line : ℕ) → Letter) (sharing : (line : ℕ) → Sharing) : Type 0 where
-  pub holds : (core line : ℕ) → is_among (sharing line) core ≡ is_held (letters core line)
+  pub holds : (core line : ℕ) → is_among (sharing line) core ≡ is_valid (letters core line)
   pub owns : (core line : ℕ) → is_owner (sharing line).owner core ≡ is_alone (letters core line)
 
 pub record AreLists (shards l1_ways l2_ways : ℕ) (l1 : List CoreLines) (l2 : List SharedLines) : Type 0 where

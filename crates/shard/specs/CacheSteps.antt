@@ -4,7 +4,7 @@ use Rattle.zs_num.specs.declared.entry.Outcome.{Outcome}
 use Rattle.cache_set.specs.declared.letter.Letter.{Letter}
 use Rattle.cache_set.specs.declared.letter.Letter.TheVariants.{I}
 use Rattle.cache_set.specs.Ways.{filled, kept_of}
-use Rattle.shard.specs.Coherence.{Caches, dirty_at, in_own_set_of, is_alone, is_dirty_victim, is_held, l2_victim, letter_at, on_l2, on_others, on_own, outcome_by, own_after, own_victim, some_other, taken_in}
+use Rattle.shard.specs.Coherence.{Caches, dirty_at, in_own_set_of, is_alone, is_dirty_victim, is_valid, l2_victim, letter_at, on_l2, on_others, on_own, outcome_by, own_after, own_victim, some_other, taken_in}
 use Rattle.shard.specs.Lines.{set_of}
 
 -- a line with the letter I has no copy in its set
@@ -37,11 +37,11 @@ copies_at c core line = set_of c.shards line (slice_index_or c.l1 core [])
 abbrev pub met_at : Caches → (core line : ℕ) → (write : Bool) → Outcome
 met_at c core line write =
     outcome_by write (letter_at c core line) (is_some (dirty_at c line))
-    (some_other is_alone c core line) (some_other is_held c core line) (is_dirty_victim c (l2_victim c line))
+    (some_other is_alone c core line) (some_other is_valid c core line) (is_dirty_victim c (l2_victim c line))
 
 abbrev pub after_at : Caches → (core line : ℕ) → (write : Bool) → Caches
 after_at c core line write =
-    on_own (letter_at c core line) core line (own_after write (letter_at c core line) (some_other is_held c core line))
+    on_own (letter_at c core line) core line (own_after write (letter_at c core line) (some_other is_valid c core line))
     (on_others (met_at c core line write) write core line (on_l2 (met_at c core line write) line c))
 
 -- a core's set of a line has room, and the line comes into it as into the full set
@@ -60,7 +60,7 @@ pub record LeavesFree (old new : Caches) (core line : ℕ) (write : Bool) : Type
   pub in_l2 : IsSome (dirty_at new line)
   pub shared : (c : ℕ) → c ≢ core → is_alone (letter_at new c line) ≡ false
   pub written : write ≡ true → (c : ℕ) → c ≢ core → letter_at new c line ≡ I
-  pub held : write ≡ false → (c : ℕ) → c ≢ core → is_held (letter_at new c line) ≡ is_held (letter_at old c line)
+  pub held : write ≡ false → (c : ℕ) → c ≢ core → is_valid (letter_at new c line) ≡ is_valid (letter_at old c line)
 
 -- the line that has to leave the L2 for this one has no copy any more
 pub record MakesL2Room (old new : Caches) (line : ℕ) : Type 0 where

@@ -1,6 +1,6 @@
--- What an access does to the caches: the MESI protocol (Papamarcos and Patel 1984), with a cache of its own for each core
--- (L1) and one that all share (L2). The L2 is inclusive: it has each line that an L1 has. The line that was used last
--- longest ago makes room. There is no directory: who has a line is read off the lists.
+-- What an access does to the caches: the MESI protocol (Papamarcos and Patel 1984), with a cache of its own for each
+-- core (L1) and one that all share (L2). The L2 is inclusive: it has each line that an L1 has. The line that was used
+-- last longest ago makes room. There is no directory: who has a line is read off the lists.
 use Rattle.std.specs.Prelude.{ℕ, ◌==◌, Bool, true, false, not, ◌&&◌, ◌||◌, if◌then◌else◌, List, [], ◌∷◌, length, map, replicate, slice_index_or, slice_set, Option, Some, None, is_some, unwrap_or}
 use Rattle.std.specs.List.{enumerate_from, list_any, range_with_len}
 use Rattle.zs_num.specs.Request.{line_of}
@@ -50,11 +50,11 @@ letter_at c core line = letter_in line (set_of c.shards line (slice_index_or c.l
 unfoldable pub dirty_at : Caches → (line : ℕ) → Option Bool
 dirty_at c line = kept_of line (set_of c.shards line c.l2)
 
-abbrev pub is_held : Letter → Bool
-is_held M = true
-is_held E = true
-is_held S = true
-is_held I = false
+abbrev pub is_valid : Letter → Bool
+is_valid M = true
+is_valid E = true
+is_valid S = true
+is_valid I = false
 
 -- a core with this letter is the only one that has the line
 abbrev pub is_alone : Letter → Bool
@@ -87,8 +87,8 @@ is_write (Lr addr width) = false
 is_write (Sc addr width value paired) = true
 is_write (Amo op addr width value) = true
 
--- How the caches meet an access, by the core's letter and by whether the L2 holds the line. `alone` says that another core
--- has it in M or E, `has` that another core has it, and `dirty` that the line that makes room in the L2 is dirty.
+-- How the caches meet an access, by the core's letter and by whether the L2 holds the line. `alone` says that another
+-- core has it in M or E, `has` that another core has it, and `dirty` that the line that makes room in the L2 is dirty.
 abbrev pub outcome_by : (write : Bool) → Letter → (in_l2 alone has dirty : Bool) → Outcome
 outcome_by false M in_l2 alone has dirty = Hit
 outcome_by false E in_l2 alone has dirty = Hit
@@ -104,7 +104,7 @@ outcome_by true I false alone has dirty = Miss dirty
 -- A hit needs a letter that allows the access: any to read, M or E to write.
 abbrev pub allows : (write : Bool) → Letter → Bool
 allows true letter = is_alone letter
-allows false letter = is_held letter
+allows false letter = is_valid letter
 
 -- the core's letter after the access
 abbrev pub own_after : (write : Bool) → Letter → (has : Bool) → Letter
@@ -136,7 +136,7 @@ is_dirty_victim c (Some victim) = victim.1 || some_core is_modified c victim.0
 unfoldable pub outcome_of : Caches → (core : ℕ) → Request → Outcome
 outcome_of c core request = let line = line_of request in
     outcome_by (is_write request) (letter_at c core line) (is_some (dirty_at c line))
-    (some_other is_alone c core line) (some_other is_held c core line) (is_dirty_victim c (l2_victim c line))
+    (some_other is_alone c core line) (some_other is_valid c core line) (is_dirty_victim c (l2_victim c line))
 
 -- no core has a line any more
 unfoldable pub recalled : (line : ℕ) → Caches → Caches
@@ -223,7 +223,7 @@ caches_after c core request =
     let write = is_write request in
     let own = letter_at c core line in
     let outcome = outcome_of c core request in
-    let letter = own_after write own (some_other is_held c core line) in
+    let letter = own_after write own (some_other is_valid c core line) in
     on_own own core line letter (on_others outcome write core line (on_l2 outcome line c))
 
 -- ---- lists of accesses, each with its core

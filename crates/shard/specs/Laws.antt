@@ -1,6 +1,6 @@
 -- Laws of the definitions.
 use Rattle.std.specs.Prelude.{◌≡◌, ◌≢◌, ℕ, ◌%◌, ◌^◌, ◌<◌, ◌≤◌, ◌==◌, ◌↔◌, Bool, true, false, List, [], ◌∷◌, ◌++◌, All, length, map, replicate, slice_set, Option, None, IsSome, IsTrue}
-use Rattle.zs_num.specs.Request.{IsServable, line_of}
+use Rattle.zs_num.specs.Request.{IsServable, line_of, line_at}
 use Rattle.zs_num.specs.declared.entry.Entry.{Entry}
 use Rattle.zs_num.specs.declared.request.Request.{Request}
 use Rattle.zs_num.specs.declared.request.Request.TheVariants.{Load, Store, Lr, Sc, Amo}
@@ -11,9 +11,8 @@ use Rattle.flat_memory.specs.declared.reservation.Reservation.{Reservation}
 use Rattle.flat_memory.specs.FlatMemory as flat
 use Rattle.zs_num.specs.declared.entry.Outcome.TheVariants.{Hit}
 use Rattle.cache_set.specs.declared.letter.Letter.TheVariants.{I}
-use Rattle.shard.specs.Coherence.{Caches, allows, caches_after, caches_after_all, dirty_at, empty_caches, is_alone, is_held, is_write, letter_at, outcome_of, outcomes_of}
-use Rattle.shard.specs.Lines.{line_at}
-use Rattle.shard.specs.Marks.{ArePairedRight, MarkedMemory, marked_after, marked_reply, pairings_after}
+use Rattle.shard.specs.Coherence.{Caches, allows, caches_after, caches_after_all, dirty_at, empty_caches, is_alone, is_valid, is_write, letter_at, outcome_of, outcomes_of}
+use Rattle.shard.specs.Marks.{AreReservedRight, MarkedMemory, marked_after, marked_reply, pairings_after}
 use Rattle.shard.specs.Served.{CanServe, HasCore, ShardState, met_by, shard_after, shard_reply}
 use Rattle.shard.specs.StandsFor.{AreAnswered, AreCoherent, HaveRoomForLines, HaveSets, KeepsLine, StandFor, accesses_of, flat_for, new_caches, new_memory, new_shards}
 
@@ -38,14 +37,14 @@ CoresStay = (shard : ShardState) (entry : Entry) (core : ℕ) → HasCore shard 
 abbrev pub HitsAreAllowed : Type 0
 HitsAreAllowed = (c : Caches) (core : ℕ) (request : Request) → (outcome_of c core request ≡ Hit) ↔ IsTrue (allows (is_write request) (letter_at c core (line_of request)))
 
--- whatever is accessed, from empty caches on, no set has a line twice or more lines than ways, each line stands in its own
--- set, and no L1 has a line with the letter I
+-- whatever is accessed, from empty caches on, no set has a line twice or more lines than ways, each line stands in its
+-- own set, and no L1 has a line with the letter I
 abbrev pub SetsStaySound : Type 0
 SetsStaySound = (cores shards l1_sets l1_ways l2_sets l2_ways : ℕ) (accesses : List (ℕ × Request))
     → HaveSets (caches_after_all (empty_caches cores shards l1_sets l1_ways l2_sets l2_ways) accesses)
 
--- Coherence is kept by every access of a core, where there is a set for each line with room for one. So is the room, and so
--- are the cores.
+-- Coherence is kept by every access of a core, where there is a set for each line with room for one. So is the room,
+-- and so are the cores.
 abbrev pub CoherentStays : Type 0
 CoherentStays = (c : Caches) (core : ℕ) (request : Request) → AreCoherent c → HaveRoomForLines c → core < length c.l1
     → AreCoherent (caches_after c core request) × HaveRoomForLines (caches_after c core request) × (length (caches_after c core request).l1 ≡ length c.l1)
@@ -62,7 +61,7 @@ SingleWriter = AfterEmpty (λ c. (core other line : ℕ) → other ≢ core → 
 
 -- each line of an L1 stands in the L2
 abbrev pub Inclusion : Type 0
-Inclusion = AfterEmpty (λ c. (core line : ℕ) → IsTrue (is_held (letter_at c core line)) → IsSome (dirty_at c line))
+Inclusion = AfterEmpty (λ c. (core line : ℕ) → IsTrue (is_valid (letter_at c core line)) → IsSome (dirty_at c line))
 
 -- ---- marks and reservations
 
@@ -89,12 +88,12 @@ abbrev pub pairings_after_all : (pairings : List (Option Reservation)) → List 
 pairings_after_all pairings [] = pairings
 pairings_after_all pairings (access ∷ accesses) = pairings_after_all (pairings_after pairings access.0 access.1) accesses
 
--- Marks in each shard are as good as one reservation for each core: over every list of accesses that is paired right, they
--- give the replies and leave the memory that flat memory gives and leaves.
+-- Marks in each shard are as good as one reservation for each core: over every list of accesses that is paired right,
+-- they give the replies and leave the memory that flat memory gives and leaves.
 abbrev pub MarksAreReservations : Type 0
 MarksAreReservations = (memory : MarkedMemory) (pairings : List (Option Reservation)) (accesses : List (ℕ × Request))
     → 0 < length memory.marks → All (λ marks. length marks ≡ length pairings) memory.marks → All (λ access. access.0 < length pairings) accesses
-    → ArePairedRight pairings accesses
+    → AreReservedRight pairings accesses
     → (marked_replies memory accesses ≡ flat_replies (flat_for memory pairings) accesses)
     × (flat_for (marked_after_all memory accesses) (pairings_after_all pairings accesses) ≡ flat_after_all (flat_for memory pairings) accesses)
 
@@ -115,12 +114,12 @@ abbrev pub NewShardsStand : Type 0
 NewShardsStand = (m : Machine) (image : MemoryImage) → IsMachine m
     → StandFor (new_shards m image) (new_memory m image) (new_caches m) × (flat_for (new_memory m image) (replicate m.cores None) ≡ flat.loaded image m.cores)
 
--- What shards answer to accesses that are paired right are the replies of one flat memory and the outcomes of the caches of
--- one machine, and the shards that are left stand for what these leave.
+-- What shards answer to accesses that are paired right are the replies of one flat memory and the outcomes of the
+-- caches of one machine, and the shards that are left stand for what these leave.
 abbrev pub EntriesAreOfOneMachine : Type 0
 EntriesAreOfOneMachine = (shards : List ShardState) (memory : MarkedMemory) (c : Caches) (pairings : List (Option Reservation)) (entries : List Entry) (left : List ShardState)
     → StandFor shards memory c → length pairings ≡ length c.l1 → All (λ entry. entry.core < length c.l1) entries → All (λ entry. IsServable memory.base (length memory.bytes) entry.request) entries
-    → ArePairedRight pairings (accesses_of entries) → AreAnswered shards entries left
+    → AreReservedRight pairings (accesses_of entries) → AreAnswered shards entries left
     → (map (λ entry. entry.reply) entries ≡ flat_replies (flat_for memory pairings) (accesses_of entries))
     × (map (λ entry. entry.outcome) entries ≡ outcomes_of c (accesses_of entries))
     × StandFor left (marked_after_all memory (accesses_of entries)) (caches_after_all c (accesses_of entries))
@@ -130,7 +129,7 @@ EntriesAreOfOneMachine = (shards : List ShardState) (memory : MarkedMemory) (c :
 abbrev pub NewShardsAreOneMachine : Type 0
 NewShardsAreOneMachine = (m : Machine) (image : MemoryImage) (entries : List Entry) (left : List ShardState) → IsMachine m
     → All (λ entry. entry.core < m.cores) entries → All (λ entry. IsServable image.base image.size entry.request) entries
-    → ArePairedRight (replicate m.cores None) (accesses_of entries) → AreAnswered (new_shards m image) entries left
+    → AreReservedRight (replicate m.cores None) (accesses_of entries) → AreAnswered (new_shards m image) entries left
     → (map (λ entry. entry.reply) entries ≡ flat_replies (flat.loaded image m.cores) (accesses_of entries))
     × (map (λ entry. entry.outcome) entries ≡ outcomes_of (new_caches m) (accesses_of entries))
 

@@ -1,15 +1,7 @@
--- Where a line lies. Lines have 64 bytes and are dealt to the shards in turn, and in each shard to its sets in turn. So the
--- shard of a line is its number modulo the shards, and with as many sets in each shard the set of a line among all sets is
--- its number modulo these.
+-- Where a line lies. Lines are dealt to the banks in turn, and each bank has a shard; in each shard they are dealt to
+-- its sets in turn. So the shard of a line is its number modulo the shards, and with as many sets in each shard the set
+-- of a line among all sets is its number modulo these.
 use Rattle.std.specs.Prelude.{ℕ, ◌/◌, ◌%◌, List, [], length, slice_index_or, slice_set}
-
--- the line of an address
-abbrev pub line_at : (addr : ℕ) → ℕ
-line_at addr = addr / 64
-
--- the shard of a line
-abbrev pub shard_of : (shards line : ℕ) → ℕ
-shard_of shards line = line % shards
 
 module _ {X : Type 0} where
   -- the number of a line's set among the sets of its shard

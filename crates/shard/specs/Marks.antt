@@ -2,13 +2,12 @@
 -- load-reserved there, unless that has ended there since. A store-conditional says by itself whether the core's latest
 -- load-reserved anywhere was of the same bytes, with no store-conditional since: then the two are paired.
 use Rattle.std.specs.Prelude.{◌≡◌, ℕ, ◌-◌, Bool, ◌&&◌, if◌then◌else◌, List, [], ◌∷◌, length, slice_index_or, slice_set, Option, Some, None}
-use Rattle.zs_num.specs.Request.{addr_of}
+use Rattle.zs_num.specs.Request.{addr_of, bank_of}
 use Rattle.zs_num.specs.declared.request.Request.{Request}
 use Rattle.zs_num.specs.declared.request.Request.TheVariants.{Load, Store, Lr, Sc, Amo}
 use Rattle.rv_alu.specs.Atomic.{new_number}
 use Rattle.flat_memory.specs.declared.reservation.Reservation.{Reservation}
 use Rattle.flat_memory.specs.FlatMemory.{after_write, is_reservation, number_in, with_number}
-use Rattle.shard.specs.Lines.{line_at, shard_of}
 
 -- ---- one shard: its marks by core, and its bytes, of which the access is to those from a place on
 
@@ -52,7 +51,7 @@ pub record MarkedMemory : Type 0 where
 
 -- the number of the shard of an access
 abbrev pub shard_number : MarkedMemory → Request → ℕ
-shard_number memory request = shard_of (length memory.marks) (line_at (addr_of request))
+shard_number memory request = bank_of (length memory.marks) request
 
 -- the marks of its shard
 abbrev pub marks_for : MarkedMemory → Request → List (Option Reservation)
@@ -75,26 +74,26 @@ marked_after memory core request = record memory {
 abbrev pub pairing_of : (pairings : List (Option Reservation)) → (core : ℕ) → Option Reservation
 pairing_of pairings core = slice_index_or pairings core None
 
-abbrev pub pairing_after : Option Reservation → Request → Option Reservation
-pairing_after pairing (Load addr width) = pairing
-pairing_after pairing (Store addr width value) = pairing
-pairing_after pairing (Lr addr width) = Some (record { addr = addr; width = width })
-pairing_after pairing (Sc addr width value paired) = None
-pairing_after pairing (Amo op addr width value) = pairing
+abbrev pub reserved_after : Option Reservation → Request → Option Reservation
+reserved_after pairing (Load addr width) = pairing
+reserved_after pairing (Store addr width value) = pairing
+reserved_after pairing (Lr addr width) = Some (record { addr = addr; width = width })
+reserved_after pairing (Sc addr width value paired) = None
+reserved_after pairing (Amo op addr width value) = pairing
 
 abbrev pub pairings_after : (pairings : List (Option Reservation)) → (core : ℕ) → Request → List (Option Reservation)
-pairings_after pairings core request = slice_set pairings core (pairing_after (pairing_of pairings core) request)
+pairings_after pairings core request = slice_set pairings core (reserved_after (pairing_of pairings core) request)
 
 -- a store-conditional says of its core's pairing whether it is of the same bytes
-abbrev pub IsPairedRight : Option Reservation → Request → Type 0
-IsPairedRight pairing (Load addr width) = Unit {0}
-IsPairedRight pairing (Store addr width value) = Unit {0}
-IsPairedRight pairing (Lr addr width) = Unit {0}
-IsPairedRight pairing (Sc addr width value paired) = paired ≡ is_reservation pairing addr width
-IsPairedRight pairing (Amo op addr width value) = Unit {0}
+abbrev pub IsReservedRight : Option Reservation → Request → Type 0
+IsReservedRight pairing (Load addr width) = Unit {0}
+IsReservedRight pairing (Store addr width value) = Unit {0}
+IsReservedRight pairing (Lr addr width) = Unit {0}
+IsReservedRight pairing (Sc addr width value paired) = paired ≡ is_reservation pairing addr width
+IsReservedRight pairing (Amo op addr width value) = Unit {0}
 
 -- each access of a list does, of the pairings that those before it leave
-abbrev pub ArePairedRight : (pairings : List (Option Reservation)) → List (ℕ × Request) → Type 0
-ArePairedRight pairings [] = Unit {0}
-ArePairedRight pairings (access ∷ accesses) =
-    IsPairedRight (pairing_of pairings access.0) access.1 × ArePairedRight (pairings_after pairings access.0 access.1) accesses
+abbrev pub AreReservedRight : (pairings : List (Option Reservation)) → List (ℕ × Request) → Type 0
+AreReservedRight pairings [] = Unit {0}
+AreReservedRight pairings (access ∷ accesses) =
+    IsReservedRight (pairing_of pairings access.0) access.1 × AreReservedRight (pairings_after pairings access.0 access.1) accesses

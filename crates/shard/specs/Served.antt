@@ -1,8 +1,8 @@
--- A shard, and what it does with an access. All is said by functions of the shard and the recorded entry, so that a list of
--- entries is at once the list of requests, of replies and of stamps.
+-- A shard, and what it does with an access. All is said by functions of the shard and the recorded entry, so that a
+-- list of entries is at once the list of requests, of replies and of stamps.
 use Rattle.std.specs.Prelude.{◌≡◌, ℕ, ◌+◌, ◌-◌, ◌*◌, ◌/◌, ◌%◌, ◌<◌, List, [], ◌∷◌, length, max, replicate, Option, None}
 use Rattle.std.specs.List.{flat_map, range_with_len}
-use Rattle.zs_num.specs.Request.{addr_of, line_of, IsServable}
+use Rattle.zs_num.specs.Request.{addr_of, line_of, IsServable, line_at, bank_of_line}
 use Rattle.zs_num.specs.declared.entry.Entry.{Entry}
 use Rattle.zs_num.specs.declared.entry.Outcome.{Outcome}
 use Rattle.zs_num.specs.declared.request.Request.{Request}
@@ -10,7 +10,6 @@ use Rattle.elf_load.specs.MemoryImage.{MemoryImage, bytes_from}
 use Rattle.machine_desc.specs.declared.machine.Machine.{Machine}
 use Rattle.flat_memory.specs.declared.reservation.Reservation.{Reservation}
 use Rattle.shard.specs.Coherence.{Caches, caches_after, empty_caches, outcome_of}
-use Rattle.shard.specs.Lines.{line_at, shard_of}
 use Rattle.shard.specs.Marks.{bytes_after, marks_after, reply_from}
 
 pub record ShardState : Type 0 where
@@ -37,7 +36,7 @@ place_of shards base addr = 64 * (line_at addr / shards - lines_below shards bas
 
 -- what a shard can be asked: an access to a line of its own that memory can serve
 unfoldable pub CanServe : ShardState → Request → Type 0
-CanServe shard request = IsServable shard.base shard.size request × (shard_of shard.caches.shards (line_of request) ≡ shard.number)
+CanServe shard request = IsServable shard.base shard.size request × (bank_of_line shard.caches.shards (line_of request) ≡ shard.number)
 
 -- a core that the shard knows
 abbrev pub HasCore : ShardState → (core : ℕ) → Type 0
@@ -59,9 +58,9 @@ shard_after shard entry = record shard {
   last = entry.stamp;
 }
 
--- The entry that a shard answers to an access of a core, whose own latest stamp was `last`: the reply and the outcome are
--- those of the shard, and the stamp is past the latest of both (L. Lamport, "Time, Clocks, and the Ordering of Events in a
--- Distributed System", 1978).
+-- The entry that a shard answers to an access of a core, whose own latest stamp was `last`: the reply and the outcome
+-- are those of the shard, and the stamp is past the latest of both (L. Lamport, "Time, Clocks, and the Ordering of
+-- Events in a Distributed System", 1978).
 pub record IsServedBy (shard : ShardState) (core start last : ℕ) (request : Request) (entry : Entry) : Type 0 where
   pub core_is : entry.core ≡ core
   pub start_is : entry.start ≡ start

@@ -2,7 +2,7 @@
 use Rattle.std.specs.Prelude.{◌≡◌, ◌≢◌, ℕ, ◌+◌, ◌-◌, ◌*◌, ◌<◌, ◌≤◌, if◌then◌else◌, IsTrue, IsSome, List, [], ◌∷◌, length, map, replicate, nat_eq, slice_index_or, slice_get, slice_set, Option, Some, None}
 use Rattle.std.specs.List.{All, IsDistinct, range_with_len}
 use Rattle.std.specs.Map.{keys_of}
-use Rattle.zs_num.specs.Request.{line_of}
+use Rattle.zs_num.specs.Request.{line_of, line_at, bank_of_line}
 use Rattle.zs_num.specs.declared.entry.Entry.{Entry}
 use Rattle.zs_num.specs.declared.request.Request.{Request}
 use Rattle.elf_load.specs.MemoryImage.{MemoryImage, bytes_from}
@@ -10,8 +10,8 @@ use Rattle.machine_desc.specs.declared.machine.Machine.{Machine}
 use Rattle.cache_set.specs.declared.letter.Letter.TheVariants.{I}
 use Rattle.flat_memory.specs.declared.reservation.Reservation.{Reservation}
 use Rattle.flat_memory.specs.FlatMemory.{MemoryState, is_reservation}
-use Rattle.shard.specs.Coherence.{Caches, dirty_at, empty_caches, is_alone, is_held, letter_at}
-use Rattle.shard.specs.Lines.{line_at, set_number, set_of, shard_of}
+use Rattle.shard.specs.Coherence.{Caches, dirty_at, empty_caches, is_alone, is_valid, letter_at}
+use Rattle.shard.specs.Lines.{set_number, set_of}
 use Rattle.shard.specs.Marks.{MarkedMemory, pairing_of}
 use Rattle.shard.specs.Served.{ShardState, met_by, new_shard, place_of, shard_after, shard_reply}
 
@@ -26,7 +26,7 @@ pub record HaveSets (c : Caches) : Type 0 where
   pub l1 : All (λ sets. All (λ set. IsSet c.l1_ways set) sets) c.l1
   pub l2 : All (λ set. IsSet c.l2_ways set) c.l2
   -- what an L1 has it holds: no letter is I
-  pub held : (core n : ℕ) → All (λ way. IsTrue (is_held way.1)) (slice_index_or (slice_index_or c.l1 core []) n [])
+  pub held : (core n : ℕ) → All (λ way. IsTrue (is_valid way.1)) (slice_index_or (slice_index_or c.l1 core []) n [])
   -- each line stands in its own set
   pub l1_placed : (core n : ℕ) → All (λ way. set_number c.shards way.0 (slice_index_or c.l1 core []) ≡ n) (slice_index_or (slice_index_or c.l1 core []) n [])
   pub l2_placed : (n : ℕ) → All (λ way. set_number c.shards way.0 c.l2 ≡ n) (slice_index_or c.l2 n [])
@@ -36,7 +36,7 @@ pub record AreCoherent (c : Caches) : Type 0 where
   -- a core whose letter for a line is M or E is the only one that has it
   pub single : (core other line : ℕ) → other ≢ core → IsTrue (is_alone (letter_at c core line)) → letter_at c other line ≡ I
   -- each line of an L1 stands in the L2
-  pub inclusive : (core line : ℕ) → IsTrue (is_held (letter_at c core line)) → IsSome (dirty_at c line)
+  pub inclusive : (core line : ℕ) → IsTrue (is_valid (letter_at c core line)) → IsSome (dirty_at c line)
 
 -- there is a set for each line, and room for a line in each
 pub record HaveRoomForLines (c : Caches) : Type 0 where
@@ -56,10 +56,10 @@ pub record AreShards (shards : List ShardState) (memory_base memory_size : ℕ) 
 
 -- a shard keeps a line
 abbrev pub KeepsLine : (shards : List ShardState) → (line : ℕ) → ShardState → Type 0
-KeepsLine shards line s = slice_get shards (shard_of (length shards) line) ≡ Some s
+KeepsLine shards line s = slice_get shards (bank_of_line (length shards) line) ≡ Some s
 
--- The shards stand for a memory with marks and for the cache lists of one machine: each byte, each mark and each list is
--- the one in the shard of its line or set.
+-- The shards stand for a memory with marks and for the cache lists of one machine: each byte, each mark and each list
+-- is the one in the shard of its line or set.
 pub record StandFor (shards : List ShardState) (memory : MarkedMemory) (c : Caches) : Type 0 where
   pub are : AreShards shards memory.base (length memory.bytes)
   pub bytes : (addr : ℕ) (s : ShardState) → memory.base ≤ addr → addr < memory.base + length memory.bytes → KeepsLine shards (line_at addr) s
@@ -102,8 +102,8 @@ new_caches m = empty_caches m.cores 1 m.l1.sets m.l1.ways m.l2.sets m.l2.ways
 abbrev pub accesses_of : List Entry → List (ℕ × Request)
 accesses_of entries = map (λ entry. (entry.core, entry.request)) entries
 
--- These entries are what the shards answer to their accesses one after the other, each the shard that keeps the line, and
--- these shards are left.
+-- These entries are what the shards answer to their accesses one after the other, each the shard that keeps the line,
+-- and these shards are left.
 abbrev pub AreAnswered : (shards : List ShardState) → List Entry → (left : List ShardState) → Type 0
 AreAnswered shards [] left = left ≡ shards
 AreAnswered shards (entry ∷ entries) left =
@@ -114,7 +114,7 @@ AreAnswered shards (entry ∷ entries) left =
 
 -- a core's mark in the shard of an address
 abbrev pub mark_at : MarkedMemory → (core addr : ℕ) → Option Reservation
-mark_at memory core addr = slice_index_or (slice_index_or memory.marks (shard_of (length memory.marks) (line_at addr)) []) core None
+mark_at memory core addr = slice_index_or (slice_index_or memory.marks (bank_of_line (length memory.marks) (line_at addr)) []) core None
 
 -- what a core with a pairing has reserved: these bytes, where they are marked in their shard
 abbrev pub reserved_by : MarkedMemory → (core : ℕ) → (pairing : Option Reservation) → Option Reservation

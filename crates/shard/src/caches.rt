@@ -1,4 +1,4 @@
-// The caches of a shard's lines: a cache for each core (L1), and one that all share (L2).
+//! The caches of a shard's lines: a cache for each core (L1), and one that all share (L2).
 ghost use Rattle.std.specs.Prelude.{◌≡◌, ℕ, ◌<◌, ◌≤◌, [], IfOk, length, replicate, None};
 ghost use Rattle.shard.specs.Coherence.{Caches, dirty_at, empty_caches, letter_at};
 ghost use Rattle.shard.specs.Lines.{set_number};
@@ -91,14 +91,14 @@ impl CacheLists {
         self.l2[self.place(line)].dirty(line)
     }
 
-    // For how many cores there are caches.
+    /// For how many cores there are caches.
     fn cores(&self) -> u16
         ensures { result ≡ length self.now.l1 }
     {
         self.l1.len() as u16
     }
 
-    // The number of a line's set in the L2.
+    /// The number of a line's set in the L2.
     #[inline(always)]
     fn place(&self, line: u64) -> usize
         ensures place { result ≡ set_number self.now.shards line self.now.l2 }
@@ -108,7 +108,7 @@ impl CacheLists {
     }
 }
 
-// The caches of so many cores, without a line.
+/// The caches of so many cores, without a line.
 fn core_caches(
     alloc: Global,
     cores: u16,
@@ -129,7 +129,7 @@ fn core_caches(
     Ok(caches)
 }
 
-// So many sets of the L2, without a line.
+/// So many sets of the L2, without a line.
 fn shared_sets(alloc: Global, sets: u32, ways: u16, cores: u16) -> Result<Vec<SharedSet>, NoMemory>
     requires ways { (1 ≤ ways) × (ways ≤ 32) }
     requires cores { cores ≤ 256 }

@@ -1,4 +1,4 @@
-// The bytes of a shard's lines before the first access.
+//! The bytes of a shard's lines before the first access.
 ghost use Rattle.std.specs.Prelude.{◌≡◌, ◌+◌, ◌-◌, ◌*◌, ◌/◌, ◌%◌, ◌^◌, ◌++◌, ◌<◌, ◌≤◌, length, take, drop, IfOk};
 ghost use Rattle.std.specs.List.{flat_map, range_with_len};
 ghost use Rattle.elf_load.specs.MemoryImage.{bytes_from};
@@ -32,7 +32,7 @@ pub(crate) fn first_bytes(
     Ok(bytes)
 }
 
-// Fills the lines of a shard, from its line of this place among all its lines on.
+/// Fills the lines of a shard, from its line of this place among all its lines on.
 fn fill_lines(image: &Image, shards: u64, number: u16, first: u64, count: u64, bytes: &mut [u8])
     requires shards { number < shards }
     requires few { shards < 2 ^ 16 }
@@ -49,7 +49,7 @@ fn fill_lines(image: &Image, shards: u64, number: u16, first: u64, count: u64, b
     }
 }
 
-// Puts the bytes of a line of memory at a place.
+/// Puts the bytes of a line of memory at a place.
 fn fill(image: &Image, addr: u64, bytes: &mut [u8], place: usize)
     requires within { place + 64 ≤ length bytes.old }
     requires addr { addr % 64 ≡ 0 }
@@ -61,7 +61,7 @@ fn fill(image: &Image, addr: u64, bytes: &mut [u8], place: usize)
     copy_line(image, addr, &mut bytes[place..place + LINE as usize]);
 }
 
-// Copies the bytes of a line. One that is not in memory has zeros.
+/// Copies the bytes of a line. One that is not in memory has zeros.
 fn copy_line(image: &Image, addr: u64, line: &mut [u8])
     requires length { length line.old ≡ 64 }
     requires addr { addr % 64 ≡ 0 }

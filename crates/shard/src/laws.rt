@@ -34,8 +34,8 @@ pub fn marks()
     ensures { MarksAreReservations }
 {}
 
-/// Whatever is accessed, from empty caches on, no set has a line twice or more lines than ways, each
-/// line stands in the set of its number, and no L1 lists a line that it does not hold.
+/// Whatever is accessed, from empty caches on, no set has a line twice or more lines than ways,
+/// each line stands in the set of its number, and no L1 lists a line that it does not hold.
 pub fn sets_stay_sound()
     ensures { SetsStaySound }
 {}

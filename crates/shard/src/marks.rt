@@ -1,4 +1,4 @@
-// What the cores have marked in a shard.
+//! What the cores have marked in a shard.
 ghost use Rattle.std.specs.Prelude.{◌≡◌, ◌<◌, length, slice_index_or, slice_set, replicate, is_some, IfOk, None, Some};
 ghost use Rattle.flat_memory.specs.FlatMemory.{after_write, is_reservation};
 ghost use Rattle.std.specs.List.{count_by};
@@ -86,7 +86,7 @@ impl Marks {
     }
 }
 
-// How many cores have a mark.
+/// How many cores have a mark.
 fn count(marks: &[Option<Reservation>]) -> usize
     ensures { result ≡ count_by is_some marks.now }
 {

@@ -1,8 +1,8 @@
-// One shard, and what is asked of it.
+//! One shard, and what is asked of it.
 ghost use Rattle.std.specs.Prelude.{◌≡◌, ◌+◌, ◌-◌, ◌*◌, ◌%◌, ◌^◌, ◌<◌, ◌≤◌, length, slice_index, IfOk};
 ghost use Rattle.machine_desc.specs.Machine.{IsMachine};
 ghost use Rattle.shard.specs.Coherence.{dirty_at, letter_at};
-ghost use Rattle.shard.specs.Lines.{line_at, shard_of};
+ghost use Rattle.zs_num.specs.Request.{line_at, bank_of_line};
 ghost use Rattle.shard.specs.Served.{new_shard, place_of, resumed, shard_after, CanServe, HasCore, IsServedBy};
 
 use crate::caches::CacheLists;
@@ -146,7 +146,7 @@ impl Shard {
     pub fn byte(&self, addr: u64) -> u8
         requires begins { self.now.base ≤ addr }
         requires ends { addr < self.now.base + self.now.size }
-        requires own { shard_of self.now.caches.shards (line_at addr) ≡ self.now.number }
+        requires own { bank_of_line self.now.caches.shards (line_at addr) ≡ self.now.number }
         ensures { result ≡ slice_index self.now.bytes (place_of self.now.caches.shards self.now.base addr) }
     {
         self.memory.bytes[self.place(addr)]
@@ -180,7 +180,7 @@ impl Shard {
         self.last
     }
 
-    // Where a byte of memory stands among those of the shard, if its line is one of the shard's.
+    /// Where a byte of memory stands among those of the shard, if its line is one of the shard's.
     #[inline(always)]
     fn place(&self, addr: u64) -> usize
         requires begins { self.now.base ≤ addr }

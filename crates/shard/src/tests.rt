@@ -1,10 +1,9 @@
-// What no clause says: accesses of two cores, with outcomes, letters and stamps worked by hand on the
-// numbers of the built-in machine: two sets of one way in each core's own cache, and four of two ways
-// in the shared one.
+//! What no clause says: accesses of two cores, with outcomes, letters and stamps worked by hand on
+//! the numbers of the built-in machine: two sets of one way in each core's own cache, and four of
+//! two ways in the shared one.
 ghost use Rattle.std.specs.Prelude.{◌≡◌, ◌<◌, length, IfOk};
 ghost use Rattle.machine_desc.specs.Machine.{IsMachine};
-ghost use Rattle.zs_num.specs.Request.{IsServable, line_of};
-ghost use Rattle.shard.specs.Lines.{shard_of};
+ghost use Rattle.zs_num.specs.Request.{IsServable, line_of, bank_of_line};
 ghost use Rattle.shard.specs.Served.{CanServe};
 
 use crate::Shard;
@@ -24,7 +23,7 @@ const TWO_BANKS: [(&str, &str); 3] = [
     ("banks = [0]", "banks = [0, 1]"),
 ];
 
-// An executable of one instruction, 0x00000073, which lies at 0x10000.
+/// An executable of one instruction, 0x00000073, which lies at 0x10000.
 static FILE: [u8; 124] = [
     0x7f, 0x45, 0x4c, 0x46, 2, 1, 1, 0, 0, 0, 0, 0, 0, 0, 0, 0, 2, 0, 243, 0, 1, 0, 0, 0, 0, 0, 1,
     0, 0, 0, 0, 0, 64, 0, 0, 0, 0, 0, 0, 0, 0, 0, 0, 0, 0, 0, 0, 0, 0, 0, 0, 0, 64, 0, 56, 0, 1, 0,
@@ -83,7 +82,7 @@ impl Tested {
     fn ask<R: Abort>(&mut self, rt: &R, core: u16, last: Stamp, request: Request) -> Entry
         requires core { core < 2 }
         requires can { IsServable 65536 1048576 request }
-        requires own { shard_of self.old.shard.caches.shards (line_of request) ≡ self.old.shard.number }
+        requires own { bank_of_line self.old.shard.caches.shards (line_of request) ≡ self.old.shard.number }
         ensures shards { self.new.shard.caches.shards ≡ self.old.shard.caches.shards }
         ensures number { self.new.shard.number ≡ self.old.shard.number }
     {

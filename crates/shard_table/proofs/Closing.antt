@@ -1,4 +1,4 @@
--- What the accesses of all cores come to, once every turn has ended.
+-- What the accesses of all cores come to, once every hold has ended.
 use Rattle.std.proofs.Common.{◌≡◌, ℕ, zero, suc, ◌<◌, ◌≢◌, ◌==◌, List, [], ◌∷◌, ◌++◌, map, length, All, refl, sym, ◌∙◌, ap, subst, arith, inl, inr}
 use Rattle.std.specs.Prelude.{Bool, true, false, if◌then◌else◌, slice_get, slice_index, Some, None}
 use Rattle.std.specs.List.{enumerate_from, flat_map, fold}
@@ -17,11 +17,11 @@ use Rattle.access_log.specs.Laws.{CoresDecideTheOrder, EachHasItsOwn, RecordedOr
 use Rattle.access_log.specs.RecordedOrder.{comes_before, no_stamps, placed, recorded_order}
 use Rattle.shard.specs.Served.{AreServedBy, ShardState, shard_after}
 use Rattle.shard_table.specs.declared.view.View.{View}
-use Rattle.shard_table.specs.declared.view.Part.{Part}
+use Rattle.shard_table.specs.declared.view.CoreAccesses.{CoreAccesses}
 use Rattle.shard_table.specs.Access.{AreAllSeats, AreWhole, SeatState, TableState, recorded_entries}
-use Rattle.shard_table.specs.declared.view.Served.{Served}
+use Rattle.shard_table.specs.declared.view.ShardAccesses.{ShardAccesses}
 use Rattle.shard_table.specs.Lives.{IsPrefix, MayAsk, after_all}
-use Rattle.shard_table.specs.Rule.{AreDistinct, AreTurnsAtTable, Has, IsTrueOfHistory, turn_index}
+use Rattle.shard_table.specs.Rule.{AreDistinct, AreHoldsAtTable, Has, IsTrueOfHistory, word_index}
 use Rattle.shard_table.proofs.Ends.{none_numbered, other_first, own_first}
 use Rattle.shard_table.proofs.Seats.{its_own, some_at}
 use Rattle.shard_table.proofs.Taking.{holder_apart}
@@ -34,10 +34,10 @@ got_within [] k y at = absurd (let none : None ≡ Some y = at in cc)
 got_within (x ∷ xs) zero y at = omega arith
 got_within (x ∷ xs) (suc k) y at = let later = got_within xs k y at in omega (arith, later)
 
-few_has : (cores : ℕ) (parts : List Part) → All (λ part. part.core < cores) parts → (core : ℕ) → Has core parts → core < cores
+few_has : (cores : ℕ) (parts : List CoreAccesses) → All (λ part. part.core < cores) parts → (core : ℕ) → Has core parts → core < cores
 few_has cores [] few core has = absurd has
-few_has cores (part ∷ parts) few core (inl is) = subst (λ (n : ℕ). n < cores) is (All-head (λ (q : Part). q.core < cores) part parts few)
-few_has cores (part ∷ parts) few core (inr has) = few_has cores parts (All-tail (λ (q : Part). q.core < cores) part parts few) core has
+few_has cores (part ∷ parts) few core (inl is) = subst (λ (n : ℕ). n < cores) is (All-head (λ (q : CoreAccesses). q.core < cores) part parts few)
+few_has cores (part ∷ parts) few core (inr has) = few_has cores parts (All-tail (λ (q : CoreAccesses). q.core < cores) part parts few) core has
 
 each_length : (shards : List ShardState) (entries : List Entry) → length (each_after shard_after (bank_of_entry (length shards)) entries shards) ≡ length shards
 each_length shards entries =
@@ -69,14 +69,14 @@ other_none number_of number other apart (e ∷ entries) =
       | inr not ↦ ap (of_number number_of number) (other_first number_of other e entries not) ∙ other_none number_of number other apart entries
     ]
 
-abbrev lists : List Part → List Entry
+abbrev lists : List CoreAccesses → List Entry
 lists parts = flat_map (λ part. part.list) parts
 
 module _ (history : List Entry) where
-  abbrev IsOf : Part → Type 0
+  abbrev IsOf : CoreAccesses → Type 0
   IsOf part = part.list ≡ of_core part.core history
 
-  none_of : (parts : List Part) → All IsOf parts → (core : ℕ) → (Has core parts → ⊥) → of_core core (lists parts) ≡ []
+  none_of : (parts : List CoreAccesses) → All IsOf parts → (core : ℕ) → (Has core parts → ⊥) → of_core core (lists parts) ≡ []
   none_of [] all core unknown = refl
   none_of (part ∷ parts) all core unknown =
       let first : of_core core part.list ≡ [] = ap (of_core core) (All-head IsOf part parts all) ∙ other_none core_of_entry core part.core (λ same. unknown (inl (sym same))) history in
@@ -84,7 +84,7 @@ module _ (history : List Entry) where
       filter-append (λ e. core_of_entry e == core) part.list (lists parts)
       ∙ ap (λ (p : List Entry × List Entry). p.0 ++ p.1) (λ i. (first i, later i))
 
-  some_of : (parts : List Part) → All IsOf parts → AreDistinct parts → (core : ℕ) → Has core parts → of_core core (lists parts) ≡ of_core core history
+  some_of : (parts : List CoreAccesses) → All IsOf parts → AreDistinct parts → (core : ℕ) → Has core parts → of_core core (lists parts) ≡ of_core core history
   some_of [] all distinct core has = absurd has
   some_of (part ∷ parts) all distinct core (inl is) =
       let here : of_core core part.list ≡ of_core core history =
@@ -99,7 +99,7 @@ module _ (history : List Entry) where
       ∙ (ap (λ (es : List Entry). es ++ of_core core (lists parts)) here ∙ some_of parts (All-tail IsOf part parts all) distinct.1 core has)
 
   -- where every core below has its part, these are the accesses of the history
-  pub of_all : (cores : ℕ) (parts : List Part) → All IsOf parts → AreDistinct parts → ((core : ℕ) → core < cores → Has core parts) → All (λ e. e.core < cores) history
+  pub of_all : (cores : ℕ) (parts : List CoreAccesses) → All IsOf parts → AreDistinct parts → ((core : ℕ) → core < cores → Has core parts) → All (λ e. e.core < cores) history
       → All (λ part. part.core < cores) parts → (core : ℕ) → of_core core (lists parts) ≡ of_core core history
   of_all cores parts all distinct each known few core =
       elim (cases_lt core cores) as (λ _. of_core core (lists parts) ≡ of_core core history) [
@@ -154,7 +154,7 @@ same_list (x ∷ xs) (y ∷ ys) size each =
     let later : xs ≡ ys = same_list xs ys (omega (arith, size)) (λ k z at. each (suc k) z at) in
     λ i. first i ∷ later i
 
-abbrev pub part_of : SeatState → Part
+abbrev pub part_of : SeatState → CoreAccesses
 part_of seat = record { core = seat.core; list = seat.entries }
 
 flat_seats : (seats : List SeatState) → flat_map (λ seat. seat.entries) seats ≡ lists (map part_of seats)
@@ -170,14 +170,14 @@ own_seats : (cores : ℕ) (history entries : List Entry) → ((core : ℕ) → o
     → All (λ q. (q.core < cores) × (q.list ≡ of_core q.core history)) (map part_of seats) → All (λ seat. of_core seat.core entries ≡ seat.entries) seats
 own_seats cores history entries own [] all = All-nil (λ (seat : SeatState). of_core seat.core entries ≡ seat.entries)
 own_seats cores history entries own (seat ∷ seats) all =
-    let K : Part → Type 0 = λ q. (q.core < cores) × (q.list ≡ of_core q.core history) in
+    let K : CoreAccesses → Type 0 = λ q. (q.core < cores) × (q.list ≡ of_core q.core history) in
     let here : K (part_of seat) = All-head K (part_of seat) (map part_of seats) all in
     All-cons (λ (x : SeatState). of_core x.core entries ≡ x.entries) seat seats (own seat.core ∙ sym here.1)
     (own_seats cores history entries own seats (All-tail K (part_of seat) (map part_of seats) all))
 
--- ---- every turn has ended
+-- ---- every hold has ended
 
-module _ (shards : List ShardState) (cores room : ℕ) (s : State ShardState View) (r : AreTurnsAtTable shards cores room s) (id : ℕ) (v : View) (at : get_elem? s.views id ≡ some v)
+module _ (shards : List ShardState) (cores room : ℕ) (s : State ShardState View) (r : AreHoldsAtTable shards cores room s) (id : ℕ) (v : View) (at : get_elem? s.views id ≡ some v)
     (hold : v.hold ≡ None) (each : (core : ℕ) → core < cores → Has core v.parts) where
   abbrev history : List Entry
   history = r.history
@@ -185,22 +185,22 @@ module _ (shards : List ShardState) (cores room : ℕ) (s : State ShardState Vie
   abbrev count : ℕ
   count = length shards
 
-  -- nobody has a turn, since all cores' seats are one
-  all_free : (number : ℕ) → number < count → slice_index s.words (turn_index number) ≡ 0
+  -- nobody holds a shard, since all cores' seats are one
+  all_free : (number : ℕ) → number < count → slice_index s.words (word_index number) ≡ 0
   all_free number within =
-      elim (cases_lt 0 (slice_index s.words (turn_index number))) as (λ _. slice_index s.words (turn_index number) ≡ 0) [
+      elim (cases_lt 0 (slice_index s.words (word_index number))) as (λ _. slice_index s.words (word_index number) ≡ 0) [
         | inl some_word ↦
             let b = r.busy number within some_word in
             let it : IsTrueOfHistory shards cores room history s.words b.1 = r.seats b.0 b.1 b.3 in
             let h = it.hold b.2 b.4 in
-            let P : Part → Type 0 = λ q. (q.core < cores) × (q.list ≡ of_core q.core history) in
+            let P : CoreAccesses → Type 0 = λ q. (q.core < cores) × (q.list ≡ of_core q.core history) in
             let known : P h.0 = All-head P h.0 [] (subst (All P) h.1 it.parts) in
             absurd (holder_apart shards cores room s r id v at hold b.0 b.1 b.2 b.3 b.4
             (r.apart b.0 id h.0.core b.1 v b.3 at (its_own b.1.parts h.0 h.1) (each h.0.core known.0)))
         | inr none_word ↦ omega (arith, none_word)
       ]
 
-  abbrev Known : Part → Type 0
+  abbrev Known : CoreAccesses → Type 0
   Known q = (q.core < cores) × (q.list ≡ of_core q.core history)
 
   -- the accesses of a list of all cores' own
@@ -246,7 +246,7 @@ module _ (shards : List ShardState) (cores room : ℕ) (s : State ShardState Vie
 
 pub is_whole : StampsRise → CoresDecideTheOrder → RecordedOrderKeepsTheStamps → EachHasItsOwn ShardState
     → (t : TableState) → 0 < length t.shards → (id : ℕ) (v : View) (seats : List SeatState) (words : List ℕ) (xs : List ShardState)
-    → v.hold ≡ None → v.parts ≡ map part_of seats → v.notes ≡ flat_map (λ seat. seat.knows.notes) seats → AreAllSeats t seats → Final (Seen (AreTurnsAtTable t.shards t.cores t.room) id v) words xs
+    → v.hold ≡ None → v.parts ≡ map part_of seats → v.notes ≡ flat_map (λ seat. seat.knows.notes) seats → AreAllSeats t seats → Final (Seen (AreHoldsAtTable t.shards t.cores t.room) id v) words xs
     → AreWhole t (recorded_entries seats) seats xs
 is_whole rise decide keep own_by t some_shards id v seats words xs hold parts notes all final =
     let s = final.0 in
@@ -256,7 +256,7 @@ is_whole rise decide keep own_by t some_shards id v seats words xs hold parts no
     let found = all.each core within in
     subst (Has core) (sym parts) (subst (λ (n : ℕ). Has n (map part_of seats)) found.3 (has_seat seats found.0 found.1 found.2)) in
     let same : recorded_entries seats ≡ recorded_order (lists v.parts) = ap recorded_order (flat_seats seats ∙ ap lists (sym parts)) in
-    let K : Part → Type 0 = λ q. (q.core < t.cores) × (q.list ≡ of_core q.core r.history) in
+    let K : CoreAccesses → Type 0 = λ q. (q.core < t.cores) × (q.list ≡ of_core q.core r.history) in
     let own : (core : ℕ) → of_core core (recorded_entries seats) ≡ of_core core r.history = λ core. ap (of_core core) same ∙ core_same t.shards t.cores t.room s r id v at hold each some_shards rise decide keep own_by core in
     let stamps = kept t.shards t.cores t.room s r id v at hold each some_shards rise decide keep own_by in
     let order : recorded_entries seats ≡ recorded_order r.history = same ∙ in_order t.shards t.cores t.room s r id v at hold each some_shards rise decide keep own_by in
@@ -270,9 +270,9 @@ is_whole rise decide keep own_by t some_shards id v seats words xs hold parts no
       servable = subst (All (λ e. MayAsk t.shards e.core e.request)) (sym order) (recorded_all (λ e. MayAsk t.shards e.core e.request) r.history r.accesses.asked);
       own = own_all;
       served = λ number shard there. subst (AreServedBy shard) (sym (bank number)) (r.accesses.served number shard there);
-      noted = each_of_flat (λ (note : Served). IsPrefix note.list (of_bank (length t.shards) note.shard (recorded_entries seats))) (λ (seat : SeatState). seat.knows.notes) seats
-          (subst (All (λ (note : Served). IsPrefix note.list (of_bank (length t.shards) note.shard (recorded_entries seats)))) notes
-          (All-weaker (λ (note : Served). IsPrefix note.list (of_bank (length t.shards) note.shard r.history)) (λ note. IsPrefix note.list (of_bank (length t.shards) note.shard (recorded_entries seats)))
+      noted = each_of_flat (λ (note : ShardAccesses). IsPrefix note.list (of_bank (length t.shards) note.shard (recorded_entries seats))) (λ (seat : SeatState). seat.knows.notes) seats
+          (subst (All (λ (note : ShardAccesses). IsPrefix note.list (of_bank (length t.shards) note.shard (recorded_entries seats)))) notes
+          (All-weaker (λ (note : ShardAccesses). IsPrefix note.list (of_bank (length t.shards) note.shard r.history)) (λ note. IsPrefix note.list (of_bank (length t.shards) note.shard (recorded_entries seats)))
           (λ note is. subst (IsPrefix note.list) (sym (bank note.shard)) is) v.notes (r.seats id v at).notes));
       left = left t.shards t.cores t.room s r id v at hold each some_shards rise decide keep own_by xs final.3 final.4
           ∙ ap (λ (es : List Entry). each_after shard_after (bank_of_entry (length t.shards)) es t.shards) (sym same);

@@ -10,7 +10,7 @@ use Rattle.zs_num.specs.declared.request.Request.{Request}
 use Rattle.access_log.specs.History.{bank_of_entry, latest_of, of_bank, of_core, of_number}
 use Rattle.shard.specs.Laws.{CoresStay, LastIsStamp, StillServes}
 use Rattle.shard.specs.Served.{AreServedBy, CanServe, HasCore, ShardState, met_by, shard_after, shard_reply}
-use Rattle.shard_table.specs.declared.view.Served.{Served}
+use Rattle.shard_table.specs.declared.view.ShardAccesses.{ShardAccesses}
 use Rattle.shard_table.specs.Lives.{IsPrefix, after_all}
 use Rattle.shard_table.specs.Rule.{AreTrueNotes}
 
@@ -140,10 +140,10 @@ pub prefix_whole : (list whole : List Entry) → whole ≡ list → IsPrefix lis
 prefix_whole list whole is = ([], is ∙ sym (append-nil list))
 
 -- an entry more
-pub notes_stay : (shards : ℕ) (history : List Entry) (e : Entry) (notes : List Served) → AreTrueNotes shards history notes → AreTrueNotes shards (history ++ e ∷ []) notes
+pub notes_stay : (shards : ℕ) (history : List Entry) (e : Entry) (notes : List ShardAccesses) → AreTrueNotes shards history notes → AreTrueNotes shards (history ++ e ∷ []) notes
 notes_stay shards history e notes true_notes =
     All-weaker (λ note. IsPrefix note.list (of_bank shards note.shard history)) (λ note. IsPrefix note.list (of_bank shards note.shard (history ++ e ∷ [])))
-    (λ (note : Served) is.
+    (λ (note : ShardAccesses) is.
     elim (cases_eq (bank_of_entry shards e) note.shard) as (λ _. IsPrefix note.list (of_bank shards note.shard (history ++ e ∷ []))) [
       | inl own ↦ subst (IsPrefix note.list) (sym (own_last (bank_of_entry shards) note.shard history e own)) (prefix_longer note.list (of_bank shards note.shard history) (e ∷ []) is)
       | inr other ↦ subst (IsPrefix note.list) (sym (other_last (bank_of_entry shards) note.shard history e other)) is

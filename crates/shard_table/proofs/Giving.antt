@@ -1,4 +1,4 @@
--- A turn ends with an entry.
+-- A hold ends with an entry.
 use Rattle.std.proofs.Common.{◌≡◌, ℕ, ◌+◌, ◌<◌, ◌≤◌, ◌≢◌, max, List, [], ◌∷◌, ◌++◌, length, All, refl, sym, ◌∙◌, ap, subst, arith, inl, inr}
 use Rattle.std.specs.Prelude.{slice_get, slice_index, slice_set, Some, None}
 use mathlib.Core.Option.{some, none}
@@ -14,10 +14,10 @@ use Rattle.access_log.specs.History.{bank_of_entry, core_of_entry, latest_of, of
 use Rattle.access_log.specs.Laws.{OneMoreIsStamped}
 use Rattle.shard.specs.Served.{AreServedBy, ShardState, met_by, shard_after, shard_reply}
 use Rattle.shard_table.specs.declared.view.View.{View}
-use Rattle.shard_table.specs.declared.view.Part.{Part}
-use Rattle.shard_table.specs.declared.view.Served.{Served}
+use Rattle.shard_table.specs.declared.view.CoreAccesses.{CoreAccesses}
+use Rattle.shard_table.specs.declared.view.ShardAccesses.{ShardAccesses}
 use Rattle.shard_table.specs.Lives.{AreAccesses, IsPrefix, MayAsk, after_all}
-use Rattle.shard_table.specs.Rule.{AreTurnsAtTable, Has, IsTrueOfHistory, turn_index}
+use Rattle.shard_table.specs.Rule.{AreHoldsAtTable, Has, IsTrueOfHistory, word_index}
 use Rattle.shard_table.specs.Steps.{IsEntryOf, gave, gave_at, shard_of_step}
 use Rattle.shard_table.specs.Views.{given}
 use Rattle.shard_table.proofs.Ends.{all_numbered, latest_low, notes_stay, prefix_whole, one_more_after, one_more_served, other_last, own_last}
@@ -26,25 +26,25 @@ use Rattle.shard_table.proofs.Taking.{words_apart}
 
 module _ (shards : List ShardState) (cores room : ℕ) where
   abbrev Rule : State ShardState View → Type 0
-  Rule = AreTurnsAtTable shards cores room
+  Rule = AreHoldsAtTable shards cores room
 
-  -- a seat that has a shard's turn, with the shard in hand as the access of this entry has left it
-  module _ (s : State ShardState View) (r : Rule s) (id number : ℕ) (v : View) (part : Part) (served : Served) (e : Entry) (b : ShardState)
+  -- a seat that holds a shard, with the shard in hand as the access of this entry has left it
+  module _ (s : State ShardState View) (r : Rule s) (id number : ℕ) (v : View) (part : CoreAccesses) (served : ShardAccesses) (e : Entry) (b : ShardState)
       (at : get_elem? s.views id ≡ some v) (parts : v.parts ≡ part ∷ []) (hold : v.hold ≡ Some served) (here : served.shard ≡ number)
       (ends : IsEntryOf v number part served e b) (one_more : OneMoreIsStamped) where
     knows : IsTrueOfHistory shards cores room r.history s.words v
     knows = r.seats id v at
 
     opening : (v.shards ≡ shards) × (v.cores ≡ cores) × (v.room ≡ room)
-    opening = knows.opening (subst (λ (ps : List Part). 0 < length ps) (sym parts) (omega arith))
+    opening = knows.opening (subst (λ (ps : List CoreAccesses). 0 < length ps) (sym parts) (omega arith))
 
-    abbrev Known : Part → Type 0
+    abbrev Known : CoreAccesses → Type 0
     Known q = (q.core < cores) × (q.list ≡ of_core q.core r.history)
 
     known : Known part
     known = All-head Known part [] (subst (All Known) parts knows.parts)
 
-    held : (p : Part) × (v.parts ≡ p ∷ []) × (served.shard < length shards) × (slice_index s.words (turn_index served.shard) ≡ p.core + 1) × (served.list ≡ of_bank (length shards) served.shard r.history)
+    held : (p : CoreAccesses) × (v.parts ≡ p ∷ []) × (served.shard < length shards) × (slice_index s.words (word_index served.shard) ≡ p.core + 1) × (served.list ≡ of_bank (length shards) served.shard r.history)
     held = knows.hold served hold
 
     same_part : held.0 ≡ part
@@ -53,8 +53,8 @@ module _ (shards : List ShardState) (cores room : ℕ) where
     within : number < length shards
     within = subst (λ (n : ℕ). n < length shards) here held.2
 
-    word : slice_index s.words (turn_index number) ≡ part.core + 1
-    word = ap (λ (n : ℕ). slice_index s.words (turn_index n)) (sym here) ∙ (held.3 ∙ ap (λ (p : Part). p.core + 1) same_part)
+    word : slice_index s.words (word_index number) ≡ part.core + 1
+    word = ap (λ (n : ℕ). slice_index s.words (word_index n)) (sym here) ∙ (held.3 ∙ ap (λ (p : CoreAccesses). p.core + 1) same_part)
 
     list_is : served.list ≡ of_bank (length shards) number r.history
     list_is = held.4 ∙ ap (λ (n : ℕ). of_bank (length shards) n r.history) here
@@ -129,19 +129,19 @@ module _ (shards : List ShardState) (cores room : ℕ) where
         other (r.apart place id core u v there at has (subst (λ (n : ℕ). Has n v.parts) (sym core_is ∙ same) (its_own v.parts part parts)))
 
     abbrev words' : List ℕ
-    words' = slice_set s.words (turn_index number) 0
+    words' = slice_set s.words (word_index number) 0
 
-    others : (k : ℕ) → k ≢ number → slice_index words' (turn_index k) ≡ slice_index s.words (turn_index k)
-    others k other = get_or-set_other s.words (turn_index number) (turn_index k) 0 0 (words_apart k number other)
+    others : (k : ℕ) → k ≢ number → slice_index words' (word_index k) ≡ slice_index s.words (word_index k)
+    others k other = get_or-set_other s.words (word_index number) (word_index k) 0 0 (words_apart k number other)
 
-    free : slice_index words' (turn_index number) ≡ 0
-    free = get_or-set_same s.words (turn_index number) 0 0 (omega (arith, r.words, within))
+    free : slice_index words' (word_index number) ≡ 0
+    free = get_or-set_same s.words (word_index number) 0 0 (omega (arith, r.words, within))
 
-    same_parts : (parts : List Part) → ((core : ℕ) → Has core parts → e.core ≢ core) → All Known parts → All (λ q. (q.core < cores) × (q.list ≡ of_core q.core history')) parts
-    same_parts [] apart all = All-nil (λ (q : Part). (q.core < cores) × (q.list ≡ of_core q.core history'))
+    same_parts : (parts : List CoreAccesses) → ((core : ℕ) → Has core parts → e.core ≢ core) → All Known parts → All (λ q. (q.core < cores) × (q.list ≡ of_core q.core history')) parts
+    same_parts [] apart all = All-nil (λ (q : CoreAccesses). (q.core < cores) × (q.list ≡ of_core q.core history'))
     same_parts (p ∷ ps) apart all =
         let it : Known p = All-head Known p ps all in
-        All-cons (λ (q : Part). (q.core < cores) × (q.list ≡ of_core q.core history')) p ps
+        All-cons (λ (q : CoreAccesses). (q.core < cores) × (q.list ≡ of_core q.core history')) p ps
         (it.0, it.1 ∙ sym (other_last core_of_entry p.core r.history e (apart p.core (inl refl))))
         (same_parts ps (λ core has. apart core (inr has)) (All-tail Known p ps all))
 
@@ -155,7 +155,7 @@ module _ (shards : List ShardState) (cores room : ℕ) where
           hold = λ x is.
               let h = it.hold x is in
               let apart : x.shard ≢ number = λ same.
-              let word_there : slice_index s.words (turn_index number) ≡ h.0.core + 1 = ap (λ (n : ℕ). slice_index s.words (turn_index n)) (sym same) ∙ h.3 in
+              let word_there : slice_index s.words (word_index number) ≡ h.0.core + 1 = ap (λ (n : ℕ). slice_index s.words (word_index n)) (sym same) ∙ h.3 in
               let alike : e.core ≡ h.0.core = omega (arith, word_there, word, core_is) in
               other_cores place u there other h.0.core (its_own u.parts h.0 h.1) alike
               in
@@ -167,26 +167,26 @@ module _ (shards : List ShardState) (cores room : ℕ) where
     own_seat : IsTrueOfHistory shards cores room history' words' w
     own_seat = record {
       opening = λ some. opening;
-      parts = All-cons (λ (q : Part). (q.core < cores) × (q.list ≡ of_core q.core history')) (record part { list = part.list ++ e ∷ [] }) []
+      parts = All-cons (λ (q : CoreAccesses). (q.core < cores) × (q.list ≡ of_core q.core history')) (record part { list = part.list ++ e ∷ [] }) []
           (known.0, ap (λ (es : List Entry). es ++ e ∷ []) known.1 ∙ sym (own_last core_of_entry part.core r.history e core_is))
-          (All-nil (λ (q : Part). (q.core < cores) × (q.list ≡ of_core q.core history')));
+          (All-nil (λ (q : CoreAccesses). (q.core < cores) × (q.list ≡ of_core q.core history')));
       distinct = ((λ no. no), tt);
       hold = λ x is. absurd (let none : None ≡ Some x = is in cc);
       notes =
-          let note : Served = record served { list = served.list ++ e ∷ [] } in
+          let note : ShardAccesses = record served { list = served.list ++ e ∷ [] } in
           let whole : of_bank (length shards) served.shard history' ≡ served.list ++ e ∷ [] =
           own_last (bank_of_entry (length shards)) served.shard r.history e (bank_is ∙ sym here) ∙ ap (λ (es : List Entry). es ++ e ∷ []) (sym held.4) in
-          All-push (λ (n : Served). IsPrefix n.list (of_bank (length shards) n.shard history')) v.notes note (notes_stay (length shards) r.history e v.notes knows.notes)
+          All-push (λ (n : ShardAccesses). IsPrefix n.list (of_bank (length shards) n.shard history')) v.notes note (notes_stay (length shards) r.history e v.notes knows.notes)
           (prefix_whole note.list (of_bank (length shards) served.shard history') whole);
       first = λ some. inl (has_its 0 v.parts part parts (knows.first some));
     }
 
-    given_rule : Rule (stepped s (turn_index number) 0 id ((number, b) ∷ []) w gives)
+    given_rule : Rule (stepped s (word_index number) 0 id ((number, b) ∷ []) w gives)
     given_rule = record {
       history = history';
       begins = r.begins;
       accesses = accesses';
-      words = length-set s.words (turn_index number) 0 ∙ r.words;
+      words = length-set s.words (word_index number) 0 ∙ r.words;
       homes = length-set s.homes number (some b) ∙ r.homes;
       home = λ k shard there zero_there.
           elim (cases_eq k number) as (λ _. get_elem? (slice_set s.homes number (some b)) k ≡ some (some (after_all shard (of_bank (length shards) k history')))) [
@@ -203,13 +203,13 @@ module _ (shards : List ShardState) (cores room : ℕ) where
                 ∙ ap (λ (es : List Entry). some (some (after_all shard es))) (sym (other_last (bank_of_entry (length shards)) k r.history e (λ same. other (sym same ∙ bank_is)))))
           ];
       busy = λ k inside some_word.
-          let other : k ≢ number = λ same. absurd (let zero_word : slice_index words' (turn_index k) ≡ 0 = ap (λ (n : ℕ). slice_index words' (turn_index n)) same ∙ free in omega (arith, zero_word, some_word)) in
+          let other : k ≢ number = λ same. absurd (let zero_word : slice_index words' (word_index k) ≡ 0 = ap (λ (n : ℕ). slice_index words' (word_index n)) same ∙ free in omega (arith, zero_word, some_word)) in
           let b' = r.busy k inside (subst (λ (n : ℕ). 0 < n) (others k other) some_word) in
           let apart : b'.0 ≢ id = λ same.
           let there : some b'.1 ≡ some v = sym b'.3 ∙ (ap (get_elem? s.views) same ∙ at) in
           let view : b'.1.hold ≡ v.hold = cc in
           let both : b'.2 ≡ served = same_Some b'.2 served (sym b'.4 ∙ (view ∙ hold)) in
-          other (sym b'.5 ∙ (ap (λ (x : Served). x.shard) both ∙ here))
+          other (sym b'.5 ∙ (ap (λ (x : ShardAccesses). x.shard) both ∙ here))
           in
           (b'.0, b'.1, b'.2, other_there s.views id v w at b'.0 apart ∙ b'.3, b'.4, b'.5);
       seats = λ place u there.
@@ -235,11 +235,11 @@ module _ (shards : List ShardState) (cores room : ℕ) where
 
   -- ---- the step
 
-  pub gives_turn : OneMoreIsStamped → (slots id number : ℕ) (v : View) (part : Part) (served : Served) (e : Entry) (b : ShardState)
+  pub gives_back : OneMoreIsStamped → (slots id number : ℕ) (v : View) (part : CoreAccesses) (served : ShardAccesses) (e : Entry) (b : ShardState)
       → v.parts ≡ part ∷ [] → v.hold ≡ Some served → served.shard ≡ number → IsEntryOf v number part served e b
-      → Allows Rule slots id (v, (number, b) ∷ []) (turn_index number) (λ _. 0) (λ _. gave e (step slots (turn_index number) 0 0 none) (v, (number, b) ∷ []) 0)
-  gives_turn one_more slots id number v part served e b parts hold here ends = λ s r long at small.
-      let is_shard : number ≡ shard_of_step (step {S = ShardState} slots (turn_index number) 0 0 none) = omega arith in (
+      → Allows Rule slots id (v, (number, b) ∷ []) (word_index number) (λ _. 0) (λ _. gave e (step slots (word_index number) 0 0 none) (v, (number, b) ∷ []) 0)
+  gives_back one_more slots id number v part served e b parts hold here ends = λ s r long at small.
+      let is_shard : number ≡ shard_of_step (step {S = ShardState} slots (word_index number) 0 0 none) = omega arith in (
         given v part served e,
         gives,
         tt,

@@ -4,7 +4,7 @@ use Rattle.std.specs.Prelude.{slice_get, slice_index_or, slice_set, Some, None}
 use Rattle.std.proofs.lemmas.List.{length-append}
 use Rattle.std.proofs.lemmas.Option.{same_Some}
 use Rattle.shard_table.specs.Access.{AreNewSeats, IsSeatOf, SeatState, TableState}
-use Rattle.shard_table.specs.Memory.{new_logs}
+use Rattle.shard_table.specs.Buffers.{new_logs}
 use Rattle.shard_table.specs.Views.{next_seat, with_one_seat_more}
 
 -- the seats of the cores below this one, of which the first counts them

@@ -4,13 +4,13 @@ use Rattle.std.specs.Prelude.{slice_index_or}
 use Rattle.std.specs.List.{flat_map}
 use Rattle.std.proofs.lemmas.List.{append-nil, append_assoc, flat_map_more, length-append, map-append}
 use Rattle.zs_num.specs.declared.entry.Entry.{Entry}
-use Rattle.shard_table.specs.declared.view.Part.{Part}
-use Rattle.shard_table.specs.declared.view.Served.{Served}
+use Rattle.shard_table.specs.declared.view.CoreAccesses.{CoreAccesses}
+use Rattle.shard_table.specs.declared.view.ShardAccesses.{ShardAccesses}
 use Rattle.shard_table.specs.Access.{SeatState}
 use Rattle.shard_table.proofs.Closing.{part_of}
 
 -- so far these parts, notes and lists are those of the first of all seats, and the rest is left
-pub record Joined (all rest : List SeatState) (parts : List Part) (notes : List Served) (lists : List (List Entry)) : Type 0 where
+pub record Joined (all rest : List SeatState) (parts : List CoreAccesses) (notes : List ShardAccesses) (lists : List (List Entry)) : Type 0 where
   pub done : List SeatState
   pub whole : done ++ rest ≡ all
   pub parts_are : parts ≡ map part_of done
@@ -18,7 +18,7 @@ pub record Joined (all rest : List SeatState) (parts : List Part) (notes : List 
   pub lists_are : lists ≡ map (λ seat. seat.entries) done
   pub some_done : 0 < length done
 
-pub first_joined : (all : List SeatState) (x : SeatState) (parts : List Part) (notes : List Served) (lists : List (List Entry)) → 0 < length all → x ≡ slice_index_or all 0 x
+pub first_joined : (all : List SeatState) (x : SeatState) (parts : List CoreAccesses) (notes : List ShardAccesses) (lists : List (List Entry)) → 0 < length all → x ≡ slice_index_or all 0 x
     → parts ≡ part_of x ∷ [] → notes ≡ x.knows.notes → lists ≡ x.entries ∷ [] → Joined all (drop 1 all) parts notes lists
 first_joined [] x parts notes lists more is parts_are notes_are lists_are = absurd (omega (arith, more))
 first_joined (y ∷ ys) x parts notes lists more is parts_are notes_are lists_are = record {
@@ -30,7 +30,7 @@ first_joined (y ∷ ys) x parts notes lists more is parts_are notes_are lists_ar
   some_done = omega arith;
 }
 
-pub one_joined : (all rest : List SeatState) (x : SeatState) (parts : List Part) (notes : List Served) (lists : List (List Entry)) → Joined all rest parts notes lists → 0 < length rest → x ≡ slice_index_or rest 0 x
+pub one_joined : (all rest : List SeatState) (x : SeatState) (parts : List CoreAccesses) (notes : List ShardAccesses) (lists : List (List Entry)) → Joined all rest parts notes lists → 0 < length rest → x ≡ slice_index_or rest 0 x
     → Joined all (drop 1 rest) (parts ++ part_of x ∷ []) (notes ++ x.knows.notes) (lists ++ x.entries ∷ [])
 one_joined all [] x parts notes lists j more is = absurd (omega (arith, more))
 one_joined all (y ∷ ys) x parts notes lists j more is = record {
@@ -42,7 +42,7 @@ one_joined all (y ∷ ys) x parts notes lists j more is = record {
   some_done = let n = length-append j.done (x ∷ []) in let one = j.some_done in omega (arith, n, one);
 }
 
-pub all_joined : (all : List SeatState) (parts : List Part) (notes : List Served) (lists : List (List Entry)) → Joined all [] parts notes lists
+pub all_joined : (all : List SeatState) (parts : List CoreAccesses) (notes : List ShardAccesses) (lists : List (List Entry)) → Joined all [] parts notes lists
     → (parts ≡ map part_of all) × (notes ≡ flat_map (λ seat. seat.knows.notes) all) × (lists ≡ map (λ seat. seat.entries) all)
 all_joined all parts notes lists j =
     let whole : j.done ≡ all = sym (append-nil j.done) ∙ j.whole in

@@ -6,6 +6,6 @@ pub mod Seating
 pub mod Closing
 pub mod Making
 pub mod Joining
-pub mod Turning
+pub mod Holding
 pub mod Hiring
 pub mod OneMachine

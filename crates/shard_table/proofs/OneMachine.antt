@@ -6,12 +6,11 @@ use Rattle.std.proofs.lemmas.Bool.{cases_eq}
 use Rattle.std.proofs.lemmas.List.{append_assoc, length-set}
 use Rattle.std.proofs.lemmas.List.Elements.{All-head, All-tail, All-weaker}
 use Rattle.std.proofs.lemmas.Option.{same_Some, slice_get_within}
-use Rattle.zs_num.specs.Request.{IsServable, line_of}
+use Rattle.zs_num.specs.Request.{IsServable, line_of, bank_of_line}
 use Rattle.zs_num.specs.declared.entry.Entry.{Entry}
 use Rattle.access_log.specs.History.{bank_of_entry, each_after, of_bank, of_number}
 use Rattle.shard.specs.Coherence.{Caches, caches_after, caches_after_all, outcomes_of}
 use Rattle.shard.specs.Laws.{CoherentStays, EntriesAreOfOneMachine, NumberStays, ReadAfterWrite, ShardsStandForAMachine, marked_after_all, marked_replies}
-use Rattle.shard.specs.Lines.{shard_of}
 use Rattle.shard.specs.Marks.{MarkedMemory, marked_after}
 use Rattle.shard.specs.Served.{AreServedBy, CanServe, ShardState, shard_after}
 use Rattle.shard.specs.StandsFor.{AreAnswered, StandFor, accesses_of}
@@ -129,7 +128,7 @@ module _ (stays : NumberStays) (n : ℕ) where
       let rest : AreAnswered ys entries (each_after shard_after (bank_of_entry n) entries ys) =
       answered entries ys (length-set xs bank (shard_after x.0 e) ∙ size) (order_stays e entries xs x.0 x.1 order) (All-tail W e entries within) (rest_served e entries xs x.0 x.1 served) in (
         x.0,
-        subst (λ (m : ℕ). slice_get xs (shard_of m (line_of e.request)) ≡ Some x.0) (sym size) x.1,
+        subst (λ (m : ℕ). slice_get xs (bank_of_line m (line_of e.request)) ≡ Some x.0) (sym size) x.1,
         first.0,
         first.1,
         subst (λ (m : ℕ). AreAnswered (slice_set xs m (shard_after x.0 e)) entries (each_after shard_after (bank_of_entry n) (e ∷ entries) xs)) (sym (order bank x.0 x.1))
@@ -178,7 +177,7 @@ module _ (stand : ShardsStandForAMachine) (coherent : CoherentStays) (base size 
       let Known : Entry → Type 0 = λ e. e.core < length c.l1 in
       let Can : Entry → Type 0 = λ e. IsServable base size e.request in
       let s : ShardState = did.0 in
-      let number : ℕ = shard_of (length xs) (line_of e.request) in
+      let number : ℕ = bank_of_line (length xs) (line_of e.request) in
       let here_known : Known e = All-head Known e entries known in
       let here_can : IsServable memory.base (length memory.bytes) e.request =
       subst (λ (b : ℕ). IsServable b (length memory.bytes) e.request) (sym base_is) (subst (λ (m : ℕ). IsServable base m e.request) (sym size_is) (All-head Can e entries can)) in

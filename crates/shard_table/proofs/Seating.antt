@@ -13,10 +13,10 @@ use Rattle.zs_num.specs.declared.entry.Entry.{Entry}
 use Rattle.access_log.specs.History.{core_of_entry, of_bank, of_core}
 use Rattle.shard.specs.Served.{ShardState}
 use Rattle.shard_table.specs.declared.view.View.{View}
-use Rattle.shard_table.specs.declared.view.Part.{Part}
-use Rattle.shard_table.specs.declared.view.Served.{Served}
+use Rattle.shard_table.specs.declared.view.CoreAccesses.{CoreAccesses}
+use Rattle.shard_table.specs.declared.view.ShardAccesses.{ShardAccesses}
 use Rattle.shard_table.specs.Lives.{AreNew, IsPrefix, MayAsk}
-use Rattle.shard_table.specs.Rule.{AreDistinct, AreTurnsAtTable, Has, IsTrueOfHistory, turn_index}
+use Rattle.shard_table.specs.Rule.{AreDistinct, AreHoldsAtTable, Has, IsTrueOfHistory, word_index}
 use Rattle.shard_table.specs.Views.{both, first_view, new_part, next_seat, spent, with_one_seat_more}
 use Rattle.shard_table.proofs.Ends.{none_numbered}
 use Rattle.shard_table.proofs.Seats.{apart_stays, had, has_either, has_left, has_one, other_there}
@@ -50,11 +50,11 @@ zeros n i =
       | inr past ↦ get_or_past (replicate n 0) i 0 (omega (arith, past, length-replicate {A = ℕ} n 0))
     ]
 
-some_part : (core : ℕ) (parts : List Part) → Has core parts → 0 < length parts
+some_part : (core : ℕ) (parts : List CoreAccesses) → Has core parts → 0 < length parts
 some_part core [] has = absurd has
 some_part core (part ∷ parts) has = omega arith
 
-pub distinct_both : (parts others : List Part) → AreDistinct parts → AreDistinct others → ((core : ℕ) → Has core parts → Has core others → ⊥) → AreDistinct (parts ++ others)
+pub distinct_both : (parts others : List CoreAccesses) → AreDistinct parts → AreDistinct others → ((core : ℕ) → Has core parts → Has core others → ⊥) → AreDistinct (parts ++ others)
 distinct_both [] others one two apart = two
 distinct_both (part ∷ parts) others one two apart = (
   (λ has. elim (has_either part.core parts others has) as (λ _. ⊥) [
@@ -66,7 +66,7 @@ distinct_both (part ∷ parts) others one two apart = (
 
 module _ (shards : List ShardState) (cores room : ℕ) where
   abbrev Rule : State ShardState View → Type 0
-  Rule = AreTurnsAtTable shards cores room
+  Rule = AreHoldsAtTable shards cores room
 
   -- ---- the beginning
 
@@ -88,13 +88,13 @@ module _ (shards : List ShardState) (cores room : ℕ) where
         words = length-replicate {A = ℕ} (16 * length shards) 0;
         homes = length-map shards some_shard;
         home = λ number shard at free. at_map some_shard shards number shard (elem_at shards number shard at);
-        busy = λ number within word. absurd (let free = zeros (16 * length shards) (turn_index number) in omega (arith, free, word));
+        busy = λ number within word. absurd (let free = zeros (16 * length shards) (word_index number) in omega (arith, free, word));
         seats = λ place u at. subst (IsTrueOfHistory shards cores room [] words) (only_one v u place at).0 (record {
           opening = λ has. (refl, refl, refl);
-          parts = All-cons (λ (q : Part). (q.core < cores) × (q.list ≡ of_core q.core [])) (new_part 0) [] (some_cores, refl) (All-nil (λ (q : Part). (q.core < cores) × (q.list ≡ of_core q.core [])));
+          parts = All-cons (λ (q : CoreAccesses). (q.core < cores) × (q.list ≡ of_core q.core [])) (new_part 0) [] (some_cores, refl) (All-nil (λ (q : CoreAccesses). (q.core < cores) × (q.list ≡ of_core q.core [])));
           distinct = ((λ no. no), tt);
           hold = λ served is. absurd (let none : None ≡ Some served = is in cc);
-          notes = All-nil (λ (note : Served). IsPrefix note.list (of_bank (length shards) note.shard []));
+          notes = All-nil (λ (note : ShardAccesses). IsPrefix note.list (of_bank (length shards) note.shard []));
           first = λ made. inl refl;
         });
         apart = λ place other core u x here there has too. (only_one v u place here).1 ∙ sym (only_one v x other there).1;
@@ -161,12 +161,12 @@ module _ (shards : List ShardState) (cores room : ℕ) where
             ]
             | inr last ↦ subst (IsTrueOfHistory shards cores room r.history s.words) last.0 (record {
               opening = λ some. knows.opening (some_part 0 v.parts (knows.first made));
-              parts = All-cons (λ (q : Part). (q.core < cores) × (q.list ≡ of_core q.core r.history)) (new_part v.made) []
+              parts = All-cons (λ (q : CoreAccesses). (q.core < cores) × (q.list ≡ of_core q.core r.history)) (new_part v.made) []
                   (more, sym (none_numbered core_of_entry v.made r.history (All-weaker (λ e. e.core < v.made) (λ e. e.core ≡ v.made → ⊥) (λ e low same. absurd (omega (arith, low, same))) r.history (r.fresh id v at made).0)))
-                  (All-nil (λ (q : Part). (q.core < cores) × (q.list ≡ of_core q.core r.history)));
+                  (All-nil (λ (q : CoreAccesses). (q.core < cores) × (q.list ≡ of_core q.core r.history)));
               distinct = ((λ no. no), tt);
               hold = λ served is. absurd (let none : None ≡ Some served = is in cc);
-              notes = All-nil (λ (note : Served). IsPrefix note.list (of_bank (length shards) note.shard r.history));
+              notes = All-nil (λ (note : ShardAccesses). IsPrefix note.list (of_bank (length shards) note.shard r.history));
               first = λ some. absurd (omega (arith, some));
             })
           ];
@@ -260,18 +260,18 @@ module _ (shards : List ShardState) (cores room : ℕ) where
           elim (kinds place u there) as (λ _. IsTrueOfHistory shards cores room r.history s.words u) [
             | inl end ↦ subst (IsTrueOfHistory shards cores room r.history s.words) end (record {
               opening = λ some. absurd (omega (arith, some));
-              parts = All-nil (λ (q : Part). (q.core < cores) × (q.list ≡ of_core q.core r.history));
+              parts = All-nil (λ (q : CoreAccesses). (q.core < cores) × (q.list ≡ of_core q.core r.history));
               distinct = tt;
               hold = λ served is. absurd (let none : None ≡ Some served = is in cc);
-              notes = All-nil (λ (note : Served). IsPrefix note.list (of_bank (length shards) note.shard r.history));
+              notes = All-nil (λ (note : ShardAccesses). IsPrefix note.list (of_bank (length shards) note.shard r.history));
               first = λ some. absurd (omega (arith, some));
             })
             | inr (inl first) ↦ subst (IsTrueOfHistory shards cores room r.history s.words) first.1 (record {
               opening = λ some. v_knows.opening some_parts;
-              parts = All-append (λ (q : Part). (q.core < cores) × (q.list ≡ of_core q.core r.history)) v.parts w.parts v_knows.parts w_knows.parts;
+              parts = All-append (λ (q : CoreAccesses). (q.core < cores) × (q.list ≡ of_core q.core r.history)) v.parts w.parts v_knows.parts w_knows.parts;
               distinct = distinct_both v.parts w.parts v_knows.distinct w_knows.distinct (λ core left right. apart (sym (r.apart id other core v w at too left right)));
               hold = λ served is. absurd (let none : None ≡ Some served = sym hold ∙ is in cc);
-              notes = All-append (λ (note : Served). IsPrefix note.list (of_bank (length shards) note.shard r.history)) v.notes w.notes v_knows.notes w_knows.notes;
+              notes = All-append (λ (note : ShardAccesses). IsPrefix note.list (of_bank (length shards) note.shard r.history)) v.notes w.notes v_knows.notes w_knows.notes;
               first = λ some. has_left 0 v.parts w.parts (v_knows.first some);
             })
             | inr (inr old) ↦ r.seats place u old.2

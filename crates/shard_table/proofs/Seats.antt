@@ -6,31 +6,31 @@ use lib.ListN.{get_elem?}
 use Rattle.atomic_table.proofs.Lists.{at_set, set_else, set_here}
 use Rattle.zs_num.specs.declared.entry.Entry.{Entry}
 use Rattle.shard_table.specs.declared.view.View.{View}
-use Rattle.shard_table.specs.declared.view.Part.{Part}
+use Rattle.shard_table.specs.declared.view.CoreAccesses.{CoreAccesses}
 use Rattle.shard_table.specs.Rule.{AreApart, AreBelowMade, Has}
 
 -- ---- the cores of a seat
 
-pub has_one : (core : ℕ) (part : Part) → Has core (part ∷ []) → part.core ≡ core
+pub has_one : (core : ℕ) (part : CoreAccesses) → Has core (part ∷ []) → part.core ≡ core
 has_one core part (inl is) = is
 has_one core part (inr none) = absurd none
 
-pub has_its : (core : ℕ) (parts : List Part) (part : Part) → parts ≡ part ∷ [] → Has core parts → part.core ≡ core
+pub has_its : (core : ℕ) (parts : List CoreAccesses) (part : CoreAccesses) → parts ≡ part ∷ [] → Has core parts → part.core ≡ core
 has_its core parts part is has = has_one core part (subst (Has core) is has)
 
-pub its_own : (parts : List Part) (part : Part) → parts ≡ part ∷ [] → Has part.core parts
+pub its_own : (parts : List CoreAccesses) (part : CoreAccesses) → parts ≡ part ∷ [] → Has part.core parts
 its_own parts part is = subst (Has part.core) (sym is) (inl refl)
 
-pub has_left : (core : ℕ) (parts others : List Part) → Has core parts → Has core (parts ++ others)
+pub has_left : (core : ℕ) (parts others : List CoreAccesses) → Has core parts → Has core (parts ++ others)
 has_left core [] others has = absurd has
 has_left core (part ∷ parts) others (inl is) = inl is
 has_left core (part ∷ parts) others (inr has) = inr (has_left core parts others has)
 
-pub has_right : (core : ℕ) (parts others : List Part) → Has core others → Has core (parts ++ others)
+pub has_right : (core : ℕ) (parts others : List CoreAccesses) → Has core others → Has core (parts ++ others)
 has_right core [] others has = has
 has_right core (part ∷ parts) others has = inr (has_right core parts others has)
 
-pub has_either : (core : ℕ) (parts others : List Part) → Has core (parts ++ others) → Has core parts ⊎ Has core others
+pub has_either : (core : ℕ) (parts others : List CoreAccesses) → Has core (parts ++ others) → Has core parts ⊎ Has core others
 has_either core [] others has = inr has
 has_either core (part ∷ parts) others (inl is) = inl (inl is)
 has_either core (part ∷ parts) others (inr has) =

@@ -3,12 +3,13 @@ use Rattle.std.specs.Prelude.{◌≡◌, ◌≢◌, ℕ, ◌+◌, ◌<◌, max, 
 use Rattle.std.specs.List.{flat_map}
 use Rattle.zs_num.specs.declared.entry.Entry.{Entry}
 use Rattle.zs_num.specs.declared.request.Request.{Request}
-use Rattle.access_log.specs.History.{AreRising, AreStamped, bank_of, bank_of_entry, each_after, latest_of, of_bank, of_core}
+use Rattle.zs_num.specs.Request.{bank_of}
+use Rattle.access_log.specs.History.{AreRising, AreStamped, bank_of_entry, each_after, latest_of, of_bank, of_core}
 use Rattle.access_log.specs.RecordedOrder.{no_stamps, recorded_order}
 use Rattle.atomic_table.specs.Seated.{TableId}
 use Rattle.shard.specs.Served.{AreServedBy, ShardState, met_by, resumed, shard_after, shard_reply}
 use Rattle.shard_table.specs.declared.view.View.{View}
-use Rattle.shard_table.specs.declared.view.Served.{Served}
+use Rattle.shard_table.specs.declared.view.ShardAccesses.{ShardAccesses}
 use Rattle.shard_table.specs.Lives.{AreNew, IsPrefix, MayAsk, after_all}
 use Rattle.shard_table.specs.Rule.{AreTrueNotes}
 
@@ -51,13 +52,13 @@ pub record IsSameSeat (before after : SeatState) : Type 0 where
   pub cores : after.knows.cores ≡ before.knows.cores
   pub room : after.knows.room ≡ before.knows.room
 
--- The access of an entry. It stands last among those of its core, and last in the list of its shard that the seat now notes. Its
--- reply and its outcome are those of the shard after the rest of that list. The rest has this core's earlier accesses to the shard,
--- in order, and begins with each list that the seat noted of the shard before.
--- What other cores have done to the shard is in that list alone, and here it could be any: a wrong reply could still be explained
--- by a store of another core, which nobody made. So the seat keeps what it notes, and `AreWhole` says of each note at the end that
--- the shard did serve these accesses first, each of which is in the log of its core.
-pub record IsAccessOf (core : ℕ) (shards : List ShardState) (before : List Entry) (notes : List Served) (later : SeatState) (start : ℕ) (request : Request) (e : Entry) : Type 0 where
+-- The access of an entry. It stands last among those of its core, and last in the list of its shard that the seat now
+-- notes. Its reply and its outcome are those of the shard after the rest of that list. The rest has this core's earlier
+-- accesses to the shard, in order, and begins with each list that the seat noted of the shard before. What other cores
+-- have done to the shard is in that list alone, and here it could be any: a wrong reply could still be explained by a
+-- store of another core, which nobody made. So the seat keeps what it notes, and `AreWhole` says of each note at the
+-- end that the shard did serve these accesses first, each of which is in the log of its core.
+pub record IsAccessOf (core : ℕ) (shards : List ShardState) (before : List Entry) (notes : List ShardAccesses) (later : SeatState) (start : ℕ) (request : Request) (e : Entry) : Type 0 where
   pub entries : later.entries ≡ before ++ e ∷ []
   pub core_is : e.core ≡ core
   pub start_is : e.start ≡ start
@@ -73,7 +74,7 @@ pub record IsAccessOf (core : ℕ) (shards : List ShardState) (before : List Ent
 abbrev pub IsAccess : (before later : SeatState) → (start : ℕ) → Request → Entry → Type 0
 IsAccess before = IsAccessOf before.core before.knows.shards before.entries before.knows.notes
 
--- Another core was found to have the turn, in one look at the shard's word.
+-- Another core was found to hold the shard, in one look at the shard's word.
 pub record IsHeld (before later : SeatState) (request : Request) (holder : ℕ) : Type 0 where
   pub entries : later.entries ≡ before.entries
   pub notes : later.knows.notes ≡ before.knows.notes
@@ -95,11 +96,11 @@ pub record AreAllSeats (t : TableState) (seats : List SeatState) : Type 0 where
 abbrev pub entries_of_seats : List SeatState → List Entry
 entries_of_seats seats = flat_map (λ seat. seat.entries) seats
 
--- What the accesses of all cores are, by their recorded order: those of each core in its own order, and those of each shard in the
--- order in which it served them. Each shard could be asked for them, gave them their replies and outcomes, one after the other, and
--- is what they left. Each list that a seat noted is what its shard served first. Stamps rise in each core and in each shard. By the
--- laws of this crate these are the replies and outcomes that one memory and one machine's caches give to all accesses, one after
--- the other.
+-- What the accesses of all cores are, by their recorded order: those of each core in its own order, and those of each
+-- shard in the order in which it served them. Each shard could be asked for them, gave them their replies and outcomes,
+-- one after the other, and is what they left. Each list that a seat noted is what its shard served first. Stamps rise
+-- in each core and in each shard. By the laws of this crate these are the replies and outcomes that one memory and one
+-- machine's caches give to all accesses, one after the other.
 pub record AreWhole (t : TableState) (entries : List Entry) (seats : List SeatState) (shards : List ShardState) : Type 0 where
   pub new : AreNew t.shards
   pub known : All (λ e. e.core < t.cores) entries

@@ -5,5 +5,5 @@ pub mod Steps
 pub mod Access
 pub mod Seats
 pub mod Tables
-pub mod Memory
+pub mod Buffers
 pub mod Laws

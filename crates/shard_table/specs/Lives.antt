@@ -3,7 +3,8 @@ use Rattle.std.specs.Prelude.{◌≡◌, ℕ, ◌<◌, ◌≤◌, List, ◌++◌
 use Rattle.std.specs.List.{fold}
 use Rattle.zs_num.specs.declared.entry.Entry.{Entry}
 use Rattle.zs_num.specs.declared.request.Request.{Request}
-use Rattle.access_log.specs.History.{AreStamped, bank_of, of_bank, of_core}
+use Rattle.zs_num.specs.Request.{bank_of}
+use Rattle.access_log.specs.History.{AreStamped, of_bank, of_core}
 use Rattle.access_log.specs.RecordedOrder.{no_stamps}
 use Rattle.shard.specs.Served.{AreServedBy, CanServe, HasCore, ShardState, shard_after}
 
@@ -24,7 +25,7 @@ MayAsk shards core request =
 abbrev pub AreNew : List ShardState → Type 0
 AreNew shards = (number : ℕ) (shard : ShardState) → slice_get shards number ≡ Some shard → (shard.number ≡ number) × (shard.last ≡ 0)
 
--- The accesses of cores to new shards, in the order in which their turns ended.
+-- The accesses of cores to new shards, in the order in which their holds ended.
 pub record AreAccesses (shards : List ShardState) (cores room : ℕ) (history : List Entry) : Type 0 where
   pub known : All (λ e. e.core < cores) history
   pub asked : All (λ e. MayAsk shards e.core e.request) history

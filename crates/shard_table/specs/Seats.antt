@@ -1,5 +1,5 @@
--- What a core's seat keeps between two calls: it has no shard's turn, what it knows of accesses are those of its log, and there is
--- memory for as many as it can make.
+-- What a core's seat keeps between two calls: it holds no shard, what it knows of accesses are those of its log, and
+-- there is memory for as many as it can make.
 use Rattle.std.specs.Prelude.{◌≡◌, ℕ, ◌≤◌, ◌<◌, ◌^◌, [], ◌∷◌, length, None}
 use Rattle.access_log.specs.History.{latest_of}
 use Rattle.access_log.specs.Logs.{LogState}

@@ -1,4 +1,5 @@
--- What a table is seen as, and what it keeps: a word and a slot for each shard, and room for shards and logs when it is closed.
+-- What a table is seen as, and what it keeps: a word and a slot for each shard, and room for shards and logs when it is
+-- closed.
 use Rattle.std.specs.Prelude.{◌≡◌, ℕ, ◌*◌, ◌<◌, ◌≤◌, ◌^◌, List, [], ◌∷◌, length, Vec}
 use Rattle.std.specs.Vec.{vec_capacity}
 use Rattle.std.specs.declared.alloc.Global.{Global}

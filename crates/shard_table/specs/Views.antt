@@ -3,15 +3,15 @@ use Rattle.std.specs.Prelude.{ℕ, ◌+◌, List, [], ◌∷◌, ◌++◌, Some,
 use Rattle.zs_num.specs.declared.entry.Entry.{Entry}
 use Rattle.shard.specs.Served.{ShardState}
 use Rattle.shard_table.specs.declared.view.View.{View}
-use Rattle.shard_table.specs.declared.view.Part.{Part}
-use Rattle.shard_table.specs.declared.view.Served.{Served}
+use Rattle.shard_table.specs.declared.view.CoreAccesses.{CoreAccesses}
+use Rattle.shard_table.specs.declared.view.ShardAccesses.{ShardAccesses}
 use Rattle.shard_table.specs.declared.view.Found.{Found}
 
 abbrev pub nothing_found : Found
 nothing_found = record { shard = 0; word = 0; count = 0 }
 
 -- no access of a core yet
-abbrev pub new_part : (core : ℕ) → Part
+abbrev pub new_part : (core : ℕ) → CoreAccesses
 new_part core = record { core = core; list = [] }
 
 -- what the first seat knows at first: it is core 0's
@@ -27,18 +27,18 @@ first_view shards cores room = record {
   notes = [];
 }
 
--- ---- a turn
+-- ---- a hold
 
--- the turn of a shard was taken, which has served these accesses
+-- a shard was taken, which has served these accesses
 abbrev pub holding : View → (shard : ℕ) → List Entry → View
 holding v shard list = record v { hold = Some (record { shard = shard; list = list }) }
 
--- another core had the turn of the shard
+-- another core held the shard
 abbrev pub refused : View → (shard word : ℕ) → View
 refused v shard word = record v { found = record { shard = shard; word = word; count = v.found.count + 1 } }
 
--- the turn was given back after an access of the seat's core
-abbrev pub given : View → Part → Served → Entry → View
+-- the shard was given back after an access of the seat's core
+abbrev pub given : View → CoreAccesses → ShardAccesses → Entry → View
 given v part served e = record v {
   parts = record part { list = part.list ++ e ∷ [] } ∷ [];
   hold = None;

@@ -9,8 +9,9 @@ pub fn accesses_are_answered()
     shard::laws::number_stays();
 }
 
-/// So the accesses of all cores, in recorded order, have the replies of one memory and the outcomes of
-/// one machine's caches, one after the other, and the shards that come back stand for what is left.
+/// So the accesses of all cores, in recorded order, have the replies of one memory and the outcomes
+/// of one machine's caches, one after the other, and the shards that come back stand for what is
+/// left.
 pub fn accesses_are_of_one_machine()
     ensures { WholeIsOfOneMachine }
 {
@@ -20,8 +21,8 @@ pub fn accesses_are_of_one_machine()
     shard::laws::entries_are_of_one_machine();
 }
 
-/// In recorded order, a load of what a store wrote gives the low bytes of the number, where no access
-/// between wrote to the line, whichever cores accessed.
+/// In recorded order, a load of what a store wrote gives the low bytes of the number, where no
+/// access between wrote to the line, whichever cores accessed.
 pub fn read_after_write()
     ensures { WholeReadsAfterWrites }
 {

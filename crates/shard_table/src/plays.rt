@@ -8,14 +8,14 @@ use atomic_table::{Join, Play, Split};
 use shard::Shard;
 use std::marker::{Brand, PhantomData};
 
-/// A turn is taken, or found to be another's.
+/// A shard is taken, or found to be held by another.
 pub(crate) struct Take;
 
 impl Play<Shard, View> for Take {
     ghost then = { taken };
 }
 
-/// The entry of a turn, for the proof alone. A call at `Brand` picks it.
+/// The entry with which a hold ends, for the proof alone. A call at `Brand` picks it.
 pub(crate) trait Ends {
     ghost entry: { Entry };
 }
@@ -26,7 +26,7 @@ impl Ends for Brand {
     ghost entry = { any_entry };
 }
 
-/// A turn ends with an entry.
+/// A hold ends with an entry.
 pub(crate) struct Give<E> {
     entry: PhantomData<E>,
 }

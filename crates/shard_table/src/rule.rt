@@ -1,5 +1,5 @@
 //! What holds between any two steps on the table.
-//! Word 16 s is 0 where nobody has the turn of shard s, and c + 1 where core c has it. Slot s is the
+//! Word 16 s is 0 where nobody holds shard s, and c + 1 where core c does. Slot s is the
 //! shard. The factor keeps the words of two shards 128 bytes apart.
 ghost use Rattle.std.specs.Prelude.{ℕ};
 
@@ -17,19 +17,19 @@ pub struct Opening {
     pub room: u32,
 }
 
-pub struct Turns;
+pub struct Holds;
 
-impl TableRule<Shard, View, Opening> for Turns {
+impl TableRule<Shard, View, Opening> for Holds {
     ghost use Rattle.shard_table.specs.Views.{first_view};
-    ghost use Rattle.shard_table.specs.Rule.{AreTurnsAtTable};
+    ghost use Rattle.shard_table.specs.Rule.{AreHoldsAtTable};
 
-    ghost holds = { λ key s. AreTurnsAtTable key.shards.value.items key.cores key.room s };
+    ghost holds = { λ key s. AreHoldsAtTable key.shards.value.items key.cores key.room s };
 
     ghost first = { λ key. first_view key.shards.value.items key.cores key.room };
 }
 
-pub type Words = Table<Shard, View, Opening, Turns, Global>;
+pub type Words = Table<Shard, View, Opening, Holds, Global>;
 
-pub type Bench = Shared<Shard, View, Opening, Turns>;
+pub type Bench = Shared<Shard, View, Opening, Holds>;
 
 pub type Place = Seat<Shard, View>;

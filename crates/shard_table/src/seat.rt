@@ -8,8 +8,8 @@ use access_log::CoreLog;
 use std::marker::Model;
 use zs_num::{Entry, Stamp};
 
-/// What a core serves its accesses with, and the accesses that it served. Each core has one seat at a
-/// table.
+/// What a core serves its accesses with, and the accesses that it served. Each core has one seat at
+/// a table.
 #[derive(Drop)]
 pub struct CoreSeat {
     pub(crate) place: Place,
@@ -29,7 +29,7 @@ impl Model for CoreSeat {
     ghost invariant = { λ s. IsSeat s.place.me s.log s.last s.core };
 }
 
-/// Another core has the shard's turn.
+/// Another core holds the shard.
 #[derive(Clone, Copy, Debug, PartialEq, Eq)]
 pub struct Held {
     /// The number of that core.
@@ -37,7 +37,7 @@ pub struct Held {
 }
 
 impl CoreSeat {
-    // The first seat makes that of the next core.
+    /// The first seat makes that of the next core.
     pub(crate) fn next(&mut self, bench: &Bench, log: CoreLog, core: u16) -> CoreSeat
         requires table { self.old.table ≡ bench.now.table_id }
         requires words { 0 < bench.now.table_id.words }

@@ -1,15 +1,15 @@
-//! The table: it is made of shards, and closed when every turn has ended.
+//! The table: it is made of shards, and closed when nobody holds a shard.
 ghost use Rattle.std.specs.Prelude.{◌≡◌, ℕ, ◌<◌, ◌≤◌, ◌^◌, [], length, map, slice_get, vec_capacity, Some, IfOk, IfErr};
 ghost use Rattle.std.specs.Mem.Slots.{slots_items, slots_len, IsFull};
-ghost use Rattle.access_log.specs.History.{bank_of};
+ghost use Rattle.zs_num.specs.Request.{bank_of};
 ghost use Rattle.shard.specs.Served.{ShardState, resumed};
 ghost use Rattle.shard_table.specs.Access.{AreAllSeats, AreNewSeats, AreWhole, recorded_entries, restarted_shards};
 ghost use Rattle.shard_table.specs.Lives.{AreNew};
-ghost use Rattle.shard_table.specs.Memory.{new_logs};
+ghost use Rattle.shard_table.specs.Buffers.{new_logs};
 ghost use Rattle.shard_table.specs.Tables.{resumed_all, table_state_of};
 ghost use Rattle.shard_table.specs.Views.{first_view};
 
-use crate::memory::Memory;
+use crate::buffers::Buffers;
 use crate::plays::Glue;
 use crate::rule::{Bench, Opening, Place, Words};
 use crate::seat::CoreSeat;
@@ -46,8 +46,8 @@ impl Model for ShardTable {
 
 impl ShardTable {
     /// A table of shards that so many cores share, of which each makes at most `room` accesses, and
-    /// the seat of each core, in order. All last stamps are 0. Where memory runs out, the shards come back
-    /// as they were.
+    /// the seat of each core, in order. All last stamps are 0. Where memory runs out, the shards
+    /// come back as they were.
     pub fn make(
         alloc: Global,
         shards: Vec<Shard>,
@@ -66,8 +66,9 @@ impl ShardTable {
     }
 
     /// A table of shards that so many cores share, of which each makes at most `room` accesses, and
-    /// the seat of each core, in order. All last stamps are 0. Where memory runs out, the shards come back
-    /// as they were. The memory of the logs that an earlier table handed back is taken first.
+    /// the seat of each core, in order. All last stamps are 0. Where memory runs out, the shards
+    /// come back as they were. The memory of the logs that an earlier table handed back is taken
+    /// first.
     pub fn make_over(
         alloc: Global,
         mut shards: Vec<Shard>,
@@ -83,10 +84,10 @@ impl ShardTable {
         ensures seats { IfOk result (λ made. AreNewSeats made.0 made.1.items) }
         ensures err { IfErr result (λ back. back.1.items ≡ shards.items) }
     {
-        let Ok(memory) = Memory::new(alloc, &shards, cores, room, earlier) else {
+        let Ok(memory) = Buffers::new(alloc, &shards, cores, room, earlier) else {
             return Err((NoMemory, shards));
         };
-        let Memory {
+        let Buffers {
             words,
             stamps,
             logs,
@@ -116,8 +117,8 @@ impl ShardTable {
         }
     }
 
-    /// The shards in order of their numbers, and the logs in the order of the seats handed in, when all
-    /// cores have made their accesses.
+    /// The shards in order of their numbers, and the logs in the order of the seats handed in, when
+    /// all cores have made their accesses.
     pub fn close(self, mut seats: Vec<CoreSeat>) -> (Vec<Shard>, Vec<CoreLog>)
         requires { AreAllSeats self seats.items }
         ensures logs { map (λ log. log.entries) result.1.items ≡ map (λ seat. seat.entries) seats.items }
@@ -156,7 +157,7 @@ impl ShardTable {
     }
 }
 
-// The seats of all cores, in order, of which this is the first.
+/// The seats of all cores, in order, of which this is the first.
 fn seats(
     bench: &Bench,
     place: Place,
@@ -185,7 +186,7 @@ fn seats(
     seats
 }
 
-// Sets the last stamps of all shards to 0.
+/// Sets the last stamps of all shards to 0.
 fn restart_all(shards: &mut [Shard])
     ensures { shards.new ≡ restarted_shards shards.old }
 {
@@ -194,7 +195,8 @@ fn restart_all(shards: &mut [Shard])
     }
 }
 
-// Sets the last stamps of shards to what they were, and puts the shards into another list with room.
+/// Sets the last stamps of shards to what they were, and puts the shards into another list with
+/// room.
 fn resume_all(mut shards: Vec<Shard>, mut stamps: Vec<Stamp>, mut back: Vec<Shard>) -> Vec<Shard>
     requires stamps { length stamps.items ≡ length shards.items }
     requires room { (back.items ≡ []) × (length shards.items ≤ vec_capacity back) }
@@ -208,7 +210,8 @@ fn resume_all(mut shards: Vec<Shard>, mut stamps: Vec<Stamp>, mut back: Vec<Shar
     back
 }
 
-// Takes the shards out of a table that nobody shares any more, and puts them into a list with room.
+/// Takes the shards out of a table that nobody shares any more, and puts them into a list with
+/// room.
 fn taken_out(mut closed: Closed<Shard, Global>, mut shards: Vec<Shard>) -> Vec<Shard>
     requires full { IsFull closed.slots }
     requires room { (shards.items ≡ []) × (slots_len closed.slots ≤ vec_capacity shards) }

@@ -1,21 +1,21 @@
-//! What a seat at the table knows. No value of these types is made: they are what proofs say of a seat.
-//! An array of length 0 stands for a list of any length.
+//! What a seat at the table knows. No value of these types is made: they are what proofs say of a
+//! seat. An array of length 0 stands for a list of any length.
 use shard::Shard;
 use zs_num::Entry;
 
 /// The accesses of a core, in its order.
-pub struct Part {
+pub struct CoreAccesses {
     pub core: u64,
     pub list: [Entry; 0],
 }
 
 /// The accesses to a shard, in the order in which it served them.
-pub struct Served {
+pub struct ShardAccesses {
     pub shard: u64,
     pub list: [Entry; 0],
 }
 
-/// The latest word that a seat found with another core's turn in it, and how many it found so far.
+/// The latest word that a seat found to be of another core, and how many it found so far.
 pub struct Found {
     pub shard: u64,
     pub word: u64,
@@ -32,10 +32,10 @@ pub struct View {
     /// How many seats were made, where it is the first.
     pub made: u64,
     /// The accesses of the cores whose seat it is.
-    pub parts: [Part; 0],
-    /// The shard whose turn it has, with the accesses to it.
-    pub hold: Option<Served>,
+    pub parts: [CoreAccesses; 0],
+    /// The shard that it holds, with the accesses to it.
+    pub hold: Option<ShardAccesses>,
     pub found: Found,
     /// For each of its accesses, the shard with the accesses to it up to that one.
-    pub notes: [Served; 0],
+    pub notes: [ShardAccesses; 0],
 }

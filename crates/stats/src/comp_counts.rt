@@ -1,4 +1,4 @@
-// The counts of the components over an interval.
+//! The counts of the components over an interval.
 ghost use Rattle.std.specs.Prelude.{◌≡◌, ◌<◌, ℕ, All, length, slice_index_or};
 ghost use Rattle.std.specs.List.{zip};
 ghost use Rattle.component.specs.declared.comp.Comp.{Comp};

@@ -1,4 +1,4 @@
-// The counts of the cores over an interval.
+//! The counts of the cores over an interval.
 ghost use Rattle.std.specs.Prelude.{◌≡◌, ◌<◌, ℕ, All, length, slice_index, slice_index_or};
 ghost use Rattle.stats.specs.declared.counts.CoreCount.{CoreCount};
 ghost use Rattle.stats.specs.Counts.{CoreFits};

@@ -1,4 +1,4 @@
-// The counters of a run.
+//! The counters of a run.
 use crate::comp_counts::add_to_comp_counts;
 use crate::core_counts::add_to_core_counts;
 use crate::{CompCount, CoreCount};

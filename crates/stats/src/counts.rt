@@ -1,4 +1,4 @@
-// What is counted of one core, and of one component.
+//! What is counted of one core, and of one component.
 use zs_num::Cycle;
 
 /// What is counted of a core's accesses.

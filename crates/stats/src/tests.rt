@@ -1,5 +1,5 @@
-// What no clause says: counts worked by hand, on one bank and one controller with the times of the
-// built-in machine, and that the calls succeed at the largest machine too.
+//! What no clause says: counts worked by hand, on one bank and one controller with the times of the
+//! built-in machine, and that the calls succeed at the largest machine too.
 ghost use Rattle.std.specs.Prelude.{◌≡◌, ◌<◌, ◌≤◌, All, IfOk, None, length};
 ghost use Rattle.machine_desc.specs.Machine.{IsMachine};
 ghost use Rattle.event_graph.specs.Timely.{AreTimely};
@@ -120,7 +120,7 @@ const ADD: Request = Request::Amo {
 
 /// An interval as the weave left it.
 #[derive(Drop)]
-struct Woven {
+struct WovenInterval {
     entries: Entries,
     graph: Graph,
     fired: FiredList,
@@ -139,7 +139,7 @@ struct Woven {
 /// Core 0 misses at cycle 1, and a line is written back: the write waits 20 cycles for the read,
 /// and so the fill comes 20 cycles later. Core 1 takes the write permission from another core at
 /// cycle 3, and waits 2 cycles for the bank; then it has a hit.
-fn first(alloc: Global) -> Result<Woven, NoMemory> {
+fn first(alloc: Global) -> Result<WovenInterval, NoMemory> {
     let entries = vec![in alloc;
         access(0, 1, LOAD, Outcome::Miss { dirty_victim: true }),
         access(1, 3, STORE, Outcome::Upgrade { others: true }),
@@ -159,7 +159,7 @@ fn first(alloc: Global) -> Result<Woven, NoMemory> {
         fired(3, 132, 134),
         fired(4, 4, 21),
     ]?;
-    Ok(Woven {
+    Ok(WovenInterval {
         entries: Entries::of(entries),
         graph: Graph::of(events),
         fired: FiredList::of(woven),
@@ -170,7 +170,7 @@ fn first(alloc: Global) -> Result<Woven, NoMemory> {
 
 /// Both cores find lines in the shared cache at the same cycle. Core 0's look-up is the second, and
 /// waits 4 cycles for the bank.
-fn second(alloc: Global) -> Result<Woven, NoMemory> {
+fn second(alloc: Global) -> Result<WovenInterval, NoMemory> {
     let entries = vec![in alloc;
         access(1, 10_000, CONDITIONAL, Outcome::L2 { others: false }),
         access(0, 10_000, ADD, Outcome::L2 { others: false }),
@@ -180,7 +180,7 @@ fn second(alloc: Global) -> Result<Woven, NoMemory> {
         event(1, 0, Kind::Lookup, 10_001, 10_011),
     ]?;
     let woven = vec![in alloc; fired(0, 10_001, 10_011), fired(1, 10_001, 10_015)]?;
-    Ok(Woven {
+    Ok(WovenInterval {
         entries: Entries::of(entries),
         graph: Graph::of(events),
         fired: FiredList::of(woven),
@@ -191,7 +191,7 @@ fn second(alloc: Global) -> Result<Woven, NoMemory> {
 
 /// Adds an interval to the counters of two cores and two components.
 #[tactic(auto, using(crate::proofs::Added::as_many_cores, crate::proofs::Added::as_many_comps))]
-fn add(counters: &mut Counters, w: &Woven)
+fn add(counters: &mut Counters, w: &WovenInterval)
     requires cores { length counters.old.core_counts ≡ 2 }
     requires comps { length counters.old.comp_counts ≡ 2 }
     requires fits { let w = w.now in CountsFit (added counters.old

@@ -7,10 +7,10 @@ use Rattle.std.specs.List.{fold}
 use Rattle.std.specs.Option.{option_map}
 use Rattle.machine_desc.specs.declared.machine.Machine.{Machine}
 use Rattle.elf_load.specs.MemoryImage.{MemoryImage}
-use Rattle.zs_num.specs.Request.{IsServable, line_of}
+use Rattle.zs_num.specs.Request.{IsServable, line_of, bank_of}
 use Rattle.zs_num.specs.declared.entry.Entry.{Entry}
 use Rattle.zs_num.specs.declared.request.Request.{Request}
-use Rattle.access_log.specs.History.{bank_of, bank_of_entry, each_after, of_number}
+use Rattle.access_log.specs.History.{bank_of_entry, each_after, of_number}
 use Rattle.access_log.specs.Laws.{EachHasItsOwn}
 use Rattle.shard.specs.Laws.{StillServes}
 use Rattle.shard.specs.Served.{CanServe, ShardState, new_shard, resumed, shard_after}

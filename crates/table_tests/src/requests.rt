@@ -1,4 +1,4 @@
-// Requests of eight bytes.
+//! Requests of eight bytes.
 ghost use Rattle.std.specs.Prelude.{◌≡◌};
 
 use zs_num::{AmoOp, Request};

@@ -1,4 +1,4 @@
-// A table with the seats of its two cores.
+//! A table with the seats of its two cores.
 ghost use Rattle.std.specs.Prelude.{◌≡◌, ◌<◌, [], ◌∷◌, length, IfOk};
 ghost use Rattle.machine_desc.specs.Machine.{IsMachine};
 ghost use Rattle.zs_num.specs.Request.{IsServable};
@@ -28,7 +28,7 @@ pub(crate) const TWO_BANKS: [(&str, &str); 3] = [
 /// How many accesses a core can make.
 pub(crate) const ROOM: u32 = 1000;
 
-// An executable of one instruction, which lies at 0x10000.
+/// An executable of one instruction, which lies at 0x10000.
 static FILE: [u8; 124] = [
     0x7f, 0x45, 0x4c, 0x46, 2, 1, 1, 0, 0, 0, 0, 0, 0, 0, 0, 0, 2, 0, 243, 0, 1, 0, 0, 0, 0, 0, 1,
     0, 0, 0, 0, 0, 64, 0, 0, 0, 0, 0, 0, 0, 0, 0, 0, 0, 0, 0, 0, 0, 0, 0, 0, 0, 64, 0, 56, 0, 1, 0,

@@ -1,4 +1,4 @@
-// Worked accesses: stamps, replies and logs, and two threads that add to one doubleword.
+//! Worked accesses: stamps, replies and logs, and two threads that add to one doubleword.
 ghost use Rattle.std.specs.Prelude.{◌≡◌, ◌<◌, []};
 ghost use Rattle.shard.specs.Served.{CanServe};
 ghost use Rattle.shard_table.specs.Access.{IsSameSeat, IsSeatOf};
@@ -15,7 +15,8 @@ use std::thread;
 use std::thread::Threads;
 use zs_num::{NoMemory, Request, Stamp};
 
-// Two words of lines next to each other: of two shards, the first is in shard 0 and the other in shard 1.
+/// Two words of lines next to each other: of two shards, the first is in shard 0 and the other in
+/// shard 1.
 const EVEN: u64 = 0x11000;
 
 const ODD: u64 = 0x11040;
@@ -43,7 +44,7 @@ fn stamps_pass_those_of_the_shard_and_of_the_core(rt: HostRuntime) -> Result<(),
     Ok(())
 }
 
-// The cores of the accesses in recorded order: by stamps, and at a tie by cores.
+/// The cores of the accesses in recorded order: by stamps, and at a tie by cores.
 fn schedule(alloc: Global, t: &Tested) -> Result<Vec<u16>, NoMemory> {
     let both = t.first.entries().iter().chain(t.second.entries());
     let mut keys: Vec<(Stamp, u16)> = both.map(|e| (e.stamp, e.core)).collect(alloc)?;
@@ -51,7 +52,7 @@ fn schedule(alloc: Global, t: &Tested) -> Result<Vec<u16>, NoMemory> {
     Ok(keys.iter().map(|key| key.1).collect(alloc)?)
 }
 
-// Adds 1 to a doubleword a thousand times.
+/// Adds 1 to a doubleword a thousand times.
 fn adds<R: Wait>(rt: &R, table: &ShardTable, mut seat: CoreSeat, banks: u16) -> CoreSeat
     requires table { (0 < banks) × IsTested banks table.now }
     requires seat { IsSeatOf table.now seat × (seat.core < 2) }
@@ -64,7 +65,7 @@ fn adds<R: Wait>(rt: &R, table: &ShardTable, mut seat: CoreSeat, banks: u16) -> 
     seat
 }
 
-// Both cores add, each in a thread of its own.
+/// Both cores add, each in a thread of its own.
 fn both_add<R: Threads + Wait + Sync>(rt: &R, t: Tested) -> Tested
     requires { (t.first.entries ≡ []) × (t.second.entries ≡ []) }
     ensures { result.banks ≡ t.banks }
@@ -90,7 +91,7 @@ fn both_add<R: Threads + Wait + Sync>(rt: &R, t: Tested) -> Tested
     }
 }
 
-// The doubleword to which both add.
+/// The doubleword to which both add.
 #[tactic(auto, unfolding(shard::specs::Served::CanServe))]
 fn doubleword(shard: &Shard) -> [u8; 8]
     requires { CanServe shard.now (Request.Load EVEN 8) }

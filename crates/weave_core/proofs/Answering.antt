@@ -13,7 +13,7 @@ use Rattle.event_graph.specs.declared.event.Parent.{Parent}
 use Rattle.event_graph.specs.Numbered.{IsNumbered}
 use Rattle.event_graph.specs.OneListWeave.{is_fired}
 use Rattle.domain_map.specs.declared.crossing.Crossing.{Crossing}
-use Rattle.domain_map.specs.Domains.{Division, Divides, domain_of, domain_of_number}
+use Rattle.domain_map.specs.Domains.{Partition, IsPartition, domain_of_event, domain_of_number}
 use Rattle.weave_core.specs.declared.incoming.Stub.{Stub}
 use Rattle.weave_core.specs.Answer.{IsBlocking, answer_of, blocked_by, fire_of, no_stub, numbered_key}
 use Rattle.weave_core.specs.DomainCalls.{AllFired, IsAnswer, IsBlockedBy, MayFire, earliest_of}
@@ -26,14 +26,14 @@ use Rattle.weave_core.proofs.Lists.{all_from, and_true, both, from_enum, get_bel
 use Rattle.weave_core.proofs.Readiness.{first_next, none_next}
 use Rattle.weave_core.proofs.Words.{all_known, eq_is, is_eq, none_unknown, word_known}
 
-module _ (events : List Event) (p : Division) (domain : ℕ) (here : List Event) (stubs : List Stub) (own : DomainState) (w : Waits)
-    (numbered : IsNumbered events) (divides : Divides events p) (are_here : AreHere events p domain here) (are : AreStubs events p domain here stubs)
+module _ (events : List Event) (p : Partition) (domain : ℕ) (here : List Event) (stubs : List Stub) (own : DomainState) (w : Waits)
+    (numbered : IsNumbered events) (partitions : IsPartition events p) (are_here : AreHere events p domain here) (are : AreStubs events p domain here stubs)
     (known : own.known ≡ known_words p.crossings stubs) (stands : Stands events p domain own here stubs w) where
   next_first : (k : Key) (e : Event) → slice_get here k.number ≡ Some e → IsFirstReady w k → next_in events p domain own ≡ Some (e, k.start)
-  next_first = first_next events p domain here stubs own w numbered divides are_here are known stands
+  next_first = first_next events p domain here stubs own w numbered partitions are_here are known stands
 
   next_none : NoneReady w → next_in events p domain own ≡ None
-  next_none = none_next events p domain here stubs own w numbered divides are_here are known stands
+  next_none = none_next events p domain here stubs own w numbered partitions are_here are known stands
 
   there_first : (k : Key) → IsFirstReady w k → (e : Event) × (slice_get here k.number ≡ Some e)
   there_first k f = get_there here k.number (omega (arith, get_below w.waits k.number 0 f.ready, stands.waits_size))
@@ -86,12 +86,12 @@ module _ (events : List Event) (p : Division) (domain : ℕ) (here : List Event)
   -- done
 
   module _ (ready : NoneReady w) (closed : (k : ℕ) (s : Stub) → slice_get stubs k ≡ Some s → is_exact s.word ≡ true) where
-    all_below : (n i : ℕ) (e : Event) → i < n → slice_get events i ≡ Some e → domain_of p.places e ≡ domain → is_fired own.fired e.number ≡ true
+    all_below : (n i : ℕ) (e : Event) → i < n → slice_get events i ≡ Some e → domain_of_event p.places e ≡ domain → is_fired own.fired e.number ≡ true
     all_below zero i e l h d = absurd (omega arith)
     all_below (suc n) i e l h d =
         by_test (λ j f m g t. all_below n j f (omega (arith, m, l)) g t) (is_fired own.fired e.number) refl
       where
-        own_parent : ((j : ℕ) (f : Event) → j < i → slice_get events j ≡ Some f → domain_of p.places f ≡ domain → is_fired own.fired f.number ≡ true)
+        own_parent : ((j : ℕ) (f : Event) → j < i → slice_get events j ≡ Some f → domain_of_event p.places f ≡ domain → is_fired own.fired f.number ≡ true)
             → (q : Option Parent) → ((r : Parent) → q ≡ Some r → r.number < i) → is_own_parent_fired events p domain own q ≡ true
         own_parent less None below = refl
         own_parent less (Some q) below = by_domain (eqb (domain_of_number p.places events q.number) domain) refl
@@ -101,11 +101,11 @@ module _ (events : List Event) (p : Division) (domain : ℕ) (here : List Event)
             by_domain true v =
                 let lower : q.number < i = below q refl in
                 let f : (f : Event) × (slice_get events q.number ≡ Some f) = get_there events q.number (omega (arith, lower, get_below events i e h)) in
-                let d : domain_of p.places f.0 ≡ domain = sym (at_event events p.places q.number f.0 f.1) ∙ eq_is (domain_of_number p.places events q.number) domain v in
+                let d : domain_of_event p.places f.0 ≡ domain = sym (at_event events p.places q.number f.0 f.1) ∙ eq_is (domain_of_number p.places events q.number) domain v in
                 let fired : is_fired own.fired f.0.number ≡ true = less q.number f.0 lower f.1 d in
                 or_left (is_fired own.fired q.number) false (ap (is_fired own.fired) (sym (numbered.number q.number f.0 f.1)) ∙ fired)
 
-        by_test : ((j : ℕ) (f : Event) → j < i → slice_get events j ≡ Some f → domain_of p.places f ≡ domain → is_fired own.fired f.number ≡ true)
+        by_test : ((j : ℕ) (f : Event) → j < i → slice_get events j ≡ Some f → domain_of_event p.places f ≡ domain → is_fired own.fired f.number ≡ true)
             → (t : Bool) → is_fired own.fired e.number ≡ t → is_fired own.fired e.number ≡ true
         by_test less true v = v
         by_test less false v =

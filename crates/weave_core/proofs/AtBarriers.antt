@@ -4,7 +4,7 @@ use Rattle.component.specs.declared.kind.Kind.{Kind}
 use Rattle.event_graph.specs.declared.event.Event.{Event}
 use Rattle.event_graph.specs.OneListWeave.{Timed, weave, woven}
 use Rattle.event_graph.specs.TimingSolution.{IsInOrder, IsSolution}
-use Rattle.domain_map.specs.Domains.{Division, Divides, domain_of}
+use Rattle.domain_map.specs.Domains.{Partition, IsPartition, domain_of_event}
 use Rattle.weave_core.specs.AtBarrier.{AreSoundDomains, IsFirstLeft, KnowFiredParents, MayGoOn, least_start_of, own_at}
 use Rattle.weave_core.specs.DomainMachine.{DomainState, MachineState, with_floor}
 use Rattle.weave_core.specs.Interleavings.{of_domain}
@@ -16,9 +16,9 @@ use Rattle.weave_core.proofs.SoundDomains.{front_cut}
 use Rattle.weave_core.proofs.Solutions.{floor_alike, order_alike, start_alike, words_alike}
 use Rattle.weave_core.proofs.Steps.{AreFronts}
 
-module _ {C : Type 0} (stepped : C → Kind → ℕ → C × ℕ) (events : List Event) (p : Division) (comps : List C)
-    (o : IsOrder events (weave stepped events comps).fired) (div : Divides events p)
-    (here : (k : ℕ) (x : Timed) → slice_get (weave stepped events comps).fired k ≡ Some x → domain_of p.places x.event < length p.events)
+module _ {C : Type 0} (stepped : C → Kind → ℕ → C × ℕ) (events : List Event) (p : Partition) (comps : List C)
+    (o : IsOrder events (weave stepped events comps).fired) (div : IsPartition events p)
+    (here : (k : ℕ) (x : Timed) → slice_get (weave stepped events comps).fired k ≡ Some x → domain_of_event p.places x.event < length p.events)
     (in_order : IsInOrder (weave stepped events comps).fired)
     (timed : List Timed) (solution : IsSolution stepped events comps timed) (is : timed ≡ woven stepped events comps)
     (owns : List DomainState) (h : AreSoundDomains stepped events p comps timed solution owns) (told : KnowFiredParents p owns) where
@@ -34,7 +34,7 @@ module _ {C : Type 0} (stepped : C → Kind → ℕ → C × ℕ) (events : List
   cut_of : (d : ℕ) → (cut : ℕ) × ((own_at owns d).fired ≡ of_domain p.places d (take cut all))
   cut_of d =
       let cut : (cut : ℕ) × (take (length (own_at owns d).fired) (of_domain p.places d all) ≡ of_domain p.places d (take cut all)) =
-      front_cut (λ (y : Timed). eqb (domain_of p.places y.event) d) all (length (own_at owns d).fired)
+      front_cut (λ (y : Timed). eqb (domain_of_event p.places y.event) d) all (length (own_at owns d).fired)
       in
       (cut.0, h.fired d ∙ (ap (λ (xs : List Timed). take (length (own_at owns d).fired) (of_domain p.places d xs)) order ∙ cut.1))
 

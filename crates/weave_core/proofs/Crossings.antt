@@ -3,7 +3,7 @@ use Rattle.std.proofs.Common.{◌≡◌, ℕ, Bool, true, false, cond, eqb, List
 use Rattle.event_graph.specs.declared.event.Event.{Event}
 use Rattle.event_graph.specs.declared.event.Parent.{Parent}
 use Rattle.domain_map.specs.declared.crossing.Crossing.{Crossing}
-use Rattle.domain_map.specs.Domains.{crossing_from, crossings_into, crossings_into_all, crossings_of, domain_of, domain_of_number}
+use Rattle.domain_map.specs.Domains.{crossing_from, crossings_into, crossings_into_all, crossings_of, domain_of_event, domain_of_number}
 use Rattle.weave_core.proofs.Lists.{In, at_in, from_flat_map, in_at, in_cases, in_flat_map, in_left, in_right}
 
 -- the crossing from a parent to a child
@@ -12,7 +12,7 @@ crossing_of places events e q = record {
   parent = q.number;
   child = e.number;
   source = domain_of_number places events q.number;
-  target = domain_of places e;
+  target = domain_of_event places e;
   delay = q.delay;
 }
 
@@ -24,7 +24,7 @@ pub record Joins (places : List ℕ) (events : List Event) (x : Crossing) : Type
   pub there : slice_get events number ≡ Some child
   pub slot : (child.first ≡ Some parent) ⊎ (child.second ≡ Some parent)
   pub is : crossing_of places events child parent ≡ x
-  pub apart : eqb (domain_of_number places events parent.number) (domain_of places child) ≡ false
+  pub apart : eqb (domain_of_number places events parent.number) (domain_of_event places child) ≡ false
 
 module _ (places : List ℕ) (events : List Event) where
   -- the parent of a crossing is of another domain
@@ -32,17 +32,17 @@ module _ (places : List ℕ) (events : List Event) where
     parent : Parent
     slot : p ≡ Some parent
     is : crossing_of places events e parent ≡ x
-    apart : eqb (domain_of_number places events parent.number) (domain_of places e) ≡ false
+    apart : eqb (domain_of_number places events parent.number) (domain_of_event places e) ≡ false
 
   from_slot : (e : Event) (p : Option Parent) (x : Crossing) → In x (crossing_from places events e p) → IsFrom e p x
   from_slot e None x h = absurd h
-  from_slot e (Some q) x h = by_test (eqb (domain_of_number places events q.number) (domain_of places e)) refl h
+  from_slot e (Some q) x h = by_test (eqb (domain_of_number places events q.number) (domain_of_event places e)) refl h
     where
-      by_test : (t : Bool) → eqb (domain_of_number places events q.number) (domain_of places e) ≡ t → In x (cond t [] (crossing_of places events e q ∷ [])) → IsFrom e (Some q) x
+      by_test : (t : Bool) → eqb (domain_of_number places events q.number) (domain_of_event places e) ≡ t → In x (cond t [] (crossing_of places events e q ∷ [])) → IsFrom e (Some q) x
       by_test true v m = absurd m
       by_test false v m = elim m [ inl s ↦ record { parent = q; slot = refl; is = s; apart = v } | inr n ↦ absurd n ]
 
-  to_slot : (e : Event) (q : Parent) → eqb (domain_of_number places events q.number) (domain_of places e) ≡ false
+  to_slot : (e : Event) (q : Parent) → eqb (domain_of_number places events q.number) (domain_of_event places e) ≡ false
       → In (crossing_of places events e q) (crossing_from places events e (Some q))
   to_slot e q h = subst (λ (t : Bool). In (crossing_of places events e q) (cond t [] (crossing_of places events e q ∷ []))) (sym h) (inl refl)
 
@@ -61,7 +61,7 @@ module _ (places : List ℕ) (events : List Event) where
       ]
 
   pub crossing_at : (i : ℕ) (e : Event) (q : Parent) → slice_get events i ≡ Some e → ((e.first ≡ Some q) ⊎ (e.second ≡ Some q))
-      → eqb (domain_of_number places events q.number) (domain_of places e) ≡ false
+      → eqb (domain_of_number places events q.number) (domain_of_event places e) ≡ false
       → (number : ℕ) × (slice_get (crossings_of places events) number ≡ Some (crossing_of places events e q))
   unfolding crossings_into_all
   crossing_at i e q h slot apart =

@@ -17,7 +17,7 @@ use Rattle.event_graph.specs.declared.fired.Fired.{Fired}
 use Rattle.event_graph.specs.OneListWeave.{Timed, after_parent, comps_after, find_fired, finish_in, finish_or_zero, fired_of, fired_or_unfired, is_fired, start_of, timed_in, weave, woven}
 use Rattle.event_graph.specs.TimingSolution.{after_serving, of_component}
 use Rattle.domain_map.specs.declared.crossing.Crossing.{Crossing}
-use Rattle.domain_map.specs.Domains.{Division, domain_at, domain_of, domain_of_number}
+use Rattle.domain_map.specs.Domains.{Partition, domain_at, domain_of_event, domain_of_number}
 use Rattle.weave_core.specs.declared.next.Next.{Next}
 use Rattle.weave_core.specs.declared.next.Next.TheVariants.{Done, Fire, Blocked}
 use Rattle.weave_core.specs.AtBarrier.{AreSoundDomains, KnowFiredParents, MayGoOn, least_start_of, own_at}
@@ -25,7 +25,7 @@ use Rattle.weave_core.specs.Beginning.{AreSmall, IsSmallEvent}
 use Rattle.weave_core.specs.DomainCalls.{DomainValue, IsAnswer, comps_in}
 use Rattle.weave_core.specs.DomainMachine.{DomainState, arrival_of, cycle_of, fresh_domain, is_clear, is_exact, is_ready_in, is_unresolved, known_finish, latency_at, latency_of, next_in, word_at}
 use Rattle.weave_core.specs.Interleavings.{IsFront, of_domain}
-use Rattle.weave_core.specs.Keeping.{AreKept, CanWeave, HaveAllFired, IsAmong, IsBetween, IsEntry, IsReadyEvent, KeepingLaws, KeepsTo, owns_of}
+use Rattle.weave_core.specs.Keeping.{AreKept, CanWeave, HaveAllFired, IsWeaveFiring, IsFiredSomewhere, IsReadyEvent, JoinsDomains, KeepingLaws, KeepsTo, owns_of}
 use Rattle.weave_core.specs.Layout.{no_event, timed_from}
 use Rattle.weave_core.specs.Soundness.{AreSoundWords, IsSoundFloor, IsSoundWord}
 use Rattle.weave_core.proofs.Firing.{all_known, finding, finish_is, found, start_by_all}
@@ -42,7 +42,7 @@ use Rattle.weave_core.proofs.Whole.{narrowed}
 use Rattle.weave_core.proofs.Words.{eq_is, is_eq}
 
 -- an unresolved crossing leaves its child a later start
-clear_at : (events : List Event) (p : Division) (domain : ℕ) (own : DomainState) (start number : ℕ) (x : Crossing) → is_clear events p domain own start ≡ true → slice_get p.crossings number ≡ Some x
+clear_at : (events : List Event) (p : Partition) (domain : ℕ) (own : DomainState) (start number : ℕ) (x : Crossing) → is_clear events p domain own start ≡ true → slice_get p.crossings number ≡ Some x
     → is_unresolved events p domain own number x ≡ true → start < arrival_of events p own number x
 clear_at events p domain own start number x clear there unknown =
     let t = all_in (λ (at : ℕ × Crossing). not (is_unresolved events p domain own at.0 at.1) || ltb start (arrival_of events p own at.0 at.1)) (enumerate_from 0 p.crossings) (number, x) clear (in_enum p.crossings number x there) in
@@ -51,7 +51,7 @@ clear_at events p domain own start number x clear there unknown =
       | inr l ↦ grind (arith, nat_tests)
     ]
 
-pub stays_clear : (events : List Event) (p : Division) (domain : ℕ) (before after : DomainState) (start : ℕ) → before.floor ≤ after.floor
+pub stays_clear : (events : List Event) (p : Partition) (domain : ℕ) (before after : DomainState) (start : ℕ) → before.floor ≤ after.floor
     → ((number : ℕ) → (word_at after.known number ≡ word_at before.known number) ⊎ (is_exact (word_at after.known number) ≡ true))
     → is_clear events p domain before start ≡ true → is_clear events p domain after start ≡ true
 stays_clear events p domain before after start l words clear =
@@ -142,7 +142,7 @@ in_take xs n m x l h =
     let r = get_take xs n at.0 x at.1 in
     at_in x (take m xs) at.0 (take_get xs m at.0 x (omega (arith, l, r.0)) r.1)
 
-module _ {C : Type 0} (serves : C → Kind → Bool) (floor : C → Kind → ℕ) (stepped : C → Kind → ℕ → C × ℕ) (greatest : C → Kind → ℕ → ℕ) (events : List Event) (p : Division) (comps : List C)
+module _ {C : Type 0} (serves : C → Kind → Bool) (floor : C → Kind → ℕ) (stepped : C → Kind → ℕ → C × ℕ) (greatest : C → Kind → ℕ → ℕ) (events : List Event) (p : Partition) (comps : List C)
     (f : Facts serves floor stepped greatest events p comps) where
   abbrev all : List Timed
   all = (weave stepped events comps).fired
@@ -182,7 +182,7 @@ module _ {C : Type 0} (serves : C → Kind → Bool) (floor : C → Kind → ℕ
   in_all domain own parts k x h =
       let at : (i : ℕ) × (slice_get own.fired i ≡ Some x) = in_at x own.fired h in
       let r = get_take (of_domain p.places domain all) (length own.fired) at.0 x (ap (λ (xs : List Timed). slice_get xs at.0) (sym k.fired) ∙ at.1) in
-      (from_filter (λ (y : Timed). eqb (domain_of p.places y.event) domain) x all (at_in x (of_domain p.places domain all) at.0 r.1)).0
+      (from_filter (λ (y : Timed). eqb (domain_of_event p.places y.event) domain) x all (at_in x (of_domain p.places domain all) at.0 r.1)).0
 
   answer_at : (k : ℕ) (x : Timed) → slice_get all k ≡ Some x → slice_get (map fired_of timed) x.event.number ≡ Some (fired_of x)
   unfolding woven
@@ -192,15 +192,15 @@ module _ {C : Type 0} (serves : C → Kind → Bool) (floor : C → Kind → ℕ
       ∙ (ap (λ (o : Option Event). option_map fired_of (option_map (timed_in all) o)) (f.order.event k x h)
       ∙ ap (λ (o : Option Timed). Some (fired_of (fired_or_unfired x.event o))) (all_known events all f.order k x h)))
 
-  pub entries : (domain : ℕ) (own : DomainState) (parts : List C) (place : ℕ) (x : Timed) → KeepsTo stepped events p comps domain own parts → slice_get own.fired place ≡ Some x
-      → IsEntry stepped events p comps domain x
-  entries domain own parts place x k h =
+  pub firings : (domain : ℕ) (own : DomainState) (parts : List C) (place : ℕ) (x : Timed) → KeepsTo stepped events p comps domain own parts → slice_get own.fired place ≡ Some x
+      → IsWeaveFiring stepped events p comps domain x
+  firings domain own parts place x k h =
       let r = get_take (of_domain p.places domain all) (length own.fired) place x (ap (λ (xs : List Timed). slice_get xs place) (sym k.fired) ∙ h) in
-      let m = from_filter (λ (y : Timed). eqb (domain_of p.places y.event) domain) x all (at_in x (of_domain p.places domain all) place r.1) in
+      let m = from_filter (λ (y : Timed). eqb (domain_of_event p.places y.event) domain) x all (at_in x (of_domain p.places domain all) place r.1) in
       let at : (j : ℕ) × (slice_get all j ≡ Some x) = in_at x all m.0 in
       record {
         there = f.order.event at.0 x at.1;
-        here = eq_is (domain_of p.places x.event) domain m.1;
+        here = eq_is (domain_of_event p.places x.event) domain m.1;
         finish = finish_alike stepped events comps f.order timed refl x.event.number ∙ finish_is events all f.order at.0 x at.1;
         answer = answer_at at.0 x at.1;
       }
@@ -265,15 +265,15 @@ module _ {C : Type 0} (serves : C → Kind → Bool) (floor : C → Kind → ℕ
       → IsReadyEvent stepped events p comps domain own e start
   ready domain own parts e start k next =
       let cut : (cut : ℕ) × (take (length own.fired) (of_domain p.places domain all) ≡ of_domain p.places domain (take cut all)) =
-      front_cut (λ (y : Timed). eqb (domain_of p.places y.event) domain) all (length own.fired)
+      front_cut (λ (y : Timed). eqb (domain_of_event p.places y.event) domain) all (length own.fired)
       in
       let known = words_alike stepped events comps f.order timed refl p own.known k.known in
       let bounds = bounds_alike stepped events comps f.order timed refl p domain own (f.bounds domain own k.known k.floor) in
       let least : IsLeast (is_ready_in events p domain own) (λ e. start_of (known_finish events p domain own) e) events (e, start) =
       some_next (is_ready_in events p domain own) (λ e. start_of (known_finish events p domain own) e) events (e, start) next
       in
-      let r = is_ready events p all f.order f.can.divided.divides domain cut.0 own (k.fired ∙ cut.1) known bounds e least.passes in
-      let w = placed events p all f.order f.can.divided.divides domain cut.0 own (k.fired ∙ cut.1) known bounds e least.there r in
+      let r = is_ready events p all f.order f.can.partitioned.partitions domain cut.0 own (k.fired ∙ cut.1) known bounds e least.passes in
+      let w = placed events p all f.order f.can.partitioned.partitions domain cut.0 own (k.fired ∙ cut.1) known bounds e least.there r in
       let start_is : start ≡ w.x.start = least.start_is ∙ w.start in
       let finish : finish_in all w.x.event.number ≡ w.x.finish = finish_is events all f.order w.k w.x w.there in
       record {
@@ -283,30 +283,30 @@ module _ {C : Type 0} (serves : C → Kind → Bool) (floor : C → Kind → ℕ
         small = omega (arith, start_is, f.order.time w.k w.x w.there, finish, finish_small serves floor stepped greatest events p comps f w.x.event.number, finish_alike stepped events comps f.order timed refl w.x.event.number);
       }
 
-  pub crossings : (number : ℕ) (x : Crossing) → slice_get p.crossings number ≡ Some x → IsBetween stepped events p comps x
+  pub crossings : (number : ℕ) (x : Crossing) → slice_get p.crossings number ≡ Some x → JoinsDomains stepped events p comps x
   crossings number x h =
-      let j : Joins p.places events x = joins p.places events number x (ap (λ (xs : List Crossing). slice_get xs number) (sym f.can.divided.divides.crossings) ∙ h) in
+      let j : Joins p.places events x = joins p.places events number x (ap (λ (xs : List Crossing). slice_get xs number) (sym f.can.partitioned.partitions.crossings) ∙ h) in
       let before : j.parent.number < j.number =
       elim j.slot [
-        | inl e ↦ f.can.divided.numbered.first j.number j.child j.parent j.there e
-        | inr e ↦ f.can.divided.numbered.second j.number j.child j.parent j.there e
+        | inl e ↦ f.can.partitioned.numbered.first j.number j.child j.parent j.there e
+        | inr e ↦ f.can.partitioned.numbered.second j.number j.child j.parent j.there e
       ]
       in
       let q = get_there events j.parent.number (omega (arith, before, get_below events j.number j.child j.there)) in
-      let source : domain_of_number p.places events j.parent.number ≡ domain_of p.places q.0 = ap (λ (o : Option Event). option_map_or (domain_of p.places) o 0) q.1 in
+      let source : domain_of_number p.places events j.parent.number ≡ domain_of_event p.places q.0 = ap (λ (o : Option Event). option_map_or (domain_of_event p.places) o 0) q.1 in
       let source_is : domain_of_number p.places events j.parent.number ≡ x.source = ap (λ (z : Crossing). z.source) j.is in
-      let target_is : domain_of p.places j.child ≡ x.target = ap (λ (z : Crossing). z.target) j.is in
+      let target_is : domain_of_event p.places j.child ≡ x.target = ap (λ (z : Crossing). z.target) j.is in
       record {
         parent = q.0;
         there = ap (λ (z : Crossing). slice_get events z.parent) (sym j.is) ∙ q.1;
         source = sym source ∙ source_is;
-        source_below = subst (λ (n : ℕ). n < length p.events) (sym source ∙ source_is) (f.can.divided.divides.there.below q.0.component 0 (within j.parent.number q.0 q.1));
-        target_below = subst (λ (n : ℕ). n < length p.events) target_is (f.can.divided.divides.there.below j.child.component 0 (within j.number j.child j.there));
-        apart = λ e. absurd (false≢true (sym j.apart ∙ is_eq (domain_of_number p.places events j.parent.number) (domain_of p.places j.child) (source_is ∙ (e ∙ sym target_is))));
+        source_below = subst (λ (n : ℕ). n < length p.events) (sym source ∙ source_is) (f.can.partitioned.partitions.there.below q.0.component 0 (within j.parent.number q.0 q.1));
+        target_below = subst (λ (n : ℕ). n < length p.events) target_is (f.can.partitioned.partitions.there.below j.child.component 0 (within j.number j.child j.there));
+        apart = λ e. absurd (false≢true (sym j.apart ∙ is_eq (domain_of_number p.places events j.parent.number) (domain_of_event p.places j.child) (source_is ∙ (e ∙ sym target_is))));
       }
     where
       within : (i : ℕ) (e : Event) → slice_get events i ≡ Some e → e.component < length p.places
-      within i e h = omega (arith, get_below comps e.component (f.can.divided.fits i e h).component (f.can.divided.fits i e h).there, f.can.divided.places)
+      within i e h = omega (arith, get_below comps e.component (f.can.partitioned.fits i e h).component (f.can.partitioned.fits i e h).there, f.can.partitioned.places)
 
   pub fires_on : (domain : ℕ) (own : DomainState) (parts : List C) (answer : Next) (e : Event) (start : ℕ) → KeepsTo stepped events p comps domain own parts → IsAnswer events p domain own answer
       → next_in events p domain own ≡ Some (e, start) → is_clear events p domain own start ≡ true → (key : Key) × (answer ≡ Fire key)
@@ -327,15 +327,15 @@ module _ {C : Type 0} (serves : C → Kind → Bool) (floor : C → Kind → ℕ
   pub all_done : (vs : List (DomainValue C)) → AreKept stepped events p comps vs → KnowFiredParents p (owns_of vs) → least_start_of events p (owns_of vs) ≡ None → HaveAllFired stepped events p comps (owns_of vs)
   all_done vs h told none = λ index x there. upto (suc index) index x (omega arith) there
     where
-      upto : (n : ℕ) → (i : ℕ) (y : Timed) → i < n → slice_get all i ≡ Some y → is_fired (own_at (owns_of vs) (domain_of p.places y.event)).fired y.event.number ≡ true
+      upto : (n : ℕ) → (i : ℕ) (y : Timed) → i < n → slice_get all i ≡ Some y → is_fired (own_at (owns_of vs) (domain_of_event p.places y.event)).fired y.event.number ≡ true
       upto zero i y l a = absurd (omega arith)
       upto (suc n) i y l a = elim (cases_lt i n) [
         | inl less ↦ upto n i y less a
-        | inr past ↦ by_fired (λ j z k b. upto n j z (omega (arith, k, l)) b) (is_fired (own_at (owns_of vs) (domain_of p.places y.event)).fired y.event.number) refl
+        | inr past ↦ by_fired (λ j z k b. upto n j z (omega (arith, k, l)) b) (is_fired (own_at (owns_of vs) (domain_of_event p.places y.event)).fired y.event.number) refl
       ]
         where
-          by_fired : ((j : ℕ) (z : Timed) → j < i → slice_get all j ≡ Some z → is_fired (own_at (owns_of vs) (domain_of p.places z.event)).fired z.event.number ≡ true)
-              → (t : Bool) → is_fired (own_at (owns_of vs) (domain_of p.places y.event)).fired y.event.number ≡ t → t ≡ true
+          by_fired : ((j : ℕ) (z : Timed) → j < i → slice_get all j ≡ Some z → is_fired (own_at (owns_of vs) (domain_of_event p.places z.event)).fired z.event.number ≡ true)
+              → (t : Bool) → is_fired (own_at (owns_of vs) (domain_of_event p.places y.event)).fired y.event.number ≡ t → t ≡ true
           by_fired before true e = refl
           by_fired before false e =
               let go : MayGoOn events p (owns_of vs) y = f.goes_on (owns_of vs) i y (sound vs h) told (record { there = a; unfired = e; before = before }) in
@@ -344,23 +344,23 @@ module _ {C : Type 0} (serves : C → Kind → Bool) (floor : C → Kind → ℕ
   -- once all have fired
 
   module _ (vs : List (DomainValue C)) (h : AreKept stepped events p comps vs) (done : HaveAllFired stepped events p comps (owns_of vs)) where
-    pub among : (number : ℕ) → number < length events → IsAmong stepped events p comps vs number
+    pub among : (number : ℕ) → number < length events → IsFiredSomewhere stepped events p comps vs number
     among number below =
         let e = get_there events number below in
         let is : e.0.number ≡ number = f.order.numbered number e.0 e.1 in
         let w : (k : ℕ) × (x : Timed) × (slice_get all k ≡ Some x) × (x.event ≡ e.0) = f.order.each e.0 (ap (slice_get events) is ∙ e.1) in
-        let v = get_there vs (domain_of p.places w.1.event) (let l = f.here w.0 w.1 w.2 in let n = h.count in omega (arith, l, n)) in
+        let v = get_there vs (domain_of_event p.places w.1.event) (let l = f.here w.0 w.1 w.2 in let n = h.count in omega (arith, l, n)) in
         let has : is_fired v.0.own.fired w.1.event.number ≡ true =
-        ap (λ (own : DomainState). is_fired own.fired w.1.event.number) (sym (own_some vs (domain_of p.places w.1.event) v.0 v.1)) ∙ done w.0 w.1 w.2
+        ap (λ (own : DomainState). is_fired own.fired w.1.event.number) (sym (own_some vs (domain_of_event p.places w.1.event) v.0 v.1)) ∙ done w.0 w.1 w.2
         in
         let y : (y : Timed) × ((find_fired v.0.own.fired w.1.event.number ≡ Some y) × (In y v.0.own.fired × (y.event.number ≡ w.1.event.number))) = finding v.0.own.fired w.1.event.number has in
         let at : (i : ℕ) × (slice_get v.0.own.fired i ≡ Some y.0) = in_at y.0 v.0.own.fired y.1.1.0 in
         record {
-          domain = domain_of p.places w.1.event;
+          domain = domain_of_event p.places w.1.event;
           value = v.0;
           there = v.1;
           place = at.0;
-          entry = y.0;
+          firing = y.0;
           fired = at.1;
           number_is = y.1.1.1 ∙ (ap (λ (z : Event). z.number) w.3 ∙ is);
         }
@@ -370,20 +370,20 @@ module _ {C : Type 0} (serves : C → Kind → Bool) (floor : C → Kind → ℕ
       k = (h.each domain v there).keeps
 
       cut : (cut : ℕ) × (take (length v.own.fired) (of_domain p.places domain all) ≡ of_domain p.places domain (take cut all))
-      cut = front_cut (λ (y : Timed). eqb (domain_of p.places y.event) domain) all (length v.own.fired)
+      cut = front_cut (λ (y : Timed). eqb (domain_of_event p.places y.event) domain) all (length v.own.fired)
 
-      behind : (j : ℕ) (y : Timed) → cut.0 ≤ j → slice_get all j ≡ Some y → eqb (domain_of p.places y.event) domain ≡ false
-      behind j y l a = by_test (eqb (domain_of p.places y.event) domain) refl
+      behind : (j : ℕ) (y : Timed) → cut.0 ≤ j → slice_get all j ≡ Some y → eqb (domain_of_event p.places y.event) domain ≡ false
+      behind j y l a = by_test (eqb (domain_of_event p.places y.event) domain) refl
         where
-          by_test : (t : Bool) → eqb (domain_of p.places y.event) domain ≡ t → t ≡ false
+          by_test : (t : Bool) → eqb (domain_of_event p.places y.event) domain ≡ t → t ≡ false
           by_test false e = refl
           by_test true e =
-              let here : domain_of p.places y.event ≡ domain = eq_is (domain_of p.places y.event) domain e in
-              let own : own_at (owns_of vs) (domain_of p.places y.event) ≡ v.own = ap (own_at (owns_of vs)) here ∙ own_some vs domain v there in
+              let here : domain_of_event p.places y.event ≡ domain = eq_is (domain_of_event p.places y.event) domain e in
+              let own : own_at (owns_of vs) (domain_of_event p.places y.event) ≡ v.own = ap (own_at (owns_of vs)) here ∙ own_some vs domain v there in
               let has : is_fired v.own.fired y.event.number ≡ true = ap (λ (own : DomainState). is_fired own.fired y.event.number) (sym own) ∙ done j y a in
               let z : (z : Timed) × ((find_fired v.own.fired y.event.number ≡ Some z) × (In z v.own.fired × (z.event.number ≡ y.event.number))) = finding v.own.fired y.event.number has in
               let inside : In z.0 (of_domain p.places domain (take cut.0 all)) = subst (λ (xs : List Timed). In z.0 xs) (k.fired ∙ cut.1) z.1.1.0 in
-              let front : In z.0 (take j all) = in_take all cut.0 j z.0 l (from_filter (λ (y : Timed). eqb (domain_of p.places y.event) domain) z.0 (take cut.0 all) inside).0 in
+              let front : In z.0 (take j all) = in_take all cut.0 j z.0 l (from_filter (λ (y : Timed). eqb (domain_of_event p.places y.event) domain) z.0 (take cut.0 all) inside).0 in
               absurd (false≢true (sym (f.order.once j y a) ∙ found (take j all) z.0 y.event.number front z.1.1.1))
 
       pub all_of_domain : v.own.fired ≡ of_domain p.places domain all
@@ -393,7 +393,7 @@ module _ {C : Type 0} (serves : C → Kind → Bool) (floor : C → Kind → ℕ
           ∙ elim (cases_lt cut.0 (length all)) [
             | inr past ↦ ap (of_domain p.places domain) (take_all all cut.0 past)
             | inl below ↦
-                sym (front_kept (λ (y : Timed). eqb (domain_of p.places y.event) domain) all cut.0 (length all) (omega (arith, below)) (λ j y a b c. behind j y a c))
+                sym (front_kept (λ (y : Timed). eqb (domain_of_event p.places y.event) domain) all cut.0 (length all) (omega (arith, below)) (λ j y a b c. behind j y a c))
                 ∙ ap (of_domain p.places domain) (take_all all (length all) (omega arith))
           ])
 
@@ -403,7 +403,7 @@ module _ {C : Type 0} (serves : C → Kind → Bool) (floor : C → Kind → ℕ
           ∙ (ap (λ (xs : List Timed). comps_in p.places domain (map (left_by stepped xs) (enumerate_from 0 comps))) all_of_domain
           ∙ (same_in p.places domain 0 (left_by stepped (of_domain p.places domain all)) (left_by stepped all) comps
           (λ m c is. ap (after_serving stepped c)
-          (ap (λ (d : ℕ). of_component m (of_domain p.places d all)) (sym is) ∙ sym (narrowed stepped events p comps all f.order f.can.divided.divides f.served f.here m all)))
+          (ap (λ (d : ℕ). of_component m (of_domain p.places d all)) (sym is) ∙ sym (narrowed stepped events p comps all f.order f.can.partitioned.partitions f.served f.here m all)))
           ∙ ap (comps_in p.places domain) (same_list (map (left_by stepped all) (enumerate_from 0 comps)) (comps_after stepped events comps)
           (λ i. map_enum_at (left_by stepped all) 0 comps i i (omega arith) ∙ sym (last_comps i)))))
         where
@@ -412,7 +412,7 @@ module _ {C : Type 0} (serves : C → Kind → Bool) (floor : C → Kind → ℕ
 
 -- the laws, of every graph
 pub keeping : {C : Type 0} (serves : C → Kind → Bool) (floor : C → Kind → ℕ) (stepped : C → Kind → ℕ → C × ℕ) (greatest : C → Kind → ℕ → ℕ)
-    → ((events : List Event) (p : Division) (comps : List C) → CanWeave serves floor stepped greatest events p comps → Facts serves floor stepped greatest events p comps)
+    → ((events : List Event) (p : Partition) (comps : List C) → CanWeave serves floor stepped greatest events p comps → Facts serves floor stepped greatest events p comps)
     → KeepingLaws serves floor stepped greatest
 keeping serves floor stepped greatest facts = record {
   begins = λ events p comps w domain. begins serves floor stepped greatest events p comps (facts events p comps w) domain;
@@ -436,7 +436,7 @@ keeping serves floor stepped greatest facts = record {
   fires_on = λ events p comps w domain own parts answer e start k is next clear. fires_on serves floor stepped greatest events p comps (facts events p comps w) domain own parts answer e start k is next clear;
   stays_clear = stays_clear;
   log = λ events p comps w domain own parts fired k is. log serves floor stepped greatest events p comps (facts events p comps w) domain own parts fired k is;
-  entries = λ events p comps w domain own parts place x k there. entries serves floor stepped greatest events p comps (facts events p comps w) domain own parts place x k there;
+  firings = λ events p comps w domain own parts place x k there. firings serves floor stepped greatest events p comps (facts events p comps w) domain own parts place x k there;
   among = λ events p comps w vs h done number below. among serves floor stepped greatest events p comps (facts events p comps w) vs h done number below;
   ended = λ events p comps w vs h done domain v there. ended serves floor stepped greatest events p comps (facts events p comps w) vs h done domain v there;
   count = λ events p comps w. counts serves floor stepped greatest events p comps (facts events p comps w);

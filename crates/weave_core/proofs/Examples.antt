@@ -4,7 +4,7 @@ use Rattle.component.specs.declared.kind.Kind.{Kind}
 use Rattle.component.specs.declared.kind.Kind.TheVariants.{Lookup}
 use Rattle.event_graph.specs.declared.event.Event.{Event}
 use Rattle.event_graph.specs.OneListWeave.{Timed}
-use Rattle.domain_map.specs.Domains.{Division, crossings_into_all, crossings_of, events_in}
+use Rattle.domain_map.specs.Domains.{Partition, crossings_into_all, crossings_of, events_in}
 use Rattle.weave_core.specs.DomainMachine.{MachineState, Step, after_steps, at_rest, bound_of, fire, is_allowed, look, next_in, publish, state_of, take_step}
 
 -- a bank is the cycle from which on it is free: an event takes 10 cycles, and keeps it busy for 4
@@ -31,21 +31,21 @@ after parent e = record e { first = Some (record { number = parent; delay = 0 })
 abbrev places : List ℕ
 places = 0 ∷ 1 ∷ []
 
-abbrev division : List Event → Division
-division events = record {
+abbrev partition : List Event → Partition
+partition events = record {
   places = places;
   events = events_in places events 0 ∷ events_in places events 1 ∷ [];
   crossings = crossings_of places events;
 }
 
 abbrev run : List Event → List Step → MachineState ℕ
-run events steps = after_steps events (division events) bank (at_rest (division events) (0 ∷ 0 ∷ [])) steps
+run events steps = after_steps events (partition events) bank (at_rest (partition events) (0 ∷ 0 ∷ [])) steps
 
 abbrev allowed : List Event → List Step → Step → Bool
-allowed events steps step = is_allowed events (division events) bank (run events steps) step
+allowed events steps step = is_allowed events (partition events) bank (run events steps) step
 
 abbrev next_of : List Event → List Step → (domain : ℕ) → Option (Event × ℕ)
-next_of events steps domain = next_in events (division events) domain (state_of (run events steps) domain)
+next_of events steps domain = next_in events (partition events) domain (state_of (run events steps) domain)
 
 abbrev finishes : List Timed → List (ℕ × ℕ)
 finishes fired = map (λ x. (x.event.number, x.finish)) fired
@@ -71,7 +71,7 @@ ring_waits : next_of ring (fire 0 ∷ []) 0 ≡ None
 unfolding crossings_into_all events_in take_step
 ring_waits = refl
 
-ring_bound : bound_of ring (division ring) (state_of (run ring (fire 0 ∷ [])) 0) 1 (record { parent = 1; child = 3; source = 1; target = 0; delay = 0 }) ≡ 10
+ring_bound : bound_of ring (partition ring) (state_of (run ring (fire 0 ∷ [])) 0) 1 (record { parent = 1; child = 3; source = 1; target = 0; delay = 0 }) ≡ 10
 unfolding crossings_into_all events_in take_step
 ring_bound = refl
 

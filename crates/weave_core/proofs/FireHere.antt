@@ -38,7 +38,7 @@ firing serves d i k first =
       event = e.0;
       there = e.1;
       in_graph = (i.here.each k.number e.0 e.1).0;
-      next = first_next d.graph.value d.parts.value d.domain d.here.items d.incoming.stubs (own_of d) d.waiting i.numbered i.divides i.here i.stubs refl i.stands k e.0 e.1 first;
+      next = first_next d.graph.value d.parts.value d.domain d.here.items d.incoming.stubs (own_of d) d.waiting i.numbered i.partitions i.here i.stubs refl i.stands k e.0 e.1 first;
       spot = i.served.spot k.number e.0 e.1;
       component = c.0;
       component_there = c.1.0;
@@ -50,7 +50,7 @@ firing serves d i k first =
 
 pub not_firing : {C : Type 0} (serves : C → Kind → Bool) (d : Inside C) (i : IsDomain serves d) → NoneReady d.waiting → next_in d.graph.value d.parts.value d.domain (own_of d) ≡ None
 not_firing serves d i none =
-    none_next d.graph.value d.parts.value d.domain d.here.items d.incoming.stubs (own_of d) d.waiting i.numbered i.divides i.here i.stubs refl i.stands none
+    none_next d.graph.value d.parts.value d.domain d.here.items d.incoming.stubs (own_of d) d.waiting i.numbered i.partitions i.here i.stubs refl i.stands none
 
 pub take_front : {X : Type 0} (vs rest : List X) (n : ℕ) → n ≡ length vs → take n (vs ++ rest) ≡ vs
 take_front [] [] zero e = refl

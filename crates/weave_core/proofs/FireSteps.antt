@@ -6,12 +6,12 @@ use Rattle.event_graph.specs.declared.event.Event.{Event}
 use Rattle.event_graph.specs.declared.event.Parent.{Parent}
 use Rattle.event_graph.specs.Numbered.{IsNumbered}
 use Rattle.event_graph.specs.OneListWeave.{Timed, find_fired, finish_in, finish_or_zero, is_fired}
-use Rattle.domain_map.specs.Domains.{Division, domain_of_number}
+use Rattle.domain_map.specs.Domains.{Partition, domain_of_number}
 use Rattle.weave_core.specs.declared.children.Link.{Link}
 use Rattle.weave_core.specs.declared.incoming.Stub.{Stub}
 use Rattle.weave_core.specs.Children.{CanTell, tell_all, tell_child}
 use Rattle.weave_core.specs.DomainMachine.{DomainState}
-use Rattle.weave_core.specs.Layout.{AreHere, IsChildren, Stands, fired_in, hit_after, hits, latest_to, links_to, missing_at, pending, start_after_own, told_into}
+use Rattle.weave_core.specs.Layout.{AreHere, IsChildren, Stands, fired_in, hit_after, times_parent, latest_to, links_to, missing_at, pending, start_after_own, told_into}
 use Rattle.weave_core.specs.Waits.{Waits, is_fired_wait}
 use Rattle.weave_core.proofs.Joined.{at_event}
 use Rattle.weave_core.proofs.Lists.{get_below, get_there, test_cases}
@@ -176,7 +176,7 @@ fired_upto (w ∷ waits) = by_test (fired_upto waits) (eqb w 4294967295)
 pub some_unfired : (waits : List ℕ) (place : ℕ) → slice_get waits place ≡ Some 0 → fired_in waits < length waits
 some_unfired waits place h = omega (arith, one_more_fired waits place h, fired_upto (set waits place 4294967295), length-set waits place 4294967295)
 
-module _ (events : List Event) (p : Division) (domain : ℕ) (here : List Event) (stubs : List Stub) (own : DomainState) (w : Waits)
+module _ (events : List Event) (p : Partition) (domain : ℕ) (here : List Event) (stubs : List Stub) (own : DomainState) (w : Waits)
     (numbered : IsNumbered events) (are_here : AreHere events p domain here) (stands : Stands events p domain own here stubs w)
     (place : ℕ) (e : Event) (there : slice_get here place ≡ Some e) (ready : slice_get w.waits place ≡ Some 0)
     (links : List Link) (head : ℕ) (children : IsChildren here links head e.number) (start finish : ℕ) where
@@ -200,7 +200,7 @@ module _ (events : List Event) (p : Division) (domain : ℕ) (here : List Event)
       let at = are_here.each place e there in
       is_eq (domain_of_number p.places events n) domain (ap (domain_of_number p.places events) is ∙ (at_event events p.places e.number e at.0 ∙ at.1))
 
-  pending_then : (q : Option Parent) → pending events p domain then q + hits e.number q ≡ pending events p domain own q
+  pending_then : (q : Option Parent) → pending events p domain then q + times_parent e.number q ≡ pending events p domain own q
   pending_then None = refl
   pending_then (Some q) =
       elim (cases_eq q.number e.number) [
@@ -212,14 +212,14 @@ module _ (events : List Event) (p : Division) (domain : ℕ) (here : List Event)
             ∙ ap (λ (t : Bool). cond {A = ℕ} (false || not t) 0 1) (domain_here q.number same)
             in
             let after : pending events p domain then (Some q) ≡ 0 = ap (λ (t : Bool). cond {A = ℕ} (t || not (eqb (domain_of_number p.places events q.number) domain)) 0 1) now in
-            let hit : hits e.number (Some q) ≡ 1 = ap (λ (t : Bool). cond {A = ℕ} t 1 0) (is_eq q.number e.number same) in
+            let hit : times_parent e.number (Some q) ≡ 1 = ap (λ (t : Bool). cond {A = ℕ} t 1 0) (is_eq q.number e.number same) in
             omega (arith, before, after, hit)
         | inr apart ↦
             let now : is_fired then.fired q.number ≡ is_fired own.fired q.number = ap is_some (find_same q.number own.fired last (λ (r : e.number ≡ q.number). apart (sym r))) in
             let after : pending events p domain then (Some q) ≡ pending events p domain own (Some q) =
             ap (λ (t : Bool). cond {A = ℕ} (t || not (eqb (domain_of_number p.places events q.number) domain)) 0 1) now
             in
-            let hit : hits e.number (Some q) ≡ 0 = ap (λ (t : Bool). cond {A = ℕ} t 1 0) (apart_eq q.number e.number apart) in
+            let hit : times_parent e.number (Some q) ≡ 0 = ap (λ (t : Bool). cond {A = ℕ} t 1 0) (apart_eq q.number e.number apart) in
             omega (arith, after, hit)
       ]
 
@@ -248,14 +248,14 @@ module _ (events : List Event) (p : Division) (domain : ℕ) (here : List Event)
             omega (arith, after, hit)
       ]
 
-  missing_then : (j : ℕ) (f : Event) → missing_at events p domain then j f stubs + (hits e.number f.first + hits e.number f.second) ≡ missing_at events p domain own j f stubs
+  missing_then : (j : ℕ) (f : Event) → missing_at events p domain then j f stubs + (times_parent e.number f.first + times_parent e.number f.second) ≡ missing_at events p domain own j f stubs
   missing_then j f = omega (arith, pending_then f.first, pending_then f.second)
 
   -- no event is its own parent
-  no_hits : (hits e.number e.first ≡ 0) × (hits e.number e.second ≡ 0)
+  no_hits : (times_parent e.number e.first ≡ 0) × (times_parent e.number e.second ≡ 0)
   no_hits = (slot e.first (λ q s. numbered.first e.number e q (are_here.each place e there).0 s), slot e.second (λ q s. numbered.second e.number e q (are_here.each place e there).0 s))
     where
-      slot : (q : Option Parent) → ((r : Parent) → q ≡ Some r → r.number < e.number) → hits e.number q ≡ 0
+      slot : (q : Option Parent) → ((r : Parent) → q ≡ Some r → r.number < e.number) → times_parent e.number q ≡ 0
       slot None h = refl
       slot (Some q) h = ap (λ (t : Bool). cond {A = ℕ} t 1 0) (apart_eq q.number e.number (λ (s : q.number ≡ e.number). absurd (omega (arith, h q refl, s))))
 
@@ -273,7 +273,7 @@ module _ (events : List Event) (p : Division) (domain : ℕ) (here : List Event)
   event_there j v h =
       get_there here j (omega (arith, get_below (is_fired_wait w place).waits j v h, length-set w.waits place 4294967295, stands.waits_size))
 
-  fired_none : (j : ℕ) (f : Event) → slice_get here j ≡ Some f → is_fired own.fired f.number ≡ true → hits e.number f.first + hits e.number f.second ≡ 0
+  fired_none : (j : ℕ) (f : Event) → slice_get here j ≡ Some f → is_fired own.fired f.number ≡ true → times_parent e.number f.first + times_parent e.number f.second ≡ 0
   fired_none j f h u = omega (arith, missing_then j f, stands.finished j f h u)
 
   pub can_tell_children : length stubs < 2 ^ 31 → finish ≤ 2 ^ 62 → CanTell finish (is_fired_wait w place) children.chain
@@ -283,19 +283,19 @@ module _ (events : List Event) (p : Division) (domain : ℕ) (here : List Event)
       (λ i l h. let r = children.within i l h in (omega (arith, r.0, length-set w.waits place 4294967295, stands.waits_size), omega (arith, r.1, small)))
       (λ j v h more.
       let f = event_there j v h in
-      let count : links_to j children.chain ≡ hits e.number f.0.first + hits e.number f.0.second = children.counts j f.0 f.1 in
+      let count : links_to j children.chain ≡ times_parent e.number f.0.first + times_parent e.number f.0.second = children.counts j f.0 f.1 in
       elim (cases_eq j place) [
         | inl same ↦
             let is : e ≡ f.0 = same_Some e f.0 (sym there ∙ (ap (slice_get here) (sym same) ∙ f.1)) in
-            let none : hits e.number f.0.first + hits e.number f.0.second ≡ 0 = ap (λ (z : Event). hits e.number z.first + hits e.number z.second) (sym is) ∙ both_none in
+            let none : times_parent e.number f.0.first + times_parent e.number f.0.second ≡ 0 = ap (λ (z : Event). times_parent e.number z.first + times_parent e.number z.second) (sym is) ∙ both_none in
             absurd (omega (arith, more, count, none))
         | inr apart ↦ by_fired j f.0 f.1 v count more (is_fired own.fired f.0.number) refl (same_Some _ v (sym (wait_then j f.0 f.1 apart) ∙ h))
       ])
     where
-      both_none : hits e.number e.first + hits e.number e.second ≡ 0
+      both_none : times_parent e.number e.first + times_parent e.number e.second ≡ 0
       both_none = omega (arith, no_hits.0, no_hits.1)
 
-      by_fired : (j : ℕ) (f : Event) → slice_get here j ≡ Some f → (v : ℕ) → links_to j children.chain ≡ hits e.number f.first + hits e.number f.second → 0 < links_to j children.chain
+      by_fired : (j : ℕ) (f : Event) → slice_get here j ≡ Some f → (v : ℕ) → links_to j children.chain ≡ times_parent e.number f.first + times_parent e.number f.second → 0 < links_to j children.chain
           → (t : Bool) → is_fired own.fired f.number ≡ t → cond t 4294967295 (missing_at events p domain own j f stubs) ≡ v → (links_to j children.chain ≤ v) × (v < 4294967295)
       by_fired j f h v count more true u is = absurd (omega (arith, more, count, fired_none j f h u))
       by_fired j f h v count more false u is = (
@@ -318,12 +318,12 @@ module _ (events : List Event) (p : Division) (domain : ℕ) (here : List Event)
     starts_size = starts_size_told finish (is_fired_wait w place) children.chain ∙ stands.starts_size;
     waits_size = waits_size_told finish (is_fired_wait w place) children.chain ∙ (length-set w.waits place 4294967295 ∙ stands.waits_size);
     waits = λ j f h.
-        let count : links_to j children.chain ≡ hits e.number f.first + hits e.number f.second = children.counts j f h in
+        let count : links_to j children.chain ≡ times_parent e.number f.first + times_parent e.number f.second = children.counts j f h in
         elim (cases_eq j place) [
           | inl same ↦
               let is : e ≡ f = same_Some e f (sym there ∙ (ap (slice_get here) (sym same) ∙ h)) in
-              let none : hits e.number f.first + hits e.number f.second ≡ 0 =
-              ap (λ (z : Event). hits e.number z.first + hits e.number z.second) (sym is) ∙ (ap (λ n. n + hits e.number e.second) no_hits.0 ∙ no_second)
+              let none : times_parent e.number f.first + times_parent e.number f.second ≡ 0 =
+              ap (λ (z : Event). times_parent e.number z.first + times_parent e.number z.second) (sym is) ∙ (ap (λ n. n + times_parent e.number e.second) no_hits.0 ∙ no_second)
               in
               let now : is_fired then.fired f.number ≡ true = ap is_some (find_it f.number own.fired last (ap (λ (z : Event). is_fired own.fired z.number) (sym is) ∙ ready_is.0) (ap (λ (z : Event). z.number) is)) in
               let stays : 4294967295 - links_to j children.chain ≡ 4294967295 = omega (arith, count, none) in
@@ -357,10 +357,10 @@ module _ (events : List Event) (p : Division) (domain : ℕ) (here : List Event)
     agree = stands.agree;
   }
     where
-      no_second : 0 + hits e.number e.second ≡ 0
+      no_second : 0 + times_parent e.number e.second ≡ 0
       no_second = omega (arith, no_hits.1)
 
-      by_fired : (j : ℕ) (f : Event) → slice_get here j ≡ Some f → links_to j children.chain ≡ hits e.number f.first + hits e.number f.second → (t : Bool) → is_fired own.fired f.number ≡ t
+      by_fired : (j : ℕ) (f : Event) → slice_get here j ≡ Some f → links_to j children.chain ≡ times_parent e.number f.first + times_parent e.number f.second → (t : Bool) → is_fired own.fired f.number ≡ t
           → cond t 4294967295 (missing_at events p domain own j f stubs) - links_to j children.chain ≡ cond t 4294967295 (missing_at events p domain then j f stubs)
       by_fired j f h count true u = omega (arith, count, fired_none j f h u)
       by_fired j f h count false u = omega (arith, count, missing_then j f)

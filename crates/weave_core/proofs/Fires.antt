@@ -9,7 +9,7 @@ use Rattle.component.specs.declared.kind.Kind.{Kind}
 use Rattle.event_graph.specs.declared.event.Event.{Event}
 use Rattle.event_graph.specs.OneListWeave.{Timed, Weave, is_fired, served}
 use Rattle.event_graph.specs.TimingSolution.{after_serving, of_component}
-use Rattle.domain_map.specs.Domains.{Division, Divides, domain_at, domain_of}
+use Rattle.domain_map.specs.Domains.{Partition, IsPartition, domain_at, domain_of_event}
 use Rattle.weave_core.specs.DomainMachine.{DomainState, MachineState, effect_of, fire, fire_event, fresh_domain, is_allowed, is_clear, next_in, state_of}
 use Rattle.weave_core.specs.Soundness.{AreSoundBounds, AreSoundWords}
 use Rattle.weave_core.specs.Interleavings.{of_domain}
@@ -27,9 +27,9 @@ pub record IsServed {C : Type 0} (stepped : C → Kind → ℕ → C × ℕ) (co
   pub at : (k : ℕ) (x : Timed) → slice_get all k ≡ Some x → (c : C) × ((slice_get comps x.event.component ≡ Some c)
       × (x.finish ≡ (stepped (after_serving stepped c (of_component x.event.component (take k all))) x.event.kind x.start).1))
 
-module _ {C : Type 0} (stepped : C → Kind → ℕ → C × ℕ) (events : List Event) (p : Division) (comps : List C) (all : List Timed)
-    (o : IsOrder events all) (div : Divides events p) (serves : IsServed stepped comps all)
-    (here : (k : ℕ) (x : Timed) → slice_get all k ≡ Some x → domain_of p.places x.event < length p.events) where
+module _ {C : Type 0} (stepped : C → Kind → ℕ → C × ℕ) (events : List Event) (p : Partition) (comps : List C) (all : List Timed)
+    (o : IsOrder events all) (div : IsPartition events p) (serves : IsServed stepped comps all)
+    (here : (k : ℕ) (x : Timed) → slice_get all k ≡ Some x → domain_of_event p.places x.event < length p.events) where
   -- the cut of the domain moves behind the event
   abbrev moved : (ℕ → ℕ) → (domain after : ℕ) → ℕ → ℕ
   moved cut domain after d = cond (eqb d domain) after (cut d)
@@ -48,24 +48,24 @@ module _ {C : Type 0} (stepped : C → Kind → ℕ → C × ℕ) (events : List
   pub gap_domain : (domain cut k : ℕ) (own : DomainState) (fired_is : own.fired ≡ of_domain p.places domain (take cut all))
       (known : AreSoundWords all p own.known) (bounds : AreSoundBounds events all p domain own) (x : Timed)
       → IsFirst (is_pending events p all o div domain cut own fired_is known bounds) all k x
-      → (j : ℕ) (y : Timed) → cut ≤ j → j < k → slice_get all j ≡ Some y → eqb (domain_of p.places y.event) domain ≡ false
+      → (j : ℕ) (y : Timed) → cut ≤ j → j < k → slice_get all j ≡ Some y → eqb (domain_of_event p.places y.event) domain ≡ false
   gap_domain domain cut k own fired_is known bounds x f j y a b h =
-      elim (test_cases (eqb (domain_of p.places y.event) domain)) [
+      elim (test_cases (eqb (domain_of_event p.places y.event) domain)) [
         | inr fails_it ↦ fails_it
         | inl passes_it ↦
             absurd (false≢true (sym (f.before j y b h)
-            ∙ pending_test events p all o div domain cut own fired_is known bounds j y (test_eq (domain_of p.places y.event) domain passes_it) a))
+            ∙ pending_test events p all o div domain cut own fired_is known bounds j y (test_eq (domain_of_event p.places y.event) domain passes_it) a))
       ]
 
   pub gap_component : (domain cut k number : ℕ) → domain_at p.places number ≡ domain
-      → ((j : ℕ) (y : Timed) → cut ≤ j → j < k → slice_get all j ≡ Some y → eqb (domain_of p.places y.event) domain ≡ false)
+      → ((j : ℕ) (y : Timed) → cut ≤ j → j < k → slice_get all j ≡ Some y → eqb (domain_of_event p.places y.event) domain ≡ false)
       → (j : ℕ) (y : Timed) → cut ≤ j → j < k → slice_get all j ≡ Some y → eqb y.event.component number ≡ false
   gap_component domain cut k number d none j y a b h =
       elim (test_cases (eqb y.event.component number)) [
         | inr fails_it ↦ fails_it
         | inl passes_it ↦
             absurd (false≢true (sym (none j y a b h)
-            ∙ eq_test (domain_of p.places y.event) domain (ap (domain_at p.places) (test_eq y.event.component number passes_it) ∙ d)))
+            ∙ eq_test (domain_of_event p.places y.event) domain (ap (domain_at p.places) (test_eq y.event.component number passes_it) ∙ d)))
       ]
 
   -- the finished state: the domain has fired x, and its component served it
@@ -116,7 +116,7 @@ module _ {C : Type 0} (stepped : C → Kind → ℕ → C × ℕ) (events : List
   fires_next s domain h b next n =
       let own = h.domains domain in
       let is = pending_is events p all o div domain (h.cut domain) (state_of s domain) own.fired own.known (bounds_of stepped events p comps all o div _ _ _ _ own) n.k n.x n.first.passes in
-      let gap : (j : ℕ) (y : Timed) → h.cut domain ≤ j → j < n.k → slice_get all j ≡ Some y → eqb (domain_of p.places y.event) domain ≡ false =
+      let gap : (j : ℕ) (y : Timed) → h.cut domain ≤ j → j < n.k → slice_get all j ≡ Some y → eqb (domain_of_event p.places y.event) domain ≡ false =
       gap_domain domain (h.cut domain) n.k (state_of s domain) own.fired own.known (bounds_of stepped events p comps all o div _ _ _ _ own) n.x n.first
       in
       let sv = serves.at n.k n.x n.first.there in
@@ -157,7 +157,7 @@ module _ {C : Type 0} (stepped : C → Kind → ℕ → C × ℕ) (events : List
             (record {
               fired =
                   ap (λ (xs : List Timed). xs ++ n.x ∷ []) own.fired
-                  ∙ (sym (front_next (λ (y : Timed). eqb (domain_of p.places y.event) domain) all (h.cut domain) n.k n.x is.1 n.first.there (eq_test (domain_of p.places n.x.event) domain is.0) gap)
+                  ∙ (sym (front_next (λ (y : Timed). eqb (domain_of_event p.places y.event) domain) all (h.cut domain) n.k n.x is.1 n.first.there (eq_test (domain_of_event p.places n.x.event) domain is.0) gap)
                   ∙ ap (λ m. of_domain p.places domain (take m all)) (sym (moved_same h.cut domain (n.k + 1) domain refl)));
               known = own.known;
               floor = record { each = own.floor.each };

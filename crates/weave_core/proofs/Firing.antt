@@ -6,7 +6,7 @@ use Rattle.std.proofs.lemmas.Option.{same_Some}
 use Rattle.event_graph.specs.declared.event.Event.{Event}
 use Rattle.event_graph.specs.declared.event.Parent.{Parent}
 use Rattle.event_graph.specs.OneListWeave.{Timed, after_parent, find_fired, finish_in, finish_or_zero, is_event_before, is_fired, is_parent_fired, start_of}
-use Rattle.domain_map.specs.Domains.{domain_of}
+use Rattle.domain_map.specs.Domains.{domain_of_event}
 use Rattle.weave_core.specs.DomainMachine.{latency_of}
 use Rattle.weave_core.specs.Soundness.{start_in, start_or_zero}
 use Rattle.weave_core.specs.Interleavings.{of_domain}
@@ -134,52 +134,52 @@ module _ (events : List Event) (all : List Timed) (o : IsOrder events all) where
   -- One domain's events up to a cut.
 
   module _ (places : List ℕ) (domain : ℕ) where
-    domain_test : (x : Timed) → domain_of places x.event ≡ domain → eqb (domain_of places x.event) domain ≡ true
+    domain_test : (x : Timed) → domain_of_event places x.event ≡ domain → eqb (domain_of_event places x.event) domain ≡ true
     domain_test x e = grind (arith, nat_tests)
 
-    domain_is : (x : Timed) → eqb (domain_of places x.event) domain ≡ true → domain_of places x.event ≡ domain
+    domain_is : (x : Timed) → eqb (domain_of_event places x.event) domain ≡ true → domain_of_event places x.event ≡ domain
     domain_is x e = grind (arith, nat_tests)
 
     pub from_domain : (cut : ℕ) (x : Timed) → In x (of_domain places domain (take cut all))
-        → (k : ℕ) × ((k < cut) × ((slice_get all k ≡ Some x) × (domain_of places x.event ≡ domain)))
+        → (k : ℕ) × ((k < cut) × ((slice_get all k ≡ Some x) × (domain_of_event places x.event ≡ domain)))
     from_domain cut x h =
-        let f : In x (take cut all) × (eqb (domain_of places x.event) domain ≡ true) =
-        from_filter (λ (y : Timed). eqb (domain_of places y.event) domain) x (take cut all) h
+        let f : In x (take cut all) × (eqb (domain_of_event places x.event) domain ≡ true) =
+        from_filter (λ (y : Timed). eqb (domain_of_event places y.event) domain) x (take cut all) h
         in
         let r : (i : ℕ) × (slice_get (take cut all) i ≡ Some x) = in_at x (take cut all) f.0 in
         let s : (r.0 < cut) × (slice_get all r.0 ≡ Some x) = get_take all cut r.0 x r.1 in
         (r.0, (s.0, (s.1, domain_is x f.1)))
 
     -- before the cut the domain's events are there
-    pub known_before : (cut k : ℕ) (x : Timed) → k < cut → slice_get all k ≡ Some x → domain_of places x.event ≡ domain
+    pub known_before : (cut k : ℕ) (x : Timed) → k < cut → slice_get all k ≡ Some x → domain_of_event places x.event ≡ domain
         → find_fired (of_domain places domain (take cut all)) x.event.number ≡ Some x
     known_before cut k x l a d =
         let there : In x (of_domain places domain (take cut all)) =
-        in_filter (λ (y : Timed). eqb (domain_of places y.event) domain) x (take cut all) (at_in x (take cut all) k (take_get all cut k x l a)) (domain_test x d)
+        in_filter (λ (y : Timed). eqb (domain_of_event places y.event) domain) x (take cut all) (at_in x (take cut all) k (take_get all cut k x l a)) (domain_test x d)
         in
         known_is (of_domain places domain (take cut all)) k x
-        (λ y m. let r : (j : ℕ) × ((j < cut) × ((slice_get all j ≡ Some y) × (domain_of places y.event ≡ domain))) = from_domain cut y m in at_in y all r.0 r.1.1.0)
+        (λ y m. let r : (j : ℕ) × ((j < cut) × ((slice_get all j ≡ Some y) × (domain_of_event places y.event ≡ domain))) = from_domain cut y m in at_in y all r.0 r.1.1.0)
         a (found (of_domain places domain (take cut all)) x x.event.number there refl)
 
-    pub fired_before : (cut k : ℕ) (x : Timed) → k < cut → slice_get all k ≡ Some x → domain_of places x.event ≡ domain
+    pub fired_before : (cut k : ℕ) (x : Timed) → k < cut → slice_get all k ≡ Some x → domain_of_event places x.event ≡ domain
         → is_fired (of_domain places domain (take cut all)) x.event.number ≡ true
     fired_before cut k x l a d = ap is_some (known_before cut k x l a d)
 
     -- what is fired stands before the cut
     pub before_fired : (cut k : ℕ) (x : Timed) → slice_get all k ≡ Some x → is_fired (of_domain places domain (take cut all)) x.event.number ≡ true
-        → (k < cut) × (domain_of places x.event ≡ domain)
+        → (k < cut) × (domain_of_event places x.event ≡ domain)
     before_fired cut k x a h =
         let r : (y : Timed) × ((find_fired (of_domain places domain (take cut all)) x.event.number ≡ Some y)
         × (In y (of_domain places domain (take cut all)) × (y.event.number ≡ x.event.number))) =
         finding (of_domain places domain (take cut all)) x.event.number h
         in
-        let s : (j : ℕ) × ((j < cut) × ((slice_get all j ≡ Some r.0) × (domain_of places r.0.event ≡ domain))) = from_domain cut r.0 r.1.1.0 in
+        let s : (j : ℕ) × ((j < cut) × ((slice_get all j ≡ Some r.0) × (domain_of_event places r.0.event ≡ domain))) = from_domain cut r.0 r.1.1.0 in
         elim (cases_lt k s.0) [
-          | inl l ↦ (omega (arith, s.1.0), subst (λ (z : Timed). domain_of places z.event ≡ domain) (one_place s.0 k r.0 x s.1.1.0 a r.1.1.1) s.1.1.1)
+          | inl l ↦ (omega (arith, s.1.0), subst (λ (z : Timed). domain_of_event places z.event ≡ domain) (one_place s.0 k r.0 x s.1.1.0 a r.1.1.1) s.1.1.1)
           | inr m ↦
               elim (cases_lt s.0 k) [
                 | inl l ↦ absurd (not_later s.0 k r.0 x s.1.1.0 a r.1.1.1 l)
-                | inr n ↦ (omega (arith, s.1.0), subst (λ (z : Timed). domain_of places z.event ≡ domain) (one_place s.0 k r.0 x s.1.1.0 a r.1.1.1) s.1.1.1)
+                | inr n ↦ (omega (arith, s.1.0), subst (λ (z : Timed). domain_of_event places z.event ≡ domain) (one_place s.0 k r.0 x s.1.1.0 a r.1.1.1) s.1.1.1)
               ]
         ]
 

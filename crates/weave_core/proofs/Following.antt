@@ -11,7 +11,7 @@ use Rattle.event_graph.specs.declared.event.Event.{Event}
 use Rattle.event_graph.specs.OneListWeave.{Timed, finish_in}
 use Rattle.event_graph.specs.TimingSolution.{after_serving, of_component}
 use Rattle.domain_map.specs.declared.crossing.Crossing.{Crossing}
-use Rattle.domain_map.specs.Domains.{Division}
+use Rattle.domain_map.specs.Domains.{Partition}
 use Rattle.weave_core.specs.DomainCalls.{IsNoFall, MayTell, comps_in, with_known}
 use Rattle.weave_core.specs.DomainMachine.{DomainState, bound_of, cycle_of, is_exact, latency_at, with_floor, word_at}
 use Rattle.weave_core.specs.Interleavings.{IsFront}
@@ -22,7 +22,7 @@ use Rattle.weave_core.proofs.Words.{apart_eq, is_eq}
 
 -- a word
 
-module _ (events : List Event) (timed : List Timed) (p : Division) (domain : ℕ) (own : DomainState) (number : ℕ) (word : Word) (may : MayTell events p domain own number word)
+module _ (events : List Event) (timed : List Timed) (p : Partition) (domain : ℕ) (own : DomainState) (number : ℕ) (word : Word) (may : MayTell events p domain own number word)
     (known : AreSoundWords timed p (with_known own number word).known) (bounds : AreSoundBounds events timed p domain (with_known own number word)) where
   alike : (n : ℕ) → ((n ≡ number) × (word_at (with_known own number word).known n ≡ word)) ⊎ (word_at (with_known own number word).known n ≡ word_at own.known n)
   alike n = read_after own.known number word (Bound 0) n
@@ -77,7 +77,7 @@ module _ (events : List Event) (timed : List Timed) (p : Division) (domain : ℕ
 
 -- a floor
 
-pub floor_before : (events : List Event) (timed : List Timed) (p : Division) (domain : ℕ) (own : DomainState) (floor : ℕ) → own.floor ≤ floor → AreSoundBounds events timed p domain (with_floor floor own) → AreSoundBounds events timed p domain own
+pub floor_before : (events : List Event) (timed : List Timed) (p : Partition) (domain : ℕ) (own : DomainState) (floor : ℕ) → own.floor ≤ floor → AreSoundBounds events timed p domain (with_floor floor own) → AreSoundBounds events timed p domain own
 floor_before events timed p domain own floor l bounds = record {
   each = λ n x h target unknown.
       let now : bound_of events p (with_floor floor own) n x ≤ finish_in timed x.parent = bounds.each n x h target unknown in

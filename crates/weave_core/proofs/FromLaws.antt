@@ -6,20 +6,20 @@ use Rattle.std.proofs.lemmas.Option.{same_Some, none-some, get_or_from_slice_get
 use Rattle.std.specs.Option.{option_map}
 use Rattle.component.specs.declared.kind.Kind.{Kind}
 use Rattle.event_graph.specs.declared.event.Event.{Event}
-use Rattle.event_graph.specs.Firing.{IsNext, IsRound}
+use Rattle.event_graph.specs.Firing.{FiresNext, IsNext}
 use Rattle.event_graph.specs.Fits.{EventFits, GraphFits}
 use Rattle.event_graph.specs.Numbered.{IsNumbered}
-use Rattle.event_graph.specs.OneListWeave.{Timed, after_rounds, is_event_before, is_fired, is_parent_fired, weave, woven}
+use Rattle.event_graph.specs.OneListWeave.{Timed, after_firings, is_event_before, is_fired, is_parent_fired, weave, woven}
 use Rattle.event_graph.specs.TimingSolution.{IsInOrder, IsSolution, after_serving, of_component}
-use Rattle.domain_map.specs.Domains.{Division, domain_of}
+use Rattle.domain_map.specs.Domains.{Partition, domain_of_event}
 use Rattle.weave_core.specs.AtBarrier.{AreSoundDomains, IsFirstLeft, KnowFiredParents, MayGoOn, least_start_of, own_at}
 use Rattle.weave_core.specs.DomainMachine.{DomainState, MachineState, Step, after_steps, at_rest, barrier, every_crossing, fire, is_allowed, is_clear, is_settled, latency_of, least_ready_start, next_in, state_of, take_step, with_floor}
-use Rattle.weave_core.specs.Interleavings.{FollowsTheWeave, IsDivided, IsFirstUnfired}
+use Rattle.weave_core.specs.Interleavings.{FollowsTheWeave, IsPartitioned, IsFirstUnfired}
 use Rattle.weave_core.proofs.Lists.{both, get_below, not_true, contained, contains, last_same}
 use Rattle.weave_core.proofs.Firing.{IsOrder}
 use Rattle.weave_core.proofs.Fires.{IsServed}
 use Rattle.weave_core.proofs.Whole.{domain_there, follows, from_rest}
-use Rattle.weave_core.specs.SoundDomain.{IsNextEntry, IsSoundDomain}
+use Rattle.weave_core.specs.SoundDomain.{IsNextFiring, IsSoundDomain}
 use Rattle.weave_core.proofs.AfterBarrier.{may_fire_first}
 use Rattle.weave_core.proofs.AtBarriers.{floors_hold, may_go_on}
 use Rattle.weave_core.proofs.Barriers.{settled_is}
@@ -36,11 +36,11 @@ module _ {C : Type 0} (serves : C → Kind → Bool) (floor : C → Kind → ℕ
     (once : IsPermutation events (map (λ x. x.event) (weave stepped events comps).fired))
     (in_order : IsInOrder (weave stepped events comps).fired)
     (next : (index : ℕ) (x : Timed) → slice_get (weave stepped events comps).fired index ≡ Some x → IsNext (take index (weave stepped events comps).fired) events x)
-    (round : (rounds : ℕ) → rounds < length events → (x : Timed) × (c : C) × IsRound serves stepped events (after_rounds stepped events comps rounds) (after_rounds stepped events comps (suc rounds)) x c)
-    (front : (rounds : ℕ) → (after_rounds stepped events comps rounds).fired ≡ take rounds (weave stepped events comps).fired)
-    (comps_at : (rounds number : ℕ) → slice_get (after_rounds stepped events comps rounds).comps number
-    ≡ option_map (λ c. after_serving stepped c (of_component number (after_rounds stepped events comps rounds).fired)) (slice_get comps number))
-    (fits : (rounds : ℕ) → GraphFits serves floor events (after_rounds stepped events comps rounds).comps) where
+    (firing : (firings : ℕ) → firings < length events → (x : Timed) × (c : C) × FiresNext serves stepped events (after_firings stepped events comps firings) (after_firings stepped events comps (suc firings)) x c)
+    (front : (firings : ℕ) → (after_firings stepped events comps firings).fired ≡ take firings (weave stepped events comps).fired)
+    (comps_at : (firings number : ℕ) → slice_get (after_firings stepped events comps firings).comps number
+    ≡ option_map (λ c. after_serving stepped c (of_component number (after_firings stepped events comps firings).fired)) (slice_get comps number))
+    (fits : (firings : ℕ) → GraphFits serves floor events (after_firings stepped events comps firings).comps) where
   abbrev all : List Timed
   all = (weave stepped events comps).fired
 
@@ -66,10 +66,10 @@ module _ {C : Type 0} (serves : C → Kind → Bool) (floor : C → Kind → ℕ
       by_option k None a b = absurd (none-some e b)
       by_option k (Some x) a b = (k, x, a, same_Some x.event e b)
 
-  -- the round that fires an event
+  -- the firing of an event
   record Fired (k : ℕ) (x : Timed) : Type 0 where
     c : C
-    there : slice_get (after_rounds stepped events comps k).comps x.event.component ≡ Some c
+    there : slice_get (after_firings stepped events comps k).comps x.event.component ≡ Some c
     served : IsTrue (serves c x.event.kind)
     finish : x.finish ≡ (stepped c x.event.kind x.start).1
 
@@ -77,7 +77,7 @@ module _ {C : Type 0} (serves : C → Kind → Bool) (floor : C → Kind → ℕ
   fired_at k x h =
       let count : length (map (λ (x : Timed). x.event) all) ≡ length events = length_permutation events (map (λ (x : Timed). x.event) all) once in
       let below : k < length all = get_below all k x h in
-      let r = round k (omega (arith, count, below, length-map all (λ (x : Timed). x.event))) in
+      let r = firing k (omega (arith, count, below, length-map all (λ (x : Timed). x.event))) in
       let grown : take k all ++ r.0 ∷ [] ≡ take k all ++ x ∷ [] =
       ap (λ (xs : List Timed). xs ++ r.0 ∷ []) (sym (front k))
       ∙ (sym r.2.fired ∙ (front (suc k) ∙ (ap (λ n. take n all) (add_one k) ∙ (take_more all k x below ∙ ap (λ (z : Timed). take k all ++ z ∷ []) (get_or_from_slice_get all k x x h)))))
@@ -90,7 +90,7 @@ module _ {C : Type 0} (serves : C → Kind → Bool) (floor : C → Kind → ℕ
 
   latency_is : (k : ℕ) (x : Timed) (h : slice_get all k ≡ Some x) → latency_of x.event ≡ floor (fired_at k x h).c x.event.kind
   latency_is k x h =
-      let e : EventFits serves floor (after_rounds stepped events comps k).comps x.event = fits k x.event.number x.event (event_at k x h) in
+      let e : EventFits serves floor (after_firings stepped events comps k).comps x.event = fits k x.event.number x.event (event_at k x h) in
       let same : e.component ≡ (fired_at k x h).c = same_Some e.component (fired_at k x h).c (sym e.there ∙ (fired_at k x h).there) in
       let f : floor e.component x.event.kind ≡ floor (fired_at k x h).c x.event.kind = ap (λ (c : C). floor c x.event.kind) same in
       omega (arith, e.floor_is, f)
@@ -120,15 +120,15 @@ module _ {C : Type 0} (serves : C → Kind → Bool) (floor : C → Kind → ℕ
       by_option : (k : ℕ) (x : Timed) (h : slice_get all k ≡ Some x) (z : Option C) → slice_get comps x.event.component ≡ z
           → (c : C) × ((slice_get comps x.event.component ≡ Some c) × (x.finish ≡ (stepped (after_serving stepped c (of_component x.event.component (take k all))) x.event.kind x.start).1))
       by_option k x h None e =
-          let none : slice_get (after_rounds stepped events comps k).comps x.event.component ≡ None =
-          comps_at k x.event.component ∙ ap (option_map (λ c. after_serving stepped c (of_component x.event.component (after_rounds stepped events comps k).fired))) e
+          let none : slice_get (after_firings stepped events comps k).comps x.event.component ≡ None =
+          comps_at k x.event.component ∙ ap (option_map (λ c. after_serving stepped c (of_component x.event.component (after_firings stepped events comps k).fired))) e
           in
           absurd (none-some (fired_at k x h).c (sym none ∙ (fired_at k x h).there))
       by_option k x h (Some c) e =
-          let is : slice_get (after_rounds stepped events comps k).comps x.event.component ≡ Some (after_serving stepped c (of_component x.event.component (after_rounds stepped events comps k).fired)) =
-          comps_at k x.event.component ∙ ap (option_map (λ c. after_serving stepped c (of_component x.event.component (after_rounds stepped events comps k).fired))) e
+          let is : slice_get (after_firings stepped events comps k).comps x.event.component ≡ Some (after_serving stepped c (of_component x.event.component (after_firings stepped events comps k).fired)) =
+          comps_at k x.event.component ∙ ap (option_map (λ c. after_serving stepped c (of_component x.event.component (after_firings stepped events comps k).fired))) e
           in
-          let same : (fired_at k x h).c ≡ after_serving stepped c (of_component x.event.component (after_rounds stepped events comps k).fired) =
+          let same : (fired_at k x h).c ≡ after_serving stepped c (of_component x.event.component (after_firings stepped events comps k).fired) =
           same_Some _ _ (sym (fired_at k x h).there ∙ is)
           in (
             c,
@@ -140,49 +140,49 @@ module _ {C : Type 0} (serves : C → Kind → Bool) (floor : C → Kind → ℕ
             ),
           )
 
-  module _ (p : Division) (d : IsDivided serves floor events p comps) where
+  module _ (p : Partition) (d : IsPartitioned serves floor events p comps) where
     within : (i : ℕ) (e : Event) → slice_get events i ≡ Some e → e.component < length p.places
     within i e h = omega (arith, get_below comps e.component (d.fits i e h).component (d.fits i e h).there, d.places)
 
-    pub here : (k : ℕ) (x : Timed) → slice_get (weave stepped events comps).fired k ≡ Some x → domain_of p.places x.event < length p.events
-    here = domain_there events p (weave stepped events comps).fired order_of d.divides within
+    pub here : (k : ℕ) (x : Timed) → slice_get (weave stepped events comps).fired k ≡ Some x → domain_of_event p.places x.event < length p.events
+    here = domain_there events p (weave stepped events comps).fired order_of d.partitions within
 
     pub after_all : (steps : List Step) → FollowsTheWeave stepped events p comps (after_steps events p stepped (at_rest p comps) steps)
     after_all steps =
-        follows stepped events p comps order_of d.divides served_of here (after_steps events p stepped (at_rest p comps) steps)
-        (from_rest stepped events p comps (weave stepped events comps).fired order_of d.divides served_of here steps)
+        follows stepped events p comps order_of d.partitions served_of here (after_steps events p stepped (at_rest p comps) steps)
+        (from_rest stepped events p comps (weave stepped events comps).fired order_of d.partitions served_of here steps)
 
     pub goes_on : (steps : List Step) (x : Timed) → is_allowed events p stepped (after_steps events p stepped (at_rest p comps) steps) barrier ≡ true
         → IsFirstUnfired stepped events p comps (after_steps events p stepped (at_rest p comps) steps) x
-        → (is_allowed events p stepped (take_step events p stepped (after_steps events p stepped (at_rest p comps) steps) barrier) (fire (domain_of p.places x.event)) ≡ true)
-        × (next_in events p (domain_of p.places x.event) (state_of (take_step events p stepped (after_steps events p stepped (at_rest p comps) steps) barrier) (domain_of p.places x.event)) ≡ Some (x.event, x.start))
+        → (is_allowed events p stepped (take_step events p stepped (after_steps events p stepped (at_rest p comps) steps) barrier) (fire (domain_of_event p.places x.event)) ≡ true)
+        × (next_in events p (domain_of_event p.places x.event) (state_of (take_step events p stepped (after_steps events p stepped (at_rest p comps) steps) barrier) (domain_of_event p.places x.event)) ≡ Some (x.event, x.start))
     goes_on steps x allowed first =
         let s : MachineState C = after_steps events p stepped (at_rest p comps) steps in
-        may_fire_first stepped events p comps (weave stepped events comps).fired order_of d.divides here s
-        (fronts stepped events p comps (weave stepped events comps).fired order_of d.divides s (from_rest stepped events p comps (weave stepped events comps).fired order_of d.divides served_of here steps))
-        (settled_is stepped events p comps (weave stepped events comps).fired order_of d.divides here s (both (every_crossing events p (is_settled events p stepped s)) (is_some (least_ready_start events p stepped s)) allowed).0)
+        may_fire_first stepped events p comps (weave stepped events comps).fired order_of d.partitions here s
+        (fronts stepped events p comps (weave stepped events comps).fired order_of d.partitions s (from_rest stepped events p comps (weave stepped events comps).fired order_of d.partitions served_of here steps))
+        (settled_is stepped events p comps (weave stepped events comps).fired order_of d.partitions here s (both (every_crossing events p (is_settled events p stepped s)) (is_some (least_ready_start events p stepped s)) allowed).0)
         first.index x first.there first.unfired first.before allowed
 
     pub sound_next : (timed : List Timed) (solution : IsSolution stepped events comps timed) → timed ≡ woven stepped events comps → (domain : ℕ) (own : DomainState) (next : Event × ℕ)
         → IsSoundDomain stepped events p comps timed solution domain own → next_in events p domain own ≡ Some next → is_clear events p domain own next.1 ≡ true
-        → (x : Timed) × IsNextEntry stepped events p comps timed solution domain own next x
+        → (x : Timed) × IsNextFiring stepped events p comps timed solution domain own next x
     sound_next timed solution is domain own next s n clear =
-        sound_follow stepped events p comps order_of d.divides served_of here in_order timed solution is domain own next s n clear
+        sound_follow stepped events p comps order_of d.partitions served_of here in_order timed solution is domain own next s n clear
 
     pub floors_bound : (timed : List Timed) (solution : IsSolution stepped events comps timed) → timed ≡ woven stepped events comps → (domain : ℕ) (own : DomainState)
         → AreSoundWords timed p own.known → IsSoundFloor timed p domain own → AreSoundBounds events timed p domain own
     floors_bound timed solution is domain own known floor =
         bounds_back stepped events comps order_of timed is p domain own
-        (sound_bounds events p (weave stepped events comps).fired order_of d.divides domain own (words_alike stepped events comps order_of timed is p own.known known)
+        (sound_bounds events p (weave stepped events comps).fired order_of d.partitions domain own (words_alike stepped events comps order_of timed is p own.known known)
         (floor_alike stepped events comps order_of timed is p domain own floor))
 
     pub floors_at_barrier : (timed : List Timed) (solution : IsSolution stepped events comps timed) → timed ≡ woven stepped events comps → (owns : List DomainState) (start : ℕ)
         → AreSoundDomains stepped events p comps timed solution owns → KnowFiredParents p owns → least_start_of events p owns ≡ Some start
         → (domain : ℕ) → IsSoundFloor timed p domain (with_floor start (own_at owns domain))
     floors_at_barrier timed solution is owns start h told least domain =
-        floors_hold stepped events p comps order_of d.divides here in_order timed solution is owns h told start least domain
+        floors_hold stepped events p comps order_of d.partitions here in_order timed solution is owns h told start least domain
 
     pub first_goes_on : (timed : List Timed) (solution : IsSolution stepped events comps timed) → timed ≡ woven stepped events comps → (owns : List DomainState) (index : ℕ) (x : Timed)
         → AreSoundDomains stepped events p comps timed solution owns → KnowFiredParents p owns → IsFirstLeft stepped events p comps owns index x → MayGoOn events p owns x
     first_goes_on timed solution is owns index x h told first =
-        may_go_on stepped events p comps order_of d.divides here in_order timed solution is owns h told index x first
+        may_go_on stepped events p comps order_of d.partitions here in_order timed solution is owns h told index x first

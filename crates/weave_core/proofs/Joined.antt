@@ -9,7 +9,7 @@ use Rattle.zs_num.specs.declared.time.Word.TheVariants.{Bound, Exact}
 use Rattle.event_graph.specs.declared.event.Event.{Event}
 use Rattle.event_graph.specs.OneListWeave.{Timed, finish_in}
 use Rattle.domain_map.specs.declared.crossing.Crossing.{Crossing}
-use Rattle.domain_map.specs.Domains.{Division, Divides, domain_of, domain_of_number}
+use Rattle.domain_map.specs.Domains.{Partition, IsPartition, domain_of_event, domain_of_number}
 use Rattle.weave_core.specs.DomainMachine.{DomainState, cycle_of, is_exact, latency_at, latency_of, word_at}
 use Rattle.weave_core.specs.Soundness.{AreSoundBounds, AreSoundWords, IsSoundFloor, IsSoundWord, start_in}
 use Rattle.weave_core.proofs.Crossings.{Joins, joins}
@@ -34,13 +34,13 @@ test_eq a b e = grind (arith, nat_tests)
 pub less_is : (a b : ℕ) → ltb a b ≡ true → a < b
 less_is a b h = grind (arith, nat_tests)
 
-pub at_event : (events : List Event) (places : List ℕ) (number : ℕ) (e : Event) → slice_get events number ≡ Some e → domain_of_number places events number ≡ domain_of places e
-at_event events places number e h = ap (λ (z : Option Event). option_map_or (domain_of places) z 0) h
+pub at_event : (events : List Event) (places : List ℕ) (number : ℕ) (e : Event) → slice_get events number ≡ Some e → domain_of_number places events number ≡ domain_of_event places e
+at_event events places number e h = ap (λ (z : Option Event). option_map_or (domain_of_event places) z 0) h
 
 pub latency_there : (events : List Event) (number : ℕ) (e : Event) → slice_get events number ≡ Some e → latency_at events number ≡ latency_of e
 latency_there events number e h = ap (λ (z : Option Event). option_map_or latency_of z 0) h
 
-module _ (events : List Event) (p : Division) (all : List Timed) (o : IsOrder events all) (div : Divides events p) where
+module _ (events : List Event) (p : Partition) (all : List Timed) (o : IsOrder events all) (div : IsPartition events p) where
   pub joined : (number : ℕ) (x : Crossing) → slice_get p.crossings number ≡ Some x → Joins p.places events x
   joined number x h = joins p.places events number x (subst (λ (xs : List Crossing). slice_get xs number ≡ Some x) div.crossings h)
 
@@ -58,7 +58,7 @@ module _ (events : List Event) (p : Division) (all : List Timed) (o : IsOrder ev
 
   -- What a crossing's parent is.
   pub parent_of_crossing : (number : ℕ) (x : Crossing) → slice_get p.crossings number ≡ Some x
-      → (k : ℕ) × ((w : Timed) × ((slice_get all k ≡ Some w) × ((w.event.number ≡ x.parent) × (x.source ≡ domain_of p.places w.event))))
+      → (k : ℕ) × ((w : Timed) × ((slice_get all k ≡ Some w) × ((w.event.number ≡ x.parent) × (x.source ≡ domain_of_event p.places w.event))))
   parent_of_crossing number x h =
       let j : Joins p.places events x = joined number x h in
       let e_at : slice_get events j.child.number ≡ Some j.child = ap (slice_get events) (o.numbered j.number j.child j.there) ∙ j.there in
@@ -71,14 +71,14 @@ module _ (events : List Event) (p : Division) (all : List Timed) (o : IsOrder ev
       in
       let n : j.parent.number ≡ x.parent = ap (λ (z : Crossing). z.parent) j.is in
       let s : domain_of_number p.places events j.parent.number ≡ x.source = ap (λ (z : Crossing). z.source) j.is in
-      let d : domain_of_number p.places events j.parent.number ≡ domain_of p.places q.1.0.event =
+      let d : domain_of_number p.places events j.parent.number ≡ domain_of_event p.places q.1.0.event =
       ap (domain_of_number p.places events) (sym q.1.1.1.1) ∙ at_event events p.places q.1.0.event.number q.1.0.event (o.event q.0 q.1.0 q.1.1.1.0)
       in
       (q.0, (q.1.0, (q.1.1.1.0, (q.1.1.1.1 ∙ n, sym s ∙ d))))
 
   -- it stands before the child
   pub parent_before : (number : ℕ) (c : Crossing) → slice_get p.crossings number ≡ Some c → (k : ℕ) (x : Timed) → slice_get all k ≡ Some x → x.event.number ≡ c.child
-      → (i : ℕ) × ((w : Timed) × ((i < k) × ((slice_get all i ≡ Some w) × ((w.event.number ≡ c.parent) × (c.source ≡ domain_of p.places w.event)))))
+      → (i : ℕ) × ((w : Timed) × ((i < k) × ((slice_get all i ≡ Some w) × ((w.event.number ≡ c.parent) × (c.source ≡ domain_of_event p.places w.event)))))
   parent_before number c there k x a n =
       let j : Joins p.places events c = joined number c there in
       let e : x.event ≡ j.child = child_slot number c j k x a n in
@@ -87,7 +87,7 @@ module _ (events : List Event) (p : Division) (all : List Timed) (o : IsOrder ev
       in
       let q : (i : ℕ) × ((w : Timed) × ((i < k) × ((slice_get all i ≡ Some w) × (w.event.number ≡ j.parent.number)))) = parent_at events all o k x j.parent a slot in
       let s : domain_of_number p.places events j.parent.number ≡ c.source = ap (λ (z : Crossing). z.source) j.is in
-      let d : domain_of_number p.places events j.parent.number ≡ domain_of p.places q.1.0.event =
+      let d : domain_of_number p.places events j.parent.number ≡ domain_of_event p.places q.1.0.event =
       ap (domain_of_number p.places events) (sym q.1.1.1.1) ∙ at_event events p.places q.1.0.event.number q.1.0.event (o.event q.0 q.1.0 q.1.1.1.0)
       in
       (q.0, (q.1.0, (q.1.1.0, (q.1.1.1.0, (q.1.1.1.1 ∙ ap (λ (z : Crossing). z.parent) j.is, sym s ∙ d)))))
@@ -96,7 +96,7 @@ module _ (events : List Event) (p : Division) (all : List Timed) (o : IsOrder ev
   pub sound_bounds : (domain : ℕ) (own : DomainState) → AreSoundWords all p own.known → IsSoundFloor all p domain own → AreSoundBounds events all p domain own
   sound_bounds domain own known floor = record {
     each = λ number x h target unknown.
-        let q : (k : ℕ) × ((w : Timed) × ((slice_get all k ≡ Some w) × ((w.event.number ≡ x.parent) × (x.source ≡ domain_of p.places w.event)))) = parent_of_crossing number x h in
+        let q : (k : ℕ) × ((w : Timed) × ((slice_get all k ≡ Some w) × ((w.event.number ≡ x.parent) × (x.source ≡ domain_of_event p.places w.event)))) = parent_of_crossing number x h in
         let finish : finish_in all x.parent ≡ q.1.0.finish = ap (finish_in all) (sym q.1.1.1.0) ∙ finish_is events all o q.0 q.1.0 q.1.1.0 in
         let start : start_in all x.parent ≡ q.1.0.start = ap (start_in all) (sym q.1.1.1.0) ∙ start_is events all o q.0 q.1.0 q.1.1.0 in
         let latency : latency_at events x.parent ≡ latency_of q.1.0.event =

@@ -12,17 +12,17 @@ use Rattle.zs_num.specs.declared.time.Word.TheVariants.{Bound, Exact}
 use Rattle.component.specs.declared.kind.Kind.{Kind}
 use Rattle.event_graph.specs.declared.event.Event.{Event}
 use Rattle.event_graph.specs.declared.fired.Fired.{Fired}
-use Rattle.event_graph.specs.OneListWeave.{IsSmallStep, Timed, after_rounds, fire, find_fired, finish_in, finish_or_zero, fired_of, least_ready, round, served, weave, woven}
+use Rattle.event_graph.specs.OneListWeave.{IsSmallStep, Timed, after_firings, fire, find_fired, finish_in, finish_or_zero, fired_of, least_ready, fire_least, served, weave, woven}
 use Rattle.event_graph.specs.Timely.{AreTimely, IsTimely}
 use Rattle.event_graph.specs.TimingSolution.{IsInOrder, IsSolution, after_serving, of_component}
 use Rattle.domain_map.specs.declared.crossing.Crossing.{Crossing}
-use Rattle.domain_map.specs.Domains.{Division, domain_of}
+use Rattle.domain_map.specs.Domains.{Partition, domain_of_event}
 use Rattle.weave_core.specs.AtBarrier.{AreSoundDomains, IsFirstLeft, KnowFiredParents, MayGoOn, least_start_of, own_at}
 use Rattle.weave_core.specs.DomainCalls.{CanFire, DomainValue, Follows, IsFire, IsNoFall, MayFire, MayTell, at_first, comps_in, with_known}
 use Rattle.weave_core.specs.DomainMachine.{DomainState, cycle_of, is_clear, is_exact, next_in, with_floor, word_at}
 use Rattle.weave_core.specs.Following.{FiresFollow, fired_value}
 use Rattle.weave_core.specs.Interleavings.{of_domain}
-use Rattle.weave_core.specs.Keeping.{CanWeave, IsFinishOf, KeepsTo, value_of}
+use Rattle.weave_core.specs.Keeping.{CanWeave, IsFinishOf, KeepsTo, domain_with}
 use Rattle.weave_core.specs.Layout.{place_in}
 use Rattle.weave_core.specs.Soundness.{AreSoundBounds, AreSoundWords, IsSoundFloor, IsSoundWord}
 use Rattle.weave_core.proofs.Firing.{IsOrder, finish_is}
@@ -45,7 +45,7 @@ none_known [] (suc n) = refl
 none_known (x ∷ xs) zero = refl
 none_known (x ∷ xs) (suc n) = none_known xs n
 
-module _ {C : Type 0} (serves : C → Kind → Bool) (floor : C → Kind → ℕ) (stepped : C → Kind → ℕ → C × ℕ) (greatest : C → Kind → ℕ → ℕ) (events : List Event) (p : Division) (comps : List C) where
+module _ {C : Type 0} (serves : C → Kind → Bool) (floor : C → Kind → ℕ) (stepped : C → Kind → ℕ → C × ℕ) (greatest : C → Kind → ℕ → ℕ) (events : List Event) (p : Partition) (comps : List C) where
   abbrev pub all : List Timed
   all = (weave stepped events comps).fired
 
@@ -58,12 +58,12 @@ module _ {C : Type 0} (serves : C → Kind → Bool) (floor : C → Kind → ℕ
     pub order : IsOrder events (weave stepped events comps).fired
     pub served : IsServed stepped comps (weave stepped events comps).fired
     pub in_order : IsInOrder (weave stepped events comps).fired
-    pub here : (k : ℕ) (x : Timed) → slice_get (weave stepped events comps).fired k ≡ Some x → domain_of p.places x.event < length p.events
+    pub here : (k : ℕ) (x : Timed) → slice_get (weave stepped events comps).fired k ≡ Some x → domain_of_event p.places x.event < length p.events
     pub solution : IsSolution stepped events comps (woven stepped events comps)
     pub timely : AreTimely events (map fired_of (woven stepped events comps))
-    pub front : (rounds : ℕ) → (after_rounds stepped events comps rounds).fired ≡ take rounds (weave stepped events comps).fired
-    pub comps_at : (rounds number : ℕ) → slice_get (after_rounds stepped events comps rounds).comps number
-        ≡ option_map (λ c. after_serving stepped c (of_component number (after_rounds stepped events comps rounds).fired)) (slice_get comps number)
+    pub front : (firings : ℕ) → (after_firings stepped events comps firings).fired ≡ take firings (weave stepped events comps).fired
+    pub comps_at : (firings number : ℕ) → slice_get (after_firings stepped events comps firings).comps number
+        ≡ option_map (λ c. after_serving stepped c (of_component number (after_firings stepped events comps firings).fired)) (slice_get comps number)
     pub count : length (weave stepped events comps).fired ≡ length events
     pub bounds : (domain : ℕ) (own : DomainState) → AreSoundWords (woven stepped events comps) p own.known → IsSoundFloor (woven stepped events comps) p domain own
         → AreSoundBounds events (woven stepped events comps) p domain own
@@ -97,12 +97,12 @@ module _ {C : Type 0} (serves : C → Kind → Bool) (floor : C → Kind → ℕ
             let is : finish_in timed number ≡ y.finish = ap finish_or_zero e in
             omega (arith, t.small, is)
 
-    -- the round that fires an event is small
-    one_more_fired : (k : ℕ) → (after_rounds stepped events comps (suc k)).fired ≡ (fire stepped (after_rounds stepped events comps k) (least_ready (after_rounds stepped events comps k).fired events)).fired
-    unfolding after_rounds round
+    -- the firing of an event is small
+    one_more_fired : (k : ℕ) → (after_firings stepped events comps (suc k)).fired ≡ (fire stepped (after_firings stepped events comps k) (least_ready (after_firings stepped events comps k).fired events)).fired
+    unfolding after_firings fire_least
     one_more_fired k = refl
 
-    longer : (k : ℕ) (x : Timed) → slice_get all k ≡ Some x → (after_rounds stepped events comps (suc k)).fired ≡ (after_rounds stepped events comps k).fired ++ x ∷ []
+    longer : (k : ℕ) (x : Timed) → slice_get all k ≡ Some x → (after_firings stepped events comps (suc k)).fired ≡ (after_firings stepped events comps k).fired ++ x ∷ []
     longer k x h =
         let next : suc k ≡ k + 1 = omega arith in
         f.front (suc k)
@@ -114,38 +114,38 @@ module _ {C : Type 0} (serves : C → Kind → Bool) (floor : C → Kind → ℕ
     never_same xs x e = absurd (omega (arith, ap length e, length_push xs x))
 
     pub small_at : (k : ℕ) (x : Timed) → slice_get all k ≡ Some x → (event : Event) (start : ℕ) → x.event ≡ event → x.start ≡ start → (c : C)
-        → slice_get (after_rounds stepped events comps k).comps event.component ≡ Some c → greatest c event.kind start ≤ 2 ^ 62
-    small_at k x h event start event_is start_is c there = by_next (least_ready (after_rounds stepped events comps k).fired events) refl (f.can.small k)
+        → slice_get (after_firings stepped events comps k).comps event.component ≡ Some c → greatest c event.kind start ≤ 2 ^ 62
+    small_at k x h event start event_is start_is c there = by_next (least_ready (after_firings stepped events comps k).fired events) refl (f.can.small k)
       where
-        by_comp : (n : Event × ℕ) → least_ready (after_rounds stepped events comps k).fired events ≡ Some n → (o : Option C) → slice_get (after_rounds stepped events comps k).comps n.0.component ≡ o
+        by_comp : (n : Event × ℕ) → least_ready (after_firings stepped events comps k).fired events ≡ Some n → (o : Option C) → slice_get (after_firings stepped events comps k).comps n.0.component ≡ o
             → IfSome o (λ c. greatest c n.0.kind n.1 ≤ 2 ^ 62) → greatest c event.kind start ≤ 2 ^ 62
         by_comp n e None g s =
             absurd
-            (never_same (after_rounds stepped events comps k).fired x
+            (never_same (after_firings stepped events comps k).fired x
             (sym (one_more_fired k
-            ∙ (ap (λ (o : Option (Event × ℕ)). (fire stepped (after_rounds stepped events comps k) o).fired) e
-            ∙ ap (λ (o : Option C). (served stepped (after_rounds stepped events comps k) n.0 n.1 o).fired) g))
+            ∙ (ap (λ (o : Option (Event × ℕ)). (fire stepped (after_firings stepped events comps k) o).fired) e
+            ∙ ap (λ (o : Option C). (served stepped (after_firings stepped events comps k) n.0 n.1 o).fired) g))
             ∙ longer k x h))
         by_comp n e (Some d) g s =
-            let grown : (after_rounds stepped events comps k).fired ++ (record { event = n.0; start = n.1; finish = (stepped d n.0.kind n.1).1 }) ∷ [] ≡ (after_rounds stepped events comps k).fired ++ x ∷ [] =
+            let grown : (after_firings stepped events comps k).fired ++ (record { event = n.0; start = n.1; finish = (stepped d n.0.kind n.1).1 }) ∷ [] ≡ (after_firings stepped events comps k).fired ++ x ∷ [] =
             sym (one_more_fired k
-            ∙ (ap (λ (o : Option (Event × ℕ)). (fire stepped (after_rounds stepped events comps k) o).fired) e
-            ∙ ap (λ (o : Option C). (served stepped (after_rounds stepped events comps k) n.0 n.1 o).fired) g))
+            ∙ (ap (λ (o : Option (Event × ℕ)). (fire stepped (after_firings stepped events comps k) o).fired) e
+            ∙ ap (λ (o : Option C). (served stepped (after_firings stepped events comps k) n.0 n.1 o).fired) g))
             ∙ longer k x h
             in
-            let same = last_same (after_rounds stepped events comps k).fired _ x grown in
+            let same = last_same (after_firings stepped events comps k).fired _ x grown in
             let is_event : n.0 ≡ event = ap (λ (z : Timed). z.event) same ∙ event_is in
             let is_start : n.1 ≡ start = ap (λ (z : Timed). z.start) same ∙ start_is in
-            let is_component : d ≡ c = same_Some d c (sym g ∙ (ap (λ (z : Event). slice_get (after_rounds stepped events comps k).comps z.component) is_event ∙ there)) in
+            let is_component : d ≡ c = same_Some d c (sym g ∙ (ap (λ (z : Event). slice_get (after_firings stepped events comps k).comps z.component) is_event ∙ there)) in
             subst (λ (z : C). greatest z event.kind start ≤ 2 ^ 62) is_component
             (subst (λ (z : ℕ). greatest d event.kind z ≤ 2 ^ 62) is_start (subst (λ (z : Event). greatest d z.kind n.1 ≤ 2 ^ 62) is_event s))
 
-        by_next : (o : Option (Event × ℕ)) → least_ready (after_rounds stepped events comps k).fired events ≡ o → IsSmallStep stepped greatest (after_rounds stepped events comps k) o → greatest c event.kind start ≤ 2 ^ 62
+        by_next : (o : Option (Event × ℕ)) → least_ready (after_firings stepped events comps k).fired events ≡ o → IsSmallStep stepped greatest (after_firings stepped events comps k) o → greatest c event.kind start ≤ 2 ^ 62
         by_next None e s =
             absurd
-            (never_same (after_rounds stepped events comps k).fired x
-            (sym (one_more_fired k ∙ ap (λ (o : Option (Event × ℕ)). (fire stepped (after_rounds stepped events comps k) o).fired) e) ∙ longer k x h))
-        by_next (Some n) e s = by_comp n e (slice_get (after_rounds stepped events comps k).comps n.0.component) refl s
+            (never_same (after_firings stepped events comps k).fired x
+            (sym (one_more_fired k ∙ ap (λ (o : Option (Event × ℕ)). (fire stepped (after_firings stepped events comps k) o).fired) e) ∙ longer k x h))
+        by_next (Some n) e s = by_comp n e (slice_get (after_firings stepped events comps k).comps n.0.component) refl s
 
     module _ (domain : ℕ) (own : DomainState) (parts : List C) (k : KeepsTo stepped events p comps domain own parts) where
       abbrev bounds : AreSoundBounds events timed p domain own
@@ -200,7 +200,7 @@ module _ {C : Type 0} (serves : C → Kind → Bool) (floor : C → Kind → ℕ
       }
 
       abbrev cut : (cut : ℕ) × (take (length own.fired) (of_domain p.places domain all) ≡ of_domain p.places domain (take cut all))
-      cut = front_cut (λ (y : Timed). eqb (domain_of p.places y.event) domain) all (length own.fired)
+      cut = front_cut (λ (y : Timed). eqb (domain_of_event p.places y.event) domain) all (length own.fired)
 
       fired_cut : own.fired ≡ of_domain p.places domain (take cut.0 all)
       fired_cut = k.fired ∙ cut.1
@@ -213,53 +213,53 @@ module _ {C : Type 0} (serves : C → Kind → Bool) (floor : C → Kind → ℕ
 
       -- the event that may fire
       module _ (event : Event) (start : ℕ) (next : next_in events p domain own ≡ Some (event, start)) (clear : is_clear events p domain own start ≡ true) where
-        abbrev first : IsNextHere events p all f.order f.can.divided.divides domain cut.0 own fired_cut known_all bounds_all (event, start)
-        first = may_fire events p all f.order f.can.divided.divides domain cut.0 own fired_cut known_all bounds_all (event, start) next clear
+        abbrev first : IsNextHere events p all f.order f.can.partitioned.partitions domain cut.0 own fired_cut known_all bounds_all (event, start)
+        first = may_fire events p all f.order f.can.partitioned.partitions domain cut.0 own fired_cut known_all bounds_all (event, start) next clear
 
-        entry : (slice_get (of_domain p.places domain all) (length own.fired) ≡ Some first.x)
+        firing : (slice_get (of_domain p.places domain all) (length own.fired) ≡ Some first.x)
             × ((c : C) × ((slice_get comps first.x.event.component ≡ Some c)
             × (first.x.finish ≡ (stepped (after_serving stepped c (of_component first.x.event.component own.fired)) first.x.event.kind first.x.start).1)))
-        entry = next_entry stepped events p comps f.order f.can.divided.divides f.served f.here f.in_order domain cut.0 own fired_cut known_all bounds_all (event, start) first
+        firing = next_entry stepped events p comps f.order f.can.partitioned.partitions f.served f.here f.in_order domain cut.0 own fired_cut known_all bounds_all (event, start) first
 
-        in_here : domain_of p.places event ≡ domain
+        in_here : domain_of_event p.places event ≡ domain
         in_here =
-            sym (ap (domain_of p.places) first.event)
-            ∙ (pending_is events p all f.order f.can.divided.divides domain cut.0 own fired_cut known_all bounds_all first.k first.x first.first.passes).0
+            sym (ap (domain_of_event p.places) first.event)
+            ∙ (pending_is events p all f.order f.can.partitioned.partitions domain cut.0 own fired_cut known_all bounds_all first.k first.x first.first.passes).0
 
         -- what its component is
-        component_is : (c : C) → slice_get parts (place_in p.places domain event.component) ≡ Some c → c ≡ after_serving stepped entry.1.0 (of_component event.component own.fired)
+        component_is : (c : C) → slice_get parts (place_in p.places domain event.component) ≡ Some c → c ≡ after_serving stepped firing.1.0 (of_component event.component own.fired)
         component_is c there =
-            let base : slice_get comps event.component ≡ Some entry.1.0 = ap (λ (e : Event). slice_get comps e.component) (sym first.event) ∙ entry.1.1.0 in
+            let base : slice_get comps event.component ≡ Some firing.1.0 = ap (λ (e : Event). slice_get comps e.component) (sym first.event) ∙ firing.1.1.0 in
             let placed : slice_get p.places event.component ≡ Some (get_or p.places event.component 0) =
-            slice_get-get_or p.places event.component 0 (omega (arith, get_below comps event.component entry.1.0 base, f.can.divided.places))
+            slice_get-get_or p.places event.component 0 (omega (arith, get_below comps event.component firing.1.0 base, f.can.partitioned.places))
             in
             same_Some c _
             (sym there
             ∙ (ap (λ (cs : List C). slice_get cs (place_in p.places domain event.component)) k.parts_are
             ∙ spot_there p.places domain (map (left_by stepped own.fired) (enumerate_from 0 comps)) event.component (get_or p.places event.component 0) _ placed in_here
-            (left_at stepped own.fired 0 event.component comps event.component entry.1.0 (omega arith) base)))
+            (left_at stepped own.fired 0 event.component comps event.component firing.1.0 (omega arith) base)))
 
         -- as it is in the weave when it serves the event
-        in_weave : (c : C) → slice_get parts (place_in p.places domain event.component) ≡ Some c → slice_get (after_rounds stepped events comps first.k).comps event.component ≡ Some c
+        in_weave : (c : C) → slice_get parts (place_in p.places domain event.component) ≡ Some c → slice_get (after_firings stepped events comps first.k).comps event.component ≡ Some c
         in_weave c there =
-            let base : slice_get comps event.component ≡ Some entry.1.0 = ap (λ (e : Event). slice_get comps e.component) (sym first.event) ∙ entry.1.1.0 in
+            let base : slice_get comps event.component ≡ Some firing.1.0 = ap (λ (e : Event). slice_get comps e.component) (sym first.event) ∙ firing.1.1.0 in
             let mine : of_component event.component (take first.k all) ≡ of_component event.component own.fired =
             subst (λ (e : Event). of_component e.component (take first.k all) ≡ of_component e.component own.fired) first.event
-            (mine_so_far stepped events p comps f.order f.can.divided.divides f.served f.here f.in_order domain cut.0 own fired_cut known_all bounds_all (event, start) first)
+            (mine_so_far stepped events p comps f.order f.can.partitioned.partitions f.served f.here f.in_order domain cut.0 own fired_cut known_all bounds_all (event, start) first)
             in
             f.comps_at first.k event.component
-            ∙ (ap (option_map (λ c. after_serving stepped c (of_component event.component (after_rounds stepped events comps first.k).fired))) base
-            ∙ (ap (λ (xs : List Timed). Some (after_serving stepped entry.1.0 (of_component event.component xs))) (f.front first.k)
-            ∙ (ap (λ (xs : List Timed). Some (after_serving stepped entry.1.0 xs)) mine ∙ ap (λ (z : C). Some z) (sym (component_is c there)))))
+            ∙ (ap (option_map (λ c. after_serving stepped c (of_component event.component (after_firings stepped events comps first.k).fired))) base
+            ∙ (ap (λ (xs : List Timed). Some (after_serving stepped firing.1.0 (of_component event.component xs))) (f.front first.k)
+            ∙ (ap (λ (xs : List Timed). Some (after_serving stepped firing.1.0 xs)) mine ∙ ap (λ (z : C). Some z) (sym (component_is c there)))))
 
         pub small : (c : C) → slice_get parts (place_in p.places domain event.component) ≡ Some c → greatest c event.kind start ≤ 2 ^ 62
         small c there = small_at first.k first.x first.first.there event start first.event first.start c (in_weave c there)
 
-      pub can_fire : (key : Key) → MayFire events p domain own key → CanFire greatest (value_of stepped events p comps domain own parts)
+      pub can_fire : (key : Key) → MayFire events p domain own key → CanFire greatest (domain_with stepped events p comps domain own parts)
       can_fire key may = record { key = key; may = may; small = small may.event key.start may.next may.clear }
 
       -- a fire of it
-      module _ (key : Key) (may : MayFire events p domain own key) (new : DomainValue C) (result : Fired) (fire : IsFire stepped (value_of stepped events p comps domain own parts) new result) where
+      module _ (key : Key) (may : MayFire events p domain own key) (new : DomainValue C) (result : Fired) (fire : IsFire stepped (domain_with stepped events p comps domain own parts) new result) where
         same_next : ◌≡◌ {A = Event × ℕ} (fire.event, fire.start) (may.event, key.start)
         same_next = same_Some (fire.event, fire.start) (may.event, key.start) (sym fire.next ∙ may.next)
 
@@ -269,16 +269,16 @@ module _ {C : Type 0} (serves : C → Kind → Bool) (floor : C → Kind → ℕ
         order : f.solution.sorted ≡ all
         order = order_alike stepped events comps f.order timed refl f.solution.sorted f.solution.in_order f.solution.same f.in_order
 
-        before : Follows stepped comps timed (value_of stepped events p comps domain own parts) f.solution
+        before : Follows stepped comps timed (domain_with stepped events p comps domain own parts) f.solution
         before = record {
           fired = λ a b. k.fired ∙ ap (λ (xs : List Timed). take (length own.fired) (of_domain p.places domain xs)) (sym order);
           comps_are = λ a b. k.parts_are;
         }
 
-        then : Follows stepped comps timed (fired_value stepped (value_of stepped events p comps domain own parts) fire.event fire.start fire.component) f.solution
-        then = f.fires.each comps timed (value_of stepped events p comps domain own parts) new f.solution result fire f.can.divided clear_then before
+        then : Follows stepped comps timed (fired_value stepped (domain_with stepped events p comps domain own parts) fire.event fire.start fire.component) f.solution
+        then = f.fires.each comps timed (domain_with stepped events p comps domain own parts) new f.solution result fire f.can.partitioned clear_then before
 
-        kept : (v : DomainValue C) → v ≡ fired_value stepped (value_of stepped events p comps domain own parts) fire.event fire.start fire.component → KeepsTo stepped events p comps domain v.own v.comps
+        kept : (v : DomainValue C) → v ≡ fired_value stepped (domain_with stepped events p comps domain own parts) fire.event fire.start fire.component → KeepsTo stepped events p comps domain v.own v.comps
         kept v e =
             subst (λ (v : DomainValue C). KeepsTo stepped events p comps domain v.own v.comps) (sym e)
             (record {
@@ -295,8 +295,8 @@ module _ {C : Type 0} (serves : C → Kind → Bool) (floor : C → Kind → ℕ
 
         pub finish_then : result.finish ≡ finish_in timed result.number
         finish_then =
-            let n : IsNextHere events p all f.order f.can.divided.divides domain (cut).0 own fired_cut known_all bounds_all (fire.event, fire.start) = first fire.event fire.start fire.next clear_then in
-            let e = entry fire.event fire.start fire.next clear_then in
+            let n : IsNextHere events p all f.order f.can.partitioned.partitions domain (cut).0 own fired_cut known_all bounds_all (fire.event, fire.start) = first fire.event fire.start fire.next clear_then in
+            let e = firing fire.event fire.start fire.next clear_then in
             let c : fire.component ≡ after_serving stepped e.1.0 (of_component fire.event.component own.fired) = component_is fire.event fire.start fire.next clear_then fire.component fire.there in
             let number : finish_in timed fire.event.number ≡ n.x.finish =
             finish_alike stepped events comps f.order timed refl fire.event.number

@@ -11,7 +11,7 @@ use Rattle.event_graph.specs.declared.event.Event.{Event}
 use Rattle.event_graph.specs.declared.event.Parent.{Parent}
 use Rattle.event_graph.specs.Numbered.{IsNumbered}
 use Rattle.domain_map.specs.declared.crossing.Crossing.{Crossing}
-use Rattle.domain_map.specs.Domains.{Division, Divides, domain_of, domain_of_number, events_in}
+use Rattle.domain_map.specs.Domains.{Partition, IsPartition, domain_of_event, domain_of_number, events_in}
 use Rattle.weave_core.specs.declared.incoming.Stub.{Stub}
 use Rattle.weave_core.specs.Beginning.{AddsWaits, AreCounts, AreCrossed, AreSmall, AreStubsUpto, HasPlace, HasWaits, IsCount, IsRisingList}
 use Rattle.weave_core.specs.DomainMachine.{is_exact}
@@ -99,21 +99,21 @@ words_none : (n : ℕ) (crossings : List Crossing) → map (λ (at : ℕ × Cros
 words_none n [] = refl
 words_none n (x ∷ crossings) = ap (λ (ws : List Word). Bound 0 ∷ ws) (words_none (n + 1) crossings)
 
-module _ (events : List Event) (p : Division) (domain : ℕ) (numbered : IsNumbered events) (divides : Divides events p) (below : domain < length p.events) (fits : FitsDomain events p)
+module _ (events : List Event) (p : Partition) (domain : ℕ) (numbered : IsNumbered events) (partitions : IsPartition events p) (below : domain < length p.events) (fits : FitsDomain events p)
     (numbers : List ℕ) (numbers_are : slice_get p.events domain ≡ Some numbers) where
   abbrev mine : List Event
-  mine = filter (λ (e : Event). eqb (domain_of p.places e) domain) events
+  mine = filter (λ (e : Event). eqb (domain_of_event p.places e) domain) events
 
   abbrev pub here : List Event
   here = map (λ (n : ℕ). get_or events n no_event) numbers
 
   numbers_is : numbers ≡ map (λ (e : Event). e.number) mine
   unfolding events_in
-  numbers_is = same_Some numbers (events_in p.places events domain) (sym numbers_are ∙ divides.each domain below)
+  numbers_is = same_Some numbers (events_in p.places events domain) (sym numbers_are ∙ partitions.each domain below)
 
   in_events : (e : Event) → In e mine → slice_get events e.number ≡ Some e
   in_events e m =
-      let f = from_filter (λ (x : Event). eqb (domain_of p.places x) domain) e events m in
+      let f = from_filter (λ (x : Event). eqb (domain_of_event p.places x) domain) e events m in
       let at : (i : ℕ) × (slice_get events i ≡ Some e) = in_at e events f.0 in
       ap (slice_get events) (numbered.number at.0 e at.1) ∙ at.1
 
@@ -133,21 +133,21 @@ module _ (events : List Event) (p : Division) (domain : ℕ) (numbered : IsNumbe
   are_here = record {
     each = λ place e h.
         let m : In e mine = at_in e mine place (get_mine place e h) in
-        (in_events e m, eq_is (domain_of p.places e) domain (from_filter (λ (x : Event). eqb (domain_of p.places x) domain) e events m).1);
+        (in_events e m, eq_is (domain_of_event p.places e) domain (from_filter (λ (x : Event). eqb (domain_of_event p.places x) domain) e events m).1);
     covers = λ number e h d.
         let at : (i : ℕ) × (slice_get mine i ≡ Some e) =
-        in_at e mine (in_filter (λ (x : Event). eqb (domain_of p.places x) domain) e events (at_in e events number h) (is_eq (domain_of p.places e) domain d))
+        in_at e mine (in_filter (λ (x : Event). eqb (domain_of_event p.places x) domain) e events (at_in e events number h) (is_eq (domain_of_event p.places e) domain d))
         in
         (at.0, ap (λ (xs : List Event). slice_get xs at.0) here_is ∙ at.1);
     rising = λ i j e f l h k.
-        ascends_rise 0 mine i j e f (ascends_filter (λ (x : Event). eqb (domain_of p.places x) domain) 0 events (λ n x m. omega (arith, numbered.number n x m))) l (get_mine i e h) (get_mine j f k);
+        ascends_rise 0 mine i j e f (ascends_filter (λ (x : Event). eqb (domain_of_event p.places x) domain) 0 events (λ n x m. omega (arith, numbered.number n x m))) l (get_mine i e h) (get_mine j f k);
   }
 
   pub rising_here : IsRisingList here
   rising_here = record { rising = are_here.rising }
 
   pub few_here : length here < 2 ^ 30
-  few_here = omega (arith, ap length here_is, length-filter (λ (x : Event). eqb (domain_of p.places x) domain) events, fits.few)
+  few_here = omega (arith, ap length here_is, length-filter (λ (x : Event). eqb (domain_of_event p.places x) domain) events, fits.few)
 
   pub small_here : AreSmall here
   small_here = record { each = λ place e h. fits.small.each e.number e (are_here.each place e h).0 }
@@ -155,8 +155,8 @@ module _ (events : List Event) (p : Division) (domain : ℕ) (numbered : IsNumbe
   pub crossed : AreCrossed events here p.crossings domain
   crossed = record {
     each = λ number x h target.
-        let j : Joins p.places events x = joins p.places events number x (subst (λ (xs : List Crossing). slice_get xs number ≡ Some x) divides.crossings h) in
-        let d : domain_of p.places j.child ≡ domain = ap (λ (z : Crossing). z.target) j.is ∙ target in
+        let j : Joins p.places events x = joins p.places events number x (subst (λ (xs : List Crossing). slice_get xs number ≡ Some x) partitions.crossings h) in
+        let d : domain_of_event p.places j.child ≡ domain = ap (λ (z : Crossing). z.target) j.is ∙ target in
         let place = are_here.covers j.number j.child j.there d in
         let lower : j.parent.number < j.number =
         elim j.slot [ inl s ↦ numbered.first j.number j.child j.parent j.there s | inr s ↦ numbered.second j.number j.child j.parent j.there s ]
@@ -201,7 +201,7 @@ module _ (events : List Event) (p : Division) (domain : ℕ) (numbered : IsNumbe
       found : eqb (domain_of_number p.places events q.number) domain ≡ true → (place : ℕ) × HasPlace here q.number place
       found v =
           let f : (f : Event) × (slice_get events q.number ≡ Some f) = get_there events q.number (l q refl) in
-          let d : domain_of p.places f.0 ≡ domain = sym (at_event events p.places q.number f.0 f.1) ∙ eq_is (domain_of_number p.places events q.number) domain v in
+          let d : domain_of_event p.places f.0 ≡ domain = sym (at_event events p.places q.number f.0 f.1) ∙ eq_is (domain_of_number p.places events q.number) domain v in
           let place = are_here.covers q.number f.0 f.1 d in
           (place.0, record { event = f.0; there = place.1; number_is = numbered.number q.number f.0 f.1 })
 

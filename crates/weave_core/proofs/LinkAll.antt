@@ -8,14 +8,14 @@ use Rattle.std.specs.Option.{option_map_or}
 use Rattle.event_graph.specs.declared.event.Event.{Event}
 use Rattle.weave_core.specs.declared.children.Link.{Link}
 use Rattle.weave_core.specs.Beginning.{AreChained, AreCounts, IsCount}
-use Rattle.weave_core.specs.Layout.{AreLinked, hit_after, hits}
+use Rattle.weave_core.specs.Layout.{AreLinked, hit_after, times_parent}
 use Rattle.weave_core.proofs.Linking.{chained_alike}
 use Rattle.weave_core.proofs.Lists.{get_below, last_at}
 use Rattle.weave_core.proofs.Spots.{get_push}
 use Rattle.weave_core.proofs.Words.{apart_eq, is_eq}
 
 abbrev pub both_hits : (number : ℕ) → Event → ℕ
-both_hits number e = hits number e.first + hits number e.second
+both_hits number e = times_parent number e.first + times_parent number e.second
 
 abbrev pub both_after : (finish number : ℕ) → Event → ℕ
 both_after finish number e = max (hit_after finish number e.first) (hit_after finish number e.second)
@@ -33,7 +33,7 @@ below_is a b h = grind (arith, nat_tests)
 not_below : (a b : ℕ) → b ≤ a → ltb a b ≡ false
 not_below a b h = grind (arith, nat_tests)
 
-count_below : (here : List Event) (upto number child : ℕ) (e : Event) → child < upto → slice_get here child ≡ Some e → count_upto here upto number child ≡ hits number e.first + hits number e.second
+count_below : (here : List Event) (upto number child : ℕ) (e : Event) → child < upto → slice_get here child ≡ Some e → count_upto here upto number child ≡ times_parent number e.first + times_parent number e.second
 count_below here upto number child e l h =
     ap (λ (t : Bool). cond t (option_map_or (both_hits number) (slice_get here child) 0) 0) (below_is child upto l) ∙ ap (λ (o : Option Event). option_map_or (both_hits number) o 0) h
 
@@ -93,7 +93,7 @@ chained_none here heads is = record {
 
 -- one event more
 pub chained_next : (here : List Event) (heads : List ℕ) (links : List Link) (upto : ℕ) (e : Event) → slice_get here upto ≡ Some e
-    → AreChained here heads links (λ n c. (count_upto here upto n c + cond (eqb c upto) (hits n e.first) 0) + cond (eqb c upto) (hits n e.second) 0)
+    → AreChained here heads links (λ n c. (count_upto here upto n c + cond (eqb c upto) (times_parent n e.first) 0) + cond (eqb c upto) (times_parent n e.second) 0)
     (λ f n c. max (max (late_upto here upto f n c) (cond (eqb c upto) (hit_after f n e.first) 0)) (cond (eqb c upto) (hit_after f n e.second) 0))
     → AreChained here heads links (count_upto here (upto + 1)) (late_upto here (upto + 1))
 chained_next here heads links upto e there are =
@@ -105,20 +105,20 @@ chained_next here heads links upto e there are =
     on : (c n : ℕ) → c ≡ upto → cond (eqb c upto) n 0 ≡ n
     on c n same = ap (λ (t : Bool). cond t n 0) (is_eq c upto same)
 
-    counts : (n c : ℕ) → (count_upto here upto n c + cond (eqb c upto) (hits n e.first) 0) + cond (eqb c upto) (hits n e.second) 0 ≡ count_upto here (upto + 1) n c
+    counts : (n c : ℕ) → (count_upto here upto n c + cond (eqb c upto) (times_parent n e.first) 0) + cond (eqb c upto) (times_parent n e.second) 0 ≡ count_upto here (upto + 1) n c
     counts n c =
         elim (cases_eq c upto) [
           | inl same ↦
-              let now : count_upto here (upto + 1) n c ≡ hits n e.first + hits n e.second = count_below here (upto + 1) n c e (omega (arith, same)) (ap (slice_get here) same ∙ there) in
+              let now : count_upto here (upto + 1) n c ≡ times_parent n e.first + times_parent n e.second = count_below here (upto + 1) n c e (omega (arith, same)) (ap (slice_get here) same ∙ there) in
               let was : count_upto here upto n c ≡ 0 = count_past here upto n c (omega (arith, same)) in
-              omega (arith, now, was, on c (hits n e.first) same, on c (hits n e.second) same)
+              omega (arith, now, was, on c (times_parent n e.first) same, on c (times_parent n e.second) same)
           | inr apart ↦
               elim (cases_lt c upto) [
-                | inl l ↦ omega (arith, same_test here upto n c l, off c (hits n e.first) apart, off c (hits n e.second) apart)
+                | inl l ↦ omega (arith, same_test here upto n c l, off c (times_parent n e.first) apart, off c (times_parent n e.second) apart)
                 | inr m ↦
                     let now : count_upto here (upto + 1) n c ≡ 0 = count_past here (upto + 1) n c (omega (arith, m, apart)) in
                     let was : count_upto here upto n c ≡ 0 = count_past here upto n c m in
-                    omega (arith, now, was, off c (hits n e.first) apart, off c (hits n e.second) apart)
+                    omega (arith, now, was, off c (times_parent n e.first) apart, off c (times_parent n e.second) apart)
               ]
         ]
 

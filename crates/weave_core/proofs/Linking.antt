@@ -8,7 +8,7 @@ use Rattle.event_graph.specs.declared.event.Parent.{Parent}
 use Rattle.weave_core.specs.declared.children.Link.{Link}
 use Rattle.weave_core.specs.Beginning.{AreChained, HasPlace, IsRisingList, NoPlace}
 use Rattle.weave_core.specs.Children.{IsChain}
-use Rattle.weave_core.specs.Layout.{hit_after, hits, latest_to, links_to}
+use Rattle.weave_core.specs.Layout.{hit_after, times_parent, latest_to, links_to}
 use Rattle.weave_core.proofs.Lists.{last_at}
 use Rattle.weave_core.proofs.Updates.{get_set_other, get_set_same}
 use Rattle.weave_core.proofs.Words.{apart_eq, is_eq, one_place}
@@ -43,18 +43,18 @@ chained_alike here heads links count other late over are same = record {
 
 -- the parent isn't here
 pub not_added : (here : List Event) (heads : List ℕ) (links : List Link) (child : ℕ) (q : Option Parent) (count : (number child : ℕ) → ℕ) (late : (finish number child : ℕ) → ℕ)
-    → ((place : ℕ) (e : Event) → slice_get here place ≡ Some e → (hits e.number q ≡ 0) × ((f : ℕ) → hit_after f e.number q ≡ 0))
+    → ((place : ℕ) (e : Event) → slice_get here place ≡ Some e → (times_parent e.number q ≡ 0) × ((f : ℕ) → hit_after f e.number q ≡ 0))
     → AreChained here heads links count late
-    → AreChained here heads links (λ n c. count n c + cond (eqb c child) (hits n q) 0) (λ f n c. max (late f n c) (cond (eqb c child) (hit_after f n q) 0))
+    → AreChained here heads links (λ n c. count n c + cond (eqb c child) (times_parent n q) 0) (λ f n c. max (late f n c) (cond (eqb c child) (hit_after f n q) 0))
 not_added here heads links child q count late none are =
-    chained_alike here heads links count (λ n c. count n c + cond (eqb c child) (hits n q) 0) late (λ f n c. max (late f n c) (cond (eqb c child) (hit_after f n q) 0)) are
+    chained_alike here heads links count (λ n c. count n c + cond (eqb c child) (times_parent n q) 0) late (λ f n c. max (late f n c) (cond (eqb c child) (hit_after f n q) 0)) are
     (λ place e h. (
-      (λ c. omega (arith, no_more c child (hits e.number q) (none place e h).0)),
+      (λ c. omega (arith, no_more c child (times_parent e.number q) (none place e h).0)),
       (λ f c. omega (arith, no_more c child (hit_after f e.number q) ((none place e h).1 f))),
     ))
 
 pub none_hit : (here : List Event) (q : Parent) → NoPlace here q.number → (place : ℕ) (e : Event) → slice_get here place ≡ Some e
-    → (hits e.number (Some q) ≡ 0) × ((f : ℕ) → hit_after f e.number (Some q) ≡ 0)
+    → (times_parent e.number (Some q) ≡ 0) × ((f : ℕ) → hit_after f e.number (Some q) ≡ 0)
 none_hit here q none place e h =
     let apart : eqb q.number e.number ≡ false = apart_eq q.number e.number (λ s. none place e h (sym s)) in
     (ap (λ (t : Bool). cond {A = ℕ} t 1 0) apart, λ f. ap (λ (t : Bool). cond t (f + q.delay) 0) apart)
@@ -63,7 +63,7 @@ none_hit here q none place e h =
 pub added : (here : List Event) (rising : IsRisingList here) (heads : List ℕ) (links : List Link) (child place head : ℕ) (q : Parent) (count : (number child : ℕ) → ℕ) (late : (finish number child : ℕ) → ℕ)
     → HasPlace here q.number place → child < length here → q.delay ≤ 2 ^ 62 → slice_get heads place ≡ Some head → AreChained here heads links count late
     → AreChained here (set heads place (length links + 1)) (links ++ (record { child = child; next = head; delay = q.delay }) ∷ [])
-    (λ n c. count n c + cond (eqb c child) (hits n (Some q)) 0) (λ f n c. max (late f n c) (cond (eqb c child) (hit_after f n (Some q)) 0))
+    (λ n c. count n c + cond (eqb c child) (times_parent n (Some q)) 0) (λ f n c. max (late f n c) (cond (eqb c child) (hit_after f n (Some q)) 0))
 added here rising heads links child place head q count late has within small head_there are = record {
   each = λ i e h.
       let a = are.each i e h in
@@ -89,7 +89,7 @@ added here rising heads links child place head q count late has within small hea
                       (
                         inside a.1.1.1.0 a.1.1.1.1.1.0,
                         (
-                          (λ c. counted c (links_to c a.1.1.1.0) (count e.number c) (hits e.number (Some q)) (a.1.1.1.1.1.1.0 c) (ap (λ (t : Bool). cond {A = ℕ} t 1 0) hit)),
+                          (λ c. counted c (links_to c a.1.1.1.0) (count e.number c) (times_parent e.number (Some q)) (a.1.1.1.1.1.1.0 c) (ap (λ (t : Bool). cond {A = ℕ} t 1 0) hit)),
                           (λ f c. latest f c (latest_to f c a.1.1.1.0) (late f e.number c) (hit_after f e.number (Some q)) (a.1.1.1.1.1.1.1 f c) (ap (λ (t : Bool). cond t (f + q.delay) 0) hit)),
                         ),
                       ),
@@ -102,7 +102,7 @@ added here rising heads links child place head q count late has within small hea
             let other : eqb q.number e.number ≡ false =
             apart_eq q.number e.number (λ s. apart (one_place (λ (z : Event). z.number) here rising.rising i place e has.event h has.there (sym (has.number_is ∙ s))))
             in
-            let no_hit : hits e.number (Some q) ≡ 0 = ap (λ (t : Bool). cond {A = ℕ} t 1 0) other in (
+            let no_hit : times_parent e.number (Some q) ≡ 0 = ap (λ (t : Bool). cond {A = ℕ} t 1 0) other in (
               a.0,
               (
                 get_set_other heads place i (length links + 1) apart ∙ a.1.0,
@@ -115,7 +115,7 @@ added here rising heads links child place head q count late has within small hea
                       (
                         a.1.1.1.1.1.0,
                         (
-                          (λ c. omega (arith, a.1.1.1.1.1.1.0 c, no_more c child (hits e.number (Some q)) no_hit)),
+                          (λ c. omega (arith, a.1.1.1.1.1.1.0 c, no_more c child (times_parent e.number (Some q)) no_hit)),
                           (λ f c. let none : hit_after f e.number (Some q) ≡ 0 = ap (λ (t : Bool). cond t (f + q.delay) 0) other in
                               omega (arith, a.1.1.1.1.1.1.1 f c, no_more c child (hit_after f e.number (Some q)) none)),
                         ),

@@ -10,7 +10,7 @@ use Rattle.event_graph.specs.declared.event.Event.{Event}
 use Rattle.event_graph.specs.declared.event.Parent.{Parent}
 use Rattle.event_graph.specs.OneListWeave.{Timed, is_fired}
 use Rattle.domain_map.specs.declared.crossing.Crossing.{Crossing}
-use Rattle.domain_map.specs.Domains.{Division}
+use Rattle.domain_map.specs.Domains.{Partition}
 use Rattle.weave_core.specs.declared.incoming.Stub.{Stub}
 use Rattle.weave_core.specs.DomainCalls.{IsNoFall, MayTell}
 use Rattle.weave_core.specs.DomainMachine.{DomainState, cycle_of, is_exact, word_at}
@@ -92,7 +92,7 @@ unknown_few child (s ∷ stubs) = by_test (unknown_few child stubs) (eqb s.child
     by_test rest false = omega (arith, rest)
 
 -- what is kept of the graph doesn't read the words or the floor
-pub stands_alike : (events : List Event) (p : Division) (domain : ℕ) (here : List Event) (stubs : List Stub) (w : Waits) (fired : List Timed) (known other : List Word) (floor over : ℕ)
+pub stands_alike : (events : List Event) (p : Partition) (domain : ℕ) (here : List Event) (stubs : List Stub) (w : Waits) (fired : List Timed) (known other : List Word) (floor over : ℕ)
     → Stands events p domain (record { fired = fired; known = known; floor = floor }) here stubs w → Stands events p domain (record { fired = fired; known = other; floor = over }) here stubs w
 stands_alike events p domain here stubs w fired known other floor over s = record {
   starts_size = s.starts_size;
@@ -103,14 +103,14 @@ stands_alike events p domain here stubs w fired known other floor over s = recor
   agree = s.agree;
 }
 
-pending_few : (events : List Event) (p : Division) (domain : ℕ) (own : DomainState) (q : Option Parent) → pending events p domain own q ≤ 1
+pending_few : (events : List Event) (p : Partition) (domain : ℕ) (own : DomainState) (q : Option Parent) → pending events p domain own q ≤ 1
 pending_few events p domain own q = by_test _
   where
     by_test : (t : Bool) → cond {A = ℕ} t 0 1 ≤ 1
     by_test true = omega arith
     by_test false = omega arith
 
-module _ (events : List Event) (p : Division) (domain : ℕ) (here : List Event) (stubs : List Stub) (own : DomainState) (w : Waits)
+module _ (events : List Event) (p : Partition) (domain : ℕ) (here : List Event) (stubs : List Stub) (own : DomainState) (w : Waits)
     (are_here : AreHere events p domain here) (are : AreStubs events p domain here stubs)
     (known : own.known ≡ known_words p.crossings stubs) (stands : Stands events p domain own here stubs w)
     (number : ℕ) (word : Word) (may : MayTell events p domain own number word)

@@ -9,7 +9,7 @@ use Rattle.event_graph.specs.declared.event.Event.{Event}
 use Rattle.event_graph.specs.declared.event.Parent.{Parent}
 use Rattle.event_graph.specs.OneListWeave.{Timed, is_event_before, is_fired, start_of}
 use Rattle.domain_map.specs.declared.crossing.Crossing.{Crossing}
-use Rattle.domain_map.specs.Domains.{Division, Divides, domain_of, domain_of_number}
+use Rattle.domain_map.specs.Domains.{Partition, IsPartition, domain_of_event, domain_of_number}
 use Rattle.weave_core.specs.DomainMachine.{DomainState, arrival_of, every_crossing, is_clear, is_exact, is_own_parent_fired, is_ready_in, is_unresolved, known_finish, limit_of, next_in, word_at}
 use Rattle.weave_core.specs.Soundness.{AreSoundBounds, AreSoundWords}
 use Rattle.weave_core.specs.Interleavings.{of_domain}
@@ -21,24 +21,24 @@ use Rattle.weave_core.proofs.Firing.{IsOrder, before_start, fired_before, parent
 use Rattle.weave_core.proofs.Joined.{at_event, child_slot, eq_test, joined, less_is, test_eq}
 use Rattle.weave_core.proofs.ReadyEvents.{IsPlaced, IsReady, is_ready, placed, ready_start, sound_arrival}
 
-module _ (events : List Event) (p : Division) (all : List Timed) (o : IsOrder events all) (div : Divides events p) where
+module _ (events : List Event) (p : Partition) (all : List Timed) (o : IsOrder events all) (div : IsPartition events p) where
   module _ (domain cut : ℕ) (own : DomainState) (fired_is : own.fired ≡ of_domain p.places domain (take cut all))
       (known : AreSoundWords all p own.known) (bounds : AreSoundBounds events all p domain own) where
     -- The domain's first event behind the cut.
 
     abbrev pub is_pending : ℕ → Timed → Bool
-    is_pending k x = eqb (domain_of p.places x.event) domain && leb cut k
+    is_pending k x = eqb (domain_of_event p.places x.event) domain && leb cut k
 
-    pub pending_test : (k : ℕ) (x : Timed) → domain_of p.places x.event ≡ domain → cut ≤ k → is_pending k x ≡ true
+    pub pending_test : (k : ℕ) (x : Timed) → domain_of_event p.places x.event ≡ domain → cut ≤ k → is_pending k x ≡ true
     pending_test k x d b = grind (arith, nat_tests)
 
-    pub pending_is : (k : ℕ) (x : Timed) → is_pending k x ≡ true → (domain_of p.places x.event ≡ domain) × (cut ≤ k)
+    pub pending_is : (k : ℕ) (x : Timed) → is_pending k x ≡ true → (domain_of_event p.places x.event ≡ domain) × (cut ≤ k)
     pending_is k x h =
-        let a = both (eqb (domain_of p.places x.event) domain) (leb cut k) h in
+        let a = both (eqb (domain_of_event p.places x.event) domain) (leb cut k) h in
         let b : cut ≤ k = grind (arith, nat_tests, a.1) in
-        (test_eq (domain_of p.places x.event) domain a.0, b)
+        (test_eq (domain_of_event p.places x.event) domain a.0, b)
 
-    not_pending : (k : ℕ) (x : Timed) → is_pending k x ≡ false → domain_of p.places x.event ≡ domain → k < cut
+    not_pending : (k : ℕ) (x : Timed) → is_pending k x ≡ false → domain_of_event p.places x.event ≡ domain → k < cut
     not_pending k x h d =
         elim (cases_lt k cut) [
           | inl l ↦ l
@@ -62,7 +62,7 @@ module _ (events : List Event) (p : Division) (all : List Timed) (o : IsOrder ev
         elim (test_cases (eqb (domain_of_number p.places events q.number) domain)) [
           | inr apart ↦ or_right (is_fired own.fired q.number) (not (eqb (domain_of_number p.places events q.number) domain)) (ap not apart)
           | inl here ↦
-              let d : domain_of p.places r.1.0.event ≡ domain =
+              let d : domain_of_event p.places r.1.0.event ≡ domain =
               sym (at_event events p.places r.1.0.event.number r.1.0.event (o.event r.0 r.1.0 r.1.1.1.0))
               ∙ (ap (domain_of_number p.places events) r.1.1.1.1 ∙ test_eq (domain_of_number p.places events q.number) domain here)
               in
@@ -80,7 +80,7 @@ module _ (events : List Event) (p : Division) (all : List Timed) (o : IsOrder ev
         in
         elim (test_cases (every_crossing events p (λ number z. not (eqb z.child x.event.number) || is_exact (word_at own.known number)))) [
           | inl t ↦
-              inl (and_true (eqb (domain_of p.places x.event) domain) _ (eq_test (domain_of p.places x.event) domain is.0)
+              inl (and_true (eqb (domain_of_event p.places x.event) domain) _ (eq_test (domain_of_event p.places x.event) domain is.0)
               (and_true (not (is_fired own.fired x.event.number)) _ (ap not unfired)
               (and_true (is_own_parent_fired events p domain own x.event.first && is_own_parent_fired events p domain own x.event.second) _
               (and_true (is_own_parent_fired events p domain own x.event.first) (is_own_parent_fired events p domain own x.event.second)
@@ -99,7 +99,7 @@ module _ (events : List Event) (p : Division) (all : List Timed) (o : IsOrder ev
                 crossing = r.0.1;
                 there = there;
                 child = child;
-                target = sym (ap (λ (z : Crossing). z.target) j.is) ∙ (ap (domain_of p.places) (sym e) ∙ is.0);
+                target = sym (ap (λ (z : Crossing). z.target) j.is) ∙ (ap (domain_of_event p.places) (sym e) ∙ is.0);
                 unknown = n.1;
               })
         ]
@@ -132,7 +132,7 @@ module _ (events : List Event) (p : Division) (all : List Timed) (o : IsOrder ev
         let r : IsReady events p all o div domain cut own fired_is known bounds b.0 = is_ready events p all o div domain cut own fired_is known bounds b.0 l.passes in
         let at_start : w.x.start ≡ b.1 = sym w.start ∙ sym l.start_is in
         let f : (j : ℕ) × ((y : Timed) × ((j ≤ w.k) × IsFirst is_pending all j y)) =
-        first_of is_pending all w.k w.x w.there (pending_test w.k w.x (ap (domain_of p.places) w.event ∙ r.here) w.behind)
+        first_of is_pending all w.k w.x w.there (pending_test w.k w.x (ap (domain_of_event p.places) w.event ∙ r.here) w.behind)
         in
         elim (cases_lt f.0 w.k) [
           | inr m ↦
@@ -185,7 +185,7 @@ module _ (events : List Event) (p : Division) (all : List Timed) (o : IsOrder ev
     arrivals = map (λ (at : ℕ × Crossing). arrival_of events p own at.0 at.1) (filter (λ (at : ℕ × Crossing). is_unresolved events p domain own at.0 at.1) (enumerate_from 0 p.crossings))
 
     -- No event behind the cut starts before the limit.
-    pub limit_holds : (limit : ℕ) → limit_of events p domain own ≡ Some limit → (k : ℕ) (x : Timed) → slice_get all k ≡ Some x → domain_of p.places x.event ≡ domain
+    pub limit_holds : (limit : ℕ) → limit_of events p domain own ≡ Some limit → (k : ℕ) (x : Timed) → slice_get all k ≡ Some x → domain_of_event p.places x.event ≡ domain
         → cut ≤ k → limit ≤ x.start
     limit_holds limit is k x h d behind =
         let f : (j : ℕ) × ((y : Timed) × ((j ≤ k) × IsFirst is_pending all j y)) = first_of is_pending all k x h (pending_test k x d behind) in

@@ -6,7 +6,7 @@ use Rattle.event_graph.specs.declared.event.Event.{Event}
 use Rattle.event_graph.specs.declared.fired.Fired.{Fired}
 use Rattle.event_graph.specs.Fits.{EventFits}
 use Rattle.event_graph.specs.Numbered.{IsNumbered}
-use Rattle.domain_map.specs.Domains.{Division, Divides}
+use Rattle.domain_map.specs.Domains.{Partition, IsPartition}
 use Rattle.weave_core.specs.declared.prepare.Layout.{Layout as Kept}
 use Rattle.weave_core.specs.DomainCalls.{IsFitted, comps_in}
 use Rattle.weave_core.specs.LaidOut.{IsLaidOut}
@@ -15,16 +15,16 @@ use Rattle.weave_core.proofs.Lists.{get_below}
 use Rattle.weave_core.proofs.Looked.{stands_alike}
 use Rattle.weave_core.proofs.Spots.{spot_there}
 
--- what is true of a domain, over its graph and its division
-pub record IsBegun {C : Type 0} (serves : C → Kind → Bool) (domain : ℕ) (l : Kept) (comps : List C) (events : List Event) (p : Division) : Type 0 where
+-- what is true of a domain, over its graph and its partition
+pub record IsBegun {C : Type 0} (serves : C → Kind → Bool) (domain : ℕ) (l : Kept) (comps : List C) (events : List Event) (p : Partition) : Type 0 where
   pub numbered : IsNumbered events
-  pub divides : Divides events p
+  pub partitions : IsPartition events p
   pub here : AreHere events p domain l.here.items
   pub stubs : AreStubs events p domain l.here.items l.incoming.stubs
   pub stands : Stands events p domain (record { fired = map (timed_from events) l.fired.items; known = known_words p.crossings l.incoming.stubs; floor = l.incoming.floor }) l.here.items l.incoming.stubs l.waiting
   pub served : HaveComponents serves p domain l.here.items l.spots.items comps
 
-served_by : {C : Type 0} (serves : C → Kind → Bool) (floor : C → Kind → ℕ) (events : List Event) (p : Division) (domain : ℕ) (l : Kept) (comps all : List C)
+served_by : {C : Type 0} (serves : C → Kind → Bool) (floor : C → Kind → ℕ) (events : List Event) (p : Partition) (domain : ℕ) (l : Kept) (comps all : List C)
     → IsLaidOut events p domain l → IsFitted serves floor events p domain comps all → HaveComponents serves p domain l.here.items l.spots.items comps
 served_by {C} serves floor events p domain l comps all laid fits = record {
   spot = λ place e h. laid.spots.each e.component (below place e h);
@@ -41,11 +41,11 @@ served_by {C} serves floor events p domain l comps all laid fits = record {
         let f : EventFits serves floor all e = fits.fits e.number e (laid.here.each place e h).0 in
         omega (arith, get_below all e.component f.component f.there, fits.count)
 
-pub begun : {C : Type 0} (serves : C → Kind → Bool) (floor : C → Kind → ℕ) (events : List Event) (p : Division) (domain : ℕ) (l : Kept) (comps all : List C)
-    → IsNumbered events → Divides events p → IsLaidOut events p domain l → IsFitted serves floor events p domain comps all → IsBegun serves domain l comps events p
-begun serves floor events p domain l comps all numbered divides laid fits = record {
+pub begun : {C : Type 0} (serves : C → Kind → Bool) (floor : C → Kind → ℕ) (events : List Event) (p : Partition) (domain : ℕ) (l : Kept) (comps all : List C)
+    → IsNumbered events → IsPartition events p → IsLaidOut events p domain l → IsFitted serves floor events p domain comps all → IsBegun serves domain l comps events p
+begun serves floor events p domain l comps all numbered partitions laid fits = record {
   numbered = numbered;
-  divides = divides;
+  partitions = partitions;
   here = laid.here;
   stubs = laid.stubs;
   stands =

@@ -12,7 +12,7 @@ use Rattle.event_graph.specs.declared.event.Parent.{Parent}
 use Rattle.event_graph.specs.Numbered.{IsNumbered}
 use Rattle.event_graph.specs.OneListWeave.{after_parent, finish_in, is_event_before, is_fired, start_of}
 use Rattle.domain_map.specs.declared.crossing.Crossing.{Crossing}
-use Rattle.domain_map.specs.Domains.{Division, Divides, domain_of, domain_of_number}
+use Rattle.domain_map.specs.Domains.{Partition, IsPartition, domain_of_event, domain_of_number}
 use Rattle.weave_core.specs.declared.incoming.Stub.{Stub}
 use Rattle.weave_core.specs.DomainMachine.{DomainState, cycle_of, is_exact, is_own_parent_fired, is_ready_in, known_finish, next_in, told_finish, word_at}
 use Rattle.weave_core.specs.Layout.{AreHere, AreStubs, Stands, known_words, missing_at, pending, start_after_own, start_at, told_into, unknown_into}
@@ -22,8 +22,8 @@ use Rattle.weave_core.proofs.LeastBy.{IsLeast, next_there, some_next}
 use Rattle.weave_core.proofs.Lists.{In, all_from, all_in, and_true, at_in, both, either, find_in, find_some, from_enum, in_at, in_enum, not_true, some_at}
 use Rattle.weave_core.proofs.Words.{all_known, eq_is, is_eq, known_is_stub, none_unknown, one_place, told_least, told_most, word_known}
 
-module _ (events : List Event) (p : Division) (domain : ℕ) (here : List Event) (stubs : List Stub) (own : DomainState) (w : Waits)
-    (numbered : IsNumbered events) (divides : Divides events p) (are_here : AreHere events p domain here) (are : AreStubs events p domain here stubs)
+module _ (events : List Event) (p : Partition) (domain : ℕ) (here : List Event) (stubs : List Stub) (own : DomainState) (w : Waits)
+    (numbered : IsNumbered events) (partitions : IsPartition events p) (are_here : AreHere events p domain here) (are : AreStubs events p domain here stubs)
     (known : own.known ≡ known_words p.crossings stubs) (stands : Stands events p domain own here stubs w) where
   pub at_place : (i j : ℕ) (e f : Event) → slice_get here i ≡ Some e → slice_get here j ≡ Some f → e.number ≡ f.number → i ≡ j
   at_place = one_place (λ (e : Event). e.number) here are_here.rising
@@ -34,7 +34,7 @@ module _ (events : List Event) (p : Division) (domain : ℕ) (here : List Event)
       same_Some f e (sym k ∙ (ap (slice_get events) (sym i_is ∙ same) ∙ (are_here.each place e h).0))
 
   joined : (number : ℕ) (x : Crossing) → slice_get p.crossings number ≡ Some x → Joins p.places events x
-  joined number x h = joins p.places events number x (subst (λ (xs : List Crossing). slice_get xs number ≡ Some x) divides.crossings h)
+  joined number x h = joins p.places events number x (subst (λ (xs : List Crossing). slice_get xs number ≡ Some x) partitions.crossings h)
 
   word_is : (k : ℕ) (s : Stub) → slice_get stubs k ≡ Some s → word_at own.known s.number ≡ s.word
   word_is k s h = ap (λ ws. word_at ws s.number) known ∙ word_known events p domain here stubs are k s h
@@ -45,7 +45,7 @@ module _ (events : List Event) (p : Division) (domain : ℕ) (here : List Event)
   stub_into place e number x h there is =
       let j : Joins p.places events x = joined number x there in
       let child_is : j.child ≡ e = same_event place e j.number j.child h j.there (ap (λ (z : Crossing). z.child) j.is ∙ is) in
-      let target : x.target ≡ domain = ap (λ (z : Crossing). z.target) (sym j.is) ∙ (ap (domain_of p.places) child_is ∙ (are_here.each place e h).1) in
+      let target : x.target ≡ domain = ap (λ (z : Crossing). z.target) (sym j.is) ∙ (ap (domain_of_event p.places) child_is ∙ (are_here.each place e h).1) in
       let c = are.covers number x there target in
       let s = are.each c.0 c.1.0 c.1.1.0 in
       let same : s.crossing ≡ x = same_Some s.crossing x (sym s.there ∙ (ap (slice_get p.crossings) c.1.1.1 ∙ there)) in
@@ -74,7 +74,7 @@ module _ (events : List Event) (p : Division) (domain : ℕ) (here : List Event)
       → is_ready_in events p domain own e ≡ true
   is_ready place e h unfired none =
       let z = both_zero (pending events p domain own e.first) (pending events p domain own e.second) (unknown_into place stubs) none in
-      and_true (eqb (domain_of p.places e) domain) _ (is_eq (domain_of p.places e) domain (are_here.each place e h).1)
+      and_true (eqb (domain_of_event p.places e) domain) _ (is_eq (domain_of_event p.places e) domain (are_here.each place e h).1)
       (and_true (not (is_fired own.fired e.number)) _ (ap not unfired)
       (and_true (is_own_parent_fired events p domain own e.first && is_own_parent_fired events p domain own e.second) _
       (and_true (is_own_parent_fired events p domain own e.first) (is_own_parent_fired events p domain own e.second) (none_pending e.first z.0) (none_pending e.second z.1.0))
@@ -97,12 +97,12 @@ module _ (events : List Event) (p : Division) (domain : ℕ) (here : List Event)
 
   pub ready_here : (e : Event) → In e events → is_ready_in events p domain own e ≡ true → IsReadyHere e
   ready_here e m h =
-      let a = both (eqb (domain_of p.places e) domain) _ h in
+      let a = both (eqb (domain_of_event p.places e) domain) _ h in
       let b = both (not (is_fired own.fired e.number)) _ a.1 in
       let c = both (is_own_parent_fired events p domain own e.first && is_own_parent_fired events p domain own e.second) _ b.1 in
       let d = both (is_own_parent_fired events p domain own e.first) _ c.0 in
       let at : (i : ℕ) × (slice_get events i ≡ Some e) = in_at e events m in
-      let place = are_here.covers at.0 e at.1 (eq_is (domain_of p.places e) domain a.0) in
+      let place = are_here.covers at.0 e at.1 (eq_is (domain_of_event p.places e) domain a.0) in
       let none : unknown_into place.0 stubs ≡ 0 =
       all_known place.0 stubs (λ k s there is.
       let i = are.each k s there in
@@ -187,11 +187,11 @@ module _ (events : List Event) (p : Division) (domain : ℕ) (here : List Event)
       by_test true v = own_case v (is_fired own.fired q.number) refl
       by_test false v =
           let at = are_here.each place e h in
-          let apart : eqb (domain_of_number p.places events q.number) (domain_of p.places e) ≡ false =
+          let apart : eqb (domain_of_number p.places events q.number) (domain_of_event p.places e) ≡ false =
           subst (λ (n : ℕ). eqb (domain_of_number p.places events q.number) n ≡ false) (sym at.1) v
           in
           let x = crossing_at p.places events e.number e q at.0 (slot q refl) apart in
-          let x_there : slice_get p.crossings x.0 ≡ Some (crossing_of p.places events e q) = subst (λ (xs : List Crossing). slice_get xs x.0 ≡ Some (crossing_of p.places events e q)) (sym divides.crossings) x.1 in
+          let x_there : slice_get p.crossings x.0 ≡ Some (crossing_of p.places events e q) = subst (λ (xs : List Crossing). slice_get xs x.0 ≡ Some (crossing_of p.places events e q)) (sym partitions.crossings) x.1 in
           let s = stub_into place e x.0 (crossing_of p.places events e q) h x_there refl in
           let i = are.each s.0 s.1.0 s.1.1.0 in
           let x_is : i.crossing ≡ crossing_of p.places events e q = same_Some i.crossing (crossing_of p.places events e q) (sym i.there ∙ (ap (slice_get p.crossings) s.1.1.1.0 ∙ x_there)) in
@@ -213,7 +213,7 @@ module _ (events : List Event) (p : Division) (domain : ℕ) (here : List Event)
       let j : Joins p.places events i.crossing = joined s.number i.crossing i.there in
       let child : j.child ≡ e = same_event place e j.number j.child h j.there (ap (λ (z : Crossing). z.child) j.is ∙ (sym i.child_is ∙ ap (λ (z : Event). z.number) same)) in
       let apart : eqb (domain_of_number p.places events j.parent.number) domain ≡ false =
-      subst (λ (n : ℕ). eqb (domain_of_number p.places events j.parent.number) n ≡ false) (ap (domain_of p.places) child ∙ (are_here.each place e h).1) j.apart
+      subst (λ (n : ℕ). eqb (domain_of_number p.places events j.parent.number) n ≡ false) (ap (domain_of_event p.places) child ∙ (are_here.each place e h).1) j.apart
       in
       let told : told_finish events p own j.parent.number ≡ cycle_of s.word =
       ap (λ (z : Crossing). told_finish events p own z.parent) j.is ∙ told_is k s i.crossing there i.there exact

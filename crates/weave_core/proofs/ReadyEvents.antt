@@ -7,7 +7,7 @@ use Rattle.event_graph.specs.declared.event.Event.{Event}
 use Rattle.event_graph.specs.declared.event.Parent.{Parent}
 use Rattle.event_graph.specs.OneListWeave.{Timed, after_parent, find_fired, finish_in, finish_or_zero, is_fired, start_of}
 use Rattle.domain_map.specs.declared.crossing.Crossing.{Crossing}
-use Rattle.domain_map.specs.Domains.{Division, Divides, crossings_of, domain_of, domain_of_number}
+use Rattle.domain_map.specs.Domains.{Partition, IsPartition, crossings_of, domain_of_event, domain_of_number}
 use Rattle.weave_core.specs.DomainMachine.{DomainState, arrival_of, bound_of, cycle_of, is_exact, is_own_parent_fired, is_ready_in, known_finish, told_finish, word_at}
 use Rattle.weave_core.specs.Soundness.{AreSoundBounds, AreSoundWords}
 use Rattle.weave_core.specs.Interleavings.{of_domain}
@@ -16,7 +16,7 @@ use Rattle.weave_core.proofs.Crossings.{Joins, crossing_at, crossing_of}
 use Rattle.weave_core.proofs.Firing.{IsOrder, all_known, finding, fired_before, from_domain, parent_at, start_after_parent, start_by_all}
 use Rattle.weave_core.proofs.Joined.{child_slot, eq_test, exact_cycle, joined, test_eq}
 
-module _ (events : List Event) (p : Division) (all : List Timed) (o : IsOrder events all) (div : Divides events p) where
+module _ (events : List Event) (p : Partition) (all : List Timed) (o : IsOrder events all) (div : IsPartition events p) where
   module _ (domain cut : ℕ) (own : DomainState) (fired_is : own.fired ≡ of_domain p.places domain (take cut all))
       (known : AreSoundWords all p own.known) (bounds : AreSoundBounds events all p domain own) where
     -- an unresolved crossing into an event lets it start no later than it does
@@ -39,7 +39,7 @@ module _ (events : List Event) (p : Division) (all : List Timed) (o : IsOrder ev
     -- a ready event
 
     pub record IsReady (e : Event) : Type 0 where
-      pub here : domain_of p.places e ≡ domain
+      pub here : domain_of_event p.places e ≡ domain
       pub unfired : is_fired own.fired e.number ≡ false
       pub first : is_own_parent_fired events p domain own e.first ≡ true
       pub second : is_own_parent_fired events p domain own e.second ≡ true
@@ -47,12 +47,12 @@ module _ (events : List Event) (p : Division) (all : List Timed) (o : IsOrder ev
 
     pub is_ready : (e : Event) → is_ready_in events p domain own e ≡ true → IsReady e
     is_ready e h =
-        let a = both (eqb (domain_of p.places e) domain) _ h in
+        let a = both (eqb (domain_of_event p.places e) domain) _ h in
         let b = both (not (is_fired own.fired e.number)) _ a.1 in
         let c = both (is_own_parent_fired events p domain own e.first && is_own_parent_fired events p domain own e.second) _ b.1 in
         let d = both (is_own_parent_fired events p domain own e.first) _ c.0 in
         record {
-          here = test_eq (domain_of p.places e) domain a.0;
+          here = test_eq (domain_of_event p.places e) domain a.0;
           unfired = not_true (is_fired own.fired e.number) b.0;
           first = d.0;
           second = d.1;
@@ -73,7 +73,7 @@ module _ (events : List Event) (p : Division) (all : List Timed) (o : IsOrder ev
           | inr n ↦ absurd (false≢true (sym (not_true (eqb (domain_of_number p.places events q.number) domain) n) ∙ here))
           | inl f ↦
               let r : (w : Timed) × ((find_fired own.fired q.number ≡ Some w) × (In w own.fired × (w.event.number ≡ q.number))) = finding own.fired q.number f in
-              let place : (k : ℕ) × ((k < cut) × ((slice_get all k ≡ Some r.0) × (domain_of p.places r.0.event ≡ domain))) =
+              let place : (k : ℕ) × ((k < cut) × ((slice_get all k ≡ Some r.0) × (domain_of_event p.places r.0.event ≡ domain))) =
               from_domain events all o p.places domain cut r.0 (subst (λ (xs : List Timed). In r.0 xs) fired_is r.1.1.0)
               in
               let whole : find_fired all q.number ≡ Some r.0 = subst (λ (n : ℕ). find_fired all n ≡ Some r.0) r.1.1.1 (all_known events all o place.0 r.0 place.1.1.0) in
@@ -83,7 +83,7 @@ module _ (events : List Event) (p : Division) (all : List Timed) (o : IsOrder ev
     told_parent : (i : ℕ) (e : Event) (q : Parent) → IsReady e → slice_get events i ≡ Some e → ((e.first ≡ Some q) ⊎ (e.second ≡ Some q))
         → eqb (domain_of_number p.places events q.number) domain ≡ false → told_finish events p own q.number ≡ finish_in all q.number
     told_parent i e q r h slot apart =
-        let apart_here : eqb (domain_of_number p.places events q.number) (domain_of p.places e) ≡ false =
+        let apart_here : eqb (domain_of_number p.places events q.number) (domain_of_event p.places e) ≡ false =
         subst (λ (n : ℕ). eqb (domain_of_number p.places events q.number) n ≡ false) (sym r.here) apart
         in
         let c : (number : ℕ) × (slice_get (crossings_of p.places events) number ≡ Some (crossing_of p.places events e q)) = crossing_at p.places events i e q h slot apart_here in
@@ -143,7 +143,7 @@ module _ (events : List Event) (p : Division) (all : List Timed) (o : IsOrder ev
               elim (cases_lt w.0 cut) [
                 | inl l ↦
                     let f : is_fired (of_domain p.places domain (take cut all)) w.1.event.number ≡ true =
-                    fired_before events all o p.places domain cut w.0 w.1 l w.2 (ap (domain_of p.places) w.3 ∙ r.here)
+                    fired_before events all o p.places domain cut w.0 w.1 l w.2 (ap (domain_of_event p.places) w.3 ∙ r.here)
                     in
                     let g : is_fired own.fired e.number ≡ true =
                     ap (λ (xs : List Timed). is_fired xs e.number) fired_is ∙ (ap (λ (z : Event). is_fired (of_domain p.places domain (take cut all)) z.number) (sym w.3) ∙ f)

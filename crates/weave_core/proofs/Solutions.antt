@@ -11,7 +11,7 @@ use Rattle.event_graph.specs.declared.event.Event.{Event}
 use Rattle.event_graph.specs.OneListWeave.{Timed, find_fired, finish_in, finish_or_zero, fired_or_unfired, is_event_before, timed_in, weave, woven}
 use Rattle.event_graph.specs.TimingSolution.{IsInOrder}
 use Rattle.domain_map.specs.declared.crossing.Crossing.{Crossing}
-use Rattle.domain_map.specs.Domains.{Division}
+use Rattle.domain_map.specs.Domains.{Partition}
 use Rattle.weave_core.specs.DomainMachine.{DomainState}
 use Rattle.weave_core.specs.Soundness.{AreSoundBounds, AreSoundWords, IsSoundFloor, IsSoundWord, start_in, start_or_zero}
 use Rattle.weave_core.proofs.Lists.{In, at_in, get_below, contained, contains, in_at, in_map}
@@ -25,7 +25,7 @@ from_map {X} f y (x ∷ xs) h =
       | inr m ↦ let r : (z : X) × (In z xs × (f z ≡ y)) = from_map f y xs m in (r.0, (inr r.1.0, r.1.1))
     ]
 
--- lists in one order with the same entries
+-- lists in one order with the same firings
 
 abbrev IsOrdered : List Timed → Type 0
 IsOrdered [] = Unit {0}
@@ -132,16 +132,16 @@ module _ {C : Type 0} (stepped : C → Kind → ℕ → C × ℕ) (events : List
   pub start_alike : (n : ℕ) → start_in timed n ≡ start_in all n
   start_alike n = ap start_or_zero (found_alike n)
 
-  pub words_alike : (p : Division) (words : List Word) → AreSoundWords timed p words → AreSoundWords all p words
+  pub words_alike : (p : Partition) (words : List Word) → AreSoundWords timed p words → AreSoundWords all p words
   words_alike p words h = record { each = λ number x there. sound_for timed all x _ (finish_alike x.parent) (h.each number x there) }
 
-  pub floor_alike : (p : Division) (domain : ℕ) (own : DomainState) → IsSoundFloor timed p domain own → IsSoundFloor all p domain own
+  pub floor_alike : (p : Partition) (domain : ℕ) (own : DomainState) → IsSoundFloor timed p domain own → IsSoundFloor all p domain own
   floor_alike p domain own h = record { each = λ number x there target unknown. omega (arith, h.each number x there target unknown, start_alike x.parent) }
 
-  pub bounds_alike : (p : Division) (domain : ℕ) (own : DomainState) → AreSoundBounds events timed p domain own → AreSoundBounds events all p domain own
+  pub bounds_alike : (p : Partition) (domain : ℕ) (own : DomainState) → AreSoundBounds events timed p domain own → AreSoundBounds events all p domain own
   bounds_alike p domain own h = record { each = λ number x there target unknown. omega (arith, h.each number x there target unknown, finish_alike x.parent) }
 
-  pub bounds_back : (p : Division) (domain : ℕ) (own : DomainState) → AreSoundBounds events all p domain own → AreSoundBounds events timed p domain own
+  pub bounds_back : (p : Partition) (domain : ℕ) (own : DomainState) → AreSoundBounds events all p domain own → AreSoundBounds events timed p domain own
   bounds_back p domain own h = record { each = λ number x there target unknown. omega (arith, h.each number x there target unknown, finish_alike x.parent) }
 
   pub order_alike : (sorted : List Timed) → IsInOrder sorted → ((x : Timed) → Contains sorted x ↔ Contains timed x) → IsInOrder all → sorted ≡ all

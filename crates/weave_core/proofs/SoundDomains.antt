@@ -5,10 +5,10 @@ use Rattle.component.specs.declared.kind.Kind.{Kind}
 use Rattle.event_graph.specs.declared.event.Event.{Event}
 use Rattle.event_graph.specs.OneListWeave.{Timed, weave, woven}
 use Rattle.event_graph.specs.TimingSolution.{IsInOrder, IsSolution, after_serving, of_component}
-use Rattle.domain_map.specs.Domains.{Division, Divides, domain_of}
+use Rattle.domain_map.specs.Domains.{Partition, IsPartition, domain_of_event}
 use Rattle.weave_core.specs.DomainMachine.{DomainState, is_clear, next_in}
 use Rattle.weave_core.specs.Interleavings.{of_domain}
-use Rattle.weave_core.specs.SoundDomain.{IsNextEntry, IsSoundDomain}
+use Rattle.weave_core.specs.SoundDomain.{IsNextFiring, IsSoundDomain}
 use Rattle.weave_core.specs.Soundness.{AreSoundBounds, AreSoundWords}
 use Rattle.weave_core.proofs.Lists.{get_take, last_at}
 use Rattle.weave_core.proofs.Fronts.{filter_front, front_kept, front_next}
@@ -33,9 +33,9 @@ front_cut {X} test (x ∷ xs) (suc n) = by_test (front_cut test xs n) (front_cut
     by_test less same false e =
         (suc same.0, same.1 ∙ sym (ap (λ (u : Bool). cond u (x ∷ filter test (take same.0 xs)) (filter test (take same.0 xs))) e))
 
-module _ {C : Type 0} (stepped : C → Kind → ℕ → C × ℕ) (events : List Event) (p : Division) (comps : List C)
-    (o : IsOrder events (weave stepped events comps).fired) (div : Divides events p) (serves : IsServed stepped comps (weave stepped events comps).fired)
-    (here : (k : ℕ) (x : Timed) → slice_get (weave stepped events comps).fired k ≡ Some x → domain_of p.places x.event < length p.events)
+module _ {C : Type 0} (stepped : C → Kind → ℕ → C × ℕ) (events : List Event) (p : Partition) (comps : List C)
+    (o : IsOrder events (weave stepped events comps).fired) (div : IsPartition events p) (serves : IsServed stepped comps (weave stepped events comps).fired)
+    (here : (k : ℕ) (x : Timed) → slice_get (weave stepped events comps).fired k ≡ Some x → domain_of_event p.places x.event < length p.events)
     (in_order : IsInOrder (weave stepped events comps).fired) where
   abbrev all : List Timed
   all = (weave stepped events comps).fired
@@ -46,7 +46,7 @@ module _ {C : Type 0} (stepped : C → Kind → ℕ → C × ℕ) (events : List
       → of_component n.x.event.component (take n.k all) ≡ of_component n.x.event.component own.fired
   mine_so_far domain cut own fired known bounds b n =
       let is = pending_is events p all o div domain cut own fired known bounds n.k n.x n.first.passes in
-      let gap : (j : ℕ) (y : Timed) → cut ≤ j → j < n.k → slice_get all j ≡ Some y → eqb (domain_of p.places y.event) domain ≡ false =
+      let gap : (j : ℕ) (y : Timed) → cut ≤ j → j < n.k → slice_get all j ≡ Some y → eqb (domain_of_event p.places y.event) domain ≡ false =
       gap_domain stepped events p comps all o div serves here domain cut n.k own fired known bounds n.x n.first
       in
       let gap_here : (j : ℕ) (y : Timed) → cut ≤ j → j < n.k → slice_get all j ≡ Some y → eqb y.event.component n.x.event.component ≡ false =
@@ -65,15 +65,15 @@ module _ {C : Type 0} (stepped : C → Kind → ℕ → C × ℕ) (events : List
       × (n.x.finish ≡ (stepped (after_serving stepped c (of_component n.x.event.component own.fired)) n.x.event.kind n.x.start).1)))
   next_entry domain cut own fired known bounds b n =
       let is = pending_is events p all o div domain cut own fired known bounds n.k n.x n.first.passes in
-      let gap : (j : ℕ) (y : Timed) → cut ≤ j → j < n.k → slice_get all j ≡ Some y → eqb (domain_of p.places y.event) domain ≡ false =
+      let gap : (j : ℕ) (y : Timed) → cut ≤ j → j < n.k → slice_get all j ≡ Some y → eqb (domain_of_event p.places y.event) domain ≡ false =
       gap_domain stepped events p comps all o div serves here domain cut n.k own fired known bounds n.x n.first
       in
       let grown : of_domain p.places domain (take (n.k + 1) all) ≡ own.fired ++ n.x ∷ [] =
-      front_next (λ (y : Timed). eqb (domain_of p.places y.event) domain) all cut n.k n.x is.1 n.first.there (eq_test (domain_of p.places n.x.event) domain is.0) gap
+      front_next (λ (y : Timed). eqb (domain_of_event p.places y.event) domain) all cut n.k n.x is.1 n.first.there (eq_test (domain_of_event p.places n.x.event) domain is.0) gap
       ∙ ap (λ (xs : List Timed). xs ++ n.x ∷ []) (sym fired)
       in
       let front : of_domain p.places domain (take (n.k + 1) all) ≡ take (length (of_domain p.places domain (take (n.k + 1) all))) (of_domain p.places domain all) =
-      filter_front (λ (y : Timed). eqb (domain_of p.places y.event) domain) all (n.k + 1)
+      filter_front (λ (y : Timed). eqb (domain_of_event p.places y.event) domain) all (n.k + 1)
       in
       let at : slice_get (take (length (of_domain p.places domain (take (n.k + 1) all))) (of_domain p.places domain all)) (length own.fired) ≡ Some n.x =
       ap (λ (xs : List Timed). slice_get xs (length own.fired)) (sym front ∙ grown) ∙ last_at own.fired n.x
@@ -88,14 +88,14 @@ module _ {C : Type 0} (stepped : C → Kind → ℕ → C × ℕ) (events : List
 
   pub sound_follow : (timed : List Timed) (solution : IsSolution stepped events comps timed) (is : timed ≡ woven stepped events comps) (domain : ℕ) (own : DomainState) (next : Event × ℕ)
       → IsSoundDomain stepped events p comps timed solution domain own → next_in events p domain own ≡ Some next → is_clear events p domain own next.1 ≡ true
-      → (x : Timed) × IsNextEntry stepped events p comps timed solution domain own next x
+      → (x : Timed) × IsNextFiring stepped events p comps timed solution domain own next x
   sound_follow timed solution is domain own next s n clear =
       let order : solution.sorted ≡ all = order_alike stepped events comps o timed is solution.sorted solution.in_order solution.same in_order in
       let front : own.fired ≡ take (length own.fired) (of_domain p.places domain all) =
       s.fired ∙ ap (λ (xs : List Timed). take (length own.fired) (of_domain p.places domain xs)) order
       in
       let cut : (cut : ℕ) × (take (length own.fired) (of_domain p.places domain all) ≡ of_domain p.places domain (take cut all)) =
-      front_cut (λ (y : Timed). eqb (domain_of p.places y.event) domain) all (length own.fired)
+      front_cut (λ (y : Timed). eqb (domain_of_event p.places y.event) domain) all (length own.fired)
       in
       let fired : own.fired ≡ of_domain p.places domain (take cut.0 all) = front ∙ cut.1 in
       let known : AreSoundWords all p own.known = words_alike stepped events comps o timed is p own.known s.known in
@@ -104,7 +104,7 @@ module _ {C : Type 0} (stepped : C → Kind → ℕ → C × ℕ) (events : List
       let e = next_entry domain cut.0 own fired known bounds next f in (
         f.x,
         record {
-          entry = ap (λ (xs : List Timed). slice_get (of_domain p.places domain xs) (length own.fired)) order ∙ e.0;
+          firing = ap (λ (xs : List Timed). slice_get (of_domain p.places domain xs) (length own.fired)) order ∙ e.0;
           event = f.event;
           start = f.start;
           component = e.1.0;

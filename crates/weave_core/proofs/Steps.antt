@@ -11,7 +11,7 @@ use Rattle.event_graph.specs.declared.event.Event.{Event}
 use Rattle.event_graph.specs.OneListWeave.{Timed, find_fired, finish_in, finish_or_zero, is_fired}
 use Rattle.event_graph.specs.TimingSolution.{after_serving, of_component}
 use Rattle.domain_map.specs.declared.crossing.Crossing.{Crossing}
-use Rattle.domain_map.specs.Domains.{Division, Divides, domain_at, domain_of}
+use Rattle.domain_map.specs.Domains.{Partition, IsPartition, domain_at, domain_of_event}
 use Rattle.weave_core.specs.DomainMachine.{DomainState, MachineState, cycle_of, effect_of, finish_of_parent, fresh_domain, is_allowed, is_crossing, is_exact, latency_at, latency_of, limit_of, look, may_raise, publish, raise, state_of, word_at}
 use Rattle.weave_core.specs.Soundness.{AreSoundBounds, AreSoundWords, IsSoundFloor, IsSoundWord}
 use Rattle.weave_core.specs.Interleavings.{of_domain}
@@ -29,7 +29,7 @@ written {X} Q xs i v d new old j =
       | inr e ↦ subst (λ (z : X). Q j z) (sym e) (old j)
     ]
 
-module _ {C : Type 0} (stepped : C → Kind → ℕ → C × ℕ) (events : List Event) (p : Division) (comps : List C) (all : List Timed) (o : IsOrder events all) (div : Divides events p) where
+module _ {C : Type 0} (stepped : C → Kind → ℕ → C × ℕ) (events : List Event) (p : Partition) (comps : List C) (all : List Timed) (o : IsOrder events all) (div : IsPartition events p) where
   -- a domain with its events up to the cut fired
   pub record Stands (words : List Word) (cut domain : ℕ) (own : DomainState) : Type 0 where
     pub fired : own.fired ≡ of_domain p.places domain (take cut all)
@@ -140,10 +140,10 @@ module _ {C : Type 0} (stepped : C → Kind → ℕ → C × ℕ) (events : List
       let l : (limit : ℕ) × ((limit_of events p domain (state_of s domain) ≡ Some limit) × (leb bound (latency_at events x.parent + limit) ≡ true)) =
       finding_option (limit_of events p domain (state_of s domain)) (λ limit. leb bound (latency_at events x.parent + limit)) c.1
       in
-      let q : (k : ℕ) × ((w : Timed) × ((slice_get all k ≡ Some w) × ((w.event.number ≡ x.parent) × (x.source ≡ domain_of p.places w.event)))) =
+      let q : (k : ℕ) × ((w : Timed) × ((slice_get all k ≡ Some w) × ((w.event.number ≡ x.parent) × (x.source ≡ domain_of_event p.places w.event)))) =
       parent_of_crossing events p all o div number x there
       in
-      let d : domain_of p.places q.1.0.event ≡ domain = sym q.1.1.1.1 ∙ source in
+      let d : domain_of_event p.places q.1.0.event ≡ domain = sym q.1.1.1.1 ∙ source in
       let behind : h.cut domain ≤ q.0 =
       elim (cases_lt q.0 (h.cut domain)) [
         | inr b2 ↦ b2

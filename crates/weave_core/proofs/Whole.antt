@@ -10,7 +10,7 @@ use Rattle.event_graph.specs.declared.event.Event.{Event}
 use Rattle.event_graph.specs.OneListWeave.{Timed, weave}
 use Rattle.event_graph.specs.TimingSolution.{after_serving, of_component}
 use Rattle.domain_map.specs.declared.crossing.Crossing.{Crossing}
-use Rattle.domain_map.specs.Domains.{Division, Divides, domain_at, domain_of}
+use Rattle.domain_map.specs.Domains.{Partition, IsPartition, domain_at, domain_of_event}
 use Rattle.weave_core.specs.DomainMachine.{DomainState, MachineState, Step, after_steps, at_rest, effect_of, fresh_domain, is_allowed, is_exact, look, raise, fire, publish, barrier, state_of, take_step, word_at}
 use Rattle.weave_core.specs.Soundness.{IsSoundWord}
 use Rattle.weave_core.specs.Interleavings.{FollowsTheWeave, IsFront, of_domain}
@@ -32,9 +32,9 @@ either_value v d [] j = inr refl
 either_value v d (x ∷ xs) zero = inl refl
 either_value v d (x ∷ xs) (suc j) = either_value v d xs j
 
-module _ {C : Type 0} (stepped : C → Kind → ℕ → C × ℕ) (events : List Event) (p : Division) (comps : List C) (all : List Timed)
-    (o : IsOrder events all) (div : Divides events p) (serves : IsServed stepped comps all)
-    (here : (k : ℕ) (x : Timed) → slice_get all k ≡ Some x → domain_of p.places x.event < length p.events) where
+module _ {C : Type 0} (stepped : C → Kind → ℕ → C × ℕ) (events : List Event) (p : Partition) (comps : List C) (all : List Timed)
+    (o : IsOrder events all) (div : IsPartition events p) (serves : IsServed stepped comps all)
+    (here : (k : ℕ) (x : Timed) → slice_get all k ≡ Some x → domain_of_event p.places x.event < length p.events) where
   no_bound : (number : ℕ) → word_at (map (λ x. Bound 0) p.crossings) number ≡ Bound 0
   no_bound number = one_value (Bound 0) p.crossings number
 
@@ -97,15 +97,15 @@ module _ {C : Type 0} (stepped : C → Kind → ℕ → C × ℕ) (events : List
   pub fronts : (s : MachineState C) → Holds stepped events p comps all o div s → (domain : ℕ) → IsFront (state_of s domain).fired (of_domain p.places domain all)
   fronts s h domain =
       subst (λ (xs : List Timed). xs ≡ take (length xs) (of_domain p.places domain all)) (sym (h.domains domain).fired)
-      (filter_front (λ (x : Timed). eqb (domain_of p.places x.event) domain) all (h.cut domain))
+      (filter_front (λ (x : Timed). eqb (domain_of_event p.places x.event) domain) all (h.cut domain))
 
   -- a component's events are its domain's
   pub narrowed : (number : ℕ) (xs : List Timed) → of_component number xs ≡ of_component number (of_domain p.places (domain_at p.places number) xs)
   narrowed number [] = refl
   narrowed number (x ∷ xs) =
-      by_tests (eqb x.event.component number) refl (eqb (domain_of p.places x.event) (domain_at p.places number)) refl (narrowed number xs)
+      by_tests (eqb x.event.component number) refl (eqb (domain_of_event p.places x.event) (domain_at p.places number)) refl (narrowed number xs)
     where
-      by_tests : (t : Bool) → eqb x.event.component number ≡ t → (u : Bool) → eqb (domain_of p.places x.event) (domain_at p.places number) ≡ u
+      by_tests : (t : Bool) → eqb x.event.component number ≡ t → (u : Bool) → eqb (domain_of_event p.places x.event) (domain_at p.places number) ≡ u
           → of_component number xs ≡ of_component number (of_domain p.places (domain_at p.places number) xs)
           → cond t (x ∷ of_component number xs) (of_component number xs)
           ≡ of_component number (cond u (x ∷ of_domain p.places (domain_at p.places number) xs) (of_domain p.places (domain_at p.places number) xs))
@@ -113,7 +113,7 @@ module _ {C : Type 0} (stepped : C → Kind → ℕ → C × ℕ) (events : List
           ap (λ (zs : List Timed). x ∷ zs) rest
           ∙ sym (ap (λ (v : Bool). cond v (x ∷ of_component number (of_domain p.places (domain_at p.places number) xs)) (of_component number (of_domain p.places (domain_at p.places number) xs))) a)
       by_tests true a false b rest =
-          absurd (false≢true (sym b ∙ eq_test (domain_of p.places x.event) (domain_at p.places number) (ap (domain_at p.places) (test_eq x.event.component number a))))
+          absurd (false≢true (sym b ∙ eq_test (domain_of_event p.places x.event) (domain_at p.places number) (ap (domain_at p.places) (test_eq x.event.component number a))))
       by_tests false a true b rest =
           rest ∙ sym (ap (λ (v : Bool). cond v (x ∷ of_component number (of_domain p.places (domain_at p.places number) xs)) (of_component number (of_domain p.places (domain_at p.places number) xs))) a)
       by_tests false a false b rest = rest
@@ -127,17 +127,17 @@ module _ {C : Type 0} (stepped : C → Kind → ℕ → C × ℕ) (events : List
       ∙ ap (of_component number) (sym (h.domains (domain_at p.places number)).fired))
 
 -- each event's domain is there
-pub domain_there : (events : List Event) (p : Division) (all : List Timed) → IsOrder events all → Divides events p
+pub domain_there : (events : List Event) (p : Partition) (all : List Timed) → IsOrder events all → IsPartition events p
     → ((i : ℕ) (e : Event) → slice_get events i ≡ Some e → e.component < length p.places)
-    → (k : ℕ) (x : Timed) → slice_get all k ≡ Some x → domain_of p.places x.event < length p.events
+    → (k : ℕ) (x : Timed) → slice_get all k ≡ Some x → domain_of_event p.places x.event < length p.events
 domain_there events p all o div within k x h =
     div.there.below x.event.component 0 (within x.event.number x.event (o.event k x h))
 
 -- what the law says of a state that holds
-pub follows : {C : Type 0} (stepped : C → Kind → ℕ → C × ℕ) (events : List Event) (p : Division) (comps : List C)
-    (o : IsOrder events (weave stepped events comps).fired) (div : Divides events p)
+pub follows : {C : Type 0} (stepped : C → Kind → ℕ → C × ℕ) (events : List Event) (p : Partition) (comps : List C)
+    (o : IsOrder events (weave stepped events comps).fired) (div : IsPartition events p)
     (serves : IsServed stepped comps (weave stepped events comps).fired)
-    (here : (k : ℕ) (x : Timed) → slice_get (weave stepped events comps).fired k ≡ Some x → domain_of p.places x.event < length p.events) (s : MachineState C)
+    (here : (k : ℕ) (x : Timed) → slice_get (weave stepped events comps).fired k ≡ Some x → domain_of_event p.places x.event < length p.events) (s : MachineState C)
     → Holds stepped events p comps (weave stepped events comps).fired o div s → FollowsTheWeave stepped events p comps s
 follows stepped events p comps o div serves here s h = record {
   fired = fronts stepped events p comps (weave stepped events comps).fired o div serves here s h;

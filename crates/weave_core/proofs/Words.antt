@@ -9,7 +9,7 @@ use Rattle.zs_num.specs.declared.time.Word.{Word}
 use Rattle.zs_num.specs.declared.time.Word.TheVariants.{Bound, Exact}
 use Rattle.event_graph.specs.declared.event.Event.{Event}
 use Rattle.domain_map.specs.declared.crossing.Crossing.{Crossing}
-use Rattle.domain_map.specs.Domains.{Division}
+use Rattle.domain_map.specs.Domains.{Partition}
 use Rattle.weave_core.specs.declared.incoming.Stub.{Stub}
 use Rattle.weave_core.specs.DomainMachine.{cycle_of, is_exact, word_at}
 use Rattle.weave_core.specs.Layout.{AreStubs, IsStubOf, crossing_word, known_words, told_into, unknown_into}
@@ -51,7 +51,7 @@ past_enum f n [] i l = refl
 past_enum f n (y ∷ xs) zero l = absurd (omega arith)
 past_enum f n (y ∷ xs) (suc i) l = past_enum f (n + 1) xs i (omega arith)
 
-module _ (events : List Event) (p : Division) (domain : ℕ) (here : List Event) (stubs : List Stub) (are : AreStubs events p domain here stubs) where
+module _ (events : List Event) (p : Partition) (domain : ℕ) (here : List Event) (stubs : List Stub) (are : AreStubs events p domain here stubs) where
   pub stub_place : (i j : ℕ) (s t : Stub) → slice_get stubs i ≡ Some s → slice_get stubs j ≡ Some t → s.number ≡ t.number → i ≡ j
   stub_place = one_place (λ (s : Stub). s.number) stubs are.rising
 
@@ -228,7 +228,7 @@ set_numbers stubs k s word i t there h =
     ]
 
 -- told stubs stand for the same crossings
-pub still_stubs : (events : List Event) (p : Division) (domain : ℕ) (here : List Event) (stubs : List Stub) (k : ℕ) (s : Stub) (word : Word) → AreStubs events p domain here stubs → slice_get stubs k ≡ Some s
+pub still_stubs : (events : List Event) (p : Partition) (domain : ℕ) (here : List Event) (stubs : List Stub) (k : ℕ) (s : Stub) (word : Word) → AreStubs events p domain here stubs → slice_get stubs k ≡ Some s
     → AreStubs events p domain here (set stubs k (told_word word s))
 still_stubs events p domain here stubs k s word are there = record {
   each = λ i t h.

@@ -7,7 +7,7 @@ use Rattle.weave_core.specs.declared.children.Link.{Link}
 use Rattle.domain_map.specs.declared.crossing.Crossing.{Crossing}
 use Rattle.weave_core.specs.declared.incoming.Stub.{Stub}
 use Rattle.weave_core.specs.Children.{IsChain}
-use Rattle.weave_core.specs.Layout.{hit_after, hits, latest_to, links_to, place_in, unknown_into}
+use Rattle.weave_core.specs.Layout.{hit_after, times_parent, latest_to, links_to, place_in, unknown_into}
 use Rattle.weave_core.specs.DomainMachine.{latency_at}
 use Rattle.weave_core.specs.Stubs.{IsSmallStub}
 
@@ -40,7 +40,7 @@ pub record AreChained (here : List Event) (heads : List ℕ) (links : List Link)
 abbrev pub AddsLink : List Event → (child : ℕ) → Option Parent → (heads after : List ℕ) → (links longer : List Link) → Type 0
 AddsLink here child parent heads after links longer =
     (count : (number child : ℕ) → ℕ) (late : (finish number child : ℕ) → ℕ) → AreChained here heads links count late
-    → AreChained here after longer (λ n c. count n c + cond (c == child) (hits n parent) 0) (λ f n c. max (late f n c) (cond (c == child) (hit_after f n parent) 0))
+    → AreChained here after longer (λ n c. count n c + cond (c == child) (times_parent n parent) 0) (λ f n c. max (late f n c) (cond (c == child) (hit_after f n parent) 0))
 
 -- for each component up to this one its place among those of the domain
 pub record AreSpots (places : List ℕ) (domain : ℕ) (spots : List ℕ) (upto : ℕ) : Type 0 where

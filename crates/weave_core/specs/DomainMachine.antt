@@ -10,7 +10,7 @@ use Rattle.event_graph.specs.declared.event.Event.{Event}
 use Rattle.event_graph.specs.declared.event.Parent.{Parent}
 use Rattle.event_graph.specs.OneListWeave.{Timed, Weave, earlier, finish_in, is_fired, served, start_of}
 use Rattle.domain_map.specs.declared.crossing.Crossing.{Crossing}
-use Rattle.domain_map.specs.Domains.{Division, domain_of, domain_of_number}
+use Rattle.domain_map.specs.Domains.{Partition, domain_of_event, domain_of_number}
 
 -- Words.
 
@@ -30,8 +30,8 @@ word_at words crossing = slice_index_or words crossing (Bound 0)
 
 -- The states.
 
--- What a domain keeps: the events that it fired, in the order in which it did; the word that it knows of each crossing; and
--- the cycle from which on, as it was told, every event starts that other domains haven't told it of.
+-- What a domain keeps: the events that it fired, in the order in which it did; the word that it knows of each crossing;
+-- and the cycle from which on, as it was told, every event starts that other domains haven't told it of.
 pub record DomainState : Type 0 where
   pub fired : List Timed
   pub known : List Word
@@ -53,7 +53,7 @@ abbrev pub with_floor : (floor : ℕ) → DomainState → DomainState
 with_floor floor own = record own { floor = floor }
 
 -- nothing is fired, and no word says anything
-abbrev pub at_rest : {C : Type 0} → Division → List C → MachineState C
+abbrev pub at_rest : {C : Type 0} → Partition → List C → MachineState C
 at_rest p comps = record {
   domains = map (λ own. record { fired = []; known = map (λ x. Bound 0) p.crossings; floor = 0 }) p.events;
   words = map (λ x. Bound 0) p.crossings;
@@ -92,7 +92,7 @@ least_by test start [] = None
 least_by test start (e ∷ es) =
     (if test e then Some (earlier (e, start e) (least_by test start es)) else least_by test start es)
 
-module _ (events : List Event) (p : Division) where
+module _ (events : List Event) (p : Partition) where
   -- the crossings with their numbers
   abbrev pub numbered_crossings : List (ℕ × Crossing)
   numbered_crossings = enumerate_from 0 p.crossings
@@ -121,11 +121,11 @@ module _ (events : List Event) (p : Division) where
   is_own_parent_fired domain own (Some q) =
       is_fired own.fired q.number || not (domain_of_number p.places events q.number == domain)
 
-  -- an unfired event of the domain, of which each parent has fired: those of the domain here, and those of others as the
-  -- words of the crossings into the event say
+  -- an unfired event of the domain, of which each parent has fired: those of the domain here, and those of others as
+  -- the words of the crossings into the event say
   abbrev pub is_ready_in : (domain : ℕ) → DomainState → Event → Bool
   is_ready_in domain own e =
-      (domain_of p.places e == domain)
+      (domain_of_event p.places e == domain)
       && (not (is_fired own.fired e.number)
       && ((is_own_parent_fired domain own e.first && is_own_parent_fired domain own e.second)
       && every_crossing (λ number x. not (x.child == e.number) || is_exact (word_at own.known number))))
@@ -151,8 +151,8 @@ module _ (events : List Event) (p : Division) where
   is_clear domain own start =
       every_crossing (λ number x. not (is_unresolved domain own number x) || nat_lt start (arrival_of own number x))
 
-  -- what no event that the domain has yet to fire can start before: the least ready start, and what the unresolved crossings
-  -- allow
+  -- what no event that the domain has yet to fire can start before: the least ready start, and what the unresolved
+  -- crossings allow
   abbrev pub limit_of : (domain : ℕ) → DomainState → Option ℕ
   limit_of domain own =
       least (option_to_list (option_map (λ next. next.1) (next_in domain own))

@@ -3,7 +3,7 @@ use Rattle.std.specs.Prelude.{◌≡◌, ◌≤◌, ◌<◌, ◌^◌, Bool, leng
 use Rattle.std.specs.Vec.{vec_capacity}
 use Rattle.component.specs.declared.kind.Kind.{Kind}
 use Rattle.event_graph.specs.Numbered.{IsNumbered}
-use Rattle.domain_map.specs.Domains.{Divides}
+use Rattle.domain_map.specs.Domains.{IsPartition}
 use Rattle.weave_core.specs.declared.domain.Domain.TheInside.{Inside}
 use Rattle.weave_core.specs.DomainCalls.{DomainValue}
 use Rattle.weave_core.specs.DomainMachine.{DomainState}
@@ -18,11 +18,11 @@ own_of d = record {
 }
 
 abbrev pub domain_value : {C : Type 0} → Inside C → DomainValue C
-domain_value d = record { domain = d.domain; events = d.graph.value; division = d.parts.value; own = own_of d; comps = d.comps }
+domain_value d = record { domain = d.domain; events = d.graph.value; partition = d.parts.value; own = own_of d; comps = d.comps }
 
 pub record IsDomain {C : Type 0} (serves : C → Kind → Bool) (d : Inside C) : Type 0 where
   pub numbered : IsNumbered d.graph.value
-  pub divides : Divides d.graph.value d.parts.value
+  pub partitions : IsPartition d.graph.value d.parts.value
   pub here : AreHere d.graph.value d.parts.value d.domain d.here.items
   pub linked : AreLinked d.here.items d.heads.items d.links.items
   pub stubs : AreStubs d.graph.value d.parts.value d.domain d.here.items d.incoming.stubs

@@ -4,24 +4,24 @@ use Rattle.std.specs.Vec.{vec_capacity}
 use Rattle.zs_num.specs.declared.time.Word.TheVariants.{Bound}
 use Rattle.event_graph.specs.declared.event.Event.{Event}
 use Rattle.event_graph.specs.Numbered.{IsNumbered}
-use Rattle.domain_map.specs.Domains.{Division}
+use Rattle.domain_map.specs.Domains.{Partition}
 use Rattle.weave_core.specs.declared.prepare.Layout.{Layout as Kept}
 use Rattle.weave_core.specs.Beginning.{AreSmall, AreSpots}
 use Rattle.weave_core.specs.DomainMachine.{DomainState}
 use Rattle.weave_core.specs.Layout.{AreHere, AreLinked, AreStubs, Stands, fired_in, known_words}
 
--- A graph and a division that a domain has numbers for: no time passes 2^62, and their counts pass no type.
-pub record FitsDomain (events : List Event) (p : Division) : Type 0 where
+-- A graph and a partition that a domain has numbers for: no time passes 2^62, and their counts pass no type.
+pub record FitsDomain (events : List Event) (p : Partition) : Type 0 where
   pub small : AreSmall events
   pub few : length events < 2 ^ 30
   pub few_crossings : length p.crossings < 2 ^ 31
   pub few_places : length p.places < 2 ^ 16
 
 -- nothing fired, and nothing told
-abbrev pub at_rest_with : Division → (floor : ℕ) → DomainState
+abbrev pub at_rest_with : Partition → (floor : ℕ) → DomainState
 at_rest_with p floor = record { fired = []; known = map (λ x. Bound 0) p.crossings; floor = floor }
 
-pub record IsLaidOut (events : List Event) (p : Division) (domain : ℕ) (l : Kept) : Type 0 where
+pub record IsLaidOut (events : List Event) (p : Partition) (domain : ℕ) (l : Kept) : Type 0 where
   pub numbered : IsNumbered events
   pub here : AreHere events p domain l.here.items
   pub linked : AreLinked l.here.items l.heads.items l.links.items

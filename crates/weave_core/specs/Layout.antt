@@ -11,7 +11,7 @@ use Rattle.event_graph.specs.declared.event.Parent.{Parent}
 use Rattle.event_graph.specs.declared.fired.Fired.{Fired}
 use Rattle.event_graph.specs.OneListWeave.{Timed, finish_in, is_fired}
 use Rattle.domain_map.specs.declared.crossing.Crossing.{Crossing}
-use Rattle.domain_map.specs.Domains.{Division, domain_of, domain_of_number}
+use Rattle.domain_map.specs.Domains.{Partition, domain_of_event, domain_of_number}
 use Rattle.weave_core.specs.declared.children.Link.{Link}
 use Rattle.weave_core.specs.declared.incoming.Stub.{Stub}
 use Rattle.weave_core.specs.Children.{IsChain}
@@ -41,11 +41,11 @@ place_in places domain component = length (filter (λ d. d == domain) (take comp
 
 -- The events of the domain, and the crossings into it.
 
-module _ (events : List Event) (p : Division) (domain : ℕ) where
+module _ (events : List Event) (p : Partition) (domain : ℕ) where
   -- the domain's events, in order of their numbers
   pub record AreHere (here : List Event) : Type 0 where
-    pub each : (place : ℕ) (e : Event) → slice_get here place ≡ Some e → (slice_get events e.number ≡ Some e) × (domain_of p.places e ≡ domain)
-    pub covers : (number : ℕ) (e : Event) → slice_get events number ≡ Some e → domain_of p.places e ≡ domain → (place : ℕ) × (slice_get here place ≡ Some e)
+    pub each : (place : ℕ) (e : Event) → slice_get here place ≡ Some e → (slice_get events e.number ≡ Some e) × (domain_of_event p.places e ≡ domain)
+    pub covers : (number : ℕ) (e : Event) → slice_get events number ≡ Some e → domain_of_event p.places e ≡ domain → (place : ℕ) × (slice_get here place ≡ Some e)
     pub rising : (i j : ℕ) (e f : Event) → i < j → slice_get here i ≡ Some e → slice_get here j ≡ Some f → e.number < f.number
 
   -- it stands for a crossing into the domain
@@ -68,9 +68,9 @@ module _ (events : List Event) (p : Division) (domain : ℕ) where
 -- The children of the domain's events among them.
 
 -- 1 where the event of this number is the parent
-abbrev pub hits : (number : ℕ) → Option Parent → ℕ
-hits number None = 0
-hits number (Some q) = cond (q.number == number) 1 0
+abbrev pub times_parent : (number : ℕ) → Option Parent → ℕ
+times_parent number None = 0
+times_parent number (Some q) = cond (q.number == number) 1 0
 
 -- the start that it leaves where it is the parent and finishes then
 abbrev pub hit_after : (finish number : ℕ) → Option Parent → ℕ
@@ -92,7 +92,7 @@ pub record IsChildren (here : List Event) (links : List Link) (head number : ℕ
   pub chain : List Link
   pub is_chain : IsChain links head chain
   pub within : (place : ℕ) (l : Link) → slice_get chain place ≡ Some l → (l.child < length here) × (l.delay ≤ 2 ^ 62)
-  pub counts : (child : ℕ) (e : Event) → slice_get here child ≡ Some e → links_to child chain ≡ hits number e.first + hits number e.second
+  pub counts : (child : ℕ) (e : Event) → slice_get here child ≡ Some e → links_to child chain ≡ times_parent number e.first + times_parent number e.second
   pub latest : (finish child : ℕ) (e : Event) → slice_get here child ≡ Some e
       → latest_to finish child chain ≡ max (hit_after finish number e.first) (hit_after finish number e.second)
 
@@ -111,7 +111,7 @@ abbrev pub told_into : (child : ℕ) → List Stub → ℕ
 told_into child [] = 0
 told_into child (s ∷ stubs) = max (cond ((s.child == child) && is_exact s.word) (cycle_of s.word + s.delay) 0) (told_into child stubs)
 
-module _ (events : List Event) (p : Division) (domain : ℕ) (own : DomainState) where
+module _ (events : List Event) (p : Partition) (domain : ℕ) (own : DomainState) where
   -- 1 for a parent in the domain that hasn't fired
   abbrev pub pending : Option Parent → ℕ
   pending q = cond (is_own_parent_fired events p domain own q) 0 1
@@ -150,6 +150,6 @@ fired_in (wait ∷ waits) = cond (wait == 4294967295) 1 0 + fired_in waits
 -- The components of the domain.
 
 -- the component of each event is there, and serves it
-pub record HaveComponents {C : Type 0} (serves : C → Kind → Bool) (p : Division) (domain : ℕ) (here : List Event) (spots : List ℕ) (comps : List C) : Type 0 where
+pub record HaveComponents {C : Type 0} (serves : C → Kind → Bool) (p : Partition) (domain : ℕ) (here : List Event) (spots : List ℕ) (comps : List C) : Type 0 where
   pub spot : (place : ℕ) (e : Event) → slice_get here place ≡ Some e → slice_get spots e.component ≡ Some (place_in p.places domain e.component)
   pub serving : (place : ℕ) (e : Event) → slice_get here place ≡ Some e → (c : C) × ((slice_get comps (place_in p.places domain e.component) ≡ Some c) × IsTrue (serves c e.kind))

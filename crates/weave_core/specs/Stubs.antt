@@ -52,8 +52,8 @@ reach_of s = s.latency + s.delay
 abbrev pub is_ahead : (floor : ℕ) → Stub → Bool
 is_ahead floor s = nat_lt (floor + s.latency) (cycle_of s.word)
 
--- Each stub whose finish isn't known has a key in one of two queues: by its reach, or one that isn't later than its arrival.
--- No stub has two.
+-- Each stub whose finish isn't known has a key in one of two queues: by its reach, or one that isn't later than its
+-- arrival. No stub has two.
 pub record IsKeyed (stubs : List Stub) (floor : ℕ) (by_floor by_word : ReadyKeys) : Type 0 where
   pub covers : (place : ℕ) (s : Stub) → slice_get stubs place ≡ Some s → is_exact s.word ≡ false
       → Contains by_floor.keys (key_of (reach_of s) place)

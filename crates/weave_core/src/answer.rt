@@ -1,4 +1,4 @@
-// What a domain can do next, by its first ready event and its first open crossing.
+//! What a domain can do next, by its first ready event and its first open crossing.
 ghost use Rattle.std.specs.Prelude.{◌≡◌, ◌<◌, IfSome, length};
 ghost use Rattle.weave_core.specs.Answer.{IsBlocking, answer_of, blocked_by, fire_of, numbered_key};
 

@@ -1,4 +1,4 @@
-// The children of a domain's events among its events.
+//! The children of a domain's events among its events.
 ghost use Rattle.std.specs.Prelude.{◌≡◌};
 ghost use Rattle.weave_core.specs.Children.{CanTellChain, IsChain, tell_all};
 

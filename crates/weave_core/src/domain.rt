@@ -1,7 +1,7 @@
-// A domain of the weave.
+//! A domain of the weave.
 ghost use Rattle.std.specs.Prelude.{◌≡◌, ◌≤◌, ◌<◌, ◌^◌, IfErr, IfOk, List, length, map};
 ghost use Rattle.weave_core.specs.DomainCalls.{CanFire, IsAnswer, IsFire, IsFitted, MayTell, at_first, earliest_of, with_known};
-ghost use Rattle.domain_map.specs.Domains.{Divides};
+ghost use Rattle.domain_map.specs.Domains.{IsPartition};
 ghost use Rattle.weave_core.specs.DomainMachine.{with_floor};
 ghost use Rattle.weave_core.specs.LaidOut.{FitsDomain};
 ghost use Rattle.weave_core.specs.Layout.{timed_from};
@@ -63,10 +63,10 @@ impl<C: Component> Domain<C> {
         comps: Comps<C>,
     ) -> Result<Self, (NoMemory, Comps<C>)>
         requires domain { domain < length p.now.events }
-        requires divides { Divides g.now p.now }
+        requires partitions { IsPartition g.now p.now }
         requires fits { FitsDomain g.now p.now }
         requires components { (all : List C) × IsFitted C.serves C.floor g.now p.now domain comps all }
-        ensures prepared { IfOk result (λ it. it ≡ record { domain = domain; events = g.now; division = p.now; own = at_first p.now; comps = comps }) }
+        ensures prepared { IfOk result (λ it. it ≡ record { domain = domain; events = g.now; partition = p.now; own = at_first p.now; comps = comps }) }
         ensures back { IfErr result (λ e. e.1 ≡ comps) }
     {
         match lay_out(alloc, g, p, domain) {
@@ -89,7 +89,7 @@ impl<C: Component> Domain<C> {
 
     /// The least (start, number) of an event that is ready. None exactly where none is.
     pub fn earliest(&self) -> Option<Key>
-        ensures { result ≡ earliest_of self.now.events self.now.division self.now.domain self.now.own }
+        ensures { result ≡ earliest_of self.now.events self.now.partition self.now.domain self.now.own }
     {
         let key = self.waiting.first()?;
         Some(numbered(&self.here, key))
@@ -97,7 +97,7 @@ impl<C: Component> Domain<C> {
 
     /// What it can do next.
     pub fn next(&self) -> Next
-        ensures { IsAnswer self.now.events self.now.division self.now.domain self.now.own result }
+        ensures { IsAnswer self.now.events self.now.partition self.now.domain self.now.own result }
     {
         answer(
             &self.here,
@@ -109,7 +109,7 @@ impl<C: Component> Domain<C> {
 
     /// Tells it what is known of a crossing's parent.
     pub fn look(&mut self, crossing: u32, word: Word)
-        requires { MayTell self.old.events self.old.division self.old.domain self.old.own crossing word }
+        requires { MayTell self.old.events self.old.partition self.old.domain self.old.own crossing word }
         ensures { self.new ≡ record self.old { own = with_known self.old.own crossing word } }
     {
         let place = place_of(self.incoming.stubs(), crossing);
@@ -129,7 +129,7 @@ impl<C: Component> Domain<C> {
         requires small { floor ≤ 2 ^ 62 }
         ensures { self.new ≡ record self.old { own = with_floor floor self.old.own } }
     {
-        self.incoming.raise(floor);
+        self.incoming.raise_floor(floor);
     }
 
     /// Fires the event of `next`, and answers it with its start and its finish. Takes no memory.

@@ -1,4 +1,4 @@
-// The crossings into a domain, the one whose child could start first at hand.
+//! The crossings into a domain, the one whose child could start first at hand.
 ghost use Rattle.std.specs.Prelude.{◌≡◌, ◌<◌, ◌≤◌, ◌+◌, ◌^◌, ◌⊎◌, All, IfNone, IfOk, IfSome, Some, false, length, not, slice_get, slice_set, true};
 ghost use Rattle.zs_num.specs.KeyOrder.{is_key_before};
 ghost use Rattle.weave_core.specs.DomainMachine.{cycle_of, is_exact};
@@ -25,10 +25,10 @@ pub(crate) struct Stub {
     pub(crate) word: Word,
 }
 
-/// The stubs in order of their numbers, and two queues of those whose parent's finish is not known: by
-/// their reach, which no floor changes, and by the cycle that their children could start at. Where a
-/// stub comes first in a queue that does not tell its arrival, it is put into the other one or put in
-/// again.
+/// The stubs in order of their numbers, and two queues of those whose parent's finish is not known:
+/// by their reach, which no floor changes, and by the cycle that their children could start at.
+/// Where a stub comes first in a queue that does not tell its arrival, it is put into the other one
+/// or put in again.
 #[derive(Drop)]
 pub(crate) struct Incoming {
     stubs: Vec<Stub>,
@@ -150,7 +150,7 @@ impl Incoming {
     }
 
     /// Another floor, which is no lower.
-    pub(crate) fn raise(&mut self, floor: Cycle)
+    pub(crate) fn raise_floor(&mut self, floor: Cycle)
         requires floor { self.old.floor ≤ floor }
         requires small { floor ≤ 2 ^ 62 }
         ensures { self.new ≡ record self.old { floor = floor } }

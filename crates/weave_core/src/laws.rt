@@ -1,7 +1,7 @@
 //! Laws over the definitions alone, each the contract of a function that does nothing.
 ghost use Rattle.weave_core.specs.AtBarrier.{BarrierFloorsHold, BarriersAdvance};
 ghost use Rattle.weave_core.specs.Following.{FirstFollows, FiresFollow, FloorsFollow, TellsFollow};
-ghost use Rattle.weave_core.specs.Interleavings.{Interleavings, Progress};
+ghost use Rattle.weave_core.specs.Interleavings.{FirstUnfiredMayFire, Interleavings};
 ghost use Rattle.weave_core.specs.Keeping.{KeepingLaws};
 ghost use Rattle.weave_core.specs.SoundDomain.{SoundDomainsFollow, SoundFloorsBound};
 
@@ -16,8 +16,8 @@ pub fn interleavings<C: Component>()
     event_graph::laws::each_event_fires_once::<C>();
     event_graph::laws::events_fire_in_order::<C>();
     event_graph::laws::the_least_ready_event_fires::<C>();
-    event_graph::laws::each_round_fires_the_next_event::<C>();
-    event_graph::laws::rounds_fire_the_first_events::<C>();
+    event_graph::laws::each_firing_is_of_the_next_event::<C>();
+    event_graph::laws::firings_are_of_the_first_events::<C>();
     event_graph::laws::components_serve_their_own_events::<C>();
     event_graph::laws::graphs_keep_fitting::<C>();
 }
@@ -25,43 +25,43 @@ pub fn interleavings<C: Component>()
 /// After a barrier, the domain that has the first unfired event of the one-list weave may fire, and
 /// what it fires is that event.
 pub fn progress<C: Component>()
-    ensures { Progress C.serves C.floor C.stepped }
+    ensures { FirstUnfiredMayFire C.serves C.floor C.stepped }
 {
     event_graph::laws::each_event_fires_once::<C>();
     event_graph::laws::events_fire_in_order::<C>();
     event_graph::laws::the_least_ready_event_fires::<C>();
-    event_graph::laws::each_round_fires_the_next_event::<C>();
-    event_graph::laws::rounds_fire_the_first_events::<C>();
+    event_graph::laws::each_firing_is_of_the_next_event::<C>();
+    event_graph::laws::firings_are_of_the_first_events::<C>();
     event_graph::laws::components_serve_their_own_events::<C>();
     event_graph::laws::graphs_keep_fitting::<C>();
 }
 
-/// For every solution of the timing rules: where a domain has fired the first of its events in it, and
-/// its words and its bounds are sound for it, the event that may fire is the domain's next in it, with
-/// that start, and its component computes that finish.
+/// For every solution of the timing rules: where a domain has fired the first of its events in it,
+/// and its words and its bounds are sound for it, the event that may fire is the domain's next in
+/// it, with that start, and its component computes that finish.
 pub fn sound_domains_follow<C: Component>()
     ensures { SoundDomainsFollow C.serves C.floor C.stepped }
 {
     event_graph::laws::each_event_fires_once::<C>();
     event_graph::laws::events_fire_in_order::<C>();
     event_graph::laws::the_least_ready_event_fires::<C>();
-    event_graph::laws::each_round_fires_the_next_event::<C>();
-    event_graph::laws::rounds_fire_the_first_events::<C>();
+    event_graph::laws::each_firing_is_of_the_next_event::<C>();
+    event_graph::laws::firings_are_of_the_first_events::<C>();
     event_graph::laws::components_serve_their_own_events::<C>();
     event_graph::laws::graphs_keep_fitting::<C>();
     event_graph::laws::weave_is_the_one_solution::<C>();
 }
 
-/// For every solution of the timing rules: where a domain's words and its floor are sound for it, so are
-/// the bounds that it takes of its unresolved crossings.
+/// For every solution of the timing rules: where a domain's words and its floor are sound for it,
+/// so are the bounds that it takes of its unresolved crossings.
 pub fn sound_floors_bound<C: Component>()
     ensures { SoundFloorsBound C.serves C.floor C.stepped }
 {
     event_graph::laws::each_event_fires_once::<C>();
     event_graph::laws::events_fire_in_order::<C>();
     event_graph::laws::the_least_ready_event_fires::<C>();
-    event_graph::laws::each_round_fires_the_next_event::<C>();
-    event_graph::laws::rounds_fire_the_first_events::<C>();
+    event_graph::laws::each_firing_is_of_the_next_event::<C>();
+    event_graph::laws::firings_are_of_the_first_events::<C>();
     event_graph::laws::components_serve_their_own_events::<C>();
     event_graph::laws::graphs_keep_fitting::<C>();
     event_graph::laws::weave_is_the_one_solution::<C>();
@@ -90,47 +90,48 @@ pub fn fires_follow<C: Component>()
     sound_domains_follow::<C>();
 }
 
-/// Where the domains keep to a solution of the timing rules, and each knows the finish of every parent
-/// that another one fired, the least start of a ready event is a sound floor for all of them.
+/// Where the domains keep to a solution of the timing rules, and each knows the finish of every
+/// parent that another one fired, the least start of a ready event is a sound floor for all of
+/// them.
 pub fn barrier_floors_hold<C: Component>()
     ensures { BarrierFloorsHold C.serves C.floor C.stepped }
 {
     event_graph::laws::each_event_fires_once::<C>();
     event_graph::laws::events_fire_in_order::<C>();
     event_graph::laws::the_least_ready_event_fires::<C>();
-    event_graph::laws::each_round_fires_the_next_event::<C>();
-    event_graph::laws::rounds_fire_the_first_events::<C>();
+    event_graph::laws::each_firing_is_of_the_next_event::<C>();
+    event_graph::laws::firings_are_of_the_first_events::<C>();
     event_graph::laws::components_serve_their_own_events::<C>();
     event_graph::laws::graphs_keep_fitting::<C>();
     event_graph::laws::weave_is_the_one_solution::<C>();
 }
 
-/// In the same state, while an event is unfired, some domain has one ready; and at that floor the domain
-/// with the first unfired event of the one-list weave may fire that event.
+/// In the same state, while an event is unfired, some domain has one ready; and at that floor the
+/// domain with the first unfired event of the one-list weave may fire that event.
 pub fn barriers_advance<C: Component>()
     ensures { BarriersAdvance C.serves C.floor C.stepped }
 {
     event_graph::laws::each_event_fires_once::<C>();
     event_graph::laws::events_fire_in_order::<C>();
     event_graph::laws::the_least_ready_event_fires::<C>();
-    event_graph::laws::each_round_fires_the_next_event::<C>();
-    event_graph::laws::rounds_fire_the_first_events::<C>();
+    event_graph::laws::each_firing_is_of_the_next_event::<C>();
+    event_graph::laws::firings_are_of_the_first_events::<C>();
     event_graph::laws::components_serve_their_own_events::<C>();
     event_graph::laws::graphs_keep_fitting::<C>();
     event_graph::laws::weave_is_the_one_solution::<C>();
 }
 
 /// A domain that keeps to the one-list weave does so through each of its calls; a barrier gives all
-/// domains a sound floor and lets the first unfired event fire; and once all events have fired, what
-/// the domains fired and what their components are is what the weave gives.
+/// domains a sound floor and lets the first unfired event fire; and once all events have fired,
+/// what the domains fired and what their components are is what the weave gives.
 pub fn keeping<C: Component>()
     ensures { KeepingLaws C.serves C.floor C.stepped C.greatest }
 {
     event_graph::laws::each_event_fires_once::<C>();
     event_graph::laws::events_fire_in_order::<C>();
     event_graph::laws::the_least_ready_event_fires::<C>();
-    event_graph::laws::each_round_fires_the_next_event::<C>();
-    event_graph::laws::rounds_fire_the_first_events::<C>();
+    event_graph::laws::each_firing_is_of_the_next_event::<C>();
+    event_graph::laws::firings_are_of_the_first_events::<C>();
     event_graph::laws::components_serve_their_own_events::<C>();
     event_graph::laws::graphs_keep_fitting::<C>();
     event_graph::laws::weave_is_the_one_solution::<C>();

@@ -1,4 +1,4 @@
-// What a domain can do next.
+//! What a domain can do next.
 use zs_num::{Cycle, Key};
 
 /// What a domain can do next.

@@ -1,7 +1,7 @@
-// What a domain keeps of a graph.
+//! What a domain keeps of a graph.
 ghost use Rattle.std.specs.Prelude.{◌≡◌, ◌≤◌, ◌<◌, ◌^◌, ◌+◌, All, IfNone, IfOk, IfSome, OnOk, length, map, replicate, slice_get, slice_index_or, Some};
 ghost use Rattle.weave_core.specs.Beginning.{AddsLink, AddsWaits, AreCounts, AreCrossed, AreSmall, AreSpots, AreStubsUpto, HasPlace, HasWaits, IsCount, IsCrossed, IsMadeOf, IsRisingList, NoPlace};
-ghost use Rattle.domain_map.specs.Domains.{Divides};
+ghost use Rattle.domain_map.specs.Domains.{IsPartition};
 ghost use Rattle.weave_core.specs.DomainMachine.{latency_of};
 ghost use Rattle.weave_core.specs.LaidOut.{FitsDomain, IsLaidOut};
 ghost use Rattle.weave_core.specs.Layout.{AreLinked, no_event};
@@ -227,7 +227,7 @@ pub(crate) struct Layout {
 /// Lays a domain of a graph out.
 pub(crate) fn lay_out(alloc: Global, g: &Graph, p: &Parts, domain: u16) -> Result<Layout, NoMemory>
     requires domain { domain < length p.now.events }
-    requires divides { Divides g.now p.now }
+    requires partitions { IsPartition g.now p.now }
     requires fits { FitsDomain g.now p.now }
     ensures { IfOk result (IsLaidOut g.now p.now domain) }
 {

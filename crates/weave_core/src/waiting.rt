@@ -1,4 +1,4 @@
-// The events of a domain that have not fired, by their places among the domain's events.
+//! The events of a domain that have not fired, by their places among the domain's events.
 ghost use Rattle.std.specs.Prelude.{◌≡◌, ◌<◌, ◌^◌, ◌-◌, IfNone, IfOk, IfSome, length, slice_index};
 ghost use Rattle.weave_core.specs.Waits.{IsFirstReady, NoneReady, is_fired_wait, told};
 

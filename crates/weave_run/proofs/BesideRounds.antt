@@ -4,27 +4,27 @@ use Rattle.std.proofs.lemmas.Bool.{cases_lt, cases_eq}
 use Rattle.std.proofs.lemmas.List.{get_or-set_other, get_or-set_same}
 use Rattle.std.proofs.lemmas.Option.{same_Some, none-some, slice_get_within}
 use Rattle.component.specs.declared.kind.Kind.{Kind}
-use Rattle.domain_map.specs.Domains.{domain_of}
+use Rattle.domain_map.specs.Domains.{domain_of_event}
 use Rattle.weave_core.specs.AtBarrier.{MayGoOn}
 use Rattle.weave_core.specs.DomainCalls.{DomainValue}
 use Rattle.weave_core.specs.DomainMachine.{DomainState, fresh_domain}
 use Rattle.weave_core.specs.Keeping.{IsKept, KeepingLaws, owns_of}
-use Rattle.weave_run.specs.Rounds.{AllGrow, AllKeep, AreMet, AreNoted, CanRun, Grows, HasGoneOn, HasMet, HasRun, HasRunRound, HasToldRests, HaveRun, own_in}
+use Rattle.weave_run.specs.Rounds.{AllGrow, AllKeep, AreMet, AreNoted, CanWeavePlan, Grows, HasGoneOn, HasMet, HasRun, HasRunRound, HasToldRests, HaveRun, own_in}
 use Rattle.weave_run.specs.declared.plan.Plan.{Plan}
 use Rattle.weave_run.proofs.Rounding.{met_again, still_fired}
 use Rattle.weave_run.proofs.Tellings.{grows_by_learning, grows_nothing, own_there, there_at}
 
 -- ---- how many each has fired
 
-pub one_noted : {C : Type 0} (vs : List (DomainValue C)) (places : List ℕ) (index n : ℕ) (v : DomainValue C) → AreNoted vs places index → slice_get vs index ≡ Some v → n ≡ length v.own.fired → index < length places
-    → AreNoted vs (set places index n) (index + 1)
-one_noted vs places index n v h at is l = record {
+pub one_noted : {C : Type 0} (vs : List (DomainValue C)) (counts : List ℕ) (index n : ℕ) (v : DomainValue C) → AreNoted vs counts index → slice_get vs index ≡ Some v → n ≡ length v.own.fired → index < length counts
+    → AreNoted vs (set counts index n) (index + 1)
+one_noted vs counts index n v h at is l = record {
   each = λ d w below there.
       elim (cases_eq d index) [
-        | inr other ↦ get_or-set_other places index d n 0 other ∙ h.each d w (omega (arith, below, other)) there
+        | inr other ↦ get_or-set_other counts index d n 0 other ∙ h.each d w (omega (arith, below, other)) there
         | inl same ↦
             let one : v ≡ w = same_Some v w (sym at ∙ (ap (slice_get vs) (sym same) ∙ there)) in
-            ap (slice_index (set places index n)) same ∙ (get_or-set_same places index n 0 l ∙ (is ∙ ap (λ (z : DomainValue _). length z.own.fired) one))
+            ap (slice_index (set counts index n)) same ∙ (get_or-set_same counts index n 0 l ∙ (is ∙ ap (λ (z : DomainValue _). length z.own.fired) one))
       ];
 }
 
@@ -84,15 +84,15 @@ module _ {C : Type 0} (stepped : C → Kind → ℕ → C × ℕ) (plan : Plan C
       (subst (λ (a : DomainState). HasGoneOn plan.graph.value plan.parts.value r.before.domain a (own_in mid d)) (sym (own_there old d r.before r.there))
       (subst (HasGoneOn plan.graph.value plan.parts.value r.before.domain r.before.own) (sym (own_there mid d r.after r.there_now)) r.has_run.goes_on))
 
-  module _ (serves : C → Kind → Bool) (floor : C → Kind → ℕ) (greatest : C → Kind → ℕ → ℕ) (laws : KeepingLaws serves floor stepped greatest) (can : CanRun serves floor stepped greatest plan) (met : AreMet stepped plan old)
-      (new : List (DomainValue C)) (places : List ℕ) (noted : AreNoted old places (length old)) (told : HasToldRests stepped plan mid new places (length mid)) where
+  module _ (serves : C → Kind → Bool) (floor : C → Kind → ℕ) (greatest : C → Kind → ℕ → ℕ) (laws : KeepingLaws serves floor stepped greatest) (can : CanWeavePlan serves floor stepped greatest plan) (met : AreMet stepped plan old)
+      (new : List (DomainValue C)) (counts : List ℕ) (noted : AreNoted old counts (length old)) (told : HasToldRests stepped plan mid new counts (length mid)) where
     is_met : HasMet stepped plan old new
     is_met =
         met_again stepped plan old mid new met all_grown told.kept told.learn
         (λ source at y past there. elim (cases_lt source (length old)) [
           | inl less ↦
               let r : HasRunThere source = ran_there source less in
-              let place : slice_index places source ≡ length (own_in old source).fired =
+              let place : slice_index counts source ≡ length (own_in old source).fired =
               noted.each source r.before less r.there ∙ ap (λ (a : DomainState). length a.fired) (sym (own_there old source r.before r.there))
               in
               told.told source at y (let n = ran.count in omega (arith, less, n)) (omega (arith, place, past)) there
@@ -105,10 +105,10 @@ module _ {C : Type 0} (stepped : C → Kind → ℕ → C × ℕ) (plan : Plan C
     round_beside = record {
       has_met = is_met;
       advanced = λ index x first clear.
-          let d : ℕ = domain_of plan.parts.value.places x.event in
-          let below : domain_of plan.parts.value.places x.event < length old = (let b = laws.here plan.graph.value plan.parts.value plan.comps.value can index x first.there in let n = kept.count in omega (arith, b, n)) in
+          let d : ℕ = domain_of_event plan.parts.value.places x.event in
+          let below : domain_of_event plan.parts.value.places x.event < length old = (let b = laws.here plan.graph.value plan.parts.value plan.comps.value can index x first.there in let n = kept.count in omega (arith, b, n)) in
           let go : MayGoOn plan.graph.value plan.parts.value (owns_of old) x = laws.goes_on plan.graph.value plan.parts.value plan.comps.value can old index x met.kept met.told first in
-          still_fired (own_in mid (domain_of plan.parts.value.places x.event)) (own_in new (domain_of plan.parts.value.places x.event)) x.event.number
-          (grows_by_learning (own_in mid (domain_of plan.parts.value.places x.event)) (own_in new (domain_of plan.parts.value.places x.event)) (told.learn.each (domain_of plan.parts.value.places x.event)))
-          (gone_on (domain_of plan.parts.value.places x.event) below x.event x.start go.next clear);
+          still_fired (own_in mid (domain_of_event plan.parts.value.places x.event)) (own_in new (domain_of_event plan.parts.value.places x.event)) x.event.number
+          (grows_by_learning (own_in mid (domain_of_event plan.parts.value.places x.event)) (own_in new (domain_of_event plan.parts.value.places x.event)) (told.learn.each (domain_of_event plan.parts.value.places x.event)))
+          (gone_on (domain_of_event plan.parts.value.places x.event) below x.event x.start go.next clear);
     }

@@ -5,7 +5,7 @@ use Rattle.component.specs.declared.kind.Kind.{Kind}
 use Rattle.domain_map.specs.declared.crossing.Crossing.{Crossing}
 use Rattle.weave_core.specs.DomainCalls.{DomainValue}
 use Rattle.weave_run.specs.Outgoing.{AreOutgoing, IsLastBelow}
-use Rattle.weave_run.specs.Rounds.{AllKeep, HasTold, IsFinish}
+use Rattle.weave_run.specs.Rounds.{AllKeep, HasToldCrossing, IsFinish}
 use Rattle.weave_run.specs.declared.outgoing.Outgoing.{Outgoing}
 use Rattle.weave_run.specs.declared.plan.Plan.{Plan}
 use Rattle.weave_run.proofs.Tellings.{HasToldFrom, none_told, one_told}
@@ -49,7 +49,7 @@ module _ {C : Type 0} (stepped : C → Kind → ℕ → C × ℕ) (plan : Plan C
       record { below = (let a = b.below in omega (arith, a, l, e)); there = b.there }
 
   pub next_told : (first old new : List (DomainValue C)) (parent link number before : ℕ) → IsLink crossings parent link → link ≡ number + 1 → before ≡ get_or o.before.items number 0
-      → HasToldFrom stepped plan first old parent link → HasTold stepped plan old new number → HasToldFrom stepped plan first new parent before
+      → HasToldFrom stepped plan first old parent link → HasToldCrossing stepped plan old new number → HasToldFrom stepped plan first new parent before
   next_told first old new parent link number before h e is so t =
       let b : IsLastBelow crossings number parent before = before_of parent link number before h e is in
       one_told stepped plan first old new parent number before (subst (HasToldFrom stepped plan first old parent) e so) t b.none_behind
@@ -77,7 +77,7 @@ module _ {C : Type 0} (stepped : C → Kind → ℕ → C × ℕ) (plan : Plan C
     pub less : before < link
 
   pub step : (first old new : List (DomainValue C)) (parent link before d : ℕ) → (link ≡ 0 → ⊥) → IsLink crossings parent link → HasToldFrom stepped plan first old parent link
-      → HasTold stepped plan old new (link - 1) → before ≡ get_or o.before.items (link - 1) d → IsStep first new parent link before
+      → HasToldCrossing stepped plan old new (link - 1) → before ≡ get_or o.before.items (link - 1) d → IsStep first new parent link before
   step first old new parent link before d some h so t is =
       let e : link ≡ (link - 1) + 1 = omega (arith, some) in
       let x = h.there (link - 1) e in

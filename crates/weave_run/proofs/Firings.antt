@@ -36,17 +36,17 @@ is_fired_at (x ∷ xs) (suc i) y n h e = by_test (eqb x.event.number n) (is_fire
 
 pub record StandsIn (xs : List Timed) (n : ℕ) : Type 0 where
   pub place : ℕ
-  pub entry : Timed
-  pub there : slice_get xs place ≡ Some entry
-  pub number : entry.event.number ≡ n
+  pub firing : Timed
+  pub there : slice_get xs place ≡ Some firing
+  pub number : firing.event.number ≡ n
 
 pub fired_there : (xs : List Timed) (n : ℕ) → is_fired xs n ≡ true → StandsIn xs n
 fired_there [] n h = absurd (false≢true h)
 fired_there (x ∷ xs) n h = by_test (eqb x.event.number n) refl (fired_there xs n) h
   where
     by_test : (t : Bool) → eqb x.event.number n ≡ t → (is_fired xs n ≡ true → StandsIn xs n) → is_some (cond t (Some x) (find_fired xs n)) ≡ true → StandsIn (x ∷ xs) n
-    by_test true e rest h = let is : x.event.number ≡ n = grind (arith, nat_tests) in record { place = 0; entry = x; there = refl; number = is }
-    by_test false e rest h = let r : StandsIn xs n = rest h in record { place = suc r.place; entry = r.entry; there = r.there; number = r.number }
+    by_test true e rest h = let is : x.event.number ≡ n = grind (arith, nat_tests) in record { place = 0; firing = x; there = refl; number = is }
+    by_test false e rest h = let r : StandsIn xs n = rest h in record { place = suc r.place; firing = r.firing; there = r.there; number = r.number }
 
 -- the first of some stand where they stood
 pub front_get : (xs ys : List Timed) (i : ℕ) → i < length xs → slice_get (xs ++ ys) i ≡ slice_get xs i

@@ -9,12 +9,12 @@ use Rattle.std.specs.Prelude.{IfSome}
 use Rattle.zs_num.specs.declared.time.Key.{Key}
 use Rattle.component.specs.declared.kind.Kind.{Kind}
 use Rattle.event_graph.specs.declared.event.Event.{Event}
-use Rattle.domain_map.specs.Domains.{Division}
+use Rattle.domain_map.specs.Domains.{Partition}
 use Rattle.weave_core.specs.AtBarrier.{least_start_of}
 use Rattle.weave_core.specs.DomainCalls.{DomainValue, earliest_of}
 use Rattle.weave_core.specs.DomainMachine.{DomainState, least, next_in, ready_starts, with_floor}
 use Rattle.weave_core.specs.Keeping.{KeepingLaws, owns_of}
-use Rattle.weave_run.specs.Rounds.{AllKeep, CanRun, with_floors}
+use Rattle.weave_run.specs.Rounds.{AllKeep, CanWeavePlan, with_floors}
 use Rattle.weave_run.specs.declared.plan.Plan.{Plan}
 use Rattle.weave_run.proofs.Tellings.{get_set_other, get_set_same}
 
@@ -45,7 +45,7 @@ lesser_none None = refl
 lesser_none (Some a) = refl
 
 -- the starts from a number on
-abbrev pub starts_from : List Event → Division → List DomainState → (number : ℕ) → Option ℕ
+abbrev pub starts_from : List Event → Partition → List DomainState → (number : ℕ) → Option ℕ
 starts_from events p owns number = least (ready_starts events p (enumerate_from number (drop number owns)))
 
 pub drop_step : {X : Type 0} (xs : List X) (n m : ℕ) (x : X) → m ≡ suc n → slice_get xs n ≡ Some x → drop n xs ≡ x ∷ drop m xs
@@ -59,14 +59,14 @@ drop_all [] (suc n) l = refl
 drop_all (x ∷ xs) zero l = absurd (omega arith)
 drop_all (x ∷ xs) (suc n) l = drop_all xs n (omega arith)
 
-pub front_step : (events : List Event) (p : Division) (owns : List DomainState) (front : Option ℕ) (number : ℕ) (own : DomainState) → slice_get owns number ≡ Some own
+pub front_step : (events : List Event) (p : Partition) (owns : List DomainState) (front : Option ℕ) (number : ℕ) (own : DomainState) → slice_get owns number ≡ Some own
     → lesser front (starts_from events p owns number) ≡ least_start_of events p owns
     → lesser (with_start front (option_map (λ (next : Event × ℕ). next.1) (next_in events p number own))) (starts_from events p owns (number + 1)) ≡ least_start_of events p owns
 front_step events p owns front number own at h =
     sym (lesser_step front (option_map (λ (next : Event × ℕ). next.1) (next_in events p number own)) (ready_starts events p (enumerate_from (number + 1) (drop (number + 1) owns))))
     ∙ (ap (λ (xs : List DomainState). lesser front (least (ready_starts events p (enumerate_from number xs)))) (sym (drop_step owns number (number + 1) own (omega arith) at)) ∙ h)
 
-pub front_end : (events : List Event) (p : Division) (owns : List DomainState) (front : Option ℕ) (number : ℕ) → length owns ≤ number
+pub front_end : (events : List Event) (p : Partition) (owns : List DomainState) (front : Option ℕ) (number : ℕ) → length owns ≤ number
     → lesser front (starts_from events p owns number) ≡ least_start_of events p owns → front ≡ least_start_of events p owns
 front_end events p owns front number l h =
     sym (lesser_none front) ∙ (ap (λ (xs : List DomainState). lesser front (least (ready_starts events p (enumerate_from number xs)))) (sym (drop_all owns number l)) ∙ h)
@@ -84,14 +84,14 @@ pub whole_front : {C : Type 0} (plan : Plan C) (vs : List (DomainValue C)) (inde
 whole_front {C} plan vs index front l h = front_end plan.graph.value plan.parts.value (owns_of vs) front index (omega (arith, l, length-map vs (λ (v : DomainValue C). v.own))) h.front_is
 
 module _ {C : Type 0} (serves : C → Kind → Bool) (floor : C → Kind → ℕ) (stepped : C → Kind → ℕ → C × ℕ) (greatest : C → Kind → ℕ → ℕ) (laws : KeepingLaws serves floor stepped greatest)
-    (plan : Plan C) (can : CanRun serves floor stepped greatest plan) (vs : List (DomainValue C)) (k : AllKeep stepped plan vs) (index : ℕ) (v : DomainValue C) (at : slice_get vs index ≡ Some v) (front : Option ℕ) (h : IsFrontSo plan vs index front) where
+    (plan : Plan C) (can : CanWeavePlan serves floor stepped greatest plan) (vs : List (DomainValue C)) (k : AllKeep stepped plan vs) (index : ℕ) (v : DomainValue C) (at : slice_get vs index ≡ Some v) (front : Option ℕ) (h : IsFrontSo plan vs index front) where
   own_at_index : slice_get (owns_of vs) index ≡ Some v.own
   own_at_index = slice_get-map (λ (w : DomainValue C). w.own) vs index ∙ ap (option_map (λ (w : DomainValue C). w.own)) at
 
-  earliest_is : earliest_of v.events v.division v.domain v.own ≡ earliest_of plan.graph.value plan.parts.value index v.own
-  earliest_is = ap (λ (w : DomainValue C). earliest_of w.events w.division w.domain v.own) (k.each index v at).is
+  earliest_is : earliest_of v.events v.partition v.domain v.own ≡ earliest_of plan.graph.value plan.parts.value index v.own
+  earliest_is = ap (λ (w : DomainValue C). earliest_of w.events w.partition w.domain v.own) (k.each index v at).is
 
-  pub front_past : earliest_of v.events v.division v.domain v.own ≡ None → IsFrontSo plan vs (index + 1) front
+  pub front_past : earliest_of v.events v.partition v.domain v.own ≡ None → IsFrontSo plan vs (index + 1) front
   front_past none = by_next (next_in plan.graph.value plan.parts.value index v.own) refl
     where
       by_next : (o : Option (Event × ℕ)) → next_in plan.graph.value plan.parts.value index v.own ≡ o → IsFrontSo plan vs (index + 1) front
@@ -106,7 +106,7 @@ module _ {C : Type 0} (serves : C → Kind → Bool) (floor : C → Kind → ℕ
           in
           absurd (none-some (let key : Key = record { start = b.1; number = b.0.number } in key) (sym none ∙ (earliest_is ∙ some)))
 
-  pub front_next : (key : Key) → earliest_of v.events v.division v.domain v.own ≡ Some key → IsFrontSo plan vs (index + 1) (Some (option_map_or (min key.start) front key.start))
+  pub front_next : (key : Key) → earliest_of v.events v.partition v.domain v.own ≡ Some key → IsFrontSo plan vs (index + 1) (Some (option_map_or (min key.start) front key.start))
   front_next key some = by_next (next_in plan.graph.value plan.parts.value index v.own) refl
     where
       by_next : (o : Option (Event × ℕ)) → next_in plan.graph.value plan.parts.value index v.own ≡ o → IsFrontSo plan vs (index + 1) (Some (option_map_or (min key.start) front key.start))

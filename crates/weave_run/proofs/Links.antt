@@ -4,7 +4,7 @@ use Rattle.std.proofs.lemmas.Bool.{cases_eq, cases_lt}
 use Rattle.std.proofs.lemmas.List.{get_or-set_same, get_or-set_other}
 use Rattle.std.proofs.lemmas.Option.{same_Some, slice_get_within}
 use Rattle.domain_map.specs.declared.crossing.Crossing.{Crossing}
-use Rattle.weave_run.specs.Outgoing.{AreLinked, IsLastBelow}
+use Rattle.weave_run.specs.Outgoing.{AreCrossingsLinked, IsLastBelow}
 
 -- the first so many crossings are linked
 pub record AreLinkedBelow (crossings : List Crossing) (number : ℕ) (last before : List ℕ) : Type 0 where
@@ -68,7 +68,7 @@ one_linked crossings number last before x h at inside there = record {
           ];
     }
 
-pub all_linked : (crossings : List Crossing) (number : ℕ) (last before : List ℕ) → AreLinkedBelow crossings number last before → number ≡ length crossings → AreLinked crossings last before
+pub all_linked : (crossings : List Crossing) (number : ℕ) (last before : List ℕ) → AreLinkedBelow crossings number last before → number ≡ length crossings → AreCrossingsLinked crossings last before
 all_linked crossings number last before h all = record {
   lasts = λ parent l. subst (λ (n : ℕ). IsLastBelow crossings n parent (get_or last parent 0)) all (h.lasts parent l);
   befores = λ n x is. h.befores n x (let w = slice_get_within crossings n x is in omega (arith, w, all)) is;

@@ -9,8 +9,8 @@ use Rattle.atomic_table.specs.Seated.{TableId}
 use Rattle.component.specs.declared.kind.Kind.{Kind}
 use Rattle.weave_core.specs.DomainCalls.{DomainValue}
 use Rattle.weave_core.specs.Keeping.{IsKept}
-use Rattle.weave_run.specs.Crews.{AreCrewsSeated, AreFree, CanWork, HasWorked, HaveLots, HaveLotsRun, HaveRoom, IsCrewSeated, domains_of, lot}
-use Rattle.weave_run.specs.Rounds.{AllKeep, HasRun, HaveRun, Keeps}
+use Rattle.weave_run.specs.Crews.{AreCrewsSeated, AreFree, CanWork, HasWorked, HaveLots, HaveLotsRun, HaveRoom, IsCrewSeated, domains_of_crew, lot}
+use Rattle.weave_run.specs.Rounds.{AllKeep, HasRun, HaveRun, KeepsToWeave}
 use Rattle.weave_run.specs.Seating.{HasServed}
 use Rattle.weave_run.specs.declared.crew.Crew.{Crew}
 use Rattle.weave_run.specs.declared.post.Post.{Post}
@@ -74,7 +74,7 @@ module _ {C : Type 0} (all left : List (DomainValue C)) (v : DomainValue C) (wor
       let room = h.room.each worker old there in
       omega (arith, a, b, few, whole, push, room)
 
-  pub one_hired : (new : Crew C) → worker ≡ length left % length crews → domains_of new ≡ domains_of old ++ v ∷ [] → vec_capacity new.posts ≡ vec_capacity old.posts → HiredSoFar all left workers (set crews worker new)
+  pub one_hired : (new : Crew C) → worker ≡ length left % length crews → domains_of_crew new ≡ domains_of_crew old ++ v ∷ [] → vec_capacity new.posts ≡ vec_capacity old.posts → HiredSoFar all left workers (set crews worker new)
   one_hired new is domains capacity = record {
     given = v ∷ h.given;
     whole = sym (append_assoc left (v ∷ []) h.given) ∙ h.whole;
@@ -89,16 +89,16 @@ module _ {C : Type 0} (all left : List (DomainValue C)) (v : DomainValue C) (wor
       below : worker < length crews
       below = slice_get_within crews worker old there
 
-      lots : (w : ℕ) (crew : Crew C) → slice_get (set crews worker new) w ≡ Some crew → domains_of crew ≡ lot (length (set crews worker new)) w (length left) (v ∷ h.given)
+      lots : (w : ℕ) (crew : Crew C) → slice_get (set crews worker new) w ≡ Some crew → domains_of_crew crew ≡ lot (length (set crews worker new)) w (length left) (v ∷ h.given)
       lots w crew at =
-          subst (λ (n : ℕ). domains_of crew ≡ lot n w (length left) (v ∷ h.given)) (sym (length-set crews worker new))
-          (elim (cases_eq w worker) as (λ _. domains_of crew ≡ lot (length crews) w (length left) (v ∷ h.given)) [
+          subst (λ (n : ℕ). domains_of_crew crew ≡ lot n w (length left) (v ∷ h.given)) (sym (length-set crews worker new))
+          (elim (cases_eq w worker) as (λ _. domains_of_crew crew ≡ lot (length crews) w (length left) (v ∷ h.given)) [
             | inr other ↦
                 h.lots.each w crew (sym (get_set_other crews worker w new other) ∙ at)
                 ∙ (ap (λ (n : ℕ). lot (length crews) w n h.given) more ∙ sym (other_lot (length crews) w (length left) v h.given (λ same. other (sym same ∙ sym is))))
             | inl same ↦
                 let one : new ≡ crew = same_Some new crew (sym (get_set_same crews worker new below) ∙ (ap (slice_get (set crews worker new)) (sym same) ∙ at)) in
-                ap domains_of (sym one)
+                ap domains_of_crew (sym one)
                 ∙ (domains
                 ∙ (ap (λ (vs : List (DomainValue C)). vs ++ v ∷ []) (h.lots.each worker old there ∙ (ap (λ (n : ℕ). lot (length crews) worker n h.given) more ∙ ap (λ (n : ℕ). lot (length crews) n (length left + 1) h.given) (sym same)))
                 ∙ sym (own_lot (length crews) w (length left) v h.given (sym is ∙ sym same))))
@@ -123,7 +123,7 @@ pub all_hired : {C : Type 0} (all : List (DomainValue C)) (workers : ℕ) (crews
 all_hired all workers crews h = subst (λ (vs : List (DomainValue _)). HaveLots 0 vs crews) h.whole h.lots
 
 -- a post more
-pub more_posts : {C : Type 0} (old new : Crew C) (post : Post C) → new.posts.items ≡ old.posts.items ++ post ∷ [] → domains_of new ≡ domains_of old ++ post.domain ∷ []
+pub more_posts : {C : Type 0} (old new : Crew C) (post : Post C) → new.posts.items ≡ old.posts.items ++ post ∷ [] → domains_of_crew new ≡ domains_of_crew old ++ post.domain ∷ []
 more_posts {C} old new post is = ap (map (λ (p : Post C). p.domain)) is ∙ map_push (λ (p : Post C). p.domain) old.posts.items post
 
 -- ---- at work
@@ -219,9 +219,9 @@ module _ {C : Type 0} (stepped : C → Kind → ℕ → C × ℕ) (plan : Plan C
     abbrev rest : List (DomainValue C)
     rest = lot (length crews) worker (number + 1) (drop (number + 1) all)
 
-    here : HaveRun stepped plan (rest ++ next ∷ []) (domains_of old)
+    here : HaveRun stepped plan (rest ++ next ∷ []) (domains_of_crew old)
     here =
-        subst (λ (vs : List (DomainValue C)). HaveRun stepped plan vs (domains_of old)) (ap (lot (length crews) worker number) rest_is ∙ own_lot (length crews) worker number next (drop (number + 1) all) is) (h.lots.each worker old there)
+        subst (λ (vs : List (DomainValue C)). HaveRun stepped plan vs (domains_of_crew old)) (ap (lot (length crews) worker number) rest_is ∙ own_lot (length crews) worker number next (drop (number + 1) all) is) (h.lots.each worker old there)
 
     -- the worker has one more
     pub some_left : 0 < length old.posts.items
@@ -229,35 +229,35 @@ module _ {C : Type 0} (stepped : C → Kind → ℕ → C × ℕ) (plan : Plan C
         let a = here.count in let b = length_push rest next in let c = length-map old.posts.items (λ (post : Post C). post.domain) in omega (arith, a, b, c)
 
     module _ (new : Crew C) (post : Post C) (popped : old.posts.items ≡ new.posts.items ++ post ∷ []) (capacity : vec_capacity new.posts ≡ vec_capacity old.posts) where
-      domains : domains_of old ≡ domains_of new ++ post.domain ∷ []
+      domains : domains_of_crew old ≡ domains_of_crew new ++ post.domain ∷ []
       domains = more_posts new old post popped
 
-      size : length (domains_of new) ≡ length rest
-      size = let a = here.count in let b = length_push rest next in let c = ap length domains in let d = length_push (domains_of new) post.domain in omega (arith, a, b, c, d)
+      size : length (domains_of_crew new) ≡ length rest
+      size = let a = here.count in let b = length_push rest next in let c = ap length domains in let d = length_push (domains_of_crew new) post.domain in omega (arith, a, b, c, d)
 
       last_ran : HasRun stepped plan next post.domain
       last_ran =
-          here.each (length rest) next post.domain (last_at rest next (length rest) refl) (ap (λ (vs : List (DomainValue C)). slice_get vs (length rest)) domains ∙ last_at (domains_of new) post.domain (length rest) (sym size))
+          here.each (length rest) next post.domain (last_at rest next (length rest) refl) (ap (λ (vs : List (DomainValue C)). slice_get vs (length rest)) domains ∙ last_at (domains_of_crew new) post.domain (length rest) (sym size))
 
       below : worker < length crews
       below = slice_get_within crews worker old there
 
-      lots : (w : ℕ) (crew : Crew C) → slice_get (set crews worker new) w ≡ Some crew → HaveRun stepped plan (lot (length (set crews worker new)) w (number + 1) (drop (number + 1) all)) (domains_of crew)
+      lots : (w : ℕ) (crew : Crew C) → slice_get (set crews worker new) w ≡ Some crew → HaveRun stepped plan (lot (length (set crews worker new)) w (number + 1) (drop (number + 1) all)) (domains_of_crew crew)
       lots w crew at =
-          subst (λ (n : ℕ). HaveRun stepped plan (lot n w (number + 1) (drop (number + 1) all)) (domains_of crew)) (sym (length-set crews worker new))
-          (elim (cases_eq w worker) as (λ _. HaveRun stepped plan (lot (length crews) w (number + 1) (drop (number + 1) all)) (domains_of crew)) [
+          subst (λ (n : ℕ). HaveRun stepped plan (lot n w (number + 1) (drop (number + 1) all)) (domains_of_crew crew)) (sym (length-set crews worker new))
+          (elim (cases_eq w worker) as (λ _. HaveRun stepped plan (lot (length crews) w (number + 1) (drop (number + 1) all)) (domains_of_crew crew)) [
             | inr other ↦
-                subst (λ (vs : List (DomainValue C)). HaveRun stepped plan vs (domains_of crew))
+                subst (λ (vs : List (DomainValue C)). HaveRun stepped plan vs (domains_of_crew crew))
                 (ap (lot (length crews) w number) rest_is ∙ other_lot (length crews) w number next (drop (number + 1) all) (λ same. other (sym same ∙ is)))
                 (h.lots.each w crew (sym (get_set_other crews worker w new other) ∙ at))
             | inl same ↦
                 let one : new ≡ crew = same_Some new crew (sym (get_set_same crews worker new below) ∙ (ap (slice_get (set crews worker new)) (sym same) ∙ at)) in
-                subst (λ (c : Crew C). HaveRun stepped plan (lot (length crews) w (number + 1) (drop (number + 1) all)) (domains_of c)) one
-                (subst (λ (n : ℕ). HaveRun stepped plan (lot (length crews) n (number + 1) (drop (number + 1) all)) (domains_of new)) (sym same)
+                subst (λ (c : Crew C). HaveRun stepped plan (lot (length crews) w (number + 1) (drop (number + 1) all)) (domains_of_crew c)) one
+                (subst (λ (n : ℕ). HaveRun stepped plan (lot (length crews) n (number + 1) (drop (number + 1) all)) (domains_of_crew new)) (sym same)
                 (record {
                   count = size;
                   each = λ place v y a b.
-                      here.each place v y (earlier_at rest (next ∷ []) place v a) (ap (λ (vs : List (DomainValue C)). slice_get vs place) domains ∙ earlier_at (domains_of new) (post.domain ∷ []) place y b);
+                      here.each place v y (earlier_at rest (next ∷ []) place v a) (ap (λ (vs : List (DomainValue C)). slice_get vs place) domains ∙ earlier_at (domains_of_crew new) (post.domain ∷ []) place y b);
                 }))
           ])
 
@@ -293,10 +293,10 @@ module _ {C : Type 0} (stepped : C → Kind → ℕ → C × ℕ) (plan : Plan C
     record {
       room = h.room;
       none = λ worker crew at.
-          let r : HaveRun stepped plan (lot (length crews) worker number (drop number all)) (domains_of crew) = h.lots.each worker crew at in
+          let r : HaveRun stepped plan (lot (length crews) worker number (drop number all)) (domains_of_crew crew) = h.lots.each worker crew at in
           let none : drop number all ≡ [] = drop_all all number (omega (arith, end)) in
           let size = r.count ∙ ap (λ (vs : List (DomainValue C)). length (lot (length crews) worker number vs)) none in
-          nothing (domains_of crew) size;
+          nothing (domains_of_crew crew) size;
     },
   )
     where
@@ -307,18 +307,18 @@ module _ {C : Type 0} (stepped : C → Kind → ℕ → C × ℕ) (plan : Plan C
 -- ---- what workers may do, and did
 
 module _ {C : Type 0} (stepped : C → Kind → ℕ → C × ℕ) (plan : Plan C) where
-  pub keeps_at : (vs : List (DomainValue C)) → AllKeep stepped plan vs → (d : ℕ) (v : DomainValue C) → slice_get vs d ≡ Some v → Keeps stepped plan v
+  pub keeps_at : (vs : List (DomainValue C)) → AllKeep stepped plan vs → (d : ℕ) (v : DomainValue C) → slice_get vs d ≡ Some v → KeepsToWeave stepped plan v
   keeps_at vs k d v at =
       let i : IsKept stepped plan.graph.value plan.parts.value plan.comps.value d v = k.each d v at in
       subst (λ (n : ℕ). IsKept stepped plan.graph.value plan.parts.value plan.comps.value n v) (sym (ap (λ (w : DomainValue C). w.domain) i.is)) i
 
-  pub all_can : (table : TableId) (vs : List (DomainValue C)) (crews : List (Crew C)) → ((d : ℕ) (v : DomainValue C) → slice_get vs d ≡ Some v → Keeps stepped plan v) → HaveLots 0 vs crews → AreCrewsSeated stepped plan table crews
+  pub all_can : (table : TableId) (vs : List (DomainValue C)) (crews : List (Crew C)) → ((d : ℕ) (v : DomainValue C) → slice_get vs d ≡ Some v → KeepsToWeave stepped plan v) → HaveLots 0 vs crews → AreCrewsSeated stepped plan table crews
       → All (CanWork stepped plan table) crews
   all_can table vs crews keep lots seated worker d l =
       let there : slice_get crews worker ≡ Some (get_or crews worker d) = slice_get-get_or crews worker d l in
       record {
         each = λ place post at.
-            let here : slice_get (domains_of (get_or crews worker d)) place ≡ Some post.domain =
+            let here : slice_get (domains_of_crew (get_or crews worker d)) place ≡ Some post.domain =
             slice_get-map (λ (p : Post C). p.domain) (get_or crews worker d).posts.items place ∙ ap (option_map (λ (p : Post C). p.domain)) at
             in
             let r = in_lot (length crews) worker 0 vs place post.domain (ap (λ (xs : List (DomainValue C)). slice_get xs place) (sym (lots.each worker (get_or crews worker d) there)) ∙ here) in
@@ -332,9 +332,9 @@ module _ {C : Type 0} (stepped : C → Kind → ℕ → C × ℕ) (plan : Plan C
       each = λ worker crew at.
           let within : worker < length old = (let b = slice_get_within new worker crew at in omega (arith, b, count)) in
           let here : get_or new worker crew ≡ crew = same_Some _ _ (sym (slice_get-get_or new worker crew (slice_get_within new worker crew at)) ∙ at) in
-          subst (λ (n : ℕ). HaveRun stepped plan (lot n worker 0 vs) (domains_of crew)) (sym count)
-          (subst (λ (xs : List (DomainValue C)). HaveRun stepped plan xs (domains_of crew)) (lots.each worker (get_or old worker crew) (slice_get-get_or old worker crew within))
-          (subst (λ (c : Crew C). HaveRun stepped plan (domains_of (get_or old worker crew)) (domains_of c)) here (worked worker crew within).ran));
+          subst (λ (n : ℕ). HaveRun stepped plan (lot n worker 0 vs) (domains_of_crew crew)) (sym count)
+          (subst (λ (xs : List (DomainValue C)). HaveRun stepped plan xs (domains_of_crew crew)) (lots.each worker (get_or old worker crew) (slice_get-get_or old worker crew within))
+          (subst (λ (c : Crew C). HaveRun stepped plan (domains_of_crew (get_or old worker crew)) (domains_of_crew c)) here (worked worker crew within).ran));
     }
 
     pub rooms_stay : (n : ℕ) → HaveRoom n old → HaveRoom n new

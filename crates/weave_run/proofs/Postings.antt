@@ -12,16 +12,16 @@ use Rattle.event_graph.specs.declared.event.Event.{Event}
 use Rattle.event_graph.specs.declared.fired.Fired.{Fired}
 use Rattle.event_graph.specs.OneListWeave.{Timed, finish_in, is_fired, woven}
 use Rattle.domain_map.specs.declared.crossing.Crossing.{Crossing}
-use Rattle.domain_map.specs.Domains.{Division, domain_of}
+use Rattle.domain_map.specs.Domains.{Partition, domain_of_event}
 use Rattle.crossing.specs.Seats.{IsTrueOfFinish, Looked, MayWrite, SeatValue, finishes_of, owners_of, with_written}
 use Rattle.weave_core.specs.DomainCalls.{DomainValue, IsAnswer, MayTell, with_known}
 use Rattle.weave_core.specs.DomainMachine.{DomainState, word_at}
-use Rattle.weave_core.specs.Keeping.{IsBetween, IsFinishOf, IsReadyEvent, KeepingLaws}
+use Rattle.weave_core.specs.Keeping.{IsFinishOf, IsReadyEvent, JoinsDomains, KeepingLaws}
 use Rattle.weave_core.specs.declared.next.Next.{Next}
 use Rattle.weave_core.specs.declared.next.Next.TheVariants.{Blocked, Done, Fire}
 use Rattle.weave_run.specs.Outgoing.{AreOutgoing, IsLastBelow}
-use Rattle.weave_run.specs.Rounds.{CanRun, Grows, HasFired, HasGoneOn, IsFinish}
-use Rattle.weave_run.specs.Seating.{CanServe, HasFiredThere, HasLooked, HasPublished, HasServed, IsSeat, MayPublish}
+use Rattle.weave_run.specs.Rounds.{CanWeavePlan, Grows, HasFiredNext, HasGoneOn, IsFinish}
+use Rattle.weave_run.specs.Seating.{IsPostSeated, HasFiredThere, HasLooked, HasPublished, HasServed, IsSeat, MayPublish}
 use Rattle.weave_run.specs.declared.outgoing.Outgoing.{Outgoing}
 use Rattle.weave_run.specs.declared.plan.Plan.{Plan}
 use Rattle.weave_run.specs.declared.post.Post.{Post}
@@ -145,11 +145,11 @@ module _ {C : Type 0} (stepped : C → Kind → ℕ → C × ℕ) (plan : Plan C
 module _ {C : Type 0} (stepped : C → Kind → ℕ → C × ℕ) (plan : Plan C) (table : TableId) where
   -- what a domain has done since it began to run
   pub record HasServedSo (first now : Post C) : Type 0 where
-    pub can : CanServe stepped plan table now
+    pub can : IsPostSeated stepped plan table now
     pub same : now.domain.domain ≡ first.domain.domain
     pub grows : Grows first.domain.own now.domain.own
 
-  pub not_served : (post : Post C) → CanServe stepped plan table post → HasServedSo post post
+  pub not_served : (post : Post C) → IsPostSeated stepped plan table post → HasServedSo post post
   not_served post ok = record { can = ok; same = refl; grows = grows_nothing post.domain.own }
 
   pub served_by_firing : (first old new : Post C) → HasServedSo first old → HasFiredThere stepped plan table old new → HasServedSo first new
@@ -179,30 +179,30 @@ pub done_is_no_fire : (key : Key) → ◌≡◌ {A = Next} Done (Fire key) → �
 done_is_no_fire key e = cc
 
 module _ {C : Type 0} (serves : C → Kind → Bool) (floor : C → Kind → ℕ) (stepped : C → Kind → ℕ → C × ℕ) (greatest : C → Kind → ℕ → ℕ) (laws : KeepingLaws serves floor stepped greatest)
-    (plan : Plan C) (can : CanRun serves floor stepped greatest plan) (table : TableId) where
+    (plan : Plan C) (can : CanWeavePlan serves floor stepped greatest plan) (table : TableId) where
   abbrev events : List Event
   events = plan.graph.value
 
-  abbrev division : Division
-  division = plan.parts.value
+  abbrev partition : Partition
+  partition = plan.parts.value
 
   -- ---- looking
 
-  module _ (old : Post C) (ok : CanServe stepped plan table old) (number : ℕ) (x : Crossing) (at : slice_get division.crossings number ≡ Some x) (target : x.target ≡ old.domain.domain)
+  module _ (old : Post C) (ok : IsPostSeated stepped plan table old) (number : ℕ) (x : Crossing) (at : slice_get partition.crossings number ≡ Some x) (target : x.target ≡ old.domain.domain)
       (seat : SeatValue) (word : Word) (looked : Looked old.seat seat number word) where
     found : (w : Word) (finish : ℕ) → w ≡ Exact finish → IsTrueOfFinish (slice_index old.seat.finishes number) w → IsFinish stepped plan x.parent finish
     found w finish e true_of =
         subst (IsTrueOfFinish (slice_index old.seat.finishes number)) e true_of
         ∙ (ap (λ (xs : List ℕ). slice_index xs number) ok.seated.seat.finishes_are ∙ finish_at stepped plan number x at)
 
-    finish_of : (finish : ℕ) → word ≡ Exact finish → IsFinishOf stepped events division plan.comps.value old.domain.domain number finish
+    finish_of : (finish : ℕ) → word ≡ Exact finish → IsFinishOf stepped events partition plan.comps.value old.domain.domain number finish
     finish_of finish e = record { crossing = x; there = at; target = target; finish_is = found word finish e looked.is_true }
 
-    pub may_tell_found : (finish : ℕ) → word ≡ Exact finish → MayTell old.domain.events old.domain.division old.domain.domain old.domain.own number word
+    pub may_tell_found : (finish : ℕ) → word ≡ Exact finish → MayTell old.domain.events old.domain.partition old.domain.domain old.domain.own number word
     may_tell_found finish e =
-        subst (λ (w : Word). MayTell old.domain.events old.domain.division old.domain.domain old.domain.own number w) (sym e)
-        (subst (λ (v : DomainValue C). MayTell v.events v.division v.domain v.own number (Exact finish)) (sym ok.kept.is)
-        (laws.may_tell events division plan.comps.value can old.domain.domain old.domain.own old.domain.comps number finish ok.kept.keeps (finish_of finish e)))
+        subst (λ (w : Word). MayTell old.domain.events old.domain.partition old.domain.domain old.domain.own number w) (sym e)
+        (subst (λ (v : DomainValue C). MayTell v.events v.partition v.domain v.own number (Exact finish)) (sym ok.kept.is)
+        (laws.may_tell events partition plan.comps.value can old.domain.domain old.domain.own old.domain.comps number finish ok.kept.keeps (finish_of finish e)))
 
     same_seat : IsSeat stepped plan table old.domain.domain seat
     same_seat = record {
@@ -223,8 +223,8 @@ module _ {C : Type 0} (serves : C → Kind → Bool) (floor : C → Kind → ℕ
         (record {
           can = record {
             kept = record {
-              is = same_value (record old.domain { own = with_known old.domain.own number (Exact finish) }) events division old.domain.domain (ap (λ (v : DomainValue C). v.events) ok.kept.is) (ap (λ (v : DomainValue C). v.division) ok.kept.is) refl;
-              keeps = laws.tells events division plan.comps.value can old.domain.domain old.domain.own old.domain.comps number finish ok.kept.keeps (finish_of finish e);
+              is = same_value (record old.domain { own = with_known old.domain.own number (Exact finish) }) events partition old.domain.domain (ap (λ (v : DomainValue C). v.events) ok.kept.is) (ap (λ (v : DomainValue C). v.partition) ok.kept.is) refl;
+              keeps = laws.tells events partition plan.comps.value can old.domain.domain old.domain.own old.domain.comps number finish ok.kept.keeps (finish_of finish e);
             };
             seated = record { seat = same_seat; unpublished = λ n y there source unfired. ap (λ (k : ℕ). k % 2) (wrote_same n) ∙ ok.seated.unpublished n y there source unfired };
           };
@@ -244,15 +244,15 @@ module _ {C : Type 0} (serves : C → Kind → Bool) (floor : C → Kind → ℕ
 
   -- ---- firing
 
-  module _ (old : Post C) (ok : CanServe stepped plan table old) (v : DomainValue C) (result : Fired) (f : HasFired stepped plan old.domain v result) where
-    ready : IsReadyEvent stepped events division plan.comps.value old.domain.domain old.domain.own f.event f.start
-    ready = laws.ready events division plan.comps.value can old.domain.domain old.domain.own old.domain.comps f.event f.start ok.kept.keeps f.next
+  module _ (old : Post C) (ok : IsPostSeated stepped plan table old) (v : DomainValue C) (result : Fired) (f : HasFiredNext stepped plan old.domain v result) where
+    ready : IsReadyEvent stepped events partition plan.comps.value old.domain.domain old.domain.own f.event f.start
+    ready = laws.ready events partition plan.comps.value can old.domain.domain old.domain.own old.domain.comps f.event f.start ok.kept.keeps f.next
 
-    from_here : (number : ℕ) (x : Crossing) → slice_get division.crossings number ≡ Some x → x.parent ≡ result.number → x.source ≡ old.domain.domain
+    from_here : (number : ℕ) (x : Crossing) → slice_get partition.crossings number ≡ Some x → x.parent ≡ result.number → x.source ≡ old.domain.domain
     from_here number x at parent =
-        let b : IsBetween stepped events division plan.comps.value x = laws.crossings events division plan.comps.value can number x at in
+        let b : JoinsDomains stepped events partition plan.comps.value x = laws.crossings events partition plan.comps.value can number x at in
         let one : b.parent ≡ f.event = same_Some b.parent f.event (sym b.there ∙ (ap (slice_get events) (parent ∙ f.number) ∙ ready.there)) in
-        sym b.source ∙ (ap (domain_of division.places) one ∙ ready.here)
+        sym b.source ∙ (ap (domain_of_event partition.places) one ∙ ready.here)
 
     unfired : is_fired old.domain.own.fired result.number ≡ false
     unfired = ap (is_fired old.domain.own.fired) f.number ∙ ready.unfired
@@ -261,7 +261,7 @@ module _ {C : Type 0} (serves : C → Kind → Bool) (floor : C → Kind → ℕ
     event_below = let w = slice_get_within events f.event.number f.event ready.there in let n = f.number in omega (arith, w, n)
 
     pub small_finish : result.finish ≤ 2 ^ 62
-    small_finish = let s = laws.finishes events division plan.comps.value can result.number in let e = f.finish in omega (arith, s, e)
+    small_finish = let s = laws.finishes events partition plan.comps.value can result.number in let e = f.finish in omega (arith, s, e)
 
     pub may_publish : MayPublish plan old.seat result.number
     may_publish = record {
@@ -305,42 +305,42 @@ module _ {C : Type 0} (serves : C → Kind → Bool) (floor : C → Kind → ℕ
   -- ---- running
 
   -- that it has gone on stays so
-  pub gone_on_still : (v : DomainValue C) (a b : DomainState) → HasGoneOn events division v.domain v.own a → Grows a b → HasGoneOn events division v.domain v.own b
+  pub gone_on_still : (v : DomainValue C) (a b : DomainState) → HasGoneOn events partition v.domain v.own a → Grows a b → HasGoneOn events partition v.domain v.own b
   gone_on_still v a b h g e start next clear = ap (λ (xs : List Timed). is_fired xs e.number) g.fired ∙ fired_by_more a.fired g.rest e.number (h e start next clear)
 
-  -- where it didn't fire, it has gone on at its first turn, since it may not fire
-  pub gone_on_looking : (first old new : Post C) (turn : ℕ) (answer : Next) → HasServedSo stepped plan table first old → (turn ≡ 0 → old.domain ≡ first.domain) → (0 < turn → HasGoneOn events division first.domain.domain first.domain.own old.domain.own)
-      → IsAnswer old.domain.events old.domain.division old.domain.domain old.domain.own answer → ((key : Key) → answer ≡ Fire key → ⊥) → Grows old.domain.own new.domain.own
-      → HasGoneOn events division first.domain.domain first.domain.own new.domain.own
-  gone_on_looking first old new turn answer h fresh goes is not_fire grows =
-      elim (cases_lt 0 turn) [
+  -- where it didn't fire, it has gone on at its first step, since it may not fire
+  pub gone_on_looking : (first old new : Post C) (step : ℕ) (answer : Next) → HasServedSo stepped plan table first old → (step ≡ 0 → old.domain ≡ first.domain) → (0 < step → HasGoneOn events partition first.domain.domain first.domain.own old.domain.own)
+      → IsAnswer old.domain.events old.domain.partition old.domain.domain old.domain.own answer → ((key : Key) → answer ≡ Fire key → ⊥) → Grows old.domain.own new.domain.own
+      → HasGoneOn events partition first.domain.domain first.domain.own new.domain.own
+  gone_on_looking first old new step answer h fresh goes is not_fire grows =
+      elim (cases_lt 0 step) [
         | inl some ↦ gone_on_still first.domain old.domain.own new.domain.own (goes some) grows
         | inr none ↦
-            subst (λ (v : DomainValue C). HasGoneOn events division v.domain v.own new.domain.own) (fresh (omega (arith, none)))
+            subst (λ (v : DomainValue C). HasGoneOn events partition v.domain v.own new.domain.own) (fresh (omega (arith, none)))
             (goes_nowhere serves floor stepped greatest laws plan can old.domain answer new.domain.own h.can.kept
-            (subst (λ (v : DomainValue C). IsAnswer v.events v.division v.domain v.own answer) h.can.kept.is is) not_fire)
+            (subst (λ (v : DomainValue C). IsAnswer v.events v.partition v.domain v.own answer) h.can.kept.is is) not_fire)
       ]
 
-  -- after so many turns
-  pub record HasTurned (first : Post C) (turn : ℕ) (now : Post C) : Type 0 where
+  -- after so many steps
+  pub record HasStepped (first : Post C) (step : ℕ) (now : Post C) : Type 0 where
     pub so_far : HasServedSo stepped plan table first now
-    pub fresh : turn ≡ 0 → now.domain ≡ first.domain
-    pub goes : 0 < turn → HasGoneOn events division first.domain.domain first.domain.own now.domain.own
+    pub fresh : step ≡ 0 → now.domain ≡ first.domain
+    pub goes : 0 < step → HasGoneOn events partition first.domain.domain first.domain.own now.domain.own
 
-  pub turned_by_firing : (first old new : Post C) (turn : ℕ) → HasTurned first turn old → HasFiredThere stepped plan table old new → HasTurned first (turn + 1) new
-  turned_by_firing first old new turn h f = record {
+  pub stepped_by_firing : (first old new : Post C) (step : ℕ) → HasStepped first step old → HasFiredThere stepped plan table old new → HasStepped first (step + 1) new
+  stepped_by_firing first old new step h f = record {
     so_far = served_by_firing stepped plan table first old new h.so_far f;
     fresh = λ e. absurd (omega (arith, e));
-    goes = λ l. goes_after serves floor stepped greatest laws plan can first.domain old.domain new.domain f.finish turn h.fresh h.goes f.fired;
+    goes = λ l. goes_after serves floor stepped greatest laws plan can first.domain old.domain new.domain f.finish step h.fresh h.goes f.fired;
   }
 
-  pub turned_by_looking : (first old new : Post C) (turn : ℕ) (answer : Next) → HasTurned first turn old → IsAnswer old.domain.events old.domain.division old.domain.domain old.domain.own answer → ((key : Key) → answer ≡ Fire key → ⊥)
-      → HasLooked stepped plan table old new → HasTurned first (turn + 1) new
-  turned_by_looking first old new turn answer h is not_fire l = record {
+  pub stepped_by_looking : (first old new : Post C) (step : ℕ) (answer : Next) → HasStepped first step old → IsAnswer old.domain.events old.domain.partition old.domain.domain old.domain.own answer → ((key : Key) → answer ≡ Fire key → ⊥)
+      → HasLooked stepped plan table old new → HasStepped first (step + 1) new
+  stepped_by_looking first old new step answer h is not_fire l = record {
     so_far = served_by_looking stepped plan table first old new h.so_far l;
     fresh = λ e. absurd (omega (arith, e));
-    goes = λ some. gone_on_looking first old new turn answer h.so_far h.fresh h.goes is not_fire l.grows;
+    goes = λ some. gone_on_looking first old new step answer h.so_far h.fresh h.goes is not_fire l.grows;
   }
 
-  pub has_served : (first now : Post C) → HasServedSo stepped plan table first now → HasGoneOn events division first.domain.domain first.domain.own now.domain.own → HasServed stepped plan table first now
+  pub has_served : (first now : Post C) → HasServedSo stepped plan table first now → HasGoneOn events partition first.domain.domain first.domain.own now.domain.own → HasServed stepped plan table first now
   has_served first now h goes = record { ran = record { same = h.same; kept = h.can.kept; grows = h.grows; goes_on = goes }; seated = h.can.seated }

@@ -5,7 +5,7 @@ use Rattle.std.proofs.lemmas.Option.{same_Some, none-some}
 use Rattle.std.specs.List.{remove}
 use Rattle.std.specs.declared.alloc.Global.{Global}
 use Rattle.event_graph.specs.declared.event.Event.{Event}
-use Rattle.domain_map.specs.Domains.{Division}
+use Rattle.domain_map.specs.Domains.{Partition}
 use Rattle.weave_core.specs.DomainCalls.{DomainValue, comps_in}
 use Rattle.weave_run.specs.Dealing.{AreDealt, items_of}
 use Rattle.weave_run.specs.Setup.{AreBegun, begun}
@@ -40,10 +40,10 @@ snoc_get [] x (suc d) u h = absurd (none-some u h)
 snoc_get (y ∷ xs) x zero u h = inl h
 snoc_get (y ∷ xs) x (suc d) u h = elim (snoc_get xs x d u h) [ inl a ↦ inl a | inr b ↦ inr (ap suc b.0, b.1) ]
 
-pub none_begun : {C : Type 0} (events : List Event) (p : Division) (comps : List C) → AreBegun events p comps 0 []
+pub none_begun : {C : Type 0} (events : List Event) (p : Partition) (comps : List C) → AreBegun events p comps 0 []
 none_begun events p comps = record { count_is = refl; each = λ d v h. absurd (none-some v h) }
 
-pub one_begun : {C : Type 0} (events : List Event) (p : Division) (comps : List C) (number : ℕ) (vs : List (DomainValue C)) (v : DomainValue C) → AreBegun events p comps number vs → v ≡ begun events p comps number
+pub one_begun : {C : Type 0} (events : List Event) (p : Partition) (comps : List C) (number : ℕ) (vs : List (DomainValue C)) (v : DomainValue C) → AreBegun events p comps number vs → v ≡ begun events p comps number
     → AreBegun events p comps (number + 1) (vs ++ v ∷ [])
 one_begun {C} events p comps number vs v h is = record {
   count_is = (let l = length_push vs v in let n = h.count_is in omega (arith, l, n));

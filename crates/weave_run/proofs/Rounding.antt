@@ -9,13 +9,13 @@ use Rattle.event_graph.specs.OneListWeave.{Timed, is_fired, weave, woven}
 use Rattle.event_graph.specs.declared.fired.Fired.{Fired}
 use Rattle.weave_core.specs.Layout.{timed_from}
 use Rattle.domain_map.specs.declared.crossing.Crossing.{Crossing}
-use Rattle.domain_map.specs.Domains.{Division, domain_of}
+use Rattle.domain_map.specs.Domains.{Partition, domain_of_event}
 use Rattle.weave_core.specs.AtBarrier.{IsFirstLeft, MayGoOn, least_start_of}
 use Rattle.weave_core.specs.DomainCalls.{DomainValue}
 use Rattle.weave_core.specs.DomainMachine.{DomainState, is_clear, is_exact, with_floor, word_at}
 use Rattle.weave_core.specs.Keeping.{HaveAllFired, IsKept, KeepingLaws, owns_of}
 use Rattle.weave_core.specs.Soundness.{IsSoundFloor}
-use Rattle.weave_run.specs.Rounds.{AllGrow, AllKeep, AllLearn, AreMet, CanRun, Grows, HasGoneOn, HasMet, HasRun, HasRunHere, HasRunRound, HasToldRest, HaveFloor, IsResolved, Keeps, own_in, with_floors}
+use Rattle.weave_run.specs.Rounds.{AllGrow, AllKeep, AllLearn, AreMet, CanWeavePlan, Grows, HasGoneOn, HasMet, HasRun, HasRunHere, HasRunRound, HasToldRest, HaveFloor, IsResolved, KeepsToWeave, own_in, with_floors}
 use Rattle.weave_run.specs.declared.plan.Plan.{Plan}
 use Rattle.weave_run.proofs.Firings.{StandsIn, fired_by_more, fired_there, front_get, is_fired_at}
 use Rattle.weave_run.proofs.Running.{same_value}
@@ -37,15 +37,15 @@ module _ {C : Type 0} (stepped : C → Kind → ℕ → C × ℕ) (plan : Plan C
         each = λ n x there fired.
             let f : StandsIn (own_in mid x.source).fired x.parent = fired_there (own_in mid x.source).fired x.parent (ap (λ (xs : List Timed). is_fired xs x.parent) (sym (learn.each x.source).fired) ∙ fired) in
             elim (cases_lt f.place (length (own_in old x.source).fired)) [
-              | inr past ↦ told x.source f.place f.entry (omega (arith, past)) f.there n x there (sym f.number)
+              | inr past ↦ told x.source f.place f.firing (omega (arith, past)) f.there n x there (sym f.number)
               | inl less ↦
                   let g : Grows (own_in old x.source) (own_in mid x.source) = grow.each x.source in
-                  let before : slice_get (own_in old x.source).fired f.place ≡ Some f.entry =
+                  let before : slice_get (own_in old x.source).fired f.place ≡ Some f.firing =
                   sym (front_get (own_in old x.source).fired g.rest f.place less) ∙ (ap (λ (xs : List Timed). slice_get xs f.place) (sym g.fired) ∙ f.there)
                   in
                   stays_exact (own_in mid x.target) (own_in new x.target) n ((learn.each x.target).words n)
                   (stays_exact (own_in old x.target) (own_in mid x.target) n ((grow.each x.target).words n)
-                  (m.told.each n x there (is_fired_at (own_in old x.source).fired f.place f.entry x.parent before f.number)))
+                  (m.told.each n x there (is_fired_at (own_in old x.source).fired f.place f.firing x.parent before f.number)))
             ];
       };
     };
@@ -97,9 +97,9 @@ module _ {C : Type 0} (stepped : C → Kind → ℕ → C × ℕ) (plan : Plan C
             (subst (HasGoneOn plan.graph.value plan.parts.value v.domain v.own) (sym after) h.goes_on));
       }
 
-  pub keeps_here : (vs : List (DomainValue C)) (n m : ℕ) (d : DomainValue C) → AllKeep stepped plan vs → n < length vs → m ≡ n → Keeps stepped plan (get_or vs m d)
+  pub keeps_here : (vs : List (DomainValue C)) (n m : ℕ) (d : DomainValue C) → AllKeep stepped plan vs → n < length vs → m ≡ n → KeepsToWeave stepped plan (get_or vs m d)
   keeps_here vs n m d k below e =
-      subst (λ (z : ℕ). Keeps stepped plan (get_or vs z d)) (sym e)
+      subst (λ (z : ℕ). KeepsToWeave stepped plan (get_or vs z d)) (sym e)
       (let i : IsKept stepped plan.graph.value plan.parts.value plan.comps.value n (get_or vs n d) = k.each n (get_or vs n d) (slice_get-get_or vs n d below) in
       subst (λ (z : ℕ). IsKept stepped plan.graph.value plan.parts.value plan.comps.value z (get_or vs n d)) (sym (ap (λ (v : DomainValue C). v.domain) i.is)) i)
 
@@ -133,19 +133,19 @@ module _ {C : Type 0} (stepped : C → Kind → ℕ → C × ℕ) (plan : Plan C
     pub met : AreMet stepped plan new
     pub grow : AllGrow old new
     pub advanced : (index : ℕ) (x : Timed) → IsFirstLeft stepped plan.graph.value plan.parts.value plan.comps.value (owns_of old) index x
-        → is_clear plan.graph.value plan.parts.value (domain_of plan.parts.value.places x.event) (own_in old (domain_of plan.parts.value.places x.event)) x.start ≡ true
-        → domain_of plan.parts.value.places x.event < number → is_fired (own_in new (domain_of plan.parts.value.places x.event)).fired x.event.number ≡ true
+        → is_clear plan.graph.value plan.parts.value (domain_of_event plan.parts.value.places x.event) (own_in old (domain_of_event plan.parts.value.places x.event)) x.start ≡ true
+        → domain_of_event plan.parts.value.places x.event < number → is_fired (own_in new (domain_of_event plan.parts.value.places x.event)).fired x.event.number ≡ true
 
   pub none_ran : (vs : List (DomainValue C)) → AreMet stepped plan vs → HasRunUpto vs vs 0
   none_ran vs m = record { met = m; grow = record { each = λ d. grows_nothing (own_in vs d) }; advanced = λ index x f clear l. absurd (omega (arith, l)) }
 
 module _ {C : Type 0} (serves : C → Kind → Bool) (floor : C → Kind → ℕ) (stepped : C → Kind → ℕ → C × ℕ) (greatest : C → Kind → ℕ → ℕ) (laws : KeepingLaws serves floor stepped greatest)
-    (plan : Plan C) (can : CanRun serves floor stepped greatest plan) where
+    (plan : Plan C) (can : CanWeavePlan serves floor stepped greatest plan) where
   abbrev events : List Event
   events = plan.graph.value
 
-  abbrev division : Division
-  division = plan.parts.value
+  abbrev partition : Partition
+  partition = plan.parts.value
 
   abbrev all : List Timed
   all = (weave stepped events plan.comps.value).fired
@@ -155,41 +155,41 @@ module _ {C : Type 0} (serves : C → Kind → Bool) (floor : C → Kind → ℕ
     met = r.has_met.met;
     grow = record { each = λ x. grows_twice (own_in first x) (own_in old x) (own_in new x) (h.grow.each x) (r.has_met.grow.each x) };
     advanced = λ index x f clear l.
-        let d : ℕ = domain_of division.places x.event in
-        by_fired index x f clear l (is_fired (own_in old (domain_of division.places x.event)).fired x.event.number) refl;
+        let d : ℕ = domain_of_event partition.places x.event in
+        by_fired index x f clear l (is_fired (own_in old (domain_of_event partition.places x.event)).fired x.event.number) refl;
   }
     where
-      by_fired : (index : ℕ) (x : Timed) → IsFirstLeft stepped events division plan.comps.value (owns_of first) index x
-          → is_clear events division (domain_of division.places x.event) (own_in first (domain_of division.places x.event)) x.start ≡ true
-          → domain_of division.places x.event < number + 1 → (t : Bool) → is_fired (own_in old (domain_of division.places x.event)).fired x.event.number ≡ t
-          → is_fired (own_in new (domain_of division.places x.event)).fired x.event.number ≡ true
-      by_fired index x f clear l true e = still_fired (own_in old (domain_of division.places x.event)) (own_in new (domain_of division.places x.event)) x.event.number (r.has_met.grow.each (domain_of division.places x.event)) e
+      by_fired : (index : ℕ) (x : Timed) → IsFirstLeft stepped events partition plan.comps.value (owns_of first) index x
+          → is_clear events partition (domain_of_event partition.places x.event) (own_in first (domain_of_event partition.places x.event)) x.start ≡ true
+          → domain_of_event partition.places x.event < number + 1 → (t : Bool) → is_fired (own_in old (domain_of_event partition.places x.event)).fired x.event.number ≡ t
+          → is_fired (own_in new (domain_of_event partition.places x.event)).fired x.event.number ≡ true
+      by_fired index x f clear l true e = still_fired (own_in old (domain_of_event partition.places x.event)) (own_in new (domain_of_event partition.places x.event)) x.event.number (r.has_met.grow.each (domain_of_event partition.places x.event)) e
       by_fired index x f clear l false e =
-          elim (cases_lt (domain_of division.places x.event) number) [
+          elim (cases_lt (domain_of_event partition.places x.event) number) [
             | inl less ↦ absurd (false≢true (sym e ∙ h.advanced index x f clear less))
             | inr past ↦
-                let here : number ≡ domain_of division.places x.event = omega (arith, l, past) in
-                let left : IsFirstLeft stepped events division plan.comps.value (owns_of old) index x =
+                let here : number ≡ domain_of_event partition.places x.event = omega (arith, l, past) in
+                let left : IsFirstLeft stepped events partition plan.comps.value (owns_of old) index x =
                 record {
                   there = f.there;
                   unfired = e;
                   before = λ j y k at.
-                      still_fired (own_in first (domain_of division.places y.event)) (own_in old (domain_of division.places y.event)) y.event.number (h.grow.each (domain_of division.places y.event)) (f.before j y k at);
+                      still_fired (own_in first (domain_of_event partition.places y.event)) (own_in old (domain_of_event partition.places y.event)) y.event.number (h.grow.each (domain_of_event partition.places y.event)) (f.before j y k at);
                 }
                 in
-                let go : MayGoOn events division (owns_of old) x = laws.goes_on events division plan.comps.value can old index x h.met.kept h.met.told left in
-                let g = h.grow.each (domain_of division.places x.event) in
-                let clear_now : is_clear events division (domain_of division.places x.event) (own_in old (domain_of division.places x.event)) x.start ≡ true =
-                laws.stays_clear events division (domain_of division.places x.event) (own_in first (domain_of division.places x.event)) (own_in old (domain_of division.places x.event)) x.start
+                let go : MayGoOn events partition (owns_of old) x = laws.goes_on events partition plan.comps.value can old index x h.met.kept h.met.told left in
+                let g = h.grow.each (domain_of_event partition.places x.event) in
+                let clear_now : is_clear events partition (domain_of_event partition.places x.event) (own_in old (domain_of_event partition.places x.event)) x.start ≡ true =
+                laws.stays_clear events partition (domain_of_event partition.places x.event) (own_in first (domain_of_event partition.places x.event)) (own_in old (domain_of_event partition.places x.event)) x.start
                 (let same = g.floor in omega (arith, same)) g.words clear
                 in
-                subst (λ (n : ℕ). HasGoneOn events division n (own_in old n) (own_in new n)) here r.goes_on x.event x.start go.next clear_now
+                subst (λ (n : ℕ). HasGoneOn events partition n (own_in old n) (own_in new n)) here r.goes_on x.event x.start go.next clear_now
           ]
 
-  pub all_ran : (first new : List (DomainValue C)) (number : ℕ) → HasRunUpto stepped plan first new number → length division.events ≤ number → HasRunRound stepped plan first new
+  pub all_ran : (first new : List (DomainValue C)) (number : ℕ) → HasRunUpto stepped plan first new number → length partition.events ≤ number → HasRunRound stepped plan first new
   all_ran first new number h l = record {
     has_met = record { met = h.met; grow = h.grow };
-    advanced = λ index x f clear. h.advanced index x f clear (let b = laws.here events division plan.comps.value can index x f.there in omega (arith, b, l));
+    advanced = λ index x f clear. h.advanced index x f clear (let b = laws.here events partition plan.comps.value can index x f.there in omega (arith, b, l));
   }
 
 -- the rounds so far
@@ -223,7 +223,7 @@ module _ {C : Type 0} (stepped : C → Kind → ℕ → C × ℕ) (plan : Plan C
     pub floors : HaveFloor vs floor
     pub small : floor ≤ 2 ^ 62
     pub upto : (i : ℕ) (y : Timed) → i < round → slice_get (weave stepped plan.graph.value plan.comps.value).fired i ≡ Some y
-        → is_fired (own_in vs (domain_of plan.parts.value.places y.event)).fired y.event.number ≡ true
+        → is_fired (own_in vs (domain_of_event plan.parts.value.places y.event)).fired y.event.number ≡ true
 
   pub no_round : (vs : List (DomainValue C)) → AreMet stepped plan vs → HaveFloor vs 0 → HasRounds vs 0 0
   no_round vs m low = record { met = m; floors = low; small = omega arith; upto = λ i y l at. absurd (omega (arith, l)) }
@@ -232,18 +232,18 @@ module _ {C : Type 0} (stepped : C → Kind → ℕ → C × ℕ) (plan : Plan C
   rises vs floor round front h d v at = let same = h.floors.each d v at in omega (arith, same)
 
 module _ {C : Type 0} (serves : C → Kind → Bool) (floor_of : C → Kind → ℕ) (stepped : C → Kind → ℕ → C × ℕ) (greatest : C → Kind → ℕ → ℕ) (laws : KeepingLaws serves floor_of stepped greatest)
-    (plan : Plan C) (can : CanRun serves floor_of stepped greatest plan) (vs : List (DomainValue C)) (floor round : ℕ) (h : HasRounds stepped plan vs floor round) where
+    (plan : Plan C) (can : CanWeavePlan serves floor_of stepped greatest plan) (vs : List (DomainValue C)) (floor round : ℕ) (h : HasRounds stepped plan vs floor round) where
   abbrev graph : List Event
   graph = plan.graph.value
 
-  abbrev cut : Division
+  abbrev cut : Partition
   cut = plan.parts.value
 
   abbrev order : List Timed
   order = (weave stepped graph plan.comps.value).fired
 
   abbrev home : Timed → ℕ
-  home y = domain_of cut.places y.event
+  home y = domain_of_event cut.places y.event
 
   pub all_fired : length graph ≤ round → HaveAllFired stepped graph cut plan.comps.value (owns_of vs)
   all_fired l = λ index x at. h.upto index x (let b = slice_get_within order index x at in let n = (laws.count graph cut plan.comps.value can).0 in omega (arith, l, b, n)) at
@@ -269,7 +269,7 @@ module _ {C : Type 0} (serves : C → Kind → Bool) (floor_of : C → Kind → 
         let same : w.0.own.floor ≡ floor = h.floors.each d w.0 w.1.0 in
         subst (IsKept stepped graph cut plan.comps.value d) (sym w.1.1)
         (record {
-          is = same_value (record w.0 { own = with_floor (max front floor) w.0.own }) graph cut d (ap (λ (z : DomainValue C). z.events) k.is) (ap (λ (z : DomainValue C). z.division) k.is) (ap (λ (z : DomainValue C). z.domain) k.is);
+          is = same_value (record w.0 { own = with_floor (max front floor) w.0.own }) graph cut d (ap (λ (z : DomainValue C). z.events) k.is) (ap (λ (z : DomainValue C). z.partition) k.is) (ap (λ (z : DomainValue C). z.domain) k.is);
           keeps = record {
             fired = k.keeps.fired;
             parts_are = k.keeps.parts_are;

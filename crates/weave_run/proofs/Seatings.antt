@@ -12,7 +12,7 @@ use Rattle.crossing.specs.Seats.{AreSeats, SeatValue, finishes_of, new_seat, own
 use Rattle.weave_core.specs.DomainCalls.{DomainValue}
 use Rattle.weave_core.specs.DomainMachine.{DomainState}
 use Rattle.weave_core.specs.Keeping.{IsKept}
-use Rattle.weave_run.specs.Crews.{AreCrewsSeated, AreFree, IsCrewSeated, domains_of}
+use Rattle.weave_run.specs.Crews.{AreCrewsSeated, AreFree, IsCrewSeated, domains_of_crew}
 use Rattle.weave_run.specs.Rounds.{AllGrow, AllKeep, own_in, with_floors}
 use Rattle.weave_run.specs.Seating.{AreSeated, IsSeated}
 use Rattle.weave_run.specs.Setup.{AreBegun}
@@ -111,7 +111,7 @@ module _ {C : Type 0} (stepped : C → Kind → ℕ → C × ℕ) (plan : Plan C
   free_seated count crews free = record {
     each = λ worker crew there. record {
       each = λ place post at.
-          let here : slice_get (domains_of crew) place ≡ Some post.domain = slice_get-map (λ (p : Post C). p.domain) crew.posts.items place ∙ ap (option_map (λ (p : Post C). p.domain)) at in
+          let here : slice_get (domains_of_crew crew) place ≡ Some post.domain = slice_get-map (λ (p : Post C). p.domain) crew.posts.items place ∙ ap (option_map (λ (p : Post C). p.domain)) at in
           absurd (none-some post.domain (ap (λ (xs : List (DomainValue C)). slice_get xs place) (sym (free.none worker crew there)) ∙ here));
     };
   }

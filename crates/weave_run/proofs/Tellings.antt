@@ -12,11 +12,11 @@ use Rattle.event_graph.specs.OneListWeave.{Timed, finish_in, fired_of, woven}
 use Rattle.std.specs.Option.{option_map}
 use Rattle.weave_core.specs.Layout.{timed_from}
 use Rattle.domain_map.specs.declared.crossing.Crossing.{Crossing}
-use Rattle.domain_map.specs.Domains.{Division}
+use Rattle.domain_map.specs.Domains.{Partition}
 use Rattle.weave_core.specs.DomainCalls.{DomainValue, MayTell, with_known}
 use Rattle.weave_core.specs.DomainMachine.{DomainState, is_exact, word_at}
-use Rattle.weave_core.specs.Keeping.{IsEntry, IsFinishOf, IsKept, KeepingLaws}
-use Rattle.weave_run.specs.Rounds.{AllKeep, AllLearn, CanRun, Grows, HasTold, HasToldAll, HasToldRest, HasToldRests, IsFinish, IsResolved, Learns, own_in}
+use Rattle.weave_core.specs.Keeping.{IsWeaveFiring, IsFinishOf, IsKept, KeepingLaws}
+use Rattle.weave_run.specs.Rounds.{AllKeep, AllLearn, CanWeavePlan, Grows, HasToldCrossing, HasToldAll, HasToldRest, HasToldRests, IsFinish, IsResolved, Learns, own_in}
 use Rattle.weave_run.specs.declared.plan.Plan.{Plan}
 use Rattle.weave_run.proofs.Running.{same_value}
 
@@ -109,7 +109,7 @@ word_told own number finish n =
     elim (read_set own.known number (Exact finish) (Bound 0) n) [ inl a ↦ inr (ap is_exact a.1) | inr b ↦ inl b ]
 
 module _ {C : Type 0} (stepped : C → Kind → ℕ → C × ℕ) (plan : Plan C) where
-  abbrev parts : Division
+  abbrev parts : Partition
   parts = plan.parts.value
 
   -- a whole chain, as far as it was told
@@ -127,7 +127,7 @@ module _ {C : Type 0} (stepped : C → Kind → ℕ → C × ℕ) (plan : Plan C
     told = λ number x l at e. absurd (none number x l at e);
   }
 
-  pub one_told : (first old new : List (DomainValue C)) (parent number before : ℕ) → HasToldFrom first old parent (number + 1) → HasTold stepped plan old new number
+  pub one_told : (first old new : List (DomainValue C)) (parent number before : ℕ) → HasToldFrom first old parent (number + 1) → HasToldCrossing stepped plan old new number
       → ((n : ℕ) (x : Crossing) → before ≤ n → n < number → slice_get parts.crossings n ≡ Some x → x.parent ≡ parent → ⊥) → HasToldFrom first new parent before
   one_told first old new parent number before h t none = record {
     kept = t.kept;
@@ -186,16 +186,16 @@ module _ {C : Type 0} (stepped : C → Kind → ℕ → C × ℕ) (plan : Plan C
 
   -- and of one domain after the other
 
-  pub no_rests : (vs : List (DomainValue C)) (places : List ℕ) → AllKeep stepped plan vs → HasToldRests stepped plan vs vs places 0
-  no_rests vs places k = record {
+  pub no_rests : (vs : List (DomainValue C)) (counts : List ℕ) → AllKeep stepped plan vs → HasToldRests stepped plan vs vs counts 0
+  no_rests vs counts k = record {
     kept = k;
     learn = record { each = λ d. learns_nothing (own_in vs d) };
     told = λ source at y l m there. absurd (omega (arith, l));
   }
 
-  pub next_rests : (first old new : List (DomainValue C)) (places : List ℕ) (n place : ℕ) → HasToldRests stepped plan first old places n → place ≡ slice_index places n → HasToldRest stepped plan old new n place
-      → HasToldRests stepped plan first new places (n + 1)
-  next_rests first old new places n place h is t = record {
+  pub next_rests : (first old new : List (DomainValue C)) (counts : List ℕ) (n place : ℕ) → HasToldRests stepped plan first old counts n → place ≡ slice_index counts n → HasToldRest stepped plan old new n place
+      → HasToldRests stepped plan first new counts (n + 1)
+  next_rests first old new counts n place h is t = record {
     kept = t.kept;
     learn = learn_more first old new h.learn t.learn;
     told = λ source at y l m there k x crossing parent.
@@ -203,42 +203,42 @@ module _ {C : Type 0} (stepped : C → Kind → ℕ → C × ℕ) (plan : Plan C
           | inl less ↦ stays_exact (own_in old x.target) (own_in new x.target) k ((t.learn.each x.target).words k) (h.told source at y less m there k x crossing parent)
           | inr past ↦
               let same : source ≡ n = omega (arith, l, past) in
-              let low : place ≤ at = (let e = ap (slice_index places) same in omega (arith, m, is, e)) in
+              let low : place ≤ at = (let e = ap (slice_index counts) same in omega (arith, m, is, e)) in
               t.told at y low (ap (λ (xs : List Timed). slice_get xs at) ((h.learn.each n).fired ∙ ap (λ (d : ℕ). (own_in first d).fired) (sym same)) ∙ there) k x crossing parent
         ];
   }
 
-  pub whole_rests : (first now : List (DomainValue C)) (places : List ℕ) (n m : ℕ) → m ≤ n → HasToldRests stepped plan first now places n → HasToldRests stepped plan first now places m
-  whole_rests first now places n m l h = record {
+  pub whole_rests : (first now : List (DomainValue C)) (counts : List ℕ) (n m : ℕ) → m ≤ n → HasToldRests stepped plan first now counts n → HasToldRests stepped plan first now counts m
+  whole_rests first now counts n m l h = record {
     kept = h.kept;
     learn = h.learn;
     told = λ source at y below. h.told source at y (omega (arith, l, below));
   }
 
 module _ {C : Type 0} (serves : C → Kind → Bool) (floor : C → Kind → ℕ) (stepped : C → Kind → ℕ → C × ℕ) (greatest : C → Kind → ℕ → ℕ) (laws : KeepingLaws serves floor stepped greatest)
-    (plan : Plan C) (can : CanRun serves floor stepped greatest plan) where
+    (plan : Plan C) (can : CanWeavePlan serves floor stepped greatest plan) where
   abbrev events : List Event
   events = plan.graph.value
 
-  abbrev division : Division
-  division = plan.parts.value
+  abbrev partition : Partition
+  partition = plan.parts.value
 
   -- a crossing leads to a domain that is there
-  pub target_there : (vs : List (DomainValue C)) → AllKeep stepped plan vs → (number : ℕ) (x : Crossing) → slice_get division.crossings number ≡ Some x → x.target < length vs
-  target_there vs k number x h = let l = (laws.crossings events division plan.comps.value can number x h).target_below in let n = k.count in omega (arith, l, n)
+  pub target_there : (vs : List (DomainValue C)) → AllKeep stepped plan vs → (number : ℕ) (x : Crossing) → slice_get partition.crossings number ≡ Some x → x.target < length vs
+  target_there vs k number x h = let l = (laws.crossings events partition plan.comps.value can number x h).target_below in let n = k.count in omega (arith, l, n)
 
-  abbrev finish_of : (number finish : ℕ) (x : Crossing) → slice_get division.crossings number ≡ Some x → IsFinish stepped plan x.parent finish → IsFinishOf stepped events division plan.comps.value x.target number finish
+  abbrev finish_of : (number finish : ℕ) (x : Crossing) → slice_get partition.crossings number ≡ Some x → IsFinish stepped plan x.parent finish → IsFinishOf stepped events partition plan.comps.value x.target number finish
   finish_of number finish x h f = record { crossing = x; there = h; target = refl; finish_is = f }
 
-  pub may_tell : (vs : List (DomainValue C)) → AllKeep stepped plan vs → (number finish : ℕ) (x : Crossing) (v : DomainValue C) → slice_get division.crossings number ≡ Some x → IsFinish stepped plan x.parent finish → slice_get vs x.target ≡ Some v
-      → MayTell v.events v.division v.domain v.own number (Exact finish)
+  pub may_tell : (vs : List (DomainValue C)) → AllKeep stepped plan vs → (number finish : ℕ) (x : Crossing) (v : DomainValue C) → slice_get partition.crossings number ≡ Some x → IsFinish stepped plan x.parent finish → slice_get vs x.target ≡ Some v
+      → MayTell v.events v.partition v.domain v.own number (Exact finish)
   may_tell vs k number finish x v h f there =
-      let i : IsKept stepped events division plan.comps.value x.target v = k.each x.target v there in
-      subst (λ (w : DomainValue C). MayTell w.events w.division w.domain w.own number (Exact finish)) (sym i.is)
-      (laws.may_tell events division plan.comps.value can x.target v.own v.comps number finish i.keeps (finish_of number finish x h f))
+      let i : IsKept stepped events partition plan.comps.value x.target v = k.each x.target v there in
+      subst (λ (w : DomainValue C). MayTell w.events w.partition w.domain w.own number (Exact finish)) (sym i.is)
+      (laws.may_tell events partition plan.comps.value can x.target v.own v.comps number finish i.keeps (finish_of number finish x h f))
 
-  pub has_told : (vs : List (DomainValue C)) → AllKeep stepped plan vs → (number finish : ℕ) (x : Crossing) (v w : DomainValue C) → slice_get division.crossings number ≡ Some x → IsFinish stepped plan x.parent finish
-      → slice_get vs x.target ≡ Some v → w ≡ record v { own = with_known v.own number (Exact finish) } → number < length v.own.known → HasTold stepped plan vs (set vs x.target w) number
+  pub has_told : (vs : List (DomainValue C)) → AllKeep stepped plan vs → (number finish : ℕ) (x : Crossing) (v w : DomainValue C) → slice_get partition.crossings number ≡ Some x → IsFinish stepped plan x.parent finish
+      → slice_get vs x.target ≡ Some v → w ≡ record v { own = with_known v.own number (Exact finish) } → number < length v.own.known → HasToldCrossing stepped plan vs (set vs x.target w) number
   has_told vs k number finish x v w h f there is wide =
       let below : x.target < length vs = target_there vs k number x h in
       let own_is : w.own ≡ with_known v.own number (Exact finish) = ap (λ (z : DomainValue C). z.own) is in
@@ -252,8 +252,8 @@ module _ {C : Type 0} (serves : C → Kind → Bool) (floor : C → Kind → ℕ
                 | inr other ↦ k.each d u (sym (get_set_other vs x.target d w other) ∙ at)
                 | inl same ↦
                     let u_is : w ≡ u = same_Some w u (sym (get_set_same vs x.target w below) ∙ (ap (slice_get (set vs x.target w)) (sym same) ∙ at)) in
-                    subst (λ (z : DomainValue C). IsKept stepped events division plan.comps.value d z) (sym is ∙ u_is)
-                    (subst (λ (m : ℕ). IsKept stepped events division plan.comps.value m (record v { own = with_known v.own number (Exact finish) })) (sym same) (kept_then v (k.each x.target v there)))
+                    subst (λ (z : DomainValue C). IsKept stepped events partition plan.comps.value d z) (sym is ∙ u_is)
+                    (subst (λ (m : ℕ). IsKept stepped events partition plan.comps.value m (record v { own = with_known v.own number (Exact finish) })) (sym same) (kept_then v (k.each x.target v there)))
               ];
         };
         learn = record {
@@ -272,37 +272,37 @@ module _ {C : Type 0} (serves : C → Kind → Bool) (floor : C → Kind → ℕ
             (ap (λ (a : DomainState). is_exact (word_at a.known number)) after ∙ ap is_exact (get_or-set_same v.own.known number (Exact finish) (Bound 0) wide));
       }
     where
-      kept_then : (v : DomainValue C) → IsKept stepped events division plan.comps.value x.target v → IsKept stepped events division plan.comps.value x.target (record v { own = with_known v.own number (Exact finish) })
+      kept_then : (v : DomainValue C) → IsKept stepped events partition plan.comps.value x.target v → IsKept stepped events partition plan.comps.value x.target (record v { own = with_known v.own number (Exact finish) })
       kept_then v i = record {
-        is = same_value (record v { own = with_known v.own number (Exact finish) }) events division x.target (ap (λ (z : DomainValue C). z.events) i.is) (ap (λ (z : DomainValue C). z.division) i.is) (ap (λ (z : DomainValue C). z.domain) i.is);
-        keeps = laws.tells events division plan.comps.value can x.target v.own v.comps number finish i.keeps (finish_of number finish x h f);
+        is = same_value (record v { own = with_known v.own number (Exact finish) }) events partition x.target (ap (λ (z : DomainValue C). z.events) i.is) (ap (λ (z : DomainValue C). z.partition) i.is) (ap (λ (z : DomainValue C). z.domain) i.is);
+        keeps = laws.tells events partition plan.comps.value can x.target v.own v.comps number finish i.keeps (finish_of number finish x h f);
       }
 
   -- all that a domain fired, as far as it was told
 
   pub record IsLogged (v : DomainValue C) (next : ℕ) (g : Fired) : Type 0 where
-    pub entry : Timed
-    pub there : slice_get v.own.fired next ≡ Some entry
-    pub number : entry.event.number ≡ g.number
+    pub firing : Timed
+    pub there : slice_get v.own.fired next ≡ Some firing
+    pub number : firing.event.number ≡ g.number
     pub below : g.number < length events
     pub finish : IsFinish stepped plan g.number g.finish
 
   pub logged : (vs : List (DomainValue C)) → AllKeep stepped plan vs → (source : ℕ) (v : DomainValue C) → slice_get vs source ≡ Some v → (fs : List Fired) → v.own.fired ≡ map (timed_from v.events) fs
       → (next : ℕ) (g : Fired) → slice_get fs next ≡ Some g → IsLogged v next g
   logged vs k source v there fs is next g at =
-      let i : IsKept stepped events division plan.comps.value source v = k.each source v there in
+      let i : IsKept stepped events partition plan.comps.value source v = k.each source v there in
       let is_too : v.own.fired ≡ map (timed_from events) fs = is ∙ ap (λ (es : List Event). map (timed_from es) fs) (ap (λ (z : DomainValue C). z.events) i.is) in
-      let log : map fired_of v.own.fired ≡ fs = laws.log events division plan.comps.value can source v.own v.comps fs i.keeps is_too in
+      let log : map fired_of v.own.fired ≡ fs = laws.log events partition plan.comps.value can source v.own v.comps fs i.keeps is_too in
       let y_there : slice_get v.own.fired next ≡ Some (timed_from events g) =
       ap (λ (xs : List Timed). slice_get xs next) is_too ∙ (slice_get-map (timed_from events) fs next ∙ ap (option_map (timed_from events)) at)
       in
-      let e : IsEntry stepped events division plan.comps.value source (timed_from events g) = laws.entries events division plan.comps.value can source v.own v.comps next (timed_from events g) i.keeps y_there in
+      let e : IsWeaveFiring stepped events partition plan.comps.value source (timed_from events g) = laws.firings events partition plan.comps.value can source v.own v.comps next (timed_from events g) i.keeps y_there in
       let same : fired_of (timed_from events g) ≡ g =
       same_Some _ _ (sym (slice_get-map fired_of v.own.fired next ∙ ap (option_map fired_of) y_there) ∙ (ap (λ (xs : List Fired). slice_get xs next) log ∙ at))
       in
       let number : (timed_from events g).event.number ≡ g.number = ap (λ (z : Fired). z.number) same in
       record {
-        entry = timed_from events g;
+        firing = timed_from events g;
         there = y_there;
         number = number;
         below = (let w = slice_get_within events (timed_from events g).event.number (timed_from events g).event e.there in omega (arith, w, number));
@@ -311,27 +311,27 @@ module _ {C : Type 0} (serves : C → Kind → Bool) (floor : C → Kind → ℕ
 
   -- the crossing of a number, and its domain
 
-  pub told_at : (vs : List (DomainValue C)) → AllKeep stepped plan vs → (number finish : ℕ) (x : Crossing) (target : ℕ) (d : DomainValue C) → slice_get division.crossings number ≡ Some x → target ≡ x.target → IsFinish stepped plan x.parent finish
-      → MayTell (get_or vs target d).events (get_or vs target d).division (get_or vs target d).domain (get_or vs target d).own number (Exact finish)
+  pub told_at : (vs : List (DomainValue C)) → AllKeep stepped plan vs → (number finish : ℕ) (x : Crossing) (target : ℕ) (d : DomainValue C) → slice_get partition.crossings number ≡ Some x → target ≡ x.target → IsFinish stepped plan x.parent finish
+      → MayTell (get_or vs target d).events (get_or vs target d).partition (get_or vs target d).domain (get_or vs target d).own number (Exact finish)
   told_at vs k number finish x target d h is f =
-      subst (λ (m : ℕ). MayTell (get_or vs m d).events (get_or vs m d).division (get_or vs m d).domain (get_or vs m d).own number (Exact finish)) (sym is)
+      subst (λ (m : ℕ). MayTell (get_or vs m d).events (get_or vs m d).partition (get_or vs m d).domain (get_or vs m d).own number (Exact finish)) (sym is)
       (may_tell vs k number finish x (get_or vs x.target d) h f (slice_get-get_or vs x.target d (target_there vs k number x h)))
 
-  pub told_then : (vs : List (DomainValue C)) → AllKeep stepped plan vs → (number finish : ℕ) (x : Crossing) (target : ℕ) (d w : DomainValue C) → slice_get division.crossings number ≡ Some x → target ≡ x.target → IsFinish stepped plan x.parent finish
-      → w ≡ record (get_or vs target d) { own = with_known (get_or vs target d).own number (Exact finish) } → HasTold stepped plan vs (set vs target w) number
+  pub told_then : (vs : List (DomainValue C)) → AllKeep stepped plan vs → (number finish : ℕ) (x : Crossing) (target : ℕ) (d w : DomainValue C) → slice_get partition.crossings number ≡ Some x → target ≡ x.target → IsFinish stepped plan x.parent finish
+      → w ≡ record (get_or vs target d) { own = with_known (get_or vs target d).own number (Exact finish) } → HasToldCrossing stepped plan vs (set vs target w) number
   told_then vs k number finish x target d w h is f w_is =
       let there : slice_get vs x.target ≡ Some (get_or vs x.target d) = slice_get-get_or vs x.target d (target_there vs k number x h) in
-      let wide : length (get_or vs x.target d).own.known ≡ length division.crossings = (k.each x.target (get_or vs x.target d) there).keeps.wide in
-      subst (λ (m : ℕ). HasTold stepped plan vs (set vs m w) number) (sym is)
+      let wide : length (get_or vs x.target d).own.known ≡ length partition.crossings = (k.each x.target (get_or vs x.target d) there).keeps.wide in
+      subst (λ (m : ℕ). HasToldCrossing stepped plan vs (set vs m w) number) (sym is)
       (has_told vs k number finish x (get_or vs x.target d) w h f there (subst (λ (m : ℕ). w ≡ record (get_or vs m d) { own = with_known (get_or vs m d).own number (Exact finish) }) is w_is)
-      (let l = slice_get_within division.crossings number x h in omega (arith, l, wide)))
+      (let l = slice_get_within partition.crossings number x h in omega (arith, l, wide)))
 
-pub picked : (p q : Division) (cs : List Crossing) (number : ℕ) (d : Crossing) → p ≡ q → cs ≡ p.crossings → number < length p.crossings → slice_get q.crossings number ≡ Some (get_or cs number d)
+pub picked : (p q : Partition) (cs : List Crossing) (number : ℕ) (d : Crossing) → p ≡ q → cs ≡ p.crossings → number < length p.crossings → slice_get q.crossings number ≡ Some (get_or cs number d)
 picked p q cs number d e is l =
-    ap (λ (z : Division). slice_get z.crossings number) (sym e) ∙ (ap (λ (zs : List Crossing). slice_get zs number) (sym is) ∙ slice_get-get_or cs number d (omega (arith, l, ap length is)))
+    ap (λ (z : Partition). slice_get z.crossings number) (sym e) ∙ (ap (λ (zs : List Crossing). slice_get zs number) (sym is) ∙ slice_get-get_or cs number d (omega (arith, l, ap length is)))
 
 module _ {C : Type 0} (serves : C → Kind → Bool) (floor : C → Kind → ℕ) (stepped : C → Kind → ℕ → C × ℕ) (greatest : C → Kind → ℕ → ℕ) (laws : KeepingLaws serves floor stepped greatest)
-    (plan : Plan C) (can : CanRun serves floor stepped greatest plan) (first vs : List (DomainValue C)) (kept : AllKeep stepped plan vs) (learn : AllLearn first vs) (source : ℕ) (below : source < length vs)
+    (plan : Plan C) (can : CanWeavePlan serves floor stepped greatest plan) (first vs : List (DomainValue C)) (kept : AllKeep stepped plan vs) (learn : AllLearn first vs) (source : ℕ) (below : source < length vs)
     (m : ℕ) (same : m ≡ source) (d : DomainValue C) (fs : List Fired) (fired : (get_or vs m d).own.fired ≡ map (timed_from (get_or vs m d).events) fs)
     (next : ℕ) (within : next < length (own_in first source).fired) (e : Fired) where
   abbrev domain_there : slice_get vs source ≡ Some (get_or vs m d)
@@ -348,16 +348,16 @@ module _ {C : Type 0} (serves : C → Kind → Bool) (floor : C → Kind → ℕ
       let n = length-map fs (timed_from (get_or vs m d).events) in
       omega (arith, within, a, b, c, n)
 
-  pub entry : IsLogged serves floor stepped greatest laws plan can (get_or vs m d) next (get_or fs next e)
-  entry = logged serves floor stepped greatest laws plan can vs kept source (get_or vs m d) domain_there fs fired next (get_or fs next e) (slice_get-get_or fs next e next_below)
+  pub firing : IsLogged serves floor stepped greatest laws plan can (get_or vs m d) next (get_or fs next e)
+  firing = logged serves floor stepped greatest laws plan can vs kept source (get_or vs m d) domain_there fs fired next (get_or fs next e) (slice_get-get_or fs next e next_below)
 
   pub entry_below : (get_or fs next e).number < length plan.graph.value
-  entry_below = entry.below
+  entry_below = firing.below
 
   pub entry_finish : IsFinish stepped plan (get_or fs next e).number (get_or fs next e).finish
-  entry_finish = entry.finish
+  entry_finish = firing.finish
 
   pub next_done : (place : ℕ) (new : List (DomainValue C)) → HasToldPart stepped plan first vs source place next → HasToldAll stepped plan vs new (get_or fs next e).number → HasToldPart stepped plan first new source place (next + 1)
   next_done place new h t =
-      next_part stepped plan first vs new source place next entry.entry (get_or fs next e).number h
-      (ap (λ (xs : List Timed). slice_get xs next) (sym (learn.each source).fired) ∙ (ap (λ (z : DomainState). slice_get z.fired next) own_is ∙ entry.there)) entry.number t
+      next_part stepped plan first vs new source place next firing.firing (get_or fs next e).number h
+      (ap (λ (xs : List Timed). slice_get xs next) (sym (learn.each source).fired) ∙ (ap (λ (z : DomainState). slice_get z.fired next) own_is ∙ firing.there)) firing.number t

@@ -7,14 +7,14 @@ use Rattle.std.specs.Option.{option_map}
 use Rattle.std.specs.declared.alloc.Global.{Global}
 use Rattle.component.specs.declared.kind.Kind.{Kind}
 use Rattle.event_graph.specs.declared.event.Event.{Event}
-use Rattle.event_graph.specs.OneListWeave.{Timed, after_rounds, comps_after, is_fired}
+use Rattle.event_graph.specs.OneListWeave.{Timed, after_firings, comps_after, is_fired}
 use Rattle.event_graph.specs.TimingSolution.{after_serving, of_component}
 use Rattle.domain_map.specs.declared.crossing.Crossing.{Crossing}
-use Rattle.domain_map.specs.Domains.{Division}
+use Rattle.domain_map.specs.Domains.{Partition}
 use Rattle.weave_core.specs.DomainCalls.{DomainValue}
 use Rattle.weave_core.specs.Keeping.{CanWeave, HaveAllFired, IsKept, KeepingLaws, owns_of}
 use Rattle.weave_run.specs.Dealing.{AreDealt, items_of}
-use Rattle.weave_run.specs.Rounds.{AllKeep, AreMet, CanRun, own_in}
+use Rattle.weave_run.specs.Rounds.{AllKeep, AreMet, CanWeavePlan, own_in}
 use Rattle.weave_run.specs.Setup.{AreBegun}
 use Rattle.weave_run.specs.declared.plan.Plan.{Plan}
 
@@ -33,11 +33,11 @@ same_length f (x ∷ xs) (y ∷ ys) n h =
     omega (arith, rest)
 
 pub comps_count : {C : Type 0} (stepped : C → Kind → ℕ → C × ℕ) (events : List Event) (comps : List C)
-    → ((number : ℕ) → slice_get (comps_after stepped events comps) number ≡ option_map (λ (c : C). after_serving stepped c (of_component number (after_rounds stepped events comps (length events)).fired)) (slice_get comps number))
+    → ((number : ℕ) → slice_get (comps_after stepped events comps) number ≡ option_map (λ (c : C). after_serving stepped c (of_component number (after_firings stepped events comps (length events)).fired)) (slice_get comps number))
     → length (comps_after stepped events comps) ≡ length comps
 comps_count {C} stepped events comps h =
-    same_length (λ (n : ℕ) (c : C). after_serving stepped c (of_component n (after_rounds stepped events comps (length events)).fired)) comps (comps_after stepped events comps) 0
-    (λ i m e. let same : i ≡ m = omega (arith, e) in h i ∙ ap (λ (k : ℕ). option_map (λ (c : C). after_serving stepped c (of_component k (after_rounds stepped events comps (length events)).fired)) (slice_get comps i)) same)
+    same_length (λ (n : ℕ) (c : C). after_serving stepped c (of_component n (after_firings stepped events comps (length events)).fired)) comps (comps_after stepped events comps) 0
+    (λ i m e. let same : i ≡ m = omega (arith, e) in h i ∙ ap (λ (k : ℕ). option_map (λ (c : C). after_serving stepped c (of_component k (after_firings stepped events comps (length events)).fired)) (slice_get comps i)) same)
 
 pub map_at : {X Y : Type 0} (f : X → Y) (xs : List X) (d : ℕ) (y : Y) → slice_get (map f xs) d ≡ Some y → (x : X) × ((slice_get xs d ≡ Some x) × (f x ≡ y))
 map_at f [] d y h = absurd (none-some y h)
@@ -45,7 +45,7 @@ map_at f (x ∷ xs) zero y h = (x, (refl, same_Some (f x) y h))
 map_at f (x ∷ xs) (suc d) y h = map_at f xs d y h
 
 module _ {C : Type 0} (serves : C → Kind → Bool) (floor : C → Kind → ℕ) (stepped : C → Kind → ℕ → C × ℕ) (greatest : C → Kind → ℕ → ℕ) (laws : KeepingLaws serves floor stepped greatest)
-    (plan : Plan C) (can : CanRun serves floor stepped greatest plan) where
+    (plan : Plan C) (can : CanWeavePlan serves floor stepped greatest plan) where
   pub begun_met : (vs : List (DomainValue C)) → AreBegun plan.graph.value plan.parts.value plan.comps.value (length plan.parts.value.events) vs → AreMet stepped plan vs
   begun_met vs h = record {
     kept = record {
@@ -75,7 +75,7 @@ module _ {C : Type 0} (serves : C → Kind → Bool) (floor : C → Kind → ℕ
         omega (arith, a, b, c, d)
 
     pub places_there : All (λ (place : ℕ). place < length lists) plan.parts.value.places
-    places_there n d l = let b = can.divided.divides.there.below n d l in let c = lists_count in omega (arith, b, c)
+    places_there n d l = let b = can.partitioned.partitions.there.below n d l in let c = lists_count in omega (arith, b, c)
 
     pub end_dealt : AreDealt plan.parts.value.places (comps_after stepped plan.graph.value plan.comps.value) (items_of lists)
     end_dealt = record {
@@ -85,9 +85,9 @@ module _ {C : Type 0} (serves : C → Kind → Bool) (floor : C → Kind → ℕ
     }
 
     pub end_count : ((number : ℕ) → slice_get (comps_after stepped plan.graph.value plan.comps.value) number
-        ≡ option_map (λ (c : C). after_serving stepped c (of_component number (after_rounds stepped plan.graph.value plan.comps.value (length plan.graph.value)).fired)) (slice_get plan.comps.value number))
+        ≡ option_map (λ (c : C). after_serving stepped c (of_component number (after_firings stepped plan.graph.value plan.comps.value (length plan.graph.value)).fired)) (slice_get plan.comps.value number))
         → length (comps_after stepped plan.graph.value plan.comps.value) ≡ length plan.parts.value.places
-    end_count h = comps_count stepped plan.graph.value plan.comps.value h ∙ sym can.divided.places
+    end_count h = comps_count stepped plan.graph.value plan.comps.value h ∙ sym can.partitioned.places
 
     -- what the components are gathered from
     pub record IsEnd (places : List ℕ) (ls : List (Vec C Global)) : Type 0 where
@@ -96,7 +96,7 @@ module _ {C : Type 0} (serves : C → Kind → Bool) (floor : C → Kind → ℕ
       pub dealt : AreDealt places (comps_after stepped plan.graph.value plan.comps.value) (items_of ls)
 
     pub at_end : ((number : ℕ) → slice_get (comps_after stepped plan.graph.value plan.comps.value) number
-        ≡ option_map (λ (c : C). after_serving stepped c (of_component number (after_rounds stepped plan.graph.value plan.comps.value (length plan.graph.value)).fired)) (slice_get plan.comps.value number))
+        ≡ option_map (λ (c : C). after_serving stepped c (of_component number (after_firings stepped plan.graph.value plan.comps.value (length plan.graph.value)).fired)) (slice_get plan.comps.value number))
         → (places : List ℕ) (ls : List (Vec C Global)) → places ≡ plan.parts.value.places → ls ≡ lists → IsEnd places ls
     at_end h places ls p l =
         subst (λ (ps : List ℕ). IsEnd ps ls) (sym p)
@@ -112,7 +112,7 @@ lent n xs rest e = ap (λ (k : ℕ). take k (xs ++ rest)) e ∙ whole xs rest
     whole {X} (x ∷ xs) rest = ap (λ (ys : List X). x ∷ ys) (whole xs rest)
 
 pub parents_in : {C : Type 0} (serves : C → Kind → Bool) (floor : C → Kind → ℕ) (stepped : C → Kind → ℕ → C × ℕ) (greatest : C → Kind → ℕ → ℕ) (laws : KeepingLaws serves floor stepped greatest)
-    (events : List Event) (p : Division) (comps : List C) → CanWeave serves floor stepped greatest events p comps → All (λ (x : Crossing). x.parent < length events) p.crossings
+    (events : List Event) (p : Partition) (comps : List C) → CanWeave serves floor stepped greatest events p comps → All (λ (x : Crossing). x.parent < length events) p.crossings
 parents_in serves floor stepped greatest laws events p comps can n d l =
     let b = laws.crossings events p comps can n (get_or p.crossings n d) (slice_get-get_or p.crossings n d l) in
     slice_get_within events (get_or p.crossings n d).parent b.parent b.there

@@ -5,20 +5,20 @@ use Rattle.atomic_table.specs.Seated.{TableId}
 use Rattle.component.specs.declared.kind.Kind.{Kind}
 use Rattle.weave_core.specs.DomainCalls.{DomainValue}
 use Rattle.weave_run.specs.Rounds.{HaveRun}
-use Rattle.weave_run.specs.Seating.{CanServe, IsSeated}
+use Rattle.weave_run.specs.Seating.{IsPostSeated, IsSeated}
 use Rattle.weave_run.specs.declared.crew.Crew.{Crew}
 use Rattle.weave_run.specs.declared.post.Post.{Post}
 use Rattle.weave_run.specs.declared.plan.Plan.{Plan}
 
--- Among domains that are numbered from here on, those of a worker of so many: each whose number is the worker's modulo the
--- number of workers. The last one comes first.
+-- Among domains that are numbered from here on, those of a worker of so many: each whose number is the worker's modulo
+-- the number of workers. The last one comes first.
 abbrev pub lot : {X : Type 0} → (workers worker number : ℕ) → List X → List X
 lot workers worker number [] = []
 lot workers worker number (v ∷ vs) =
     lot workers worker (number + 1) vs ++ (if number % workers == worker then v ∷ [] else [])
 
-abbrev pub domains_of : {C : Type 0} → Crew C → List (DomainValue C)
-domains_of {C} crew = map (λ (post : Post C). post.domain) crew.posts.items
+abbrev pub domains_of_crew : {C : Type 0} → Crew C → List (DomainValue C)
+domains_of_crew {C} crew = map (λ (post : Post C). post.domain) crew.posts.items
 
 -- each worker has room for so many domains
 pub record HaveRoom {C : Type 0} (count : ℕ) (crews : List (Crew C)) : Type 0 where
@@ -27,19 +27,19 @@ pub record HaveRoom {C : Type 0} (count : ℕ) (crews : List (Crew C)) : Type 0 
 -- and has no domain
 pub record AreFree {C : Type 0} (count : ℕ) (crews : List (Crew C)) : Type 0 where
   pub room : HaveRoom count crews
-  pub none : (worker : ℕ) (crew : Crew C) → slice_get crews worker ≡ Some crew → domains_of crew ≡ []
+  pub none : (worker : ℕ) (crew : Crew C) → slice_get crews worker ≡ Some crew → domains_of_crew crew ≡ []
 
 -- and has its part of domains that are numbered from here on
 pub record HaveLots {C : Type 0} (number : ℕ) (vs : List (DomainValue C)) (crews : List (Crew C)) : Type 0 where
-  pub each : (worker : ℕ) (crew : Crew C) → slice_get crews worker ≡ Some crew → domains_of crew ≡ lot (length crews) worker number vs
+  pub each : (worker : ℕ) (crew : Crew C) → slice_get crews worker ≡ Some crew → domains_of_crew crew ≡ lot (length crews) worker number vs
 
 -- and its part has run
 pub record HaveLotsRun {C : Type 0} (stepped : C → Kind → ℕ → C × ℕ) (plan : Plan C) (number : ℕ) (vs : List (DomainValue C)) (crews : List (Crew C)) : Type 0 where
-  pub each : (worker : ℕ) (crew : Crew C) → slice_get crews worker ≡ Some crew → HaveRun stepped plan (lot (length crews) worker number vs) (domains_of crew)
+  pub each : (worker : ℕ) (crew : Crew C) → slice_get crews worker ≡ Some crew → HaveRun stepped plan (lot (length crews) worker number vs) (domains_of_crew crew)
 
 -- each domain that a worker has keeps to the plan and has its seat
 pub record CanWork {C : Type 0} (stepped : C → Kind → ℕ → C × ℕ) (plan : Plan C) (table : TableId) (crew : Crew C) : Type 0 where
-  pub each : (place : ℕ) (post : Post C) → slice_get crew.posts.items place ≡ Some post → CanServe stepped plan table post
+  pub each : (place : ℕ) (post : Post C) → slice_get crew.posts.items place ≡ Some post → IsPostSeated stepped plan table post
 
 -- each has its seat
 pub record IsCrewSeated {C : Type 0} (stepped : C → Kind → ℕ → C × ℕ) (plan : Plan C) (table : TableId) (crew : Crew C) : Type 0 where
@@ -51,6 +51,6 @@ pub record AreCrewsSeated {C : Type 0} (stepped : C → Kind → ℕ → C × �
 
 -- they have run
 pub record HasWorked {C : Type 0} (stepped : C → Kind → ℕ → C × ℕ) (plan : Plan C) (table : TableId) (old new : Crew C) : Type 0 where
-  pub ran : HaveRun stepped plan (domains_of old) (domains_of new)
+  pub ran : HaveRun stepped plan (domains_of_crew old) (domains_of_crew new)
   pub seated : IsCrewSeated stepped plan table new
   pub room : vec_capacity new.posts ≡ vec_capacity old.posts

@@ -10,11 +10,11 @@ pub record IsLastBelow (crossings : List Crossing) (most parent link : ℕ) : Ty
   pub none_behind : (number : ℕ) (x : Crossing) → link ≤ number → number < most → slice_get crossings number ≡ Some x → x.parent ≡ parent → ⊥
 
 -- each event has its last crossing, and each crossing the one before it
-pub record AreLinked (crossings : List Crossing) (last before : List ℕ) : Type 0 where
+pub record AreCrossingsLinked (crossings : List Crossing) (last before : List ℕ) : Type 0 where
   pub lasts : (parent : ℕ) → parent < length last → IsLastBelow crossings (length crossings) parent (slice_index last parent)
   pub befores : (number : ℕ) (x : Crossing) → slice_get crossings number ≡ Some x → IsLastBelow crossings number x.parent (slice_index before number)
 
 pub record AreOutgoing (crossings : List Crossing) (events : ℕ) (o : Outgoing) : Type 0 where
-  pub linked : AreLinked crossings o.last.items o.before.items
+  pub linked : AreCrossingsLinked crossings o.last.items o.before.items
   pub events_are : length o.last.items ≡ events
   pub crossings_are : length o.before.items ≡ length crossings

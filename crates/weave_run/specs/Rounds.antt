@@ -5,7 +5,7 @@ use Rattle.event_graph.specs.declared.event.Event.{Event}
 use Rattle.event_graph.specs.declared.fired.Fired.{Fired}
 use Rattle.event_graph.specs.OneListWeave.{Timed, finish_in, is_fired, woven}
 use Rattle.domain_map.specs.declared.crossing.Crossing.{Crossing}
-use Rattle.domain_map.specs.Domains.{Division, domain_of}
+use Rattle.domain_map.specs.Domains.{Partition, domain_of_event}
 use Rattle.weave_core.specs.AtBarrier.{IsFirstLeft, KnowFiredParents, least_start_of, own_at}
 use Rattle.weave_core.specs.DomainCalls.{DomainValue, earliest_of}
 use Rattle.weave_core.specs.DomainMachine.{DomainState, is_clear, is_exact, next_in, with_floor, word_at}
@@ -13,11 +13,11 @@ use Rattle.weave_core.specs.Keeping.{AreKept, CanWeave, IsKept, owns_of}
 use Rattle.weave_run.specs.declared.plan.Plan.{Plan}
 
 -- The plan can be woven, a domain keeps to it, and all domains do.
-abbrev pub CanRun : {C : Type 0} (serves : C → Kind → Bool) (floor : C → Kind → ℕ) (stepped : C → Kind → ℕ → C × ℕ) (greatest : C → Kind → ℕ → ℕ) → Plan C → Type 0
-CanRun serves floor stepped greatest plan = CanWeave serves floor stepped greatest plan.graph.value plan.parts.value plan.comps.value
+abbrev pub CanWeavePlan : {C : Type 0} (serves : C → Kind → Bool) (floor : C → Kind → ℕ) (stepped : C → Kind → ℕ → C × ℕ) (greatest : C → Kind → ℕ → ℕ) → Plan C → Type 0
+CanWeavePlan serves floor stepped greatest plan = CanWeave serves floor stepped greatest plan.graph.value plan.parts.value plan.comps.value
 
-abbrev pub Keeps : {C : Type 0} (stepped : C → Kind → ℕ → C × ℕ) → Plan C → DomainValue C → Type 0
-Keeps stepped plan v = IsKept stepped plan.graph.value plan.parts.value plan.comps.value v.domain v
+abbrev pub KeepsToWeave : {C : Type 0} (stepped : C → Kind → ℕ → C × ℕ) → Plan C → DomainValue C → Type 0
+KeepsToWeave stepped plan v = IsKept stepped plan.graph.value plan.parts.value plan.comps.value v.domain v
 
 abbrev pub AllKeep : {C : Type 0} (stepped : C → Kind → ℕ → C × ℕ) → Plan C → List (DomainValue C) → Type 0
 AllKeep stepped plan vs = AreKept stepped plan.graph.value plan.parts.value plan.comps.value vs
@@ -50,9 +50,9 @@ abbrev pub IsFinish : {C : Type 0} (stepped : C → Kind → ℕ → C × ℕ) �
 IsFinish stepped plan number finish = finish ≡ finish_in (woven stepped plan.graph.value plan.comps.value) number
 
 -- the domain's next event fired, at its finish in the weave
-pub record HasFired {C : Type 0} (stepped : C → Kind → ℕ → C × ℕ) (plan : Plan C) (old new : DomainValue C) (result : Fired) : Type 0 where
+pub record HasFiredNext {C : Type 0} (stepped : C → Kind → ℕ → C × ℕ) (plan : Plan C) (old new : DomainValue C) (result : Fired) : Type 0 where
   pub same : new.domain ≡ old.domain
-  pub kept : Keeps stepped plan new
+  pub kept : KeepsToWeave stepped plan new
   pub event : Event
   pub start : ℕ
   pub next : next_in plan.graph.value plan.parts.value old.domain old.own ≡ Some (event, start)
@@ -63,14 +63,14 @@ pub record HasFired {C : Type 0} (stepped : C → Kind → ℕ → C × ℕ) (pl
   pub finish : IsFinish stepped plan result.number result.finish
 
 -- where its next event could fire, it has
-abbrev pub HasGoneOn : (events : List Event) (p : Division) (domain : ℕ) (before after : DomainState) → Type 0
+abbrev pub HasGoneOn : (events : List Event) (p : Partition) (domain : ℕ) (before after : DomainState) → Type 0
 HasGoneOn events p domain before after =
     (e : Event) (start : ℕ) → next_in events p domain before ≡ Some (e, start) → is_clear events p domain before start ≡ true → is_fired after.fired e.number ≡ true
 
 -- a domain that ran
 pub record HasRun {C : Type 0} (stepped : C → Kind → ℕ → C × ℕ) (plan : Plan C) (old new : DomainValue C) : Type 0 where
   pub same : new.domain ≡ old.domain
-  pub kept : Keeps stepped plan new
+  pub kept : KeepsToWeave stepped plan new
   pub grows : Grows old.own new.own
   pub goes_on : HasGoneOn plan.graph.value plan.parts.value old.domain old.own new.own
 
@@ -84,7 +84,7 @@ abbrev pub IsResolved : {C : Type 0} → List (DomainValue C) → (number : ℕ)
 IsResolved vs number x = is_exact (word_at (own_in vs x.target).known number) ≡ true
 
 -- all domains after one crossing was told, and after all crossings out of an event were
-pub record HasTold {C : Type 0} (stepped : C → Kind → ℕ → C × ℕ) (plan : Plan C) (old new : List (DomainValue C)) (number : ℕ) : Type 0 where
+pub record HasToldCrossing {C : Type 0} (stepped : C → Kind → ℕ → C × ℕ) (plan : Plan C) (old new : List (DomainValue C)) (number : ℕ) : Type 0 where
   pub kept : AllKeep stepped plan new
   pub learn : AllLearn old new
   pub told : (x : Crossing) → slice_get plan.parts.value.crossings number ≡ Some x → IsResolved new number x
@@ -94,23 +94,23 @@ pub record HasToldAll {C : Type 0} (stepped : C → Kind → ℕ → C × ℕ) (
   pub learn : AllLearn old new
   pub told : (number : ℕ) (x : Crossing) → slice_get plan.parts.value.crossings number ≡ Some x → x.parent ≡ parent → IsResolved new number x
 
--- After the crossings out of those events that a domain fired from a place on were told, and after those of each domain below
--- a number were.
+-- After the crossings out of those events that a domain fired from a place on were told, and after those of each domain
+-- below a number were.
 pub record HasToldRest {C : Type 0} (stepped : C → Kind → ℕ → C × ℕ) (plan : Plan C) (old new : List (DomainValue C)) (source place : ℕ) : Type 0 where
   pub kept : AllKeep stepped plan new
   pub learn : AllLearn old new
   pub told : (at : ℕ) (y : Timed) → place ≤ at → slice_get (own_in old source).fired at ≡ Some y
       → (number : ℕ) (x : Crossing) → slice_get plan.parts.value.crossings number ≡ Some x → x.parent ≡ y.event.number → IsResolved new number x
 
-pub record HasToldRests {C : Type 0} (stepped : C → Kind → ℕ → C × ℕ) (plan : Plan C) (old new : List (DomainValue C)) (places : List ℕ) (sources : ℕ) : Type 0 where
+pub record HasToldRests {C : Type 0} (stepped : C → Kind → ℕ → C × ℕ) (plan : Plan C) (old new : List (DomainValue C)) (counts : List ℕ) (sources : ℕ) : Type 0 where
   pub kept : AllKeep stepped plan new
   pub learn : AllLearn old new
-  pub told : (source at : ℕ) (y : Timed) → source < sources → slice_index places source ≤ at → slice_get (own_in old source).fired at ≡ Some y
+  pub told : (source at : ℕ) (y : Timed) → source < sources → slice_index counts source ≤ at → slice_get (own_in old source).fired at ≡ Some y
       → (number : ℕ) (x : Crossing) → slice_get plan.parts.value.crossings number ≡ Some x → x.parent ≡ y.event.number → IsResolved new number x
 
 -- how many events each domain below a number has fired
-pub record AreNoted {C : Type 0} (vs : List (DomainValue C)) (places : List ℕ) (domains : ℕ) : Type 0 where
-  pub each : (domain : ℕ) (v : DomainValue C) → domain < domains → slice_get vs domain ≡ Some v → slice_index places domain ≡ length v.own.fired
+pub record AreNoted {C : Type 0} (vs : List (DomainValue C)) (counts : List ℕ) (domains : ℕ) : Type 0 where
+  pub each : (domain : ℕ) (v : DomainValue C) → domain < domains → slice_get vs domain ≡ Some v → slice_index counts domain ≡ length v.own.fired
 
 -- all domains keep to the weave, and each knows the finish of every parent that another one fired
 pub record AreMet {C : Type 0} (stepped : C → Kind → ℕ → C × ℕ) (plan : Plan C) (vs : List (DomainValue C)) : Type 0 where
@@ -130,8 +130,8 @@ pub record HasRunHere {C : Type 0} (stepped : C → Kind → ℕ → C × ℕ) (
 abbrev pub HasAdvanced : {C : Type 0} (stepped : C → Kind → ℕ → C × ℕ) → Plan C → (old new : List (DomainValue C)) → Type 0
 HasAdvanced stepped plan old new =
     (index : ℕ) (x : Timed) → IsFirstLeft stepped plan.graph.value plan.parts.value plan.comps.value (owns_of old) index x
-    → is_clear plan.graph.value plan.parts.value (domain_of plan.parts.value.places x.event) (own_in old (domain_of plan.parts.value.places x.event)) x.start ≡ true
-    → is_fired (own_in new (domain_of plan.parts.value.places x.event)).fired x.event.number ≡ true
+    → is_clear plan.graph.value plan.parts.value (domain_of_event plan.parts.value.places x.event) (own_in old (domain_of_event plan.parts.value.places x.event)) x.start ≡ true
+    → is_fired (own_in new (domain_of_event plan.parts.value.places x.event)).fired x.event.number ≡ true
 
 -- a round
 pub record HasRunRound {C : Type 0} (stepped : C → Kind → ℕ → C × ℕ) (plan : Plan C) (old new : List (DomainValue C)) : Type 0 where
@@ -149,8 +149,8 @@ pub record HaveFloor {C : Type 0} (vs : List (DomainValue C)) (floor : ℕ) : Ty
 
 -- an event of the domain is ready
 abbrev pub has_event : {C : Type 0} → DomainValue C → Bool
-has_event v = is_some (earliest_of v.events v.division v.domain v.own)
+has_event v = is_some (earliest_of v.events v.partition v.domain v.own)
 
 -- the least start of a ready event
-abbrev pub IsFront : {C : Type 0} → Plan C → List (DomainValue C) → Option ℕ → Type 0
-IsFront plan vs front = front ≡ least_start_of plan.graph.value plan.parts.value (owns_of vs)
+abbrev pub IsLeastStart : {C : Type 0} → Plan C → List (DomainValue C) → Option ℕ → Type 0
+IsLeastStart plan vs front = front ≡ least_start_of plan.graph.value plan.parts.value (owns_of vs)

@@ -7,7 +7,7 @@ use Rattle.event_graph.specs.OneListWeave.{is_fired}
 use Rattle.domain_map.specs.declared.crossing.Crossing.{Crossing}
 use Rattle.crossing.specs.Seats.{SeatValue, finishes_of, owners_of}
 use Rattle.weave_core.specs.DomainCalls.{DomainValue}
-use Rattle.weave_run.specs.Rounds.{Grows, HasFired, HasRun, Keeps}
+use Rattle.weave_run.specs.Rounds.{Grows, HasFiredNext, HasRun, KeepsToWeave}
 use Rattle.weave_run.specs.declared.post.Post.{Post}
 use Rattle.weave_run.specs.declared.plan.Plan.{Plan}
 
@@ -34,19 +34,19 @@ pub record AreSeated {C : Type 0} (stepped : C → Kind → ℕ → C × ℕ) (p
   pub each : (domain : ℕ) (v : DomainValue C) (s : SeatValue) → slice_get vs domain ≡ Some v → slice_get seats domain ≡ Some s → IsSeated stepped plan table v s
 
 -- a domain that keeps to the plan, with its seat
-pub record CanServe {C : Type 0} (stepped : C → Kind → ℕ → C × ℕ) (plan : Plan C) (table : TableId) (post : Post C) : Type 0 where
-  pub kept : Keeps stepped plan post.domain
+pub record IsPostSeated {C : Type 0} (stepped : C → Kind → ℕ → C × ℕ) (plan : Plan C) (table : TableId) (post : Post C) : Type 0 where
+  pub kept : KeepsToWeave stepped plan post.domain
   pub seated : IsSeated stepped plan table post.domain post.seat
 
 -- after its next event fired, and its finish was published
 pub record HasFiredThere {C : Type 0} (stepped : C → Kind → ℕ → C × ℕ) (plan : Plan C) (table : TableId) (old new : Post C) : Type 0 where
-  pub can : CanServe stepped plan table new
+  pub can : IsPostSeated stepped plan table new
   pub finish : Fired
-  pub fired : HasFired stepped plan old.domain new.domain finish
+  pub fired : HasFiredNext stepped plan old.domain new.domain finish
 
 -- after it looked at a word
 pub record HasLooked {C : Type 0} (stepped : C → Kind → ℕ → C × ℕ) (plan : Plan C) (table : TableId) (old new : Post C) : Type 0 where
-  pub can : CanServe stepped plan table new
+  pub can : IsPostSeated stepped plan table new
   pub same : new.domain.domain ≡ old.domain.domain
   pub grows : Grows old.domain.own new.domain.own
 

@@ -3,21 +3,21 @@ use Rattle.std.specs.Prelude.{◌≡◌, ◌≤◌, ℕ, List, [], IfSome, lengt
 use Rattle.std.specs.Vec.{vec_capacity}
 use Rattle.component.specs.declared.kind.Kind.{Kind}
 use Rattle.event_graph.specs.declared.event.Event.{Event}
-use Rattle.domain_map.specs.Domains.{Division}
+use Rattle.domain_map.specs.Domains.{Partition}
 use Rattle.weave_core.specs.DomainCalls.{DomainValue, at_first, comps_in}
 use Rattle.weave_run.specs.Dealing.{AreEmptyRooms}
 use Rattle.weave_run.specs.Outgoing.{AreOutgoing}
 use Rattle.weave_run.specs.Teams.{IsNewTeam}
 use Rattle.weave_run.specs.declared.plan.Plan.{Plan}
-use Rattle.weave_run.specs.declared.setup.Field.{Field}
+use Rattle.weave_run.specs.declared.setup.Prepared.{Prepared}
 use Rattle.weave_run.specs.declared.setup.Room.{Room}
 
 -- the domain of a number, before its first event
-abbrev pub begun : {C : Type 0} → List Event → Division → List C → (domain : ℕ) → DomainValue C
-begun events p comps domain = record { domain = domain; events = events; division = p; own = at_first p; comps = comps_in p.places domain comps }
+abbrev pub begun : {C : Type 0} → List Event → Partition → List C → (domain : ℕ) → DomainValue C
+begun events p comps domain = record { domain = domain; events = events; partition = p; own = at_first p; comps = comps_in p.places domain comps }
 
 -- the first so many domains
-pub record AreBegun {C : Type 0} (events : List Event) (p : Division) (comps : List C) (count : ℕ) (vs : List (DomainValue C)) : Type 0 where
+pub record AreBegun {C : Type 0} (events : List Event) (p : Partition) (comps : List C) (count : ℕ) (vs : List (DomainValue C)) : Type 0 where
   pub count_is : length vs ≡ count
   pub each : (domain : ℕ) (v : DomainValue C) → slice_get vs domain ≡ Some v → v ≡ begun events p comps domain
 
@@ -29,7 +29,7 @@ pub record HasRoom {C : Type 0} (stepped : C → Kind → ℕ → C × ℕ) (pla
   pub lists : (r.lists.items ≡ []) × (length plan.parts.value.events ≤ vec_capacity r.lists)
   pub team : IfSome r.team (IsNewTeam stepped plan)
 
-pub record IsField {C : Type 0} (stepped : C → Kind → ℕ → C × ℕ) (plan : Plan C) (f : Field C) : Type 0 where
+pub record IsPrepared {C : Type 0} (stepped : C → Kind → ℕ → C × ℕ) (plan : Plan C) (f : Prepared C) : Type 0 where
   pub domains : AreBegun plan.graph.value plan.parts.value plan.comps.value (length plan.parts.value.events) f.domains.items
   pub outgoing : AreOutgoing plan.parts.value.crossings (length plan.graph.value) f.outgoing
   pub times : length f.times.items ≡ length plan.graph.value

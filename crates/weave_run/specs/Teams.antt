@@ -13,7 +13,7 @@ pub record HasWorkers {C : Type 0} (plan : Plan C) (t : Team C) : Type 0 where
   pub some : 0 < length t.crews.items
   pub few : length t.crews.items ≤ 64
   pub free : AreFree (length plan.parts.value.events) t.crews.items
-  pub places : length t.places.items ≡ length plan.parts.value.events
+  pub counts : length t.counts.items ≡ length plan.parts.value.events
 
 -- before the first round
 pub record IsNewTeam {C : Type 0} (stepped : C → Kind → ℕ → C × ℕ) (plan : Plan C) (t : Team C) : Type 0 where

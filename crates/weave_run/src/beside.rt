@@ -1,7 +1,7 @@
-// A round in which the workers run their domains beside each other.
+//! A round in which the workers run their domains beside each other.
 ghost use Rattle.std.specs.Prelude.{◌≡◌, ◌<◌, ◌≤◌, length};
 ghost use Rattle.weave_run.specs.Outgoing.{AreOutgoing};
-ghost use Rattle.weave_run.specs.Rounds.{AreMet, AreNoted, CanRun, HasRunRound};
+ghost use Rattle.weave_run.specs.Rounds.{AreMet, AreNoted, CanWeavePlan, HasRunRound};
 ghost use Rattle.weave_run.specs.Teams.{IsTeam};
 
 use crate::crew::work_all;
@@ -27,14 +27,14 @@ pub(crate) fn run_beside<R: Threads + Sync, C: Component + Send, G: Gate>(
     p: &Parts,
     outgoing: &Outgoing,
     gate: &G,
-    turns: usize,
+    steps: usize,
 )
-    requires can { CanRun C.serves C.floor C.stepped C.greatest plan.now }
+    requires can { CanWeavePlan C.serves C.floor C.stepped C.greatest plan.now }
     requires parts { p.now ≡ plan.now.parts.value }
     requires outgoing { AreOutgoing plan.now.parts.value.crossings (length plan.now.graph.value) outgoing.now }
     requires met { AreMet C.stepped plan.now domains.old.items }
     requires team { IsTeam C.stepped plan.now domains.old.items team.old }
-    requires some { 0 < turns }
+    requires some { 0 < steps }
     ensures ran { HasRunRound C.stepped plan.now domains.old.items domains.new.items }
     ensures team { IsTeam C.stepped plan.now domains.new.items team.new }
 {
@@ -42,10 +42,10 @@ pub(crate) fn run_beside<R: Threads + Sync, C: Component + Send, G: Gate>(
     let count = p.domains();
     let before = Snapshot::of(&*domains);
     let crews = team.crews.as_mut_slice();
-    let places = team.places.as_mut_slice();
-    note(domains, places);
+    let counts = team.counts.as_mut_slice();
+    note(domains, counts);
     hire(domains, &mut team.seats, plan, &team.crossings, crews);
-    work_all(rt, crews, plan, outgoing, &team.crossings, gate, turns);
+    work_all(rt, crews, plan, outgoing, &team.crossings, gate, steps);
     let_go(
         crews,
         plan,
@@ -55,16 +55,16 @@ pub(crate) fn run_beside<R: Threads + Sync, C: Component + Send, G: Gate>(
         domains,
         &mut team.seats,
     );
-    tell_each(domains.as_mut_slice(), plan, p, outgoing, places);
+    tell_each(domains.as_mut_slice(), plan, p, outgoing, counts);
 }
 
 /// How many events each domain has fired.
-fn note<C: Component>(domains: &[Domain<C>], places: &mut [usize])
-    requires room { length places.old ≡ length domains.now }
-    ensures count { length places.new ≡ length places.old }
-    ensures noted { AreNoted domains.now places.new (length domains.now) }
+fn note<C: Component>(domains: &[Domain<C>], counts: &mut [usize])
+    requires room { length counts.old ≡ length domains.now }
+    ensures count { length counts.new ≡ length counts.old }
+    ensures noted { AreNoted domains.now counts.new (length domains.now) }
 {
     for index in 0..domains.len() {
-        places[index] = domains[index].fired().len();
+        counts[index] = domains[index].fired().len();
     }
 }

@@ -1,17 +1,17 @@
-// The weave of a graph that was split into domains.
+//! The weave of a graph that was split into domains.
 ghost use Rattle.std.specs.Prelude.{◌≡◌, ◌≤◌, ◌<◌, ◌^◌, All, IfErr, IfOk, IsTrue, length};
 ghost use Rattle.event_graph.specs.OneListWeave.{AreSmallSteps};
-ghost use Rattle.weave_core.specs.Interleavings.{IsDivided};
+ghost use Rattle.weave_core.specs.Interleavings.{IsPartitioned};
 ghost use Rattle.weave_core.specs.Keeping.{HaveAllFired, owns_of};
-ghost use Rattle.weave_run.specs.Rounds.{AllKeep, CanRun};
-ghost use Rattle.weave_run.specs.Setup.{IsField};
+ghost use Rattle.weave_run.specs.Rounds.{AllKeep, CanWeavePlan};
+ghost use Rattle.weave_run.specs.Setup.{IsPrepared};
 ghost use Rattle.weave_run.specs.Weaving.{IsWoven};
 
 use crate::dealt::gather;
 use crate::ended::{fill_all, finish_all};
 use crate::plan::Plan;
 use crate::rounds::run_rounds;
-use crate::setup::{Field, prepare};
+use crate::setup::{Prepared, prepare};
 use component::{Component, Comps};
 use domain_map::Parts;
 use event_graph::{FiredList, Graph};
@@ -46,7 +46,7 @@ pub fn weave<R: Threads + Sync, C: Component + Send, G: Gate>(
     gate: &G,
 ) -> Result<Woven<C>, (NoMemory, Comps<C>)>
     requires workers { (1 ≤ workers) × (workers ≤ 64) }
-    requires divided { IsDivided C.serves C.floor g.now p.now comps }
+    requires partitioned { IsPartitioned C.serves C.floor g.now p.now comps }
     requires small { AreSmallSteps C.stepped C.greatest g.now comps }
     ensures woven { IfOk result (λ w. IsWoven C.stepped g.now comps w.fired w.comps w.rounds) }
     ensures back { IfErr result (λ e. e.1 ≡ comps) }
@@ -60,9 +60,9 @@ pub fn weave<R: Threads + Sync, C: Component + Send, G: Gate>(
         parts: Snapshot::of(p),
         comps: Snapshot::of(&comps),
     };
-    let field = prepare(alloc, g, p, &plan, comps, workers)?;
+    let prepared = prepare(alloc, g, p, &plan, comps, workers)?;
     let events = g.events().len() as u32;
-    Ok(run(rt, field, &plan, p, workers, gate, events))
+    Ok(run(rt, prepared, &plan, p, workers, gate, events))
 }
 
 /// Whether a domain has numbers for all events, crossings and components.
@@ -77,30 +77,30 @@ fn has_numbers(g: &Graph, p: &Parts) -> bool
 /// Runs all rounds, and takes the times and the components.
 fn run<R: Threads + Sync, C: Component + Send, G: Gate>(
     rt: &R,
-    field: Field<C>,
+    prepared: Prepared<C>,
     plan: &Plan<C>,
     p: &Parts,
     workers: u16,
     gate: &G,
     events: u32,
 ) -> Woven<C>
-    requires can { CanRun C.serves C.floor C.stepped C.greatest plan.now }
+    requires can { CanWeavePlan C.serves C.floor C.stepped C.greatest plan.now }
     requires parts { p.now ≡ plan.now.parts.value }
-    requires field { IsField C.stepped plan.now field }
+    requires prepared { IsPrepared C.stepped plan.now prepared }
     requires workers { 0 < workers }
     requires events { events ≡ length plan.now.graph.value }
     ensures { IsWoven C.stepped plan.now.graph.value plan.now.comps.value result.fired result.comps result.rounds }
 {
     laws::keeping::<C>();
     event_graph::laws::components_serve_their_own_events::<C>();
-    let Field {
+    let Prepared {
         mut domains,
         outgoing,
         mut times,
         list,
         lists,
         mut team,
-    } = field;
+    } = prepared;
     let rounds = run_rounds(
         rt,
         &mut domains,

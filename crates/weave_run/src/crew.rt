@@ -1,9 +1,9 @@
-// The domains of a worker, and all workers beside each other.
+//! The domains of a worker, and all workers beside each other.
 ghost use Rattle.std.specs.Prelude.{◌≡◌, ◌<◌, ◌≤◌, ℕ, All, length, slice_index_or};
 ghost use Rattle.std.specs.Thread.{IsSync};
 ghost use Rattle.weave_run.specs.Crews.{CanWork, HasWorked};
 ghost use Rattle.weave_run.specs.Outgoing.{AreOutgoing};
-ghost use Rattle.weave_run.specs.Rounds.{CanRun};
+ghost use Rattle.weave_run.specs.Rounds.{CanWeavePlan};
 ghost use Rattle.weave_run.specs.declared.crew.Crew.{Crew};
 
 use crate::outgoing::Outgoing;
@@ -29,19 +29,19 @@ fn work<C: Component, G: Gate>(
     crossings: &Crossings,
     worker: u16,
     gate: &G,
-    turns: usize,
+    steps: usize,
 )
-    requires can { CanRun C.serves C.floor C.stepped C.greatest plan.now }
+    requires can { CanWeavePlan C.serves C.floor C.stepped C.greatest plan.now }
     requires outgoing { AreOutgoing plan.now.parts.value.crossings (length plan.now.graph.value) outgoing.now }
     requires crew { CanWork C.stepped plan.now crossings.now crew.old }
-    requires some { 0 < turns }
+    requires some { 0 < steps }
     ensures { HasWorked C.stepped plan.now crossings.now crew.old crew.new }
 {
     let mut left = crew.posts.len();
     while left > 0 {
         left -= 1;
         let post = &mut crew.posts[left];
-        run_beside_others(post, plan, outgoing, crossings, worker, gate, turns);
+        run_beside_others(post, plan, outgoing, crossings, worker, gate, steps);
     }
 }
 
@@ -53,14 +53,14 @@ pub(crate) fn work_all<R: Threads + Sync, C: Component + Send, G: Gate>(
     outgoing: &Outgoing,
     crossings: &Crossings,
     gate: &G,
-    turns: usize,
+    steps: usize,
 )
-    requires can { CanRun C.serves C.floor C.stepped C.greatest plan.now }
+    requires can { CanWeavePlan C.serves C.floor C.stepped C.greatest plan.now }
     requires outgoing { AreOutgoing plan.now.parts.value.crossings (length plan.now.graph.value) outgoing.now }
     requires crews { All (CanWork C.stepped plan.now crossings.now) crews.old }
     requires several { 0 < length crews.old }
     requires few { length crews.old ≤ 64 }
-    requires some { 0 < turns }
+    requires some { 0 < steps }
     ensures count { length crews.new ≡ length crews.old }
     ensures worked { (worker : ℕ) (d : Crew C) → worker < length crews.old
         → HasWorked C.stepped plan.now crossings.now (slice_index_or crews.old worker d) (slice_index_or crews.new worker d) }
@@ -71,9 +71,9 @@ pub(crate) fn work_all<R: Threads + Sync, C: Component + Send, G: Gate>(
         crews,
         threads,
         &|worker: usize, crew: &mut Crew<C>|
-            requires { IsSync G.row × (worker < 64) × (0 < turns) × CanRun C.serves C.floor C.stepped C.greatest plan.now
+            requires { IsSync G.row × (worker < 64) × (0 < steps) × CanWeavePlan C.serves C.floor C.stepped C.greatest plan.now
                 × AreOutgoing plan.now.parts.value.crossings (length plan.now.graph.value) outgoing.now × CanWork C.stepped plan.now crossings.now crew.now }
             ensures { HasWorked C.stepped plan.entry.now crossings.entry.now crew.entry.now crew.exit.now }
-        { work(crew, plan, outgoing, crossings, worker as u16, gate, turns) },
+        { work(crew, plan, outgoing, crossings, worker as u16, gate, steps) },
     );
 }

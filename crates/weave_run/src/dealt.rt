@@ -1,4 +1,4 @@
-// Components by their domains, and back in order of their numbers.
+//! Components by their domains, and back in order of their numbers.
 ghost use Rattle.std.specs.Prelude.{◌≡◌, ◌≤◌, ◌<◌, [], All, IfOk, length};
 ghost use Rattle.std.specs.Vec.{vec_capacity};
 ghost use Rattle.weave_run.specs.Dealing.{AreDealt, AreEmptyRooms, IsDealing, items_of};

@@ -1,11 +1,11 @@
-// What a weave hands back.
+//! What a weave hands back.
 ghost use Rattle.std.specs.Prelude.{◌≡◌, ◌≤◌, ◌<◌, [], length, map};
 ghost use Rattle.std.specs.Vec.{vec_capacity};
 ghost use Rattle.event_graph.specs.OneListWeave.{fired_of, woven};
 ghost use Rattle.weave_core.specs.Keeping.{HaveAllFired, owns_of};
 ghost use Rattle.weave_run.specs.Dealing.{items_of};
 ghost use Rattle.weave_run.specs.Ending.{HasFilled};
-ghost use Rattle.weave_run.specs.Rounds.{AllKeep, CanRun, Keeps};
+ghost use Rattle.weave_run.specs.Rounds.{AllKeep, CanWeavePlan, KeepsToWeave};
 
 use crate::plan::Plan;
 use component::Component;
@@ -14,7 +14,7 @@ use weave_core::{Domain, laws};
 
 /// Puts the events of all domains at the places of their numbers.
 pub(crate) fn fill_all<C: Component>(times: &mut [Fired], domains: &[Domain<C>], plan: &Plan<C>)
-    requires can { CanRun C.serves C.floor C.stepped C.greatest plan.now }
+    requires can { CanWeavePlan C.serves C.floor C.stepped C.greatest plan.now }
     requires kept { AllKeep C.stepped plan.now domains.now }
     requires all { HaveAllFired C.stepped plan.now.graph.value plan.now.parts.value plan.now.comps.value (owns_of domains.now) }
     requires times { length times.old ≡ length plan.now.graph.value }
@@ -28,8 +28,8 @@ pub(crate) fn fill_all<C: Component>(times: &mut [Fired], domains: &[Domain<C>],
 
 /// Puts the events of a domain at the places of their numbers.
 fn fill<C: Component>(times: &mut [Fired], domain: &Domain<C>, plan: &Plan<C>)
-    requires can { CanRun C.serves C.floor C.stepped C.greatest plan.now }
-    requires kept { Keeps C.stepped plan.now domain.now }
+    requires can { CanWeavePlan C.serves C.floor C.stepped C.greatest plan.now }
+    requires kept { KeepsToWeave C.stepped plan.now domain.now }
     requires times { length times.old ≡ length plan.now.graph.value }
     ensures { HasFilled C.stepped plan.now times.old times.new domain.now }
 {

@@ -1,4 +1,4 @@
-// Which worker has which domains: worker w of W those whose number is w modulo W.
+//! Which worker has which domains: worker w of W those whose number is w modulo W.
 ghost use Rattle.std.specs.Prelude.{◌≡◌, ◌<◌, ◌≤◌, ◌^◌, [], IfOk, length};
 ghost use Rattle.std.specs.Vec.{vec_capacity};
 ghost use Rattle.weave_run.specs.Crews.{AreCrewsSeated, AreFree, HaveLots, HaveLotsRun, HaveRoom};

@@ -1,6 +1,6 @@
-// The crossings out of each event.
+//! The crossings out of each event.
 ghost use Rattle.std.specs.Prelude.{◌≡◌, ◌<◌, ◌≤◌, ◌-◌, ◌^◌, All, IfOk, length};
-ghost use Rattle.weave_run.specs.Outgoing.{AreLinked, AreOutgoing};
+ghost use Rattle.weave_run.specs.Outgoing.{AreCrossingsLinked, AreOutgoing};
 
 use domain_map::Crossing;
 use std::alloc::Global;
@@ -36,7 +36,7 @@ fn link(crossings: &[Crossing], last: &mut [u32], before: &mut [u32])
     requires there { All (λ x. x.parent < length last.old) crossings.now }
     requires room { length before.old ≡ length crossings.now }
     requires none { All (λ n. n ≡ 0) last.old }
-    ensures linked { AreLinked crossings.now last.new before.new }
+    ensures linked { AreCrossingsLinked crossings.now last.new before.new }
     ensures events { length last.new ≡ length last.old }
 {
     for number in 0..crossings.len() {

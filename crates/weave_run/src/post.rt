@@ -1,12 +1,12 @@
-// A domain that runs beside others, which it tells what it fires, and of which it learns, by the words
-// of the crossings.
+//! A domain that runs beside others, which it tells what it fires, and of which it learns, by the
+//! words of the crossings.
 ghost use Rattle.std.specs.Prelude.{◌≡◌, ◌<◌, length, slice_get, Some};
 ghost use Rattle.domain_map.specs.declared.crossing.Crossing.{Crossing};
 ghost use Rattle.zs_num.specs.declared.time.Key.{Key};
 ghost use Rattle.weave_core.specs.DomainCalls.{MayFire};
 ghost use Rattle.weave_run.specs.Outgoing.{AreOutgoing};
-ghost use Rattle.weave_run.specs.Rounds.{CanRun, IsFinish};
-ghost use Rattle.weave_run.specs.Seating.{CanServe, HasFiredThere, HasLooked, HasPublished, HasServed, IsSeat, MayPublish};
+ghost use Rattle.weave_run.specs.Rounds.{CanWeavePlan, IsFinish};
+ghost use Rattle.weave_run.specs.Seating.{IsPostSeated, HasFiredThere, HasLooked, HasPublished, HasServed, IsSeat, MayPublish};
 
 use crate::outgoing::Outgoing;
 use crate::plan::Plan;
@@ -26,9 +26,9 @@ pub(crate) struct Post<C: Component> {
     pub(crate) seat: DomainSeat,
 }
 
-/// Fires while the next event may fire, and publishes each finish. Where the domain is blocked it looks
-/// at the word of the crossing that blocks it, and goes on if that says the finish. At most so many
-/// fires and looks.
+/// Fires while the next event may fire, and publishes each finish. Where the domain is blocked it
+/// looks at the word of the crossing that blocks it, and goes on if that says the finish. At most
+/// so many fires and looks.
 pub(crate) fn run_beside_others<C: Component, G: Gate>(
     post: &mut Post<C>,
     plan: &Plan<C>,
@@ -36,16 +36,16 @@ pub(crate) fn run_beside_others<C: Component, G: Gate>(
     crossings: &Crossings,
     worker: u16,
     gate: &G,
-    turns: usize,
+    steps: usize,
 )
-    requires can { CanRun C.serves C.floor C.stepped C.greatest plan.now }
+    requires can { CanWeavePlan C.serves C.floor C.stepped C.greatest plan.now }
     requires outgoing { AreOutgoing plan.now.parts.value.crossings (length plan.now.graph.value) outgoing.now }
-    requires post { CanServe C.stepped plan.now crossings.now post.old }
-    requires some { 0 < turns }
+    requires post { IsPostSeated C.stepped plan.now crossings.now post.old }
+    requires some { 0 < steps }
     ensures { HasServed C.stepped plan.now crossings.now post.old post.new }
 {
     laws::keeping::<C>();
-    for _turn in 0..turns {
+    for _step in 0..steps {
         match post.domain.next() {
             Next::Fire { .. } => fire_and_publish(post, plan, outgoing, crossings, worker, gate),
             Next::Blocked { crossing, .. } => {
@@ -67,9 +67,9 @@ fn fire_and_publish<C: Component, G: Gate>(
     worker: u16,
     gate: &G,
 )
-    requires can { CanRun C.serves C.floor C.stepped C.greatest plan.now }
+    requires can { CanWeavePlan C.serves C.floor C.stepped C.greatest plan.now }
     requires outgoing { AreOutgoing plan.now.parts.value.crossings (length plan.now.graph.value) outgoing.now }
-    requires post { CanServe C.stepped plan.now crossings.now post.old }
+    requires post { IsPostSeated C.stepped plan.now crossings.now post.old }
     requires may { (key : Key) × MayFire plan.now.graph.value plan.now.parts.value post.old.domain.domain post.old.domain.own key }
     ensures { HasFiredThere C.stepped plan.now crossings.now post.old post.new }
 {
@@ -86,7 +86,7 @@ fn publish_all<C: Component>(
     outgoing: &Outgoing,
     fired: Fired,
 )
-    requires can { CanRun C.serves C.floor C.stepped C.greatest plan.now }
+    requires can { CanWeavePlan C.serves C.floor C.stepped C.greatest plan.now }
     requires outgoing { AreOutgoing plan.now.parts.value.crossings (length plan.now.graph.value) outgoing.now }
     requires seat { IsSeat C.stepped plan.now crossings.now seat.old.domain seat.old }
     requires there { fired.number < length plan.now.graph.value }
@@ -110,8 +110,8 @@ fn look_again<C: Component>(
     crossings: &Crossings,
     crossing: u32,
 ) -> bool
-    requires can { CanRun C.serves C.floor C.stepped C.greatest plan.now }
-    requires post { CanServe C.stepped plan.now crossings.now post.old }
+    requires can { CanWeavePlan C.serves C.floor C.stepped C.greatest plan.now }
+    requires post { IsPostSeated C.stepped plan.now crossings.now post.old }
     requires into { (x : Crossing) × (slice_get plan.now.parts.value.crossings crossing ≡ Some x) × (x.target ≡ post.old.domain.domain) }
     ensures { HasLooked C.stepped plan.now crossings.now post.old post.new }
 {

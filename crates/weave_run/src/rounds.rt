@@ -1,10 +1,10 @@
-// The rounds of the weave.
+//! The rounds of the weave.
 ghost use Rattle.std.specs.Prelude.{◌≡◌, ◌≤◌, ◌<◌, ◌^◌, IfSome, count_by, length, min, nat_lt, slice_get, Some};
 ghost use Rattle.std.specs.Option.{option_map_or};
 ghost use Rattle.weave_core.specs.DomainCalls.{DomainValue};
 ghost use Rattle.weave_core.specs.Keeping.{HaveAllFired, owns_of};
 ghost use Rattle.weave_run.specs.Outgoing.{AreOutgoing};
-ghost use Rattle.weave_run.specs.Rounds.{AllKeep, AreMet, CanRun, HasRunHere, HasRunRound, HaveFloor, IsFront, has_event, with_floors};
+ghost use Rattle.weave_run.specs.Rounds.{AllKeep, AreMet, CanWeavePlan, HasRunHere, HasRunRound, HaveFloor, IsLeastStart, has_event, with_floors};
 ghost use Rattle.weave_run.specs.Teams.{IsTeam};
 
 use crate::beside::run_beside;
@@ -20,9 +20,10 @@ use weave_core::{Domain, laws};
 use zs_host::Gate;
 use zs_num::Cycle;
 
-/// A round in threads is worth it where the one before fired so many events: to start threads and to join
-/// them takes as long as to fire some two hundred. The first round is in threads whatever there is to fire.
-const WORTH: usize = 256;
+/// A round in threads is worth it where the one before fired so many events: to start threads and
+/// to join them takes as long as to fire some two hundred. The first round is in threads whatever
+/// there is to fire.
+const WORTH_OF_THREADS: usize = 256;
 
 /// Runs rounds until no event is ready, and answers how many there were. Takes no memory.
 pub(crate) fn run_rounds<R: Threads + Sync, C: Component + Send, G: Gate>(
@@ -36,7 +37,7 @@ pub(crate) fn run_rounds<R: Threads + Sync, C: Component + Send, G: Gate>(
     workers: u16,
     events: u32,
 ) -> u32
-    requires can { CanRun C.serves C.floor C.stepped C.greatest plan.now }
+    requires can { CanWeavePlan C.serves C.floor C.stepped C.greatest plan.now }
     requires parts { p.now ≡ plan.now.parts.value }
     requires outgoing { AreOutgoing plan.now.parts.value.crossings (length plan.now.graph.value) outgoing.now }
     requires met { AreMet C.stepped plan.now domains.old.items }
@@ -50,8 +51,8 @@ pub(crate) fn run_rounds<R: Threads + Sync, C: Component + Send, G: Gate>(
     ensures team { IfSome team.new (IsTeam C.stepped plan.now domains.new.items) }
 {
     laws::keeping::<C>();
-    // A fire for each event, a look for each of its parents, and the turn that ends the round.
-    let turns = 3 * events as usize + 1;
+    // A fire for each event, a look for each of its parents, and the step that ends the round.
+    let steps = 3 * events as usize + 1;
     let mut floor = 0;
     let mut fired = 0;
     let mut is_worth = true;
@@ -62,11 +63,11 @@ pub(crate) fn run_rounds<R: Threads + Sync, C: Component + Send, G: Gate>(
         floor = front.max(floor);
         raise_floors(domains, floor);
         run_round(
-            rt, domains, team, plan, p, outgoing, gate, workers, turns, is_worth,
+            rt, domains, team, plan, p, outgoing, gate, workers, steps, is_worth,
         );
         let before = fired;
         fired = fired_so_far(domains);
-        is_worth = fired.saturating_sub(before) >= WORTH;
+        is_worth = fired.saturating_sub(before) >= WORTH_OF_THREADS;
     }
     events
 }
@@ -80,8 +81,8 @@ fn fired_so_far<C: Component>(domains: &[Domain<C>]) -> usize {
     count
 }
 
-/// Runs all domains as far as they can go, and each then knows what the others fired: by the workers
-/// beside each other where that is worth it and several domains have an event ready.
+/// Runs all domains as far as they can go, and each then knows what the others fired: by the
+/// workers beside each other where that is worth it and several domains have an event ready.
 fn run_round<R: Threads + Sync, C: Component + Send, G: Gate>(
     rt: &R,
     domains: &mut Vec<Domain<C>>,
@@ -91,14 +92,14 @@ fn run_round<R: Threads + Sync, C: Component + Send, G: Gate>(
     outgoing: &Outgoing,
     gate: &G,
     workers: u16,
-    turns: usize,
+    steps: usize,
     is_worth: bool,
 )
-    requires can { CanRun C.serves C.floor C.stepped C.greatest plan.now }
+    requires can { CanWeavePlan C.serves C.floor C.stepped C.greatest plan.now }
     requires parts { p.now ≡ plan.now.parts.value }
     requires outgoing { AreOutgoing plan.now.parts.value.crossings (length plan.now.graph.value) outgoing.now }
     requires met { AreMet C.stepped plan.now domains.old.items }
-    requires some { 0 < turns }
+    requires some { 0 < steps }
     requires workers { 0 < workers }
     requires team { IfSome team.old (IsTeam C.stepped plan.now domains.old.items) }
     ensures ran { HasRunRound C.stepped plan.now domains.old.items domains.new.items }
@@ -107,7 +108,7 @@ fn run_round<R: Threads + Sync, C: Component + Send, G: Gate>(
     let beside = is_worth && are_several_ready(domains);
     if let Some(team) = team {
         if beside {
-            run_beside(rt, domains, team, plan, p, outgoing, gate, turns);
+            run_beside(rt, domains, team, plan, p, outgoing, gate, steps);
             return;
         }
     }
@@ -118,7 +119,7 @@ fn run_round<R: Threads + Sync, C: Component + Send, G: Gate>(
         outgoing,
         gate,
         workers,
-        turns,
+        steps,
     );
 }
 
@@ -137,9 +138,9 @@ fn are_several_ready<C: Component>(domains: &[Domain<C>]) -> bool
 
 /// The least start of a ready event. None where no event is ready.
 fn front_of<C: Component>(domains: &[Domain<C>], plan: &Plan<C>) -> Option<Cycle>
-    requires can { CanRun C.serves C.floor C.stepped C.greatest plan.now }
+    requires can { CanWeavePlan C.serves C.floor C.stepped C.greatest plan.now }
     requires kept { AllKeep C.stepped plan.now domains.now }
-    ensures front { IsFront plan.now domains.now result }
+    ensures front { IsLeastStart plan.now domains.now result }
     ensures small { IfSome result (λ start. start ≤ 2 ^ 62) }
 {
     laws::keeping::<C>();
@@ -181,20 +182,20 @@ fn run_here<C: Component, G: Gate>(
     outgoing: &Outgoing,
     gate: &G,
     workers: u16,
-    turns: usize,
+    steps: usize,
 )
-    requires can { CanRun C.serves C.floor C.stepped C.greatest plan.now }
+    requires can { CanWeavePlan C.serves C.floor C.stepped C.greatest plan.now }
     requires parts { p.now ≡ plan.now.parts.value }
     requires outgoing { AreOutgoing plan.now.parts.value.crossings (length plan.now.graph.value) outgoing.now }
     requires met { AreMet C.stepped plan.now domains.old }
-    requires some { 0 < turns }
+    requires some { 0 < steps }
     requires workers { 0 < workers }
     ensures { HasRunRound C.stepped plan.now domains.old domains.new }
 {
     laws::keeping::<C>();
     for number in 0..p.domains() {
         let worker = number % workers;
-        run_one(domains, plan, p, outgoing, gate, number, worker, turns);
+        run_one(domains, plan, p, outgoing, gate, number, worker, steps);
     }
 }
 
@@ -207,18 +208,18 @@ fn run_one<C: Component, G: Gate>(
     gate: &G,
     number: u16,
     worker: u16,
-    turns: usize,
+    steps: usize,
 )
-    requires can { CanRun C.serves C.floor C.stepped C.greatest plan.now }
+    requires can { CanWeavePlan C.serves C.floor C.stepped C.greatest plan.now }
     requires parts { p.now ≡ plan.now.parts.value }
     requires outgoing { AreOutgoing plan.now.parts.value.crossings (length plan.now.graph.value) outgoing.now }
     requires met { AreMet C.stepped plan.now domains.old }
     requires there { number < length domains.old }
-    requires some { 0 < turns }
+    requires some { 0 < steps }
     ensures { HasRunHere C.stepped plan.now domains.old domains.new number }
 {
     let index = usize::from(number);
     let place = domains[index].fired().len();
-    run_alone(&mut domains[index], plan, number, worker, gate, turns);
+    run_alone(&mut domains[index], plan, number, worker, gate, steps);
     tell_from(domains, plan, p, outgoing, number, place);
 }

@@ -1,8 +1,8 @@
-// A domain that fires as far as it can.
+//! A domain that fires as far as it can.
 ghost use Rattle.std.specs.Prelude.{◌<◌};
 ghost use Rattle.zs_num.specs.declared.time.Key.{Key};
 ghost use Rattle.weave_core.specs.DomainCalls.{MayFire};
-ghost use Rattle.weave_run.specs.Rounds.{CanRun, HasFired, HasRun, Keeps};
+ghost use Rattle.weave_run.specs.Rounds.{CanWeavePlan, HasFiredNext, HasRun, KeepsToWeave};
 
 use crate::plan::Plan;
 use component::Component;
@@ -18,10 +18,10 @@ pub(crate) fn fire<C: Component, G: Gate>(
     worker: u16,
     gate: &G,
 ) -> Fired
-    requires can { CanRun C.serves C.floor C.stepped C.greatest plan.now }
-    requires kept { Keeps C.stepped plan.now domain.old }
+    requires can { CanWeavePlan C.serves C.floor C.stepped C.greatest plan.now }
+    requires kept { KeepsToWeave C.stepped plan.now domain.old }
     requires may { (key : Key) × MayFire plan.now.graph.value plan.now.parts.value domain.old.domain domain.old.own key }
-    ensures { HasFired C.stepped plan.now domain.old domain.new result }
+    ensures { HasFiredNext C.stepped plan.now domain.old domain.new result }
 {
     laws::keeping::<C>();
     gate.pass(worker, Point::Fire { domain: number });
@@ -35,15 +35,15 @@ pub(crate) fn run_alone<C: Component, G: Gate>(
     number: u16,
     worker: u16,
     gate: &G,
-    turns: usize,
+    steps: usize,
 )
-    requires can { CanRun C.serves C.floor C.stepped C.greatest plan.now }
-    requires kept { Keeps C.stepped plan.now domain.old }
-    requires some { 0 < turns }
+    requires can { CanWeavePlan C.serves C.floor C.stepped C.greatest plan.now }
+    requires kept { KeepsToWeave C.stepped plan.now domain.old }
+    requires some { 0 < steps }
     ensures { HasRun C.stepped plan.now domain.old domain.new }
 {
     laws::keeping::<C>();
-    for _turn in 0..turns {
+    for _step in 0..steps {
         let Next::Fire { .. } = domain.next() else {
             return;
         };

@@ -1,10 +1,10 @@
-// What a weave needs, taken before the first event fires.
+//! What a weave needs, taken before the first event fires.
 ghost use Rattle.std.specs.Prelude.{◌≡◌, ◌≤◌, ◌<◌, ◌+◌, ◌++◌, ◌∷◌, [], All, IfErr, IfOk, length, map};
 ghost use Rattle.std.specs.Vec.{vec_capacity};
-ghost use Rattle.weave_core.specs.Interleavings.{IsDivided};
+ghost use Rattle.weave_core.specs.Interleavings.{IsPartitioned};
 ghost use Rattle.weave_core.specs.LaidOut.{FitsDomain};
 ghost use Rattle.weave_run.specs.Dealing.{AreDealt, items_of};
-ghost use Rattle.weave_run.specs.Setup.{AreBegun, HasRoom, IsField};
+ghost use Rattle.weave_run.specs.Setup.{AreBegun, HasRoom, IsPrepared};
 
 use crate::dealt::{deal, gather, rooms};
 use crate::ended::finish_all;
@@ -20,7 +20,7 @@ use zs_num::NoMemory;
 
 /// All that the rounds work on.
 #[derive(Drop)]
-pub(crate) struct Field<C: Component> {
+pub(crate) struct Prepared<C: Component> {
     /// By their numbers.
     pub(crate) domains: Vec<Domain<C>>,
     pub(crate) outgoing: Outgoing,
@@ -53,15 +53,15 @@ pub(crate) fn prepare<C: Component>(
     plan: &Plan<C>,
     comps: Comps<C>,
     workers: u16,
-) -> Result<Field<C>, (NoMemory, Comps<C>)>
+) -> Result<Prepared<C>, (NoMemory, Comps<C>)>
     requires graph { g.now ≡ plan.now.graph.value }
     requires parts { p.now ≡ plan.now.parts.value }
     requires comps { comps ≡ plan.now.comps.value }
-    requires divided { IsDivided C.serves C.floor g.now p.now comps }
+    requires partitioned { IsPartitioned C.serves C.floor g.now p.now comps }
     requires fits { FitsDomain g.now p.now }
     requires workers { workers ≤ 64 }
     requires there { All (λ x. x.parent < length g.now) p.now.crossings }
-    ensures field { IfOk result (λ field. IsField C.stepped plan.now field) }
+    ensures prepared { IfOk result (λ prepared. IsPrepared C.stepped plan.now prepared) }
     ensures back { IfErr result (λ e. e.1 ≡ comps) }
 {
     let room = match take_room(alloc, g, p, plan, &comps, workers) {
@@ -78,7 +78,7 @@ pub(crate) fn prepare<C: Component>(
     } = room;
     let list = deal(comps, p.places(), rooms.as_mut_slice());
     match prepare_all(alloc, g, p, plan, rooms, domains, lists) {
-        Ok((domains, lists)) => Ok(Field {
+        Ok((domains, lists)) => Ok(Prepared {
             domains,
             outgoing,
             times,
@@ -101,7 +101,7 @@ fn take_room<C: Component>(
     requires graph { g.now ≡ plan.now.graph.value }
     requires parts { p.now ≡ plan.now.parts.value }
     requires comps { comps.now ≡ plan.now.comps.value }
-    requires divided { IsDivided C.serves C.floor g.now p.now comps.now }
+    requires partitioned { IsPartitioned C.serves C.floor g.now p.now comps.now }
     requires workers { workers ≤ 64 }
     requires there { All (λ x. x.parent < length g.now) p.now.crossings }
     ensures { IfOk result (λ room. HasRoom C.stepped plan.now room) }
@@ -136,7 +136,7 @@ fn prepare_all<C: Component>(
 ) -> Result<(Vec<Domain<C>>, Vec<Vec<C>>), Vec<Vec<C>>>
     requires graph { g.now ≡ plan.now.graph.value }
     requires parts { p.now ≡ plan.now.parts.value }
-    requires divided { IsDivided C.serves C.floor g.now p.now plan.now.comps.value }
+    requires partitioned { IsPartitioned C.serves C.floor g.now p.now plan.now.comps.value }
     requires fits { FitsDomain g.now p.now }
     requires count { length rooms.items ≡ length p.now.events }
     requires dealt { AreDealt p.now.places plan.now.comps.value (items_of rooms.items) }

@@ -1,7 +1,7 @@
-// The workers that run domains beside each other, and the words by which these tell each other what
-// they fire.
+//! The workers that run domains beside each other, and the words by which these tell each other
+//! what they fire.
 ghost use Rattle.std.specs.Prelude.{◌≡◌, ◌≤◌, ◌<◌, All, IfOk, IfSome, length};
-ghost use Rattle.weave_core.specs.Interleavings.{IsDivided};
+ghost use Rattle.weave_core.specs.Interleavings.{IsPartitioned};
 ghost use Rattle.weave_run.specs.Setup.{AreBegun};
 ghost use Rattle.weave_run.specs.Teams.{IsNewTeam};
 
@@ -22,13 +22,13 @@ pub(crate) struct Team<C: Component> {
     pub(crate) crossings: Crossings,
     /// The seats of the domains, by their numbers.
     pub(crate) seats: Vec<DomainSeat>,
-    /// Room for a number of each domain.
-    pub(crate) places: Vec<usize>,
+    /// How many events each domain had fired before the workers ran.
+    pub(crate) counts: Vec<usize>,
 }
 
 impl<C: Component> Team<C> {
-    /// So many workers, or one for each domain where these are fewer. None where one worker would be
-    /// alone.
+    /// So many workers, or one for each domain where these are fewer. None where one worker would
+    /// be alone.
     pub(crate) fn of(
         alloc: Global,
         g: &Graph,
@@ -40,7 +40,7 @@ impl<C: Component> Team<C> {
         requires graph { g.now ≡ plan.now.graph.value }
         requires parts { p.now ≡ plan.now.parts.value }
         requires comps { comps.now ≡ plan.now.comps.value }
-        requires divided { IsDivided C.serves C.floor g.now p.now comps.now }
+        requires partitioned { IsPartitioned C.serves C.floor g.now p.now comps.now }
         requires workers { workers ≤ 64 }
         ensures { IfOk result (λ team. IfSome team (IsNewTeam C.stepped plan.now)) }
     {
@@ -50,13 +50,13 @@ impl<C: Component> Team<C> {
             return Ok(None);
         }
         let crews = crews(alloc, workers, domains)?;
-        let places = vec![in alloc; 0usize; usize::from(domains)]?;
+        let counts = vec![in alloc; 0usize; usize::from(domains)]?;
         let (crossings, seats) = Crossings::make(alloc, g, p, comps)?;
         Ok(Some(Team {
             crews,
             crossings,
             seats,
-            places,
+            counts,
         }))
     }
 

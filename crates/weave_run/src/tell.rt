@@ -1,9 +1,9 @@
-// How domains are told the finishes of the parents of their crossings.
+//! How domains are told the finishes of the parents of their crossings.
 ghost use Rattle.std.specs.Prelude.{◌≡◌, ◌≤◌, ◌<◌, length};
 ghost use Rattle.domain_map.specs.declared.crossing.Crossing.{Crossing};
 ghost use Rattle.std.specs.Prelude.{slice_get, Some};
 ghost use Rattle.weave_run.specs.Outgoing.{AreOutgoing};
-ghost use Rattle.weave_run.specs.Rounds.{AllKeep, CanRun, HasTold, HasToldAll, HasToldRest, HasToldRests, IsFinish};
+ghost use Rattle.weave_run.specs.Rounds.{AllKeep, CanWeavePlan, HasToldCrossing, HasToldAll, HasToldRest, HasToldRests, IsFinish};
 
 use crate::outgoing::Outgoing;
 use crate::plan::Plan;
@@ -21,12 +21,12 @@ fn tell<C: Component>(
     crossing: u32,
     finish: Cycle,
 )
-    requires can { CanRun C.serves C.floor C.stepped C.greatest plan.now }
+    requires can { CanWeavePlan C.serves C.floor C.stepped C.greatest plan.now }
     requires parts { p.now ≡ plan.now.parts.value }
     requires kept { AllKeep C.stepped plan.now domains.old }
     requires there { crossing < length p.now.crossings }
     requires finish { (x : Crossing) → slice_get plan.now.parts.value.crossings crossing ≡ Some x → IsFinish C.stepped plan.now x.parent finish }
-    ensures told { HasTold C.stepped plan.now domains.old domains.new crossing }
+    ensures told { HasToldCrossing C.stepped plan.now domains.old domains.new crossing }
 {
     laws::keeping::<C>();
     let target = p.crossings()[crossing as usize].target;
@@ -41,7 +41,7 @@ fn tell_all<C: Component>(
     outgoing: &Outgoing,
     fired: Fired,
 )
-    requires can { CanRun C.serves C.floor C.stepped C.greatest plan.now }
+    requires can { CanWeavePlan C.serves C.floor C.stepped C.greatest plan.now }
     requires parts { p.now ≡ plan.now.parts.value }
     requires outgoing { AreOutgoing plan.now.parts.value.crossings (length plan.now.graph.value) outgoing.now }
     requires kept { AllKeep C.stepped plan.now domains.old }
@@ -65,7 +65,7 @@ pub(crate) fn tell_from<C: Component>(
     source: u16,
     place: usize,
 )
-    requires can { CanRun C.serves C.floor C.stepped C.greatest plan.now }
+    requires can { CanWeavePlan C.serves C.floor C.stepped C.greatest plan.now }
     requires parts { p.now ≡ plan.now.parts.value }
     requires outgoing { AreOutgoing plan.now.parts.value.crossings (length plan.now.graph.value) outgoing.now }
     requires kept { AllKeep C.stepped plan.now domains.old }
@@ -86,14 +86,14 @@ pub(crate) fn tell_each<C: Component>(
     plan: &Plan<C>,
     p: &Parts,
     outgoing: &Outgoing,
-    places: &[usize],
+    counts: &[usize],
 )
-    requires can { CanRun C.serves C.floor C.stepped C.greatest plan.now }
+    requires can { CanWeavePlan C.serves C.floor C.stepped C.greatest plan.now }
     requires parts { p.now ≡ plan.now.parts.value }
     requires outgoing { AreOutgoing plan.now.parts.value.crossings (length plan.now.graph.value) outgoing.now }
     requires kept { AllKeep C.stepped plan.now domains.old }
-    requires places { length places.now ≡ length domains.old }
-    ensures { HasToldRests C.stepped plan.now domains.old domains.new places.now (length domains.old) }
+    requires counts { length counts.now ≡ length domains.old }
+    ensures { HasToldRests C.stepped plan.now domains.old domains.new counts.now (length domains.old) }
 {
     for source in 0..p.domains() {
         tell_from(
@@ -102,7 +102,7 @@ pub(crate) fn tell_each<C: Component>(
             p,
             outgoing,
             source,
-            places[usize::from(source)],
+            counts[usize::from(source)],
         );
     }
 }

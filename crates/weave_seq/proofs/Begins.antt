@@ -1,9 +1,9 @@
 -- One event more before the first fires.
-use Rattle.std.proofs.Common.{◌≡◌, ◌+◌, ◌<◌, ◌≤◌, ◌==◌, ℕ, zero, suc, Bool, true, false, cond, List, [], ◌∷◌, ◌++◌, map, length, take, get_or, Option, Some, None, sym, ◌∙◌, ap, subst, refl, arith}
+use Rattle.std.proofs.Common.{◌≡◌, ◌+◌, ◌<◌, ◌≤◌, ◌==◌, ℕ, suc, Bool, true, false, cond, List, [], ◌∷◌, ◌++◌, map, length, take, get_or, Option, Some, None, sym, ◌∙◌, ap, refl, arith}
 use Rattle.std.specs.Prelude.{IfSome, count_by, slice_get}
 use Rattle.std.specs.List.Sorted.{IsPermutation}
-use Rattle.std.proofs.lemmas.Bool.{eq-eqb, ne_eqb}
-use Rattle.std.proofs.lemmas.List.{length-map, length-take-le, length_push, map-append, take_more}
+use Rattle.std.proofs.lemmas.Bool.{ne_eqb}
+use Rattle.std.proofs.lemmas.List.{length-map, map-append, take_more}
 use Rattle.zs_num.specs.declared.time.Key.{Key}
 use Rattle.event_graph.specs.declared.event.Event.{Event}
 use Rattle.event_graph.specs.declared.event.Parent.{Parent}
@@ -12,7 +12,6 @@ use Rattle.event_graph.specs.Numbered.{IsNumbered}
 use Rattle.event_graph.proofs.Lists.{get-map, get_read, read_is}
 use Rattle.weave_seq.specs.declared.children.ParentSlot.{ParentSlot}
 use Rattle.weave_seq.specs.Chains.{AreChains, last_child, parent_in, parents_in, with_last_child}
-use Rattle.weave_seq.specs.Order.{Keys}
 use Rattle.weave_seq.specs.SoFar.{AreSameKeys, ready_keys}
 use Rattle.weave_seq.proofs.Chains.{one_more}
 use Rattle.weave_seq.proofs.ReadyKeys.{count-cons, count_every, counted, few_keys, key_at, one_if, same_from_permutation}

@@ -1,9 +1,9 @@
 mod Begins
 mod Chains
 mod Earliest
+mod Firing
+mod FiringStep
 mod ReadyKeys
-mod Round
-mod RoundStep
 mod StateSteps
 mod TellSteps
 mod Telling

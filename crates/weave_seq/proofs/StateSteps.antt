@@ -1,5 +1,5 @@
 -- The queue has the ready events after each step.
-use Rattle.std.proofs.Common.{◌≡◌, ◌+◌, ◌≤◌, ◌<◌, ◌==◌, ℕ, zero, suc, Bool, true, cond, List, [], ◌∷◌, length, set, get_or, All, Some, sym, ◌∙◌, ap, subst, refl, arith, length-set, false, inl}
+use Rattle.std.proofs.Common.{◌≡◌, ◌+◌, ◌≤◌, ◌<◌, ℕ, zero, suc, Bool, true, cond, List, [], ◌∷◌, length, set, get_or, All, Some, sym, ◌∙◌, ap, subst, refl, arith, length-set, false, inl}
 use Rattle.std.specs.Prelude.{count_by, slice_get, slice_index}
 use Rattle.std.specs.List.Sorted.{IsPermutation}
 use Rattle.std.proofs.lemmas.Bool.{ne_eqb}
@@ -9,7 +9,7 @@ use Rattle.zs_num.specs.declared.time.Key.{Key}
 use Rattle.event_graph.specs.declared.fired.Fired.{Fired}
 use Rattle.event_graph.proofs.Lists.{In, get_read, get_within}
 use Rattle.weave_seq.specs.Order.{Keys}
-use Rattle.weave_seq.specs.SoFar.{AreSameKeys, HasReady, IsFirst, NoneIsReady, SoFar, ready_keys}
+use Rattle.weave_seq.specs.SoFar.{HasReady, IsFirst, NoneIsReady, ready_keys}
 use Rattle.weave_seq.proofs.ReadyKeys.{IsOf, all_in, changed, count-cons, count_every, counted, few_keys, in_same, key_at, of_ready, one_if, ready_in, same_from_permutation}
 
 set_itself : {X : Type 0} (xs : List X) (i : ℕ) (x : X) → slice_get xs i ≡ Some x → set xs i x ≡ xs

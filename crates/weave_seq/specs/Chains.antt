@@ -1,4 +1,5 @@
--- The children of each event, as a chain from the last of them to the one before, and so on. 0 ends a chain: event 0 has no parents.
+-- The children of each event, as a chain from the last of them to the one before, and so on. 0 ends a chain: event 0
+-- has no parents.
 use Rattle.std.specs.Prelude.{◌≡◌, ◌<◌, ◌≤◌, ℕ, List, map, length, slice_index, slice_index_or, slice_set, Option, Some, None}
 use Rattle.event_graph.specs.declared.event.Event.{Event}
 use Rattle.event_graph.specs.declared.event.Parent.{Parent}

@@ -1,5 +1,5 @@
 -- What the finishes so far tell of the events that haven't fired, also while only a part of the children has been told.
-use Rattle.std.specs.Prelude.{◌≡◌, ◌+◌, ◌==◌, ℕ, Bool, true, false, cond, max, List, map, slice_index_or, Option, Some, None}
+use Rattle.std.specs.Prelude.{◌+◌, ◌==◌, ℕ, Bool, cond, max, List, map, slice_index_or, Option, Some, None}
 use Rattle.event_graph.specs.declared.event.Event.{Event}
 use Rattle.event_graph.specs.declared.event.Parent.{Parent}
 use Rattle.event_graph.specs.declared.fired.Fired.{Fired}

@@ -1,5 +1,5 @@
 -- What is kept of the events while they fire, in order of number.
-use Rattle.std.specs.Prelude.{◌≡◌, ◌≤◌, ◌==◌, ℕ, zero, suc, Bool, cond, false, List, [], ◌∷◌, length, count_by, slice_get, Some}
+use Rattle.std.specs.Prelude.{◌≡◌, ◌≤◌, ◌==◌, ℕ, suc, Bool, cond, false, List, [], ◌∷◌, length, count_by, slice_get, Some}
 use Rattle.zs_num.specs.KeyOrder.{is_key_before}
 use Rattle.zs_num.specs.declared.time.Key.{Key}
 use Rattle.event_graph.specs.declared.fired.Fired.{Fired}

@@ -1,4 +1,4 @@
-// What is done before an event fires. It has no meaning: no answer depends on it.
+//! What is done before an event fires. It has no meaning: no answer depends on it.
 use zs_host::{Gate, Point};
 
 /// Is called before each event that fires.

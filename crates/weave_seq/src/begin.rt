@@ -1,4 +1,4 @@
-// What the weave begins with.
+//! What the weave begins with.
 ghost use Rattle.std.specs.Prelude.{◌≡◌, ◌+◌, ℕ, [], length, IfOk};
 ghost use Rattle.event_graph.specs.Numbered.{IsNumbered};
 ghost use Rattle.event_graph.specs.OneListWeave.{after_parent, finish_in, start_of};
@@ -6,7 +6,7 @@ ghost use Rattle.weave_seq.specs.Chains.{AreChains, parents_in};
 ghost use Rattle.weave_seq.specs.Known.{known_to_all, unfired_parent};
 
 use crate::children::{Children, ParentSlot};
-use crate::ready::Ready;
+use crate::ready::ReadyHeap;
 use crate::state::State;
 use event_graph::{Event, Fired, Parent};
 use std::alloc::Global;
@@ -60,7 +60,7 @@ pub(crate) fn begin(alloc: Global, events: &[Event]) -> Result<Beginning, NoMemo
     let mut second = Children::none(alloc, ParentSlot::Second, count)?;
     let mut times = Vec::with_capacity(alloc, count)?;
     let mut waits = Vec::with_capacity(alloc, count)?;
-    let mut ready = Ready::with_room(alloc, count)?;
+    let mut ready = ReadyHeap::with_room(alloc, count)?;
     for event in events {
         first.add(event)?;
         second.add(event)?;

@@ -1,4 +1,4 @@
-// The children of each event.
+//! The children of each event.
 ghost use Rattle.std.specs.Prelude.{◌≡◌, ◌<◌, ◌++◌, ◌∷◌, [], length, replicate, IfOk, IfSome, OnOk};
 ghost use Rattle.weave_seq.specs.Chains.{last_child, parent_in, with_last_child};
 
@@ -13,8 +13,8 @@ pub(crate) enum ParentSlot {
     Second,
 }
 
-/// For each event those that have it as their parent in this slot: the last of them, and for each of
-/// them the one before. 0 is none, since event 0 has no parents.
+/// For each event those that have it as their parent in this slot: the last of them, and for each
+/// of them the one before. 0 is none, since event 0 has no parents.
 #[derive(Drop)]
 pub(crate) struct Children {
     pub(crate) slot: ParentSlot,

@@ -1,4 +1,4 @@
-// The ready events, the least (start, number) first.
+//! The ready events, the least (start, number) first.
 ghost use Rattle.std.specs.Prelude.{◌≡◌, ◌<◌, ◌≤◌, ◌∷◌, [], All, IfNone, IfOk, IfSome, IsPermutation, false, length};
 ghost use Rattle.zs_num.specs.KeyOrder.{is_key_before};
 
@@ -10,11 +10,11 @@ use zs_num::{Key, NoMemory};
 
 /// The keys of the events that are ready, and the room that was taken for them.
 #[derive(Drop)]
-pub(crate) struct Ready {
+pub(crate) struct ReadyHeap {
     heap: BinaryHeap<Reverse<Key>>,
 }
 
-impl Model for Ready {
+impl Model for ReadyHeap {
     ghost use Rattle.std.specs.Prelude.{map};
     ghost use Rattle.std.specs.Ordering.{nat_cmp, ordering_then};
     ghost use Rattle.std.specs.BinaryHeap.{IsHeap, heap_capacity, heap_items};
@@ -27,14 +27,14 @@ impl Model for Ready {
     ghost invariant = { λ r. IsHeap (λ a b. ordering_then (nat_cmp b.0.start a.0.start) (nat_cmp b.0.number a.0.number)) (heap_items r.heap) };
 }
 
-impl Ready {
+impl ReadyHeap {
     /// No event is ready, and there is room for so many.
     pub(crate) fn with_room(alloc: Global, room: usize) -> Result<Self, NoMemory>
         ensures empty { IfOk result (λ r. r.list ≡ []) }
         ensures room { IfOk result (λ r. room ≤ r.room) }
     {
         let heap = BinaryHeap::with_capacity(alloc, room)?;
-        Ok(Ready { heap })
+        Ok(ReadyHeap { heap })
     }
 
     /// One event more is ready. No memory is taken.

@@ -1,9 +1,9 @@
-// What is known of the events while they fire.
+//! What is known of the events while they fire.
 ghost use Rattle.std.specs.Prelude.{◌≡◌, ◌-◌, ◌<◌, IfNone, IfSome, length, max, slice_index, slice_index_or, slice_set};
 ghost use Rattle.event_graph.specs.declared.fired.Fired.{Fired};
 ghost use Rattle.weave_seq.specs.SoFar.{IsFirst, NoneIsReady, SoFar};
 
-use crate::ready::Ready;
+use crate::ready::ReadyHeap;
 use event_graph::Fired;
 use std::marker::Model;
 use zs_num::{Cycle, Key};
@@ -19,7 +19,7 @@ pub(crate) struct State {
     /// For how many parents the event waits, or `FIRED`.
     waits: Vec<u8>,
     /// The keys of the events that wait for no parent.
-    ready: Ready,
+    ready: ReadyHeap,
 }
 
 impl Model for State {
@@ -35,7 +35,7 @@ impl Model for State {
 impl State {
     ghost use Rattle.weave_seq.specs.SoFar.{HasReady};
 
-    pub(crate) fn of(times: Vec<Fired>, waits: Vec<u8>, ready: Ready) -> Self
+    pub(crate) fn of(times: Vec<Fired>, waits: Vec<u8>, ready: ReadyHeap) -> Self
         requires { HasReady times.items waits.items ready }
         ensures { result ≡ record { times = times.items; waits = waits.items } }
     {

@@ -1,4 +1,4 @@
-// What the children of an event learn when it has fired.
+//! What the children of an event learn when it has fired.
 ghost use Rattle.std.specs.Prelude.{◌≡◌, ◌<◌, ◌≤◌, ◌+◌, ◌^◌, ℕ, Some, false, length, slice_get, true};
 ghost use Rattle.event_graph.specs.declared.event.Event.{Event};
 ghost use Rattle.event_graph.specs.declared.event.Parent.{Parent};

@@ -1,4 +1,4 @@
-// The one-list weave by a queue of the ready events.
+//! The one-list weave by a queue of the ready events.
 ghost use Rattle.std.specs.Prelude.{◌≡◌, [], length, map, IfOk, OnErr, OnOk};
 ghost use Rattle.event_graph.specs.Fits.{GraphFits};
 ghost use Rattle.event_graph.specs.Numbered.{IsNumbered};
@@ -31,11 +31,11 @@ pub fn weave_seq<C: Component>(
     ensures comps { OnOk result (comps.new ≡ comps_after C.stepped g.now comps.old) }
     ensures unchanged { OnErr result (comps.new ≡ comps.old) }
 {
-    weave_after(alloc, g, comps, &Nothing)
+    weave_one_list(alloc, g, comps, &Nothing)
 }
 
-/// The one-list weave by a worker that passes the gate before each event that it fires, as one of the
-/// event's domain. `places` has the domain of each component.
+/// The one-list weave by a worker that passes the gate before each event that it fires, as one of
+/// the event's domain. `places` has the domain of each component.
 pub fn weave_gated<C: Component, G: Gate>(
     alloc: Global,
     g: &Graph,
@@ -49,11 +49,11 @@ pub fn weave_gated<C: Component, G: Gate>(
     ensures comps { OnOk result (comps.new ≡ comps_after C.stepped g.now comps.old) }
     ensures unchanged { OnErr result (comps.new ≡ comps.old) }
 {
-    weave_after(alloc, g, comps, &Passing { places, gate })
+    weave_one_list(alloc, g, comps, &Passing { places, gate })
 }
 
 /// The one-list weave, in which something without a meaning is done before each event.
-fn weave_after<C: Component, B: Before>(
+fn weave_one_list<C: Component, B: Before>(
     alloc: Global,
     g: &Graph,
     comps: &mut Comps<C>,
@@ -71,7 +71,7 @@ fn weave_after<C: Component, B: Before>(
         second,
         mut state,
     } = begin(alloc, events)?;
-    fire_all(
+    fire_in_order(
         &mut state,
         events,
         &first,
@@ -83,7 +83,7 @@ fn weave_after<C: Component, B: Before>(
 }
 
 /// Fires the first of the ready events until each event has fired. No memory is taken.
-fn fire_all<C: Component, B: Before>(
+fn fire_in_order<C: Component, B: Before>(
     state: &mut State,
     events: &[Event],
     first: &Children,
@@ -102,7 +102,7 @@ fn fire_all<C: Component, B: Before>(
     ensures times { state.new.times ≡ map fired_of (woven C.stepped events.now comps.old) }
     ensures comps { comps.new ≡ comps_after C.stepped events.now comps.old }
 {
-    laws::each_round_fires_the_next_event::<C>();
+    laws::each_firing_is_of_the_next_event::<C>();
     laws::events_fire_by_the_rules::<C>();
     laws::starts_so_far_stay_small::<C>();
     laws::times_so_far_become_the_weaves::<C>();

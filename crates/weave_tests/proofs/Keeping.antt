@@ -10,12 +10,12 @@ use Rattle.component.specs.declared.kind.Kind.{Kind}
 use Rattle.event_graph.specs.declared.event.Event.{Event}
 use Rattle.event_graph.specs.declared.fired.Fired.{Fired}
 use Rattle.domain_map.specs.declared.crossing.Crossing.{Crossing}
-use Rattle.domain_map.specs.Domains.{Division}
+use Rattle.domain_map.specs.Domains.{Partition}
 use Rattle.weave_core.specs.DomainCalls.{CanFire, DomainValue, IsFire, IsNoFall, MayFire, MayTell, at_first, with_known}
 use Rattle.weave_core.specs.DomainMachine.{DomainState, bound_of, cycle_of, is_exact, latency_at, with_floor, word_at}
 use Rattle.weave_core.specs.Layout.{place_in}
 use Rattle.weave_tests.specs.declared.server.Server.{Server}
-use Rattle.weave_tests.specs.Keeps.{AreCalm, HasTold, Keeps, Rises, told_after}
+use Rattle.weave_tests.specs.KeptOfDomain.{AreCalm, HasTold, KeptOfDomain, Rises, told_after}
 
 -- lists with one place set
 
@@ -61,15 +61,15 @@ first_words : (xs : List Crossing) → replicate (length xs) (Bound 0) ≡ map (
 first_words [] = refl
 first_words (x ∷ xs) = ap (λ ws. Bound 0 ∷ ws) (first_words xs)
 
-pub keeps_first : (events : List Event) (p : Division) (domain : ℕ) (v : DomainValue Server) (known : List Word) (told : List (Option ℕ)) (comps : List Server) (busy : ℕ)
-    → v ≡ record { domain = domain; events = events; division = p; own = at_first p; comps = comps } → known ≡ replicate (length p.crossings) (Bound 0) → AreCalm busy comps
-    → Keeps events p domain v known told 0 busy
+pub keeps_first : (events : List Event) (p : Partition) (domain : ℕ) (v : DomainValue Server) (known : List Word) (told : List (Option ℕ)) (comps : List Server) (busy : ℕ)
+    → v ≡ record { domain = domain; events = events; partition = p; own = at_first p; comps = comps } → known ≡ replicate (length p.crossings) (Bound 0) → AreCalm busy comps
+    → KeptOfDomain events p domain v known told 0 busy
 keeps_first events p domain v known told comps busy is words calm =
-    subst (λ (z : DomainValue Server). Keeps events p domain z known told 0 busy) (sym is)
+    subst (λ (z : DomainValue Server). KeptOfDomain events p domain z known told 0 busy) (sym is)
     (record {
       domain_is = refl;
       events_are = refl;
-      division_is = refl;
+      partition_is = refl;
       known_are = words ∙ first_words p.crossings;
       told_are = record { each = λ number x h e. absurd (false≢true (ap is_exact (sym (first_word p.crossings number)) ∙ e)) };
       floor_is = refl;
@@ -77,16 +77,16 @@ keeps_first events p domain v known told comps busy is words calm =
       calm = calm;
     })
 
-module _ (events : List Event) (p : Division) (domain : ℕ) (old : DomainValue Server) (known : List Word) (told : List (Option ℕ)) (floor busy : ℕ)
-    (keeps : Keeps events p domain old known told floor busy) where
+module _ (events : List Event) (p : Partition) (domain : ℕ) (old : DomainValue Server) (known : List Word) (told : List (Option ℕ)) (floor busy : ℕ)
+    (keeps : KeptOfDomain events p domain old known told floor busy) where
   -- another floor
-  pub keeps_floor : (new : DomainValue Server) (higher : ℕ) → new ≡ record old { own = with_floor higher old.own } → higher ≤ 2 ^ 62 → Keeps events p domain new known told higher busy
+  pub keeps_floor : (new : DomainValue Server) (higher : ℕ) → new ≡ record old { own = with_floor higher old.own } → higher ≤ 2 ^ 62 → KeptOfDomain events p domain new known told higher busy
   keeps_floor new higher is small =
-      subst (λ (z : DomainValue Server). Keeps events p domain z known told higher busy) (sym is)
+      subst (λ (z : DomainValue Server). KeptOfDomain events p domain z known told higher busy) (sym is)
       (record {
         domain_is = keeps.domain_is;
         events_are = keeps.events_are;
-        division_is = keeps.division_is;
+        partition_is = keeps.partition_is;
         known_are = keeps.known_are;
         told_are = keeps.told_are;
         floor_is = refl;
@@ -96,22 +96,22 @@ module _ (events : List Event) (p : Division) (domain : ℕ) (old : DomainValue 
 
   -- it may fire where the start is no great cycle
   pub can_fire : (greatest : Server → Kind → ℕ → ℕ) → ((c : Server) (kind : Kind) (start : ℕ) → greatest c kind start ≡ max start c.free + (c.occupancy + 100))
-      → (key : Key) → MayFire old.events old.division old.domain old.own key → key.start ≤ 2 ^ 61 → busy ≤ 2 ^ 61 → CanFire greatest old
+      → (key : Key) → MayFire old.events old.partition old.domain old.own key → key.start ≤ 2 ^ 61 → busy ≤ 2 ^ 61 → CanFire greatest old
   can_fire greatest is key may early free = record {
     key = key;
     may = may;
-    small = λ c h. let r = keeps.calm.each (place_in old.division.places old.domain may.event.component) c h in omega (arith, is c may.event.kind key.start, r.0, r.1, early, free);
+    small = λ c h. let r = keeps.calm.each (place_in old.partition.places old.domain may.event.component) c h in omega (arith, is c may.event.kind key.start, r.0, r.1, early, free);
   }
 
   pub keeps_fire : (stepped : Server → Kind → ℕ → Server × ℕ) → ((c : Server) (kind : Kind) (start : ℕ) → (stepped c kind start).0 ≡ record c { free = max start c.free + c.occupancy })
-      → (new : DomainValue Server) (result : Fired) (key : Key) → MayFire old.events old.division old.domain old.own key → IsFire stepped old new result
-      → Keeps events p domain new known told floor (max busy key.start + 4194304)
+      → (new : DomainValue Server) (result : Fired) (key : Key) → MayFire old.events old.partition old.domain old.own key → IsFire stepped old new result
+      → KeptOfDomain events p domain new known told floor (max busy key.start + 4194304)
   keeps_fire stepped is new result key may f =
-      subst (λ (z : DomainValue Server). Keeps events p domain z known told floor (max busy key.start + 4194304)) (sym f.new_is)
+      subst (λ (z : DomainValue Server). KeptOfDomain events p domain z known told floor (max busy key.start + 4194304)) (sym f.new_is)
       (record {
         domain_is = keeps.domain_is;
         events_are = keeps.events_are;
-        division_is = keeps.division_is;
+        partition_is = keeps.partition_is;
         known_are = keeps.known_are;
         told_are = keeps.told_are;
         floor_is = keeps.floor_is;
@@ -119,12 +119,12 @@ module _ (events : List Event) (p : Division) (domain : ℕ) (old : DomainValue 
         calm = record { each = calm };
       })
     where
-      calm : (i : ℕ) (s : Server) → slice_get (set old.comps (place_in old.division.places old.domain f.event.component) (stepped f.component f.event.kind f.start).0) i ≡ Some s
+      calm : (i : ℕ) (s : Server) → slice_get (set old.comps (place_in old.partition.places old.domain f.event.component) (stepped f.component f.event.kind f.start).0) i ≡ Some s
           → (s.occupancy ≤ 4194304) × (s.free ≤ max busy key.start + 4194304)
       calm i s h =
-          elim (get_set_cases old.comps (place_in old.division.places old.domain f.event.component) i (stepped f.component f.event.kind f.start).0 s h) [
+          elim (get_set_cases old.comps (place_in old.partition.places old.domain f.event.component) i (stepped f.component f.event.kind f.start).0 s h) [
             | inl e ↦
-                let r = keeps.calm.each (place_in old.division.places old.domain f.event.component) f.component f.there in
+                let r = keeps.calm.each (place_in old.partition.places old.domain f.event.component) f.component f.there in
                 let same : f.start ≡ key.start = ap (λ (n : Event × ℕ). n.1) (same_Some (f.event, f.start) (may.event, key.start) (sym f.next ∙ may.next)) in
                 let after : record f.component { free = max f.start f.component.free + f.component.occupancy } ≡ s = sym (is f.component f.event.kind f.start) ∙ e in
                 let occupancy : f.component.occupancy ≡ s.occupancy = ap (λ (z : Server). z.occupancy) after in
@@ -152,14 +152,14 @@ module _ (events : List Event) (p : Division) (domain : ℕ) (old : DomainValue 
         subst (λ (o : Option ℕ). IfSome o (λ finish. cycle_of word ≡ finish)) is (agrees exact)
 
     pub may_tell : (bound latency : ℕ) → x.target ≡ domain → bound ≡ max (cycle_of was) (floor + latency) → latency ≡ latency_at events x.parent → Rises bound was word → cycle_of word ≤ 2 ^ 62
-        → MayTell old.events old.division old.domain old.own number word
+        → MayTell old.events old.partition old.domain old.own number word
     may_tell bound latency target bound_is latency_is rises small =
         let word_is : was ≡ word_at old.own.known number = was_is ∙ ap (λ ws. word_at ws number) keeps.known_are in
         let bound_at : bound ≡ bound_of events p old.own number x =
         omega (arith, bound_is, latency_is, keeps.floor_is, ap cycle_of word_is)
         in
-        subst (λ (es : List Event). MayTell es old.division old.domain old.own number word) (sym keeps.events_are)
-        (subst (λ (q : Division). MayTell events q old.domain old.own number word) (sym keeps.division_is)
+        subst (λ (es : List Event). MayTell es old.partition old.domain old.own number word) (sym keeps.events_are)
+        (subst (λ (q : Partition). MayTell events q old.domain old.own number word) (sym keeps.partition_is)
         (subst (λ (d : ℕ). MayTell events p d old.own number word) (sym keeps.domain_is)
         (record {
           crossing = x;
@@ -171,13 +171,13 @@ module _ (events : List Event) (p : Division) (domain : ℕ) (old : DomainValue 
         })))
 
     pub keeps_word : (new : DomainValue Server) → number < length known → new ≡ record old { own = with_known old.own number word }
-        → Keeps events p domain new (set known number word) (set told x.parent (told_after known_of word)) floor busy
+        → KeptOfDomain events p domain new (set known number word) (set told x.parent (told_after known_of word)) floor busy
     keeps_word new within is =
-        subst (λ (z : DomainValue Server). Keeps events p domain z (set known number word) (set told x.parent (told_after known_of word)) floor busy) (sym is)
+        subst (λ (z : DomainValue Server). KeptOfDomain events p domain z (set known number word) (set told x.parent (told_after known_of word)) floor busy) (sym is)
         (record {
           domain_is = keeps.domain_is;
           events_are = keeps.events_are;
-          division_is = keeps.division_is;
+          partition_is = keeps.partition_is;
           known_are = ap (λ ws. set ws number word) keeps.known_are;
           told_are = record { each = each };
           floor_is = keeps.floor_is;

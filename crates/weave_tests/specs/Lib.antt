@@ -1,1 +1,1 @@
-pub mod Keeps
+pub mod KeptOfDomain

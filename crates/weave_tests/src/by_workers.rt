@@ -1,5 +1,5 @@
-// The weave by workers, of graphs that are seen to fit.
-ghost use Rattle.domain_map.specs.Domains.{Divides};
+//! The weave by workers, of graphs that are seen to fit.
+ghost use Rattle.domain_map.specs.Domains.{IsPartition};
 
 use crate::fitting::{LIMIT, are_fast, is_graph};
 use crate::server::Server;
@@ -12,8 +12,8 @@ use weave_run::{Woven, weave};
 use zs_host::Gate;
 use zs_num::NoMemory;
 
-/// The weave of a graph that was divided, by so many workers, or `None` where its conditions are not
-/// seen to hold.
+/// The weave of a graph that was partitioned, by so many workers, or `None` where its conditions
+/// are not seen to hold.
 pub(crate) fn woven_by_workers<R: Threads + Sync, G: Gate>(
     rt: &R,
     alloc: Global,
@@ -23,7 +23,7 @@ pub(crate) fn woven_by_workers<R: Threads + Sync, G: Gate>(
     workers: u16,
     gate: &G,
 ) -> Result<Option<Woven<Server>>, NoMemory>
-    requires { Divides graph.now parts.now }
+    requires { IsPartition graph.now parts.now }
 {
     let events = graph.events();
     if workers == 0

@@ -1,4 +1,4 @@
-// The delays of cores, from the weave of a graph on one list.
+//! The delays of cores, from the weave of a graph on one list.
 ghost use Rattle.std.specs.Prelude.{◌<◌};
 
 use crate::fitting::{LIMIT, are_fast, is_graph};
@@ -12,8 +12,8 @@ use std::test::Fail;
 use weave_seq::weave_seq;
 use zs_num::{Cycle, NoMemory};
 
-/// The weave of events on these servers and the delays of so many cores, or `None` where the conditions
-/// of either are not seen to hold.
+/// The weave of events on these servers and the delays of so many cores, or `None` where the
+/// conditions of either are not seen to hold.
 fn delayed(
     alloc: Global,
     events: Vec<Event>,
@@ -30,7 +30,7 @@ fn delayed(
     }
     laws::steps_stay_small::<Server>();
     laws::events_take_their_time::<Server>();
-    feedback::laws::timely_events_are_woven();
+    feedback::laws::timely_events_have_finished();
     let graph = Graph::of(events);
     let mut comps = Comps::of(servers);
     let fired = weave_seq(alloc, &graph, &mut comps)?;
@@ -38,8 +38,8 @@ fn delayed(
     Ok(Some((fired, found)))
 }
 
-/// Adds the events of a miss that a core makes at cycle 1, numbered from `first` on: a bank looks up the
-/// line, the controller reads it, and the bank takes it in.
+/// Adds the events of a miss that a core makes at cycle 1, numbered from `first` on: a bank looks
+/// up the line, the controller reads it, and the bank takes it in.
 fn miss(events: &mut Vec<Event>, core: u16, first: u32) -> Result<(), NoMemory>
     requires { first < 1000 }
 {
@@ -57,7 +57,7 @@ fn miss(events: &mut Vec<Event>, core: u16, first: u32) -> Result<(), NoMemory>
     Ok(())
 }
 
-// The second core waits for the bank until 6, and then for the controller until 32.
+/// The second core waits for the bank until 6, and then for the controller until 32.
 #[test]
 fn the_delays_of_cores_follow_from_the_weave(rt: HostRuntime) -> Result<(), Fail> {
     let alloc = rt.alloc();

@@ -1,9 +1,9 @@
-// A domain with what it was told, so that what it may be told next is seen when the program runs.
+//! A domain with what it was told, so that what it may be told next is seen when the program runs.
 ghost use Rattle.std.specs.Prelude.{◌≡◌, ◌≤◌, ◌+◌, ◌^◌, true, max, IfOk, IfSome, IsTrue, length, replicate};
-ghost use Rattle.domain_map.specs.Domains.{Divides};
+ghost use Rattle.domain_map.specs.Domains.{IsPartition};
 ghost use Rattle.weave_core.specs.DomainCalls.{comps_in};
 ghost use Rattle.weave_core.specs.DomainMachine.{cycle_of, is_exact, latency_at};
-ghost use Rattle.weave_tests.specs.Keeps.{Keeps, Rises, told_after as known_after};
+ghost use Rattle.weave_tests.specs.KeptOfDomain.{KeptOfDomain, Rises, told_after as known_after};
 
 use crate::fitting::{LIMIT, are_fast, is_graph};
 use crate::server::Server;
@@ -31,7 +31,7 @@ pub(crate) struct Driven<'a> {
     floor: Cycle,
     /// A cycle by which each of its servers is free.
     busy: Cycle,
-    ghost keeps: { Keeps graph.now parts.now number domain known.items told.items floor busy },
+    ghost keeps: { KeptOfDomain graph.now parts.now number domain known.items told.items floor busy },
 }
 
 /// Those of the servers that are in a domain.
@@ -116,8 +116,8 @@ fn nothing_known(alloc: Global, count: usize) -> Result<Vec<Word>, NoMemory>
 }
 
 impl<'a> Driven<'a> {
-    /// The domain of this number before its first event fires, or `None` where its conditions are not
-    /// seen to hold.
+    /// The domain of this number before its first event fires, or `None` where its conditions are
+    /// not seen to hold.
     pub(crate) fn prepare(
         alloc: Global,
         graph: &'a Graph,
@@ -125,7 +125,7 @@ impl<'a> Driven<'a> {
         number: u16,
         servers: &[Server],
     ) -> Result<Option<Self>, NoMemory>
-        requires divides { Divides graph.now parts.now }
+        requires partitions { IsPartition graph.now parts.now }
     {
         let events = graph.events();
         let crossings = parts.crossings();

@@ -1,4 +1,4 @@
-// Whether a graph may be woven, seen when the program runs.
+//! Whether a graph may be woven, seen when the program runs.
 ghost use Rattle.std.specs.Prelude.{◌≡◌, ◌<◌, ◌≤◌, ◌^◌, IfSome, IsTrue, Some, nat_le};
 ghost use Rattle.event_graph.specs.declared.event.Parent.{Parent};
 ghost use Rattle.event_graph.specs.Fits.{EventFits, GraphFits};

@@ -1,6 +1,6 @@
-// Graphs to weave, and machines that divide them.
+//! Graphs to weave, and machines that partition them.
 ghost use Rattle.std.specs.Prelude.{◌≡◌, ◌+◌, ◌<◌, ◌≤◌, All, IfOk, IfSome, IsTrue, length};
-ghost use Rattle.domain_map.specs.Domains.{Divides};
+ghost use Rattle.domain_map.specs.Domains.{IsPartition};
 ghost use Rattle.machine_desc.specs.Machine.{IsMachine};
 
 use crate::fitting::is_graph;
@@ -8,7 +8,7 @@ use crate::server::Server;
 use component::Kind;
 use domain_map::{Parts, split};
 use event_graph::{Event, Graph, Parent};
-use machine_desc::{Controllers, Domains, L1, L2, Machine, Memory, Places};
+use machine_desc::{Controllers, Domains, L1, L2, Machine, Memory, Places, component_count};
 use std::alloc::Global;
 use zs_num::{Cycle, NoMemory};
 
@@ -108,20 +108,20 @@ pub(crate) fn event(
     }
 }
 
-/// A graph of these events, divided by a machine whose banks are in these domains; or `None` where the
-/// events make no graph on these servers.
-pub(crate) fn divided(
+/// A graph of these events, partitioned by a machine whose banks are in these domains; or `None`
+/// where the events make no graph on these servers.
+pub(crate) fn partitioned(
     alloc: Global,
     events: Vec<Event>,
     servers: &[Server],
     layout: Layout,
 ) -> Result<Option<(Graph, Parts)>, NoMemory>
-    ensures { IfOk result (λ found. IfSome found (λ it. Divides it.0 it.1)) }
+    ensures { IfOk result (λ found. IfSome found (λ it. IsPartition it.0 it.1)) }
 {
     let Some(m) = machine(alloc, layout)? else {
         return Ok(None);
     };
-    let components = m.l2.banks + m.controllers.count;
+    let components = component_count(&m);
     if events.len() >= 1 << 31
         || !is_graph(&events, servers)
         || !events.iter().all(|event| event.component < components)
@@ -160,8 +160,8 @@ impl Random {
     }
 }
 
-/// Events of every kind on so many components, each with up to two parents among the events that were
-/// recorded shortly before it.
+/// Events of every kind on so many components, each with up to two parents among the events that
+/// were recorded shortly before it.
 pub(crate) fn random_events(
     alloc: Global,
     count: u32,
@@ -212,9 +212,9 @@ pub(crate) const SIXTEEN_DOMAINS: Layout = Layout {
     controllers: &[0, 1, 2, 3, 4, 5, 6, 7, 8, 9, 10, 11, 12, 13, 14, 15],
 };
 
-/// The events of accesses that all miss: 64 cores whose accesses follow each other at once, 64 banks,
-/// and 16 controllers, which are the components from 64 on. A bank looks up the line, a controller reads
-/// it, and the bank takes it in.
+/// The events of accesses that all miss: 64 cores whose accesses follow each other at once, 64
+/// banks, and 16 controllers, which are the components from 64 on. A bank looks up the line, a
+/// controller reads it, and the bank takes it in.
 pub(crate) fn misses(alloc: Global, count: u32, seed: u64) -> Result<Vec<Event>, NoMemory> {
     let mut random = Random { state: seed };
     let mut events = Vec::with_capacity(alloc, count as usize)?;

@@ -1,17 +1,16 @@
-//! Weaves graphs on one list, by domains and by workers, and compares what they answer. `compare N` does
-//! so for a graph of N events, and `time N` prints how long each took, too. The tests weave worked graphs.
+//! Weaves graphs on one list, by domains and by workers, and compares what they answer. `compare N`
+//! does so for a graph of N events, and `time N` prints how long each took, too. The tests weave
+//! worked graphs.
 #![tactic(auto)]
 
+mod by_domains;
 mod by_workers;
 #[cfg(test)]
 mod delayed;
 mod driven;
 mod fitting;
-#[cfg(test)]
-mod gates;
 mod graphs;
 mod one_list;
-mod rounds;
 mod server;
 #[cfg(test)]
 mod tests;
@@ -19,12 +18,12 @@ mod tests;
 mod worked;
 
 ghost use Rattle.std.specs.Prelude.{IfSome};
-ghost use Rattle.domain_map.specs.Domains.{Divides};
+ghost use Rattle.domain_map.specs.Domains.{IsPartition};
 
+use crate::by_domains::woven_by_domains;
 use crate::by_workers::woven_by_workers;
-use crate::graphs::{SIXTEEN_DOMAINS, divided, idle, misses};
+use crate::graphs::{SIXTEEN_DOMAINS, idle, misses, partitioned};
 use crate::one_list::woven;
-use crate::rounds::woven_by_domains;
 use crate::server::Server;
 use domain_map::Parts;
 use event_graph::{Fired, Graph};
@@ -48,12 +47,12 @@ fn command(words: &[String]) -> Option<(bool, u32)> {
     Some((timed, words[2].parse::<u32>().ok()?))
 }
 
-/// A graph of so many events on these servers, divided; or `None` where memory runs out.
+/// A graph of so many events on these servers, partitioned; or `None` where memory runs out.
 fn graph_of(alloc: Global, count: u32, servers: &[Server]) -> Option<(Graph, Parts)>
-    ensures { IfSome result (λ it. Divides it.0 it.1) }
+    ensures { IfSome result (λ it. IsPartition it.0 it.1) }
 {
     let events = misses(alloc, count, 1).ok()?;
-    divided(alloc, events, servers, SIXTEEN_DOMAINS).ok()?
+    partitioned(alloc, events, servers, SIXTEEN_DOMAINS).ok()?
 }
 
 /// Weaves a graph of so many events both ways, and writes whether they agree.
@@ -87,14 +86,14 @@ fn run<T: Threads + Sync>(
     println!(rt; "{count} events: the same")?;
     if timed {
         let crossings = parts.crossings().len();
-        println!(rt; "{crossings} crossings, {} turns", by_domains.turns)?;
+        println!(rt; "{crossings} crossings, {} visits", by_domains.visits)?;
         println!(rt; "one list {one_list:?}, domains {domains:?}")?;
     }
     run_workers(rt, threads, timed, &graph, &parts, fired.as_slice())
 }
 
-/// Weaves a graph by workers, and writes how long each number of them took. Answers whether they all
-/// agree with the times at which the events fired on one list.
+/// Weaves a graph by workers, and writes how long each number of them took. Answers whether they
+/// all agree with the times at which the events fired on one list.
 fn run_workers<T: Threads + Sync>(
     rt: &HostRuntime,
     threads: &T,
@@ -103,7 +102,7 @@ fn run_workers<T: Threads + Sync>(
     parts: &Parts,
     fired: &[Fired],
 ) -> io::Result<bool>
-    requires { Divides graph.now parts.now }
+    requires { IsPartition graph.now parts.now }
 {
     let alloc = rt.alloc();
     for workers in [1, 2, 4] {

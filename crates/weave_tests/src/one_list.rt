@@ -1,4 +1,4 @@
-// The weave on one list, of graphs that are seen to fit.
+//! The weave on one list, of graphs that are seen to fit.
 use crate::fitting::{LIMIT, are_fast, is_graph};
 use crate::server::Server;
 use component::Comps;

@@ -1,4 +1,4 @@
-// A component whose times are easy to follow by hand.
+//! A component whose times are easy to follow by hand.
 use component::{Component, Kind};
 use zs_num::Cycle;
 

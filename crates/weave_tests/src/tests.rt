@@ -1,10 +1,9 @@
-// Worked weaves.
+//! Worked weaves.
+use crate::by_domains::woven_by_domains;
 use crate::by_workers::woven_by_workers;
 use crate::driven::Driven;
-use crate::gates::Meeting;
-use crate::graphs::{Layout, divided, event, idle, random_events};
+use crate::graphs::{Layout, event, idle, partitioned, random_events};
 use crate::one_list::woven;
-use crate::rounds::woven_by_domains;
 use crate::server::Server;
 use component::{Comps, Kind};
 use domain_map::Parts;
@@ -14,7 +13,7 @@ use std::process::Abort;
 use std::test::Fail;
 use std::thread::Threads;
 use weave_core::Next;
-use zs_host::OpenGate;
+use zs_host::{MeetingGate, OpenGate, Passes};
 use zs_num::{Cycle, Key, NoMemory, Word};
 
 /// Bank 0 in domain 0 and bank 1 in domain 1, each of which an event keeps busy for 4 cycles.
@@ -71,7 +70,9 @@ fn frees(alloc: Global, servers: Comps<Server>) -> Result<Vec<Cycle>, NoMemory> 
 fn a_domain_without_events_is_done(rt: HostRuntime) -> Result<(), Fail> {
     let alloc = rt.alloc();
     let servers = idle(alloc, 3, 4)?;
-    let (graph, parts) = divided(alloc, Vec::new(alloc), &servers, TWO_BANKS)?.ok_or("no graph")?;
+    let (graph, parts) = partitioned(alloc, Vec::new(alloc), &servers, TWO_BANKS)?.ok_or(
+        "no graph",
+    )?;
     let domain = Driven::prepare(alloc, &graph, &parts, 1, &servers)?.ok_or("no domain")?;
     assert_eq!(rt; domain.next(), Next::Done);
     assert_eq!(rt; domain.earliest(), None);
@@ -89,7 +90,7 @@ fn the_domains_of_a_ring_wait_for_each_other(rt: HostRuntime) -> Result<(), Fail
         lookup(2, 1, 0, Some(0)),
         lookup(3, 0, 0, Some(1)),
     ]?;
-    let (graph, parts) = divided(alloc, events, &servers, TWO_BANKS)?.ok_or("no graph")?;
+    let (graph, parts) = partitioned(alloc, events, &servers, TWO_BANKS)?.ok_or("no graph")?;
     let mut first = Driven::prepare(alloc, &graph, &parts, 0, &servers)?.ok_or("no domain")?;
     let mut second = Driven::prepare(alloc, &graph, &parts, 1, &servers)?.ok_or("no domain")?;
     assert_eq!(rt; first.next(), fire(0, 0));
@@ -126,7 +127,7 @@ fn at_a_tie_a_domain_waits(rt: HostRuntime) -> Result<(), Fail> {
         lookup(1, 1, 0, Some(0)),
         lookup(2, 1, 10, None),
     ]?;
-    let (graph, parts) = divided(alloc, events, &servers, TWO_BANKS)?.ok_or("no graph")?;
+    let (graph, parts) = partitioned(alloc, events, &servers, TWO_BANKS)?.ok_or("no graph")?;
     let mut domain = Driven::prepare(alloc, &graph, &parts, 1, &servers)?.ok_or("no domain")?;
     assert_eq!(rt;
         domain.earliest(),
@@ -152,7 +153,7 @@ fn a_bound_lets_earlier_events_fire(rt: HostRuntime) -> Result<(), Fail> {
         lookup(1, 1, 0, Some(0)),
         lookup(2, 1, 35, None),
     ]?;
-    let (graph, parts) = divided(alloc, events, &servers, TWO_BANKS)?.ok_or("no graph")?;
+    let (graph, parts) = partitioned(alloc, events, &servers, TWO_BANKS)?.ok_or("no graph")?;
     let mut domain = Driven::prepare(alloc, &graph, &parts, 1, &servers)?.ok_or("no domain")?;
     assert_eq!(rt; domain.next(), blocked(0, 10));
     assert!(rt; domain.tell(0, Word::Bound(40)));
@@ -174,7 +175,7 @@ fn a_floor_lets_earlier_events_fire(rt: HostRuntime) -> Result<(), Fail> {
         lookup(1, 1, 0, Some(0)),
         lookup(2, 1, 35, None),
     ]?;
-    let (graph, parts) = divided(alloc, events, &servers, TWO_BANKS)?.ok_or("no graph")?;
+    let (graph, parts) = partitioned(alloc, events, &servers, TWO_BANKS)?.ok_or("no graph")?;
     let mut domain = Driven::prepare(alloc, &graph, &parts, 1, &servers)?.ok_or("no domain")?;
     assert!(rt; domain.set_floor(25));
     assert_eq!(rt; domain.next(), blocked(0, 35));
@@ -191,10 +192,10 @@ fn is_same(
     layout: Layout,
 ) -> Result<bool, NoMemory> {
     let servers = idle(alloc, layout.components(), occupancy)?;
-    let Some((graph, parts)) = divided(alloc, events, &servers, layout)? else {
+    let Some((graph, parts)) = partitioned(alloc, events, &servers, layout)? else {
         return Ok(false);
     };
-    let Some(divided) = woven_by_domains(alloc, &graph, &parts, &servers)? else {
+    let Some(partitioned) = woven_by_domains(alloc, &graph, &parts, &servers)? else {
         return Ok(false);
     };
     let again = Vec::from_slice(alloc, graph.events())?;
@@ -202,10 +203,10 @@ fn is_same(
         return Ok(false);
     };
     let mut busy: Vec<Cycle> = frees(alloc, comps)?;
-    let mut also: Vec<Cycle> = divided.frees;
+    let mut also: Vec<Cycle> = partitioned.frees;
     busy.sort()?;
     also.sort()?;
-    Ok(divided.fired.as_slice() == fired.as_slice() && busy == also)
+    Ok(partitioned.fired.as_slice() == fired.as_slice() && busy == also)
 }
 
 #[test]
@@ -240,7 +241,7 @@ fn is_same_by_workers<R: Threads + Sync>(
     let servers = idle(alloc, layout.components(), 4)?;
     let again = Vec::from_slice(alloc, events.as_slice())?;
     let list = Vec::from_slice(alloc, servers.as_slice())?;
-    let Some((graph, parts)) = divided(alloc, events, &servers, layout)? else {
+    let Some((graph, parts)) = partitioned(alloc, events, &servers, layout)? else {
         return Ok(false);
     };
     let count = graph.events().len();
@@ -281,8 +282,8 @@ fn every_number_of_workers_weaves_as_one_list_does(rt: HostRuntime) -> Result<()
     Ok(())
 }
 
-// Domains 0 and 1 both come to their first fire before either makes it, so two workers run them beside
-// each other.
+/// Domains 0 and 1 both come to their first fire before either makes it, so two workers run them
+/// beside each other.
 #[test]
 fn two_workers_fire_in_two_domains_beside_each_other(rt: HostRuntime) -> Result<(), Fail> {
     let alloc = rt.alloc();
@@ -293,10 +294,15 @@ fn two_workers_fire_in_two_domains_beside_each_other(rt: HostRuntime) -> Result<
         lookup(2, 1, 0, Some(0)),
         lookup(3, 0, 0, Some(1)),
     ]?;
-    let (graph, parts) = divided(alloc, events, &servers, TWO_BANKS)?.ok_or("no graph")?;
-    let gate = Meeting::new();
+    let (graph, parts) = partitioned(alloc, events, &servers, TWO_BANKS)?.ok_or("no graph")?;
+    let gate = MeetingGate::new();
     let woven = woven_by_workers(&rt, alloc, &graph, &parts, servers, 2, &gate)?.ok_or("no weave")?;
-    assert_eq!(rt; gate.counts(), (2, 2, 2));
+    let met = Passes {
+        first: 2,
+        second: 2,
+        met: 2,
+    };
+    assert_eq!(rt; gate.domains(), met);
     let finishes: Vec<Cycle> = woven
         .fired
         .as_slice()

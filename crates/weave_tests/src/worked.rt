@@ -1,6 +1,6 @@
-// Worked weaves, each by several numbers of workers.
+//! Worked weaves, each by several numbers of workers.
 use crate::by_workers::woven_by_workers;
-use crate::graphs::{Layout, divided, event, idle};
+use crate::graphs::{Layout, event, idle, partitioned};
 use crate::server::Server;
 use component::Kind;
 use event_graph::Event;
@@ -22,7 +22,7 @@ fn woven<R: Threads + Sync>(
     workers: u16,
 ) -> Result<(Vec<Cycle>, Vec<Cycle>), Fail> {
     let list = Vec::from_slice(alloc, events)?;
-    let (graph, parts) = divided(alloc, list, servers, layout)?.ok_or("no graph")?;
+    let (graph, parts) = partitioned(alloc, list, servers, layout)?.ok_or("no graph")?;
     let own = Vec::from_slice(alloc, servers)?;
     let woven = woven_by_workers(rt, alloc, &graph, &parts, own, workers, &OpenGate)?;
     let woven = woven.ok_or("no weave")?;
@@ -75,7 +75,7 @@ fn two_misses_are_woven_by_any_number_of_workers(rt: HostRuntime) -> Result<(), 
     Ok(())
 }
 
-// Event 0 is the parent of one event in each of 63 other domains.
+/// Event 0 is the parent of one event in each of 63 other domains.
 #[test]
 fn one_event_lets_sixty_three_domains_start(rt: HostRuntime) -> Result<(), Fail> {
     let alloc = rt.alloc();
@@ -124,7 +124,7 @@ fn events_of_one_bank_follow_each_other(rt: HostRuntime) -> Result<(), Fail> {
     Ok(())
 }
 
-// Event i is on bank i modulo 2 and waits for event i - 1.
+/// Event i is on bank i modulo 2 and waits for event i - 1.
 #[test]
 fn a_chain_goes_to_and_fro_between_two_domains(rt: HostRuntime) -> Result<(), Fail> {
     let alloc = rt.alloc();

@@ -1,4 +1,4 @@
-// What an object that reads and writes files keeps of its latest fault.
+//! What an object that reads and writes files keeps of its latest fault.
 use zs_num::Bytes;
 
 /// What a call does with a file.

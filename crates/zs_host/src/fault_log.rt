@@ -1,4 +1,4 @@
-// The faults of an object that reads and writes files: how many there were, and the latest.
+//! The faults of an object that reads and writes files: how many there were, and the latest.
 ghost use Rattle.std.specs.Prelude.{◌≡◌, ◌↔◌, ℕ};
 ghost use Rattle.std.specs.IoError.{error_kind};
 ghost use Rattle.zs_host.specs.Counting.{one_more};
@@ -37,7 +37,8 @@ impl FaultLog {
         self.latest = Some(Fault { operation, name });
     }
 
-    /// The answer to a call of the system that did not succeed. It is a fault, unless memory ran out.
+    /// The answer to a call of the system that did not succeed. It is a fault, unless memory ran
+    /// out.
     pub(crate) fn answer(&mut self, error: io::Error, operation: Operation, name: Bytes) -> FileFail
         ensures memory { (result ≡ FileFail.NoMemory) ↔ (error_kind error ≡ ErrorKind.OutOfMemory) }
         ensures faults { FileFaults {T = ℕ} (Err result) self.old.count self.new.count self.old.latest self.new.latest (record { operation = operation; name = name }) }

@@ -1,4 +1,4 @@
-// Files by name, as a run sees them: which bytes a name holds, and which calls failed.
+//! Files by name, as a run sees them: which bytes a name holds, and which calls failed.
 ghost use Rattle.std.specs.Prelude.{◌≡◌, ◌≢◌, ◌≤◌, ℕ, Bool, List, Option, Some, Ok, length, take, IsTrue, IfOk, OnOk, OnErr};
 ghost use Rattle.std.specs.Option.{option_map};
 ghost use Rattle.zs_host.specs.declared.fault.Fault.{Fault};
@@ -19,7 +19,8 @@ pub enum FileFail {
 
 /// Files by name.
 pub trait Files {
-    /// Whether the object tells which bytes its names hold. Where it does not, `contents` says nothing.
+    /// Whether the object tells which bytes its names hold. Where it does not, `contents` says
+    /// nothing.
     ghost tells: { Bool };
 
     /// The bytes that a name holds, or None where there is no such name.
@@ -31,16 +32,16 @@ pub trait Files {
     /// The latest call that failed, or None before the first.
     ghost latest: { Self → Option Fault };
 
-    /// The first `most` bytes of a name, or all where there are fewer. A name that is not there is a
-    /// fault. Nothing changes but the count of faults and the latest fault.
+    /// The first `most` bytes of a name, or all where there are fewer. A name that is not there is
+    /// a fault. Nothing changes but the count of faults and the latest fault.
     fn read(&mut self, alloc: Global, name: &str, most: usize) -> Result<Bytes, FileFail>
         ensures bound { IfOk result (λ bytes. length bytes ≤ most) }
         ensures bytes { IfOk result (λ bytes. IsTrue tells → option_map (take most) (contents self.old name.now) ≡ Some bytes) }
         ensures names { IsTrue tells → (n : List ℕ) → contents self.new n ≡ contents self.old n }
         ensures faults { FileFaults result (faults self.old) (faults self.new) (latest self.old) (latest self.new) (record { operation = Read; name = name.now }) };
 
-    /// Makes a name hold these bytes. After an answer that is not Ok the name holds what it held, or a
-    /// prefix of the bytes.
+    /// Makes a name hold these bytes. After an answer that is not Ok the name holds what it held,
+    /// or a prefix of the bytes.
     fn write(&mut self, alloc: Global, name: &str, bytes: &[u8]) -> Result<(), FileFail>
         ensures written { OnOk result (IsTrue tells → contents self.new name.now ≡ Some bytes.now) }
         ensures cut { OnErr result (IsTrue tells → HoldsOrCut (contents self.old name.now) bytes.now (contents self.new name.now)) }

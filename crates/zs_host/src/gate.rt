@@ -1,4 +1,4 @@
-// Where workers can be held up from outside, between two atomic steps.
+//! Where workers can be held up from outside, between two atomic steps.
 
 /// What a worker is about to do.
 #[derive(Clone, Copy, Debug, PartialEq, Eq)]
@@ -9,8 +9,8 @@ pub enum Point {
     Fire { domain: u16 },
 }
 
-/// A gate has no meaning: no answer of a run depends on it. Each worker passes it before each access
-/// and before each fire, and may be held up there.
+/// A gate has no meaning: no answer of a run depends on it. Each worker passes it before each
+/// access and before each fire, and may be held up there.
 pub trait Gate: Sync {
     /// Returns when `worker` may go on to `point`.
     fn pass(&self, worker: u16, point: Point);

@@ -1,4 +1,4 @@
-// Files in memory, some of whose calls fail: for tests.
+//! Files in memory, some of whose calls fail: for tests.
 ghost use Rattle.std.specs.Prelude.{◌≡◌, ◌≢◌, ◌≤◌, ◌⊎◌, ℕ, List, true, length, take, IsTrue, IfOk, OnOk, OnErr, IsErrOf};
 ghost use Rattle.std.specs.Option.{option_map, option_copied};
 ghost use Rattle.zs_host.specs.declared.fault.Operation.TheVariants.{Read, Write};
@@ -13,8 +13,8 @@ use std::alloc::Global;
 use std::collections::BTreeMap;
 use zs_num::{Bytes, NoMemory};
 
-/// Files in memory. Reads and writes are counted together from 0, but for those that find no memory,
-/// and those whose number is one of `fail` are Failed and leave what the names hold.
+/// Files in memory. Reads and writes are counted together from 0, but for those that find no
+/// memory, and those whose number is one of `fail` are Failed and leave what the names hold.
 #[derive(Drop)]
 pub struct MemFiles {
     held: BTreeMap<String, Bytes>,
@@ -81,14 +81,14 @@ impl MemFiles {
         self.faults.latest.as_ref()
     }
 
-    // Whether the next call is one that fails.
+    /// Whether the next call is one that fails.
     fn next_fails(&self) -> bool
         ensures { result ≡ next_fails self.now }
     {
         self.fail.contains(&self.calls)
     }
 
-    // Counts a call.
+    /// Counts a call.
     fn count(&mut self)
         ensures names { (n : List ℕ) → held_by self.new n ≡ held_by self.old n }
         ensures failing { failing_calls self.new ≡ failing_calls self.old }
@@ -99,7 +99,7 @@ impl MemFiles {
         self.calls = self.calls.saturating_add(1);
     }
 
-    // Counts a call that fails. The name was copied before.
+    /// Counts a call that fails. The name was copied before.
     fn fail(&mut self, operation: Operation, name: Bytes) -> FileFail
         ensures answer { result ≡ FileFail.Failed }
         ensures names { (n : List ℕ) → held_by self.new n ≡ held_by self.old n }
@@ -173,7 +173,7 @@ impl Files for MemFiles {
     }
 }
 
-// The first `most` bytes, or all where there are fewer.
+/// The first `most` bytes, or all where there are fewer.
 fn first_bytes(alloc: Global, bytes: &[u8], most: usize) -> Result<Bytes, NoMemory>
     ensures { IfOk result (λ first. first ≡ take most bytes.now) }
 {

@@ -1,4 +1,4 @@
-// A sink in memory that takes a few bytes at a time, and some of whose calls fail: for tests.
+//! A sink in memory that takes a few bytes at a time, and some of whose calls fail: for tests.
 ghost use Rattle.std.specs.Prelude.{◌≡◌, ◌≤◌, ◌<◌, ◌++◌, [], min, max, true, length, take, IsTrue, IfOk, OnErr, IsErrOf};
 ghost use Rattle.zs_host.specs.Counting.{one_more};
 ghost use Rattle.zs_host.specs.Faults.{SinkFaults};
@@ -8,8 +8,8 @@ use crate::{Sink, SinkFail};
 use std::alloc::Global;
 use zs_num::NoMemory;
 
-/// A sink in memory. Its puts are counted from 0, those of an empty piece too, and those whose number
-/// is one of `fail` fail, unless the piece is empty.
+/// A sink in memory. Its puts are counted from 0, those of an empty piece too, and those whose
+/// number is one of `fail` fail, unless the piece is empty.
 #[derive(Drop)]
 pub struct MemSink {
     taken: Vec<u8>,

@@ -1,4 +1,4 @@
-// Out of memory, as an answer of files and of sinks.
+//! Out of memory, as an answer of files and of sinks.
 ghost use Rattle.std.specs.Prelude.{◌≡◌};
 ghost use Rattle.zs_host.specs.declared.files.FileFail.TheVariants as file;
 ghost use Rattle.zs_host.specs.declared.sink.SinkFail.TheVariants as sink;

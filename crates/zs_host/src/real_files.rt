@@ -1,4 +1,4 @@
-// The files of the system.
+//! The files of the system.
 ghost use Rattle.std.specs.Prelude.{◌≡◌, ◌≤◌, ◌<◌, None, false, take, vec_len, IfOk, IfErr, OnErr, IfSome};
 ghost use Rattle.std.specs.Io.KnownBytes.{IsAtEnd, Keeps};
 ghost use Rattle.std.specs.IoError.{error_kind};
@@ -15,7 +15,7 @@ use std::io::{ErrorKind, Read, Write};
 use std::rt::Files as System;
 use zs_num::Bytes;
 
-// How many bytes are read at a time.
+/// How many bytes are read at a time.
 const CHUNK: usize = 8192;
 
 /// The files of the system, which tell no contents.
@@ -85,7 +85,7 @@ fn read_file<S: System>(system: &S, alloc: Global, name: &str, most: usize) -> i
     read_first(&mut file, alloc, most)
 }
 
-// Reads `most` bytes, or to the end where there are fewer.
+/// Reads `most` bytes, or to the end where there are fewer.
 pub(crate) fn read_first<R: Read>(reader: &mut R, alloc: Global, most: usize) -> io::Result<Vec<u8>>
     ensures bound { IfOk result (λ bytes. vec_len bytes ≤ most) }
     ensures first { IfOk result (λ bytes. IfSome (R.remaining reader.old) (λ xs. bytes.items ≡ take most xs)) }
@@ -106,8 +106,8 @@ pub(crate) fn read_first<R: Read>(reader: &mut R, alloc: Global, most: usize) ->
     Err(io::Error::from(ErrorKind::Interrupted))
 }
 
-// Reads a piece of at most `room` bytes, puts it behind the others, and answers its length. It is
-// empty only at the end. A read that was interrupted took nothing.
+/// Reads a piece of at most `room` bytes, puts it behind the others, and answers its length. It is
+/// empty only at the end. A read that was interrupted took nothing.
 fn read_piece<R: Read>(reader: &mut R, bytes: &mut Vec<u8>, room: usize) -> io::Result<usize>
     requires { 0 < room }
     ensures piece { IfOk result (λ n. ReadsBehind (R.remaining reader.old) (R.remaining reader.new) bytes.old.items bytes.new.items n room) }
@@ -122,7 +122,7 @@ fn read_piece<R: Read>(reader: &mut R, bytes: &mut Vec<u8>, room: usize) -> io::
     Ok(count)
 }
 
-// Makes the file hold these bytes alone. It is made where it is not there.
+/// Makes the file hold these bytes alone. It is made where it is not there.
 fn write_file<S: System>(system: &S, name: &str, bytes: &[u8]) -> io::Result<()> {
     let mut file = File::create(system, name)?;
     file.write_all(bytes)

@@ -1,4 +1,4 @@
-// Standard output and standard error, as sinks.
+//! Standard output and standard error, as sinks.
 ghost use Rattle.std.specs.Prelude.{◌≡◌, ◌≤◌, [], false, length, IfOk};
 ghost use Rattle.zs_host.specs.Faults.{Rose};
 ghost use Rattle.zs_host.specs.RealSink.{failed_puts};
@@ -8,8 +8,8 @@ use std::alloc::Global;
 use std::io;
 use std::io::{ErrorKind, Print, Stderr, Stdout};
 
-/// A stream of the system, which tells no bytes. A put is one write of the system, without a buffer,
-/// that is tried again where a signal interrupts it. An empty piece is not written.
+/// A stream of the system, which tells no bytes. A put is one write of the system, without a
+/// buffer, that is tried again where a signal interrupts it. An empty piece is not written.
 #[derive(Drop)]
 pub struct RealSink<P> {
     stream: P,
@@ -43,7 +43,7 @@ impl<P: Print> RealSink<P> {
         &self.stream
     }
 
-    // Counts a put that failed.
+    /// Counts a put that failed.
     fn fault(&mut self) -> SinkFail
         ensures answer { result ≡ SinkFail.Failed }
         ensures rose { Rose (failed_puts self.old) (failed_puts self.new) }
@@ -73,7 +73,7 @@ impl<P: Print> Sink for RealSink<P> {
     }
 }
 
-// Writes the first bytes of a piece, and answers how many.
+/// Writes the first bytes of a piece, and answers how many.
 fn write_some<P: Print>(stream: &P, piece: &[u8]) -> io::Result<usize>
     ensures { IfOk result (λ n. n ≤ length piece.now) }
 {

@@ -1,4 +1,4 @@
-// Where a run puts bytes: what was appended, and how often it failed.
+//! Where a run puts bytes: what was appended, and how often it failed.
 ghost use Rattle.std.specs.Prelude.{◌≡◌, ◌<◌, ◌≤◌, ◌++◌, ℕ, Bool, List, Ok, length, take, IsTrue, IfOk, OnErr};
 ghost use Rattle.zs_host.specs.Faults.{SinkFaults};
 

@@ -1,4 +1,4 @@
-// Files in memory that never fail: for tests.
+//! Files in memory that never fail: for tests.
 ghost use Rattle.std.specs.Prelude.{◌≡◌, ◌≢◌, ◌≤◌, ℕ, List, [], true, length, take, Some, None, IfOk, OnOk, OnErr, IsErrOf};
 ghost use Rattle.zs_host.specs.declared.fault.Operation.TheVariants.{Read, Write};
 ghost use Rattle.zs_host.specs.Faults.{FileFaults};
@@ -9,8 +9,8 @@ use std::alloc::Global;
 use std::collections::BTreeMap;
 use zs_num::{Bytes, NoMemory};
 
-/// Files in memory whose calls never fail. A name that was never written holds no bytes, so no name is
-/// missing.
+/// Files in memory whose calls never fail. A name that was never written holds no bytes, so no name
+/// is missing.
 #[derive(Drop)]
 pub struct SureFiles {
     held: BTreeMap<String, Bytes>,

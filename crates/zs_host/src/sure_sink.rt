@@ -1,4 +1,4 @@
-// A sink in memory that never fails: for tests.
+//! A sink in memory that never fails: for tests.
 ghost use Rattle.std.specs.Prelude.{◌≡◌, ◌<◌, ◌≤◌, ◌++◌, [], true, length, take, Ok, IfOk, OnErr, IsErrOf};
 ghost use Rattle.zs_host.specs.Faults.{SinkFaults};
 ghost use Rattle.zs_host.specs.Sure.{bytes_put};

@@ -1,4 +1,5 @@
-// The objects in memory and the adapters to the system, each on its happy path and where a call fails.
+//! The objects in memory and the adapters to the system, each on its happy path and where a call
+//! fails.
 ghost use Rattle.std.specs.Prelude.{◌≤◌, length, IfOk};
 
 use crate::real_files::read_first;
@@ -14,7 +15,7 @@ use std::process::Abort;
 use std::test::Fail;
 use std::{fs, io};
 
-// The name holds these bytes.
+/// The name holds these bytes.
 fn assert_holds(rt: &impl Abort, files: &MemFiles, name: &str, want: &str) {
     match files.get(name) {
         Some(bytes) => assert_eq!(rt; bytes, want.as_bytes(), "{name}"),
@@ -22,7 +23,7 @@ fn assert_holds(rt: &impl Abort, files: &MemFiles, name: &str, want: &str) {
     }
 }
 
-// The latest fault is of this operation and name.
+/// The latest fault is of this operation and name.
 fn assert_fault(rt: &impl Abort, latest: Option<&Fault>, operation: Operation, name: &str) {
     match latest {
         Some(fault) => {
@@ -180,8 +181,8 @@ fn standard_output_and_error_take_a_piece(rt: HostRuntime) -> Result<(), Fail> {
     Ok(())
 }
 
-// A stream that keeps what it takes. Its first write is interrupted, its second takes half, its third
-// takes none, its fourth finds no reader, its fifth no memory, and the others take all.
+/// A stream that keeps what it takes. Its first write is interrupted, its second takes half, its
+/// third takes none, its fourth finds no reader, its fifth no memory, and the others take all.
 #[derive(Drop)]
 struct Flaky {
     writes: Cell<u32>,
@@ -196,7 +197,7 @@ impl Flaky {
         }
     }
 
-    // Takes the first bytes, and answers how many.
+    /// Takes the first bytes, and answers how many.
     fn take(&self, bytes: &[u8], count: usize) -> io::Result<usize>
         ensures { IfOk result (λ n. n ≤ length bytes.now) }
     {
@@ -253,7 +254,7 @@ fn a_stream_is_tried_again_only_after_an_interruption(rt: HostRuntime) -> Result
     Ok(())
 }
 
-// The stream took these bytes, in this order, and no others.
+/// The stream took these bytes, in this order, and no others.
 fn assert_taken(rt: &impl Abort, sink: &RealSink<Flaky>, want: &[u8]) {
     match sink.stream().taken.try_borrow() {
         Ok(taken) => assert_eq!(rt; taken.as_slice(), want),
@@ -261,7 +262,7 @@ fn assert_taken(rt: &impl Abort, sink: &RealSink<Flaky>, want: &[u8]) {
     }
 }
 
-// A reader whose first call is interrupted, and which then gives two bytes a call.
+/// A reader whose first call is interrupted, and which then gives two bytes a call.
 #[derive(Drop)]
 struct Interrupted<'a> {
     calls: u32,
@@ -296,7 +297,7 @@ fn a_read_that_was_interrupted_goes_on(rt: HostRuntime) -> Result<(), Fail> {
     Ok(())
 }
 
-// Byte k is k modulo 251, so that no chunk begins as another.
+/// Byte k is k modulo 251, so that no chunk begins as another.
 #[test]
 fn a_file_of_several_chunks_is_written_and_read_again(rt: HostRuntime) -> Result<(), Fail> {
     let alloc = rt.alloc();

@@ -23,9 +23,21 @@ width_of (Amo op addr width value) = width
 abbrev pub line_bytes : ℕ
 line_bytes = 64
 
+-- the number of the line in which an address lies
+abbrev pub line_at : (addr : ℕ) → ℕ
+line_at addr = addr / line_bytes
+
 -- the number of the line in which it lies
 abbrev pub line_of : Request → ℕ
-line_of request = addr_of request / line_bytes
+line_of request = line_at (addr_of request)
+
+-- the bank of a line: lines are dealt to the banks in turn
+abbrev pub bank_of_line : (banks line : ℕ) → ℕ
+bank_of_line banks line = line % banks
+
+-- the bank that has its line
+abbrev pub bank_of : (banks : ℕ) → Request → ℕ
+bank_of banks request = bank_of_line banks (line_of request)
 
 -- an atomic access is of a word or a doubleword, and lies at a multiple of its width
 abbrev pub IsAtomic : (addr width : ℕ) → Type 0

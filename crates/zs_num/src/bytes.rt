@@ -1,4 +1,4 @@
-// A list of bytes as one value.
+//! A list of bytes as one value.
 ghost use Rattle.std.specs.Prelude.{◌≡◌, IfOk};
 
 use crate::NoMemory;

@@ -1,4 +1,4 @@
-// The accesses of an interval, as they were served.
+//! The accesses of an interval, as they were served.
 ghost use Rattle.std.specs.Prelude.{◌≡◌};
 
 use crate::{Cycle, Request, Stamp};

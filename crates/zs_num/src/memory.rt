@@ -1,4 +1,4 @@
-// The answer where memory runs out.
+//! The answer where memory runs out.
 use std::alloc::{AllocError, AllocFailed};
 use std::error::Error;
 use std::fmt;

@@ -1,4 +1,4 @@
-// What a core asks of memory.
+//! What a core asks of memory.
 ghost use Rattle.std.specs.Prelude.{◌≡◌};
 
 /// How many bytes a cache line has.

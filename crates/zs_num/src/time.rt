@@ -1,4 +1,4 @@
-// Simulated time, and the order of events.
+//! Simulated time, and the order of events.
 
 /// A point in simulated time, in cycles from the start of the run. Cycles of a run are below 2^62.
 pub type Cycle = u64;

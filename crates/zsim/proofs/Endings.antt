@@ -1,7 +1,8 @@
--- How a call ended: an input was not taken, memory ran out in the run, a schedule was not legal, or the run came to its end.
+-- How a call ended: an input was not taken, memory ran out in the run, a schedule was not legal, or the run came to its
+-- end.
 use Rattle.std.proofs.Common.{◌≡◌, ◌⊎◌, ℕ, Bool, true, false, List, [], Option, Some, None, Ok, Err, Result, option_map, refl, sym, inl, inr, ap, subst}
 use Rattle.std.specs.Prelude.{IsOk, IsSomeAnd, MatchOption, is_ok, if◌then◌else◌, length, nat_lt}
-use Rattle.access_log.specs.Schedule.{IntervalLists}
+use Rattle.access_log.specs.Schedule.{ScheduleState}
 use Rattle.machine_desc.specs.declared.errors.BadMachine.{BadMachine}
 use Rattle.machine_desc.specs.declared.machine.Machine.{Machine}
 use Rattle.machine_desc.specs.Machine.{IsMachine}
@@ -20,11 +21,11 @@ use Rattle.zsim.specs.declared.ended.Status.TheVariants as status
 use Rattle.zsim.specs.declared.ended.Which.TheVariants as which
 use Rattle.zsim.specs.CommandLine.{Command, exe_file, record_name, replay}
 use Rattle.zsim.specs.Ended.{Gives, HasEnded, IsExeOf, IsMachineText, IsRefusedAt, IsScheduleFile, IsScheduleOf, KeepsAll, KeepsExe, KeepsMachine, KeepsNothing, KeepsText, NothingFailed, Seen, no_intervals, status_at}
-use Rattle.zsim.specs.Limits.{exe_limit, machine_limit, schedule_limit}
+use Rattle.zsim.specs.InputLengths.{exe_limit, machine_limit, schedule_limit}
 use Rattle.zsim.specs.Report.{report_of}
 use Rattle.zsim.specs.Seen.{FilesSeen, FailedToWrite, FileFailed, GainedNothing, NoPutFailed, WasCut, WasWritten}
 use Rattle.zsim.specs.Setup.{Setup, image_by, machine_by, schedule_by, setup_of, with_image, with_machine, with_schedule}
-use Rattle.zsim.specs.Steps.{Finishes, IsNotTaken, IsUntouched, ReplaysAs, ReplaysFile, RunGives, RunsAs, named_file}
+use Rattle.zsim.specs.Steps.{FinishesAs, IsNotTaken, IsUntouched, ReplaysAs, ReplaysFile, RunGives, RunsAs, named_file}
 use Rattle.zsim.proofs.FilesSoFar.{failed_input}
 use Rattle.zsim.proofs.ScheduleCores.{schedule_cores}
 
@@ -54,7 +55,7 @@ exe_refuses P is_long is_bad machine exe s is =
     refused_exe P is_long is_bad (nat_lt exe_limit (length exe)) (image_of exe machine.memory.base machine.memory.size) s is
 
 refused_schedule : (P : Status → Type 0) → P (status.TooLong which.Schedule) → ((bad : BadSchedule) → P (status.BadSchedule (fault.File bad)))
-    → (long : Bool) (found : Result IntervalLists BadSchedule) (s : Status) → (if long then Err (status.TooLong which.Schedule) else with_schedule found) ≡ Err s → P s
+    → (long : Bool) (found : Result ScheduleState BadSchedule) (s : Status) → (if long then Err (status.TooLong which.Schedule) else with_schedule found) ≡ Err s → P s
 refused_schedule P is_long is_bad true found s is = let same : status.TooLong which.Schedule ≡ s = cc in subst P same is_long
 refused_schedule P is_long is_bad false (Ok schedule) s is = absurd cc
 refused_schedule P is_long is_bad false (Err bad) s is = let same : status.BadSchedule (fault.File bad) ≡ s = cc in subst P same (is_bad bad)
@@ -153,7 +154,7 @@ module _ (seen : Seen) (k : Kept) (before : IsBefore seen k) where
         } in
         subst (λ (t : Status). HasEnded seen t k) (sym is) ended
     exe_not_taken s (inr (inl (is, inr some, quiet))) sched_file schedule =
-        let keeps : KeepsExe seen k = record { machine = text; exe = rw machine_is some; sched_file = sched_file; cores = rw machine_is (ap (λ (l : IntervalLists). l.cores) schedule) } in
+        let keeps : KeepsExe seen k = record { machine = text; exe = rw machine_is some; sched_file = sched_file; cores = rw machine_is (ap (λ (l : ScheduleState). l.cores) schedule) } in
         let ended : HasEnded seen status.NoMemory k = record {
           kept = inr (inr (inr (inl keeps)));
           refusals = record { files = quiet.no_fault; out = before.out };
@@ -163,7 +164,7 @@ module _ (seen : Seen) (k : Kept) (before : IsBefore seen k) where
         } in
         subst (λ (t : Status). HasEnded seen t k) (sym is) ended
     exe_not_taken s (inr (inr (refused, some, quiet))) sched_file schedule =
-        let keeps : KeepsExe seen k = record { machine = text; exe = rw machine_is some; sched_file = sched_file; cores = rw machine_is (ap (λ (l : IntervalLists). l.cores) schedule) } in
+        let keeps : KeepsExe seen k = record { machine = text; exe = rw machine_is some; sched_file = sched_file; cores = rw machine_is (ap (λ (l : ScheduleState). l.cores) schedule) } in
         let none : NothingFailed seen = record { files = quiet.no_fault; out = before.out } in
         let setup : (t : Status) → image_by machine k.exe ≡ Err t → setup_of seen.command k ≡ Err t = λ t is. rw (machine_is, is) refl in
         exe_refuses (λ (t : Status). image_by machine k.exe ≡ Err t → HasEnded seen t k)
@@ -310,7 +311,7 @@ module _ (seen : Seen) (k : Kept) (keeps : KeepsAll seen k) (setup : Setup) (set
       complete = λ _ _. inl refl;
     }
 
-    pub finished : (s : Status) → Finishes s r.limit text (option_map (λ n. named_file n (schedule_file_of k.schedule)) (record_name seen.command.task)) seen.files seen.out → HasEnded seen s k
+    pub finished : (s : Status) → FinishesAs s r.limit text (option_map (λ n. named_file n (schedule_file_of k.schedule)) (record_name seen.command.task)) seen.files seen.out → HasEnded seen s k
     finished s (inl (is, whole, no_put, no_file, written)) =
         let record_is = recorded (WasWritten seen.files) _ (schedule_file_of k.schedule) (record_name seen.command.task) written in
         let by_limit : (limit : Bool) → r.limit ≡ limit → HasEnded seen (status_at limit) k =
@@ -393,8 +394,8 @@ pub replayed_file : (seen : Seen) (k : Kept) (machine : Machine) (image : Memory
     → IsMachineText seen.files seen.command.machine k.machine → IsExeOf seen.files machine seen.command.exe k.exe
     → seen.command.task ≡ replay name → ReplaysFile s machine image seen.command.brief name k.schedule k.sched_file seen.files seen.out → HasEnded seen s k
 replayed_file seen k machine image name s valid machine_is image_is text exe is_replay (inl (empty, not, no_put, nothing)) =
-    let before : IsBefore seen k = record { lists = ap (λ (l : IntervalLists). l.lists) empty; out = no_put; nothing = nothing } in
-    schedule_not_taken seen k before machine machine_is text image image_is exe (ap (λ (l : IntervalLists). l.cores) empty) name s is_replay not
+    let before : IsBefore seen k = record { lists = ap (λ (l : ScheduleState). l.lists) empty; out = no_put; nothing = nothing } in
+    schedule_not_taken seen k before machine machine_is text image image_is exe (ap (λ (l : ScheduleState). l.cores) empty) name s is_replay not
 replayed_file seen k machine image name s valid machine_is image_is text exe is_replay (inr (is, sched_file, replays)) =
     let setup : Setup = record { machine = machine; image = image; given = Some k.schedule } in
     let setup_is : setup_of seen.command k ≡ Ok setup = rw (machine_is, image_is, is_replay, is) refl in

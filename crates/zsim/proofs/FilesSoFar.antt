@@ -9,11 +9,11 @@ use Rattle.machine_desc.specs.declared.machine.Machine.{Machine}
 use Rattle.zsim.specs.declared.ended.Status.{Status}
 use Rattle.zsim.specs.CommandLine.{Exe, file, generated, replay}
 use Rattle.zsim.specs.Ended.{IsExeOf, IsMachineText, IsScheduleFile}
-use Rattle.zsim.specs.Limits.{exe_limit, schedule_limit}
+use Rattle.zsim.specs.InputLengths.{exe_limit, schedule_limit}
 use Rattle.zsim.specs.Seen.{FilesSeen, SinkSeen, FailedToReadInput, FailedToWrite, FileFailed, NoFileFailed, SameNames, WasCut, WasRead, WasWritten, files_seen}
 use Rattle.zsim.specs.Setup.{schedule_by}
-use Rattle.zsim.specs.Steps.{Finishes, IsNotTaken, IsQuiet, IsUntouched, NamedFile, ReplaysAs, ReplaysFile, RunsAs}
-use Rattle.access_log.specs.Schedule.{IntervalLists}
+use Rattle.zsim.specs.Steps.{FinishesAs, IsNotTaken, IsQuiet, IsUntouched, NamedFile, ReplaysAs, ReplaysFile, RunsAs}
+use Rattle.access_log.specs.Schedule.{ScheduleState}
 use Rattle.elf_load.specs.MemoryImage.{MemoryImage}
 
 -- where a call on the files failed, one did
@@ -108,7 +108,7 @@ module _ {F : Type 0} (tells : Bool) (contents : F → List ℕ → Option (List
     failed_later None none = absurd none
     failed_later (Some f) is = (failed_to_write f.name is.0, was_cut f.name f.bytes is.1)
 
-    finishes_later : (s : Status) (limit : Bool) (text : List ℕ) (target : Option NamedFile) (out : SinkSeen) → Finishes s limit text target second out → Finishes s limit text target both out
+    finishes_later : (s : Status) (limit : Bool) (text : List ℕ) (target : Option NamedFile) (out : SinkSeen) → FinishesAs s limit text target second out → FinishesAs s limit text target both out
     finishes_later s limit text target out (inl (is, whole, no_put, none, written)) = inl (is, whole, no_put, no_fault none, whole_later target written)
     finishes_later s limit text target out (inr (inl (is, part, put, then_quiet))) = inr (inl (is, part, put, still_quiet then_quiet))
     finishes_later s limit text target out (inr (inr (inl (is, part, no_put, then_quiet)))) = inr (inr (inl (is, part, no_put, still_quiet then_quiet)))
@@ -118,19 +118,19 @@ module _ {F : Type 0} (tells : Bool) (contents : F → List ℕ → Option (List
     untouched_later : (out : SinkSeen) → IsUntouched second out → IsUntouched both out
     untouched_later out untouched = record { quiet = still_quiet untouched.quiet; no_put = untouched.no_put; nothing = untouched.nothing }
 
-    pub runs_later : (s : Status) (machine : Machine) (image : MemoryImage) (brief : Bool) (name : Option (List ℕ)) (schedule : IntervalLists) (out : SinkSeen)
+    pub runs_later : (s : Status) (machine : Machine) (image : MemoryImage) (brief : Bool) (name : Option (List ℕ)) (schedule : ScheduleState) (out : SinkSeen)
         → RunsAs s machine image brief name schedule second out → RunsAs s machine image brief name schedule both out
     runs_later s machine image brief name schedule out (inl (is, untouched)) = inl (is, untouched_later out untouched)
     runs_later s machine image brief name schedule out (inr (inl (is, run, untouched))) = inr (inl (is, run, untouched_later out untouched))
     runs_later s machine image brief name schedule out (inr (inr (r, run, finishes))) = inr (inr (r, run, finishes_later s r.limit _ _ out finishes))
 
-    pub replays_later : (s : Status) (machine : Machine) (image : MemoryImage) (brief : Bool) (schedule : IntervalLists) (out : SinkSeen)
+    pub replays_later : (s : Status) (machine : Machine) (image : MemoryImage) (brief : Bool) (schedule : ScheduleState) (out : SinkSeen)
         → ReplaysAs s machine image brief schedule second out → ReplaysAs s machine image brief schedule both out
     replays_later s machine image brief schedule out (inl (is, untouched)) = inl (is, untouched_later out untouched)
     replays_later s machine image brief schedule out (inr (inl (at, is, illegal, untouched))) = inr (inl (at, is, illegal, untouched_later out untouched))
     replays_later s machine image brief schedule out (inr (inr (r, run, finishes))) = inr (inr (r, run, finishes_later s r.limit _ None out finishes))
 
-    pub replays_file_later : (s : Status) (machine : Machine) (image : MemoryImage) (brief : Bool) (name : List ℕ) (schedule : IntervalLists) (sched_file : List ℕ) (out : SinkSeen)
+    pub replays_file_later : (s : Status) (machine : Machine) (image : MemoryImage) (brief : Bool) (name : List ℕ) (schedule : ScheduleState) (sched_file : List ℕ) (out : SinkSeen)
         → ReplaysFile s machine image brief name schedule sched_file second out → ReplaysFile s machine image brief name schedule sched_file both out
     replays_file_later s machine image brief name schedule sched_file out (inl (empty, not, no_put, nothing)) =
         inl (empty, not_taken (λ seen. IsScheduleFile seen (replay name)) (schedule_by machine) (Some name) s sched_file (was_read name schedule_limit) not, no_put, nothing)

@@ -6,7 +6,7 @@ use Rattle.std.proofs.lemmas.Bool.Decides.{nat_tests}
 use Rattle.std.proofs.lemmas.List.{length-append, take_all}
 use Rattle.std.proofs.lemmas.List.Concat.{length-flat_map}
 use Rattle.std.proofs.lemmas.List.Sums.{get_or-le-sum_by, sum_by-cons}
-use Rattle.access_log.specs.Schedule.{AreTurns, IntervalLists}
+use Rattle.access_log.specs.Schedule.{AreTurns, ScheduleState}
 use Rattle.machine_desc.specs.declared.machine.Machine.{Machine}
 use Rattle.machine_desc.specs.Machine.{IsMachine}
 use Rattle.elf_load.specs.MemoryImage.{MemoryImage}
@@ -21,9 +21,9 @@ use Rattle.zsim.specs.declared.ended.ScheduleFault.TheVariants as fault
 use Rattle.zsim.specs.declared.ended.Status.{Status}
 use Rattle.zsim.specs.declared.ended.Status.TheVariants as status
 use Rattle.zsim.specs.CommandLine.{Command, Task}
-use Rattle.zsim.specs.Ended.{Gives, HasEnded, IsDecided, IsDone, IsRecorded, IsReported, IsScheduleFile, KeepsAll, Seen, status_at}
+use Rattle.zsim.specs.Ended.{Gives, HasEnded, IsDecided, IsDone, IsScheduleWritten, IsReported, IsScheduleFile, KeepsAll, Seen, status_at}
 use Rattle.zsim.specs.Laws.{IsGivenTheRecord, IsRepeated, IsReplayOf, IsReportedWhole}
-use Rattle.zsim.specs.Limits.{schedule_limit}
+use Rattle.zsim.specs.InputLengths.{schedule_limit}
 use Rattle.zsim.specs.Report.{report_of}
 use Rattle.zsim.specs.Seen.{FileFailed, Gained, PutFailed, SameNames, WasRead, WasWritten}
 use Rattle.zsim.specs.Setup.{Setup, given_by, image_by, machine_by, schedule_by, setup_of, then_checked}
@@ -48,7 +48,7 @@ parts_from command kept setup (Ok machine) is e =
     → then_checked v (λ i. then_checked (given_by machine command.task kept.sched_file) (λ given. Ok (record { machine = machine; image = i; given = given }))) ≡ Ok setup → HasParts command kept setup) [
       | Err refusal ↦ λ image_is f. cc
       | Ok image ↦ λ image_is f.
-          let by_given : (given : Result (Option IntervalLists) Status) → given_by machine command.task kept.sched_file ≡ given
+          let by_given : (given : Result (Option ScheduleState) Status) → given_by machine command.task kept.sched_file ≡ given
           → then_checked given (λ g. Ok (record { machine = machine; image = image; given = g })) ≡ Ok setup → HasParts command kept setup =
           λ p. elim p as (λ v. given_by machine command.task kept.sched_file ≡ v
           → then_checked v (λ g. Ok (record { machine = machine; image = image; given = g })) ≡ Ok setup → HasParts command kept setup) [
@@ -69,7 +69,7 @@ parts command kept setup is = parts_from command kept setup (machine_by kept.mac
 
 -- ---- the file of a schedule
 
-header_length : (s : IntervalLists) → length (header_bytes s) ≡ 16
+header_length : (s : ScheduleState) → length (header_bytes s) ≡ 16
 unfolding header_bytes
 header_length s = refl
 
@@ -81,7 +81,7 @@ lists_length [] = refl
 lists_length (turns ∷ lists) =
     omega (arith, lists_length lists, list_length turns, sum_by-cons (λ (ts : List ℕ). length (list_bytes ts)) turns lists, sum_by-cons length turns lists)
 
-file_length : (s : IntervalLists) → length (schedule_file_of s) ≡ 16 + (4 * length s.lists + sum_by length s.lists)
+file_length : (s : ScheduleState) → length (schedule_file_of s) ≡ 16 + (4 * length s.lists + sum_by length s.lists)
 file_length s =
     length-append (header_bytes s) (flat_map list_bytes s.lists)
     ∙ (rw (header_length s, length-flat_map list_bytes s.lists, lists_length s.lists) refl)
@@ -90,11 +90,11 @@ not_over : (most n : ℕ) → n ≤ most → nat_lt most n ≡ false
 not_over most n within = grind (arith, nat_tests)
 
 -- the file of a schedule that fits in it is read again
-reads_again : (machine : Machine) (s : IntervalLists) → length (schedule_file_of s) ≤ schedule_limit → schedule_of machine.cores (schedule_file_of s) ≡ Ok s → schedule_by machine (schedule_file_of s) ≡ Ok s
+reads_again : (machine : Machine) (s : ScheduleState) → length (schedule_file_of s) ≤ schedule_limit → schedule_of machine.cores (schedule_file_of s) ≡ Ok s → schedule_by machine (schedule_file_of s) ≡ Ok s
 unfolding schedule_by
 reads_again machine s short again = rw (not_over schedule_limit (length (schedule_file_of s)) short, again) refl
 
-module _ (read_again : EachScheduleIsReadAgain) (machine : Machine) (sound : IsMachine machine) (s : IntervalLists) (results : Results) (cores : s.cores ≡ machine.cores) (fits : FitsRun machine s.lists results) (counted : HasCounts machine results) where
+module _ (read_again : EachScheduleIsReadAgain) (machine : Machine) (sound : IsMachine machine) (s : ScheduleState) (results : Results) (cores : s.cores ≡ machine.cores) (fits : FitsRun machine s.lists results) (counted : HasCounts machine results) where
   are_turns : AreTurns s
   are_turns = record {
     known = subst (λ (n : ℕ). All (λ (turns : List ℕ). All (λ number. number < n) turns) s.lists) (sym cores) fits.known;
@@ -132,7 +132,7 @@ keeps_all seen s k ended (inr limited) =
     let at : HasEnded seen status.Limit k = subst (λ (t : Status). HasEnded seen t k) limited ended in
     at.kept
 
-pub recorded : (seen : Seen) (s : Status) (k : Kept) → HasEnded seen s k → IsReportedWhole s → IsRecorded seen k
+pub recorded : (seen : Seen) (s : Status) (k : Kept) → HasEnded seen s k → IsReportedWhole s → IsScheduleWritten seen k
 recorded seen s k ended (inl ran) =
     let at : HasEnded seen status.Ran k = subst (λ (t : Status). HasEnded seen t k) ran ended in
     at.files
@@ -211,11 +211,11 @@ module _ (replays : ReplaysGiveTheSame) (fits : LegalSchedulesFit) (read_again :
           | inr none ↦ cc
         ]
 
-    lists_of : (given : Option IntervalLists) → given ≡ Some ran.schedule → (kept : IntervalLists) (InOrder : Type 0) → MatchOption given InOrder (λ schedule. kept ≡ schedule) → kept.lists ≡ ran.schedule.lists
+    lists_of : (given : Option ScheduleState) → given ≡ Some ran.schedule → (kept : ScheduleState) (InOrder : Type 0) → MatchOption given InOrder (λ schedule. kept ≡ schedule) → kept.lists ≡ ran.schedule.lists
     lists_of None is kept InOrder same = cc
     lists_of (Some schedule) is kept InOrder same =
         let these : schedule ≡ ran.schedule = cc in
-        ap (λ (l : IntervalLists). l.lists) (same ∙ these)
+        ap (λ (l : ScheduleState). l.lists) (same ∙ these)
 
     repeats : IsDone t second replayed → IsRepeated first second s t
     repeats (inl done) =
@@ -266,7 +266,7 @@ module _ (replays : ReplaysGiveTheSame) (fits : LegalSchedulesFit) (read_again :
         (λ bad e. e.kept.sched_file)
         machine replayed.sched_file refusal is ended
 
-    file_was_read : (found : Result IntervalLists Status) → schedule_by machine replayed.sched_file ≡ found → IsScheduleFile second.files second.command.task replayed.sched_file
+    file_was_read : (found : Result ScheduleState Status) → schedule_by machine replayed.sched_file ≡ found → IsScheduleFile second.files second.command.task replayed.sched_file
     file_was_read (Ok schedule) is =
         let setup : Setup = record { machine = machine; image = image; given = Some schedule } in
         let setup_is : setup_of second.command replayed ≡ Ok setup = rw (same_machine, same_image, again.task, is) refl in

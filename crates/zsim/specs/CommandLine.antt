@@ -7,11 +7,6 @@ use Rattle.std.specs.Str.{bytes_eq}
 use Rattle.std.specs.Str.Parse.{digits_value}
 use Rattle.clap.specs.Walk.{is_empty}
 use Rattle.clap.specs.Words.{App, Row, first_of}
-use Rattle.zsim.specs.declared.command_line.Command.{Command as ToldCommand}
-use Rattle.zsim.specs.declared.command_line.Exe.{Exe as ToldExe}
-use Rattle.zsim.specs.declared.command_line.Exe.TheVariants as told_exe
-use Rattle.zsim.specs.declared.command_line.Task.{Task as ToldTask}
-use Rattle.zsim.specs.declared.command_line.Task.TheVariants as told_task
 use Rattle.zsim.specs.Options.{matched_by, replay_options, run_options}
 
 -- what is to be executed: a file of this name, or the program that the generator makes of a number
@@ -34,23 +29,6 @@ pub record Command : Type 0 where
   pub task : Task
   -- only the summary is reported
   pub brief : Bool
-
--- the same as the code keeps them, by references to the words
-abbrev pub exe_told : ToldExe → Exe
-exe_told (told_exe.File name) = file name.now
-exe_told (told_exe.Generated n) = generated n
-
-abbrev pub task_told : ToldTask → Task
-task_told (told_task.Run workers record_to) = run workers (option_map (λ name. name.now) record_to)
-task_told (told_task.Replay schedule) = replay schedule.now
-
-abbrev pub command_told : ToldCommand → Command
-command_told c = record {
-  machine = option_map (λ name. name.now) c.machine;
-  exe = exe_told c.exe;
-  task = task_told c.task;
-  brief = c.brief;
-}
 
 -- decimal digits, without a leading zero
 unfoldable pub is_decimal : List ℕ → Bool

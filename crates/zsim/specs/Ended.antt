@@ -1,7 +1,7 @@
--- What the answer of a call tells whose words are a command: what was kept, the cause of each status, and what was written
--- to standard output and to the file of a schedule. And what it says on standard error.
+-- What the answer of a call tells whose words are a command: what was kept, the cause of each status, and what was
+-- written to standard output and to the file of a schedule. And what it says on standard error.
 use Rattle.std.specs.Prelude.{◌≡◌, ◌⊎◌, ℕ, Bool, if◌then◌else◌, List, [], Option, Some, None, IsSomeAnd, IsOk, IsOkAnd, Ok, Err, MatchOption, MatchResult}
-use Rattle.access_log.specs.Schedule.{IntervalLists}
+use Rattle.access_log.specs.Schedule.{ScheduleState}
 use Rattle.machine_desc.specs.declared.machine.Machine.{Machine}
 use Rattle.machine_desc.specs.declared.plain.TheConstants.{PLAIN}
 use Rattle.machine_desc.specs.Machine.{IsMachine}
@@ -19,7 +19,7 @@ use Rattle.zsim.specs.declared.ended.Status.TheVariants as status
 use Rattle.zsim.specs.declared.ended.Which.TheVariants as which
 use Rattle.zsim.specs.CommandLine.{Command, Exe, Task, exe_file, file, generated, record_name, replay, run, schedule_name}
 use Rattle.zsim.specs.ErrorLine.{error_line}
-use Rattle.zsim.specs.Limits.{exe_limit, machine_limit, schedule_limit}
+use Rattle.zsim.specs.InputLengths.{exe_limit, machine_limit, schedule_limit}
 use Rattle.zsim.specs.Report.{report_of}
 use Rattle.zsim.specs.Seen.{FilesSeen, SinkSeen, FailedToReadInput, FailedToWrite, FileFailed, Gained, GainedNothing, GainedPrefix, NoFileFailed, NoPutFailed, PutFailed, SameNames, WasCut, WasRead, WasWritten}
 use Rattle.zsim.specs.Setup.{Setup, image_by, machine_by, setup_of}
@@ -48,7 +48,7 @@ IsScheduleFile files (run workers record_to) bytes = bytes ≡ []
 IsScheduleFile files (replay name) bytes = WasRead files name schedule_limit bytes
 
 -- no interval yet, for so many cores
-abbrev pub no_intervals : (cores : ℕ) → IntervalLists
+abbrev pub no_intervals : (cores : ℕ) → ScheduleState
 no_intervals cores = record { cores = cores; lists = [] }
 
 -- nothing was read
@@ -105,7 +105,7 @@ Keeps status.NoMemory seen kept = KeepsNothing kept ⊎ KeepsText seen kept ⊎ 
 
 -- The schedule of a replay is the one of its file. That of a run names, for each interval, the cores of the accesses in
 -- recorded order; it is legal as far as it goes.
-abbrev pub IsScheduleOf : Setup → IntervalLists → Type 0
+abbrev pub IsScheduleOf : Setup → ScheduleState → Type 0
 IsScheduleOf setup schedule = MatchOption setup.given (IsKeptInOrder setup.machine setup.image schedule.lists) (λ given. schedule ≡ given)
 
 -- what the run of the kept inputs gives under the kept schedule
@@ -152,12 +152,12 @@ abbrev pub IsWhole : Seen → Kept → Type 0
 IsWhole seen kept = (r : Results) × (run : Gives seen.command kept r) × Gained seen.out (report_of run.setup.machine seen.command.brief r)
 
 -- the kept schedule was written to the file that the command names for it, if it names one
-abbrev pub IsRecorded : Seen → Kept → Type 0
-IsRecorded seen kept = MatchOption (record_name seen.command.task) (SameNames seen.files) (λ name. WasWritten seen.files name (schedule_file_of kept.schedule))
+abbrev pub IsScheduleWritten : Seen → Kept → Type 0
+IsScheduleWritten seen kept = MatchOption (record_name seen.command.task) (SameNames seen.files) (λ name. WasWritten seen.files name (schedule_file_of kept.schedule))
 
 -- the command names a file for the schedule, and its writing was cut short
-abbrev pub IsRecordCut : Seen → Kept → Type 0
-IsRecordCut seen kept = IsSomeAnd (record_name seen.command.task) (λ name. WasCut seen.files name (schedule_file_of kept.schedule))
+abbrev pub IsScheduleCut : Seen → Kept → Type 0
+IsScheduleCut seen kept = IsSomeAnd (record_name seen.command.task) (λ name. WasCut seen.files name (schedule_file_of kept.schedule))
 
 -- ---- the cause of each status
 
@@ -166,8 +166,8 @@ pub record NothingFailed (seen : Seen) : Type 0 where
   pub files : NoFileFailed seen.files
   pub out : NoPutFailed seen.out
 
--- A read failed: that of the machine's file, before anything was kept; that of the executable, for a machine that passed
--- its checks; or that of the schedule, for an executable that passed its checks too.
+-- A read failed: that of the machine's file, before anything was kept; that of the executable, for a machine that
+-- passed its checks; or that of the schedule, for an executable that passed its checks too.
 abbrev pub CouldNotRead : Seen → Kept → Type 0
 CouldNotRead seen kept =
     (KeepsNothing kept × FailedToReadInput seen.files seen.command.machine)
@@ -198,8 +198,8 @@ HasCause status.NoMemory seen kept = NothingFailed seen
 abbrev pub IsNotBegun : Seen → Kept → Type 0
 IsNotBegun seen kept = (kept.schedule.lists ≡ []) × GainedNothing seen.out
 
--- What standard output gained. Where memory ran out, that was before the run, in an interval, behind it, in a put, or when
--- the report was whole and the schedule was being written.
+-- What standard output gained. Where memory ran out, that was before the run, in an interval, behind it, in a put, or
+-- when the report was whole and the schedule was being written.
 abbrev pub Reports : Status → Seen → Kept → Type 0
 Reports status.Ran seen kept = IsReported status.Ran seen kept
 Reports status.Limit seen kept = IsReported status.Limit seen kept
@@ -211,15 +211,15 @@ Reports (status.BadElf bad) seen kept = IsNotBegun seen kept
 Reports (status.BadSchedule (fault.File bad)) seen kept = IsNotBegun seen kept
 Reports (status.BadSchedule (fault.Illegal interval place)) seen kept = GainedNothing seen.out
 Reports (status.TooLong which) seen kept = IsNotBegun seen kept
-Reports status.NoMemory seen kept = IsNotBegun seen kept ⊎ (IsStopped seen.command kept × GainedNothing seen.out) ⊎ IsUnreported seen kept ⊎ IsCut seen kept ⊎ (IsWhole seen kept × IsRecordCut seen kept)
+Reports status.NoMemory seen kept = IsNotBegun seen kept ⊎ (IsStopped seen.command kept × GainedNothing seen.out) ⊎ IsUnreported seen kept ⊎ IsCut seen kept ⊎ (IsWhole seen kept × IsScheduleCut seen kept)
 
 -- Which names changed: none but that of the schedule's file, and this one not before the report was whole.
-abbrev pub Records : Status → Seen → Kept → Type 0
-Records status.Ran seen kept = IsRecorded seen kept
-Records status.Limit seen kept = IsRecorded seen kept
-Records status.WriteFault seen kept = (PutFailed seen.out × SameNames seen.files) ⊎ (FileFailed seen.files × IsWhole seen kept × IsRecordCut seen kept)
-Records status.NoMemory seen kept = SameNames seen.files ⊎ (IsWhole seen kept × IsRecordCut seen kept)
-Records _ seen kept = SameNames seen.files
+abbrev pub WritesSchedule : Status → Seen → Kept → Type 0
+WritesSchedule status.Ran seen kept = IsScheduleWritten seen kept
+WritesSchedule status.Limit seen kept = IsScheduleWritten seen kept
+WritesSchedule status.WriteFault seen kept = (PutFailed seen.out × SameNames seen.files) ⊎ (FileFailed seen.files × IsWhole seen kept × IsScheduleCut seen kept)
+WritesSchedule status.NoMemory seen kept = SameNames seen.files ⊎ (IsWhole seen kept × IsScheduleCut seen kept)
+WritesSchedule _ seen kept = SameNames seen.files
 
 -- ---- all of it
 
@@ -227,15 +227,15 @@ Records _ seen kept = SameNames seen.files
 -- legal
 abbrev pub IsDone : Status → Seen → Kept → Type 0
 IsDone s seen kept =
-    (IsReported s seen kept × IsRecorded seen kept)
+    (IsReported s seen kept × IsScheduleWritten seen kept)
     ⊎ ((at : Illegal) × (s ≡ status.BadSchedule (fault.Illegal at.interval at.place)) × IsRefusedAt seen.command kept at)
 
 -- Where nothing failed, the inputs decide: what comes of their run, or their refusal, unless memory ran out.
 abbrev pub IsDecided : Status → Seen → Kept → Type 0
 IsDecided s seen kept = (s ≡ status.NoMemory) ⊎ MatchResult (setup_of seen.command kept) (λ setup. IsDone s seen kept) (λ refusal. s ≡ refusal)
 
--- How a call ended whose words are a command: what its status and what it kept tell. Nothing of it reads standard error,
--- which has no say in the status.
+-- How a call ended whose words are a command: what its status and what it kept tell. Nothing of it reads standard
+-- error, which has no say in the status.
 pub record HasEnded (seen : Seen) (s : Status) (k : Kept) : Type 0 where
   -- what was read is kept
   pub kept : Keeps s seen k
@@ -244,7 +244,7 @@ pub record HasEnded (seen : Seen) (s : Status) (k : Kept) : Type 0 where
   -- the report is that of the one-thread machine under the kept schedule
   pub report : Reports s seen k
   -- the kept schedule is written where the command says so, and nothing else is
-  pub files : Records s seen k
+  pub files : WritesSchedule s seen k
   -- where no file and no put failed, the inputs decide
   pub complete : ¬ FileFailed seen.files → ¬ PutFailed seen.out → IsDecided s seen k
 
@@ -252,8 +252,8 @@ pub record HasEnded (seen : Seen) (s : Status) (k : Kept) : Type 0 where
 abbrev pub IsNoCommand : Status → Kept → Type 0
 IsNoCommand s kept = ((s ≡ status.Usage) ⊎ (s ≡ status.NoMemory)) × KeepsNothing kept
 
--- What was said on standard error: the whole line of the status, or a prefix of it where the stream failed or memory ran
--- out. A fault that was counted is always told.
+-- What was said on standard error: the whole line of the status, or a prefix of it where the stream failed or memory
+-- ran out. A fault that was counted is always told.
 abbrev pub Says : Said → Status → (err : SinkSeen) → Type 0
 Says said.All s err = Gained err (error_line s) × NoPutFailed err
 Says said.Fault s err = GainedPrefix err (error_line s) × PutFailed err

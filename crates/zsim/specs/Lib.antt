@@ -1,10 +1,11 @@
 pub mod CommandLine
 pub mod Options
 pub mod Report
-pub mod Limits
+pub mod InputLengths
 pub mod ErrorLine
 pub mod Seen
 pub mod Setup
 pub mod Ended
+pub mod Told
 pub mod Steps
 pub mod Laws

@@ -1,7 +1,7 @@
--- What a call is to run. The steps that decide it are the machine, the executable and, of a replay, the schedule: each is
--- read, tested for its length and checked, and the first that refuses decides.
+-- What a call is to run. The steps that decide it are the machine, the executable and, of a replay, the schedule: each
+-- is read, tested for its length and checked, and the first that refuses decides.
 use Rattle.std.specs.Prelude.{ℕ, nat_lt, if◌then◌else◌, List, length, Option, Some, None, Result, Ok, Err}
-use Rattle.access_log.specs.Schedule.{IntervalLists}
+use Rattle.access_log.specs.Schedule.{ScheduleState}
 use Rattle.machine_desc.specs.declared.errors.BadMachine.{BadMachine}
 use Rattle.machine_desc.specs.declared.machine.Machine.{Machine}
 use Rattle.machine_desc.specs.Description.{machine_of}
@@ -16,13 +16,13 @@ use Rattle.zsim.specs.declared.ended.Status.{Status}
 use Rattle.zsim.specs.declared.ended.Status.TheVariants as status
 use Rattle.zsim.specs.declared.ended.Which.TheVariants as which
 use Rattle.zsim.specs.CommandLine.{Command, Task, replay, run}
-use Rattle.zsim.specs.Limits.{exe_limit, machine_limit, schedule_limit}
+use Rattle.zsim.specs.InputLengths.{exe_limit, machine_limit, schedule_limit}
 
 -- a machine, what is in its memory first, and the schedule that is given, if it is a replay
 pub record Setup : Type 0 where
   pub machine : Machine
   pub image : MemoryImage
-  pub given : Option IntervalLists
+  pub given : Option ScheduleState
 
 -- the answer of the checks of a machine description
 abbrev pub with_machine : Result Machine BadMachine → Result Machine Status
@@ -44,12 +44,12 @@ image_by machine exe =
     if nat_lt exe_limit (length exe) then Err (status.TooLong which.Exe) else with_image (image_of exe machine.memory.base machine.memory.size)
 
 -- the answer of the checks of a schedule file
-abbrev pub with_schedule : Result IntervalLists BadSchedule → Result IntervalLists Status
+abbrev pub with_schedule : Result ScheduleState BadSchedule → Result ScheduleState Status
 with_schedule (Ok schedule) = Ok schedule
 with_schedule (Err bad) = Err (status.BadSchedule (fault.File bad))
 
 -- the schedule of a file for a machine's cores, or the refusal of the first check that fails, as above
-unfoldable pub schedule_by : Machine → (sched_file : List ℕ) → Result IntervalLists Status
+unfoldable pub schedule_by : Machine → (sched_file : List ℕ) → Result ScheduleState Status
 schedule_by machine sched_file =
     if nat_lt schedule_limit (length sched_file) then Err (status.TooLong which.Schedule) else with_schedule (schedule_of machine.cores sched_file)
 
@@ -59,7 +59,7 @@ then_checked (Ok x) f = f x
 then_checked (Err refusal) f = Err refusal
 
 -- the schedule that a replay is given; a run is given none
-abbrev pub given_by : Machine → Task → (sched_file : List ℕ) → Result (Option IntervalLists) Status
+abbrev pub given_by : Machine → Task → (sched_file : List ℕ) → Result (Option ScheduleState) Status
 given_by machine (run workers record_to) sched_file = Ok None
 given_by machine (replay name) sched_file = then_checked (schedule_by machine sched_file) (λ schedule. Ok (Some schedule))
 

@@ -1,7 +1,7 @@
 -- What the private steps of a call promise to the call. It serves their contracts alone: no clause of a public function
 -- cites it.
 use Rattle.std.specs.Prelude.{◌≡◌, ◌⊎◌, ℕ, Bool, List, [], Option, Some, None, Result, Ok, Err, IsSomeAnd, MatchOption, option_map}
-use Rattle.access_log.specs.Schedule.{IntervalLists}
+use Rattle.access_log.specs.Schedule.{ScheduleState}
 use Rattle.elf_load.specs.MemoryImage.{MemoryImage}
 use Rattle.machine_desc.specs.declared.machine.Machine.{Machine}
 use Rattle.replay.specs.ReferenceRun.{Illegal, IsIllegalAt, IsRunOf}
@@ -80,10 +80,10 @@ Writes (Ok x) file files = NoFileFailed files × MatchOption file (SameNames fil
 Writes (Err fail.NoMemory) file files = NoFileFailed files × IsSomeAnd file (λ f. WasCut files f.name f.bytes)
 Writes (Err fail.Failed) file files = IsSomeAnd file (λ f. FailedToWrite files f.name × WasCut files f.name f.bytes)
 
--- How far the outputs came: both were written, the report and behind it a file, if there is one; the report was cut short;
--- or the file was.
-abbrev pub Finishes : Status → (limit : Bool) → (text : List ℕ) → Option NamedFile → FilesSeen → SinkSeen → Type 0
-Finishes s limit text file files out =
+-- How far the outputs came: both were written, the report and behind it a file, if there is one; the report was cut
+-- short; or the file was.
+abbrev pub FinishesAs : Status → (limit : Bool) → (text : List ℕ) → Option NamedFile → FilesSeen → SinkSeen → Type 0
+FinishesAs s limit text file files out =
     ((s ≡ status_at limit) × Gained out text × NoPutFailed out × NoFileFailed files × MatchOption file (SameNames files) (λ f. WasWritten files f.name f.bytes))
     ⊎ ((s ≡ status.WriteFault) × GainedPrefix out text × PutFailed out × IsQuiet files)
     ⊎ ((s ≡ status.NoMemory) × GainedPrefix out text × NoPutFailed out × IsQuiet files)
@@ -91,25 +91,25 @@ Finishes s limit text file files out =
     ⊎ ((s ≡ status.NoMemory) × Gained out text × NoPutFailed out × NoFileFailed files × IsSomeAnd file (λ f. WasCut files f.name f.bytes))
 
 -- a run of an image under a schedule gives these results
-abbrev pub RunGives : Machine → MemoryImage → IntervalLists → Results → Type 0
+abbrev pub RunGives : Machine → MemoryImage → ScheduleState → Results → Type 0
 RunGives machine image schedule r = IsRunOf machine image schedule.lists r × HasCounts machine r
 
 -- what the run of an image came to, of which the schedule is to be written to a file, if one is named
-abbrev pub RunsAs : Status → Machine → MemoryImage → (brief : Bool) → (name : Option (List ℕ)) → IntervalLists → FilesSeen → SinkSeen → Type 0
+abbrev pub RunsAs : Status → Machine → MemoryImage → (brief : Bool) → (name : Option (List ℕ)) → ScheduleState → FilesSeen → SinkSeen → Type 0
 RunsAs s machine image brief name schedule files out =
     ((s ≡ status.NoMemory) × IsUntouched files out)
     ⊎ ((s ≡ status.NoMemory) × ((r : Results) × RunGives machine image schedule r) × IsUntouched files out)
-    ⊎ ((r : Results) × RunGives machine image schedule r × Finishes s r.limit (report_of machine brief r) (option_map (λ n. named_file n (schedule_file_of schedule)) name) files out)
+    ⊎ ((r : Results) × RunGives machine image schedule r × FinishesAs s r.limit (report_of machine brief r) (option_map (λ n. named_file n (schedule_file_of schedule)) name) files out)
 
 -- what the run of an image under a schedule that is given came to
-abbrev pub ReplaysAs : Status → Machine → MemoryImage → (brief : Bool) → IntervalLists → FilesSeen → SinkSeen → Type 0
+abbrev pub ReplaysAs : Status → Machine → MemoryImage → (brief : Bool) → ScheduleState → FilesSeen → SinkSeen → Type 0
 ReplaysAs s machine image brief schedule files out =
     ((s ≡ status.NoMemory) × IsUntouched files out)
     ⊎ ((at : Illegal) × (s ≡ status.BadSchedule (fault.Illegal at.interval at.place)) × IsIllegalAt machine image schedule.lists at × IsUntouched files out)
-    ⊎ ((r : Results) × RunGives machine image schedule r × Finishes s r.limit (report_of machine brief r) None files out)
+    ⊎ ((r : Results) × RunGives machine image schedule r × FinishesAs s r.limit (report_of machine brief r) None files out)
 
 -- what came of the file of a schedule: it was not taken, or the run of an image under its schedule came to this
-abbrev pub ReplaysFile : Status → Machine → MemoryImage → (brief : Bool) → (name : List ℕ) → IntervalLists → (sched_file : List ℕ) → FilesSeen → SinkSeen → Type 0
+abbrev pub ReplaysFile : Status → Machine → MemoryImage → (brief : Bool) → (name : List ℕ) → ScheduleState → (sched_file : List ℕ) → FilesSeen → SinkSeen → Type 0
 ReplaysFile s machine image brief name schedule sched_file files out =
     ((schedule ≡ no_intervals machine.cores) × IsNotTaken (λ seen. IsScheduleFile seen (replay name)) (schedule_by machine) (Some name) s files sched_file × NoPutFailed out × GainedNothing out)
     ⊎ ((schedule_by machine sched_file ≡ Ok schedule) × IsScheduleFile files (replay name) sched_file × ReplaysAs s machine image brief schedule files out)

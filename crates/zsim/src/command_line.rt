@@ -1,9 +1,10 @@
-// The words of the command line.
+//! The words of the command line.
 ghost use Rattle.std.specs.Prelude.{◌≡◌, map, option_map, string_bytes, IfOk};
 ghost use Rattle.std.specs.Char.{is_ascii_digit};
 ghost use Rattle.std.specs.List.{list_all};
 ghost use Rattle.clap.specs.Words.{first_of, found_of, rows_of};
-ghost use Rattle.zsim.specs.CommandLine.{command_after, command_by, command_of, command_told, decimal_of, exe_of, exe_told, is_decimal, machine_file_of, replay_of, run_of, task_told, workers_of};
+ghost use Rattle.zsim.specs.CommandLine.{command_after, command_by, command_of, decimal_of, exe_of, is_decimal, machine_file_of, replay_of, run_of, workers_of};
+ghost use Rattle.zsim.specs.Told.{command_told, exe_told, task_told};
 ghost use Rattle.zsim.specs.Options.{replay_options, run_options};
 
 use crate::options::{matched_by, replay_options, run_options};
@@ -62,7 +63,7 @@ pub fn command_of(alloc: Global, words: &[String]) -> Result<Option<Command<'_>>
     }
 }
 
-// The command that the words after `run` ask for.
+/// The command that the words after `run` ask for.
 fn command_after_run(alloc: Global, words: &[String]) -> Result<Option<Command<'_>>, AllocError>
     ensures { IfOk result (λ command. option_map command_told command ≡ command_after run_options run_of (map string_bytes words.now)) }
 {
@@ -72,7 +73,7 @@ fn command_after_run(alloc: Global, words: &[String]) -> Result<Option<Command<'
     }
 }
 
-// The command that the words after `replay` ask for.
+/// The command that the words after `replay` ask for.
 fn command_after_replay(alloc: Global, words: &[String]) -> Result<Option<Command<'_>>, AllocError>
     ensures { IfOk result (λ command. option_map command_told command ≡ command_after replay_options replay_of (map string_bytes words.now)) }
 {
@@ -82,7 +83,7 @@ fn command_after_replay(alloc: Global, words: &[String]) -> Result<Option<Comman
     }
 }
 
-// A run, where its number of workers is well formed.
+/// A run, where its number of workers is well formed.
 fn run_of<'w>(matches: &ArgMatches<'w>) -> Option<Task<'w>>
     ensures { option_map task_told result ≡ run_of (rows_of (found_of matches.now)) }
 {
@@ -92,7 +93,7 @@ fn run_of<'w>(matches: &ArgMatches<'w>) -> Option<Task<'w>>
     })
 }
 
-// A replay, where the schedule is named.
+/// A replay, where the schedule is named.
 fn replay_of<'w>(matches: &ArgMatches<'w>) -> Option<Task<'w>>
     ensures { option_map task_told result ≡ replay_of (rows_of (found_of matches.now)) }
 {
@@ -101,7 +102,7 @@ fn replay_of<'w>(matches: &ArgMatches<'w>) -> Option<Task<'w>>
     })
 }
 
-// What the matched words ask for beside a task, where their values are well formed.
+/// What the matched words ask for beside a task, where their values are well formed.
 #[tactic(auto, unfolding(crate::specs::CommandLine::command_by))]
 fn command_by<'w>(matches: &ArgMatches<'w>, task: Option<Task<'w>>) -> Option<Command<'w>>
     ensures { option_map command_told result ≡ command_by (rows_of (found_of matches.now)) (option_map task_told task.entry) }
@@ -110,29 +111,29 @@ fn command_by<'w>(matches: &ArgMatches<'w>, task: Option<Task<'w>>) -> Option<Co
     let exe = exe_of(value(matches, "exe")?)?;
     let task = task?;
     Some(Command {
-        machine: machine_of(machine),
+        machine: machine_file_of(machine),
         exe,
         task,
         brief: matches!(value(matches, "brief"), Some("true")),
     })
 }
 
-// The first value of an option or a positional word.
+/// The first value of an option or a positional word.
 fn value<'w>(matches: &ArgMatches<'w>, name: &str) -> Option<&'w str>
     ensures { option_map (λ s. s.now) result ≡ first_of name.now (rows_of (found_of matches.now)) }
 {
     matches.get_str(name)
 }
 
-// The name of the machine's file, where the word is not that of the built-in machine.
+/// The name of the machine's file, where the word is not that of the built-in machine.
 #[tactic(auto, unfolding(crate::specs::CommandLine::machine_file_of))]
-fn machine_of(word: &str) -> Option<&str>
+fn machine_file_of(word: &str) -> Option<&str>
     ensures { option_map (λ name. name.now) result ≡ machine_file_of word.now }
 {
     if word == "plain" { None } else { Some(word) }
 }
 
-// What the word for the executable names: `gen:N`, or a file.
+/// What the word for the executable names: `gen:N`, or a file.
 #[tactic(auto, unfolding(crate::specs::CommandLine::exe_of))]
 fn exe_of(word: &str) -> Option<Exe<'_>>
     ensures { option_map exe_told result ≡ exe_of word.now }
@@ -143,7 +144,7 @@ fn exe_of(word: &str) -> Option<Exe<'_>>
     }
 }
 
-// The number of workers, which is 1 where none is given.
+/// The number of workers, which is 1 where none is given.
 #[tactic(auto, unfolding(crate::specs::CommandLine::workers_of))]
 fn workers_of(word: Option<&str>) -> Option<u16>
     ensures { result ≡ workers_of (option_map (λ s. s.now) word.entry) }
@@ -157,7 +158,7 @@ fn workers_of(word: Option<&str>) -> Option<u16>
     }
 }
 
-// The number below 2^64 that a word writes.
+/// The number below 2^64 that a word writes.
 fn number_of(word: &str) -> Option<u64>
     ensures { result ≡ decimal_of word.now }
 {
@@ -170,7 +171,7 @@ fn number_of(word: &str) -> Option<u64>
     }
 }
 
-// Whether a word has decimal digits alone, without a leading zero.
+/// Whether a word has decimal digits alone, without a leading zero.
 #[tactic(auto, unfolding(crate::specs::CommandLine::is_decimal))]
 fn is_decimal(word: &[u8]) -> bool
     ensures { result ≡ is_decimal word.now }
@@ -178,7 +179,7 @@ fn is_decimal(word: &[u8]) -> bool
     !word.is_empty() && has_digits(word) && (word == b"0".as_slice() || !word.starts_with(b"0"))
 }
 
-// Whether a word has decimal digits alone.
+/// Whether a word has decimal digits alone.
 fn has_digits(word: &[u8]) -> bool
     ensures { result ≡ list_all is_ascii_digit word.now }
 {

@@ -1,4 +1,4 @@
-// What the top call answers.
+//! What the top call answers.
 ghost use Rattle.std.specs.Prelude.{◌≡◌};
 
 use access_log::Schedule;
@@ -7,7 +7,8 @@ use machine_desc::BadMachine;
 use schedule_file::BadSchedule;
 use zs_num::Bytes;
 
-/// What a call answers: how it ended, what it could say of that on standard error, and what it kept.
+/// What a call answers: how it ended, what it could say of that on standard error, and what it
+/// kept.
 #[derive(Debug, Drop)]
 pub struct Ended {
     pub status: Status,
@@ -101,7 +102,7 @@ pub struct Kept {
     pub exe: Bytes,
     /// The schedule file of a replay. It is empty where it was not read, and for a run.
     pub sched_file: Bytes,
-    /// The schedule that the run took, up to the last interval that was completed, or that the replay
-    /// read.
+    /// The schedule that the run took, up to the last interval that was completed, or that the
+    /// replay read.
     pub schedule: Schedule,
 }

@@ -1,4 +1,4 @@
-// The line on standard error for each status.
+//! The line on standard error for each status.
 ghost use Rattle.std.specs.Prelude.{◌≡◌, ◌++◌, codes, IfOk, OnOk, string_bytes};
 ghost use Rattle.report.specs.ReportText.{printed};
 ghost use Rattle.zsim.specs.ErrorLine.{elf_details, error_line, machine_details, schedule_details};
@@ -33,7 +33,7 @@ pub fn error_line(alloc: Global, status: &Status) -> Result<String, AllocError>
 const USAGE: &str =
     "zsim: usage: zsim run MACHINE EXE [--workers N] [--record NAME] [--brief] or zsim replay MACHINE EXE --schedule NAME [--brief]\n";
 
-// The line for a machine description that is refused.
+/// The line for a machine description that is refused.
 fn machine_line(alloc: Global, bad: &BadMachine) -> Result<String, AllocError>
     ensures { IfOk result (λ line. string_bytes line ≡ codes "zsim: machine " ++ machine_details bad.now ++ codes "\n") }
 {
@@ -43,7 +43,7 @@ fn machine_line(alloc: Global, bad: &BadMachine) -> Result<String, AllocError>
     Ok(line)
 }
 
-// Writes the number of the check that a description failed, and what it names.
+/// Writes the number of the check that a description failed, and what it names.
 fn write_machine_details(line: &mut String, bad: &BadMachine) -> Result<(), AllocError>
     ensures { OnOk result (string_bytes line.new ≡ string_bytes line.old ++ machine_details bad.now) }
 {
@@ -61,7 +61,7 @@ fn write_machine_details(line: &mut String, bad: &BadMachine) -> Result<(), Allo
     }
 }
 
-// Writes a number, and a key as the bytes of a console are printed.
+/// Writes a number, and a key as the bytes of a console are printed.
 fn write_key(line: &mut String, number: &str, key: &KeyName) -> Result<(), AllocError>
     ensures { OnOk result (string_bytes line.new ≡ string_bytes line.old ++ (number.now ++ printed key.now)) }
 {
@@ -69,7 +69,7 @@ fn write_key(line: &mut String, number: &str, key: &KeyName) -> Result<(), Alloc
     write_printed(line, key.as_slice())
 }
 
-// The line for an executable that is refused.
+/// The line for an executable that is refused.
 fn elf_line(alloc: Global, bad: BadElf) -> Result<String, AllocError>
     ensures { IfOk result (λ line. string_bytes line ≡ codes "zsim: elf " ++ elf_details bad ++ codes "\n") }
 {
@@ -79,7 +79,7 @@ fn elf_line(alloc: Global, bad: BadElf) -> Result<String, AllocError>
     Ok(line)
 }
 
-// Writes the number of the check that an executable failed, and what it names.
+/// Writes the number of the check that an executable failed, and what it names.
 fn write_details(line: &mut String, bad: BadElf) -> Result<(), AllocError>
     ensures { OnOk result (string_bytes line.new ≡ string_bytes line.old ++ elf_details bad) }
 {
@@ -99,7 +99,7 @@ fn write_details(line: &mut String, bad: BadElf) -> Result<(), AllocError>
     }
 }
 
-// The line for a schedule that is refused.
+/// The line for a schedule that is refused.
 fn schedule_line(alloc: Global, wrong: ScheduleFault) -> Result<String, AllocError>
     ensures { IfOk result (λ line. string_bytes line ≡ codes "zsim: schedule " ++ schedule_details wrong ++ codes "\n") }
 {
@@ -109,7 +109,7 @@ fn schedule_line(alloc: Global, wrong: ScheduleFault) -> Result<String, AllocErr
     Ok(line)
 }
 
-// Writes the number of the check that a schedule failed, and what it names.
+/// Writes the number of the check that a schedule failed, and what it names.
 fn write_schedule_details(line: &mut String, wrong: ScheduleFault) -> Result<(), AllocError>
     ensures { OnOk result (string_bytes line.new ≡ string_bytes line.old ++ schedule_details wrong) }
 {

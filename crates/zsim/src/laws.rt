@@ -1,17 +1,18 @@
-//! Laws over the words and over what calls answer, each the contract of a function that does nothing.
+//! Laws over the words and over what calls answer, each the contract of a function that does
+//! nothing.
 ghost use Rattle.zsim.specs.Laws.{PlainReplaysAreCommands, PlainRunsAreCommands, RecordsAreReplayed, ReplaysRepeatRuns};
 
-/// The words `run MACHINE EXE` and `replay MACHINE EXE --schedule NAME` are a command wherever the words
-/// in them do not begin with a hyphen, but for a faulty `gen:N`.
+/// The words `run MACHINE EXE` and `replay MACHINE EXE --schedule NAME` are a command wherever the
+/// words in them do not begin with a hyphen, but for a faulty `gen:N`.
 pub fn plain_words_are_commands()
     ensures run { PlainRunsAreCommands }
     ensures replay { PlainReplaysAreCommands }
 {}
 
-/// Replaying a recorded schedule writes the bytes that the run wrote: of a run that was reported whole,
-/// and a replay on the same machine and executable whose schedule is the one that the run kept, or the
-/// file that it wrote, the report is the same and so is the status; unless a file or a put fails in the
-/// replay, or memory runs out.
+/// Replaying a recorded schedule writes the bytes that the run wrote: of a run that was reported
+/// whole, and a replay on the same machine and executable whose schedule is the one that the run
+/// kept, or the file that it wrote, the report is the same and so is the status; unless a file or a
+/// put fails in the replay, or memory runs out.
 pub fn replays_repeat_runs()
     ensures kept { ReplaysRepeatRuns }
     ensures recorded { RecordsAreReplayed }

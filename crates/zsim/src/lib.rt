@@ -10,8 +10,6 @@ mod options;
 mod outputs;
 mod put;
 mod setup;
-#[cfg(test)]
-mod tests;
 mod top;
 
 pub use ended::{Ended, Kept, Said, ScheduleFault, Status, Which};

@@ -1,4 +1,4 @@
-// The limits of what is read.
+//! The limits of what is read.
 
 /// The limit of a machine description, in bytes.
 pub const MACHINE_LIMIT: usize = 1 << 20;

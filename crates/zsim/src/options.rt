@@ -1,4 +1,4 @@
-// The words after `run` and after `replay`, as `clap` reads them.
+//! The words after `run` and after `replay`, as `clap` reads them.
 ghost use Rattle.std.specs.Prelude.{◌≡◌, false, true, map, option_map, string_bytes, IfOk};
 ghost use Rattle.clap.specs.Words.{app_of, found_of, is_simple_and_free, rows_of, rule_of, with_rule};
 ghost use Rattle.zsim.specs.Options.{flag, inputs, matched_by, needed_option, no_options, option, positional, replay_options, run_options};
@@ -28,7 +28,7 @@ pub fn replay_options<'w>(alloc: Global) -> Result<Command<'w>, AllocError>
     with_arg(options, flag(alloc, "brief"))
 }
 
-// The machine and the executable.
+/// The machine and the executable.
 fn inputs<'w>(alloc: Global) -> Result<Command<'w>, AllocError>
     ensures { IfOk result (λ options. app_of options ≡ inputs) }
 {
@@ -36,7 +36,7 @@ fn inputs<'w>(alloc: Global) -> Result<Command<'w>, AllocError>
     with_arg(options, positional(alloc, "exe"))
 }
 
-// No option. The first word is not the program's name, and none asks for help.
+/// No option. The first word is not the program's name, and none asks for help.
 fn no_options<'w>(alloc: Global) -> Command<'w>
     ensures { app_of result ≡ no_options }
 {
@@ -45,7 +45,7 @@ fn no_options<'w>(alloc: Global) -> Command<'w>
         .disable_help_flag(true)
 }
 
-// One argument more.
+/// One argument more.
 fn with_arg<'w>(options: Command<'w>, arg: Arg<'w>) -> Result<Command<'w>, AllocError>
     requires { arg.global ≡ false }
     ensures { IfOk result (λ more. app_of more ≡ with_rule (app_of options.entry) (rule_of arg.entry)) }
@@ -53,7 +53,7 @@ fn with_arg<'w>(options: Command<'w>, arg: Arg<'w>) -> Result<Command<'w>, Alloc
     options.arg(arg)
 }
 
-// A word that has no name, and has to be there.
+/// A word that has no name, and has to be there.
 fn positional<'w>(alloc: Global, name: &'w str) -> Arg<'w>
     ensures rule { rule_of result ≡ positional name.entry.now }
     ensures local { result.global ≡ false }
@@ -61,7 +61,7 @@ fn positional<'w>(alloc: Global, name: &'w str) -> Arg<'w>
     Arg::new(alloc, name).required(true)
 }
 
-// `--name VALUE`.
+/// `--name VALUE`.
 fn option<'w>(alloc: Global, name: &'w str) -> Arg<'w>
     ensures rule { rule_of result ≡ option name.entry.now }
     ensures local { result.global ≡ false }
@@ -69,7 +69,7 @@ fn option<'w>(alloc: Global, name: &'w str) -> Arg<'w>
     Arg::new(alloc, name).long(name)
 }
 
-// `--name`.
+/// `--name`.
 fn flag<'w>(alloc: Global, name: &'w str) -> Arg<'w>
     ensures rule { rule_of result ≡ flag name.entry.now }
     ensures local { result.global ≡ false }

@@ -1,11 +1,11 @@
-// The outputs of a run: the report, and behind it the file of its schedule.
+//! The outputs of a run: the report, and behind it the file of its schedule.
 ghost use Rattle.std.specs.Prelude.{◌≡◌, ◌⊎◌, ◌≤◌, IfOk, OnOk, OnErr, IsSomeAnd, MatchOption, option_map};
 ghost use Rattle.replay.specs.Results.{HasCounts};
 ghost use Rattle.schedule_file.specs.ScheduleFile.{schedule_file_of};
 ghost use Rattle.zsim.specs.Ended.{status_at};
 ghost use Rattle.zsim.specs.Report.{report_of};
 ghost use Rattle.zsim.specs.Seen.{SameNames, WasCut, WasWritten, files_seen, sink_seen};
-ghost use Rattle.zsim.specs.Steps.{Finishes, IsUntouched, Writes, named_file, file_told};
+ghost use Rattle.zsim.specs.Steps.{FinishesAs, IsUntouched, Writes, named_file, file_told};
 
 use crate::Status;
 use crate::put::put_all;
@@ -53,7 +53,7 @@ pub fn finish<F: Files, O: Sink>(
 ) -> Status
     requires { HasCounts machine.now results.now }
     ensures { ((result ≡ Status.NoMemory) × IsUntouched (files_seen F.tells F.contents F.faults F.latest files.old files.new) (sink_seen O.tells O.bytes O.faults out.old out.new))
-        ⊎ Finishes result results.now.limit (report_of machine.now brief results.now) (option_map file_told file.entry) (files_seen F.tells F.contents F.faults F.latest files.old files.new) (sink_seen O.tells O.bytes O.faults out.old out.new) }
+        ⊎ FinishesAs result results.now.limit (report_of machine.now brief results.now) (option_map file_told file.entry) (files_seen F.tells F.contents F.faults F.latest files.old files.new) (sink_seen O.tells O.bytes O.faults out.old out.new) }
 {
     let text = match report_of(alloc, machine, results, brief) {
         Ok(text) => text,
@@ -71,7 +71,7 @@ pub fn finish<F: Files, O: Sink>(
     }
 }
 
-// Writes the file, if there is one.
+/// Writes the file, if there is one.
 fn write_file<F: Files>(
     alloc: Global,
     file: Option<OutputFile<'_>>,
@@ -85,7 +85,7 @@ fn write_file<F: Files>(
     }
 }
 
-// The report of a run, whole or brief.
+/// The report of a run, whole or brief.
 fn report_of(
     alloc: Global,
     machine: &Machine,
@@ -105,7 +105,7 @@ fn report_of(
     )
 }
 
-// The status of a run that was reported whole.
+/// The status of a run that was reported whole.
 fn status_of(limit: bool) -> Status
     ensures { result ≡ status_at limit }
 {

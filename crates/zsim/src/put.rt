@@ -1,4 +1,4 @@
-// Puts a whole text into a sink.
+//! Puts a whole text into a sink.
 ghost use Rattle.std.specs.Prelude.{OnOk, OnErr};
 ghost use Rattle.zs_host.specs.Faults.{SinkFaults};
 ghost use Rattle.zsim.specs.Seen.{sink_seen, Gained, GainedPrefix};

@@ -1,11 +1,12 @@
-// What a call is to run: the machine, the executable and the schedule, each read and checked.
+//! What a call is to run: the machine, the executable and the schedule, each read and checked.
 ghost use Rattle.std.specs.Prelude.{◌≡◌, ◌≤◌, [], Some, IfOk, option_map};
 ghost use Rattle.machine_desc.specs.Machine.{IsMachine};
-ghost use Rattle.zsim.specs.CommandLine.{exe_file, exe_told, replay};
+ghost use Rattle.zsim.specs.CommandLine.{exe_file, replay};
 ghost use Rattle.zsim.specs.Ended.{IsExeOf, IsMachineText, IsScheduleFile};
 ghost use Rattle.zsim.specs.Seen.{files_seen, SameNames};
 ghost use Rattle.zsim.specs.Setup.{image_by, machine_by, schedule_by};
 ghost use Rattle.zsim.specs.Steps.{Checks, Reads, Takes, status_of_read};
+ghost use Rattle.zsim.specs.Told.{exe_told};
 
 use crate::command_line::Exe;
 use crate::limits::{EXE_LIMIT, MACHINE_LIMIT, SCHEDULE_LIMIT};
@@ -76,7 +77,7 @@ pub fn take_schedule<F: Files>(
     check_schedule(alloc, machine, bytes.as_slice())
 }
 
-// The status where an input was not read.
+/// The status where an input was not read.
 fn status_of_read(fail: FileFail) -> Status
     ensures { result ≡ status_of_read fail }
 {
@@ -86,8 +87,8 @@ fn status_of_read(fail: FileFail) -> Status
     }
 }
 
-// The text of the machine: the first bytes of the file of this name, up to the limit and one more; or
-// the built-in text, where there is no name.
+/// The text of the machine: the first bytes of the file of this name, up to the limit and one more;
+/// or the built-in text, where there is no name.
 fn read_machine<F: Files>(
     alloc: Global,
     name: Option<&str>,
@@ -103,8 +104,8 @@ fn read_machine<F: Files>(
     }
 }
 
-// The bytes of the executable: the first of its file, up to the limit and one more; or those of the
-// program that is generated for this machine.
+/// The bytes of the executable: the first of its file, up to the limit and one more; or those of
+/// the program that is generated for this machine.
 fn read_exe<F: Files>(
     alloc: Global,
     machine: &Machine,
@@ -122,8 +123,8 @@ fn read_exe<F: Files>(
     }
 }
 
-// The machine of a description, or the refusal of the first check that fails: its length, and then the
-// checks of the description.
+/// The machine of a description, or the refusal of the first check that fails: its length, and then
+/// the checks of the description.
 #[tactic(auto, unfolding(crate::specs::Setup::machine_by))]
 fn check_machine(alloc: Global, text: &[u8]) -> Result<Machine, Status>
     ensures answer { Checks result (machine_by text.now) }
@@ -139,8 +140,8 @@ fn check_machine(alloc: Global, text: &[u8]) -> Result<Machine, Status>
     }
 }
 
-// The image of an executable, or the refusal of the first check that fails: its length, and then the
-// checks of its file format.
+/// The image of an executable, or the refusal of the first check that fails: its length, and then
+/// the checks of its file format.
 #[tactic(auto, unfolding(crate::specs::Setup::image_by))]
 fn check_exe(alloc: Global, machine: &Machine, exe: &[u8]) -> Result<Image, Status>
     requires { IsMachine machine.now }
@@ -157,8 +158,8 @@ fn check_exe(alloc: Global, machine: &Machine, exe: &[u8]) -> Result<Image, Stat
     }
 }
 
-// The schedule of a file, or the refusal of the first check that fails: its length, and then the checks
-// of its format.
+/// The schedule of a file, or the refusal of the first check that fails: its length, and then the
+/// checks of its format.
 #[tactic(auto, unfolding(crate::specs::Setup::schedule_by))]
 fn check_schedule(alloc: Global, machine: &Machine, file: &[u8]) -> Result<Schedule, Status>
     requires { IsMachine machine.now }

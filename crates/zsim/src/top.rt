@@ -1,13 +1,14 @@
-// The call that does all that the program does.
+//! The call that does all that the program does.
 ghost use Rattle.std.specs.Prelude.{◌≡◌, ◌⊎◌, [], IfSome, IsSomeAnd, None, Ok, map, option_map, string_bytes};
 ghost use Rattle.machine_desc.specs.Machine.{IsMachine};
 ghost use Rattle.replay.specs.ReferenceRun.{IsKeptInOrder};
 ghost use Rattle.replay.specs.Results.{Results};
-ghost use Rattle.zsim.specs.CommandLine.{command_of, command_told};
+ghost use Rattle.zsim.specs.CommandLine.{command_of};
 ghost use Rattle.zsim.specs.Ended.{Gives, HasEnded, IsNoCommand, KeepsNothing, Says, no_intervals};
 ghost use Rattle.zsim.specs.Seen.{files_seen, sink_seen};
 ghost use Rattle.zsim.specs.Setup.{schedule_by};
 ghost use Rattle.zsim.specs.Steps.{ReplaysAs, ReplaysFile, RunGives, RunsAs};
+ghost use Rattle.zsim.specs.Told.{command_told};
 
 use crate::command_line::{Command, Task, command_of};
 use crate::error_line::error_line;
@@ -26,8 +27,8 @@ use zs_host::{Files, Gate, Sink, SinkFail};
 use zs_num::{Bytes, NoMemory};
 
 /// Does what the words say: they are those after the program's name. The report goes to `out`, and
-/// the line of the status to `err`. The workers of a run pass the gate before each access
-/// and each event.
+/// the line of the status to `err`. The workers of a run pass the gate before each access and each
+/// event.
 pub fn zsim<R: Threads + Wait + Sync, F: Files, O: Sink, E: Sink, G: Gate>(
     rt: &R,
     alloc: Global,
@@ -40,7 +41,8 @@ pub fn zsim<R: Threads + Wait + Sync, F: Files, O: Sink, E: Sink, G: Gate>(
     // Where the words are no command, the status says so, and nothing is touched.
     ensures usage { command_of (map string_bytes words.now) ≡ None → IsNoCommand result.status result.kept × (files.new ≡ files.old) × (out.new ≡ out.old) }
 
-    // Where they are a command: what the status and what was kept tell of the files and of standard output.
+    // Where they are a command: what the status and what was kept tell of the files and of standard
+    // output.
     ensures ended { IfSome (command_of (map string_bytes words.now)) (λ command. HasEnded (record { command = command; files = files_seen F.tells F.contents F.faults F.latest files.old files.new; out = sink_seen O.tells O.bytes O.faults out.old out.new }) result.status result.kept) }
 
     // Standard output is not touched until a run has come to its end.
@@ -56,34 +58,16 @@ pub fn zsim<R: Threads + Wait + Sync, F: Files, O: Sink, E: Sink, G: Gate>(
         sched_file: Bytes::of(Vec::new(alloc)),
         schedule: Schedule::new(alloc, 0),
     };
-    let status = conduct(rt, alloc, words, files, out, gate, &mut kept);
+    let status = match command_of(alloc, words) {
+        Ok(Some(command)) => carry_out(rt, alloc, &command, files, out, gate, &mut kept),
+        Ok(None) => Status::Usage,
+        Err(AllocError) => Status::NoMemory,
+    };
     let said = say(alloc, err, &status);
     Ended { status, said, kept }
 }
 
-// Does what the words say, up to the outputs.
-fn conduct<R: Threads + Wait + Sync, F: Files, O: Sink, G: Gate>(
-    rt: &R,
-    alloc: Global,
-    words: &[String],
-    files: &mut F,
-    out: &mut O,
-    gate: &G,
-    kept: &mut Kept,
-) -> Status
-    requires { KeepsNothing kept.old }
-    ensures usage { command_of (map string_bytes words.now) ≡ None → IsNoCommand result kept.new × (files.new ≡ files.old) × (out.new ≡ out.old) }
-    ensures ended { IfSome (command_of (map string_bytes words.now)) (λ command. HasEnded (record { command = command; files = files_seen F.tells F.contents F.faults F.latest files.old files.new; out = sink_seen O.tells O.bytes O.faults out.old out.new }) result kept.new) }
-    ensures untouched { (out.new ≡ out.old) ⊎ IsSomeAnd (command_of (map string_bytes words.now)) (λ command. (r : Results) × Gives command kept.new r) }
-{
-    match command_of(alloc, words) {
-        Ok(Some(command)) => carry_out(rt, alloc, &command, files, out, gate, kept),
-        Ok(None) => Status::Usage,
-        Err(AllocError) => Status::NoMemory,
-    }
-}
-
-// Carries out a command: takes its inputs, and runs or replays.
+/// Carries out a command: takes its inputs, and runs or replays.
 fn carry_out<R: Threads + Wait + Sync, F: Files, O: Sink, G: Gate>(
     rt: &R,
     alloc: Global,
@@ -123,7 +107,7 @@ fn carry_out<R: Threads + Wait + Sync, F: Files, O: Sink, G: Gate>(
     }
 }
 
-// Runs an image, writes its report, and behind it the schedule's file where one is named.
+/// Runs an image, writes its report, and behind it the schedule's file where one is named.
 fn run_and_report<R: Threads + Wait + Sync, F: Files, O: Sink, G: Gate>(
     rt: &R,
     alloc: Global,
@@ -158,7 +142,7 @@ fn run_and_report<R: Threads + Wait + Sync, F: Files, O: Sink, G: Gate>(
     finish(alloc, machine, brief, &results, file, files, out)
 }
 
-// Reads the schedule of a file, which is kept, and runs an image under it.
+/// Reads the schedule of a file, which is kept, and runs an image under it.
 fn replay_file<F: Files, O: Sink>(
     alloc: Global,
     machine: &Machine,
@@ -185,7 +169,7 @@ fn replay_file<F: Files, O: Sink>(
     replay_and_report(alloc, machine, image, brief, schedule, files, out)
 }
 
-// Runs an image under a schedule, and writes its report.
+/// Runs an image under a schedule, and writes its report.
 fn replay_and_report<F: Files, O: Sink>(
     alloc: Global,
     machine: &Machine,
@@ -212,7 +196,7 @@ fn replay_and_report<F: Files, O: Sink>(
     }
 }
 
-// Says on standard error how the call ended.
+/// Says on standard error how the call ended.
 fn say<E: Sink>(alloc: Global, err: &mut E, status: &Status) -> Said
     ensures line { Says result status.now (sink_seen E.tells E.bytes E.faults err.old err.new) }
     ensures silent { status.now ≡ Status.Ran → (result ≡ Said.All) × (err.new ≡ err.old) }

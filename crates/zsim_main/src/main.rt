@@ -22,8 +22,8 @@ fn main(rt: HostRuntime) -> ExitCode {
     ExitCode::from(ended.status.number())
 }
 
-// The words after the program's name. Where one of them is not UTF-8 there are none, which is no
-// command either.
+/// The words after the program's name. Where one of them is not UTF-8 there are none, which is no
+/// command either.
 fn words(rt: &(impl Env + AllocGlobal)) -> io::Result<Vec<String>> {
     match env::args(rt) {
         Ok(args) => Ok(args.skip(1).collect(rt.alloc())?),

@@ -1,28 +1,29 @@
-// Cases from a file. Each line is one, and its first word says what the others are: the words of the
-// command line; the name of an example; words over the files beside this one; the name of a machine
-// description to be read; the instructions of an executable, or all its bytes, in
-// hexadecimal digits; bytes of the executable that exits with seven that become others; changes to the
-// built-in machine, and after ` : ` the instructions that run on it, if others than those that exit with
-// seven; or the text of a machine description, or its bytes. A line with `#` is for the reader.
-//
-// Of a few lines in a row: `hold NAME` and what the name then holds, which is changes to the built-in
-// machine, instructions, bytes, or a file beside this one; `call` and words over the names that are
-// held; `race` and such words, where the order of accesses is not the same in each run; and `show NAME`,
-// which writes the bytes that the name holds.
+//! Cases from a file. Each line is one, and its first word says what the others are: the words of
+//! the command line; the name of an example; words over the files beside this one; the name of a
+//! machine description to be read; the instructions of an executable, or all its bytes, in
+//! hexadecimal digits; bytes of the executable that exits with seven that become others; changes to
+//! the built-in machine, and after ` : ` the instructions that run on it, if others than those that
+//! exit with seven; or the text of a machine description, or its bytes. A line with `#` is for the
+//! reader.
+//!
+//! Of a few lines in a row: `hold NAME` and what the name then holds, which is changes to the
+//! built-in machine, instructions, bytes, or a file beside this one; `call` and words over the
+//! names that are held; `race` and such words, where the order of accesses is not the same in each
+//! run; and `show NAME`, which writes the bytes that the name holds.
 use crate::executables::{SEVEN, executable};
 use crate::machines::changed;
+use crate::top_call::answer;
 use machine_desc::read;
 use std::alloc::Global;
 use std::sync::Wait;
 use std::thread::Threads;
 use zs_host::{Files, MemFiles, MemSink, OpenGate, Sink};
-use zsim::zsim;
 
-// The most bytes of the file of cases.
+/// The most bytes of the file of cases.
 const MOST: usize = 1 << 20;
 
-/// What all cases of the file `cases` answer, in their order. None where memory runs out or a line is no
-/// case.
+/// What all cases of the file `cases` answer, in their order. None where memory runs out or a line
+/// is no case.
 pub fn answers<F: Files>(
     rt: &(impl Threads + Wait + Sync),
     alloc: Global,
@@ -45,7 +46,7 @@ pub fn answers<F: Files>(
     Some(out)
 }
 
-// Has a name hold something. The files beside this one are in `files`.
+/// Has a name hold something. The files beside this one are in `files`.
 fn hold<F: Files>(alloc: Global, rest: &str, files: &mut F, held: &mut MemFiles) -> Option<()> {
     let (name, rest) = rest.split_once(' ')?;
     let (kind, rest) = rest.split_once(' ').unwrap_or((rest, ""));
@@ -63,7 +64,7 @@ fn hold<F: Files>(alloc: Global, rest: &str, files: &mut F, held: &mut MemFiles)
     .ok()
 }
 
-// Writes the bytes that a name holds, in hexadecimal digits.
+/// Writes the bytes that a name holds, in hexadecimal digits.
 fn write_held(alloc: Global, name: &str, held: &mut MemFiles, out: &mut MemSink) -> Option<()> {
     let bytes = held.read(alloc, name, MOST).ok()?;
     let mut line = String::from_str(alloc, name).ok()?;
@@ -74,7 +75,7 @@ fn write_held(alloc: Global, name: &str, held: &mut MemFiles, out: &mut MemSink)
     write_line(alloc, &line, out)
 }
 
-// Writes what a case answers. The examples are in these files.
+/// Writes what a case answers. The examples are in these files.
 fn write_case<F: Files>(
     rt: &(impl Threads + Wait + Sync),
     alloc: Global,
@@ -116,7 +117,7 @@ fn write_case<F: Files>(
     }
 }
 
-// Writes what `run plain NAME` answers, over these files.
+/// Writes what `run plain NAME` answers, over these files.
 fn write_example<F: Files>(
     rt: &(impl Threads + Wait + Sync),
     alloc: Global,
@@ -129,7 +130,8 @@ fn write_example<F: Files>(
     write_answer(rt, alloc, &words, files, out)
 }
 
-// Writes the numbers of cores, banks, controllers and domains of the machine that a file describes.
+/// Writes the numbers of cores, banks, controllers and domains of the machine that a file
+/// describes.
 fn write_machine<F: Files>(
     alloc: Global,
     name: &str,
@@ -144,7 +146,7 @@ fn write_machine<F: Files>(
     write_line(alloc, &line, out)
 }
 
-// Writes what `run plain A` answers, where A holds this executable.
+/// Writes what `run plain A` answers, where A holds this executable.
 fn write_run(
     rt: &(impl Threads + Wait + Sync),
     alloc: Global,
@@ -154,8 +156,9 @@ fn write_run(
     write_call(rt, alloc, "run plain A", exe, out)
 }
 
-// Writes what `run m A` answers, where m holds the built-in machine with changes, and A the executable
-// of the instructions behind ` : `, if there are any, and else the one that exits with seven.
+/// Writes what `run m A` answers, where m holds the built-in machine with changes, and A the
+/// executable of the instructions behind ` : `, if there are any, and else the one that exits with
+/// seven.
 fn write_on_changed(
     rt: &(impl Threads + Wait + Sync),
     alloc: Global,
@@ -169,7 +172,7 @@ fn write_on_changed(
     write_on(rt, alloc, changed(alloc, changes)?.as_bytes(), &exe, out)
 }
 
-// Writes what `run m A` answers, where m holds this description and A this executable.
+/// Writes what `run m A` answers, where m holds this description and A this executable.
 fn write_on(
     rt: &(impl Threads + Wait + Sync),
     alloc: Global,
@@ -184,7 +187,7 @@ fn write_on(
     write_answer(rt, alloc, &words, &mut files, out)
 }
 
-// Writes what these words answer, where A holds this executable.
+/// Writes what these words answer, where A holds this executable.
 fn write_call(
     rt: &(impl Threads + Wait + Sync),
     alloc: Global,
@@ -198,7 +201,7 @@ fn write_call(
     write_answer(rt, alloc, &words, &mut files, out)
 }
 
-// Writes what a call puts on both streams, and its status.
+/// Writes what a call puts on both streams, and its status.
 fn write_answer<F: Files>(
     rt: &(impl Threads + Wait + Sync),
     alloc: Global,
@@ -207,14 +210,14 @@ fn write_answer<F: Files>(
     out: &mut MemSink,
 ) -> Option<()> {
     let mut err = MemSink::new(alloc, usize::MAX, &[]).ok()?;
-    let ended = zsim(rt, alloc, words, files, out, &mut err, &OpenGate);
+    let ended = answer(rt, alloc, words, files, out, &mut err, &OpenGate);
     out.put(alloc, err.bytes()).ok()?;
     let status = format!(in alloc; "status {}", ended.status.number()).ok()?;
     write_line(alloc, &status, out)
 }
 
-// Writes of what a call answers what no order of accesses changes: the lines of cores, instructions and
-// accesses, how many lines there are, and the status.
+/// Writes of what a call answers what no order of accesses changes: the lines of cores,
+/// instructions and accesses, how many lines there are, and the status.
 fn write_steady<F: Files>(
     rt: &(impl Threads + Wait + Sync),
     alloc: Global,
@@ -238,8 +241,8 @@ fn write_steady<F: Files>(
     Some(())
 }
 
-// No order of accesses changes this line of a generated program's answer: its branches depend on no word
-// that a core writes.
+/// No order of accesses changes this line of a generated program's answer: its branches depend on
+/// no word that a core writes.
 fn is_steady(line: &str) -> bool {
     line.starts_with("cores ")
         || line.starts_with("instructions ")
@@ -261,7 +264,7 @@ fn words_of(alloc: Global, text: &str) -> Option<Vec<String>> {
     Some(words)
 }
 
-// The numbers of a line, each in hexadecimal digits.
+/// The numbers of a line, each in hexadecimal digits.
 fn numbers_of(alloc: Global, text: &str) -> Option<Vec<u32>> {
     let mut numbers = Vec::new(alloc);
     for word in text.split_whitespace() {
@@ -278,8 +281,8 @@ fn bytes_of(alloc: Global, text: &str) -> Option<Vec<u8>> {
     Some(bytes)
 }
 
-// The executable that exits with seven, with other bytes. The last two digits of a number are what the
-// byte at the index of the digits before them becomes.
+/// The executable that exits with seven, with other bytes. The last two digits of a number are what
+/// the byte at the index of the digits before them becomes.
 fn spoiled(alloc: Global, text: &str) -> Option<Vec<u8>> {
     let mut bytes = executable(alloc, &SEVEN).ok()?;
     for number in &numbers_of(alloc, text)? {

@@ -1,11 +1,12 @@
-// Calls the top call on words and files, and looks at what it answered and wrote.
+//! Calls the top call on words and files, and looks at what it answered and wrote.
+use crate::top_call::answer;
 use std::alloc::{AllocError, Global};
 use std::process::Abort;
 use std::sync::Wait;
 use std::thread::Threads;
 use zs_host::{MemFiles, MemSink, OpenGate};
 use zs_num::NoMemory;
-use zsim::{Ended, zsim};
+use zsim::Ended;
 
 /// The answer of a call, and what the two streams hold after it.
 #[derive(Drop)]
@@ -26,7 +27,7 @@ pub fn call(
     let mut files = MemFiles::new(alloc, &[])?;
     files.set(alloc, "A", exe)?;
     let words = owned(alloc, &["run", "plain", "A"])?;
-    let ended = zsim(rt, alloc, &words, &mut files, &mut out, &mut err, &OpenGate);
+    let ended = answer(rt, alloc, &words, &mut files, &mut out, &mut err, &OpenGate);
     Ok(Called { ended, out, err })
 }
 
@@ -40,7 +41,7 @@ pub fn call_with(
     let mut out = MemSink::new(alloc, usize::MAX, &[])?;
     let mut err = MemSink::new(alloc, usize::MAX, &[])?;
     let words = owned(alloc, words)?;
-    let ended = zsim(rt, alloc, &words, files, &mut out, &mut err, &OpenGate);
+    let ended = answer(rt, alloc, &words, files, &mut out, &mut err, &OpenGate);
     Ok(Called { ended, out, err })
 }
 

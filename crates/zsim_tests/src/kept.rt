@@ -1,4 +1,4 @@
-// What is kept of a run: the machine's text, the executable and the schedule.
+//! What is kept of a run: the machine's text, the executable and the schedule.
 use crate::executables::{SEVEN, executable};
 use crate::harness::{call_with, run};
 use machine_desc::PLAIN;
@@ -10,8 +10,8 @@ use std::thread::Threads;
 use zs_host::MemFiles;
 use zsim::{Said, Status};
 
-// 200 loads, each of another line: addi x6, x0, 200; ld x5, -8(x2); addi x2, x2, -256; addi x6, x6, -1;
-// bne x6, x0, -12; addi x17, x0, 93; ecall
+/// 200 loads, each of another line: addi x6, x0, 200; ld x5, -8(x2); addi x2, x2, -256; addi x6,
+/// x6, -1; bne x6, x0, -12; addi x17, x0, 93; ecall
 static TWO_HUNDRED_LOADS: [u32; 7] = [
     0x0C80_0313,
     0xFF81_3283,
@@ -67,8 +67,8 @@ fn what_the_machine_file_held_is_kept(
     Ok(())
 }
 
-// Each load misses. Load k, from 0, is at cycle 2 + 117 k: 86 loads in the first interval, 85 in the
-// second and 29 in the third.
+/// Each load misses. Load k, from 0, is at cycle 2 + 117 k: 86 loads in the first interval, 85 in
+/// the second and 29 in the third.
 fn the_schedule_has_a_turn_for_each_load(
     rt: &(impl Abort + Threads + Wait + Sync),
     alloc: Global,
@@ -82,7 +82,7 @@ fn the_schedule_has_a_turn_for_each_load(
     Ok(())
 }
 
-// 10,000 instructions fill an interval to its end, and the next instruction is in the second.
+/// 10,000 instructions fill an interval to its end, and the next instruction is in the second.
 fn a_program_goes_on_in_the_next_interval(
     rt: &(impl Abort + Threads + Wait + Sync),
     alloc: Global,

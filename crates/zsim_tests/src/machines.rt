@@ -1,10 +1,10 @@
-// Machine descriptions of cases: the built-in one with other lines.
+//! Machine descriptions of cases: the built-in one with other lines.
 use machine_desc::PLAIN;
 use std::alloc::Global;
 
-/// The built-in description with changes, which stand between `;`. Each is `OLD -> NEW`: a whole line,
-/// and the lines that stand in its place, between `|`. None where memory runs out or a change has no
-/// arrow.
+/// The built-in description with changes, which stand between `;`. Each is `OLD -> NEW`: a whole
+/// line, and the lines that stand in its place, between `|`. None where memory runs out or a change
+/// has no arrow.
 pub fn changed(alloc: Global, changes: &str) -> Option<String> {
     let mut text = String::new(alloc);
     for line in PLAIN.lines() {
@@ -13,7 +13,7 @@ pub fn changed(alloc: Global, changes: &str) -> Option<String> {
     Some(text)
 }
 
-// Writes a line, or those that stand in its place.
+/// Writes a line, or those that stand in its place.
 fn write_changed(text: &mut String, line: &str, changes: &str) -> Option<()> {
     for change in changes.split_terminator(';') {
         let (old, new) = change.split_once("->")?;
@@ -24,7 +24,7 @@ fn write_changed(text: &mut String, line: &str, changes: &str) -> Option<()> {
     write_lines(text, line)
 }
 
-// Writes the lines that stand between `|`.
+/// Writes the lines that stand between `|`.
 fn write_lines(text: &mut String, lines: &str) -> Option<()> {
     for line in lines.split('|') {
         text.push_str(line.trim()).ok()?;

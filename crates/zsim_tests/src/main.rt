@@ -1,6 +1,6 @@
-//! Runs the cases of the file `cases`, the examples among them, as the program does, and writes what they
-//! answer; the stored output has what they must answer. The tests are of what needs more than words and
-//! an executable.
+//! Runs the cases of the file `cases`, the examples among them, as the program does, and writes
+//! what they answer; the stored output has what they must answer. The tests are of what needs more
+//! than words and an executable.
 #![tactic(auto)]
 
 mod cases;
@@ -22,6 +22,7 @@ mod refusals;
 mod sinks;
 #[cfg(test)]
 mod tests;
+mod top_call;
 
 use std::io::Print;
 use std::process::ExitCode;

@@ -1,5 +1,6 @@
-// Runs that may run out of memory. With ample memory they end as they should; where an allocation is
-// refused, which the gate does not try, each of them answers NoMemory instead, and no other answer.
+//! Runs that may run out of memory. With ample memory they end as they should; where an allocation
+//! is refused, which the gate does not try, each of them answers NoMemory instead, and no other
+//! answer.
 use crate::executables::{SEVEN, STORE_AND_LOAD, executable};
 use crate::harness::{Called, run};
 use std::alloc::Global;
@@ -34,7 +35,7 @@ fn run_words(
     run(rt, alloc, &exe)
 }
 
-// The call ended so, or out of memory, with what belongs to that on both streams.
+/// The call ended so, or out of memory, with what belongs to that on both streams.
 fn assert_answered(rt: &impl Abort, called: &Called, number: u8, line: &str) {
     let out_of_memory = matches!(called.ended.status, Status::NoMemory);
     assert!(rt; out_of_memory || called.ended.status.number() == number);

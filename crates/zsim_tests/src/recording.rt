@@ -1,4 +1,4 @@
-// Schedules of two cores, written and read where the files fail, and what is kept of them.
+//! Schedules of two cores, written and read where the files fail, and what is kept of them.
 use crate::executables::{LOAD, executable};
 use crate::harness::{assert_ended, call_with};
 use crate::machines::changed;
@@ -7,17 +7,17 @@ use std::process::Abort;
 use std::sync::Wait;
 use std::test::Fail;
 use std::thread::Threads;
-use zs_host::{Files, MemFiles};
+use zs_host::{FileFail, Files, MemFiles};
 use zsim::Status;
 
 const RUN: [&str; 5] = ["run", "m", "B", "--record", "s"];
 
 const REPLAY: [&str; 5] = ["replay", "m", "B", "--schedule", "s"];
 
-// The schedule of two cores that load once each.
+/// The schedule of two cores that load once each.
 const TURNS: [u8; 22] = *b"ZSCH\x01\0\0\0\x02\0\0\0\x01\0\0\0\x02\0\0\0\0\x01";
 
-// Files with a machine of two cores and an executable that loads, of which these calls fail.
+/// Files with a machine of two cores and an executable that loads, of which these calls fail.
 fn two_cores(alloc: Global, fail: &[u64]) -> Result<MemFiles, Fail> {
     let machine = changed(alloc, "cores = 1 -> cores = 2").ok_or("a machine")?;
     let mut files = MemFiles::new(alloc, fail)?;
@@ -32,11 +32,12 @@ pub fn schedules_are_written_and_read(
     alloc: Global,
 ) -> Result<(), Fail> {
     a_schedule_that_cannot_be_written_leaves_the_report_whole(rt, alloc)?;
+    a_run_of_no_files_only_writes(rt, alloc)?;
     what_a_replay_read_is_kept(rt, alloc)?;
     a_schedule_that_cannot_be_read_is_a_read_fault(rt, alloc)
 }
 
-// The machine and the executable are read first, so the third call on the files is the write.
+/// The machine and the executable are read first, so the third call on the files is the write.
 fn a_schedule_that_cannot_be_written_leaves_the_report_whole(
     rt: &(impl Abort + Threads + Wait + Sync),
     alloc: Global,
@@ -59,7 +60,25 @@ fn a_schedule_that_cannot_be_written_leaves_the_report_whole(
     Ok(())
 }
 
-// Of a file that is refused no interval is kept, and of a schedule that is not legal all are.
+/// Neither the built-in machine nor the program of a number has a file, so the first call on the
+/// files is the write.
+fn a_run_of_no_files_only_writes(
+    rt: &(impl Abort + Threads + Wait + Sync),
+    alloc: Global,
+) -> Result<(), Fail> {
+    let mut files = MemFiles::new(alloc, &[0])?;
+    let words = ["run", "plain", "gen:5", "--record", "s"];
+    let failed = call_with(rt, alloc, &words, &mut files)?;
+    assert_eq!(rt; failed.ended.status.number(), 5);
+    assert_eq!(rt; failed.err.bytes(), b"zsim: cannot write\n".as_slice());
+    let whole = call_with(rt, alloc, &["run", "plain", "gen:5"], &mut files)?;
+    assert_eq!(rt; whole.ended.status.number(), 0);
+    assert_eq!(rt; failed.out.bytes(), whole.out.bytes());
+    assert_eq!(rt; files.read(alloc, "s", 1).err(), Some(FileFail::Failed));
+    Ok(())
+}
+
+/// Of a file that is refused no interval is kept, and of a schedule that is not legal all are.
 fn what_a_replay_read_is_kept(
     rt: &(impl Abort + Threads + Wait + Sync),
     alloc: Global,
@@ -86,7 +105,7 @@ fn what_a_replay_read_is_kept(
     Ok(())
 }
 
-// Zeros are no schedule, if they are not too many.
+/// Zeros are no schedule, if they are not too many.
 pub fn a_schedule_over_its_limit_is_too_long(
     rt: &(impl Abort + Threads + Wait + Sync),
     alloc: Global,
@@ -107,7 +126,7 @@ pub fn a_schedule_over_its_limit_is_too_long(
     Ok(())
 }
 
-// Of three reads the third fails, or the name is not there.
+/// Of three reads the third fails, or the name is not there.
 fn a_schedule_that_cannot_be_read_is_a_read_fault(
     rt: &(impl Abort + Threads + Wait + Sync),
     alloc: Global,

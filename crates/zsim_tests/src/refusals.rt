@@ -1,7 +1,8 @@
-// Machines and executables that cannot be read, and what is kept of one that is refused.
-use crate::executables::{SEVEN, executable};
+//! Machines and executables that cannot be read, and what is kept of one that is refused.
+use crate::executables::{SEVEN, executable, overlapping};
 use crate::harness::{assert_ended, call_with, owned, run};
 use crate::machines::changed;
+use crate::top_call::answer;
 use elf_load::BadElf;
 use machine_desc::{BadMachine, PLAIN};
 use std::alloc::Global;
@@ -10,7 +11,7 @@ use std::sync::Wait;
 use std::test::Fail;
 use std::thread::Threads;
 use zs_host::{MemFiles, OpenGate, SureFiles, SureSink};
-use zsim::{Status, zsim};
+use zsim::{Said, Status};
 
 pub fn an_executable_over_its_limit_is_too_long(
     rt: &(impl Abort + Threads + Wait + Sync),
@@ -26,7 +27,7 @@ pub fn an_executable_over_its_limit_is_too_long(
     Ok(())
 }
 
-// A description of newlines alone is a text without a key, if it is not too long.
+/// A description of newlines alone is a text without a key, if it is not too long.
 pub fn a_description_over_its_limit_is_too_long(
     rt: &(impl Abort + Threads + Wait + Sync),
     alloc: Global,
@@ -44,16 +45,43 @@ pub fn a_description_over_its_limit_is_too_long(
     Ok(())
 }
 
+/// It names an unknown key, which here leaves few of a description's 2^20 bytes unused. Each of its
+/// letters is two bytes, which do not print as themselves.
+pub fn the_longest_error_line_is_written_whole(
+    rt: &(impl Abort + Threads + Wait + Sync),
+    alloc: Global,
+) -> Result<(), Fail> {
+    let name = "é".repeat(alloc, 524_000)?;
+    let machine = format!(in alloc; "\"{name}\" = 1\n{PLAIN}")?;
+    let mut files = MemFiles::new(alloc, &[])?;
+    files.set(alloc, "m", machine.as_bytes())?;
+    let called = call_with(rt, alloc, &["run", "m", "E"], &mut files)?;
+    assert!(rt;
+        matches!(
+            called.ended.status,
+            Status::BadMachine(BadMachine::Unknown { .. })
+        )
+    );
+    assert_eq!(rt; called.ended.said, Said::All);
+    assert!(rt; called.out.bytes().is_empty());
+    let line = called.err.bytes();
+    assert_eq!(rt; line.len(), 16 + 8 * 524_000 + 1);
+    assert!(rt; line.starts_with(b"zsim: machine 5 \\xc3\\xa9\\xc3\\xa9"));
+    assert!(rt; line.ends_with(b"\\xc3\\xa9\n"));
+    Ok(())
+}
+
 /// All of these.
 pub fn inputs_are_refused(
     rt: &(impl Abort + Threads + Wait + Sync),
     alloc: Global,
 ) -> Result<(), Fail> {
     a_read_that_fails_is_a_read_fault(rt, alloc)?;
+    segments_of_the_last_headers_overlap(rt, alloc)?;
     objects_that_never_fail_are_read_and_written(rt, alloc)
 }
 
-// Of the two reads the first or the second fails. The machine is checked before the second.
+/// Of the two reads the first or the second fails. The machine is checked before the second.
 fn a_read_that_fails_is_a_read_fault(
     rt: &(impl Abort + Threads + Wait + Sync),
     alloc: Global,
@@ -82,7 +110,17 @@ fn a_read_that_fails_is_a_read_fault(
     Ok(())
 }
 
-// Over objects that never fail, a name that was never written holds no bytes.
+/// No overlap has larger numbers: there are at most 128 headers.
+fn segments_of_the_last_headers_overlap(
+    rt: &(impl Abort + Threads + Wait + Sync),
+    alloc: Global,
+) -> Result<(), Fail> {
+    let called = run(rt, alloc, &overlapping(alloc)?)?;
+    assert_ended(rt, &called, 7, "", "zsim: elf 11 126 127\n");
+    Ok(())
+}
+
+/// Over objects that never fail, a name that was never written holds no bytes.
 fn objects_that_never_fail_are_read_and_written(
     rt: &(impl Abort + Threads + Wait + Sync),
     alloc: Global,
@@ -110,11 +148,11 @@ fn objects_that_never_fail_are_read_and_written(
         files.set(alloc, "m", machine.as_bytes())?;
         files.set(alloc, "A", &exe)?;
         let words = owned(alloc, &["run", "m", "A"])?;
-        let ended = zsim(rt, alloc, &words, &mut files, &mut out, &mut err, &OpenGate);
+        let ended = answer(rt, alloc, &words, &mut files, &mut out, &mut err, &OpenGate);
         assert_eq!(rt; ended.status.number(), number);
         assert!(rt; out.bytes().starts_with(first.as_bytes()));
         let words = owned(alloc, &["run", "missing", "A"])?;
-        let ended = zsim(rt, alloc, &words, &mut files, &mut out, &mut err, &OpenGate);
+        let ended = answer(rt, alloc, &words, &mut files, &mut out, &mut err, &OpenGate);
         assert!(rt; matches!(ended.status, Status::BadMachine(BadMachine::Missing { .. })));
     }
     Ok(())

@@ -1,4 +1,4 @@
-// Sinks that take little at a time, and sinks that fail.
+//! Sinks that take little at a time, and sinks that fail.
 use crate::executables::{SEVEN, executable};
 use crate::harness::{call, run};
 use std::alloc::Global;
@@ -34,7 +34,7 @@ fn a_sink_that_takes_a_byte_a_put_gains_the_whole_report(
     Ok(())
 }
 
-// The report of 282 bytes takes five puts of 64 bytes, so a fifth fault is none of it.
+/// The report of 282 bytes takes five puts of 64 bytes, so a fifth fault is none of it.
 fn a_put_that_fails_leaves_the_bytes_before_it(
     rt: &(impl Abort + Threads + Wait + Sync),
     alloc: Global,
@@ -61,7 +61,7 @@ fn a_put_that_fails_leaves_the_bytes_before_it(
     Ok(())
 }
 
-// Where this put of 64 bytes fails, those before it stand, and the line is said.
+/// Where this put of 64 bytes fails, those before it stand, and the line is said.
 fn assert_cut(
     rt: &(impl Abort + Threads + Wait + Sync),
     alloc: Global,
@@ -102,7 +102,7 @@ fn a_failing_standard_error_changes_no_status(
     Ok(())
 }
 
-// What is said of an empty executable where this put of eight bytes fails.
+/// What is said of an empty executable where this put of eight bytes fails.
 fn assert_says(
     rt: &(impl Abort + Threads + Wait + Sync),
     alloc: Global,

@@ -1,5 +1,5 @@
-// The checks that take ample memory for granted, in two tests: each test is a program of its own, and to
-// build a program takes far longer than to run most of these.
+//! The checks that take ample memory for granted, in two tests: each test is a program of its own,
+//! and to build a program takes far longer than to run most of these.
 use crate::{kept, recording, refusals, sinks};
 use std::test::Fail;
 
@@ -12,10 +12,11 @@ fn each_check_holds(rt: HostRuntime) -> Result<(), Fail> {
     sinks::sinks_are_filled(&rt, alloc)
 }
 
-// These fill many megabytes.
+/// These fill many megabytes. The longest error line is of a file just below its limit.
 #[test]
 fn files_over_their_limits_are_too_long(rt: HostRuntime) -> Result<(), Fail> {
     let alloc = rt.alloc();
+    refusals::the_longest_error_line_is_written_whole(&rt, alloc)?;
     refusals::a_description_over_its_limit_is_too_long(&rt, alloc)?;
     refusals::an_executable_over_its_limit_is_too_long(&rt, alloc)?;
     recording::a_schedule_over_its_limit_is_too_long(&rt, alloc)

@@ -1,8 +1,8 @@
-// What an access does to one core's copy of a line, and to the directory with it.
+//! What an access does to one core's copy of a line, and to the directory with it.
 ghost use Rattle.std.specs.Prelude.{◌≡◌, ◌≢◌, ℕ, ◌<◌, IsSome, IsTrue, false, true, not, length};
 ghost use Rattle.cache_set.specs.Ways.{without, filled, changed};
 ghost use Rattle.shard.specs.CacheSteps.{ChangesOne};
-ghost use Rattle.shard.specs.Coherence.{dirty_at, in_own_set_of, is_alone, is_held, is_modified, kept_first, letter_at, own_after, own_victim, some_other, written_back};
+ghost use Rattle.shard.specs.Coherence.{dirty_at, in_own_set_of, is_alone, is_valid, is_modified, kept_first, letter_at, own_after, own_victim, some_other, written_back};
 
 use super::CacheLists;
 use cache_set::Letter;
@@ -40,8 +40,8 @@ impl CacheLists {
     #[inline(always)]
     pub(super) fn keep_first(&mut self, core: u16, line: u64, letter: Letter)
         requires core { core < length self.old.l1 }
-        requires there { IsTrue (is_held (letter_at self.old core line)) }
-        requires held { IsTrue (is_held letter) }
+        requires there { IsTrue (is_valid (letter_at self.old core line)) }
+        requires held { IsTrue (is_valid letter) }
         requires alone { is_alone letter ≡ is_alone (letter_at self.old core line) }
         ensures { self.new ≡ kept_first core line letter self.old }
     {
@@ -52,7 +52,7 @@ impl CacheLists {
     /// A core that has a line, as no other does, has it in M.
     pub(super) fn own(&mut self, core: u16, line: u64)
         requires core { core < length self.old.l1 }
-        requires there { IsTrue (is_held (letter_at self.old core line)) }
+        requires there { IsTrue (is_valid (letter_at self.old core line)) }
         requires alone { (other : ℕ) → other ≢ core → letter_at self.old other line ≡ Letter.I }
         requires in_l2 { IsSome (dirty_at self.old line) }
         ensures { self.new ≡ kept_first core line Letter.M self.old }
@@ -74,7 +74,7 @@ impl CacheLists {
         requires written { write ≡ true → (other : ℕ) → other ≢ core → letter_at self.old other line ≡ Letter.I }
         requires room { own_victim self.old core line ≡ None }
         ensures { self.new ≡ in_own_set_of core line (filled self.old.l1_ways line
-            (own_after write Letter.I (some_other is_held self.old core line))) self.old }
+            (own_after write Letter.I (some_other is_valid self.old core line))) self.old }
     {
         let place = self.place(line);
         let set = &mut self.l2[place];
@@ -84,7 +84,7 @@ impl CacheLists {
     }
 }
 
-// The letter of a line that comes into an L1.
+/// The letter of a line that comes into an L1.
 fn new_letter(write: bool, alone: bool) -> Letter
     ensures { result ≡ own_after write Letter.I (not alone) }
 {

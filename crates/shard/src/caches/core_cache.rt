@@ -1,7 +1,7 @@
-// The cache of one core (L1): its sets, whose marks stand for letters.
+//! The cache of one core (L1): its sets, whose marks stand for letters.
 ghost use Rattle.std.specs.Prelude.{◌≡◌, ℕ, ◌<◌, ◌≤◌, ◌∷◌, [], IfOk, IfSome, IsSome, IsTrue, take, ◌-◌, None, length, if◌then◌else◌, nat_eq, replicate};
 ghost use Rattle.cache_set.specs.Ways.{kept_of, without, filled, changed, last_of_full};
-ghost use Rattle.shard.specs.Coherence.{is_held, letter_in};
+ghost use Rattle.shard.specs.Coherence.{is_valid, letter_in};
 ghost use Rattle.shard.specs.Lines.{in_set_of, set_number};
 ghost use Rattle.shard.specs.CacheLayout.{ChangesLetter, HasCopies, copies_of, letter_without, own_letter};
 
@@ -69,8 +69,8 @@ impl CoreCache {
     /// Gives a line that is there another letter, and makes it the most recently used.
     #[inline(always)]
     pub(crate) fn keep_first(&mut self, line: u64, letter: Letter)
-        requires there { IsTrue (is_held (own_letter self.old line)) }
-        requires held { IsTrue (is_held letter) }
+        requires there { IsTrue (is_valid (own_letter self.old line)) }
+        requires held { IsTrue (is_valid letter) }
         ensures after { self.new ≡ record self.old {
           sets = in_set_of self.old.shards line (λ copies. (line, letter) ∷ without line copies) self.old.sets;
         } }
@@ -86,7 +86,7 @@ impl CoreCache {
     /// Puts a line that is not there at the front. Of a full set the last line leaves.
     pub(crate) fn put(&mut self, line: u64, letter: Letter)
         requires absent { own_letter self.old line ≡ Letter.I }
-        requires held { IsTrue (is_held letter) }
+        requires held { IsTrue (is_valid letter) }
         ensures after { self.new ≡ record self.old {
           sets = in_set_of self.old.shards line (filled self.old.ways line letter) self.old.sets;
         } }
@@ -101,7 +101,7 @@ impl CoreCache {
 
     /// Makes a line that is there shared, in its place.
     pub(crate) fn share(&mut self, line: u64)
-        requires { IsTrue (is_held (own_letter self.old line)) }
+        requires { IsTrue (is_valid (own_letter self.old line)) }
         ensures after { self.new ≡ record self.old {
           sets = in_set_of self.old.shards line (changed line Letter.S) self.old.sets;
         } }
@@ -126,7 +126,7 @@ impl CoreCache {
         set.take_out(line);
     }
 
-    // The number of a line's set.
+    /// The number of a line's set.
     #[inline(always)]
     fn place(&self, line: u64) -> usize
         ensures place { result ≡ set_number self.now.shards line self.now.sets }
@@ -136,7 +136,7 @@ impl CoreCache {
     }
 }
 
-// So many sets without a line.
+/// So many sets without a line.
 fn empty_sets(alloc: Global, ways: u16, count: u32) -> Result<Vec<Set>, NoMemory>
     requires { (1 ≤ ways) × (ways ≤ 32) }
     ensures { IfOk result (λ sets. sets.items ≡ replicate count (record { ways = ways; list = [] })) }

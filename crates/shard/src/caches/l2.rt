@@ -1,4 +1,4 @@
-// What an access does to the L2.
+//! What an access does to the L2.
 ghost use Rattle.std.specs.Prelude.{◌≡◌, ℕ, Bool, IsSome};
 ghost use Rattle.shard.specs.Coherence.{dirty_at, l2_victim, letter_at, looked_up, marked_dirty, taken_into_l2};
 

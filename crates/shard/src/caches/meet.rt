@@ -1,7 +1,7 @@
-// How the caches meet an access: each row of the table of the MESI protocol.
+//! How the caches meet an access: each row of the table of the MESI protocol.
 ghost use Rattle.std.specs.Prelude.{◌≡◌, ◌≢◌, ℕ, ◌<◌, ◌||◌, IsSome, IsTrue, None, false, true, length, if◌then◌else◌};
 ghost use Rattle.shard.specs.CacheSteps.{LeavesFree, MakesL2Room, after_at, met_at};
-ghost use Rattle.shard.specs.Coherence.{allows, caches_after, dirty_at, is_alone, is_dirty_victim, is_held, is_modified, is_write, l2_victim, letter_at, marked_dirty, on_others, outcome_of, room_made, some_core, some_other};
+ghost use Rattle.shard.specs.Coherence.{allows, caches_after, dirty_at, is_alone, is_dirty_victim, is_valid, is_modified, is_write, l2_victim, letter_at, marked_dirty, on_others, outcome_of, room_made, some_core, some_other};
 
 use super::CacheLists;
 use cache_set::Letter;
@@ -19,7 +19,7 @@ impl CacheLists {
         self.meet_line(core, request.line(), is_write(&request))
     }
 
-    // How they meet a read or a write of a line.
+    /// How they meet a read or a write of a line.
     #[inline(always)]
     fn meet_line(&mut self, core: u16, line: u64, write: bool) -> Outcome
         requires { core < length self.old.l1 }
@@ -36,7 +36,7 @@ impl CacheLists {
         }
     }
 
-    // The core has the line with a letter that allows the access.
+    /// The core has the line with a letter that allows the access.
     #[inline(always)]
     fn hit(&mut self, core: u16, line: u64, own: Letter, write: bool) -> Outcome
         requires core { core < length self.old.l1 }
@@ -49,7 +49,7 @@ impl CacheLists {
         Outcome::Hit
     }
 
-    // The core has the line in S, and writes it.
+    /// The core has the line in S, and writes it.
     #[inline(never)]
     fn upgrade(&mut self, core: u16, line: u64) -> Outcome
         requires core { core < length self.old.l1 }
@@ -64,7 +64,7 @@ impl CacheLists {
         Outcome::Upgrade { others }
     }
 
-    // The core does not have the line.
+    /// The core does not have the line.
     #[inline(never)]
     fn bring(&mut self, core: u16, line: u64, write: bool) -> Outcome
         requires core { core < length self.old.l1 }
@@ -78,7 +78,7 @@ impl CacheLists {
         }
     }
 
-    // The L2 has the line.
+    /// The L2 has the line.
     fn bring_from_l2(&mut self, core: u16, line: u64, write: bool) -> Outcome
         requires core { core < length self.old.l1 }
         requires own { letter_at self.old core line ≡ Letter.I }
@@ -93,11 +93,11 @@ impl CacheLists {
         Outcome::L2 { others }
     }
 
-    // Whether another core's copy has to change for an access of a core that has none.
+    /// Whether another core's copy has to change for an access of a core that has none.
     fn others_change(&self, core: u16, line: u64, write: bool) -> bool
         requires core { core < length self.now.l1 }
         requires own { letter_at self.now core line ≡ Letter.I }
-        ensures { result ≡ (if write then some_other is_held self.now core line
+        ensures { result ≡ (if write then some_other is_valid self.now core line
             else some_other is_alone self.now core line) }
     {
         if write {
@@ -107,8 +107,8 @@ impl CacheLists {
         }
     }
 
-    // The other cores' copies change for an access of a core that has none, and a modified copy
-    // makes the line dirty.
+    /// The other cores' copies change for an access of a core that has none, and a modified copy
+    /// makes the line dirty.
     fn change_others(&mut self, core: u16, line: u64, write: bool)
         requires core { core < length self.old.l1 }
         requires own { letter_at self.old core line ≡ Letter.I }
@@ -124,7 +124,7 @@ impl CacheLists {
         }
     }
 
-    // Where another core has a line modified, it is dirty in the L2.
+    /// Where another core has a line modified, it is dirty in the L2.
     fn collect(&mut self, core: u16, line: u64)
         requires { letter_at self.old core line ≡ Letter.I }
         ensures { self.new ≡ (if some_other is_modified self.old core line then marked_dirty line self.old else self.old) }
@@ -134,7 +134,7 @@ impl CacheLists {
         }
     }
 
-    // The L2 does not have the line, and no core has it.
+    /// The L2 does not have the line, and no core has it.
     fn bring_from_memory(&mut self, core: u16, line: u64, write: bool) -> Outcome
         requires core { core < length self.old.l1 }
         requires absent { dirty_at self.old line ≡ None }
@@ -148,8 +148,8 @@ impl CacheLists {
         Outcome::Miss { dirty_victim }
     }
 
-    // Every copy of the line that has to leave the L2 for a core's access is removed. The answer is
-    // whether that line is dirty.
+    /// Every copy of the line that has to leave the L2 for a core's access is removed. The answer
+    /// is whether that line is dirty.
     fn make_l2_room(&mut self, core: u16, line: u64) -> bool
         requires { core < length self.old.l1 }
         ensures dirty { result ≡ is_dirty_victim self.old (l2_victim self.old line) }
@@ -166,7 +166,7 @@ impl CacheLists {
         }
     }
 
-    // Whether a line is dirty in the L2 or modified in an L1.
+    /// Whether a line is dirty in the L2 or modified in an L1.
     fn is_dirty(&self, line: u64, dirty: bool) -> bool
         ensures { result ≡ (dirty || some_core is_modified self.now line) }
     {
@@ -174,7 +174,7 @@ impl CacheLists {
     }
 }
 
-// Whether a letter allows an access.
+/// Whether a letter allows an access.
 fn allows(letter: Letter, write: bool) -> bool
     ensures { result ≡ allows write letter }
 {
@@ -185,7 +185,7 @@ fn allows(letter: Letter, write: bool) -> bool
     }
 }
 
-// Whether a request is a write: also a store-conditional that fails.
+/// Whether a request is a write: also a store-conditional that fails.
 fn is_write(request: &Request) -> bool
     ensures { result ≡ is_write request.now }
 {

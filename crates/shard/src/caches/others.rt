@@ -1,8 +1,8 @@
-// What an access does to the other cores' copies of a line.
+//! What an access does to the other cores' copies of a line.
 ghost use Rattle.std.specs.Prelude.{◌≡◌, ◌≢◌, ℕ, ◌<◌, IfSome, IsSome, IsTrue, false, true, length, nat_eq, if◌then◌else◌};
 ghost use Rattle.shard.specs.CacheLayout.{is_owner};
 ghost use Rattle.shard.specs.CacheSteps.{ChangesOne, DropsAll, DropsOthers, HaveCopies};
-ghost use Rattle.shard.specs.Coherence.{dirty_at, is_alone, is_held, is_modified, letter_at, marked_dirty, other_after, others_changed, recalled, some_core, some_other};
+ghost use Rattle.shard.specs.Coherence.{dirty_at, is_alone, is_valid, is_modified, letter_at, marked_dirty, other_after, others_changed, recalled, some_core, some_other};
 
 use super::CacheLists;
 use cache_set::Letter;
@@ -11,8 +11,8 @@ impl CacheLists {
     /// Whether another core than this one has a line.
     pub(super) fn any_other(&self, core: u16, line: u64) -> bool
         requires { core < length self.now.l1 }
-        ensures other { result ≡ some_other is_held self.now core line }
-        ensures inclusive { (c : ℕ) → IsTrue (is_held (letter_at self.now c line)) → IsSome (dirty_at self.now line) }
+        ensures other { result ≡ some_other is_valid self.now core line }
+        ensures inclusive { (c : ℕ) → IsTrue (is_valid (letter_at self.now c line)) → IsSome (dirty_at self.now line) }
         ensures copies { HaveCopies self.now }
     {
         self.l2[self.place(line)].any_other(line, core)
@@ -30,7 +30,7 @@ impl CacheLists {
     /// Whether a core has a line.
     pub(super) fn holds(&self, core: u16, line: u64) -> bool
         requires { core < length self.now.l1 }
-        ensures held { result ≡ is_held (letter_at self.now core line) }
+        ensures held { result ≡ is_valid (letter_at self.now core line) }
         ensures copies { HaveCopies self.now }
     {
         self.l2[self.place(line)].holds(line, core)
@@ -64,7 +64,7 @@ impl CacheLists {
         }
     }
 
-    // The same, core by core.
+    /// The same, core by core.
     fn drop_each_other(&mut self, core: u16, line: u64)
         ensures after { self.new ≡ others_changed (other_after true) core line self.old }
         ensures letters { DropsOthers self.old self.new core line }

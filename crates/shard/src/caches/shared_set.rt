@@ -1,4 +1,4 @@
-// A set of the L2 with its directory.
+//! A set of the L2 with its directory.
 ghost use Rattle.std.specs.Prelude.{◌≡◌, ◌≢◌, ℕ, ◌<◌, ◌≤◌, [], IfOk, IsSome, IsTrue, None, if◌then◌else◌, nat_eq, option_map, false, true, ◌↔◌};
 ghost use Rattle.cache_set.specs.Ways.{kept_of, used, filled, changed, last_of_full};
 ghost use Rattle.mesi_dir.specs.LineMap.{HasOther, is_sharer, owner_of, sharing_of};

@@ -1,10 +1,11 @@
+//! What the caches of one shard do access after access.
 ghost use Rattle.std.specs.Prelude.{◌≡◌, ◌≤◌, IfOk, length};
 
 use super::*;
 use std::test::Fail;
 use zs_num::{Outcome, Request};
 
-// In one shard two L1 sets of one way for each core, and four L2 sets of two ways.
+/// In one shard two L1 sets of one way for each core, and four L2 sets of two ways.
 fn small(alloc: Global, cores: u16) -> Result<CacheLists, NoMemory>
     requires { (1 ≤ cores) × (cores ≤ 256) }
     ensures { IfOk result (λ c. length c.l1 ≡ cores) }

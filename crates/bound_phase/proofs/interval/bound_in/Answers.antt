@@ -3,7 +3,7 @@ use Rattle.zs_num.specs.declared.entry.Entry.{Entry}
 use Rattle.access_log.specs.Logs.{HaveDistinctKeys, LogState, entries_of_logs}
 use Rattle.access_log.specs.RecordedOrder.{recorded_order}
 use Rattle.shard_table.specs.Access.{AreAllSeats, AreWhole, SeatState, TableState, entries_of_seats, recorded_entries}
-use Rattle.bound_core.specs.Timed.{NumberedCore}
+use Rattle.bound_core.specs.TimedCore.{NumberedCore}
 use Rattle.bound_phase.specs.declared.member.Member.{Member}
 use Rattle.bound_phase.specs.Bounds.{AreSeated, HaveEnded, IsBound}
 use Rattle.bound_phase.specs.Shares.{HaveReturned, mates}
@@ -14,8 +14,8 @@ use Rattle.bound_phase.proofs.interval.bound_in.Goals as goal
 pub make_over-requires-clause-numbers : goal.make_over-requires-clause-numbers
 make_over-requires-clause-numbers g c = λ number shard at. (c.requires.can.shards_are.each number shard at).number_is
 
-pub take_turns-requires-clause-hired : goal.take_turns-requires-clause-hired
-take_turns-requires-clause-hired g c = λ lifetimes inside.
+pub run_crews-requires-clause-hired : goal.run_crews-requires-clause-hired
+run_crews-requires-clause-hired g c = λ lifetimes inside.
     let m = c.args.machine.now in
     let t : TableState = c.in-Ok-make_over.table in
     let cores : List NumberedCore = c.new.new.cores in
@@ -37,7 +37,7 @@ close-shards-requires g c =
     let table = c.in-Ok-make_over.ensures.table in
     let seats : List SeatState = c.in-Ok-make_over.seats.items in
     let whole = written_back c.args.cores.len cores c.args.cores.items (size ∙ search rules) in
-    let back = subst (λ (xs : List NumberedCore). HaveReturned (g.X.Expand.time c.args.x.now) (g.P.Program.image c.args.program.now) c.args.end t (mates xs seats) c.take_turns.new.back.items c.take_turns.new.seats_back.items) whole c.take_turns.ensures in
+    let back = subst (λ (xs : List NumberedCore). HaveReturned (g.X.Expand.time c.args.x.now) (g.P.Program.image c.args.program.now) c.args.end t (mates xs seats) c.run_crews.new.back.items c.run_crews.new.seats_back.items) whole c.run_crews.ensures in
     let count : length cores ≡ t.cores = size ∙ (c.requires.can.count ∙ sym table.1) in
     subst (AreAllSeats t) (sym back.seats_are) (all_seats (g.X.Expand.time c.args.x.now) (g.P.Program.image c.args.program.now) c.args.end t cores seats back.now back.ran count c.in-Ok-make_over.ensures.seats)
 
@@ -51,7 +51,7 @@ merge-entries-requires-clause-room g c =
     let table = c.in-Ok-make_over.ensures.table in
     let seats : List SeatState = c.in-Ok-make_over.seats.items in
     let whole = written_back c.args.cores.len cores c.args.cores.items (size ∙ search rules) in
-    let back = subst (λ (xs : List NumberedCore). HaveReturned (g.X.Expand.time c.args.x.now) (g.P.Program.image c.args.program.now) c.args.end t (mates xs seats) c.take_turns.new.back.items c.take_turns.new.seats_back.items) whole c.take_turns.ensures in
+    let back = subst (λ (xs : List NumberedCore). HaveReturned (g.X.Expand.time c.args.x.now) (g.P.Program.image c.args.program.now) c.args.end t (mates xs seats) c.run_crews.new.back.items c.run_crews.new.seats_back.items) whole c.run_crews.ensures in
     let count : length cores ≡ t.cores = size ∙ (c.requires.can.count ∙ sym table.1) in
     let logs = c.close-shards.ensures.logs ∙ ap (map (λ (s : SeatState). s.entries)) back.seats_are in
     let few = few_all (g.X.Expand.time c.args.x.now) (g.P.Program.image c.args.program.now) c.args.end t cores seats back.now back.ran count c.in-Ok-make_over.ensures.seats c.close-shards.result.1.items logs in
@@ -69,13 +69,13 @@ merge-entries-requires-clause-keys g c =
     let table = c.in-Ok-make_over.ensures.table in
     let seats : List SeatState = c.in-Ok-make_over.seats.items in
     let whole = written_back c.args.cores.len cores c.args.cores.items (size ∙ search rules) in
-    let back = subst (λ (xs : List NumberedCore). HaveReturned (g.X.Expand.time c.args.x.now) (g.P.Program.image c.args.program.now) c.args.end t (mates xs seats) c.take_turns.new.back.items c.take_turns.new.seats_back.items) whole c.take_turns.ensures in
+    let back = subst (λ (xs : List NumberedCore). HaveReturned (g.X.Expand.time c.args.x.now) (g.P.Program.image c.args.program.now) c.args.end t (mates xs seats) c.run_crews.new.back.items c.run_crews.new.seats_back.items) whole c.run_crews.ensures in
     let count : length cores ≡ t.cores = size ∙ (c.requires.can.count ∙ sym table.1) in
     let logs = c.close-shards.ensures.logs ∙ ap (map (λ (s : SeatState). s.entries)) back.seats_are in
     let flat = flat_logs (g.X.Expand.time c.args.x.now) (g.P.Program.image c.args.program.now) c.args.end t cores seats back.now back.ran count c.in-Ok-make_over.ensures.seats c.close-shards.result.1.items logs in
     let rise = c.close-shards.ensures.whole.rise in
-    let same : entries_of_logs c.deref.result.now ≡ entries_of_seats c.take_turns.new.seats_back.items = ap entries_of_logs c.deref.ensures.value ∙ (flat ∙ ap entries_of_seats (sym back.seats_are)) in
-    subst HaveDistinctKeys (sym same) (c.rising_stamps_are_distinct.ensures (entries_of_seats c.take_turns.new.seats_back.items) rise)
+    let same : entries_of_logs c.deref.result.now ≡ entries_of_seats c.run_crews.new.seats_back.items = ap entries_of_logs c.deref.ensures.value ∙ (flat ∙ ap entries_of_seats (sym back.seats_are)) in
+    subst HaveDistinctKeys (sym same) (c.rising_stamps_are_distinct.ensures (entries_of_seats c.run_crews.new.seats_back.items) rise)
 
 pub returns-in-Ok-make_over-clause-bound : goal.returns-in-Ok-make_over-clause-bound
 returns-in-Ok-make_over-clause-bound g c =
@@ -87,7 +87,7 @@ returns-in-Ok-make_over-clause-bound g c =
     let table = c.in-Ok-make_over.ensures.table in
     let seats : List SeatState = c.in-Ok-make_over.seats.items in
     let whole = written_back c.args.cores.len cores c.args.cores.items (size ∙ search rules) in
-    let back = subst (λ (xs : List NumberedCore). HaveReturned (g.X.Expand.time c.args.x.now) (g.P.Program.image c.args.program.now) c.args.end t (mates xs seats) c.take_turns.new.back.items c.take_turns.new.seats_back.items) whole c.take_turns.ensures in
+    let back = subst (λ (xs : List NumberedCore). HaveReturned (g.X.Expand.time c.args.x.now) (g.P.Program.image c.args.program.now) c.args.end t (mates xs seats) c.run_crews.new.back.items c.run_crews.new.seats_back.items) whole c.run_crews.ensures in
     let count : length cores ≡ t.cores = size ∙ (c.requires.can.count ∙ sym table.1) in
     let logs = c.close-shards.ensures.logs ∙ ap (map (λ (s : SeatState). s.entries)) back.seats_are in
     let flat = flat_logs (g.X.Expand.time c.args.x.now) (g.P.Program.image c.args.program.now) c.args.end t cores seats back.now back.ran count c.in-Ok-make_over.ensures.seats c.close-shards.result.1.items logs in
@@ -96,7 +96,7 @@ returns-in-Ok-make_over-clause-bound g c =
     (c.new.ensures.timed ∙ ap (map (λ (x : NumberedCore). x.timed)) now_cores) (c.new.ensures.number ∙ ap (map (λ (x : NumberedCore). x.number)) now_cores) c.requires.can.shards_are.some table.0 all_of_them
     c.rising_lists_stay.ensures c.cores_decide_the_order.ensures in
     let entries : c.merge-entries.result ≡ recorded_entries (map (λ (x : Member). x.seat) back.now) = c.merge-entries.ensures ∙ ap recorded_order (ap entries_of_logs c.deref.ensures.value ∙ flat) in
-    subst (λ (es : List Entry). IsBound (g.X.Expand.time c.args.x.now) (g.P.Program.image c.args.program.now) c.args.end c.args.cores.items c.args.shards.items c.take_turns.new.back.items c.close-shards.result.0.items es) (sym entries)
+    subst (λ (es : List Entry). IsBound (g.X.Expand.time c.args.x.now) (g.P.Program.image c.args.program.now) c.args.end c.args.cores.items c.args.shards.items c.run_crews.new.back.items c.close-shards.result.0.items es) (sym entries)
     (subst (λ (cs : List NumberedCore). IsBound (g.X.Expand.time c.args.x.now) (g.P.Program.image c.args.program.now) c.args.end c.args.cores.items c.args.shards.items cs c.close-shards.result.0.items (recorded_entries (map (λ (x : Member). x.seat) back.now)))
     (sym back.cores_are) it)
 
@@ -110,7 +110,7 @@ returns-in-Ok-make_over-clause-ended g c =
     let table = c.in-Ok-make_over.ensures.table in
     let seats : List SeatState = c.in-Ok-make_over.seats.items in
     let whole = written_back c.args.cores.len cores c.args.cores.items (size ∙ search rules) in
-    let back = subst (λ (xs : List NumberedCore). HaveReturned (g.X.Expand.time c.args.x.now) (g.P.Program.image c.args.program.now) c.args.end t (mates xs seats) c.take_turns.new.back.items c.take_turns.new.seats_back.items) whole c.take_turns.ensures in
+    let back = subst (λ (xs : List NumberedCore). HaveReturned (g.X.Expand.time c.args.x.now) (g.P.Program.image c.args.program.now) c.args.end t (mates xs seats) c.run_crews.new.back.items c.run_crews.new.seats_back.items) whole c.run_crews.ensures in
     let count : length cores ≡ t.cores = size ∙ (c.requires.can.count ∙ sym table.1) in
     let logs = c.close-shards.ensures.logs ∙ ap (map (λ (s : SeatState). s.entries)) back.seats_are in
     let flat = flat_logs (g.X.Expand.time c.args.x.now) (g.P.Program.image c.args.program.now) c.args.end t cores seats back.now back.ran count c.in-Ok-make_over.ensures.seats c.close-shards.result.1.items logs in
@@ -120,6 +120,6 @@ returns-in-Ok-make_over-clause-ended g c =
     (c.new.ensures.timed ∙ ap (map (λ (x : NumberedCore). x.timed)) now_cores) (c.new.ensures.number ∙ ap (map (λ (x : NumberedCore). x.number)) now_cores) c.requires.can.shards_are.some table.0 all_of_them
     c.rising_lists_stay.ensures c.cores_decide_the_order.ensures m table.1 room in
     let entries : c.merge-entries.result ≡ recorded_entries (map (λ (x : Member). x.seat) back.now) = c.merge-entries.ensures ∙ ap recorded_order (ap entries_of_logs c.deref.ensures.value ∙ flat) in
-    subst (λ (es : List Entry). HaveEnded m c.args.end c.args.cores.items c.take_turns.new.back.items es) (sym entries)
+    subst (λ (es : List Entry). HaveEnded m c.args.end c.args.cores.items c.run_crews.new.back.items es) (sym entries)
     (subst (λ (cs : List NumberedCore). HaveEnded m c.args.end c.args.cores.items cs (recorded_entries (map (λ (x : Member). x.seat) back.now)))
     (sym back.cores_are) it)

@@ -2,7 +2,7 @@ use Rattle.std.proofs.Common.{◌≡◌, ℕ, List, ◌∷◌, [], ◌++◌, len
 use Rattle.std.specs.Prelude.{Some, slice_get}
 use Rattle.std.proofs.lemmas.List.{length-append}
 use Rattle.std.proofs.lemmas.List.Elements.{All-push}
-use Rattle.bound_core.specs.Timed.{NumberedCore}
+use Rattle.bound_core.specs.TimedCore.{NumberedCore}
 use Rattle.bound_phase.specs.Bounds.{IsAtStart}
 use Rattle.bound_phase.proofs.FirstCores.{each_pushed, starts_first}
 use Rattle.bound_phase.proofs.tests.first_cores.Goals as goal

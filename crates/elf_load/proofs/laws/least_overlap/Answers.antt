@@ -1,5 +1,5 @@
-use Rattle.elf_load.proofs.Pairs.{overlap_fault-least}
+use Rattle.elf_load.proofs.Pairs.{overlap_refusal-least}
 use Rattle.elf_load.proofs.laws.least_overlap.Goals as goal
 
 pub returns : goal.returns
-returns c = overlap_fault-least
+returns c = overlap_refusal-least

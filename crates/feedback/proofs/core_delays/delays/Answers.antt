@@ -15,7 +15,7 @@ loop-i-preserved c =
     elim c.if-awaited.branch [
       | then-awaited w ↦
           let critical = rw events at w.if-awaited.true in
-          let there : c.loop-i.i < length c.args.fired.now = omega (arith, c.requires.woven.count, below) in
+          let there : c.loop-i.i < length c.args.fired.now = omega (arith, c.requires.finished.count, below) in
           let all = written c.the_last_critical_event_moves_on.ensures c.args.g.now c.args.fired.now c.loop-i.i _ below c.loop-i.list.items c.args.cores _ c.events-event-items.ensures.numbered there c.loop-i.invariant.0 critical c.loop-i.invariant.1 in
           rw (w.list-is, w.from-then-awaited.ensures, events, c.as_slice-finishes.ensures) (length-set _ _ _ ∙ c.loop-i.invariant.0, all)
       | else-awaited w ↦

@@ -5,8 +5,8 @@ use Rattle.component.specs.ComponentStep.{comp_latency, comp_serves}
 use Rattle.event_graph.specs.Fits.{GraphFits}
 use Rattle.replay.proofs.firing.fire_by_domains.Goals as goal
 
-pub weave-requires-clause-divided : goal.weave-requires-clause-divided
-weave-requires-clause-divided g c κs within =
+pub weave-requires-clause-partitioned : goal.weave-requires-clause-partitioned
+weave-requires-clause-partitioned g c κs within =
     let machine = c.args.machine.now in
     let split = c.in_ok-parts.ensures in
     let listed : length c.in_ok-parts.parts.places ≡ length machine.domains.banks + length machine.domains.controllers =
@@ -15,6 +15,6 @@ weave-requires-clause-divided g c κs within =
     record {
       numbered = c.events-numbered.ensures.numbered;
       fits = subst (λ (comps : List Comp). GraphFits comp_serves comp_latency c.args.graph.now comps) (sym c.replace-own.ensures.value) c.requires.fits;
-      divides = split.divides;
+      partitions = split.partitions;
       places = omega (arith, listed, c.requires.machine.domains.banks_length, c.requires.machine.domains.controllers_length, c.requires.components.count, ap length c.replace-own.ensures.value);
     }

@@ -2,7 +2,7 @@ use Rattle.std.proofs.Common.{◌≡◌, ℕ, ◌+◌, ◌-◌, ◌<◌, List, �
 use Rattle.std.proofs.lemmas.List.{length-append}
 use Rattle.zs_num.specs.declared.entry.Entry.{Entry}
 use Rattle.elf_load.specs.MemoryImage.{MemoryImage}
-use Rattle.access_log.specs.Schedule.{IntervalLists}
+use Rattle.access_log.specs.Schedule.{ScheduleState}
 use Rattle.replay.specs.ReferenceRun.{IsKeptInOrder, after_intervals, first_state, has_ended}
 use Rattle.replay.specs.Simulation.{LeadsTo}
 use Rattle.replay.proofs.NextInterval.{has_room}
@@ -108,7 +108,7 @@ returns-in_err-add-clause-in_order g c =
     let image = c.args.image.now in
     let before : IsKeptInOrder machine image c.loop-alloc.schedule.lists = kept_in_order machine image c.loop-alloc.schedule.lists c.loop-alloc.simulation c.loop-alloc.invariant.ran in
     let same : c.add.new.self ≡ c.loop-alloc.schedule = c.in_err-add.ensures.err in
-    subst (λ (kept : IntervalLists). IsKeptInOrder machine image kept.lists) (sym same) before
+    subst (λ (kept : ScheduleState). IsKeptInOrder machine image kept.lists) (sym same) before
 
 pub loop-alloc-smaller : goal.loop-alloc-smaller
 loop-alloc-smaller g c =

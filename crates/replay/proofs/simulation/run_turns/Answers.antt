@@ -4,7 +4,7 @@ use Rattle.zs_num.specs.declared.entry.Entry.{Entry}
 use Rattle.bound_core.specs.ReferenceMachine.{BoundState, bound_phase}
 use Rattle.bound_core.specs.ShardPort.{base_of, size_of}
 use Rattle.bound_core.specs.ShardWorld.{ShardWorld, shards_serve}
-use Rattle.bound_core.specs.Timed.{TimedCore}
+use Rattle.bound_core.specs.TimedCore.{TimedCore}
 use Rattle.bound_core.proofs.Accesses.{clock_within}
 use Rattle.replay.specs.ReferenceRun.{time_of}
 use Rattle.replay.specs.Simulation.{CanRunInterval, phase_of}

@@ -3,13 +3,13 @@ use Rattle.event_graph.specs.Timely.{AreTimely}
 use Rattle.replay.proofs.IntervalWeave.{is_woven}
 use Rattle.replay.proofs.weaving.woven_of.Goals as goal
 
-pub delays-requires-clause-woven : goal.delays-requires-clause-woven
-delays-requires-clause-woven c =
+pub delays-requires-clause-finished : goal.delays-requires-clause-finished
+delays-requires-clause-finished c =
     let graph = c.args.graph in
     let fired = c.args.fired in
     let h = c.requires.fired.3 in
     let timely : AreTimely graph fired = subst (AreTimely graph) (sym h.fired_are) (c.events_take_their_time.ensures graph c.requires.fired.0 h.events.numbered h.events.fits h.events.small) in
-    c.timely_events_are_woven.ensures graph fired h.events.numbered timely
+    c.timely_events_have_finished.ensures graph fired h.events.numbered timely
 
 pub returns : goal.returns
 returns c = λ comps entries after h.

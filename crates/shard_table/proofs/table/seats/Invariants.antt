@@ -1,6 +1,6 @@
 -- the seats of the cores before this one, of which the first counts them
 use Rattle.std.proofs.Common.{◌≡◌, ◌-◌, ◌≤◌, vec_capacity}
-use Rattle.shard_table.specs.Memory.{new_logs}
+use Rattle.shard_table.specs.Buffers.{new_logs}
 use Rattle.shard_table.specs.Tables.{table_state_of}
 use Rattle.shard_table.proofs.Hiring.{AreSeatsUpTo}
 use Rattle.shard_table.proofs.table.seats.Given as goal

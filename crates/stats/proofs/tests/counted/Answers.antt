@@ -7,28 +7,28 @@ use Rattle.component.specs.Components.{AreFresh}
 use Rattle.event_graph.specs.Timely.{AreTimely}
 use Rattle.stats.specs.Counts.{Counts, CountsFit, Interval, added, counts_of, no_counts}
 use Rattle.stats.specs.Laws.{CountersAreSums, NothingIsCountedFirst}
-use Rattle.stats.specs.declared.tests.Woven.{Woven}
+use Rattle.stats.specs.declared.tests.WovenInterval.{WovenInterval}
 use Rattle.stats.proofs.tests.counted.Goals as goal
 
-abbrev interval : Woven → Interval
+abbrev interval : WovenInterval → Interval
 interval w = record { entries = w.entries; events = w.graph; fired = w.fired; delays = w.delays }
 
 -- what the laws ask of each interval
 abbrev IsBounded : Interval → Type 0
 IsBounded i = AreTimely i.events i.fired × All (λ d. d ≤ 2 ^ 62) i.delays
 
-bounded : (w : Woven) → IsBounded (interval w)
+bounded : (w : WovenInterval) → IsBounded (interval w)
 bounded w = (w.timely, All-weaker (λ d. d ≤ 100) (λ d. d ≤ 2 ^ 62) (λ d le. omega arith) w.delays w.short_delays)
 
 -- the counters with one interval more
-counts_more : CountersAreSums → (cores : ℕ) (before : List Comp) (intervals : List Interval) (c : Counts) (w : Woven) → c ≡ counts_of cores before intervals → length before ≡ 2
+counts_more : CountersAreSums → (cores : ℕ) (before : List Comp) (intervals : List Interval) (c : Counts) (w : WovenInterval) → c ≡ counts_of cores before intervals → length before ≡ 2
     → added c (interval w) w.comps ≡ counts_of cores w.comps (intervals ++ interval w ∷ [])
 counts_more sums cores before intervals c w is two =
     ap (λ (x : Counts). added x (interval w) w.comps) is ∙ sums cores before w.comps intervals (interval w) (two ∙ sym w.comp_count)
 
 -- the counters with the first interval
 counted_once : NothingIsCountedFirst → CountersAreSums → (m : Machine) → m.l2.banks ≡ 1 → m.controllers.count ≡ 1 → (before : List Comp) → AreFresh m before
-    → (c : Counts) → c ≡ no_counts m → (w : Woven) → added c (interval w) w.comps ≡ counts_of m.cores w.comps (interval w ∷ [])
+    → (c : Counts) → c ≡ no_counts m → (w : WovenInterval) → added c (interval w) w.comps ≡ counts_of m.cores w.comps (interval w ∷ [])
 counted_once none sums m bank controller before fresh c is w =
     let two : length before ≡ 2 = omega (arith, fresh.are.count) in
     counts_more sums m.cores before [] c w (is ∙ sym (none m before fresh)) two
@@ -37,7 +37,7 @@ pub add-requires-clause-fits : goal.add-requires-clause-fits
 add-requires-clause-fits c =
     let m : Machine = c.args.machine.now in
     let before = c.in_ok-_before.ensures in
-    let one : Woven = c.in_ok-one.one in
+    let one : WovenInterval = c.in_ok-one.one in
     let once = counted_once c.nothing_is_counted_first.ensures c.counters_are_sums.ensures m c.requires.banks c.requires.controllers
     c.in_ok-_before._before before c.in_ok-counters.counters c.in_ok-counters.ensures one in
     subst CountsFit (sym once)
@@ -48,8 +48,8 @@ pub add-requires-2-clause-fits : goal.add-requires-2-clause-fits
 add-requires-2-clause-fits c =
     let m : Machine = c.args.machine.now in
     let before = c.in_ok-_before.ensures in
-    let one : Woven = c.in_ok-one.one in
-    let two : Woven = c.in_ok-two.two in
+    let one : WovenInterval = c.in_ok-one.one in
+    let two : WovenInterval = c.in_ok-two.two in
     let once = counted_once c.nothing_is_counted_first.ensures c.counters_are_sums.ensures m c.requires.banks c.requires.controllers
     c.in_ok-_before._before before c.in_ok-counters.counters c.in_ok-counters.ensures one in
     let twice = counts_more c.counters_are_sums.ensures m.cores one.comps (interval one ∷ []) c.add.new.counters two (c.add.ensures.added ∙ once) one.comp_count in

@@ -8,8 +8,8 @@ returns g c = λ events p comps timed solution domain own d known floor.
     (c.each_event_fires_once.ensures events comps d.numbered d.fits)
     (c.events_fire_in_order.ensures events comps d.numbered d.fits)
     (λ index x h. c.the_least_ready_event_fires.ensures events comps index x d.numbered d.fits h)
-    (λ rounds l. c.each_round_fires_the_next_event.ensures events comps rounds d.numbered d.fits l)
-    (λ rounds. c.rounds_fire_the_first_events.ensures events comps rounds d.numbered d.fits)
-    (λ rounds number. c.components_serve_their_own_events.ensures events comps rounds number d.numbered d.fits)
-    (λ rounds. c.graphs_keep_fitting.ensures events comps rounds d.numbered d.fits)
+    (λ firings l. c.each_firing_is_of_the_next_event.ensures events comps firings d.numbered d.fits l)
+    (λ firings. c.firings_are_of_the_first_events.ensures events comps firings d.numbered d.fits)
+    (λ firings number. c.components_serve_their_own_events.ensures events comps firings number d.numbered d.fits)
+    (λ firings. c.graphs_keep_fitting.ensures events comps firings d.numbered d.fits)
     p d timed solution ((c.weave_is_the_one_solution.ensures events comps timed d.numbered d.fits).0 solution) domain own known floor

@@ -5,6 +5,6 @@ use Rattle.weave_run.proofs.beside.note.Given as goal
 
 abbrev pub invariant-loop-index : goal.invariant-loop-index
 invariant-loop-index g l = record {
-  so_far : AreNoted l.fn.domains l.places l.index;
-  count : length l.places ≡ length l.fn.places;
+  so_far : AreNoted l.fn.domains l.counts l.index;
+  count : length l.counts ≡ length l.fn.counts;
 }

@@ -2,7 +2,7 @@
 use Rattle.std.proofs.Common.{◌≡◌, ◌<◌, ◌≤◌, ℕ, List, Vec, length, sym, ◌∙◌, ap, subst, arith}
 use Rattle.std.specs.declared.alloc.Global.{Global}
 use Rattle.atomic_table.specs.Seated.{TableId}
-use Rattle.domain_map.specs.Domains.{Division}
+use Rattle.domain_map.specs.Domains.{Partition}
 use Rattle.weave_core.specs.DomainCalls.{DomainValue}
 use Rattle.weave_run.specs.Crews.{AreFree, HaveLotsRun, HaveRoom}
 use Rattle.weave_run.specs.Rounds.{AllKeep, AreNoted, HasRunRound, HasToldRests, HaveRun, own_in}
@@ -26,7 +26,7 @@ let_go-requires-clause-ran g c =
 
 pub let_go-requires-clause-room : goal.let_go-requires-clause-room
 let_go-requires-clause-room g c =
-    let count : length c.args.domains.now.items ≡ c.domains-count.result = c.requires.met.kept.count ∙ (ap (λ (p : Division). length p.events) (sym c.requires.parts) ∙ sym c.domains-count.ensures.count) in
+    let count : length c.args.domains.now.items ≡ c.domains-count.result = c.requires.met.kept.count ∙ (ap (λ (p : Partition). length p.events) (sym c.requires.parts) ∙ sym c.domains-count.ensures.count) in
     subst (λ (n : ℕ). HaveRoom n c.work_all.new.crews) count
     (rooms_stay g.C.Component.stepped c.args.plan.now c.args.team.now.crossings c.args.domains.now.items c.hire.new.crews c.work_all.new.crews c.work_all.ensures.count c.work_all.ensures.worked (length c.args.domains.now.items) c.hire.ensures.room)
 
@@ -49,15 +49,15 @@ returns-clause-ran g c =
     let ran : HaveRun g.C.Component.stepped c.args.plan.now first mid =
     subst (λ (vs : Vec (DomainValue g.row.C.Denot) Global). HaveRun g.C.Component.stepped c.args.plan.now vs.items mid) c.of-before.ensures c.let_go.ensures.ran
     in
-    let told : HasToldRests g.C.Component.stepped c.args.plan.now mid c.tell_each.new.domains c.note.new.places (length mid) =
-    subst (λ (vs : List (DomainValue g.row.C.Denot)). HasToldRests g.C.Component.stepped c.args.plan.now vs c.tell_each.new.domains c.note.new.places (length vs)) c.as_mut_slice.ensures.value c.tell_each.ensures
+    let told : HasToldRests g.C.Component.stepped c.args.plan.now mid c.tell_each.new.domains c.note.new.counts (length mid) =
+    subst (λ (vs : List (DomainValue g.row.C.Denot)). HasToldRests g.C.Component.stepped c.args.plan.now vs c.tell_each.new.domains c.note.new.counts (length vs)) c.as_mut_slice.ensures.value c.tell_each.ensures
     in
-    let noted : AreNoted first c.note.new.places (length first) = subst (λ (vs : List (DomainValue g.row.C.Denot)). AreNoted vs c.note.new.places (length vs)) c.deref.ensures.value c.note.ensures.noted in
+    let noted : AreNoted first c.note.new.counts (length first) = subst (λ (vs : List (DomainValue g.row.C.Denot)). AreNoted vs c.note.new.counts (length vs)) c.deref.ensures.value c.note.ensures.noted in
     let size : c.let_go.new.domains.len ≡ length c.tell_each.new.domains =
     (let a = c.let_go.new.domains.ok in let b = c.tell_each.auto.domains in let d = ap length c.as_mut_slice.ensures.value in omega (arith, a, b, d))
     in
     subst (HasRunRound g.C.Component.stepped c.args.plan.now first) (sym (lent c.let_go.new.domains.len c.tell_each.new.domains _ size))
-    (round_beside g.C.Component.stepped c.args.plan.now first mid c.requires.met.kept ran g.C.Component.serves g.C.Component.floor g.C.Component.greatest c.keeping.ensures c.requires.can c.requires.met c.tell_each.new.domains c.note.new.places
+    (round_beside g.C.Component.stepped c.args.plan.now first mid c.requires.met.kept ran g.C.Component.serves g.C.Component.floor g.C.Component.greatest c.keeping.ensures c.requires.can c.requires.met c.tell_each.new.domains c.note.new.counts
     noted told)
 
 pub returns-clause-team : goal.returns-clause-team
@@ -68,8 +68,8 @@ returns-clause-team g c =
     let ran : HaveRun g.C.Component.stepped c.args.plan.now first mid =
     subst (λ (vs : Vec (DomainValue g.row.C.Denot) Global). HaveRun g.C.Component.stepped c.args.plan.now vs.items mid) c.of-before.ensures c.let_go.ensures.ran
     in
-    let told : HasToldRests g.C.Component.stepped c.args.plan.now mid c.tell_each.new.domains c.note.new.places (length mid) =
-    subst (λ (vs : List (DomainValue g.row.C.Denot)). HasToldRests g.C.Component.stepped c.args.plan.now vs c.tell_each.new.domains c.note.new.places (length vs)) c.as_mut_slice.ensures.value c.tell_each.ensures
+    let told : HasToldRests g.C.Component.stepped c.args.plan.now mid c.tell_each.new.domains c.note.new.counts (length mid) =
+    subst (λ (vs : List (DomainValue g.row.C.Denot)). HasToldRests g.C.Component.stepped c.args.plan.now vs c.tell_each.new.domains c.note.new.counts (length vs)) c.as_mut_slice.ensures.value c.tell_each.ensures
     in
     let size : c.let_go.new.domains.len ≡ length c.tell_each.new.domains =
     (let a = c.let_go.new.domains.ok in let b = c.tell_each.auto.domains in let d = ap length c.as_mut_slice.ensures.value in omega (arith, a, b, d))
@@ -77,10 +77,10 @@ returns-clause-team g c =
     let crews_size : c.args.team.now.crews.len ≡ length c.let_go.new.crews =
     (let a = c.args.team.now.crews.ok in let b = ap length c.as_mut_slice-crews.ensures.value in let d = c.hire.ensures.count in let e = c.work_all.ensures.count in let f = c.let_go.ensures.count in omega (arith, a, b, d, e, f))
     in
-    let places_size : c.args.team.now.places.len ≡ length c.note.new.places =
-    (let a = c.args.team.now.places.ok in let b = ap length c.as_mut_slice-places.ensures.value in let d = c.note.ensures.count in omega (arith, a, b, d))
+    let counts_size : c.args.team.now.counts.len ≡ length c.note.new.counts =
+    (let a = c.args.team.now.counts.ok in let b = ap length c.as_mut_slice-counts.ensures.value in let d = c.note.ensures.count in omega (arith, a, b, d))
     in
-    let count : c.domains-count.result ≡ length c.args.plan.now.parts.value.events = c.domains-count.ensures.count ∙ ap (λ (p : Division). length p.events) c.requires.parts in
+    let count : c.domains-count.result ≡ length c.args.plan.now.parts.value.events = c.domains-count.ensures.count ∙ ap (λ (p : Partition). length p.events) c.requires.parts in
     let seated : AreSeated g.C.Component.stepped c.args.plan.now table c.tell_each.new.domains c.let_go.new.seats.items =
     seated_grown g.C.Component.stepped c.args.plan.now table mid c.tell_each.new.domains c.let_go.new.seats.items (all_kept g.C.Component.stepped c.args.plan.now first mid c.requires.met.kept ran) told.kept
     (record { each = λ d. grows_by_learning (own_in mid d) (own_in c.tell_each.new.domains d) (told.learn.each d) }) c.let_go.ensures.seated
@@ -94,8 +94,8 @@ returns-clause-team g c =
             (let s = has.few in let o = c.args.team.now.crews.ok in omega (arith, s, o, crews_size));
         free = subst (AreFree (length c.args.plan.now.parts.value.events)) (sym (lent c.args.team.now.crews.len c.let_go.new.crews _ crews_size))
             (subst (λ (n : ℕ). AreFree n c.let_go.new.crews) count c.let_go.ensures.free);
-        places = subst (λ (xs : List ℕ). length xs ≡ length c.args.plan.now.parts.value.events) (sym (lent c.args.team.now.places.len c.note.new.places _ places_size))
-            (let s = has.places in let o = c.args.team.now.places.ok in omega (arith, s, o, places_size));
+        counts = subst (λ (xs : List ℕ). length xs ≡ length c.args.plan.now.parts.value.events) (sym (lent c.args.team.now.counts.len c.note.new.counts _ counts_size))
+            (let s = has.counts in let o = c.args.team.now.counts.ok in omega (arith, s, o, counts_size));
       };
       seated = subst (λ (vs : List (DomainValue g.row.C.Denot)). AreSeated g.C.Component.stepped c.args.plan.now table vs c.let_go.new.seats.items) (sym (lent c.let_go.new.domains.len c.tell_each.new.domains _ size)) seated;
     }

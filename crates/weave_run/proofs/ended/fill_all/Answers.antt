@@ -3,14 +3,14 @@ use Rattle.std.proofs.Common.{◌≡◌, slice_get, refl, sym, ◌∙◌, ap, su
 use Rattle.std.proofs.lemmas.Bool.{cases_lt}
 use Rattle.std.proofs.lemmas.Option.{same_Some, slice_get-get_or, slice_get_within}
 use Rattle.weave_core.specs.DomainCalls.{DomainValue}
-use Rattle.weave_run.specs.Rounds.{Keeps}
+use Rattle.weave_run.specs.Rounds.{KeepsToWeave}
 use Rattle.weave_run.proofs.Fillings.{all_filled}
 use Rattle.weave_run.proofs.Rounding.{keeps_here}
 use Rattle.weave_run.proofs.ended.fill_all.Goals as goal
 
 pub fill-requires-clause-kept : goal.fill-requires-clause-kept
 fill-requires-clause-kept g c =
-    subst (Keeps g.C.Component.stepped c.args.plan.now) (sym c.index-domains-index.is)
+    subst (KeepsToWeave g.C.Component.stepped c.args.plan.now) (sym c.index-domains-index.is)
     (keeps_here g.C.Component.stepped c.args.plan.now c.args.domains.now c.loop-index.index c.loop-index.index c.index-domains-index.result c.requires.kept c.loop-index-test.true refl)
 
 pub loop-index-preserved : goal.loop-index-preserved

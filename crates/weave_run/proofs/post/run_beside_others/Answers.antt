@@ -1,41 +1,41 @@
 -- It stops where the next event may not fire.
 use Rattle.std.proofs.Common.{◌+◌, sym, ◌∙◌, subst}
-use Rattle.weave_run.proofs.Postings.{HasTurned, blocked_is_no_fire, done_is_no_fire, gone_on_looking, has_served, served_by_looking, turned_by_firing, turned_by_looking}
+use Rattle.weave_run.proofs.Postings.{HasStepped, blocked_is_no_fire, done_is_no_fire, gone_on_looking, has_served, served_by_looking, stepped_by_firing, stepped_by_looking}
 use Rattle.weave_run.proofs.Tellings.{grows_nothing}
 use Rattle.weave_run.proofs.post.run_beside_others.Goals.{in-Fire, in-Blocked+else-not-look_again}
 use Rattle.weave_run.proofs.post.run_beside_others.Goals as goal
 
 pub returns-then-not-look_again : goal.returns-then-not-look_again
 returns-then-not-look_again g c =
-    let i = c.loop-turn.invariant in
+    let i = c.loop-step.invariant in
     has_served g.C.Component.serves g.C.Component.floor g.C.Component.stepped g.C.Component.greatest c.keeping.ensures c.args.plan.now c.requires.can c.args.crossings.now c.args.post.now c.look_again.new.post
-    (served_by_looking g.C.Component.stepped c.args.plan.now c.args.crossings.now c.args.post.now c.loop-turn.post c.look_again.new.post i.so_far c.look_again.ensures)
-    (gone_on_looking g.C.Component.serves g.C.Component.floor g.C.Component.stepped g.C.Component.greatest c.keeping.ensures c.args.plan.now c.requires.can c.args.crossings.now c.args.post.now c.loop-turn.post c.look_again.new.post
-    c.loop-turn._turn c.next.result i.so_far i.fresh i.goes c.next.ensures (λ key e. blocked_is_no_fire c.in-Blocked.crossing c.in-Blocked.bound key (sym c.in-Blocked.is ∙ e)) c.look_again.ensures.grows)
+    (served_by_looking g.C.Component.stepped c.args.plan.now c.args.crossings.now c.args.post.now c.loop-step.post c.look_again.new.post i.so_far c.look_again.ensures)
+    (gone_on_looking g.C.Component.serves g.C.Component.floor g.C.Component.stepped g.C.Component.greatest c.keeping.ensures c.args.plan.now c.requires.can c.args.crossings.now c.args.post.now c.loop-step.post c.look_again.new.post
+    c.loop-step._step c.next.result i.so_far i.fresh i.goes c.next.ensures (λ key e. blocked_is_no_fire c.in-Blocked.crossing c.in-Blocked.bound key (sym c.in-Blocked.is ∙ e)) c.look_again.ensures.grows)
 
 pub returns-in-Done : goal.returns-in-Done
 returns-in-Done g c =
-    let i = c.loop-turn.invariant in
-    has_served g.C.Component.serves g.C.Component.floor g.C.Component.stepped g.C.Component.greatest c.keeping.ensures c.args.plan.now c.requires.can c.args.crossings.now c.args.post.now c.loop-turn.post i.so_far
-    (gone_on_looking g.C.Component.serves g.C.Component.floor g.C.Component.stepped g.C.Component.greatest c.keeping.ensures c.args.plan.now c.requires.can c.args.crossings.now c.args.post.now c.loop-turn.post c.loop-turn.post
-    c.loop-turn._turn c.next.result i.so_far i.fresh i.goes c.next.ensures (λ key e. done_is_no_fire key (sym c.in-Done.is ∙ e)) (grows_nothing c.loop-turn.post.domain.own))
+    let i = c.loop-step.invariant in
+    has_served g.C.Component.serves g.C.Component.floor g.C.Component.stepped g.C.Component.greatest c.keeping.ensures c.args.plan.now c.requires.can c.args.crossings.now c.args.post.now c.loop-step.post i.so_far
+    (gone_on_looking g.C.Component.serves g.C.Component.floor g.C.Component.stepped g.C.Component.greatest c.keeping.ensures c.args.plan.now c.requires.can c.args.crossings.now c.args.post.now c.loop-step.post c.loop-step.post
+    c.loop-step._step c.next.result i.so_far i.fresh i.goes c.next.ensures (λ key e. done_is_no_fire key (sym c.in-Done.is ∙ e)) (grows_nothing c.loop-step.post.domain.own))
 
-pub loop-turn-preserved : goal.loop-turn-preserved
-loop-turn-preserved g c =
-    let i = c.loop-turn.invariant in
-    let h : HasTurned g.C.Component.serves g.C.Component.floor g.C.Component.stepped g.C.Component.greatest c.keeping.ensures c.args.plan.now c.requires.can c.args.crossings.now c.args.post.now c.loop-turn._turn c.loop-turn.post =
+pub loop-step-preserved : goal.loop-step-preserved
+loop-step-preserved g c =
+    let i = c.loop-step.invariant in
+    let h : HasStepped g.C.Component.serves g.C.Component.floor g.C.Component.stepped g.C.Component.greatest c.keeping.ensures c.args.plan.now c.requires.can c.args.crossings.now c.args.post.now c.loop-step._step c.loop-step.post =
     record { so_far = i.so_far; fresh = i.fresh; goes = i.goes }
     in
-    let after : HasTurned g.C.Component.serves g.C.Component.floor g.C.Component.stepped g.C.Component.greatest c.keeping.ensures c.args.plan.now c.requires.can c.args.crossings.now c.args.post.now (c.loop-turn._turn + 1) c.match-next.post =
+    let after : HasStepped g.C.Component.serves g.C.Component.floor g.C.Component.stepped g.C.Component.greatest c.keeping.ensures c.args.plan.now c.requires.can c.args.crossings.now c.args.post.now (c.loop-step._step + 1) c.match-next.post =
     elim c.match-next.branch [
       | in-Fire w ↦
-          subst (HasTurned g.C.Component.serves g.C.Component.floor g.C.Component.stepped g.C.Component.greatest c.keeping.ensures c.args.plan.now c.requires.can c.args.crossings.now c.args.post.now (c.loop-turn._turn + 1)) (sym w.post-is)
-          (turned_by_firing g.C.Component.serves g.C.Component.floor g.C.Component.stepped g.C.Component.greatest c.keeping.ensures c.args.plan.now c.requires.can c.args.crossings.now c.args.post.now c.loop-turn.post w.fire_and_publish.new.post
-          c.loop-turn._turn h w.fire_and_publish.ensures)
+          subst (HasStepped g.C.Component.serves g.C.Component.floor g.C.Component.stepped g.C.Component.greatest c.keeping.ensures c.args.plan.now c.requires.can c.args.crossings.now c.args.post.now (c.loop-step._step + 1)) (sym w.post-is)
+          (stepped_by_firing g.C.Component.serves g.C.Component.floor g.C.Component.stepped g.C.Component.greatest c.keeping.ensures c.args.plan.now c.requires.can c.args.crossings.now c.args.post.now c.loop-step.post w.fire_and_publish.new.post
+          c.loop-step._step h w.fire_and_publish.ensures)
       | in-Blocked+else-not-look_again w ↦
-          subst (HasTurned g.C.Component.serves g.C.Component.floor g.C.Component.stepped g.C.Component.greatest c.keeping.ensures c.args.plan.now c.requires.can c.args.crossings.now c.args.post.now (c.loop-turn._turn + 1)) (sym w.post-is)
-          (turned_by_looking g.C.Component.serves g.C.Component.floor g.C.Component.stepped g.C.Component.greatest c.keeping.ensures c.args.plan.now c.requires.can c.args.crossings.now c.args.post.now c.loop-turn.post w.look_again.new.post
-          c.loop-turn._turn c.next.result h c.next.ensures (λ key e. blocked_is_no_fire w.in-Blocked.crossing w.in-Blocked.bound key (sym w.in-Blocked.is ∙ e)) w.look_again.ensures)
+          subst (HasStepped g.C.Component.serves g.C.Component.floor g.C.Component.stepped g.C.Component.greatest c.keeping.ensures c.args.plan.now c.requires.can c.args.crossings.now c.args.post.now (c.loop-step._step + 1)) (sym w.post-is)
+          (stepped_by_looking g.C.Component.serves g.C.Component.floor g.C.Component.stepped g.C.Component.greatest c.keeping.ensures c.args.plan.now c.requires.can c.args.crossings.now c.args.post.now c.loop-step.post w.look_again.new.post
+          c.loop-step._step c.next.result h c.next.ensures (λ key e. blocked_is_no_fire w.in-Blocked.crossing w.in-Blocked.bound key (sym w.in-Blocked.is ∙ e)) w.look_again.ensures)
     ]
     in
     record { so_far = after.so_far; fresh = after.fresh; goes = after.goes }

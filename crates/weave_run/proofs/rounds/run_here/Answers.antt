@@ -1,6 +1,6 @@
 -- The next domain has run.
 use Rattle.std.proofs.Common.{length, ap, arith}
-use Rattle.domain_map.specs.Domains.{Division}
+use Rattle.domain_map.specs.Domains.{Partition}
 use Rattle.weave_run.proofs.Rounding.{all_ran, one_ran}
 use Rattle.weave_run.proofs.rounds.run_here.Goals as goal
 
@@ -13,6 +13,6 @@ pub returns : goal.returns
 returns g c =
     let count = c.domains-number-end.ensures.count in
     let end = c.loop-number-test.false in
-    let parts = ap (λ (p : Division). length p.events) c.requires.parts in
+    let parts = ap (λ (p : Partition). length p.events) c.requires.parts in
     all_ran g.C.Component.serves g.C.Component.floor g.C.Component.stepped g.C.Component.greatest c.keeping.ensures c.args.plan.now c.requires.can c.args.domains.now c.loop-number.domains c.loop-number.number
     c.loop-number.invariant (omega (arith, count, end, parts))

@@ -5,16 +5,16 @@ use Rattle.weave_run.proofs.run.run_alone.Goals as goal
 
 pub returns-in_default : goal.returns-in_default
 returns-in_default g c =
-    let i = c.loop-turn.invariant in
-    stops g.C.Component.serves g.C.Component.floor g.C.Component.stepped g.C.Component.greatest c.keeping.ensures c.args.plan.now c.requires.can c.args.domain.now c.loop-turn.domain c.loop-turn._turn c.next.result
+    let i = c.loop-step.invariant in
+    stops g.C.Component.serves g.C.Component.floor g.C.Component.stepped g.C.Component.greatest c.keeping.ensures c.args.plan.now c.requires.can c.args.domain.now c.loop-step.domain c.loop-step._step c.next.result
     i.so_far i.fresh i.goes c.next.ensures c.in_default.not-Fire
 
-pub loop-turn-preserved : goal.loop-turn-preserved
-loop-turn-preserved g c =
-    let i = c.loop-turn.invariant in
+pub loop-step-preserved : goal.loop-step-preserved
+loop-step-preserved g c =
+    let i = c.loop-step.invariant in
     record {
-      so_far = one_more g.C.Component.stepped c.args.plan.now c.args.domain.now c.loop-turn.domain c.fire-fired.new.domain c.fire-fired.result i.so_far c.fire-fired.ensures;
+      so_far = one_more g.C.Component.stepped c.args.plan.now c.args.domain.now c.loop-step.domain c.fire-fired.new.domain c.fire-fired.result i.so_far c.fire-fired.ensures;
       fresh = λ e. absurd (omega (arith, e));
-      goes = λ l. goes_after g.C.Component.serves g.C.Component.floor g.C.Component.stepped g.C.Component.greatest c.keeping.ensures c.args.plan.now c.requires.can c.args.domain.now c.loop-turn.domain c.fire-fired.new.domain
-          c.fire-fired.result c.loop-turn._turn i.fresh i.goes c.fire-fired.ensures;
+      goes = λ l. goes_after g.C.Component.serves g.C.Component.floor g.C.Component.stepped g.C.Component.greatest c.keeping.ensures c.args.plan.now c.requires.can c.args.domain.now c.loop-step.domain c.fire-fired.new.domain
+          c.fire-fired.result c.loop-step._step i.fresh i.goes c.fire-fired.ensures;
     }

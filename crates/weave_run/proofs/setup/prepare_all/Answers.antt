@@ -16,8 +16,8 @@ prepare-requires-clause-components g c =
     let some : 0 < length c.loop-number.rooms.items = (let t = c.loop-number-test.true in let n = c.domains-number-end.ensures.count in let m = i.count in omega (arith, t, n, m)) in (
       c.args.plan.now.comps.value,
       record {
-        count = c.requires.divided.places;
-        fits = c.requires.divided.fits;
+        count = c.requires.partitioned.places;
+        fits = c.requires.partitioned.fits;
         comps_are = c.of.ensures
             ∙ (ap (λ (v : Vec g.row.C.Denot Global). v.items) c.remove-own.ensures.value
             ∙ first_left (map (λ (v : DomainValue g.row.C.Denot). v.comps) c.loop-number.domains.items) c.loop-number.rooms.items c.loop-number.number c.remove-own.result c.args.p.now.places c.args.plan.now.comps.value i.dealt
@@ -53,7 +53,7 @@ loop-number-preserved g c =
     let prepared = c.in-Ok.ensures.prepared in
     let domain : c.in-Ok.domain ≡ begun c.args.g.now c.args.p.now c.args.plan.now.comps.value c.loop-number.number =
     prepared
-    ∙ ap (λ (cs : List g.row.C.Denot). let v : DomainValue g.row.C.Denot = record { domain = c.loop-number.number; events = c.args.g.now; division = c.args.p.now; own = at_first c.args.p.now; comps = cs } in v) (c.of.ensures ∙ own)
+    ∙ ap (λ (cs : List g.row.C.Denot). let v : DomainValue g.row.C.Denot = record { domain = c.loop-number.number; events = c.args.g.now; partition = c.args.p.now; own = at_first c.args.p.now; comps = cs } in v) (c.of.ensures ∙ own)
     in
     record {
       begun = subst (AreBegun c.args.g.now c.args.p.now c.args.plan.now.comps.value (c.loop-number.number + 1)) (sym c.push_reserved.ensures.items)

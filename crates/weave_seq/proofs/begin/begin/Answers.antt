@@ -1,14 +1,12 @@
 -- One event more is linked, and ready where it has no parent.
-use Rattle.std.proofs.Common.{◌≡◌, ◌<◌, ◌+◌, ℕ, [], ◌∷◌, length, get_or, map, take, sym, ◌∙◌, ap, subst, arith, IsPermutation, refl}
+use Rattle.std.proofs.Common.{◌≡◌, ◌<◌, ◌+◌, ℕ, [], ◌∷◌, length, get_or, sym, ◌∙◌, ap, subst, arith, IsPermutation}
 use Rattle.std.proofs.lemmas.List.{length_push}
 use Rattle.zs_num.specs.declared.time.Key.{Key}
-use Rattle.event_graph.specs.declared.event.Event.{Event}
-use Rattle.event_graph.specs.declared.fired.Fired.{Fired}
 use Rattle.event_graph.specs.OneListWeave.{finish_in}
 use Rattle.weave_seq.specs.Chains.{AreChains, parents_in}
 use Rattle.weave_seq.specs.Known.{known_time, known_waits}
 use Rattle.weave_seq.proofs.Begins.{below_all, chained, front_more, number_is, parent_within, ready_more, waits_more}
-use Rattle.weave_seq.proofs.Round.{no_event}
+use Rattle.weave_seq.proofs.Firing.{no_event}
 use Rattle.weave_seq.proofs.begin.begin.Goals as goal
 use Rattle.weave_seq.proofs.begin.begin.Goals.{then-parents-eq0, else-parents-eq0}
 

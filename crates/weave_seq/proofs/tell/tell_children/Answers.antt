@@ -1,13 +1,12 @@
 -- The child is told, and the next one is the child before it.
-use Rattle.std.proofs.Common.{◌≡◌, ◌<◌, ◌≤◌, ◌+◌, ◌-◌, ◌^◌, ℕ, length, set, ap, sym, ◌∙◌, subst, arith, length-set, false, true}
-use Rattle.std.specs.Prelude.{slice_get, slice_index}
+use Rattle.std.proofs.Common.{◌≡◌, ◌<◌, ◌≤◌, ◌+◌, ◌^◌, length, ap, sym, ◌∙◌, arith, length-set, false, true}
+use Rattle.std.specs.Prelude.{slice_index}
 use Rattle.std.proofs.lemmas.List.{get_or_read, length-map}
-use Rattle.event_graph.specs.declared.event.Event.{Event}
 use Rattle.event_graph.specs.declared.fired.Fired.{Fired}
 use Rattle.event_graph.proofs.Lists.{get_within, read_is}
 use Rattle.weave_seq.specs.Chains.{parent_in}
-use Rattle.weave_seq.specs.Known.{finish_at, known_time, known_to_first, known_to_second, known_waits}
-use Rattle.weave_seq.proofs.TellSteps.{IsChild, child_from, child_read, goes_down, more_told, next_is_child, parent_below, still_untold, told_at_first, told_at_last}
+use Rattle.weave_seq.specs.Known.{finish_at}
+use Rattle.weave_seq.proofs.TellSteps.{IsChild, child_read, goes_down, more_told, next_is_child, still_untold, told_at_first, told_at_last}
 use Rattle.weave_seq.proofs.Telling.{all_at, child_waits, from_all}
 use Rattle.weave_seq.proofs.tell.tell_children.Goals as goal
 

@@ -19,8 +19,8 @@ weave_seq-requires-clause-small c =
     (λ i s at. c.are_fast.ensures c.if-not-are_fast.false i s (subst (λ xs. slice_get xs i ≡ Some s) (c.of-comps.ensures ∙ sym c.as_slice-else-not-is_graph.ensures.value) at))
     (omega (arith, count))
 
-pub delays-requires-clause-woven : goal.delays-requires-clause-woven
-delays-requires-clause-woven c =
+pub delays-requires-clause-finished : goal.delays-requires-clause-finished
+delays-requires-clause-finished c =
     let count : length c.of-graph.result ≤ 4194304 = omega (arith, ap length c.of-graph.ensures, c.args.events.ok.0, c.len-count.ensures, c.if-count.false) in
     let small = c.steps_stay_small.ensures (λ s. leb s.occupancy 4194304) (λ s. s.free) 4194404 4194304 4194304 c.of-graph.result c.of-comps.result
     (search rules) (search rules)
@@ -33,4 +33,4 @@ delays-requires-clause-woven c =
     (λ i s at. c.are_fast.ensures c.if-not-are_fast.false i s (subst (λ xs. slice_get xs i ≡ Some s) (c.of-comps.ensures ∙ sym c.as_slice-else-not-is_graph.ensures.value) at))
     (omega (arith, count)) in
     let timely : AreTimely c.of-graph.result c.in_ok-fired.fired = subst (AreTimely c.of-graph.result) (sym c.in_ok-fired.ensures.fired) (c.events_take_their_time.ensures c.of-graph.result c.of-comps.result (search rules) (search rules) small) in
-    c.timely_events_are_woven.ensures c.of-graph.result c.in_ok-fired.fired (search rules) timely
+    c.timely_events_have_finished.ensures c.of-graph.result c.in_ok-fired.fired (search rules) timely

@@ -1,8 +1,9 @@
 -- Each way in which a command comes to its end.
 use Rattle.std.proofs.Common.{◌≡◌, None, Ok, option_map, refl, ap, ◌∙◌}
-use Rattle.access_log.specs.Schedule.{IntervalLists}
+use Rattle.access_log.specs.Schedule.{ScheduleState}
 use Rattle.zsim.specs.declared.ended.Kept.{Kept}
-use Rattle.zsim.specs.CommandLine.{command_told, exe_file, exe_told, replay, run, task_told}
+use Rattle.zsim.specs.CommandLine.{exe_file, replay, run}
+use Rattle.zsim.specs.Told.{command_told, exe_told, task_told}
 use Rattle.zsim.specs.Ended.{IsExeOf, KeepsAll, Seen}
 use Rattle.zsim.specs.Seen.{files_seen, sink_seen}
 use Rattle.zsim.specs.Setup.{Setup, image_by, setup_of}
@@ -21,7 +22,7 @@ returns-in-Err-clause-ended g c =
       out = sink_seen sink.tells sink.bytes sink.faults c.args.out.now c.args.out.now;
     } in
     let kept : Kept = record { machine = c.take_machine.new.text; exe = c.args.kept.now.exe; sched_file = c.args.kept.now.sched_file; schedule = c.args.kept.now.schedule } in
-    let before : IsBefore seen kept = record { lists = ap (λ (l : IntervalLists). l.lists) c.requires.schedule; out = refl; nothing = λ _. refl } in
+    let before : IsBefore seen kept = record { lists = ap (λ (l : ScheduleState). l.lists) c.requires.schedule; out = refl; nothing = λ _. refl } in
     machine_not_taken seen kept before c.in-Err.status c.in-Err.ensures.takes c.requires.exe c.requires.sched_file c.requires.schedule
 
 -- the executable was not taken
@@ -35,7 +36,7 @@ returns-in-Err-take_exe-clause-ended g c =
       out = sink_seen sink.tells sink.bytes sink.faults c.args.out.now c.args.out.now;
     } in
     let kept : Kept = record { machine = c.take_machine.new.text; exe = c.take_exe.new.bytes; sched_file = c.args.kept.now.sched_file; schedule = c.new.result } in
-    let before : IsBefore seen kept = record { lists = ap (λ (l : IntervalLists). l.lists) c.new.ensures; out = refl; nothing = λ _. refl } in
+    let before : IsBefore seen kept = record { lists = ap (λ (l : ScheduleState). l.lists) c.new.ensures; out = refl; nothing = λ _. refl } in
     let taken = c.in-Ok.ensures.takes in
     let exe = exe_told c.args.command.now.exe in
     let text = text_stays files.tells files.contents files.faults files.latest c.args.files.now c.take_machine.new.files c.take_exe.new.files
@@ -73,7 +74,7 @@ returns-in-Run-clause-ended g c =
     let text = text_stays files.tells files.contents files.faults files.latest start read end (option_map (λ name. name.now) c.args.command.now.machine) kept.machine first.1 in
     let bytes = exe_was_read files.tells files.contents files.faults files.latest start read loaded first.2 machine exe kept.exe second.1 in
     let bytes_stay = exe_stays files.tells files.contents files.faults files.latest start loaded end machine exe kept.exe bytes in
-    let cores : kept.schedule.cores ≡ machine.cores = c.run_and_report.ensures.cores ∙ ap (λ (l : IntervalLists). l.cores) c.new.ensures in
+    let cores : kept.schedule.cores ≡ machine.cores = c.run_and_report.ensures.cores ∙ ap (λ (l : ScheduleState). l.cores) c.new.ensures in
     let keeps : KeepsAll seen kept = record { machine = text; exe = rw first.0 bytes_stay; sched_file = rw is_run c.requires.sched_file; cores = rw first.0 cores } in
     let runs = runs_later files.tells files.contents files.faults files.latest start loaded end quiet c.run_and_report.result machine image c.args.command.now.brief
     (option_map (λ name. name.now) c.in-Run.record_to) kept.schedule seen.out c.run_and_report.ensures.run in

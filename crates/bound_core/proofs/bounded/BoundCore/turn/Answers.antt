@@ -1,6 +1,6 @@
 use Rattle.std.proofs.Common.{◌≡◌, Some, None, rules}
 use Rattle.rv_core.specs.Sound.{IsSoundCore}
-use Rattle.bound_core.specs.Timed.{asks}
+use Rattle.bound_core.specs.TimedCore.{asks}
 use Rattle.bound_core.proofs.Accesses.{fewer, not_later, ran_not_later}
 use Rattle.bound_core.proofs.Turns.{asks_none, few_before, takes_access, MakesAccess}
 use Rattle.bound_core.proofs.bounded.BoundCore.turn.Goals as goal

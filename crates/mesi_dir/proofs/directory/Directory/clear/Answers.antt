@@ -1,4 +1,4 @@
-use Rattle.std.proofs.Common.{◌≡◌, Bool, true, false, sym, ◌∙◌, arith}
+use Rattle.std.proofs.Common.{◌∙◌}
 use Rattle.mesi_dir.proofs.Calls.{zeros_are_nobody, zeros_are_sharing, zeros_are_not_shared}
 use Rattle.mesi_dir.proofs.directory.Directory.clear.Goals as goal
 

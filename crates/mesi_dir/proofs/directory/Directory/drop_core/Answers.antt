@@ -1,4 +1,4 @@
-use Rattle.std.proofs.Common.{◌≡◌, sym, ◌∙◌, arith, rules, inl}
+use Rattle.std.proofs.Common.{inl}
 use Rattle.mesi_dir.proofs.Calls.{dropped_sharing, dropped_sharers, dropped_from}
 use Rattle.mesi_dir.proofs.directory.Directory.drop_core.Goals as goal
 

@@ -1,4 +1,4 @@
-use Rattle.std.proofs.Common.{◌≡◌, ℕ, Option, Some, None, sym, ap, ◌∙◌, arith}
+use Rattle.std.proofs.Common.{◌≡◌, Some, None}
 use Rattle.std.specs.List.{position}
 use Rattle.std.specs.Prelude.{nat_eq}
 use Rattle.mesi_dir.proofs.Rows.{row_some, row_none}

@@ -1,4 +1,3 @@
-use Rattle.std.proofs.Common.{◌≡◌, sym, ◌∙◌, arith, rules}
 use Rattle.mesi_dir.proofs.Calls.{granted_sharing, granted_sharers, then_some-if}
 use Rattle.mesi_dir.proofs.directory.Directory.grant.Goals as goal
 

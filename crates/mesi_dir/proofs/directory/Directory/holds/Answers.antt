@@ -1,4 +1,4 @@
-use Rattle.std.proofs.Common.{◌≡◌, sym, ◌∙◌, arith}
+use Rattle.std.proofs.Common.{sym, ◌∙◌}
 use Rattle.mesi_dir.proofs.Calls.{sharer_is}
 use Rattle.mesi_dir.proofs.directory.Directory.holds.Goals as goal
 

@@ -1,4 +1,4 @@
-use Rattle.std.proofs.Common.{◌≡◌, sym, ◌∙◌}
+use Rattle.std.proofs.Common.{sym, ◌∙◌}
 use Rattle.mesi_dir.proofs.Calls.{zeros_are_nobody}
 use Rattle.mesi_dir.proofs.directory.Directory.row.Goals as goal
 

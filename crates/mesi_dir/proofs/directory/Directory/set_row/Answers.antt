@@ -1,9 +1,9 @@
-use Rattle.std.proofs.Common.{◌≡◌, ◌<◌, ℕ, Bool, true, false, Option, Some, None, List, length, sym, ap, ◌∙◌, refl, arith}
+use Rattle.std.proofs.Common.{◌≡◌, ℕ, true, false, Some, None, sym, ◌∙◌, refl, arith}
 use Rattle.std.specs.List.{position}
 use Rattle.std.specs.Prelude.{nat_eq, IsTrue}
 use Rattle.mesi_dir.specs.CoreSets.{HasNone}
-use Rattle.mesi_dir.specs.LineMap.{IsSharing, HasRoomForLine, is_among}
-use Rattle.mesi_dir.specs.Rows.{sharing_in, directory_view}
+use Rattle.mesi_dir.specs.LineMap.{IsSharing, is_among}
+use Rattle.mesi_dir.specs.Rows.{sharing_in}
 use Rattle.mesi_dir.proofs.Maps.{updated_here, updated_keeps}
 use Rattle.mesi_dir.proofs.Rows.{empty_row, shared_row, row_none, row_removed, rows_removed, row_replaced, rows_replaced, row_added, rows_added, is_below_room}
 use Rattle.mesi_dir.proofs.directory.Directory.set_row.Goals as goal

@@ -8,7 +8,7 @@ use Rattle.bound_core.specs.MachineOfShards.{StandForMachine}
 use Rattle.bound_core.specs.MachineWorld.{first_world}
 use Rattle.bound_core.specs.ShardPort.{AreShardsOf}
 use Rattle.bound_core.specs.ShardWorld.{ShardWorld, begun_world, restarted}
-use Rattle.bound_core.specs.Timed.{first_core}
+use Rattle.bound_core.specs.TimedCore.{first_core}
 use Rattle.replay.proofs.Cores.{numbered_from}
 use Rattle.replay.proofs.NextInterval.{all_first_over, first_counted}
 use Rattle.bound_core.proofs.NewShards.{new_again, new_count, placed_shards}

@@ -1,7 +1,7 @@
 -- The L2 and the core's own L1, one after the other; no other core has the line.
 use Rattle.std.proofs.Common.{◌≡◌, ap, sym, ◌∙◌, arith}
 use Rattle.cache_set.specs.declared.letter.Letter.TheVariants.{I}
-use Rattle.shard.specs.Coherence.{is_alone, is_held, l2_victim, own_after, room_made, some_other, taken_in, taken_into_l2}
+use Rattle.shard.specs.Coherence.{is_alone, is_valid, l2_victim, own_after, room_made, some_other, taken_in, taken_into_l2}
 use Rattle.shard.proofs.Access.{after_miss, cores_fetched, held_same, letters_fetched, own_same}
 use Rattle.shard.proofs.caches.CacheLists.bring_from_memory.Goals as goal
 
@@ -31,8 +31,8 @@ returns-clause-after c =
     let made = c.make_l2_room-dirty_victim.new.self in
     let room = c.make_l2_room-dirty_victim.ensures.room in
     let is : c.fetch.new.self ≡ taken_into_l2 c.args.line (room_made (l2_victim c.args.self.now c.args.line) c.args.self.now) = rw c.make_l2_room-dirty_victim.ensures.after at c.fetch.ensures.after in
-    let letter : own_after c.args.write I (some_other is_held c.fetch.new.self c.args.core c.args.line) ≡ own_after c.args.write I (some_other is_held c.args.self.now c.args.core c.args.line)
+    let letter : own_after c.args.write I (some_other is_valid c.fetch.new.self c.args.core c.args.line) ≡ own_after c.args.write I (some_other is_valid c.args.self.now c.args.core c.args.line)
     = own_same c.args.write _ _ (λ read. held_same c.fetch.new.self old c.args.core c.args.line (rw c.fetch.ensures.after (cores_fetched c.args.line made ∙ room.cores))
-    (λ o apart. ap is_held (rw c.fetch.ensures.after (letters_fetched c.args.line made o c.args.line ∙ (room.absent o (c.requires.none o) ∙ sym (c.requires.none o)))))) in
-    c.bring_in.ensures ∙ (ap (λ l. taken_in c.args.core c.args.line l c.fetch.new.self) letter ∙ (ap (taken_in c.args.core c.args.line (own_after c.args.write I (some_other is_held old c.args.core c.args.line))) is
+    (λ o apart. ap is_valid (rw c.fetch.ensures.after (letters_fetched c.args.line made o c.args.line ∙ (room.absent o (c.requires.none o) ∙ sym (c.requires.none o)))))) in
+    c.bring_in.ensures ∙ (ap (λ l. taken_in c.args.core c.args.line l c.fetch.new.self) letter ∙ (ap (taken_in c.args.core c.args.line (own_after c.args.write I (some_other is_valid old c.args.core c.args.line))) is
     ∙ after_miss old c.args.core c.args.line c.args.write (c.requires.none c.args.core) c.requires.absent))

@@ -5,7 +5,7 @@ use Rattle.cache_set.specs.declared.letter.Letter.{Letter}
 use Rattle.cache_set.specs.declared.letter.Letter.TheVariants.{M, E, S}
 use Rattle.cache_set.specs.Ways.{without}
 use Rattle.shard.specs.CacheLayout.{TellsLetter}
-use Rattle.shard.specs.Coherence.{is_held, kept_first}
+use Rattle.shard.specs.Coherence.{is_valid, kept_first}
 use Rattle.shard.proofs.AllCaches.{both_are, both_view, dirty_is, letter_is, no_other, told_as}
 use Rattle.shard.proofs.caches.CacheLists.own.Goals as goal
 
@@ -17,7 +17,7 @@ grant-requires-clause-there c =
 pub keep_first-requires-clause-there : goal.keep_first-requires-clause-there
 keep_first-requires-clause-there c =
     let s = c.self.inside in
-    sym (ap is_held (letter_is s.shards s.l1_ways s.l2_ways s.l1.items s.l2.items c.self.invariant c.args.core c.index_mut-cache.result.now (rw (← c.self.view_is) at c.requires.core) (rw c.from.ensures at c.index_mut-cache.ensures.value) c.args.line)) ∙ rw (← c.self.view_is) at c.requires.there
+    sym (ap is_valid (letter_is s.shards s.l1_ways s.l2_ways s.l1.items s.l2.items c.self.invariant c.args.core c.index_mut-cache.result.now (rw (← c.self.view_is) at c.requires.core) (rw c.from.ensures at c.index_mut-cache.ensures.value) c.args.line)) ∙ rw (← c.self.view_is) at c.requires.there
 
 pub invariant_of-self : goal.invariant_of-self
 invariant_of-self c =

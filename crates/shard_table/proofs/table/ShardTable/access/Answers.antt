@@ -1,7 +1,7 @@
 use Rattle.std.proofs.Common.{◌<◌, ℕ, length, List, refl, sym, ◌∙◌, subst}
 use Rattle.zs_num.specs.declared.entry.Entry.{Entry}
 use Rattle.shard_table.specs.Lives.{MayAsk}
-use Rattle.shard_table.proofs.Turning.{after_tries, same_twice}
+use Rattle.shard_table.proofs.Holding.{after_tries, same_twice}
 use Rattle.shard_table.proofs.table.ShardTable.access.Goals as goal
 
 pub loop-init : goal.loop-init

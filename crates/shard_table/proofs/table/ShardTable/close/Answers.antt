@@ -5,8 +5,8 @@ use Rattle.zs_num.specs.declared.entry.Entry.{Entry}
 use Rattle.access_log.specs.Logs.{LogState}
 use Rattle.shard.specs.Served.{ShardState}
 use Rattle.std.specs.List.{flat_map}
-use Rattle.shard_table.specs.declared.view.Part.{Part}
-use Rattle.shard_table.specs.declared.view.Served.{Served}
+use Rattle.shard_table.specs.declared.view.CoreAccesses.{CoreAccesses}
+use Rattle.shard_table.specs.declared.view.ShardAccesses.{ShardAccesses}
 use Rattle.std.specs.Mem.Slots.{slots_items}
 use Rattle.shard_table.specs.Access.{AreAllSeats, AreWhole, IsSeatOf, SeatState, TableState, recorded_entries}
 use Rattle.shard_table.specs.Tables.{table_state_of}
@@ -62,19 +62,19 @@ loop-seats-preserved c =
     let left = c.remove-in-loop-seats.ensures.items in
     let more : 0 < length rest = search rules in
     let lists : List (List Entry) = map (λ (log : LogState). log.entries) c.loop-seats.logs.items in
-    let parts : List Part = c.loop-seats.place.me.0.parts in
-    let notes : List Served = c.loop-seats.place.me.0.notes in
+    let parts : List CoreAccesses = c.loop-seats.place.me.0.parts in
+    let notes : List ShardAccesses = c.loop-seats.place.me.0.notes in
     let notes_are : notes ++ other.knows.notes ≡ c.join_seat.new.seat.me.0.notes =
-    sym (ap (λ m. m.0.notes) c.join_seat.ensures.2 ∙ ap (λ (ns : List Served). notes ++ ns) (ap (λ (x : SeatState). x.knows.notes) c.other.view_is)) in
+    sym (ap (λ m. m.0.notes) c.join_seat.ensures.2 ∙ ap (λ (ns : List ShardAccesses). notes ++ ns) (ap (λ (x : SeatState). x.knows.notes) c.other.view_is)) in
     let parts_are : parts ++ part_of other ∷ [] ≡ c.join_seat.new.seat.me.0.parts =
-    sym (ap (λ m. m.0.parts) c.join_seat.ensures.2 ∙ ap (λ (ps : List Part). parts ++ ps) (c.other.invariant.parts ∙ ap (λ (x : SeatState). part_of x ∷ []) c.other.view_is)) in
+    sym (ap (λ m. m.0.parts) c.join_seat.ensures.2 ∙ ap (λ (ps : List CoreAccesses). parts ++ ps) (c.other.invariant.parts ∙ ap (λ (x : SeatState). part_of x ∷ []) c.other.view_is)) in
     let lists_are : lists ++ other.entries ∷ [] ≡ map (λ (log : LogState). log.entries) c.push_reserved-in-loop-seats.new.self.items =
     sym (ap (map (λ (log : LogState). log.entries)) c.push_reserved-in-loop-seats.ensures.items ∙ (map-append (λ (log : LogState). log.entries) c.loop-seats.logs.items (c.other.inside.log ∷ [])
     ∙ ap (λ (es : List Entry). lists ++ es ∷ []) (ap (λ (x : SeatState). x.entries) c.other.view_is))) in
     record {
       joined = subst (λ (xs : List SeatState). Joined c.args.seats.items xs c.join_seat.new.seat.me.0.parts c.join_seat.new.seat.me.0.notes (map (λ (log : LogState). log.entries) c.push_reserved-in-loop-seats.new.self.items)) (sym left)
-          (subst (λ (ps : List Part). Joined c.args.seats.items (drop 1 rest) ps c.join_seat.new.seat.me.0.notes (map (λ (log : LogState). log.entries) c.push_reserved-in-loop-seats.new.self.items)) parts_are
-          (subst (λ (ns : List Served). Joined c.args.seats.items (drop 1 rest) (parts ++ part_of other ∷ []) ns (map (λ (log : LogState). log.entries) c.push_reserved-in-loop-seats.new.self.items)) notes_are
+          (subst (λ (ps : List CoreAccesses). Joined c.args.seats.items (drop 1 rest) ps c.join_seat.new.seat.me.0.notes (map (λ (log : LogState). log.entries) c.push_reserved-in-loop-seats.new.self.items)) parts_are
+          (subst (λ (ns : List ShardAccesses). Joined c.args.seats.items (drop 1 rest) (parts ++ part_of other ∷ []) ns (map (λ (log : LogState). log.entries) c.push_reserved-in-loop-seats.new.self.items)) notes_are
           (subst (Joined c.args.seats.items (drop 1 rest) (parts ++ part_of other ∷ []) (notes ++ other.knows.notes)) lists_are
           (one_joined c.args.seats.items rest other parts notes lists before.joined more c.remove-in-loop-seats.ensures.value))));
       hold = ap (λ m. m.0.hold) c.join_seat.ensures.2 ∙ before.hold;

@@ -4,7 +4,7 @@ use Rattle.atomic_table.specs.Table.{opening}
 use Rattle.shard.specs.Served.{ShardState}
 use Rattle.shard_table.specs.Access.{restarted_shards}
 use Rattle.shard_table.specs.Lives.{AreNew}
-use Rattle.shard_table.specs.Rule.{AreTurnsAtTable}
+use Rattle.shard_table.specs.Rule.{AreHoldsAtTable}
 use Rattle.shard_table.specs.Tables.{resumed_all}
 use Rattle.shard_table.specs.Views.{first_view}
 use Rattle.shard_table.proofs.Making.{are_new, restarted_length, resumed_again, written_back}
@@ -24,12 +24,12 @@ whole len items now new size same is =
     written_back len new items (ap length of_items ∙ (restarted_length items ∙ sym size)) ∙ of_items
 
 opens : (values homes : List ShardState) (words : List ℕ) (shards : List ShardState) (cores room : ℕ) → 0 < cores → AreNew (restarted_shards shards) → values ≡ restarted_shards shards → homes ≡ restarted_shards shards
-    → words ≡ replicate (16 * length shards) 0 → AreTurnsAtTable values cores room (opening words homes (first_view values cores room))
+    → words ≡ replicate (16 * length shards) 0 → AreHoldsAtTable values cores room (opening words homes (first_view values cores room))
 opens values homes words shards cores room some new is home word =
     let count : 16 * length shards ≡ 16 * length (restarted_shards shards) = ap (λ (n : ℕ). 16 * n) (sym (restarted_length shards)) in
-    subst (λ (xs : List ShardState). AreTurnsAtTable xs cores room (opening words homes (first_view xs cores room))) (sym is)
-    (subst (λ (xs : List ShardState). AreTurnsAtTable (restarted_shards shards) cores room (opening words xs (first_view (restarted_shards shards) cores room))) (sym home)
-    (subst (λ (ws : List ℕ). AreTurnsAtTable (restarted_shards shards) cores room (opening ws (restarted_shards shards) (first_view (restarted_shards shards) cores room))) (sym (word ∙ ap (λ (n : ℕ). replicate n 0) count))
+    subst (λ (xs : List ShardState). AreHoldsAtTable xs cores room (opening words homes (first_view xs cores room))) (sym is)
+    (subst (λ (xs : List ShardState). AreHoldsAtTable (restarted_shards shards) cores room (opening words xs (first_view (restarted_shards shards) cores room))) (sym home)
+    (subst (λ (ws : List ℕ). AreHoldsAtTable (restarted_shards shards) cores room (opening ws (restarted_shards shards) (first_view (restarted_shards shards) cores room))) (sym (word ∙ ap (λ (n : ℕ). replicate n 0) count))
     (begins (restarted_shards shards) cores room new some)))
 
 pub new-requires-2 : goal.new-requires-2

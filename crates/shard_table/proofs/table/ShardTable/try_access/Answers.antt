@@ -3,14 +3,14 @@ use Rattle.zs_num.specs.declared.entry.Entry.{Entry}
 use Rattle.access_log.specs.Logs.{LogState}
 use Rattle.shard.specs.Served.{ShardState, shard_after}
 use Rattle.shard_table.specs.declared.view.View.{View}
-use Rattle.shard_table.specs.declared.view.Part.{Part}
-use Rattle.shard_table.specs.declared.view.Served.{Served}
+use Rattle.shard_table.specs.declared.view.CoreAccesses.{CoreAccesses}
+use Rattle.shard_table.specs.declared.view.ShardAccesses.{ShardAccesses}
 use Rattle.shard_table.specs.Seats.{IsSeat}
 use Rattle.shard_table.specs.Views.{given, holding}
 use Rattle.shard_table.specs.Access.{IsAccess, IsSameSeat, IsSeatOf, SeatState}
 use Rattle.shard_table.specs.Lives.{MayAsk}
 use Rattle.shard_table.specs.Steps.{IsEntryOf, IsTakenShard}
-use Rattle.shard_table.proofs.Turning.{accessed, can, entered, same, sound_after, stamp_low}
+use Rattle.shard_table.proofs.Holding.{accessed, can, entered, same, sound_after, stamp_low}
 use Rattle.shard_table.proofs.table.ShardTable.try_access.Goals as goal
 
 pub serve-entry-requires-clause-hand : goal.serve-entry-requires-clause-hand
@@ -49,7 +49,7 @@ give-requires-clause-ends c =
       subst (λ (w : View). IsEntryOf w n (record { core = c.seat.inside.core; list = c.seat.inside.log.entries }) (record { shard = n; list = t.1 }) e (shard_after t.0 e)) (sym knows) is,
     )
 
--- the seat when the turn was given back
+-- the seat when the shard was given back
 gave : (c : goal.After-seat-1) → (t : (shard : ShardState) × (list : List Entry) × (c.take-found.new.place.me ≡ (holding c.seat.inside.place.me.0 c.shard-shard.result list, (c.shard-shard.result, shard) ∷ [])) × IsTakenShard c.seat.inside.place.me.0 c.shard-shard.result shard list)
     → c.give.new.place.me ≡ (given (holding c.seat.inside.place.me.0 c.shard-shard.result t.1) (record { core = c.seat.inside.core; list = c.seat.inside.log.entries }) (record { shard = c.shard-shard.result; list = t.1 }) c.serve-entry.result, [])
 gave c t =
@@ -58,8 +58,8 @@ gave c t =
     let e : Entry = c.serve-entry.result in
     let did = c.serve-entry.ensures.served t.0 (ap (λ m. m.1) t.2) in
     let knows : c.serve-entry.new.place.me.0 ≡ holding v n t.1 = ap (λ m. m.0) did.1 ∙ ap (λ m. m.0) t.2 in
-    let part : Part = record { core = c.seat.inside.core; list = c.seat.inside.log.entries } in
-    let served : Served = record { shard = n; list = t.1 } in
+    let part : CoreAccesses = record { core = c.seat.inside.core; list = c.seat.inside.log.entries } in
+    let served : ShardAccesses = record { shard = n; list = t.1 } in
     c.give.ensures.gave (shard_after t.0 e) served part (ap (λ m. m.1) did.1) (ap (λ (w : View). w.hold) knows) (ap (λ (w : View). w.parts) knows ∙ c.seat.invariant.parts)
     ∙ ap (λ (w : View). (given w part served e, [])) knows
 

@@ -14,8 +14,8 @@ returns-in_err-key g c =
     let d = c.self.inside in
     let i = c.self.invariant in
     c.from_residual.ensures
-    ∙ subst (λ (v : DomainValue g.row.C.Denot). ◌≡◌ {A = Option Key} None (earliest_of v.events v.division v.domain v.own)) c.self.view_is
-    (sym (earliest_none d.graph.value d.parts.value d.domain d.here.items d.incoming.stubs (own_of d) d.waiting i.numbered i.divides i.here i.stubs refl i.stands c.in_err-key.ensures.none))
+    ∙ subst (λ (v : DomainValue g.row.C.Denot). ◌≡◌ {A = Option Key} None (earliest_of v.events v.partition v.domain v.own)) c.self.view_is
+    (sym (earliest_none d.graph.value d.parts.value d.domain d.here.items d.incoming.stubs (own_of d) d.waiting i.numbered i.partitions i.here i.stubs refl i.stands c.in_err-key.ensures.none))
 
 pub numbered-requires : goal.numbered-requires
 numbered-requires g c =
@@ -28,5 +28,5 @@ returns g c =
     let i = c.self.invariant in
     let is : c.numbered.result ≡ numbered_key c.self.inside.here.items c.in_ok-key.key = c.numbered.ensures ∙ ap (λ (xs : List Event). numbered_key xs c.in_ok-key.key) c.deref.ensures.value in
     ap (λ (k : Key). Some k) is
-    ∙ subst (λ (v : DomainValue g.row.C.Denot). ◌≡◌ {A = Option Key} (Some (numbered_key c.self.inside.here.items c.in_ok-key.key)) (earliest_of v.events v.division v.domain v.own)) c.self.view_is
-    (sym (earliest_some d.graph.value d.parts.value d.domain d.here.items d.incoming.stubs (own_of d) d.waiting i.numbered i.divides i.here i.stubs refl i.stands c.in_ok-key.key c.in_ok-key.ensures.first))
+    ∙ subst (λ (v : DomainValue g.row.C.Denot). ◌≡◌ {A = Option Key} (Some (numbered_key c.self.inside.here.items c.in_ok-key.key)) (earliest_of v.events v.partition v.domain v.own)) c.self.view_is
+    (sym (earliest_some d.graph.value d.parts.value d.domain d.here.items d.incoming.stubs (own_of d) d.waiting i.numbered i.partitions i.here i.stubs refl i.stands c.in_ok-key.key c.in_ok-key.ensures.first))

@@ -280,7 +280,7 @@ invariant_of-self g c =
     in
     record {
       numbered = i.numbered;
-      divides = i.divides;
+      partitions = i.partitions;
       here = i.here;
       linked = i.linked;
       stubs = i.stubs;

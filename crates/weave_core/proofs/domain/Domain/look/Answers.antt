@@ -25,7 +25,7 @@ tell-requires-clause-later g c =
     let d = c.self.inside in
     let i = c.self.invariant in
     let may : MayTell c.self.inside.graph.value c.self.inside.parts.value c.self.inside.domain (own_of c.self.inside) c.args.crossing c.args.word =
-    subst (λ (v : DomainValue g.row.C.Denot). MayTell v.events v.division v.domain v.own c.args.crossing c.args.word) (sym c.self.view_is) c.requires
+    subst (λ (v : DomainValue g.row.C.Denot). MayTell v.events v.partition v.domain v.own c.args.crossing c.args.word) (sym c.self.view_is) c.requires
     in
     λ s h u. (later d.graph.value d.parts.value d.domain d.here.items d.incoming.stubs (own_of d) d.waiting i.here i.stubs refl i.stands c.args.crossing c.args.word may c.place_of-place.result s h (c.place_of-place.ensures.number s (ap (λ (xs : List Stub). slice_get xs c.place_of-place.result) c.stubs.ensures.stubs ∙ h)) u).1
 
@@ -34,7 +34,7 @@ tell-requires-clause-open g c =
     let d = c.self.inside in
     let i = c.self.invariant in
     let may : MayTell c.self.inside.graph.value c.self.inside.parts.value c.self.inside.domain (own_of c.self.inside) c.args.crossing c.args.word =
-    subst (λ (v : DomainValue g.row.C.Denot). MayTell v.events v.division v.domain v.own c.args.crossing c.args.word) (sym c.self.view_is) c.requires
+    subst (λ (v : DomainValue g.row.C.Denot). MayTell v.events v.partition v.domain v.own c.args.crossing c.args.word) (sym c.self.view_is) c.requires
     in
     λ s h u. (later d.graph.value d.parts.value d.domain d.here.items d.incoming.stubs (own_of d) d.waiting i.here i.stubs refl i.stands c.args.crossing c.args.word may c.place_of-place.result s h (c.place_of-place.ensures.number s (ap (λ (xs : List Stub). slice_get xs c.place_of-place.result) c.stubs.ensures.stubs ∙ h)) u).0
 
@@ -43,7 +43,7 @@ overflow_add-finish g c =
     let d = c.self.inside in
     let i = c.self.invariant in
     let may : MayTell c.self.inside.graph.value c.self.inside.parts.value c.self.inside.domain (own_of c.self.inside) c.args.crossing c.args.word =
-    subst (λ (v : DomainValue g.row.C.Denot). MayTell v.events v.division v.domain v.own c.args.crossing c.args.word) (sym c.self.view_is) c.requires
+    subst (λ (v : DomainValue g.row.C.Denot). MayTell v.events v.partition v.domain v.own c.args.crossing c.args.word) (sym c.self.view_is) c.requires
     in
     let s : (s : Stub) × (slice_get c.self.inside.incoming.stubs c.place_of-place.result ≡ Some s) =
     get_there c.self.inside.incoming.stubs c.place_of-place.result (omega (arith, c.place_of-place.ensures.there, ap length c.stubs.ensures.stubs))
@@ -60,7 +60,7 @@ parent_fired-requires-clause-within g c =
     let d = c.self.inside in
     let i = c.self.invariant in
     let may : MayTell c.self.inside.graph.value c.self.inside.parts.value c.self.inside.domain (own_of c.self.inside) c.args.crossing c.args.word =
-    subst (λ (v : DomainValue g.row.C.Denot). MayTell v.events v.division v.domain v.own c.args.crossing c.args.word) (sym c.self.view_is) c.requires
+    subst (λ (v : DomainValue g.row.C.Denot). MayTell v.events v.partition v.domain v.own c.args.crossing c.args.word) (sym c.self.view_is) c.requires
     in
     let s : (s : Stub) × (slice_get c.self.inside.incoming.stubs c.place_of-place.result ≡ Some s) =
     get_there c.self.inside.incoming.stubs c.place_of-place.result (omega (arith, c.place_of-place.ensures.there, ap length c.stubs.ensures.stubs))
@@ -78,7 +78,7 @@ parent_fired-requires-clause-waits g c =
     let d = c.self.inside in
     let i = c.self.invariant in
     let may : MayTell c.self.inside.graph.value c.self.inside.parts.value c.self.inside.domain (own_of c.self.inside) c.args.crossing c.args.word =
-    subst (λ (v : DomainValue g.row.C.Denot). MayTell v.events v.division v.domain v.own c.args.crossing c.args.word) (sym c.self.view_is) c.requires
+    subst (λ (v : DomainValue g.row.C.Denot). MayTell v.events v.partition v.domain v.own c.args.crossing c.args.word) (sym c.self.view_is) c.requires
     in
     let s : (s : Stub) × (slice_get c.self.inside.incoming.stubs c.place_of-place.result ≡ Some s) =
     get_there c.self.inside.incoming.stubs c.place_of-place.result (omega (arith, c.place_of-place.ensures.there, ap length c.stubs.ensures.stubs))
@@ -96,7 +96,7 @@ parent_fired-requires-clause-unfired g c =
     let d = c.self.inside in
     let i = c.self.invariant in
     let may : MayTell c.self.inside.graph.value c.self.inside.parts.value c.self.inside.domain (own_of c.self.inside) c.args.crossing c.args.word =
-    subst (λ (v : DomainValue g.row.C.Denot). MayTell v.events v.division v.domain v.own c.args.crossing c.args.word) (sym c.self.view_is) c.requires
+    subst (λ (v : DomainValue g.row.C.Denot). MayTell v.events v.partition v.domain v.own c.args.crossing c.args.word) (sym c.self.view_is) c.requires
     in
     let s : (s : Stub) × (slice_get c.self.inside.incoming.stubs c.place_of-place.result ≡ Some s) =
     get_there c.self.inside.incoming.stubs c.place_of-place.result (omega (arith, c.place_of-place.ensures.there, ap length c.stubs.ensures.stubs))
@@ -114,7 +114,7 @@ invariant_of-self g c =
     let d = c.self.inside in
     let i = c.self.invariant in
     let may : MayTell c.self.inside.graph.value c.self.inside.parts.value c.self.inside.domain (own_of c.self.inside) c.args.crossing c.args.word =
-    subst (λ (v : DomainValue g.row.C.Denot). MayTell v.events v.division v.domain v.own c.args.crossing c.args.word) (sym c.self.view_is) c.requires
+    subst (λ (v : DomainValue g.row.C.Denot). MayTell v.events v.partition v.domain v.own c.args.crossing c.args.word) (sym c.self.view_is) c.requires
     in
     let s : (s : Stub) × (slice_get c.self.inside.incoming.stubs c.place_of-place.result ≡ Some s) =
     get_there c.self.inside.incoming.stubs c.place_of-place.result (omega (arith, c.place_of-place.ensures.there, ap length c.stubs.ensures.stubs))
@@ -132,7 +132,7 @@ invariant_of-self g c =
     (subst (λ (w : Waits). IsDomain g.C.Component.serves (record c.self.inside { incoming = record { stubs = (set c.self.inside.incoming.stubs c.place_of-place.result (told_word c.args.word s.0)); floor = c.self.inside.incoming.floor }; waiting = w })) (sym waiting)
     (record {
       numbered = i.numbered;
-      divides = i.divides;
+      partitions = i.partitions;
       here = i.here;
       linked = i.linked;
       stubs = still_stubs d.graph.value d.parts.value d.domain d.here.items d.incoming.stubs c.place_of-place.result s.0 c.args.word i.stubs s.1;
@@ -149,7 +149,7 @@ invariant_of-self-in_default g c =
     let d = c.self.inside in
     let i = c.self.invariant in
     let may : MayTell c.self.inside.graph.value c.self.inside.parts.value c.self.inside.domain (own_of c.self.inside) c.args.crossing c.args.word =
-    subst (λ (v : DomainValue g.row.C.Denot). MayTell v.events v.division v.domain v.own c.args.crossing c.args.word) (sym c.self.view_is) c.requires
+    subst (λ (v : DomainValue g.row.C.Denot). MayTell v.events v.partition v.domain v.own c.args.crossing c.args.word) (sym c.self.view_is) c.requires
     in
     let s : (s : Stub) × (slice_get c.self.inside.incoming.stubs c.place_of-place.result ≡ Some s) =
     get_there c.self.inside.incoming.stubs c.place_of-place.result (omega (arith, c.place_of-place.ensures.there, ap length c.stubs.ensures.stubs))
@@ -161,7 +161,7 @@ invariant_of-self-in_default g c =
     subst (λ (v : Stubs). IsDomain g.C.Component.serves (record c.self.inside { incoming = v })) (sym (c.tell.ensures s.0 s.1))
     (record {
       numbered = i.numbered;
-      divides = i.divides;
+      partitions = i.partitions;
       here = i.here;
       linked = i.linked;
       stubs = still_stubs d.graph.value d.parts.value d.domain d.here.items d.incoming.stubs c.place_of-place.result s.0 c.args.word i.stubs s.1;
@@ -178,7 +178,7 @@ invariant_of-self-else-is_open g c =
     let d = c.self.inside in
     let i = c.self.invariant in
     let may : MayTell c.self.inside.graph.value c.self.inside.parts.value c.self.inside.domain (own_of c.self.inside) c.args.crossing c.args.word =
-    subst (λ (v : DomainValue g.row.C.Denot). MayTell v.events v.division v.domain v.own c.args.crossing c.args.word) (sym c.self.view_is) c.requires
+    subst (λ (v : DomainValue g.row.C.Denot). MayTell v.events v.partition v.domain v.own c.args.crossing c.args.word) (sym c.self.view_is) c.requires
     in
     let s : (s : Stub) × (slice_get c.self.inside.incoming.stubs c.place_of-place.result ≡ Some s) =
     get_there c.self.inside.incoming.stubs c.place_of-place.result (omega (arith, c.place_of-place.ensures.there, ap length c.stubs.ensures.stubs))
@@ -192,7 +192,7 @@ invariant_of-self-else-is_open g c =
     subst (λ (v : Stubs). IsDomain g.C.Component.serves (record c.self.inside { incoming = v })) (sym (c.tell.ensures s.0 s.1))
     (record {
       numbered = i.numbered;
-      divides = i.divides;
+      partitions = i.partitions;
       here = i.here;
       linked = i.linked;
       stubs = still_stubs d.graph.value d.parts.value d.domain d.here.items d.incoming.stubs c.place_of-place.result s.0 c.args.word i.stubs s.1;
@@ -209,7 +209,7 @@ returns-in-Exact g c =
     let d = c.self.inside in
     let i = c.self.invariant in
     let may : MayTell c.self.inside.graph.value c.self.inside.parts.value c.self.inside.domain (own_of c.self.inside) c.args.crossing c.args.word =
-    subst (λ (v : DomainValue g.row.C.Denot). MayTell v.events v.division v.domain v.own c.args.crossing c.args.word) (sym c.self.view_is) c.requires
+    subst (λ (v : DomainValue g.row.C.Denot). MayTell v.events v.partition v.domain v.own c.args.crossing c.args.word) (sym c.self.view_is) c.requires
     in
     let s : (s : Stub) × (slice_get c.self.inside.incoming.stubs c.place_of-place.result ≡ Some s) =
     get_there c.self.inside.incoming.stubs c.place_of-place.result (omega (arith, c.place_of-place.ensures.there, ap length c.stubs.ensures.stubs))
@@ -226,7 +226,7 @@ returns-in_default g c =
     let d = c.self.inside in
     let i = c.self.invariant in
     let may : MayTell c.self.inside.graph.value c.self.inside.parts.value c.self.inside.domain (own_of c.self.inside) c.args.crossing c.args.word =
-    subst (λ (v : DomainValue g.row.C.Denot). MayTell v.events v.division v.domain v.own c.args.crossing c.args.word) (sym c.self.view_is) c.requires
+    subst (λ (v : DomainValue g.row.C.Denot). MayTell v.events v.partition v.domain v.own c.args.crossing c.args.word) (sym c.self.view_is) c.requires
     in
     let s : (s : Stub) × (slice_get c.self.inside.incoming.stubs c.place_of-place.result ≡ Some s) =
     get_there c.self.inside.incoming.stubs c.place_of-place.result (omega (arith, c.place_of-place.ensures.there, ap length c.stubs.ensures.stubs))
@@ -243,7 +243,7 @@ returns-else-is_open g c =
     let d = c.self.inside in
     let i = c.self.invariant in
     let may : MayTell c.self.inside.graph.value c.self.inside.parts.value c.self.inside.domain (own_of c.self.inside) c.args.crossing c.args.word =
-    subst (λ (v : DomainValue g.row.C.Denot). MayTell v.events v.division v.domain v.own c.args.crossing c.args.word) (sym c.self.view_is) c.requires
+    subst (λ (v : DomainValue g.row.C.Denot). MayTell v.events v.partition v.domain v.own c.args.crossing c.args.word) (sym c.self.view_is) c.requires
     in
     let s : (s : Stub) × (slice_get c.self.inside.incoming.stubs c.place_of-place.result ≡ Some s) =
     get_there c.self.inside.incoming.stubs c.place_of-place.result (omega (arith, c.place_of-place.ensures.there, ap length c.stubs.ensures.stubs))

@@ -18,7 +18,7 @@ returns g c =
     ∙ (ap (λ (xs : List Event). answer_of xs c.stubs.result.now c.first.result c.first-2.result) c.deref.ensures.value
     ∙ ap (λ (xs : List Stub). answer_of c.self.inside.here.items xs c.first.result c.first-2.result) c.stubs.ensures.stubs)
     in
-    subst (λ (v : DomainValue g.row.C.Denot). IsAnswer v.events v.division v.domain v.own c.answer.result) c.self.view_is
+    subst (λ (v : DomainValue g.row.C.Denot). IsAnswer v.events v.partition v.domain v.own c.answer.result) c.self.view_is
     (subst (λ (n : Next). IsAnswer d.graph.value d.parts.value d.domain (own_of d) n) (sym is)
-    (answers d.graph.value d.parts.value d.domain d.here.items d.incoming.stubs (own_of d) d.waiting i.numbered i.divides i.here i.stubs refl i.stands
+    (answers d.graph.value d.parts.value d.domain d.here.items d.incoming.stubs (own_of d) d.waiting i.numbered i.partitions i.here i.stubs refl i.stands
     c.first.result c.first-2.result c.first.ensures.first c.first.ensures.none c.first-2.ensures.first c.first-2.ensures.none))

@@ -1,5 +1,5 @@
 -- The event is not ready.
-use Rattle.std.proofs.Common.{◌<◌, length, arith, ap, ◌∙◌}
+use Rattle.std.proofs.Common.{length, arith, ap, ◌∙◌}
 use Rattle.std.specs.Prelude.{slice_index}
 use Rattle.weave_seq.proofs.StateSteps.{kept}
 use Rattle.weave_seq.proofs.state.State.keep.Goals as goal

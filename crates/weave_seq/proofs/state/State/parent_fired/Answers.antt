@@ -1,8 +1,7 @@
 -- The event is ready where it waited for this parent alone.
-use Rattle.std.proofs.Common.{◌≡◌, ◌<◌, ◌-◌, ℕ, length, set, get_or, Some, ap, sym, ◌∙◌, arith, length-set}
+use Rattle.std.proofs.Common.{◌≡◌, ◌<◌, ◌-◌, length, set, Some, ap, sym, ◌∙◌, arith, length-set}
 use Rattle.std.specs.Prelude.{slice_get, slice_index}
 use Rattle.std.proofs.lemmas.List.{get_or-set_same, get_or_read}
-use Rattle.event_graph.specs.declared.fired.Fired.{Fired}
 use Rattle.event_graph.proofs.Lists.{get_read}
 use Rattle.weave_seq.proofs.StateSteps.{has_room, is_ready_now, still_waits}
 use Rattle.weave_seq.proofs.state.State.parent_fired.Goals as goal

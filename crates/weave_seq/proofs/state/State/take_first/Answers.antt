@@ -1,5 +1,5 @@
 -- The queue had the keys of the ready events.
-use Rattle.std.proofs.Common.{◌<◌, ap, arith, subst, sym, refl}
+use Rattle.std.proofs.Common.{arith, subst, sym, refl}
 use Rattle.weave_seq.specs.SoFar.{HasReady, IsFirst, NoneIsReady}
 use Rattle.weave_seq.proofs.StateSteps.{first_popped, none_popped, popped_within, taken}
 use Rattle.weave_seq.proofs.state.State.take_first.Goals as goal

@@ -6,7 +6,7 @@ use Rattle.zs_num.specs.declared.time.Word.{Word}
 use Rattle.zs_num.specs.declared.time.Word.TheVariants.{Bound}
 use Rattle.domain_map.specs.declared.crossing.Crossing.{Crossing}
 use Rattle.weave_tests.specs.declared.server.Server.{Server}
-use Rattle.weave_tests.specs.Keeps.{AreCalm}
+use Rattle.weave_tests.specs.KeptOfDomain.{AreCalm}
 use Rattle.weave_tests.proofs.Keeping.{keeps_first}
 use Rattle.weave_tests.proofs.driven.Driven.prepare.Goals as goal
 

@@ -3,7 +3,7 @@ use Rattle.std.proofs.Common.{◌≡◌, ◌<◌, ℕ, List, Option, Some, lengt
 use Rattle.zs_num.specs.declared.time.Word.{Word}
 use Rattle.domain_map.specs.declared.crossing.Crossing.{Crossing}
 use Rattle.weave_core.specs.DomainMachine.{word_at}
-use Rattle.weave_tests.specs.Keeps.{Keeps}
+use Rattle.weave_tests.specs.KeptOfDomain.{KeptOfDomain}
 use Rattle.weave_tests.proofs.Keeping.{keeps_word}
 use Rattle.weave_tests.proofs.Serving.{there_at}
 use Rattle.weave_tests.proofs.driven.Driven.tell.Goals as goal
@@ -23,7 +23,7 @@ invariant_of-self c =
     in
     record {
       keeps =
-          subst (λ (o : Option ℕ). Keeps c.args.self.now.graph.now c.args.self.now.parts.now c.args.self.now.number c.look.new.self (set c.args.self.now.known.items c.args.number c.args.word) (set c.args.self.now.told.items x.parent o) c.args.self.now.floor c.args.self.now.busy) (sym c.told_after.ensures)
+          subst (λ (o : Option ℕ). KeptOfDomain c.args.self.now.graph.now c.args.self.now.parts.now c.args.self.now.number c.look.new.self (set c.args.self.now.known.items c.args.number c.args.word) (set c.args.self.now.told.items x.parent o) c.args.self.now.floor c.args.self.now.busy) (sym c.told_after.ensures)
           (keeps_word c.args.self.now.graph.now c.args.self.now.parts.now c.args.self.now.number c.args.self.now.domain c.args.self.now.known.items c.args.self.now.told.items c.args.self.now.floor c.args.self.now.busy
           c.args.self.now.keeps c.args.number x there (word_at c.args.self.now.known.items c.args.number) c.args.word refl c.index-told.result.now told (c.agrees.ensures c.if-not-agrees.false) c.look.new.self within c.look.ensures);
     }

@@ -1,0 +1,12 @@
+//! Tests of what accesses leave, through the public calls of their crates: lines in sets and in
+//! directories, logs, and schedules with their files.
+#![tactic(auto)]
+
+#[cfg(test)]
+mod directories;
+#[cfg(test)]
+mod logs;
+#[cfg(test)]
+mod schedule_files;
+#[cfg(test)]
+mod sets;

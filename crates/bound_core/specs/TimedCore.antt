@@ -1,0 +1,105 @@
+-- A core in time: its state, its clock, and what it does by itself up to its next access.
+use Rattle.std.specs.Prelude.{ℕ, zero, suc, ◌+◌, ◌-◌, ◌*◌, ◌^◌, max, nat_lt, Bool, ◌&&◌, if◌then◌else◌, List, [], ◌++◌, length, map, option_to_list, Option, Some, None}
+use Rattle.std.specs.Option.{option_map}
+use Rattle.zs_num.specs.declared.entry.Entry.{Entry}
+use Rattle.zs_num.specs.declared.request.Request.{Request}
+use Rattle.elf_load.specs.MemoryImage.{MemoryImage}
+use Rattle.machine_desc.specs.declared.machine.Machine.{Machine}
+use Rattle.rv_core.specs.CoreState.{CoreState, InProgress}
+use Rattle.rv_core.specs.Step.{answered, console_byte, cost, executed, initial_core, is_free}
+
+pub record TimedCore : Type 0 where
+  pub core : CoreState
+  -- in cycles
+  pub clock : ℕ
+  -- how many instructions were counted
+  pub instructions : ℕ
+  -- the bytes that it wrote
+  pub console : List ℕ
+
+-- The core of this number at the start. Its stack ends where those of the cores before it begin, the first at the end
+-- of memory.
+abbrev pub first_core : Machine → MemoryImage → (number : ℕ) → TimedCore
+first_core machine image number = record {
+  core = (initial_core number machine.cores image.entry (machine.memory.base + machine.memory.size - number * machine.memory.stack)
+      (record { base = machine.memory.base; size = machine.memory.size }));
+  clock = 0;
+  instructions = 0;
+  console = [];
+}
+
+-- The core after its next instruction, or up to that instruction's first access. An instruction is counted and costs a
+-- cycle, unless the core halted by a fault.
+unfoldable pub after_instruction : MemoryImage → TimedCore → TimedCore
+after_instruction image c = let next = executed image c.core in record {
+  core = next;
+  clock = c.clock + cost next.halted;
+  instructions = c.instructions + cost next.halted;
+  console = c.console;
+}
+
+-- the core with so many instructions more on its count, of a cycle each
+abbrev pub ahead : (counted : ℕ) → TimedCore → TimedCore
+ahead counted c = record c { clock = c.clock + counted; instructions = c.instructions + counted }
+
+-- whether the core goes on by itself: it comes to an instruction before the interval ends
+abbrev pub goes_on_alone : (end : ℕ) → TimedCore → Bool
+goes_on_alone end c = is_free c.core && nat_lt c.clock end
+
+-- after so many instructions, or fewer where it stops before
+abbrev pub after_instructions : ℕ → MemoryImage → (end : ℕ) → TimedCore → TimedCore
+after_instructions zero image end c = c
+after_instructions (suc n) image end c =
+    if goes_on_alone end c then after_instructions n image end (after_instruction image c) else c
+
+-- The core after its local instructions: up to an access, a halt or the end of the interval. Each instruction that does
+-- not halt the core costs a cycle, so there are at most as many as cycles are left, and one.
+abbrev pub ran_to : MemoryImage → (end : ℕ) → TimedCore → TimedCore
+ran_to image end c = after_instructions (suc (end - c.clock)) image end c
+
+-- the access that it waits for
+abbrev pub next_request : Option InProgress → Option Request
+next_request instruction = option_map (λ now. now.next) instruction
+
+abbrev pub asks : TimedCore → Option Request
+asks c = next_request c.core.instruction
+
+-- The core after its access had this entry. `time` is how long an access takes where nothing else runs. A reply to an
+-- access of a write call is a byte of the console.
+unfoldable pub core_after_access : (time : Entry → ℕ) → Entry → TimedCore → TimedCore
+core_after_access time e c = record {
+  core = answered e.reply c.core;
+  clock = c.clock + time e;
+  instructions = c.instructions;
+  console = c.console ++ option_to_list (console_byte c.core.instruction e.reply);
+}
+
+-- the core waited so many cycles in the weave
+abbrev pub delayed : (by : ℕ) → TimedCore → TimedCore
+delayed by c = record c { clock = c.clock + by }
+
+-- how many accesses are left of the instruction in progress
+abbrev pub left_of_instruction : Option InProgress → ℕ
+left_of_instruction None = 0
+left_of_instruction (Some now) = suc (length now.later)
+
+-- The most accesses that a core can have before it ends its interval. An access costs a cycle at least; an instruction
+-- that begins before the end may end behind it, and has 256 accesses at most.
+unfoldable pub most_accesses : (end : ℕ) → TimedCore → ℕ
+most_accesses end c = if nat_lt c.clock end then end - c.clock + 256 else left_of_instruction c.core.instruction
+
+-- The latest cycle that the clock of a core can come to before the core ends its interval. An access takes 2^20 cycles
+-- at most.
+unfoldable pub latest_clock : (end : ℕ) → TimedCore → ℕ
+latest_clock end c = max (c.clock + 2 ^ 20 * left_of_instruction c.core.instruction) (end + 2 ^ 28)
+
+-- a core with its number, and the room on its console
+pub record NumberedCore : Type 0 where
+  pub number : ℕ
+  pub timed : TimedCore
+  -- for how many bytes there is room on the console
+  pub spare : ℕ
+
+-- cores with their numbers, in time
+abbrev pub timed_of : List NumberedCore → List TimedCore
+timed_of cores = map (λ c. c.timed) cores

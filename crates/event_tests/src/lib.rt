@@ -1,0 +1,19 @@
+//! Tests of machines, events and domains through the public calls of their crates.
+#![tactic(auto)]
+
+#[cfg(test)]
+mod components;
+#[cfg(test)]
+mod delays;
+#[cfg(test)]
+mod descriptions;
+#[cfg(test)]
+mod domains;
+#[cfg(test)]
+mod graphs;
+#[cfg(test)]
+mod loads;
+#[cfg(test)]
+mod machines;
+#[cfg(test)]
+mod queues;

@@ -1,0 +1,70 @@
+//! The built-in description with some words changed, and a small machine.
+ghost use Rattle.std.specs.Prelude.{◌≡◌, IfOk};
+ghost use Rattle.machine_desc.specs.Components.{component_count};
+ghost use Rattle.machine_desc.specs.Machine.{IsMachine};
+
+use machine_desc::{Controllers, Domains, L1, L2, Machine, Memory, PLAIN, Places, read};
+use std::alloc::{AllocError, Global};
+use std::test::Fail;
+use zs_num::NoMemory;
+
+/// The built-in text with each first word of a pair replaced by the second.
+pub(crate) fn edited(alloc: Global, edits: &[(&str, &str)]) -> Result<String, AllocError> {
+    let mut text = String::from_str(alloc, PLAIN)?;
+    for (old, new) in edits {
+        text = text.replacen(alloc, *old, *new, 1)?;
+    }
+    Ok(text)
+}
+
+/// The machine of the edited text.
+pub(crate) fn edited_machine(alloc: Global, edits: &[(&str, &str)]) -> Result<Machine, Fail>
+    ensures { IfOk result IsMachine }
+{
+    let text = edited(alloc, edits)?;
+    Ok(read(alloc, text.as_bytes())?)
+}
+
+/// Two cores, one bank in domain 0 and one controller in domain 1.
+pub(crate) fn two_cores(alloc: Global) -> Result<Machine, NoMemory>
+    ensures machine { IfOk result IsMachine }
+    ensures components { IfOk result (λ m. component_count m ≡ 2) }
+    ensures domains { IfOk result (λ m. m.domains.count ≡ 2) }
+{
+    Ok(Machine {
+        version: 1,
+        cores: 2,
+        interval: 10_000,
+        intervals: 100_000,
+        memory: Memory {
+            base: 65_536,
+            size: 1_048_576,
+            stack: 4_096,
+        },
+        l1: L1 {
+            sets: 2,
+            ways: 1,
+            latency: 1,
+        },
+        l2: L2 {
+            banks: 1,
+            sets: 4,
+            ways: 2,
+            latency: 10,
+            remote: 5,
+            fill: 2,
+            occupancy: 4,
+        },
+        controllers: Controllers {
+            count: 1,
+            read: 100,
+            write: 40,
+            occupancy: 20,
+        },
+        domains: Domains {
+            count: 2,
+            banks: Places::of(vec![in alloc; 0]?),
+            controllers: Places::of(vec![in alloc; 1]?),
+        },
+    })
+}

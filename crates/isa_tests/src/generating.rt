@@ -1,0 +1,86 @@
+//! Generated programs against the words of the assembler of GNU binutils 2.40, and loaded.
+use crate::executables::{BASE, SIZE};
+use elf_load::{BadElf, LoadFail, load};
+use gen_prog::generate;
+use std::test::Fail;
+
+/// The words of the program of a table of 16 doublewords. Word 13 has the mask.
+static WORDS: [u32; 28] = [
+    0x0000_1297,
+    0x0002_b303,
+    0x0082_b383,
+    0x00a3_0333,
+    0x0013_6313,
+    0x0010_0493,
+    0x00d3_1413,
+    0x0083_4333,
+    0x0073_5413,
+    0x0083_4333,
+    0x0113_1413,
+    0x0083_4333,
+    0x0083_5413,
+    0x0784_7413,
+    0x0054_0433,
+    0x0404_0413,
+    0x0033_7593,
+    0x0005_8863,
+    0x0095_9a63,
+    0x0094_362f,
+    0x0100_006f,
+    0x0064_3023,
+    0x0080_006f,
+    0x0004_3603,
+    0xfff3_8393,
+    0xfa03_9ae3,
+    0x05d0_0893,
+    0x0000_0073,
+];
+
+/// Numbers, each with its word 13 and how many iterations it gives.
+static NUMBERS: [(u64, u32, u64); 5] = [
+    (5, 0x0784_7413, 105),
+    (7, 0x1f84_7413, 107),
+    (9_899, 0x7f84_7413, 9_999),
+    (9_901, 0x0f84_7413, 100),
+    (u64::MAX, 0x0784_7413, 3_939),
+];
+
+#[test]
+fn programs_are_those_of_another_assembler(rt: HostRuntime) -> Result<(), Fail> {
+    for &(n, masked, iterations) in &NUMBERS {
+        let mut wanted = Vec::new(rt.alloc());
+        for (place, &word) in WORDS.iter().enumerate() {
+            let word = if place == 13 { masked } else { word };
+            wanted.extend_from_slice(&word.to_le_bytes())?;
+        }
+        wanted.extend_from_slice(&n.to_le_bytes())?;
+        wanted.extend_from_slice(&iterations.to_le_bytes())?;
+        let file = generate(rt.alloc(), n, BASE)?;
+        assert_eq!(rt; file.as_slice().len(), 304);
+        assert!(rt; file.as_slice().ends_with(&wanted), "at {n}");
+    }
+    Ok(())
+}
+
+#[test]
+fn a_program_is_loaded_where_it_lies_in_memory(rt: HostRuntime) -> Result<(), Fail> {
+    let alloc = rt.alloc();
+    let file = generate(alloc, 7, BASE)?;
+    let image = load(alloc, file.as_slice(), BASE, SIZE)?;
+    assert_eq!(rt; image.entry(), BASE);
+    assert_eq!(rt; image.segments().len(), 2);
+    for segment in image.segments() {
+        let (vaddr, length, memsz) = if segment.exec {
+            (BASE, 112, 112)
+        } else {
+            (BASE + 4096, 16, 2112)
+        };
+        assert_eq!(rt; segment.vaddr, vaddr);
+        assert_eq!(rt; segment.bytes.as_slice().len(), length);
+        assert_eq!(rt; segment.memsz, memsz);
+    }
+    let refused = load(alloc, file.as_slice(), BASE, 4096).err();
+    let past = LoadFail::Bad(BadElf::SegmentPastMemory { index: 1 });
+    assert_eq!(rt; refused, Some(past));
+    Ok(())
+}
