@@ -9,4 +9,3 @@ pub mod Ending
 pub mod Turns
 pub mod Seated
 pub mod RecordedOrder
-pub mod FirstCores

@@ -9,7 +9,5 @@ mod interval;
 pub mod laws;
 mod member;
 mod seat_port;
-#[cfg(test)]
-mod tests;
 
 pub use interval::{Bounded, PhaseBuffers, bound, bound_in};

@@ -15,12 +15,8 @@ mod replaying;
 mod results;
 mod running;
 mod simulation;
-#[cfg(test)]
-mod tests;
 mod turns;
 mod weaving;
-#[cfg(test)]
-mod worker_tests;
 
 pub use replay_fail::ReplayFail;
 pub use replaying::replay;

@@ -1,6 +1,11 @@
-//! Tests of the shard table: two cores share its shards, in one thread and in two.
+//! Tests of accesses by several threads: two cores share the shards of a table, in one thread and in
+//! two, and the first interval of small programs by several workers.
 #![tactic(auto)]
 
+#[cfg(test)]
+mod first_interval;
+#[cfg(test)]
+mod given;
 #[cfg(test)]
 mod requests;
 #[cfg(test)]

@@ -5,9 +5,10 @@ ghost use Rattle.zs_num.specs.Request.{IsServable};
 ghost use Rattle.shard_table.specs.Access.{IsSameSeat, IsSeatOf};
 ghost use Rattle.table_tests.specs.Tested.{AreOf, CanBeAsked, IsAt, IsOf, IsTested};
 
+use crate::given::{ECALL, image_of, machine_of};
 use access_log::CoreLog;
-use elf_load::{Image, load};
-use machine_desc::{Machine, PLAIN, read};
+use elf_load::Image;
+use machine_desc::Machine;
 use shard::Shard;
 use shard_table::{CoreSeat, ShardTable};
 use std::alloc::Global;
@@ -27,26 +28,6 @@ pub(crate) const TWO_BANKS: [(&str, &str); 3] = [
 
 /// How many accesses a core can make.
 pub(crate) const ROOM: u32 = 1000;
-
-/// An executable of one instruction, which lies at 0x10000.
-static FILE: [u8; 124] = [
-    0x7f, 0x45, 0x4c, 0x46, 2, 1, 1, 0, 0, 0, 0, 0, 0, 0, 0, 0, 2, 0, 243, 0, 1, 0, 0, 0, 0, 0, 1,
-    0, 0, 0, 0, 0, 64, 0, 0, 0, 0, 0, 0, 0, 0, 0, 0, 0, 0, 0, 0, 0, 0, 0, 0, 0, 64, 0, 56, 0, 1, 0,
-    0, 0, 0, 0, 0, 0, 1, 0, 0, 0, 7, 0, 0, 0, 120, 0, 0, 0, 0, 0, 0, 0, 0, 0, 1, 0, 0, 0, 0, 0, 0,
-    0, 1, 0, 0, 0, 0, 0, 4, 0, 0, 0, 0, 0, 0, 0, 4, 0, 0, 0, 0, 0, 0, 0, 1, 0, 0, 0, 0, 0, 0, 0,
-    0x73, 0, 0, 0,
-];
-
-/// The machine of the built-in text with each first word of a pair replaced by the second.
-fn edited(alloc: Global, edits: &[(&str, &str)]) -> Result<Machine, Fail>
-    ensures { IfOk result IsMachine }
-{
-    let mut text = String::from_str(alloc, PLAIN)?;
-    for (old, new) in edits {
-        text = text.replacen(alloc, *old, *new, 1)?;
-    }
-    Ok(read(alloc, text.as_bytes())?)
-}
 
 /// One shard of a machine of two cores.
 fn shard_of(alloc: Global, machine: &Machine, number: u16, image: &Image) -> Result<Shard, NoMemory>
@@ -87,10 +68,10 @@ fn edited_shards<R: Abort>(
     ensures count { IfOk result (λ shards. length shards.items ≡ banks) }
     ensures each { IfOk result (λ shards. AreOf banks shards.items) }
 {
-    let machine = edited(alloc, edits)?;
+    let machine = machine_of(alloc, edits)?;
     assert!(rt; machine.cores == 2 && machine.l2.banks == banks);
     assert!(rt; machine.memory.base == 65536 && machine.memory.size == 1048576);
-    let image = load(alloc, &FILE, 65536, 1048576)?;
+    let image = image_of(alloc, &machine, &ECALL)?;
     let shards = shards_of(alloc, &machine, &image)?;
     Ok(shards)
 }

@@ -1,10 +1,13 @@
 //! Calls the top call on words and files, and looks at what it answered and wrote.
+use crate::executables::executable;
+use crate::machines::changed;
 use crate::top_call::answer;
 use std::alloc::{AllocError, Global};
 use std::process::Abort;
 use std::sync::Wait;
+use std::test::Fail;
 use std::thread::Threads;
-use zs_host::{MemFiles, MemSink, OpenGate};
+use zs_host::{Gate, MemFiles, MemSink, OpenGate};
 use zs_num::NoMemory;
 use zsim::Ended;
 
@@ -38,11 +41,37 @@ pub fn call_with(
     words: &[&str],
     files: &mut MemFiles,
 ) -> Result<Called, NoMemory> {
+    call_by(rt, alloc, words, files, &OpenGate)
+}
+
+/// The same past this gate.
+pub fn call_by<G: Gate>(
+    rt: &(impl Threads + Wait + Sync),
+    alloc: Global,
+    words: &[&str],
+    files: &mut MemFiles,
+    gate: &G,
+) -> Result<Called, NoMemory> {
     let mut out = MemSink::new(alloc, usize::MAX, &[])?;
     let mut err = MemSink::new(alloc, usize::MAX, &[])?;
     let words = owned(alloc, words)?;
-    let ended = answer(rt, alloc, &words, files, &mut out, &mut err, &OpenGate);
+    let ended = answer(rt, alloc, &words, files, &mut out, &mut err, gate);
     Ok(Called { ended, out, err })
+}
+
+/// Files in which `m` holds the built-in machine with changes, and `B` an executable. Of the calls
+/// on them these fail.
+pub fn files_of(
+    alloc: Global,
+    changes: &str,
+    words: &[u32],
+    fail: &[u64],
+) -> Result<MemFiles, Fail> {
+    let machine = changed(alloc, changes).ok_or("a machine")?;
+    let mut files = MemFiles::new(alloc, fail)?;
+    files.set(alloc, "m", machine.as_bytes())?;
+    files.set(alloc, "B", &executable(alloc, words)?)?;
+    Ok(files)
 }
 
 /// Calls on `run plain A`, over sinks that take all.

@@ -23,6 +23,8 @@ mod sinks;
 #[cfg(test)]
 mod tests;
 mod top_call;
+#[cfg(test)]
+mod workers;
 
 use std::io::Print;
 use std::process::ExitCode;

@@ -1,11 +1,9 @@
 //! Two workers, who meet before the first access of each core and before the first event of each
 //! domain.
-use crate::executables::{LOAD, executable};
-use crate::harness::owned;
-use crate::machines::changed;
-use crate::top_call::answer;
+use crate::executables::LOAD;
+use crate::harness::{call_by, files_of};
 use std::test::Fail;
-use zs_host::{MeetingGate, MemFiles, MemSink, Passes};
+use zs_host::{MeetingGate, Passes};
 use zsim::Status;
 
 /// Two cores, two banks, and a domain for each bank. The cores' stacks end in lines of different
@@ -20,18 +18,10 @@ static MACHINE: &str =
 fn two_workers_run_cores_and_domains_beside_each_other(rt: HostRuntime) -> Result<(), Fail> {
     let alloc = rt.alloc();
     let gate = MeetingGate::new();
-    let mut files = MemFiles::new(alloc, &[])?;
-    files.set(
-        alloc,
-        "m",
-        changed(alloc, MACHINE).ok_or("a machine")?.as_bytes(),
-    )?;
-    files.set(alloc, "B", &executable(alloc, &LOAD)?)?;
-    let mut out = MemSink::new(alloc, usize::MAX, &[])?;
-    let mut err = MemSink::new(alloc, usize::MAX, &[])?;
-    let words = owned(alloc, &["run", "m", "B", "--workers", "2"])?;
-    let ended = answer(&rt, alloc, &words, &mut files, &mut out, &mut err, &gate);
-    assert!(rt; matches!(ended.status, Status::Ran));
+    let mut files = files_of(alloc, MACHINE, &LOAD, &[])?;
+    let words = ["run", "m", "B", "--workers", "2"];
+    let called = call_by(&rt, alloc, &words, &mut files, &gate)?;
+    assert!(rt; matches!(called.ended.status, Status::Ran));
     let by_cores = Passes {
         first: 1,
         second: 1,
@@ -44,7 +34,7 @@ fn two_workers_run_cores_and_domains_beside_each_other(rt: HostRuntime) -> Resul
     };
     assert_eq!(rt; gate.cores(), by_cores);
     assert_eq!(rt; gate.domains(), by_domains);
-    let report = str::from_utf8(out.bytes())?;
+    let report = str::from_utf8(called.out.bytes())?;
     assert!(rt; report.contains("\ncore 0 instructions 3 cycles 116 delay 0 "));
     assert!(rt; report.contains("\ncore 1 instructions 3 cycles 136 delay 20 "));
     Ok(())

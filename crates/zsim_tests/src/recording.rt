@@ -1,7 +1,6 @@
 //! Schedules of two cores, written and read where the files fail, and what is kept of them.
-use crate::executables::{LOAD, executable};
-use crate::harness::{assert_ended, call_with};
-use crate::machines::changed;
+use crate::executables::LOAD;
+use crate::harness::{assert_ended, call_with, files_of};
 use std::alloc::Global;
 use std::process::Abort;
 use std::sync::Wait;
@@ -19,11 +18,7 @@ const TURNS: [u8; 22] = *b"ZSCH\x01\0\0\0\x02\0\0\0\x01\0\0\0\x02\0\0\0\0\x01";
 
 /// Files with a machine of two cores and an executable that loads, of which these calls fail.
 fn two_cores(alloc: Global, fail: &[u64]) -> Result<MemFiles, Fail> {
-    let machine = changed(alloc, "cores = 1 -> cores = 2").ok_or("a machine")?;
-    let mut files = MemFiles::new(alloc, fail)?;
-    files.set(alloc, "m", machine.as_bytes())?;
-    files.set(alloc, "B", &executable(alloc, &LOAD)?)?;
-    Ok(files)
+    files_of(alloc, "cores = 1 -> cores = 2", &LOAD, fail)
 }
 
 /// All of these.

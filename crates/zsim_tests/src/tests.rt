@@ -1,6 +1,6 @@
 //! The checks that take ample memory for granted, in two tests: each test is a program of its own,
 //! and to build a program takes far longer than to run most of these.
-use crate::{kept, recording, refusals, sinks};
+use crate::{kept, recording, refusals, sinks, workers};
 use std::test::Fail;
 
 #[test]
@@ -20,4 +20,13 @@ fn files_over_their_limits_are_too_long(rt: HostRuntime) -> Result<(), Fail> {
     refusals::a_description_over_its_limit_is_too_long(&rt, alloc)?;
     refusals::an_executable_over_its_limit_is_too_long(&rt, alloc)?;
     recording::a_schedule_over_its_limit_is_too_long(&rt, alloc)
+}
+
+/// The gate is told of each access and of each event.
+#[test]
+fn cores_race_by_several_workers(rt: HostRuntime) -> Result<(), Fail> {
+    let alloc = rt.alloc();
+    workers::cores_that_race_lose_no_addition(&rt, alloc)?;
+    workers::each_access_and_each_event_passes_the_gate(&rt, alloc)?;
+    workers::events_on_one_list_pass_by_the_workers_of_their_domains(&rt, alloc)
 }

@@ -4,8 +4,8 @@ use Rattle.std.proofs.lemmas.List.{length-append}
 use Rattle.std.proofs.lemmas.List.Elements.{All-push}
 use Rattle.bound_core.specs.TimedCore.{NumberedCore}
 use Rattle.bound_phase.specs.Bounds.{IsAtStart}
-use Rattle.bound_phase.proofs.FirstCores.{each_pushed, starts_first}
-use Rattle.bound_phase.proofs.tests.first_cores.Goals as goal
+use Rattle.table_tests.proofs.FirstCores.{each_pushed, starts_first}
+use Rattle.table_tests.proofs.first_interval.first_cores.Goals as goal
 
 pub loop-number-preserved : goal.loop-number-preserved
 loop-number-preserved c =

@@ -3,7 +3,7 @@ use Rattle.std.proofs.Common.{◌≡◌, ℕ, length, All}
 use Rattle.std.specs.Prelude.{Some, slice_get}
 use Rattle.bound_core.specs.TimedCore.{NumberedCore}
 use Rattle.bound_phase.specs.Bounds.{IsAtStart}
-use Rattle.bound_phase.proofs.tests.first_cores.Given as goal
+use Rattle.table_tests.proofs.first_interval.first_cores.Given as goal
 
 abbrev pub invariant-loop-number : goal.invariant-loop-number
 invariant-loop-number l = record {

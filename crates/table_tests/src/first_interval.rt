@@ -1,4 +1,4 @@
-//! The first interval of small programs by several workers.
+//! The bound phase of the first interval, by several workers.
 ghost use Rattle.std.specs.Prelude.{◌≡◌, ◌<◌, ◌≤◌, ℕ, All, IfOk, Some, length, slice_get};
 ghost use Rattle.machine_desc.specs.Machine.{IsMachine};
 ghost use Rattle.shard.specs.StandsFor.{new_shards};
@@ -6,11 +6,12 @@ ghost use Rattle.bound_core.specs.ShardPort.{AreShardsOf};
 ghost use Rattle.bound_core.specs.TimedCore.{NumberedCore};
 ghost use Rattle.bound_phase.specs.Bounds.{IsAtStart};
 
-use crate::{Bounded, bound};
+use crate::given::{ONE_LOAD, RACE, image_of, machine_of};
 use bound_core::BoundCore;
-use elf_load::{Image, load};
+use bound_phase::{Bounded, bound};
+use elf_load::Image;
 use event_graph::Plain;
-use machine_desc::{Machine, read};
+use machine_desc::Machine;
 use rv_core::{DecodedProgram, Why};
 use shard::Shard;
 use std::alloc::Global;
@@ -19,134 +20,6 @@ use std::test::Fail;
 use std::thread::Threads;
 use zs_host::{Gate, MeetingGate, OpenGate, Passes};
 use zs_num::{NoMemory, Request};
-
-/// Two cores, and two banks. The cores' stacks end in lines of different banks.
-static TWO_CORES: &str = "version = 1
-cores = 2
-interval = 10000
-intervals = 100000
-
-[memory]
-base = 65536
-size = 1048576
-stack = 64
-
-[l1]
-sets = 2
-ways = 1
-latency = 1
-
-[l2]
-banks = 2
-sets = 4
-ways = 2
-latency = 10
-remote = 5
-fill = 2
-occupancy = 4
-
-[controllers]
-count = 1
-read = 100
-write = 40
-occupancy = 20
-
-[domains]
-count = 2
-banks = [0, 1]
-controllers = [1]
-";
-
-/// Four cores, and one bank.
-static FOUR_CORES: &str = "version = 1
-cores = 4
-interval = 10000
-intervals = 100000
-
-[memory]
-base = 65536
-size = 1048576
-stack = 4096
-
-[l1]
-sets = 2
-ways = 1
-latency = 1
-
-[l2]
-banks = 1
-sets = 4
-ways = 2
-latency = 10
-remote = 5
-fill = 2
-occupancy = 4
-
-[controllers]
-count = 1
-read = 100
-write = 40
-occupancy = 20
-
-[domains]
-count = 1
-banks = [0]
-controllers = [0]
-";
-
-/// An executable of eight words, by the ELF-64 object file format, up to its code at byte 120.
-static FRONT: [u8; 120] = [
-    0x7f, 0x45, 0x4c, 0x46, 0x02, 0x01, 0x01, 0x00, 0x00, 0x00, 0x00, 0x00, 0x00, 0x00, 0x00, 0x00,
-    0x02, 0x00, 0xf3, 0x00, 0x01, 0x00, 0x00, 0x00, 0x00, 0x00, 0x01, 0x00, 0x00, 0x00, 0x00, 0x00,
-    0x40, 0x00, 0x00, 0x00, 0x00, 0x00, 0x00, 0x00, 0x00, 0x00, 0x00, 0x00, 0x00, 0x00, 0x00, 0x00,
-    0x00, 0x00, 0x00, 0x00, 0x40, 0x00, 0x38, 0x00, 0x01, 0x00, 0x00, 0x00, 0x00, 0x00, 0x00, 0x00,
-    0x01, 0x00, 0x00, 0x00, 0x07, 0x00, 0x00, 0x00, 0x78, 0x00, 0x00, 0x00, 0x00, 0x00, 0x00, 0x00,
-    0x00, 0x00, 0x01, 0x00, 0x00, 0x00, 0x00, 0x00, 0x00, 0x00, 0x01, 0x00, 0x00, 0x00, 0x00, 0x00,
-    0x20, 0x00, 0x00, 0x00, 0x00, 0x00, 0x00, 0x00, 0x20, 0x00, 0x00, 0x00, 0x00, 0x00, 0x00, 0x00,
-    0x01, 0x00, 0x00, 0x00, 0x00, 0x00, 0x00, 0x00,
-];
-
-/// ld x5, -8(x2); addi x17, x0, 93; ecall
-static ONE_LOAD: [u32; 8] = [0xFF81_3283, 0x05D0_0893, 0x0000_0073, 0, 0, 0, 0, 0];
-
-/// lui x5, 17; addi x6, x0, 100; amoadd.d x10, x11, (x5); addi x6, x6, -1; bne x6, x0, -8;
-/// addi x17, x0, 93; ecall
-static RACE: [u32; 8] = [
-    0x0001_12B7,
-    0x0640_0313,
-    0x00B2_B52F,
-    0xFFF3_0313,
-    0xFE03_1CE3,
-    0x05D0_0893,
-    0x0000_0073,
-    0,
-];
-
-/// The machine of a description.
-fn described(alloc: Global, text: &str) -> Result<Machine, NoMemory>
-    ensures { IfOk result IsMachine }
-{
-    match read(alloc, text.as_bytes()) {
-        Ok(machine) => Ok(machine),
-        Err(_) => Err(NoMemory),
-    }
-}
-
-/// The image of eight words in the machine's memory.
-fn image_of(alloc: Global, machine: &Machine, words: &[u32; 8]) -> Result<Image, NoMemory>
-    requires { IsMachine machine.now }
-    ensures base { IfOk result (λ image. image.base ≡ machine.now.memory.base) }
-    ensures size { IfOk result (λ image. image.size ≡ machine.now.memory.size) }
-{
-    let mut file = Vec::from_slice(alloc, &FRONT)?;
-    for word in words {
-        file.extend_from_slice(&word.to_le_bytes())?;
-    }
-    match load(alloc, &file, machine.memory.base, machine.memory.size) {
-        Ok(image) => Ok(image),
-        Err(_) => Err(NoMemory),
-    }
-}
 
 /// The cores of a machine before its first interval.
 fn first_cores(alloc: Global, machine: &Machine, image: &Image) -> Result<Vec<BoundCore>, NoMemory>
@@ -187,18 +60,19 @@ fn shards_of(alloc: Global, machine: &Machine, image: &Image) -> Result<Vec<Shar
     Ok(shards)
 }
 
-/// The first interval of eight words on a machine.
+/// The first interval of eight words on a machine. No clause says how it ends: the tests look at
+/// the end itself.
 fn first_interval<R: Threads + Wait + Sync, G: Gate>(
     rt: &R,
     alloc: Global,
-    text: &str,
+    edits: &[(&str, &str)],
     words: &[u32; 8],
     workers: u16,
     gate: &G,
-) -> Result<Bounded, NoMemory>
+) -> Result<Bounded, Fail>
     requires { (0 < workers) × (workers ≤ 64) }
 {
-    let machine = described(alloc, text)?;
+    let machine = machine_of(alloc, edits)?;
     let image = image_of(alloc, &machine, words)?;
     let program = DecodedProgram::of(alloc, &image)?;
     let cores = first_cores(alloc, &machine, &image)?;
@@ -209,9 +83,17 @@ fn first_interval<R: Threads + Wait + Sync, G: Gate>(
         rt, alloc, &machine, &program, &plain, cores, shards, end, workers, gate,
     ) {
         Ok(bounded) => Ok(bounded),
-        Err((NoMemory, _as_they_were)) => Err(NoMemory),
+        Err((NoMemory, _as_they_were)) => Err(NoMemory.into()),
     }
 }
+
+/// Two cores, and two banks. The cores' stacks end in lines of different banks.
+static TWO_CORES: [(&str, &str); 4] = [
+    ("cores = 1", "cores = 2"),
+    ("banks = 1", "banks = 2"),
+    ("banks = [0]", "banks = [0, 1]"),
+    ("stack = 4096", "stack = 64"),
+];
 
 /// Both cores come to their first access before either makes it, so two workers run them beside
 /// each other. One worker runs them one after the other: then the first core waits in vain.
@@ -220,7 +102,7 @@ fn two_workers_run_two_cores_beside_each_other(rt: HostRuntime) -> Result<(), Fa
     let alloc = rt.alloc();
     for (workers, met) in [(2, 2), (1, 1)] {
         let gate = MeetingGate::new();
-        let bounded = first_interval(&rt, alloc, TWO_CORES, &ONE_LOAD, workers, &gate)?;
+        let bounded = first_interval(&rt, alloc, &TWO_CORES, &ONE_LOAD, workers, &gate)?;
         let passes = Passes {
             first: 1,
             second: 1,
@@ -244,10 +126,10 @@ fn two_workers_run_two_cores_beside_each_other(rt: HostRuntime) -> Result<(), Fa
 /// Each of four cores adds 4 a hundred times to one number. Whoever runs them, the additions in
 /// recorded order find 0, 4, 8 and so on, and the core that came last found 1,596.
 #[test]
-fn cores_that_race_lose_no_addition(rt: HostRuntime) -> Result<(), Fail> {
-    let alloc = rt.alloc();
+fn additions_find_each_other_in_recorded_order(rt: HostRuntime) -> Result<(), Fail> {
+    let edits = [("cores = 1", "cores = 4")];
     for workers in [1, 2, 3, 4, 64] {
-        let bounded = first_interval(&rt, alloc, FOUR_CORES, &RACE, workers, &OpenGate)?;
+        let bounded = first_interval(&rt, rt.alloc(), &edits, &RACE, workers, &OpenGate)?;
         assert_eq!(rt; bounded.entries.as_slice().len(), 400);
         for (number, entry) in bounded.entries.as_slice().iter().enumerate() {
             assert!(rt; matches!(entry.request, Request::Amo { addr: 0x1_1000, .. }));

@@ -3,7 +3,7 @@ use Rattle.shard.specs.Served.{ShardState}
 use Rattle.shard.specs.StandsFor.{new_shards}
 use Rattle.bound_core.specs.ShardPort.{AreShardsOf}
 use Rattle.bound_core.proofs.NewShards.{new_count, placed_shards}
-use Rattle.bound_phase.proofs.tests.first_shards.Goals as goal
+use Rattle.table_tests.proofs.first_interval.first_shards.Goals as goal
 
 pub returns-clause-are : goal.returns-clause-are
 returns-clause-are c =
