@@ -1,5 +1,5 @@
 //! Tests of what accesses leave, through the public calls of their crates: lines in sets and in
-//! directories, logs, and schedules with their files.
+//! directories, shards, logs, and schedules with their files.
 #![tactic(auto)]
 
 #[cfg(test)]
@@ -10,3 +10,5 @@ mod logs;
 mod schedule_files;
 #[cfg(test)]
 mod sets;
+#[cfg(test)]
+mod shards;

@@ -10,8 +10,6 @@ mod meet;
 mod others;
 mod room;
 mod shared_set;
-#[cfg(test)]
-mod tests;
 
 use cache_set::Letter;
 use core_cache::CoreCache;

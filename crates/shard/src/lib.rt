@@ -7,7 +7,5 @@ pub mod laws;
 mod marked_bytes;
 mod marks;
 mod shard;
-#[cfg(test)]
-mod tests;
 
 pub use shard::Shard;
