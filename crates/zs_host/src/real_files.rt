@@ -86,7 +86,7 @@ fn read_file<S: System>(system: &S, alloc: Global, name: &str, most: usize) -> i
 }
 
 /// Reads `most` bytes, or to the end where there are fewer.
-pub(crate) fn read_first<R: Read>(reader: &mut R, alloc: Global, most: usize) -> io::Result<Vec<u8>>
+fn read_first<R: Read>(reader: &mut R, alloc: Global, most: usize) -> io::Result<Vec<u8>>
     ensures bound { IfOk result (λ bytes. vec_len bytes ≤ most) }
     ensures first { IfOk result (λ bytes. IfSome (R.remaining reader.old) (λ xs. bytes.items ≡ take most xs)) }
 {

@@ -37,12 +37,6 @@ impl<P: Print> RealSink<P> {
         self.faults
     }
 
-    /// The stream.
-    #[cfg(test)]
-    pub(crate) fn stream(&self) -> &P {
-        &self.stream
-    }
-
     /// Counts a put that failed.
     fn fault(&mut self) -> SinkFail
         ensures answer { result ≡ SinkFail.Failed }
