@@ -15,8 +15,3 @@ pub use bad_elf::{BadElf, LoadFail};
 pub use image::Image;
 pub use loader::load;
 pub use segment::Segment;
-
-#[cfg(test)]
-mod executables;
-#[cfg(test)]
-mod tests;

@@ -3,6 +3,7 @@
 
 use rv_alu::{alu, amo, is_arithmetic, is_branch, taken};
 use rv_decode::Name;
+use std::process::Abort;
 use zs_num::AmoOp;
 
 /// -1.
@@ -17,23 +18,22 @@ const GREATEST: u64 = 0x7FFF_FFFF_FFFF_FFFF;
 /// The least signed word, sign-extended.
 const LEAST_WORD: u64 = 0xFFFF_FFFF_8000_0000;
 
+/// Checks what instructions compute of two numbers.
+fn compute(rt: &impl Abort, rows: &[(Name, u64, u64, u64)]) {
+    for &(name, a, b, result) in rows {
+        assert!(rt; is_arithmetic(name), "{name:?}");
+        assert_eq!(rt; alu(name, a, b), result, "{name:?} of {a:#x} and {b:#x}");
+    }
+}
+
 #[test]
 fn division_and_high_products_at_the_extremes(rt: HostRuntime) {
-    assert_eq!(rt; alu(Name::Div, LEAST, MINUS_ONE), LEAST);
-    assert_eq!(rt; alu(Name::Rem, LEAST, MINUS_ONE), 0);
-    assert_eq!(rt; alu(Name::Rem, 7, 0), 7);
-    assert_eq!(rt; alu(Name::Divuw, 5, 0), MINUS_ONE);
-    assert_eq!(rt; alu(Name::Remuw, 0x8000_0000, 0), 0xFFFF_FFFF_8000_0000);
-    assert_eq!(rt; alu(Name::Mulhsu, MINUS_ONE, MINUS_ONE), MINUS_ONE);
-    assert_eq!(rt; alu(Name::Mulh, MINUS_ONE, MINUS_ONE), 0);
+    compute(&rt, &EXTREMES);
 }
 
 #[test]
 fn results_at_edge_values(rt: HostRuntime) {
-    for &(name, a, b, result) in &RESULTS {
-        assert!(rt; is_arithmetic(name), "{name:?}");
-        assert_eq!(rt; alu(name, a, b), result, "{name:?} of {a:#x} and {b:#x}");
-    }
+    compute(&rt, &RESULTS);
 }
 
 #[test]
@@ -55,6 +55,16 @@ fn new_numbers_at_edge_values(rt: HostRuntime) {
         );
     }
 }
+
+static EXTREMES: [(Name, u64, u64, u64); 7] = [
+    (Name::Div, LEAST, MINUS_ONE, LEAST),
+    (Name::Rem, LEAST, MINUS_ONE, 0),
+    (Name::Rem, 7, 0, 7),
+    (Name::Divuw, 5, 0, MINUS_ONE),
+    (Name::Remuw, 0x8000_0000, 0, 0xFFFF_FFFF_8000_0000),
+    (Name::Mulhsu, MINUS_ONE, MINUS_ONE, MINUS_ONE),
+    (Name::Mulh, MINUS_ONE, MINUS_ONE, 0),
+];
 
 static RESULTS: [(Name, u64, u64, u64); 225] = [
     (Name::Addi, 0x7FFF_FFFF, 1, 0x8000_0000),

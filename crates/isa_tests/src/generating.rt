@@ -1,8 +1,11 @@
 //! Generated programs against the words of the assembler of GNU binutils 2.40, and loaded.
-use crate::executables::{BASE, SIZE};
+use crate::executables::BASE;
+use crate::images::{has_segments, read};
 use elf_load::{BadElf, LoadFail, load};
 use gen_prog::generate;
+use std::alloc::{AllocError, Global};
 use std::test::Fail;
+use zs_num::{Bytes, NoMemory};
 
 /// The words of the program of a table of 16 doublewords. Word 13 has the mask.
 static WORDS: [u32; 28] = [
@@ -45,17 +48,29 @@ static NUMBERS: [(u64, u32, u64); 5] = [
     (u64::MAX, 0x0784_7413, 3_939),
 ];
 
+/// The program of a number, for a memory from `BASE` on.
+fn generated(alloc: Global, n: u64) -> Result<Bytes, NoMemory> {
+    generate(alloc, n, BASE)
+}
+
+/// The end of the file of the program of a number: its words, of which word 13 has the mask, the
+/// number, and its iterations.
+fn end_of(alloc: Global, n: u64, masked: u32, iterations: u64) -> Result<Vec<u8>, AllocError> {
+    let mut bytes = Vec::new(alloc);
+    for (place, &word) in WORDS.iter().enumerate() {
+        let word = if place == 13 { masked } else { word };
+        bytes.extend_from_slice(&word.to_le_bytes())?;
+    }
+    bytes.extend_from_slice(&n.to_le_bytes())?;
+    bytes.extend_from_slice(&iterations.to_le_bytes())?;
+    Ok(bytes)
+}
+
 #[test]
 fn programs_are_those_of_another_assembler(rt: HostRuntime) -> Result<(), Fail> {
     for &(n, masked, iterations) in &NUMBERS {
-        let mut wanted = Vec::new(rt.alloc());
-        for (place, &word) in WORDS.iter().enumerate() {
-            let word = if place == 13 { masked } else { word };
-            wanted.extend_from_slice(&word.to_le_bytes())?;
-        }
-        wanted.extend_from_slice(&n.to_le_bytes())?;
-        wanted.extend_from_slice(&iterations.to_le_bytes())?;
-        let file = generate(rt.alloc(), n, BASE)?;
+        let wanted = end_of(rt.alloc(), n, masked, iterations)?;
+        let file = generated(rt.alloc(), n)?;
         assert_eq!(rt; file.as_slice().len(), 304);
         assert!(rt; file.as_slice().ends_with(&wanted), "at {n}");
     }
@@ -65,20 +80,14 @@ fn programs_are_those_of_another_assembler(rt: HostRuntime) -> Result<(), Fail> 
 #[test]
 fn a_program_is_loaded_where_it_lies_in_memory(rt: HostRuntime) -> Result<(), Fail> {
     let alloc = rt.alloc();
-    let file = generate(alloc, 7, BASE)?;
-    let image = load(alloc, file.as_slice(), BASE, SIZE)?;
+    let file = generated(alloc, 7)?;
+    let image = read(alloc, file.as_slice())?;
     assert_eq!(rt; image.entry(), BASE);
-    assert_eq!(rt; image.segments().len(), 2);
-    for segment in image.segments() {
-        let (vaddr, length, memsz) = if segment.exec {
-            (BASE, 112, 112)
-        } else {
-            (BASE + 4096, 16, 2112)
-        };
-        assert_eq!(rt; segment.vaddr, vaddr);
-        assert_eq!(rt; segment.bytes.as_slice().len(), length);
-        assert_eq!(rt; segment.memsz, memsz);
-    }
+    has_segments(
+        &rt,
+        &image,
+        &[(BASE, 112, 112, true), (BASE + 4096, 16, 2112, false)],
+    )?;
     let refused = load(alloc, file.as_slice(), BASE, 4096).err();
     let past = LoadFail::Bad(BadElf::SegmentPastMemory { index: 1 });
     assert_eq!(rt; refused, Some(past));

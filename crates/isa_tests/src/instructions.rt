@@ -1,9 +1,10 @@
 //! Whole instructions and small programs, with numbers from the RISC-V Unprivileged ISA manual and
 //! its table of opcodes.
+ghost use Rattle.std.specs.Prelude.{IsSome};
 
 use crate::executables::{BASE, SIZE, loaded};
 use elf_load::Image;
-use rv_core::{Ask, Core, DecodedProgram, Why};
+use rv_core::{Ask, Core, DecodedProgram, Program, Why};
 use std::alloc::Global;
 use std::process::Abort;
 use std::test::Fail;
@@ -24,10 +25,53 @@ fn core() -> Core {
     Core::new(0, 1, BASE, BASE + SIZE, BASE, SIZE)
 }
 
+/// What the core asks for next.
+fn next<P: Program>(core: &mut Core, program: &P) -> Ask {
+    core.next(program)
+}
+
+/// The number in a register, 0 to 31.
+fn register(core: &Core, n: u8) -> Option<u64> {
+    if n < 32 { Some(core.reg(n)) } else { None }
+}
+
+/// Answers the access that the core waits for.
+fn answer(core: &mut Core, number: u64) -> Option<u8>
+    requires { IsSome core.old.instruction }
+{
+    core.answer(number)
+}
+
+/// Answers the access that the core asked for.
+fn reply(rt: &impl Abort, core: &mut Core, number: u64) -> Option<u8> {
+    assert!(rt; core.in_progress());
+    answer(core, number)
+}
+
+/// Checks what a core asks for.
+fn is_ask(rt: &impl Abort, found: Ask, wanted: Ask) {
+    assert_eq!(rt; found, wanted);
+}
+
+/// Checks why a core halted.
+fn is_halted(rt: &impl Abort, core: &Core, why: Why) {
+    let found = match core.halted() {
+        Some(why) => Ask::Halted(why),
+        None => Ask::Local,
+    };
+    is_ask(rt, found, Ask::Halted(why));
+}
+
+/// Checks the number in a register, and pc.
+fn is_at(rt: &impl Abort, core: &Core, n: u8, number: u64, pc: u64) {
+    assert_eq!(rt; register(core, n), Some(number), "x{n}");
+    assert_eq!(rt; core.pc(), pc);
+}
+
 /// What the first instruction that is not local asks for.
 fn first_ask(core: &mut Core, image: &Image) -> Ask {
     for _ in 0..1000 {
-        match core.next(image) {
+        match next(core, image) {
             Ask::Local => {}
             other => return other,
         }
@@ -35,68 +79,72 @@ fn first_ask(core: &mut Core, image: &Image) -> Ask {
     Ask::Local
 }
 
-/// What a program of these words asks for first.
-fn asks(alloc: Global, words: &[u32]) -> Result<Ask, Fail> {
-    let image = image(alloc, words)?;
-    Ok(first_ask(&mut core(), &image))
+/// Checks what a program of these words asks for first.
+fn asks(rt: &(impl Abort + AllocGlobal), words: &[u32], wanted: Ask) -> Result<(), Fail> {
+    let image = image(rt.alloc(), words)?;
+    assert_eq!(rt; first_ask(&mut core(), &image), wanted, "{words:?}");
+    Ok(())
+}
+
+/// An access that a core asks for, what it is answered, a register with the number that it then
+/// has, and pc.
+type Access = (Request, u64, u8, u64, u64);
+
+/// Checks the accesses of a program of these words, and answers them.
+fn accesses(
+    rt: &(impl Abort + AllocGlobal),
+    words: &[u32],
+    accesses: &[Access],
+) -> Result<Core, Fail> {
+    let image = image(rt.alloc(), words)?;
+    let mut core = core();
+    for &(request, number, n, value, pc) in accesses {
+        is_ask(rt, first_ask(&mut core, &image), Ask::Access(request));
+        assert_eq!(rt; reply(rt, &mut core, number), None);
+        is_at(rt, &core, n, value, pc);
+    }
+    Ok(core)
 }
 
 #[test]
 fn words_that_are_no_instructions_halt(rt: HostRuntime) -> Result<(), Fail> {
     for word in [0, 0x0200_101b, 0x0000_100f, 0x0000_1073] {
-        assert_eq!(rt;
-            asks(rt.alloc(), &[word])?,
-            Ask::Halted(Why::Illegal { word })
-        );
+        asks(&rt, &[word], Ask::Halted(Why::Illegal { word }))?;
     }
     Ok(())
 }
 
 #[test]
 fn a_misaligned_jump_halts_and_writes_nothing(rt: HostRuntime) -> Result<(), Fail> {
+    let halted = Ask::Halted(Why::Misaligned { target: 2 });
     // jalr x5, 2(x0)
     let image = image(rt.alloc(), &[0x0020_02e7])?;
     let mut core = core();
-    assert_eq!(rt;
-        core.next(&image),
-        Ask::Halted(Why::Misaligned { target: 2 })
-    );
-    assert_eq!(rt; (core.reg(5), core.pc()), (0, BASE));
-    assert_eq!(rt;
-        core.next(&image),
-        Ask::Halted(Why::Misaligned { target: 2 })
-    );
+    is_ask(&rt, next(&mut core, &image), halted);
+    is_at(&rt, &core, 5, 0, BASE);
+    is_ask(&rt, next(&mut core, &image), halted);
     // jalr x0, 2(x0)
-    assert_eq!(rt;
-        asks(rt.alloc(), &[0x0020_0067])?,
-        Ask::Halted(Why::Misaligned { target: 2 })
-    );
+    asks(&rt, &[0x0020_0067], halted)?;
     // beq x0, x0, 6
-    assert_eq!(rt;
-        asks(rt.alloc(), &[0x0000_0363])?,
-        Ask::Halted(Why::Misaligned { target: BASE + 6 })
-    );
+    asks(
+        &rt,
+        &[0x0000_0363],
+        Ask::Halted(Why::Misaligned { target: BASE + 6 }),
+    )?;
     // bne x0, x0, 6; ebreak
-    assert_eq!(rt;
-        asks(rt.alloc(), &[0x0000_1363, 0x0010_0073])?,
-        Ask::Halted(Why::Break)
-    );
-    Ok(())
+    asks(&rt, &[0x0000_1363, 0x0010_0073], Ask::Halted(Why::Break))
 }
 
 #[test]
 fn a_jump_out_of_the_program_halts_at_the_fetch(rt: HostRuntime) -> Result<(), Fail> {
     // jalr x0, 0(x0)
-    assert_eq!(rt;
-        asks(rt.alloc(), &[0x0000_0067])?,
-        Ask::Halted(Why::Fetch { addr: 0 })
-    );
+    asks(&rt, &[0x0000_0067], Ask::Halted(Why::Fetch { addr: 0 }))?;
     // fence, and then past the end
-    assert_eq!(rt;
-        asks(rt.alloc(), &[0x0ff0_000f])?,
-        Ask::Halted(Why::Fetch { addr: BASE + 4 })
-    );
-    Ok(())
+    asks(
+        &rt,
+        &[0x0ff0_000f],
+        Ask::Halted(Why::Fetch { addr: BASE + 4 }),
+    )
 }
 
 #[test]
@@ -104,16 +152,12 @@ fn a_register_jump_goes_by_the_old_register_with_its_lowest_bit_cleared(
     rt: HostRuntime,
 ) -> Result<(), Fail> {
     // lui x5, 0x10; jalr x5, 13(x5); two words that are no instructions; addi x0, x0, 5; ebreak
-    let image = image(
-        rt.alloc(),
-        &[0x0001_02b7, 0x00d2_82e7, 0, 0x0050_0013, 0x0010_0073],
-    )?;
+    let words = [0x0001_02b7, 0x00d2_82e7, 0, 0x0050_0013, 0x0010_0073];
+    let image = image(rt.alloc(), &words)?;
     let mut core = core();
-    assert_eq!(rt; first_ask(&mut core, &image), Ask::Halted(Why::Break));
-    assert_eq!(rt;
-        (core.reg(0), core.reg(5), core.pc()),
-        (0, BASE + 8, BASE + 16)
-    );
+    is_ask(&rt, first_ask(&mut core, &image), Ask::Halted(Why::Break));
+    is_at(&rt, &core, 0, 0, BASE + 16);
+    is_at(&rt, &core, 5, BASE + 8, BASE + 16);
     Ok(())
 }
 
@@ -122,129 +166,126 @@ fn an_access_that_is_not_all_in_memory_halts_at_its_own_address(
     rt: HostRuntime,
 ) -> Result<(), Fail> {
     // ld x5, 0(x0)
-    assert_eq!(rt;
-        asks(rt.alloc(), &[0x0000_3283])?,
-        Ask::Halted(Why::Access { addr: 0 })
-    );
+    asks(&rt, &[0x0000_3283], Ask::Halted(Why::Access { addr: 0 }))?;
     // lui x6, 0x110; ld x5, -4(x6): memory ends, and with it a line, at 0x110000
-    assert_eq!(rt;
-        asks(rt.alloc(), &[0x0011_0337, 0xffc3_3283])?,
-        Ask::Halted(Why::Access { addr: 0x10_fffc })
-    );
+    let halted = Ask::Halted(Why::Access { addr: 0x10_fffc });
+    asks(&rt, &[0x0011_0337, 0xffc3_3283], halted)?;
     // lui x6, 0x110; ld x5, -8(x6)
-    assert_eq!(rt;
-        asks(rt.alloc(), &[0x0011_0337, 0xff83_3283])?,
-        Ask::Access(Request::Load {
-            addr: 0x10_fff8,
-            width: 8
-        })
-    );
-    Ok(())
+    let last = Request::Load {
+        addr: 0x10_fff8,
+        width: 8,
+    };
+    asks(&rt, &[0x0011_0337, 0xff83_3283], Ask::Access(last))
 }
 
 #[test]
 fn an_atomic_is_tested_for_alignment_before_memory(rt: HostRuntime) -> Result<(), Fail> {
+    let halted = Ask::Halted(Why::AtomicAlign { addr: 1 });
     // lr.d x5, (x11), where a1 is the number of cores
-    assert_eq!(rt;
-        asks(rt.alloc(), &[0x1005_b2af])?,
-        Ask::Halted(Why::AtomicAlign { addr: 1 })
-    );
+    asks(&rt, &[0x1005_b2af], halted)?;
     // amoadd.w x5, x7, (x11)
-    assert_eq!(rt;
-        asks(rt.alloc(), &[0x0075_a2af])?,
-        Ask::Halted(Why::AtomicAlign { addr: 1 })
-    );
+    asks(&rt, &[0x0075_a2af], halted)?;
     // lr.w x5, (x6), where x6 is 0
-    assert_eq!(rt;
-        asks(rt.alloc(), &[0x1003_22af])?,
-        Ask::Halted(Why::Access { addr: 0 })
-    );
-    Ok(())
-}
-
-/// Answers the access that the core asked for.
-fn reply(rt: &impl Abort, core: &mut Core, number: u64) -> Option<u8> {
-    assert!(rt; core.in_progress());
-    core.answer(number)
+    asks(&rt, &[0x1003_22af], Ask::Halted(Why::Access { addr: 0 }))
 }
 
 #[test]
 fn a_load_that_crosses_a_line_joins_two_accesses(rt: HostRuntime) -> Result<(), Fail> {
     // lui x6, 0x11; ld x5, 60(x6)
-    let image = image(rt.alloc(), &[0x0001_1337, 0x03c3_3283])?;
-    let mut core = core();
-    let lower = Request::Load {
-        addr: 0x1_103c,
-        width: 4,
-    };
-    let upper = Request::Load {
-        addr: 0x1_1040,
-        width: 4,
-    };
-    assert_eq!(rt; first_ask(&mut core, &image), Ask::Access(lower));
-    assert_eq!(rt; reply(&rt, &mut core, 0x0403_0201), None);
-    assert_eq!(rt; core.next(&image), Ask::Access(upper));
-    assert_eq!(rt; (core.reg(5), core.pc()), (0, BASE + 4));
-    assert_eq!(rt; reply(&rt, &mut core, 0x0807_0605), None);
+    let core = accesses(&rt, &[0x0001_1337, 0x03c3_3283], &CROSSING_LOAD)?;
     assert!(rt; !core.in_progress());
-    assert_eq!(rt; (core.reg(5), core.pc()), (0x0807_0605_0403_0201, BASE + 8));
     Ok(())
 }
+
+static CROSSING_LOAD: [Access; 2] = [
+    (
+        Request::Load {
+            addr: 0x1_103c,
+            width: 4,
+        },
+        0x0403_0201,
+        5,
+        0,
+        BASE + 4,
+    ),
+    (
+        Request::Load {
+            addr: 0x1_1040,
+            width: 4,
+        },
+        0x0807_0605,
+        5,
+        0x0807_0605_0403_0201,
+        BASE + 8,
+    ),
+];
 
 #[test]
 fn a_store_that_crosses_a_line_stores_the_lower_bytes_in_the_lower_line(
     rt: HostRuntime,
 ) -> Result<(), Fail> {
     // lui x6, 0x11; lui x5, 0x12345; sw x5, 63(x6)
-    let image = image(rt.alloc(), &[0x0001_1337, 0x1234_52b7, 0x0253_2fa3])?;
-    let mut core = core();
-    let lower = Request::Store {
-        addr: 0x1_103f,
-        width: 1,
-        value: 0,
-    };
-    let upper = Request::Store {
-        addr: 0x1_1040,
-        width: 3,
-        value: 0x12_3450,
-    };
-    assert_eq!(rt; first_ask(&mut core, &image), Ask::Access(lower));
-    assert_eq!(rt; reply(&rt, &mut core, 0), None);
-    assert_eq!(rt; core.next(&image), Ask::Access(upper));
-    assert_eq!(rt; reply(&rt, &mut core, 0), None);
-    assert_eq!(rt; (core.reg(5), core.pc()), (0x1234_5000, BASE + 12));
+    accesses(
+        &rt,
+        &[0x0001_1337, 0x1234_52b7, 0x0253_2fa3],
+        &CROSSING_STORE,
+    )?;
     Ok(())
 }
 
+static CROSSING_STORE: [Access; 2] = [
+    (
+        Request::Store {
+            addr: 0x1_103f,
+            width: 1,
+            value: 0,
+        },
+        0,
+        5,
+        0x1234_5000,
+        BASE + 8,
+    ),
+    (
+        Request::Store {
+            addr: 0x1_1040,
+            width: 3,
+            value: 0x12_3450,
+        },
+        0,
+        5,
+        0x1234_5000,
+        BASE + 12,
+    ),
+];
+
 #[test]
 fn loads_extend_by_their_sign_or_by_zeros(rt: HostRuntime) -> Result<(), Fail> {
-    for &(word, number, loaded) in &LOADS {
+    for &(word, width, number, loaded) in &LOADS {
+        let load = Request::Load {
+            addr: 0x1_1000,
+            width,
+        };
         // lui x6, 0x11, and the load
-        let image = image(rt.alloc(), &[0x0001_1337, word])?;
-        let mut core = core();
-        assert!(rt;
-            matches!(
-                first_ask(&mut core, &image),
-                Ask::Access(Request::Load { .. })
-            )
-        );
-        assert_eq!(rt; reply(&rt, &mut core, number), None);
-        assert_eq!(rt; core.reg(5), loaded, "{word:#x}");
+        accesses(
+            &rt,
+            &[0x0001_1337, word],
+            &[(load, number, 5, loaded, BASE + 8)],
+        )?;
     }
     Ok(())
 }
 
-/// Loads of x5 from x6, what is in memory, and what x5 gets.
-static LOADS: [(u32, u64, u64); 9] = [
-    (0x0003_0283, 0x80, 0xffff_ffff_ffff_ff80),
-    (0x0003_0283, 0x7f, 0x7f),
-    (0x0003_4283, 0x80, 0x80),
-    (0x0003_1283, 0x8000, 0xffff_ffff_ffff_8000),
-    (0x0003_5283, 0x8000, 0x8000),
-    (0x0003_2283, 0x8000_0000, 0xffff_ffff_8000_0000),
-    (0x0003_2283, 0x7fff_ffff, 0x7fff_ffff),
-    (0x0003_6283, 0x8000_0000, 0x8000_0000),
-    (0x0003_3283, 0x8000_0000_0000_0000, 0x8000_0000_0000_0000),
+/// Loads of x5 from x6, of so many bytes, what is in memory, and what x5 gets.
+static LOADS: [(u32, u8, u64, u64); 9] = [
+    (0x0003_0283, 1, 0x80, 0xffff_ffff_ffff_ff80),
+    (0x0003_0283, 1, 0x7f, 0x7f),
+    (0x0003_4283, 1, 0x80, 0x80),
+    (0x0003_1283, 2, 0x8000, 0xffff_ffff_ffff_8000),
+    (0x0003_5283, 2, 0x8000, 0x8000),
+    (0x0003_2283, 4, 0x8000_0000, 0xffff_ffff_8000_0000),
+    (0x0003_2283, 4, 0x7fff_ffff, 0x7fff_ffff),
+    (0x0003_6283, 4, 0x8000_0000, 0x8000_0000),
+    (0x0003_3283, 8, 0x8000_0000_0000_0000, 0x8000_0000_0000_0000),
 ];
 
 #[test]
@@ -253,69 +294,104 @@ fn a_store_conditional_is_paired_with_the_latest_load_reserved(
 ) -> Result<(), Fail> {
     // lui x6, 0x11; addi x5, x0, -1; lr.w x8, (x6); sc.d x7, x5, (x6); lr.w x8, (x6);
     // sc.w x7, x5, (x6); sc.w x7, x5, (x6)
-    let image = image(
-        rt.alloc(),
-        &[
-            0x0001_1337,
-            0xfff0_0293,
-            0x1003_242f,
-            0x1853_33af,
-            0x1003_242f,
-            0x1853_23af,
-            0x1853_23af,
-        ],
-    )?;
-    let mut core = core();
-    let addr = 0x1_1000;
-    let reserve = Ask::Access(Request::Lr { addr, width: 4 });
-    let store = |width: u8, value: u64, paired: bool| Ask::Access(Request::Sc {
-        addr,
-        width,
-        value,
-        paired,
-    });
-    assert_eq!(rt; first_ask(&mut core, &image), reserve);
-    reply(&rt, &mut core, 0x8000_0000);
-    assert_eq!(rt; core.reg(8), 0xffff_ffff_8000_0000);
-    assert_eq!(rt; first_ask(&mut core, &image), store(8, u64::MAX, false));
-    reply(&rt, &mut core, 1);
-    assert_eq!(rt; core.reg(7), 1);
-    assert_eq!(rt; first_ask(&mut core, &image), reserve);
-    reply(&rt, &mut core, 0);
-    assert_eq!(rt; first_ask(&mut core, &image), store(4, 0xffff_ffff, true));
-    reply(&rt, &mut core, 0);
-    assert_eq!(rt; core.reg(7), 0);
-    assert_eq!(rt; first_ask(&mut core, &image), store(4, 0xffff_ffff, false));
+    let words = [
+        0x0001_1337,
+        0xfff0_0293,
+        0x1003_242f,
+        0x1853_33af,
+        0x1003_242f,
+        0x1853_23af,
+        0x1853_23af,
+    ];
+    accesses(&rt, &words, &CONDITIONALS)?;
     Ok(())
 }
+
+const RESERVE: Request = Request::Lr {
+    addr: 0x1_1000,
+    width: 4,
+};
+
+/// A store-conditional of a doubleword, which is not paired.
+const OTHER: Request = Request::Sc {
+    addr: 0x1_1000,
+    width: 8,
+    value: u64::MAX,
+    paired: false,
+};
+
+const PAIRED: Request = Request::Sc {
+    addr: 0x1_1000,
+    width: 4,
+    value: 0xffff_ffff,
+    paired: true,
+};
+
+/// The same store-conditional once more.
+const AGAIN: Request = Request::Sc {
+    addr: 0x1_1000,
+    width: 4,
+    value: 0xffff_ffff,
+    paired: false,
+};
+
+static CONDITIONALS: [Access; 5] = [
+    (RESERVE, 0x8000_0000, 8, 0xffff_ffff_8000_0000, BASE + 12),
+    (OTHER, 1, 7, 1, BASE + 16),
+    (RESERVE, 0, 8, 0, BASE + 20),
+    (PAIRED, 0, 7, 0, BASE + 24),
+    (AGAIN, 1, 7, 1, BASE + 28),
+];
 
 #[test]
 fn an_atomic_update_gives_the_old_number(rt: HostRuntime) -> Result<(), Fail> {
     // lui x6, 0x11; addi x7, x0, -1; amoadd.w x5, x7, (x6); amoswap.d x5, x7, (x6)
-    let image = image(
-        rt.alloc(),
-        &[0x0001_1337, 0xfff0_0393, 0x0073_22af, 0x0873_32af],
-    )?;
-    let mut core = core();
-    let add = Request::Amo {
-        op: AmoOp::Add,
-        addr: 0x1_1000,
-        width: 4,
-        value: 0xffff_ffff,
-    };
-    let swap = Request::Amo {
-        op: AmoOp::Swap,
-        addr: 0x1_1000,
-        width: 8,
-        value: u64::MAX,
-    };
-    assert_eq!(rt; first_ask(&mut core, &image), Ask::Access(add));
-    reply(&rt, &mut core, 0xffff_fffe);
-    assert_eq!(rt; core.reg(5), u64::MAX - 1);
-    assert_eq!(rt; first_ask(&mut core, &image), Ask::Access(swap));
-    reply(&rt, &mut core, 0xffff_fffe);
-    assert_eq!(rt; core.reg(5), 0xffff_fffe);
+    let words = [0x0001_1337, 0xfff0_0393, 0x0073_22af, 0x0873_32af];
+    accesses(&rt, &words, &UPDATES)?;
     Ok(())
+}
+
+static UPDATES: [Access; 2] = [
+    (
+        Request::Amo {
+            op: AmoOp::Add,
+            addr: 0x1_1000,
+            width: 4,
+            value: 0xffff_ffff,
+        },
+        0xffff_fffe,
+        5,
+        u64::MAX - 1,
+        BASE + 12,
+    ),
+    (
+        Request::Amo {
+            op: AmoOp::Swap,
+            addr: 0x1_1000,
+            width: 8,
+            value: u64::MAX,
+        },
+        0xffff_fffe,
+        5,
+        0xffff_fffe,
+        BASE + 16,
+    ),
+];
+
+/// Checks the access of a byte for the console, and answers the letters of "hey" in turn.
+fn give_letter(rt: &impl Abort, core: &mut Core, request: Request, bytes: u64) {
+    let addr = BASE.wrapping_add(bytes);
+    is_ask(
+        rt,
+        Ask::Access(request),
+        Ask::Access(Request::Load { addr, width: 1 }),
+    );
+    let letter = match bytes % 3 {
+        0 => b'h',
+        1 => b'e',
+        _ => b'y',
+    };
+    assert_eq!(rt; reply(rt, core, u64::from(letter)), Some(letter));
 }
 
 /// What a write of so many bytes from an address on gives in a0, where memory has the letters of
@@ -327,11 +403,7 @@ fn write(rt: &impl Abort, alloc: Global, call: [u32; 4]) -> Result<(u64, u64), F
     let mut core = core();
     for bytes in 0..300 {
         match first_ask(&mut core, &image) {
-            Ask::Access(Request::Load { addr, width }) => {
-                assert_eq!(rt; (addr, width), (BASE + bytes, 1));
-                let letter = b"hey"[(bytes % 3) as usize];
-                assert_eq!(rt; reply(rt, &mut core, u64::from(letter)), Some(letter));
-            }
+            Ask::Access(request) => give_letter(rt, &mut core, request, bytes),
             Ask::Halted(Why::Exit(a0)) => return Ok((a0, bytes)),
             _ => return Err("another halt".into()),
         }
@@ -389,10 +461,8 @@ static CALLS: [([u32; 4], u64, u64); 10] = [
 #[test]
 fn a_core_begins_with_its_number_the_number_of_cores_and_its_stack(rt: HostRuntime) {
     let core = Core::new(3, 4, 0x1_0078, 0x10_d000, BASE, SIZE);
-    assert_eq!(rt;
-        (core.pc(), core.halted(), core.in_progress()),
-        (0x1_0078, None, false)
-    );
+    assert_eq!(rt; core.pc(), 0x1_0078);
+    assert!(rt; core.halted().is_none() && !core.in_progress());
     for n in 0..32 {
         let number = match n {
             2 => 0x10_d000,
@@ -400,30 +470,29 @@ fn a_core_begins_with_its_number_the_number_of_cores_and_its_stack(rt: HostRunti
             11 => 4,
             _ => 0,
         };
-        assert_eq!(rt; core.reg(n), number, "x{n}");
+        assert_eq!(rt; register(&core, n), Some(number), "x{n}");
     }
 }
 
 #[test]
 fn a_program_decoded_once_is_the_same_program(rt: HostRuntime) -> Result<(), Fail> {
     // addi x5, x0, 3; addi x5, x5, -1; bne x5, x0, -4; jal x0, 8; 0; and past the end
-    let image = image(
-        rt.alloc(),
-        &[
-            0x0030_0293,
-            0xfff2_8293,
-            0xfe02_9ee3,
-            0x0080_006f,
-            0,
-            0x0000_0013,
-        ],
-    )?;
+    let words = [
+        0x0030_0293,
+        0xfff2_8293,
+        0xfe02_9ee3,
+        0x0080_006f,
+        0,
+        0x0000_0013,
+    ];
+    let image = image(rt.alloc(), &words)?;
     let program = DecodedProgram::of(rt.alloc(), &image)?;
     let (mut once, mut anew) = (core(), core());
     for _ in 0..12 {
-        assert_eq!(rt; once.next(&program), anew.next(&image));
-        assert_eq!(rt; (once.pc(), once.reg(5)), (anew.pc(), anew.reg(5)));
+        is_ask(&rt, next(&mut once, &program), next(&mut anew, &image));
+        assert_eq!(rt; once.pc(), anew.pc());
+        assert_eq!(rt; register(&once, 5), register(&anew, 5));
     }
-    assert_eq!(rt; once.halted(), Some(Why::Fetch { addr: BASE + 24 }));
+    is_halted(&rt, &once, Why::Fetch { addr: BASE + 24 });
     Ok(())
 }

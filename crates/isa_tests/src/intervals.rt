@@ -1,6 +1,6 @@
 //! Small programs on one core, with numbers from the RISC-V Unprivileged ISA manual and its table
 //! of opcodes. Memory is a flat list of bytes, and each access finds its line in memory.
-ghost use Rattle.std.specs.Prelude.{◌≡◌, ◌-◌, ◌<◌, ◌≤◌, length, vec_capacity, vec_len, IfOk, Some};
+ghost use Rattle.std.specs.Prelude.{◌≡◌, ◌-◌, ◌<◌, ◌≤◌, length, vec_capacity, vec_len, IfOk, OnOk, Some};
 ghost use Rattle.machine_desc.specs.Machine.{IsMachine};
 ghost use Rattle.flat_memory.specs.FlatMemory.{memory_after, memory_reply};
 
@@ -9,9 +9,10 @@ use bound_core::{BoundCore, Port, Turned};
 use elf_load::Image;
 use event_graph::Plain;
 use flat_memory::FlatMemory;
-use machine_desc::{Machine, PLAIN, read};
-use rv_core::{DecodedProgram, Why};
+use machine_desc::{Controllers, Domains, L1, L2, Machine, Memory, Places};
+use rv_core::{DecodedProgram, Program, Why};
 use std::alloc::Global;
+use std::process::Abort;
 use std::test::Fail;
 use zs_num::{Cycle, Entry, NoMemory, Outcome, Request};
 
@@ -56,23 +57,46 @@ static CROSSING: [u32; 17] = [
     0x8877_6655,
 ];
 
-/// The built-in machine.
+/// The machine of the built-in description.
 fn machine(alloc: Global) -> Result<Machine, NoMemory>
     ensures { IfOk result IsMachine }
 {
-    match read(alloc, PLAIN.as_bytes()) {
-        Ok(machine) => Ok(machine),
-        Err(_) => Err(NoMemory),
-    }
-}
-
-/// The image of a program of these words in the machine's memory.
-fn image(alloc: Global, machine: &Machine, words: &[u32]) -> Result<Image, Fail>
-    requires { IsMachine machine.now }
-    ensures base { IfOk result (λ image. image.base ≡ machine.now.memory.base) }
-    ensures size { IfOk result (λ image. image.size ≡ machine.now.memory.size) }
-{
-    loaded(alloc, words, machine.memory.base, machine.memory.size)
+    Ok(Machine {
+        version: 1,
+        cores: 1,
+        interval: 10_000,
+        intervals: 100_000,
+        memory: Memory {
+            base: 0x1_0000,
+            size: 0x10_0000,
+            stack: 4096,
+        },
+        l1: L1 {
+            sets: 2,
+            ways: 1,
+            latency: 1,
+        },
+        l2: L2 {
+            banks: 1,
+            sets: 4,
+            ways: 2,
+            latency: 10,
+            remote: 5,
+            fill: 2,
+            occupancy: 4,
+        },
+        controllers: Controllers {
+            count: 1,
+            read: 100,
+            write: 40,
+            occupancy: 20,
+        },
+        domains: Domains {
+            count: 2,
+            banks: Places::of(vec![in alloc; 0]?),
+            controllers: Places::of(vec![in alloc; 1]?),
+        },
+    })
 }
 
 /// A port of one core over a flat memory. It keeps the entries that it answered.
@@ -113,8 +137,75 @@ impl Port for FlatPort {
     }
 }
 
+/// A core and the port to its memory.
+#[derive(Drop)]
+struct Served {
+    core: BoundCore,
+    port: FlatPort,
+    ghost number: { port.core ≡ core.number },
+    ghost base: { port.memory.base ≡ core.timed.core.memory.base },
+    ghost size: { length port.memory.bytes ≡ core.timed.core.memory.size },
+}
+
+impl Served {
+    /// Makes room for an interval of 1,000 cycles.
+    fn reserve(&mut self) -> Result<(), NoMemory>
+        ensures spare { OnOk result (1258 ≤ self.new.core.spare) }
+        ensures room { OnOk result (1258 ≤ vec_capacity self.new.port.entries - vec_len self.new.port.entries) }
+    {
+        self.core.reserve(1000)?;
+        self.port.entries.reserve(1258)?;
+        Ok(())
+    }
+
+    /// A turn of the core in an interval that ends then.
+    fn turn<P: Program>(&mut self, program: &P, times: &Plain, end: Cycle) -> Result<Turned, Fail>
+        requires { end ≤ 1000 }
+    {
+        self.reserve()?;
+        if self.core.clock() > 1000 {
+            return Err("a later cycle".into());
+        }
+        Ok(self.core.turn(program, times, end, &mut self.port))
+    }
+
+    /// Runs the core to the end of an interval.
+    fn run_one<P: Program>(&mut self, program: &P, times: &Plain, end: Cycle) -> Result<(), Fail>
+        requires { end ≤ 1000 }
+    {
+        self.reserve()?;
+        if self.core.clock() > 1000 {
+            return Err("a later cycle".into());
+        }
+        self.core.run_one(program, times, end, &mut self.port);
+        Ok(())
+    }
+
+    /// Checks the bytes that the core wrote.
+    fn has_written(&self, rt: &impl Abort, wanted: &[u8]) {
+        assert_eq!(rt; self.core.console(), wanted);
+    }
+
+    /// The number with which the program ended.
+    fn exit(&self) -> Option<u64> {
+        match self.core.halted() {
+            Some(Why::Exit(number)) => Some(number),
+            _ => None,
+        }
+    }
+
+    /// The core waits 10 cycles.
+    fn delay(&mut self) -> Result<(), Fail> {
+        if self.core.clock() > 1000 {
+            return Err("a later cycle".into());
+        }
+        self.core.delay(10);
+        Ok(())
+    }
+}
+
 /// Where each access of the port began, and what it was answered.
-fn served(alloc: Global, port: &FlatPort) -> Result<Vec<(u64, u64)>, NoMemory> {
+fn answers(alloc: Global, port: &FlatPort) -> Result<Vec<(u64, u64)>, NoMemory> {
     let mut found = Vec::new(alloc);
     for entry in &port.entries {
         found.push((entry.start, entry.reply))?;
@@ -122,67 +213,68 @@ fn served(alloc: Global, port: &FlatPort) -> Result<Vec<(u64, u64)>, NoMemory> {
     Ok(found)
 }
 
-/// A core at its start, and a port to its memory. Both have room for an interval of 1,000 cycles.
-fn fresh(alloc: Global, machine: &Machine, image: &Image) -> Result<(BoundCore, FlatPort), NoMemory>
+/// Core 0 at its start.
+fn fresh(alloc: Global, machine: &Machine, image: &Image) -> Result<Served, NoMemory>
     requires machine { IsMachine machine.now }
     requires base { image.now.base ≡ machine.now.memory.base }
     requires size { image.now.size ≡ machine.now.memory.size }
-    ensures core { IfOk result (λ r. r.1.core ≡ r.0.number) }
-    ensures base { IfOk result (λ r. r.1.memory.base ≡ r.0.timed.core.memory.base) }
-    ensures size { IfOk result (λ r. length r.1.memory.bytes ≡ r.0.timed.core.memory.size) }
-    ensures room { IfOk result (λ r. 1258 ≤ vec_capacity r.1.entries - vec_len r.1.entries) }
-    ensures spare { IfOk result (λ r. 1258 ≤ r.0.spare) }
-    ensures clock { IfOk result (λ r. r.0.timed.clock ≡ 0) }
 {
-    let mut core = BoundCore::new(alloc, machine, image, 0)?;
-    core.reserve(1000)?;
-    let port = FlatPort {
-        memory: FlatMemory::loaded(alloc, image, 1)?,
-        core: 0,
-        entries: Vec::with_capacity(alloc, 1258)?,
-    };
-    Ok((core, port))
+    Ok(Served {
+        core: BoundCore::new(alloc, machine, image, 0)?,
+        port: FlatPort {
+            memory: FlatMemory::loaded(alloc, image, 1)?,
+            core: 0,
+            entries: Vec::new(alloc),
+        },
+    })
+}
+
+/// A program of these words, the times of the built-in machine, and its core at its start.
+fn started(alloc: Global, words: &[u32]) -> Result<(Image, Plain, Served), Fail> {
+    let machine = machine(alloc)?;
+    let image = loaded(alloc, words, machine.memory.base, machine.memory.size)?;
+    let served = fresh(alloc, &machine, &image)?;
+    Ok((image, Plain::of(&machine), served))
 }
 
 #[test]
 fn a_write_call_writes_byte_by_byte(rt: HostRuntime) -> Result<(), Fail> {
-    let alloc = rt.alloc();
-    let machine = machine(alloc)?;
-    let image = image(alloc, &machine, &WRITE)?;
-    let (mut core, mut port) = fresh(alloc, &machine, &image)?;
-    core.run_one(&image, &Plain::of(&machine), 1000, &mut port);
+    let (image, times, mut served) = started(rt.alloc(), &WRITE)?;
+    served.run_one(&image, &times, 1000)?;
     // Five instructions and the call come before the first byte.
     let wanted = [(6, 0x68), (6 + MISS, 0x69), (6 + 2 * MISS, 0x0a)];
-    assert_eq!(rt; served(alloc, &port)?.as_slice(), wanted.as_slice());
-    assert_eq!(rt; core.console(), b"hi\n".as_slice());
-    assert_eq!(rt; core.halted(), Some(Why::Exit(0)));
-    assert_eq!(rt; core.clock(), 6 + 3 * MISS + 3);
-    assert_eq!(rt; core.instructions(), 9);
+    assert_eq!(rt;
+        answers(rt.alloc(), &served.port)?.as_slice(),
+        wanted.as_slice()
+    );
+    served.has_written(&rt, b"hi\n");
+    assert_eq!(rt; served.exit(), Some(0));
+    assert_eq!(rt; served.core.clock(), 6 + 3 * MISS + 3);
+    assert_eq!(rt; served.core.instructions(), 9);
     Ok(())
 }
 
 #[test]
 fn a_load_that_crosses_a_line_goes_on_past_the_end(rt: HostRuntime) -> Result<(), Fail> {
-    let alloc = rt.alloc();
-    let machine = machine(alloc)?;
-    let image = image(alloc, &machine, &CROSSING)?;
-    let program = DecodedProgram::of(alloc, &image)?;
-    let times = Plain::of(&machine);
-    let (mut core, mut port) = fresh(alloc, &machine, &image)?;
+    let (image, times, mut served) = started(rt.alloc(), &CROSSING)?;
+    let program = DecodedProgram::of(rt.alloc(), &image)?;
     // The interval ends where the load begins its first access.
-    let first = core.turn(&program, &times, 2, &mut port);
+    let first = served.turn(&program, &times, 2)?;
     assert!(rt; matches!(first, Turned::Took(_)));
-    assert_eq!(rt; core.clock(), 2 + MISS);
-    assert!(rt; core.core().in_progress());
-    core.run_one(&program, &times, 2, &mut port);
-    assert_eq!(rt; core.clock(), 2 + 2 * MISS);
-    core.delay(10);
-    let last = core.turn(&program, &times, 500, &mut port);
+    assert_eq!(rt; served.core.clock(), 2 + MISS);
+    assert!(rt; served.core.core().in_progress());
+    served.run_one(&program, &times, 2)?;
+    assert_eq!(rt; served.core.clock(), 2 + 2 * MISS);
+    served.delay()?;
+    let last = served.turn(&program, &times, 500)?;
     assert_eq!(rt; last, Turned::Ended);
     let wanted = [(2, 0x4433_2211), (2 + MISS, 0x8877_6655)];
-    assert_eq!(rt; served(alloc, &port)?.as_slice(), wanted.as_slice());
-    assert_eq!(rt; core.halted(), Some(Why::Exit(0x8877_6655_4433_2211)));
-    assert_eq!(rt; core.clock(), 2 + 2 * MISS + 10 + 3);
-    assert_eq!(rt; core.instructions(), 5);
+    assert_eq!(rt;
+        answers(rt.alloc(), &served.port)?.as_slice(),
+        wanted.as_slice()
+    );
+    assert_eq!(rt; served.exit(), Some(0x8877_6655_4433_2211));
+    assert_eq!(rt; served.core.clock(), 2 + 2 * MISS + 10 + 3);
+    assert_eq!(rt; served.core.instructions(), 5);
     Ok(())
 }

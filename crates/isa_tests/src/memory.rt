@@ -1,5 +1,6 @@
 //! Accesses of two cores on known numbers, in 4,096 bytes of memory from 0x10000 on.
-ghost use Rattle.std.specs.Prelude.{◌≡◌, length, IfOk};
+ghost use Rattle.std.specs.Prelude.{◌≡◌, ◌<◌, length};
+ghost use Rattle.zs_num.specs.Request.{IsServable};
 
 use crate::executables::{BASE, loaded};
 use flat_memory::FlatMemory;
@@ -7,20 +8,37 @@ use std::alloc::Global;
 use std::test::Fail;
 use zs_num::{AmoOp, Request};
 
-/// Memory of two cores, loaded with an executable of one instruction, which lies at the base.
-fn fresh(alloc: Global) -> Result<FlatMemory, Fail>
-    ensures base { IfOk result (λ m. m.base ≡ BASE) }
-    ensures size { IfOk result (λ m. length m.bytes ≡ 4096) }
-    ensures cores { IfOk result (λ m. length m.reservations ≡ 2) }
-{
-    // ecall
-    let image = loaded(alloc, &[0x73], BASE, 4096)?;
-    Ok(FlatMemory::loaded(alloc, &image, 2)?)
+/// Memory of two cores.
+#[derive(Drop)]
+struct Small {
+    memory: FlatMemory,
+    ghost base: { memory.base ≡ 0x10000 },
+    ghost size: { length memory.bytes ≡ 4096 },
+    ghost cores: { length memory.reservations ≡ 2 },
+}
+
+impl Small {
+    /// Memory loaded with an executable of one instruction, which lies at the base.
+    fn fresh(alloc: Global) -> Result<Self, Fail> {
+        // ecall
+        let image = loaded(alloc, &[0x73], BASE, 4096)?;
+        Ok(Small {
+            memory: FlatMemory::loaded(alloc, &image, 2)?,
+        })
+    }
+
+    /// Serves an access of a core, and answers its reply.
+    fn serve(&mut self, core: u16, request: Request) -> u64
+        requires core { core < 2 }
+        requires servable { IsServable 0x10000 4096 request }
+    {
+        self.memory.serve(core, request)
+    }
 }
 
 #[test]
 fn memory_holds_the_executable(rt: HostRuntime) -> Result<(), Fail> {
-    let memory = fresh(rt.alloc())?;
+    let Small { memory } = Small::fresh(rt.alloc())?;
     assert_eq!(rt; memory.byte(0x10000), 0x73);
     assert_eq!(rt; memory.byte(0x10001), 0);
     assert_eq!(rt; memory.byte(0x10fff), 0);
@@ -29,7 +47,7 @@ fn memory_holds_the_executable(rt: HostRuntime) -> Result<(), Fail> {
 
 #[test]
 fn a_pair_stores_once(rt: HostRuntime) -> Result<(), Fail> {
-    let mut memory = fresh(rt.alloc())?;
+    let mut memory = Small::fresh(rt.alloc())?;
     let reserve = Request::Lr {
         addr: 0x10100,
         width: 8,
@@ -48,7 +66,7 @@ fn a_pair_stores_once(rt: HostRuntime) -> Result<(), Fail> {
 
 #[test]
 fn a_store_of_another_core_ends_a_pair(rt: HostRuntime) -> Result<(), Fail> {
-    let mut memory = fresh(rt.alloc())?;
+    let mut memory = Small::fresh(rt.alloc())?;
     let reserve = Request::Lr {
         addr: 0x10100,
         width: 8,
@@ -77,7 +95,7 @@ fn a_store_of_another_core_ends_a_pair(rt: HostRuntime) -> Result<(), Fail> {
 
 #[test]
 fn own_stores_and_other_lines_leave_a_pair(rt: HostRuntime) -> Result<(), Fail> {
-    let mut memory = fresh(rt.alloc())?;
+    let mut memory = Small::fresh(rt.alloc())?;
     let reserve = Request::Lr {
         addr: 0x10100,
         width: 4,
@@ -112,7 +130,7 @@ fn own_stores_and_other_lines_leave_a_pair(rt: HostRuntime) -> Result<(), Fail> 
 
 #[test]
 fn an_amo_answers_the_old_number_and_stores_the_new_one(rt: HostRuntime) -> Result<(), Fail> {
-    let mut memory = fresh(rt.alloc())?;
+    let mut memory = Small::fresh(rt.alloc())?;
     let store = Request::Store {
         addr: 0x10100,
         width: 3,

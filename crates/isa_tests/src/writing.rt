@@ -1,25 +1,15 @@
 //! Written files against files made by hand, and read again.
-use crate::executables::{BASE, SIZE};
-use elf_load::load;
+use crate::files::SEVEN;
+use crate::images::{Shape, has_segments, read};
+use elf_load::Image;
 use elf_write::write;
+use std::alloc::{AllocError, Global};
+use std::process::Abort;
 use std::test::Fail;
+use zs_num::{Bytes, NoMemory};
 
-/// Three instructions that exit with 7, at 0x10000. Made from the standard's table of fields by
-/// hand.
-static SEVEN: [u8; 132] = [
-    0x7f, 0x45, 0x4c, 0x46, 0x02, 0x01, 0x01, 0x00, 0x00, 0x00, 0x00, 0x00, 0x00, 0x00, 0x00, 0x00,
-    0x02, 0x00, 0xf3, 0x00, 0x01, 0x00, 0x00, 0x00, 0x00, 0x00, 0x01, 0x00, 0x00, 0x00, 0x00, 0x00,
-    0x40, 0x00, 0x00, 0x00, 0x00, 0x00, 0x00, 0x00, 0x00, 0x00, 0x00, 0x00, 0x00, 0x00, 0x00, 0x00,
-    0x00, 0x00, 0x00, 0x00, 0x40, 0x00, 0x38, 0x00, 0x01, 0x00, 0x00, 0x00, 0x00, 0x00, 0x00, 0x00,
-    0x01, 0x00, 0x00, 0x00, 0x07, 0x00, 0x00, 0x00, 0x78, 0x00, 0x00, 0x00, 0x00, 0x00, 0x00, 0x00,
-    0x00, 0x00, 0x01, 0x00, 0x00, 0x00, 0x00, 0x00, 0x00, 0x00, 0x01, 0x00, 0x00, 0x00, 0x00, 0x00,
-    0x0c, 0x00, 0x00, 0x00, 0x00, 0x00, 0x00, 0x00, 0x0c, 0x00, 0x00, 0x00, 0x00, 0x00, 0x00, 0x00,
-    0x01, 0x00, 0x00, 0x00, 0x00, 0x00, 0x00, 0x00, 0x13, 0x05, 0x70, 0x00, 0x93, 0x08, 0xd0, 0x05,
-    0x73, 0x00, 0x00, 0x00,
-];
-
-/// The same code, entered at its second instruction, and 64 bytes of data at 0x12000, of which the
-/// file has three. GNU readelf tells the same of it.
+/// The code of SEVEN, entered at its second instruction, and 64 bytes of data at 0x12000, of which
+/// the file has three. GNU readelf tells the same of it.
 static CODE_AND_DATA: [u8; 191] = [
     0x7f, 0x45, 0x4c, 0x46, 0x02, 0x01, 0x01, 0x00, 0x00, 0x00, 0x00, 0x00, 0x00, 0x00, 0x00, 0x00,
     0x02, 0x00, 0xf3, 0x00, 0x01, 0x00, 0x00, 0x00, 0x04, 0x00, 0x01, 0x00, 0x00, 0x00, 0x00, 0x00,
@@ -55,37 +45,49 @@ static THREE_SEGMENTS: [u8; 251] = [
     0x73, 0x00, 0x00, 0x00, 0x68, 0x69, 0x0a, 0x73, 0x00, 0x00, 0x00,
 ];
 
-#[test]
-fn a_written_image_is_the_file_that_it_was_read_from(rt: HostRuntime) -> Result<(), Fail> {
-    let one = load(rt.alloc(), &SEVEN, BASE, SIZE)?;
-    assert_eq!(rt; write(rt.alloc(), &one)?.as_slice(), SEVEN.as_slice());
-    let two = load(rt.alloc(), &CODE_AND_DATA, BASE, SIZE)?;
-    assert_eq!(rt;
-        write(rt.alloc(), &two)?.as_slice(),
-        CODE_AND_DATA.as_slice()
-    );
-    let three = load(rt.alloc(), &THREE_SEGMENTS, BASE, SIZE)?;
-    assert_eq!(rt;
-        write(rt.alloc(), &three)?.as_slice(),
-        THREE_SEGMENTS.as_slice()
-    );
+/// What is written of an image.
+fn written(alloc: Global, image: &Image) -> Result<Bytes, NoMemory> {
+    write(alloc, image)
+}
+
+/// Checks that the image of a file is written as this file.
+fn is_written_again(rt: &(impl Abort + AllocGlobal), file: &[u8]) -> Result<(), Fail> {
+    let image = read(rt.alloc(), file)?;
+    assert_eq!(rt; written(rt.alloc(), &image)?.as_slice(), file);
     Ok(())
 }
 
 #[test]
-fn three_written_segments_are_read_again(rt: HostRuntime) -> Result<(), Fail> {
-    let image = load(rt.alloc(), &THREE_SEGMENTS, BASE, SIZE)?;
-    let file = write(rt.alloc(), &image)?;
-    let again = load(rt.alloc(), file.as_slice(), BASE, SIZE)?;
-    assert_eq!(rt; again.entry(), 0x10004);
-    let (first, second) = (&image.segments()[..], &again.segments()[..]);
-    assert_eq!(rt; (first.len(), second.len()), (3, 3));
-    for (one, other) in first.iter().zip(second) {
-        assert_eq!(rt;
-            (one.vaddr, one.memsz, one.exec),
-            (other.vaddr, other.memsz, other.exec)
-        );
-        assert_eq!(rt; one.bytes.as_slice(), other.bytes.as_slice());
+fn a_written_image_is_the_file_that_it_was_read_from(rt: HostRuntime) -> Result<(), Fail> {
+    is_written_again(&rt, &SEVEN)?;
+    is_written_again(&rt, &CODE_AND_DATA)?;
+    is_written_again(&rt, &THREE_SEGMENTS)
+}
+
+/// The bytes that the file has of all segments.
+fn contents(alloc: Global, image: &Image) -> Result<Vec<u8>, AllocError> {
+    let mut bytes = Vec::new(alloc);
+    for segment in image.segments() {
+        bytes.extend_from_slice(segment.bytes.as_slice())?;
     }
+    Ok(bytes)
+}
+
+#[test]
+fn three_written_segments_are_read_again(rt: HostRuntime) -> Result<(), Fail> {
+    let image = read(rt.alloc(), &THREE_SEGMENTS)?;
+    let file = written(rt.alloc(), &image)?;
+    let again = read(rt.alloc(), file.as_slice())?;
+    assert_eq!(rt; again.entry(), 0x10004);
+    has_segments(&rt, &image, &SEGMENTS)?;
+    has_segments(&rt, &again, &SEGMENTS)?;
+    let bytes = contents(rt.alloc(), &image)?;
+    assert_eq!(rt; contents(rt.alloc(), &again)?.as_slice(), bytes.as_slice());
     Ok(())
 }
+
+static SEGMENTS: [Shape; 3] = [
+    (0x10000, 12, 12, true),
+    (0x12000, 3, 64, false),
+    (0x13000, 4, 8, true),
+];

@@ -1,6 +1,6 @@
 use Rattle.std.proofs.Common.{lit<, lit≤, refl}
 use Rattle.elf_load.proofs.Meanings.{sound_alone}
-use Rattle.elf_load.proofs.tests.an_image_of_segments.Goals as goal
+use Rattle.isa_tests.proofs.loading.an_image_of_segments.Goals as goal
 
 pub make-image-requires : goal.make-image-requires
 make-image-requires g c =

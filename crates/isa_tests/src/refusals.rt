@@ -1,0 +1,149 @@
+//! Files that are no executables for this machine, and the check that refuses each.
+use crate::changes::{
+    CLASS, Change, DATA, E_ENTRY, E_FLAGS, E_MACHINE, E_PHENTSIZE, E_PHNUM, E_PHOFF, E_TYPE,
+    P_FILESZ, P_FLAGS, P_MEMSZ, P_OFFSET, P_TYPE, P_VADDR, changed, with_headers,
+};
+use crate::executables::{BASE, SIZE};
+use crate::files::SEVEN;
+use elf_load::{BadElf, LoadFail, load};
+use std::alloc::Global;
+use std::process::Abort;
+use std::test::Fail;
+
+/// What is answered for a memory of `SIZE` bytes from `BASE` on: the refusal, or None for an image.
+fn refusal_of(alloc: Global, file: &[u8]) -> Option<LoadFail> {
+    load(alloc, file, BASE, SIZE).err()
+}
+
+#[test]
+fn each_field_out_of_order_is_refused_by_its_check(rt: HostRuntime) -> Result<(), Fail> {
+    for &(at, width, value, refusal) in &FIELDS {
+        let file = changed(rt.alloc(), &SEVEN, &[(at, width, value)])?;
+        assert_eq!(rt;
+            refusal_of(rt.alloc(), &file),
+            Some(LoadFail::Bad(refusal)),
+            "at {at}"
+        );
+    }
+    Ok(())
+}
+
+/// A field of SEVEN's headers, another number in it, and the refusal.
+static FIELDS: [(usize, usize, u64, BadElf); 22] = [
+    (3, 1, 0x47, BadElf::Magic),
+    (CLASS, 1, 1, BadElf::ClassOrData),
+    (DATA, 1, 2, BadElf::ClassOrData),
+    (E_TYPE, 2, 3, BadElf::Type_),
+    (E_MACHINE, 2, 62, BadElf::Machine),
+    (E_FLAGS, 4, 1, BadElf::Flags),
+    (E_FLAGS, 4, 4, BadElf::Flags),
+    (E_PHOFF, 8, u64::MAX, BadElf::Headers),
+    (E_PHNUM, 2, 129, BadElf::Headers),
+    (E_PHENTSIZE, 2, 55, BadElf::Headers),
+    (P_TYPE, 4, 2, BadElf::Dynamic),
+    (P_TYPE, 4, 3, BadElf::Dynamic),
+    (P_OFFSET, 8, u64::MAX, BadElf::SegmentPastFile { index: 0 }),
+    (
+        P_VADDR,
+        8,
+        u64::MAX - 3,
+        BadElf::SegmentPastMemory { index: 0 },
+    ),
+    (P_MEMSZ, 8, u64::MAX, BadElf::SegmentPastMemory { index: 0 }),
+    (P_MEMSZ, 8, 11, BadElf::SegmentPastMemory { index: 0 }),
+    (E_ENTRY, 8, 0x10002, BadElf::Entry),
+    (E_ENTRY, 8, 0x1000C, BadElf::Entry),
+    (E_ENTRY, 8, u64::MAX - 3, BadElf::Entry),
+    (P_FLAGS, 4, 6, BadElf::Entry),
+    (E_PHNUM, 2, 0, BadElf::Entry),
+    (P_TYPE, 4, 4, BadElf::Entry),
+];
+
+#[test]
+fn a_segment_of_more_bytes_than_the_file_and_an_empty_one(rt: HostRuntime) -> Result<(), Fail> {
+    for &(size, refusal) in &SIZES {
+        let sizes = [(P_FILESZ, 8, size), (P_MEMSZ, 8, size)];
+        let file = changed(rt.alloc(), &SEVEN, &sizes)?;
+        assert_eq!(rt;
+            refusal_of(rt.alloc(), &file),
+            Some(LoadFail::Bad(refusal)),
+            "{size}"
+        );
+    }
+    Ok(())
+}
+
+/// How many bytes SEVEN's segment has, of the file and in memory, and the refusal.
+static SIZES: [(u64, BadElf); 2] = [
+    (13, BadElf::SegmentPastFile { index: 0 }),
+    (0, BadElf::Entry),
+];
+
+#[test]
+fn short_and_empty_files_are_refused(rt: HostRuntime) {
+    for &(len, refusal) in &LENGTHS {
+        let file = SEVEN.get(..len).unwrap_or(&[]);
+        assert_eq!(rt;
+            refusal_of(rt.alloc(), file),
+            Some(LoadFail::Bad(refusal)),
+            "{len}"
+        );
+    }
+    assert_eq!(rt;
+        refusal_of(rt.alloc(), &[0; 64]),
+        Some(LoadFail::Bad(BadElf::Magic))
+    );
+}
+
+/// How many bytes of SEVEN a file has, and the refusal.
+static LENGTHS: [(usize, BadElf); 3] = [
+    (0, BadElf::Short),
+    (63, BadElf::Short),
+    (131, BadElf::SegmentPastFile { index: 0 }),
+];
+
+/// Checks that SEVEN with these changes in its header and in one more is refused so.
+fn are_refused(
+    rt: &(impl Abort + AllocGlobal),
+    first: [Change; 2],
+    second: [Change; 2],
+    refusal: BadElf,
+) -> Result<(), Fail> {
+    let file = with_headers(rt.alloc(), &[first, second])?;
+    assert_eq!(rt; refusal_of(rt.alloc(), &file), Some(LoadFail::Bad(refusal)));
+    Ok(())
+}
+
+#[test]
+fn a_check_is_made_of_all_headers_before_the_next_check(rt: HostRuntime) -> Result<(), Fail> {
+    are_refused(&rt, PAST_FILE, DYNAMIC, BadElf::Dynamic)?;
+    are_refused(
+        &rt,
+        PAST_MEMORY,
+        PAST_FILE,
+        BadElf::SegmentPastFile { index: 1 },
+    )?;
+    are_refused(
+        &rt,
+        LOADED,
+        PAST_MEMORY,
+        BadElf::SegmentPastMemory { index: 1 },
+    )?;
+    are_refused(
+        &rt,
+        LOADED,
+        LOADED,
+        BadElf::Overlap {
+            first: 0,
+            second: 1,
+        },
+    )
+}
+
+const LOADED: [Change; 2] = [(P_OFFSET, 8, 176), (P_FLAGS, 4, 7)];
+
+const PAST_FILE: [Change; 2] = [(P_OFFSET, 8, 177), (P_VADDR, 8, BASE)];
+
+const PAST_MEMORY: [Change; 2] = [(P_OFFSET, 8, 176), (P_VADDR, 8, 0)];
+
+const DYNAMIC: [Change; 2] = [(P_OFFSET, 8, 176), (P_TYPE, 4, 2)];
