@@ -11,6 +11,3 @@ mod writer;
 
 pub use printed::write_printed;
 pub use writer::text;
-
-#[cfg(test)]
-mod tests;

@@ -28,16 +28,6 @@ at_number {X} f xs n d z below =
     ∙ ap f (get_or-enumerate_from 0 xs n (0, d) below)
     ∙ ap (λ (k : ℕ). f (k, get_or xs n d)) (zero-add n)
 
--- there are as many counts as before
-pub as_many_cores : (first : Counts) (i : Interval) (comps : List Comp) → length (added first i comps).core_counts ≡ length first.core_counts
-unfolding added
-as_many_cores first i comps = length_numbered (λ at'. core_after i at'.0 at'.1) first.core_counts
-
-pub as_many_comps : (first : Counts) (i : Interval) (comps : List Comp) → length comps ≡ length first.comp_counts → length (added first i comps).comp_counts ≡ length first.comp_counts
-unfolding added
-as_many_comps first i comps same =
-    omega (arith, length_numbered (λ at'. comp_after i at'.0 at'.1.0 at'.1.1) (zip first.comp_counts comps), length-zip first.comp_counts comps)
-
 -- an element of a list that has one
 one_of : {X : Type 0} (xs : List X) (n : ℕ) → n < length xs → X
 one_of [] n below = absurd (omega arith)

@@ -9,6 +9,3 @@ pub mod laws;
 
 pub use counters::Counters;
 pub use counts::{CompCount, CoreCount};
-
-#[cfg(test)]
-mod tests;

@@ -7,8 +7,8 @@ use Rattle.component.specs.Components.{AreFresh}
 use Rattle.event_graph.specs.Timely.{AreTimely}
 use Rattle.stats.specs.Counts.{Counts, CountsFit, Interval, added, counts_of, no_counts}
 use Rattle.stats.specs.Laws.{CountersAreSums, NothingIsCountedFirst}
-use Rattle.stats.specs.declared.tests.WovenInterval.{WovenInterval}
-use Rattle.stats.proofs.tests.counted.Goals as goal
+use Rattle.report_tests.specs.declared.counting.WovenInterval.{WovenInterval}
+use Rattle.report_tests.proofs.counting.counted.Goals as goal
 
 abbrev interval : WovenInterval → Interval
 interval w = record { entries = w.entries; events = w.graph; fired = w.fired; delays = w.delays }

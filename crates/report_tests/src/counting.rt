@@ -5,25 +5,16 @@ ghost use Rattle.machine_desc.specs.Machine.{IsMachine};
 ghost use Rattle.event_graph.specs.Timely.{AreTimely};
 ghost use Rattle.stats.specs.Counts.{CountsFit, added};
 
-use crate::{CompCount, CoreCount, Counters, laws};
+use crate::machines::machine;
 use component::{Bank, Comp, Comps, Controller, components};
 use event_graph::{Event, Fired, FiredList, Graph, Kind};
 use feedback::Delays;
-use machine_desc::{Machine, PLAIN, component_count, read};
+use machine_desc::{Machine, component_count};
+use stats::{CompCount, CoreCount, Counters, laws};
 use std::alloc::Global;
+use std::process::Abort;
 use std::test::Fail;
 use zs_num::{AmoOp, Cycle, Entries, Entry, NoMemory, Outcome, Request};
-
-/// The machine of the built-in text with each first word of a pair replaced by the second.
-fn edited(alloc: Global, edits: &[(&str, &str)]) -> Result<Machine, Fail>
-    ensures { IfOk result IsMachine }
-{
-    let mut text = String::from_str(alloc, PLAIN)?;
-    for (old, new) in edits {
-        text = text.replacen(alloc, *old, *new, 1)?;
-    }
-    Ok(read(alloc, text.as_bytes())?)
-}
 
 /// The bank and the controller, free from these cycles on.
 fn comps(alloc: Global, bank: Cycle, controller: Cycle) -> Result<Comps<Comp>, NoMemory>
@@ -190,7 +181,7 @@ fn second(alloc: Global) -> Result<WovenInterval, NoMemory> {
 }
 
 /// Adds an interval to the counters of two cores and two components.
-#[tactic(auto, using(crate::proofs::Added::as_many_cores, crate::proofs::Added::as_many_comps))]
+#[tactic(auto, using(crate::proofs::Lengths::as_many_cores, crate::proofs::Lengths::as_many_comps))]
 fn add(counters: &mut Counters, w: &WovenInterval)
     requires cores { length counters.old.core_counts ≡ 2 }
     requires comps { length counters.old.comp_counts ≡ 2 }
@@ -227,78 +218,148 @@ fn counted(alloc: Global, machine: &Machine) -> Result<Counters, NoMemory>
     Ok(counters)
 }
 
+/// Counters, of so many cores and so many components.
+#[derive(Drop)]
+struct SizedCounters {
+    counters: Counters,
+    cores: u16,
+    comps: u16,
+    ghost core_counts: { length counters.core_counts ≡ cores },
+    ghost comp_counts: { length counters.comp_counts ≡ comps },
+}
+
+impl SizedCounters {
+    /// What was counted of a core.
+    fn core(&self, n: u16) -> Option<CoreCount> {
+        if n < self.cores {
+            Some(self.counters.core(n))
+        } else {
+            None
+        }
+    }
+
+    /// What was counted of a component.
+    fn comp(&self, n: u16) -> Option<CompCount> {
+        if n < self.comps {
+            Some(self.counters.comp(n))
+        } else {
+            None
+        }
+    }
+}
+
+/// What was counted of both intervals on a machine of two cores, a bank and a controller.
+fn of_both(alloc: Global, machine: &Machine) -> Result<SizedCounters, NoMemory>
+    requires machine { IsMachine machine.now }
+    requires cores { machine.now.cores ≡ 2 }
+    requires banks { machine.now.l2.banks ≡ 1 }
+    requires controllers { machine.now.controllers.count ≡ 1 }
+{
+    Ok(SizedCounters {
+        counters: counted(alloc, machine)?,
+        cores: 2,
+        comps: 2,
+    })
+}
+
+/// The counters of both intervals.
+fn counted_on_two_cores(alloc: Global) -> Result<SizedCounters, NoMemory> {
+    let machine = machine(alloc, 2, 1, 1)?;
+    of_both(alloc, &machine)
+}
+
+/// Checks what was counted of a core.
+fn has_core(rt: &impl Abort, found: &SizedCounters, n: u16, wanted: CoreCount) {
+    assert_eq!(rt; found.core(n), Some(wanted), "core {n}");
+}
+
+/// Checks what was counted of a component.
+fn has_comp(rt: &impl Abort, found: &SizedCounters, n: u16, wanted: CompCount) {
+    assert_eq!(rt; found.comp(n), Some(wanted), "component {n}");
+}
+
 #[test]
 fn two_intervals_are_counted(rt: HostRuntime) -> Result<(), Fail> {
-    let machine = edited(rt.alloc(), &[("cores = 1", "cores = 2")])?;
-    assert!(rt; machine.cores == 2 && machine.l2.banks == 1 && machine.controllers.count == 1);
-    let counters = counted(rt.alloc(), &machine)?;
-    let core = CoreCount {
-        delay: 24,
-        loads: 1,
-        stores: 0,
-        atomics: 1,
-        hits: 0,
-        upgrades: 0,
-        l2hits: 1,
-        misses: 1,
-    };
-    assert_eq!(rt; counters.core(0), core);
-    let other = CoreCount {
-        delay: 2,
-        loads: 1,
-        stores: 1,
-        atomics: 1,
-        hits: 1,
-        upgrades: 1,
-        l2hits: 1,
-        misses: 0,
-    };
-    assert_eq!(rt; counters.core(1), other);
-    let bank = CompCount {
-        events: 5,
-        waited: 6,
-        free: 10_009,
-    };
-    assert_eq!(rt; counters.comp(0), bank);
-    let controller = CompCount {
-        events: 2,
-        waited: 20,
-        free: 52,
-    };
-    assert_eq!(rt; counters.comp(1), controller);
-    assert_eq!(rt; (counters.accesses(), counters.events()), (5, 7));
+    let counted = counted_on_two_cores(rt.alloc())?;
+    has_core(&rt, &counted, 0, CORE_0);
+    has_core(&rt, &counted, 1, CORE_1);
+    has_comp(&rt, &counted, 0, BANK);
+    has_comp(&rt, &counted, 1, CONTROLLER);
+    assert_eq!(rt; counted.counters.accesses(), 5);
+    assert_eq!(rt; counted.counters.events(), 7);
     Ok(())
 }
 
-/// 64 cores, 64 banks and 16 controllers.
-const LARGEST: [(&str, &str); 7] = [
-    ("cores = 1", "cores = 64"),
-    ("sets = 2", "sets = 64"),
-    ("banks = 1", "banks = 64"),
-    ("sets = 4", "sets = 64"),
-    ("count = 1", "count = 16"),
-    (
-        "banks = [0]",
-        "banks = [
-            0, 0, 0, 0, 0, 0, 0, 0, 0, 0, 0, 0, 0, 0, 0, 0,
-            0, 0, 0, 0, 0, 0, 0, 0, 0, 0, 0, 0, 0, 0, 0, 0,
-            0, 0, 0, 0, 0, 0, 0, 0, 0, 0, 0, 0, 0, 0, 0, 0,
-            0, 0, 0, 0, 0, 0, 0, 0, 0, 0, 0, 0, 0, 0, 0, 0,
-        ]",
-    ),
-    (
-        "controllers = [1]",
-        "controllers = [1, 1, 1, 1, 1, 1, 1, 1, 1, 1, 1, 1, 1, 1, 1, 1]",
-    ),
-];
+const CORE_0: CoreCount = CoreCount {
+    delay: 24,
+    loads: 1,
+    stores: 0,
+    atomics: 1,
+    hits: 0,
+    upgrades: 0,
+    l2hits: 1,
+    misses: 1,
+};
+
+const CORE_1: CoreCount = CoreCount {
+    delay: 2,
+    loads: 1,
+    stores: 1,
+    atomics: 1,
+    hits: 1,
+    upgrades: 1,
+    l2hits: 1,
+    misses: 0,
+};
+
+const BANK: CompCount = CompCount {
+    events: 5,
+    waited: 6,
+    free: 10_009,
+};
+
+const CONTROLLER: CompCount = CompCount {
+    events: 2,
+    waited: 20,
+    free: 52,
+};
+
+/// The counters of the largest machine before the first interval: of 64 cores, 64 banks and 16
+/// controllers.
+fn largest(alloc: Global) -> Result<SizedCounters, NoMemory> {
+    let machine = machine(alloc, 64, 64, 16)?;
+    Ok(SizedCounters {
+        counters: Counters::new(alloc, &machine)?,
+        cores: machine.cores,
+        comps: component_count(&machine),
+    })
+}
 
 #[test]
 fn the_largest_machine_has_counters(rt: HostRuntime) -> Result<(), Fail> {
-    let machine = edited(rt.alloc(), &LARGEST)?;
-    assert!(rt; machine.cores == 64 && component_count(&machine) == 80);
-    let counters = Counters::new(rt.alloc(), &machine)?;
-    assert_eq!(rt; counters.comp_counts().len(), 80);
-    assert_eq!(rt; (counters.core(63).loads, counters.comp(79).events), (0, 0));
-    assert_eq!(rt; (counters.accesses(), counters.events()), (0, 0));
+    let largest = largest(rt.alloc())?;
+    assert_eq!(rt; (largest.cores, largest.comps), (64, 80));
+    assert_eq!(rt; largest.counters.comp_counts().len(), 80);
+    has_core(&rt, &largest, 63, NO_CORE_COUNT);
+    has_comp(&rt, &largest, 79, NO_COMP_COUNT);
+    assert_eq!(rt; largest.counters.accesses(), 0);
+    assert_eq!(rt; largest.counters.events(), 0);
     Ok(())
 }
+
+const NO_CORE_COUNT: CoreCount = CoreCount {
+    delay: 0,
+    loads: 0,
+    stores: 0,
+    atomics: 0,
+    hits: 0,
+    upgrades: 0,
+    l2hits: 0,
+    misses: 0,
+};
+
+const NO_COMP_COUNT: CompCount = CompCount {
+    events: 0,
+    waited: 0,
+    free: 0,
+};
