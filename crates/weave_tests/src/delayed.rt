@@ -1,14 +1,12 @@
 //! The delays of cores, from the weave of a graph on one list.
-ghost use Rattle.std.specs.Prelude.{◌<◌};
-
 use crate::fitting::{LIMIT, are_fast, is_graph};
-use crate::graphs::event;
 use crate::server::Server;
+use crate::worked::{BANK_AND_CONTROLLER, TWO_MISSES, listed};
 use component::{Comps, Kind};
 use event_graph::{Event, FiredList, Graph, laws};
 use feedback::{Delays, delays};
 use std::alloc::Global;
-use std::test::Fail;
+use std::io;
 use weave_seq::weave_seq;
 use zs_num::{Cycle, NoMemory};
 
@@ -38,52 +36,34 @@ fn delayed(
     Ok(Some((fired, found)))
 }
 
-/// Adds the events of a miss that a core makes at cycle 1, numbered from `first` on: a bank looks
-/// up the line, the controller reads it, and the bank takes it in.
-fn miss(events: &mut Vec<Event>, core: u16, first: u32) -> Result<(), NoMemory>
-    requires { first < 1000 }
-{
-    let mut look = event(first, 0, Kind::Lookup, (2, 12), None);
-    let mut load = event(first + 1, 1, Kind::Read, (12, 112), Some(first));
-    let mut fill = event(first + 2, 0, Kind::Fill, (112, 114), Some(first + 1));
-    look.core = core;
-    load.core = core;
-    fill.core = core;
-    look.critical = false;
-    load.critical = false;
-    events.push(look)?;
-    events.push(load)?;
-    events.push(fill)?;
-    Ok(())
+/// The two misses of two cores, of which each waits for the last event of its miss.
+fn of_two_cores(alloc: Global) -> Option<Vec<Event>> {
+    let mut events = listed(alloc, &TWO_MISSES)?;
+    for event in &mut events {
+        event.core = u16::from(event.number >= 3);
+        event.critical = event.kind == Kind::Fill;
+    }
+    Some(events)
+}
+
+/// When the events finish, and by how much each core is late.
+fn woven(alloc: Global) -> Option<(Vec<Cycle>, Vec<u64>)> {
+    let servers = Vec::from_slice(alloc, &BANK_AND_CONTROLLER).ok()?;
+    let (fired, found) = delayed(alloc, of_two_cores(alloc)?, servers, 2).ok()??;
+    let mut finishes = Vec::new(alloc);
+    for event in fired.as_slice() {
+        finishes.push(event.finish).ok()?;
+    }
+    Some((finishes, found.into_list()))
 }
 
 /// The second core waits for the bank until 6, and then for the controller until 32.
-#[test]
-fn the_delays_of_cores_follow_from_the_weave(rt: HostRuntime) -> Result<(), Fail> {
-    let alloc = rt.alloc();
-    let mut events = Vec::new(alloc);
-    miss(&mut events, 0, 0)?;
-    miss(&mut events, 1, 3)?;
-    let servers = vec![in alloc;
-        Server {
-            occupancy: 4,
-            free: 0,
-        },
-        Server {
-            occupancy: 20,
-            free: 0,
-        },
-    ]?;
-    let (fired, found) = delayed(alloc, events, servers, 2)?.ok_or("no graph")?;
-    let finishes: Vec<Cycle> = fired
-        .as_slice()
-        .iter()
-        .map(|event| event.finish)
-        .collect(alloc)?;
-    assert_eq!(rt;
-        finishes.as_slice(),
-        [12, 112, 114, 16, 132, 134].as_slice()
-    );
-    assert_eq!(rt; found.as_slice(), [0, 20].as_slice());
-    Ok(())
+pub(crate) fn run(rt: &HostRuntime) -> io::Result<()> {
+    match woven(rt.alloc()) {
+        Some((finishes, late)) => {
+            println!(rt; "the delays of cores follow from the weave")?;
+            println!(rt; "  events finish at {finishes:?}, cores are late by {late:?}")
+        }
+        None => println!(rt; "the delays of cores follow from the weave: not woven"),
+    }
 }

@@ -27,6 +27,20 @@ impl Layout<'_> {
     }
 }
 
+/// A bank in domain 0 and a controller in domain 1.
+pub(crate) const ONE_BANK: Layout = Layout {
+    domains: 2,
+    banks: &[0],
+    controllers: &[1],
+};
+
+/// Bank 0 and the controller in domain 0, and bank 1 in domain 1.
+pub(crate) const TWO_BANKS: Layout = Layout {
+    domains: 2,
+    banks: &[0, 1],
+    controllers: &[0],
+};
+
 /// Whether there are some domains, up to so many, and all of them are there.
 fn are_places(places: &[u16], most: usize, domains: u16) -> bool
     ensures some { IsTrue result → 0 < length places.now }

@@ -1,148 +1,136 @@
-//! Worked weaves, each by several numbers of workers.
-use crate::by_workers::woven_by_workers;
-use crate::graphs::{Layout, event, idle, partitioned};
+//! Worked weaves. Each is woven in every way, and its line has when each event starts and finishes
+//! and until when the servers are busy.
+use crate::graphs::{Layout, ONE_BANK, TWO_BANKS, event, partitioned};
 use crate::server::Server;
-use component::Kind;
+use crate::ways::{Outcome, by_workers, every_way};
+use component::{Component, Kind};
 use event_graph::Event;
 use std::alloc::Global;
-use std::test::Fail;
+use std::io;
 use std::thread::Threads;
-use zs_host::OpenGate;
+use zs_host::MeetingGate;
 use zs_num::Cycle;
 
 const WORKERS: [u16; 4] = [1, 2, 7, 64];
 
-/// When the events finish, and until when the servers are busy, by so many workers.
-fn woven<R: Threads + Sync>(
-    rt: &R,
+/// The component, the kind, the start in the bound phase and the parent of an event.
+pub(crate) type Row = (u16, Kind, Cycle, Option<u32>);
+
+/// Two misses at once: a bank looks up the line, a controller reads it, and the bank takes it in.
+pub(crate) static TWO_MISSES: [Row; 6] = [
+    (0, Kind::Lookup, 2, None),
+    (1, Kind::Read, 12, Some(0)),
+    (0, Kind::Fill, 112, Some(1)),
+    (0, Kind::Lookup, 2, None),
+    (1, Kind::Read, 12, Some(3)),
+    (0, Kind::Fill, 112, Some(4)),
+];
+
+/// Two look-ups, and on the other bank of each a look-up that waits for it.
+pub(crate) static RING: [Row; 4] = [
+    (0, Kind::Lookup, 0, None),
+    (1, Kind::Lookup, 0, None),
+    (1, Kind::Lookup, 0, Some(0)),
+    (0, Kind::Lookup, 0, Some(1)),
+];
+
+/// Two look-ups of one bank that can start at cycle 10.
+pub(crate) static TIE: [Row; 3] = [
+    (0, Kind::Lookup, 0, None),
+    (1, Kind::Lookup, 0, Some(0)),
+    (1, Kind::Lookup, 10, None),
+];
+
+/// A bank that is busy for 4 cycles with an event, and a controller that is for 20.
+pub(crate) static BANK_AND_CONTROLLER: [Server; 2] = [
+    Server {
+        occupancy: 4,
+        free: 0,
+    },
+    Server {
+        occupancy: 20,
+        free: 0,
+    },
+];
+
+/// Two banks and a controller that an event keeps busy for 4 cycles.
+pub(crate) static BANKS: [Server; 3] = [Server {
+    occupancy: 4,
+    free: 0,
+}; 3];
+
+/// The events of these rows.
+pub(crate) fn listed(alloc: Global, rows: &[Row]) -> Option<Vec<Event>> {
+    let mut events = Vec::with_capacity(alloc, rows.len()).ok()?;
+    let mut number = 0u32;
+    for &(component, kind, start, parent) in rows {
+        let finish = start.saturating_add(BANK_AND_CONTROLLER[0].floor(kind));
+        events
+            .push(event(number, component, kind, (start, finish), parent))
+            .ok()?;
+        number = number.wrapping_add(1);
+    }
+    Some(events)
+}
+
+/// Writes what a weave leaves.
+fn write(rt: &HostRuntime, name: &str, found: Option<Outcome>) -> io::Result<()> {
+    let Some(found) = found else {
+        return println!(rt; "{name}: not woven");
+    };
+    println!(rt; "{name}")?;
+    for fired in &found.fired {
+        println!(rt;
+            "  event {} from {} to {}",
+            fired.number, fired.start, fired.finish
+        )?;
+    }
+    println!(rt; "  busy until {:?}", found.frees)
+}
+
+/// Weaves the events of these rows in every way.
+fn woven<T: Threads + Sync>(
+    threads: &T,
     alloc: Global,
-    events: &[Event],
+    rows: &[Row],
     servers: &[Server],
     layout: Layout,
-    workers: u16,
-) -> Result<(Vec<Cycle>, Vec<Cycle>), Fail> {
-    let list = Vec::from_slice(alloc, events)?;
-    let (graph, parts) = partitioned(alloc, list, servers, layout)?.ok_or("no graph")?;
-    let own = Vec::from_slice(alloc, servers)?;
-    let woven = woven_by_workers(rt, alloc, &graph, &parts, own, workers, &OpenGate)?;
-    let woven = woven.ok_or("no weave")?;
-    let times = woven.fired.as_slice().iter();
-    let finishes = times.map(|fired| fired.finish).collect(alloc)?;
-    let servers = woven.comps.as_slice().iter();
-    let frees = servers.map(|server| server.free).collect(alloc)?;
-    Ok((finishes, frees))
+) -> Option<Outcome> {
+    let events = listed(alloc, rows)?;
+    every_way(threads, alloc, &events, servers, layout, &WORKERS)
 }
 
-/// A look-up that could start at cycle 0.
-fn lookup(number: u32, component: u16, parent: Option<u32>) -> Event {
-    event(number, component, Kind::Lookup, (0, 10), parent)
-}
-
-#[test]
-fn two_misses_are_woven_by_any_number_of_workers(rt: HostRuntime) -> Result<(), Fail> {
+/// Writes the worked weaves.
+pub(crate) fn run<T: Threads + Sync>(rt: &HostRuntime, threads: &T) -> io::Result<()> {
     let alloc = rt.alloc();
-    let events = [
-        event(0, 0, Kind::Lookup, (2, 12), None),
-        event(1, 1, Kind::Read, (12, 112), Some(0)),
-        event(2, 0, Kind::Fill, (112, 114), Some(1)),
-        event(3, 0, Kind::Lookup, (2, 12), None),
-        event(4, 1, Kind::Read, (12, 112), Some(3)),
-        event(5, 0, Kind::Fill, (112, 114), Some(4)),
-    ];
-    let servers = [
-        Server {
-            occupancy: 4,
-            free: 0,
-        },
-        Server {
-            occupancy: 20,
-            free: 0,
-        },
-    ];
-    let layout = Layout {
-        domains: 2,
-        banks: &[0],
-        controllers: &[1],
-    };
-    for workers in WORKERS {
-        let (finishes, frees) = woven(&rt, alloc, &events, &servers, layout, workers)?;
-        assert_eq!(rt;
-            finishes.as_slice(),
-            [12, 112, 114, 16, 132, 134].as_slice()
-        );
-        assert_eq!(rt; frees.as_slice(), [136, 52].as_slice());
-    }
-    Ok(())
+    let misses = woven(threads, alloc, &TWO_MISSES, &BANK_AND_CONTROLLER, ONE_BANK);
+    write(
+        rt,
+        "two misses wait for each other at a bank and a controller",
+        misses,
+    )?;
+    let ring = woven(threads, alloc, &RING, &BANKS, TWO_BANKS);
+    write(rt, "a ring of two banks", ring)?;
+    let tie = woven(threads, alloc, &TIE, &BANKS, TWO_BANKS);
+    write(rt, "at a tie the lesser number is served first", tie)
 }
 
-/// Event 0 is the parent of one event in each of 63 other domains.
-#[test]
-fn one_event_lets_sixty_three_domains_start(rt: HostRuntime) -> Result<(), Fail> {
-    let alloc = rt.alloc();
-    let mut banks = Vec::new(alloc);
-    let mut events = Vec::new(alloc);
-    let mut wanted: Vec<Cycle> = Vec::new(alloc);
-    for bank in 0..64u16 {
-        banks.push(bank)?;
-        let parent = if bank == 0 { None } else { Some(0) };
-        events.push(lookup(u32::from(bank), bank, parent))?;
-        wanted.push(if bank == 0 { 10 } else { 20 })?;
-    }
-    let servers = idle(alloc, 65, 4)?;
-    let layout = Layout {
-        domains: 64,
-        banks: &banks,
-        controllers: &[0],
-    };
-    for workers in WORKERS {
-        let (finishes, _frees) = woven(&rt, alloc, &events, &servers, layout, workers)?;
-        assert_eq!(rt; finishes.as_slice(), wanted.as_slice());
-    }
-    Ok(())
+/// What two workers leave of the ring at a gate.
+fn woven_at<T: Threads + Sync>(threads: &T, alloc: Global, gate: &MeetingGate) -> Option<Outcome> {
+    let events = listed(alloc, &RING)?;
+    let (graph, parts) = partitioned(alloc, events, &BANKS, TWO_BANKS).ok()??;
+    Some(by_workers(threads, alloc, &graph, &parts, &BANKS, 2, gate)?.0)
 }
 
-#[test]
-fn events_of_one_bank_follow_each_other(rt: HostRuntime) -> Result<(), Fail> {
-    let alloc = rt.alloc();
-    let mut events = Vec::new(alloc);
-    let mut wanted: Vec<Cycle> = Vec::new(alloc);
-    for number in 0..100_000u32 {
-        events.push(lookup(number, 0, None))?;
-        wanted.push(4 * u64::from(number) + 10)?;
-    }
-    let servers = idle(alloc, 3, 4)?;
-    let layout = Layout {
-        domains: 2,
-        banks: &[0, 1],
-        controllers: &[1],
-    };
-    for workers in [1, 2] {
-        let (finishes, frees) = woven(&rt, alloc, &events, &servers, layout, workers)?;
-        assert_eq!(rt; finishes.as_slice(), wanted.as_slice());
-        assert_eq!(rt; frees.as_slice(), [400_000, 0, 0].as_slice());
-    }
-    Ok(())
-}
-
-/// Event i is on bank i modulo 2 and waits for event i - 1.
-#[test]
-fn a_chain_goes_to_and_fro_between_two_domains(rt: HostRuntime) -> Result<(), Fail> {
-    let alloc = rt.alloc();
-    let mut events = Vec::new(alloc);
-    let mut wanted: Vec<Cycle> = Vec::new(alloc);
-    for number in 0..1_000u32 {
-        events.push(lookup(number, (number % 2) as u16, number.checked_sub(1)))?;
-        wanted.push(10 * u64::from(number) + 10)?;
-    }
-    let servers = idle(alloc, 3, 4)?;
-    let layout = Layout {
-        domains: 2,
-        banks: &[0, 1],
-        controllers: &[1],
-    };
-    for workers in WORKERS {
-        let (finishes, _frees) = woven(&rt, alloc, &events, &servers, layout, workers)?;
-        assert_eq!(rt; finishes.as_slice(), wanted.as_slice());
-    }
-    Ok(())
+/// Domains 0 and 1 both come to their first fire before either makes it, so two workers run them
+/// beside each other.
+pub(crate) fn run_at_a_gate<T: Threads + Sync>(rt: &HostRuntime, threads: &T) -> io::Result<()> {
+    let gate = MeetingGate::new();
+    let found = woven_at(threads, rt.alloc(), &gate);
+    write(
+        rt,
+        "two workers fire in two domains beside each other",
+        found,
+    )?;
+    println!(rt; "  {:?}", gate.domains())
 }
