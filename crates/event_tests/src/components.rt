@@ -1,6 +1,8 @@
 //! Components: worked cycles, and that the calls succeed, at the largest machine too.
-use crate::machines::edited_machine;
+use crate::machines::edited;
 use component::{Bank, Comp, Component, Comps, Controller, Kind, components};
+use machine_desc::read;
+use std::alloc::Global;
 use std::test::Fail;
 
 #[test]
@@ -29,27 +31,39 @@ fn two_misses_at_once_wait_for_bank_and_controller(rt: HostRuntime) {
     assert_eq!(rt; (first, second, bank.free), (114, 134, 136));
 }
 
+/// The components of the machine of the edited text.
+fn comps_of(alloc: Global, edits: &[(&str, &str)]) -> Result<Comps<Comp>, Fail> {
+    let text = edited(alloc, edits)?;
+    let machine = read(alloc, text.as_bytes())?;
+    Ok(components(alloc, &machine)?)
+}
+
+/// Components of the plain machine, kinds, and the least time of an event, where it is served.
+static FLOORS: [(usize, Kind, Option<u64>); 7] = [
+    (0, Kind::Lookup, Some(10)),
+    (0, Kind::Remote, Some(15)),
+    (0, Kind::Fill, Some(2)),
+    (0, Kind::Read, None),
+    (1, Kind::Read, Some(100)),
+    (1, Kind::Write, Some(40)),
+    (1, Kind::Fill, None),
+];
+
+/// The least time of an event of a kind on a component that serves it and is free.
+fn floor(comps: &[Comp], number: usize, kind: Kind) -> Option<u64> {
+    let comp = comps.get(number)?;
+    (comp.serves(kind) && comp.free() == 0).then(|| comp.floor(kind))
+}
+
 #[test]
 fn the_plain_machine_has_a_bank_and_then_a_controller(rt: HostRuntime) -> Result<(), Fail> {
-    let machine = edited_machine(rt.alloc(), &[])?;
-    let mut comps = components(rt.alloc(), &machine)?;
-    let floors = [
-        (0, Kind::Lookup, 10),
-        (0, Kind::Remote, 15),
-        (0, Kind::Fill, 2),
-        (1, Kind::Read, 100),
-        (1, Kind::Write, 40),
-    ];
-    for (number, kind, floor) in floors {
-        let list = comps.as_slice();
-        assert!(rt; number < list.len() && list[number].serves(kind));
-        assert_eq!(rt; (list[number].floor(kind), list[number].free()), (floor, 0));
+    let mut comps = comps_of(rt.alloc(), &[])?;
+    for &(number, kind, wanted) in &FLOORS {
+        let found = floor(comps.as_slice(), number, kind);
+        assert_eq!(rt; found, wanted, "{number} {kind:?}");
     }
     assert_eq!(rt; comps.as_mut_slice().len(), 2);
-    let list = comps.into_list();
-    assert_eq!(rt; list.len(), 2);
-    assert!(rt; !list[0].serves(Kind::Read) && !list[1].serves(Kind::Fill));
-    assert_eq!(rt; Comps::of(list).as_slice().len(), 2);
+    assert_eq!(rt; Comps::of(comps.into_list()).as_slice().len(), 2);
     Ok(())
 }
 
@@ -76,16 +90,12 @@ const MOST_COMPONENTS: [(&str, &str); 6] = [
 
 #[test]
 fn the_largest_machine_has_80_components(rt: HostRuntime) -> Result<(), Fail> {
-    let machine = edited_machine(rt.alloc(), &MOST_COMPONENTS)?;
-    let comps = components(rt.alloc(), &machine)?;
+    let comps = comps_of(rt.alloc(), &MOST_COMPONENTS)?;
     let list = comps.as_slice();
     assert_eq!(rt; list.len(), 80);
     for (number, is_bank) in [(0, true), (63, true), (64, false), (79, false)] {
-        assert_eq!(rt;
-            matches!(list[number], Comp::Bank(_)),
-            is_bank,
-            "at {number}"
-        );
+        let found = matches!(list.get(number), Some(Comp::Bank(_)));
+        assert_eq!(rt; found, is_bank, "at {number}");
     }
     Ok(())
 }

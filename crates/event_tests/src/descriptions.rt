@@ -1,8 +1,10 @@
 //! Descriptions and what they read as. The texts are the built-in one with some words changed.
-use crate::machines::edited;
+use crate::machines::{edited, machine_of};
 use machine_desc::{
-    BadMachine, Controllers, L1, L2, MachineFail, Memory, PLAIN, component_count, domain_of, read,
+    BadMachine, Controllers, KeyName, L1, L2, MachineFail, Memory, PLAIN, component_count,
+    domain_of, read,
 };
+use std::alloc::Global;
 use std::process::Abort;
 use std::test::Fail;
 
@@ -223,7 +225,7 @@ static DOMAINS: [Case; 4] = [
 fn refuse(rt: &(impl Abort + AllocGlobal), cases: &[Case]) -> Result<(), Fail> {
     for (edits, number, key, value) in cases {
         let text = edited(rt.alloc(), edits)?;
-        match read(rt.alloc(), text.as_bytes()) {
+        match machine_of(rt.alloc(), text.as_bytes()) {
             Err(MachineFail::Bad(bad)) => {
                 assert_eq!(rt;
                     answer_of(&bad),
@@ -258,7 +260,7 @@ fn text_that_is_not_toml_is_refused(rt: HostRuntime) {
     for text in texts {
         assert!(rt;
             matches!(
-                read(rt.alloc(), text),
+                machine_of(rt.alloc(), text),
                 Err(MachineFail::Bad(BadMachine::Text))
             )
         );
@@ -267,21 +269,17 @@ fn text_that_is_not_toml_is_refused(rt: HostRuntime) {
 
 #[test]
 fn the_built_in_text_reads_as_its_machine(rt: HostRuntime) -> Result<(), Fail> {
-    let machine = read(rt.alloc(), PLAIN.as_bytes())?;
-    assert_eq!(rt; (machine.version, machine.cores), (1, 1));
-    assert_eq!(rt; (machine.interval, machine.intervals), (10000, 100000));
+    let machine = machine_of(rt.alloc(), PLAIN.as_bytes())?;
     let memory = Memory {
         base: 65536,
         size: 1048576,
         stack: 4096,
     };
-    assert_eq!(rt; machine.memory, memory);
     let l1 = L1 {
         sets: 2,
         ways: 1,
         latency: 1,
     };
-    assert_eq!(rt; machine.l1, l1);
     let l2 = L2 {
         banks: 1,
         sets: 4,
@@ -291,17 +289,34 @@ fn the_built_in_text_reads_as_its_machine(rt: HostRuntime) -> Result<(), Fail> {
         fill: 2,
         occupancy: 4,
     };
-    assert_eq!(rt; machine.l2, l2);
     let controllers = Controllers {
         count: 1,
         read: 100,
         write: 40,
         occupancy: 20,
     };
-    assert_eq!(rt; machine.controllers, controllers);
-    assert_eq!(rt; machine.domains.count, 2);
-    assert_eq!(rt; machine.domains.banks.as_slice(), [0].as_slice());
-    assert_eq!(rt; machine.domains.controllers.as_slice(), [1].as_slice());
+    assert_eq!(rt;
+        (
+            machine.version,
+            machine.cores,
+            machine.interval,
+            machine.intervals
+        ),
+        (1, 1, 10000, 100000)
+    );
+    assert_eq!(rt;
+        (machine.memory, machine.l1, machine.l2, machine.controllers),
+        (memory, l1, l2, controllers)
+    );
+    let domains = &machine.domains;
+    assert_eq!(rt;
+        (
+            domains.count,
+            domains.banks.as_slice(),
+            domains.controllers.as_slice()
+        ),
+        (2, [0].as_slice(), [1].as_slice())
+    );
     Ok(())
 }
 
@@ -329,32 +344,54 @@ domains.banks = [
 domains.controllers = [63, 62, 61, 60, 59, 58, 57, 56, 55, 54, 53, 52, 51, 50, 49, 48]
 ";
 
+/// The domain of each component of the machine that a text reads as.
+fn domains_of(alloc: Global, text: &[u8]) -> Result<Vec<u16>, Fail> {
+    let machine = read(alloc, text)?;
+    let mut domains = Vec::new(alloc);
+    for component in 0..component_count(&machine) {
+        domains.push(domain_of(&machine, component))?;
+    }
+    Ok(domains)
+}
+
 #[test]
 fn the_greatest_machine_is_read(rt: HostRuntime) -> Result<(), Fail> {
-    let machine = read(rt.alloc(), GREATEST.as_bytes())?;
-    assert_eq!(rt; machine.memory.base, 0x100_0000_0000);
-    assert_eq!(rt; (machine.l1.sets, machine.l2.remote), (4096, 65536));
-    assert_eq!(rt; component_count(&machine), 80);
+    let machine = machine_of(rt.alloc(), GREATEST.as_bytes())?;
+    assert_eq!(rt;
+        (machine.memory.base, machine.l1.sets, machine.l2.remote),
+        (0x100_0000_0000, 4096, 65536)
+    );
+    let domains = domains_of(rt.alloc(), GREATEST.as_bytes())?;
+    assert_eq!(rt; domains.len(), 80);
     for (component, domain) in [(0, 0), (63, 63), (64, 63), (79, 48)] {
-        assert_eq!(rt; domain_of(&machine, component), domain);
+        assert_eq!(rt; domains.get(component).copied(), Some(domain));
     }
     Ok(())
 }
 
+/// The key of the refusal, if a text is refused for a key that is unknown.
+fn unknown_key(alloc: Global, text: &str) -> Option<KeyName> {
+    match read(alloc, text.as_bytes()) {
+        Err(MachineFail::Bad(BadMachine::Unknown { key })) => Some(key),
+        _ => None,
+    }
+}
+
 #[test]
-fn a_long_name_and_a_long_text_are_read(rt: HostRuntime) -> Result<(), Fail> {
+fn a_long_name_is_told(rt: HostRuntime) -> Result<(), Fail> {
     let name = "colour".repeat(rt.alloc(), 200)?;
     let line = format!(in rt.alloc(); "100000\n{name} = 1")?;
     let text = edited(rt.alloc(), &[("100000", line.as_str())])?;
-    match read(rt.alloc(), text.as_bytes()) {
-        Err(MachineFail::Bad(BadMachine::Unknown { key })) => {
-            assert_eq!(rt; key.as_slice(), name.as_bytes())
-        }
-        _ => panic!(rt; "not refused"),
-    }
+    let key = unknown_key(rt.alloc(), &text).ok_or("not refused")?;
+    assert_eq!(rt; key.as_slice(), name.as_bytes());
+    Ok(())
+}
+
+#[test]
+fn a_long_text_is_read(rt: HostRuntime) -> Result<(), Fail> {
     let comments = "# a line of a comment\n".repeat(rt.alloc(), 40_000)?;
     let text = format!(in rt.alloc(); "{comments}{PLAIN}")?;
-    let machine = read(rt.alloc(), text.as_bytes())?;
+    let machine = machine_of(rt.alloc(), text.as_bytes())?;
     assert_eq!(rt; machine.interval, 10000);
     Ok(())
 }
@@ -396,7 +433,7 @@ static WORDS: [(&[(&str, &str)], &str); 7] = [
 fn a_refusal_is_told_in_words(rt: HostRuntime) -> Result<(), Fail> {
     for (edits, words) in &WORDS {
         let text = edited(rt.alloc(), edits)?;
-        match read(rt.alloc(), text.as_bytes()) {
+        match machine_of(rt.alloc(), text.as_bytes()) {
             Ok(_) => panic!(rt; "not refused: {words}"),
             Err(fail) => {
                 let told = format!(in rt.alloc(); "{fail}")?;

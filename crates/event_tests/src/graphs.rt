@@ -1,119 +1,124 @@
 //! Graphs of loads: worked cycles, and that the calls succeed.
-ghost use Rattle.std.specs.Prelude.{◌<◌, ◌≤◌, ◌^◌, All, IfOk, length, sum_by};
-ghost use Rattle.event_graph.specs.Timing.{pieces_of};
-
-use crate::loads::{MISS, load};
+use crate::loads::{MISS, entry, graph_of};
 use crate::machines::two_cores;
-use event_graph::{Event, Expand, Fired, FiredList, Graph, Kind, Parent, Plain, build, laws};
+use event_graph::{Event, Expand, Fired, FiredList, Graph, Kind, Parent, Plain};
 use std::alloc::Global;
 use std::test::Fail;
-use zs_num::{Entries, NoMemory, Outcome};
+use zs_num::{Cycle, NoMemory, Outcome};
+
+/// Outcomes, and the time at zero load and the number of events of each.
+static AT_ZERO_LOAD: [(Outcome, u64, u16); 7] = [
+    (Outcome::Hit, 1, 0),
+    (Outcome::Upgrade { others: false }, 11, 1),
+    (Outcome::Upgrade { others: true }, 16, 1),
+    (Outcome::L2 { others: false }, 11, 1),
+    (Outcome::L2 { others: true }, 16, 1),
+    (MISS, 113, 3),
+    (Outcome::Miss { dirty_victim: true }, 113, 4),
+];
+
+/// The time at zero load and the number of events of a load with this outcome.
+fn at_zero_load(alloc: Global, outcome: Outcome) -> Result<(u64, u16), NoMemory> {
+    let plain = Plain::of(&two_cores(alloc)?);
+    let entry = entry(&(0, 6, outcome));
+    Ok((plain.time(&entry), plain.count(&entry)))
+}
 
 #[test]
 fn accesses_take_their_zero_load_times(rt: HostRuntime) -> Result<(), Fail> {
-    let x = Plain::of(&two_cores(rt.alloc())?);
-    let cases = [
-        (Outcome::Hit, 1, 0),
-        (Outcome::Upgrade { others: false }, 11, 1),
-        (Outcome::Upgrade { others: true }, 16, 1),
-        (Outcome::L2 { others: false }, 11, 1),
-        (Outcome::L2 { others: true }, 16, 1),
-        (MISS, 113, 3),
-        (Outcome::Miss { dirty_victim: true }, 113, 4),
-    ];
-    for (outcome, time, count) in cases {
-        let entry = load(0, 6, outcome);
-        assert_eq!(rt;
-            (x.time(&entry), x.count(&entry)),
-            (time, count),
-            "{outcome:?}"
-        );
+    for &(outcome, time, count) in &AT_ZERO_LOAD {
+        let found = at_zero_load(rt.alloc(), outcome)?;
+        assert_eq!(rt; found, (time, count), "{outcome:?}");
     }
     Ok(())
+}
+
+/// The core, the component, the kind, the first and last cycle in the bound phase and the parent of
+/// an event, and whether its core waits for it.
+type Row = (u16, u16, Kind, Cycle, Cycle, Option<u32>, bool);
+
+static SIX_EVENTS: [Row; 6] = [
+    (0, 0, Kind::Lookup, 2, 12, None, false),
+    (0, 1, Kind::Read, 12, 112, Some(0), false),
+    (0, 0, Kind::Fill, 112, 114, Some(1), true),
+    (1, 0, Kind::Lookup, 2, 12, None, false),
+    (1, 1, Kind::Read, 12, 112, Some(3), false),
+    (1, 0, Kind::Fill, 112, 114, Some(4), true),
+];
+
+/// The event of a row.
+fn event_of(number: u32, row: &Row) -> Event {
+    let &(core, component, kind, min_start, min_finish, parent, critical) = row;
+    let first = match parent {
+        Some(number) => Some(Parent { number, delay: 0 }),
+        None => None,
+    };
+    Event {
+        number,
+        core,
+        component,
+        kind,
+        min_start,
+        min_finish,
+        critical,
+        first,
+        second: None,
+    }
 }
 
 #[test]
 fn two_cores_that_miss_at_once_make_six_events(rt: HostRuntime) -> Result<(), Fail> {
-    let x = Plain::of(&two_cores(rt.alloc())?);
-    let entries = Entries::of(vec![in rt.alloc(); load(0, 1, MISS), load(1, 1, MISS)]?);
-    let graph = build(rt.alloc(), &x, &entries, 2)?;
-    let wanted = [
-        (0, 0, Kind::Lookup, 2, 12, None, false),
-        (0, 1, Kind::Read, 12, 112, Some(0), false),
-        (0, 0, Kind::Fill, 112, 114, Some(1), true),
-        (1, 0, Kind::Lookup, 2, 12, None, false),
-        (1, 1, Kind::Read, 12, 112, Some(3), false),
-        (1, 0, Kind::Fill, 112, 114, Some(4), true),
-    ];
-    let events = graph.events();
-    assert_eq!(rt; events.len(), wanted.len());
-    for i in 0..wanted.len() {
-        let (core, component, kind, min_start, min_finish, parent, critical) = wanted[i];
-        let first = match parent {
-            None => None,
-            Some(number) => Some(Parent { number, delay: 0 }),
-        };
-        let event = Event {
-            number: i as u32,
-            core,
-            component,
-            kind,
-            min_start,
-            min_finish,
-            critical,
-            first,
-            second: None,
-        };
-        assert_eq!(rt; events[i], event);
+    let graph = graph_of(&rt, &[(0, 1, MISS), (1, 1, MISS)])?;
+    let mut wanted = Vec::new(rt.alloc());
+    let mut number = 0u32;
+    for row in &SIX_EVENTS {
+        wanted.push(event_of(number, row))?;
+        number = number.wrapping_add(1);
     }
+    assert_eq!(rt; graph.events(), wanted.as_slice());
     Ok(())
+}
+
+/// Of two misses of a core, the finish of the first, and the start, the first parent and the finish
+/// of the second.
+fn first_and_second(events: &[Event]) -> Option<(Cycle, Cycle, Option<Parent>, Cycle)> {
+    if events.len() != 6 {
+        return None;
+    }
+    let (first, second) = (events[2], events[3]);
+    Some((
+        first.min_finish,
+        second.min_start,
+        second.first,
+        events[5].min_finish,
+    ))
 }
 
 #[test]
 fn a_core_goes_on_from_its_last_critical_event(rt: HostRuntime) -> Result<(), Fail> {
-    let x = Plain::of(&two_cores(rt.alloc())?);
-    let entries = Entries::of(vec![in rt.alloc(); load(0, 2, MISS), load(0, 116, MISS)]?);
-    let graph = build(rt.alloc(), &x, &entries, 1)?;
-    let events = graph.events();
-    assert_eq!(rt; events.len(), 6);
-    assert_eq!(rt; (events[2].min_finish, events[3].min_start), (115, 117));
-    assert_eq!(rt;
-        events[3].first,
-        Some(Parent {
-            number: 2,
-            delay: 2
-        })
-    );
-    assert_eq!(rt; events[5].min_finish, 229);
+    let graph = graph_of(&rt, &[(0, 2, MISS), (0, 116, MISS)])?;
+    let parent = Parent {
+        number: 2,
+        delay: 2,
+    };
+    let wanted = Some((115, 117, Some(parent), 229));
+    assert_eq!(rt; first_and_second(graph.events()), wanted);
     Ok(())
-}
-
-/// So many misses of core 0 at one cycle.
-fn misses(alloc: Global, x: &Plain, count: usize) -> Result<Entries, NoMemory>
-    requires { count ≤ 2 ^ 20 }
-    ensures cores { IfOk result (All (λ e. e.core < 2)) }
-    ensures starts { IfOk result (All (λ e. e.start < 2 ^ 62)) }
-    ensures few { IfOk result (λ entries. sum_by (λ e. length (pieces_of x.now.l1 x.now.l2 x.now.controllers e)) entries < 2 ^ 32) }
-{
-    laws::plain_accesses_have_few_events();
-    let entries = vec![in alloc; load(0, 1, MISS); count]?;
-    Ok(Entries::of(entries))
 }
 
 #[test]
 fn a_graph_may_have_more_events_than_two_bytes_count(rt: HostRuntime) -> Result<(), Fail> {
-    let x = Plain::of(&two_cores(rt.alloc())?);
-    let entries = misses(rt.alloc(), &x, 22_000)?;
-    let graph = build(rt.alloc(), &x, &entries, 2)?;
-    let events = graph.events();
-    assert_eq!(rt; events.len(), 66_000);
-    let last = events[65_999];
-    assert_eq!(rt; last.number, 65_999);
+    let loads = vec![in rt.alloc(); (0, 1, MISS); 22_000]?;
+    let graph = graph_of(&rt, &loads)?;
+    let last = graph.events().last().ok_or("no event")?;
     let parent = Parent {
         number: 65_998,
         delay: 0,
     };
-    assert_eq!(rt; last.first, Some(parent));
+    assert_eq!(rt;
+        (graph.events().len(), last.number, last.first),
+        (66_000, 65_999, Some(parent))
+    );
     Ok(())
 }
 

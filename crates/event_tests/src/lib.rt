@@ -4,8 +4,6 @@
 #[cfg(test)]
 mod components;
 #[cfg(test)]
-mod delays;
-#[cfg(test)]
 mod descriptions;
 #[cfg(test)]
 mod domains;

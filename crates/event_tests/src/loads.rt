@@ -1,28 +1,63 @@
-//! Loads as a log has them.
-ghost use Rattle.std.specs.Prelude.{◌≡◌};
+//! Loads as a log has them, and their graph on a small machine.
+ghost use Rattle.std.specs.Prelude.{◌<◌, ◌^◌, All, IsTrue, length, sum_by};
+ghost use Rattle.event_graph.specs.Timing.{pieces_of};
 
-use zs_num::{Cycle, Entry, Outcome, Request};
+use crate::machines::two_cores;
+use event_graph::{Graph, Plain, build, laws};
+use std::process::Abort;
+use std::test::Fail;
+use zs_num::{Cycle, Entries, Entry, Outcome, Request};
 
 /// A miss whose victim is clean.
 pub(crate) const MISS: Outcome = Outcome::Miss {
     dirty_victim: false,
 };
 
-/// A load of core `core` that starts then.
-pub(crate) fn load(core: u16, start: Cycle, outcome: Outcome) -> Entry
-    ensures core { result.core ≡ core }
-    ensures start { result.start ≡ start }
-    ensures outcome { result.outcome ≡ outcome }
-{
+/// A core, the cycle at which its load starts, and the outcome.
+pub(crate) type Load = (u16, Cycle, Outcome);
+
+/// The entry of a load.
+pub(crate) fn entry(load: &Load) -> Entry {
     Entry {
-        core,
+        core: load.0,
         stamp: 1,
-        start,
+        start: load.1,
         request: Request::Load {
             addr: 0x11000,
             width: 8,
         },
         reply: 0,
-        outcome,
+        outcome: load.2,
     }
+}
+
+/// Whether all these are entries of two cores, at cycles of a run.
+fn are_of_two_cores(entries: &[Entry]) -> bool
+    ensures cores { IsTrue result → All (λ e. e.core < 2) entries.now }
+    ensures starts { IsTrue result → All (λ e. e.start < 2 ^ 62) entries.now }
+{
+    let cores = entries.iter().all(|entry| entry.core < 2);
+    let starts = entries.iter().all(|entry| entry.start < 1 << 62);
+    cores && starts
+}
+
+/// Whether these entries have fewer events than there are numbers for.
+fn are_few(plain: &Plain, entries: &[Entry]) -> bool
+    ensures { IsTrue result → sum_by (λ e. length (pieces_of plain.now.l1 plain.now.l2 plain.now.controllers e)) entries.now < 2 ^ 32 }
+{
+    laws::plain_accesses_have_few_events();
+    let _plain = plain;
+    entries.len() <= 1 << 20
+}
+
+/// The graph that loads make on the machine of two cores.
+pub(crate) fn graph_of(rt: &(impl Abort + AllocGlobal), loads: &[Load]) -> Result<Graph, Fail> {
+    let mut entries = Vec::with_capacity(rt.alloc(), loads.len())?;
+    for load in loads {
+        entries.push(entry(load))?;
+    }
+    let plain = Plain::of(&two_cores(rt.alloc())?);
+    assert!(rt; are_of_two_cores(&entries));
+    assert!(rt; are_few(&plain, &entries));
+    Ok(build(rt.alloc(), &plain, &Entries::of(entries), 2)?)
 }

@@ -3,9 +3,10 @@ ghost use Rattle.std.specs.Prelude.{◌≡◌, IfOk};
 ghost use Rattle.machine_desc.specs.Components.{component_count};
 ghost use Rattle.machine_desc.specs.Machine.{IsMachine};
 
-use machine_desc::{Controllers, Domains, L1, L2, Machine, Memory, PLAIN, Places, read};
+use machine_desc::{
+    Controllers, Domains, L1, L2, Machine, MachineFail, Memory, PLAIN, Places, read,
+};
 use std::alloc::{AllocError, Global};
-use std::test::Fail;
 use zs_num::NoMemory;
 
 /// The built-in text with each first word of a pair replaced by the second.
@@ -17,12 +18,9 @@ pub(crate) fn edited(alloc: Global, edits: &[(&str, &str)]) -> Result<String, Al
     Ok(text)
 }
 
-/// The machine of the edited text.
-pub(crate) fn edited_machine(alloc: Global, edits: &[(&str, &str)]) -> Result<Machine, Fail>
-    ensures { IfOk result IsMachine }
-{
-    let text = edited(alloc, edits)?;
-    Ok(read(alloc, text.as_bytes())?)
+/// What a text reads as.
+pub(crate) fn machine_of(alloc: Global, text: &[u8]) -> Result<Machine, MachineFail> {
+    read(alloc, text)
 }
 
 /// Two cores, one bank in domain 0 and one controller in domain 1.

@@ -21,7 +21,7 @@ use zs_num::NoMemory;
 
 /// The caches of one shard's lines: a cache for each core, and for each set of the L2 its lines and
 /// a directory of them.
-#[derive(Debug, Drop)]
+#[derive(Drop)]
 pub(crate) struct CacheLists {
     shards: u64,
     l1_ways: u16,

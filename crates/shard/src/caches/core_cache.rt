@@ -12,7 +12,7 @@ use std::marker::Model;
 use zs_num::NoMemory;
 
 /// The copies of a shard's lines that a core has, by set.
-#[derive(Debug, Drop)]
+#[derive(Drop)]
 pub(crate) struct CoreCache {
     shards: u64,
     ways: u16,

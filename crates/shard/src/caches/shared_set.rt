@@ -11,7 +11,7 @@ use std::marker::Model;
 use zs_num::NoMemory;
 
 /// The lines of one set of the L2, and which cores have each.
-#[derive(Debug, Drop)]
+#[derive(Drop)]
 pub(crate) struct SharedSet {
     set: Set,
     directory: Directory,
