@@ -629,74 +629,212 @@ def words_of(text):
     return elf([int(w, 16) for w in text.split()])
 
 
-SEVEN = words_of("00700513 05D00893 00000073")
-STATUS = {"ran": "status 0\n", "limit": "zsim: stopped at the limit\nstatus 3\n"}
+class Cannot(Exception):
+    """What cannot be done with a file: read, or write."""
+
+
+class Untold(Exception):
+    """The model does not tell whether a description or an executable passes its checks."""
+
+
+class Names:
+    """What names hold. Reads and writes are counted together, and those with these numbers fail."""
+
+    def __init__(self, fail=()):
+        self.held, self.fail, self.calls = {}, fail, 0
+
+    def counted(self, what, is_there=True):
+        """Counts a call, which fails where it is to or where what it asks for is not there."""
+        self.calls += 1
+        if self.calls - 1 in self.fail or not is_there:
+            raise Cannot(what)
+
+    def read(self, name):
+        self.counted("read", name in self.held)
+        return self.held[name]
+
+    def write(self, name, file):
+        self.counted("write")
+        self.held[name] = file
+
+
+class Sure(Names):
+    """The same, of which no call fails. A name that was never written holds no bytes."""
+
+    def read(self, name):
+        return self.held.get(name, b"")
+
+
+class Beside:
+    """The files beside the cases."""
+
+    def read(self, name):
+        return beside(name)
+
+
+class Ended:
+    """What a call puts on both streams, and the number of its status."""
+
+    def __init__(self, status, error="", output=""):
+        self.status, self.error, self.output = status, error, output
+
+    def text(self):
+        return told(self.output) + told(self.error) + f"status {self.status}\n"
+
+
+def told(text):
+    """Returns what is told of a stream: of a long one its length and its ends. Dots stand behind a line without an end."""
+    if len(text) > 20_000:
+        text = f"{len(text)} bytes: {text[:32]}..{text[-9:]}"
+    return text if not text or text.endswith("\n") else text + "..\n"
 
 
 class Cases:
-    """What the cases answer, and the names that they hold."""
+    """What the cases answer, the names that they hold, and what cuts the streams of the next call."""
 
     def __init__(self):
-        self.held = {}
+        self.names, self.cuts = Names(), {}
 
     def answer(self, case):
         """Returns what a case answers. None where the model does not tell."""
         kind, _, rest = case.partition(" ")
         if kind == "#":
             return case + "\n"
+        if kind == "anew":
+            self.names = Names([int(number) for number in rest.split()])
+            return ""
+        if kind in ("out", "err"):
+            self.cuts[kind] = [int(number) for number in rest.split()]
+            return ""
         if kind == "hold":
-            return self.hold(*rest.split(" ", 2))
+            name, contents = rest.split(" ", 1)
+            self.names.held[name] = contents_of(contents)
+            return ""
         if kind == "show":
-            return rest + "".join(f" {byte:02x}" for byte in self.held[rest]) + "\n"
-        if kind in ("call", "files"):
-            return self.call(rest.replace("=", " ").split(), self.held.__getitem__ if kind == "call" else beside)
+            return rest + "".join(f" {byte:02x}" for byte in self.names.held[rest]) + "\n"
+        if kind in ("race", "count", "owners", "meet", "again"):
+            self.cuts = {}
+            return None
+        ended = self.ended(kind, rest)
+        return None if ended is None else ended.text()
+
+    def ended(self, kind, rest):
+        """Returns how the call of a case ends. None where the model does not tell."""
+        names = Sure()
+        if kind == "call":
+            return self.cut(call_on(rest, self.names))
+        if kind == "sure":
+            names.held.update(self.names.held)
+            return call_on(rest, names)
+        if kind == "files":
+            return call_on(rest, Beside())
         if kind == "example":
-            return self.call(["run", "plain", rest], beside)
+            return call_on(f"run plain {rest}", Beside())
         if kind == "machine" and " : " in rest:
             changes, _, code = rest.partition(" : ")
-            return self.call(["run", "m", "A"], {"m": changed(changes).encode(), "A": words_of(code)}.__getitem__)
+            names.held.update(m=changed(changes).encode(), A=words_of(code))
+            return call_on("run m A", names)
         if kind == "code":
-            return self.call(["run", "plain", "A"], {"A": words_of(rest)}.__getitem__)
+            names.held.update(A=words_of(rest))
+            return call_on("run plain A", names)
         return None
 
-    def hold(self, name, kind, rest=""):
-        self.held[name] = {
-            "machine": lambda: changed(rest).encode(),
-            "code": lambda: words_of(rest),
-            "bytes": lambda: bytes(int(w, 16) for w in rest.split()),
-            "file": lambda: beside(rest),
-        }[kind]()
-        return ""
+    def cut(self, ended):
+        """Returns how a call ends on the streams that stand ready. Those of the next one take all."""
+        cuts, self.cuts = self.cuts, {}
+        if ended is None:
+            return None
+        output, fails = taken(ended.output, cuts.get("out", [1]))
+        if fails:
+            ended = Ended(5, "zsim: cannot write\n", output)
+        return Ended(ended.status, taken(ended.error, cuts.get("err", [1]))[0], ended.output)
 
-    def call(self, words, read):
-        command, machine, name, *options = [word for word in words if word != "--brief"]
-        if machine.startswith("--"):
-            command, *options, machine, name = [word for word in words if word != "--brief"]
-        options = dict(zip(options[::2], options[1::2]))
-        description = tomllib.loads(built_in() if machine == "plain" else read(machine).decode())
-        run = Machine(description, generated(int(name[4:])) if name.startswith("gen:") else read(name))
-        try:
-            lists = schedule_of(read(options["--schedule"]), description["cores"]) if command == "replay" else None
-        except BadSchedule as wrong:
-            return f"zsim: schedule {wrong}\nstatus 9\n"
+
+def taken(text, cut):
+    """Returns what a stream takes of a text, so many bytes a put, and whether one of its puts fails."""
+    most, *fail = cut
+    puts = [number for number in fail if number * most < len(text)]
+    return (text[: min(puts) * most], True) if puts else (text, False)
+
+
+def contents_of(text):
+    """Returns what a name holds, as a line says it."""
+    kind, _, rest = text.partition(" ")
+    if kind == "repeat":
+        byte, count = rest.split()
+        return bytes([int(byte, 16)]) * int(count)
+    return {
+        "machine": lambda: changed(rest).encode(),
+        "code": lambda: words_of(rest),
+        "bytes": lambda: bytes(int(w, 16) for w in rest.split()),
+        "text": lambda: rest.encode(),
+        "key": lambda: f'"{"é" * int(rest)}" = 1\n{built_in()}'.encode(),
+        "file": lambda: beside(rest),
+    }[kind]()
+
+
+def call_on(text, names):
+    """Returns how a call on words ends. None where that is told by a check of words, executables or descriptions."""
+    command, *words = [word for word in text.replace("=", " ").split() if word != "--brief"]
+    if command not in ("run", "replay"):
+        return None
+    first = words[0].startswith("--")
+    options, (machine, name) = (words[:-2], words[-2:]) if first else (words[2:], words[:2])
+    options = dict(zip(options[::2], options[1::2]))
+    try:
+        run = machine_of(machine, name, names)
+        cores = len(run.cores)
+        lists = lists_of(options["--schedule"], names, cores) if command == "replay" else None
         ended = run.run(lists)
         if isinstance(ended, tuple):
-            return f"zsim: schedule 7 {ended[0]} {ended[1]}\nstatus 9\n"
+            raise BadSchedule(f"7 {ended[0]} {ended[1]}")
+    except BadSchedule as wrong:
+        return Ended(9, f"zsim: schedule {wrong}\n")
+    except Cannot as what:
+        return Ended(4, f"zsim: cannot {what}\n")
+    except Untold:
+        return None
+    output = report(run, "--brief" in text.split())
+    try:
         if "--record" in options:
-            self.held[options["--record"]] = schedule_file(description["cores"], run.schedule)
-        return report(run, "--brief" in words) + STATUS[ended]
+            names.write(options["--record"], schedule_file(cores, run.schedule))
+    except Cannot as what:
+        return Ended(5, f"zsim: cannot {what}\n", output)
+    return Ended(*{"ran": (0, ""), "limit": (3, "zsim: stopped at the limit\n")}[ended], output)
+
+
+def machine_of(machine, name, names):
+    """Returns the machine that a word of a command names, with the executable in its memory."""
+    try:
+        description = tomllib.loads(built_in() if machine == "plain" else names.read(machine).decode())
+        file = generated(int(name[4:])) if name.startswith("gen:") else names.read(name)
+        if set(description) != set(tomllib.loads(built_in())) or file[:4] != b"\x7fELF":
+            raise Untold
+        return Machine(description, file)
+    except (tomllib.TOMLDecodeError, UnicodeDecodeError, KeyError, TypeError, struct.error) as wrong:
+        raise Untold from wrong
+
+
+def lists_of(name, names, cores):
+    """Returns the lists of a schedule's file."""
+    file = names.read(name)
+    if len(file) > 2**27:
+        raise Untold
+    return schedule_of(file, cores)
 
 
 def stored_answers(cases, text):
     """Returns what is stored for each case."""
     lines, answers = text.splitlines(keepends=True), []
     for case in cases:
-        count = 1
-        if case.startswith("hold "):
+        kind, count = case.split(" ", 1)[0], 1
+        is_line = kind in ("#", "describe", "show", "find", "kept") or kind == "again" and lines[0] == "the same\n"
+        if kind in ("hold", "anew", "out", "err"):
             count = 0
-        elif not case.startswith(("#", "describe ", "show ")):
+        elif not is_line:
             while not lines[count - 1].startswith("status "):
                 count += 1
+            count += {"count": 2, "meet": 2, "owners": 3}.get(kind, 0)
         answers.append("".join(lines[:count]))
         del lines[:count]
     return answers

@@ -1,119 +1,90 @@
-//! Cases from a file. Each line is one, and its first word says what the others are: the words of
-//! the command line; the name of an example; words over the files beside this one; the name of a
-//! machine description to be read; the instructions of an executable, or all its bytes, in
-//! hexadecimal digits; bytes of the executable that exits with seven that become others; changes to
-//! the built-in machine, and after ` : ` the instructions that run on it, if others than those that
-//! exit with seven; or the text of a machine description, or its bytes. A line with `#` is for the
-//! reader.
+//! Cases from a file. Each line is one, and its first word says what the others are:
 //!
-//! Of a few lines in a row: `hold NAME` and what the name then holds, which is changes to the
-//! built-in machine, instructions, bytes, or a file beside this one; `call` and words over the
-//! names that are held; `race` and such words, where the order of accesses is not the same in each
-//! run; and `show NAME`, which writes the bytes that the name holds.
+//! - `#`: a line for the reader.
+//! - `words WORDS`: the words of a call, where A holds the executable that exits with seven.
+//! - `example NAME`: `run plain NAME`, over the files beside this one.
+//! - `files WORDS`: the words of a call over these files.
+//! - `describe NAME`: a machine description among them. Its numbers of cores, banks, controllers and
+//!   domains are written.
+//! - `exe CONTENTS`: `run plain A`, where A holds these (`contents.rt`); `code ..`: the same of
+//!   instructions.
+//! - `spoil NUMBERS`: the same of the executable that exits with seven, with other bytes.
+//! - `description CONTENTS`: `run m A`, where m holds these, and A the executable that exits with
+//!   seven.
+//! - `machine CHANGES` or `machine CHANGES : CODE`: the same, where m holds the built-in machine with
+//!   changes, and A these instructions, if there are any.
+//!
+//! Others stand on those before them (`scene.rt`):
+//!
+//! - `anew N..`: from here on no name holds anything, and the calls on the files with these numbers
+//!   fail.
+//! - `hold NAME CONTENTS`: what the name holds from here on.
+//! - `show NAME`: the bytes that it holds.
+//! - `out MOST N..`, `err MOST N..`: standard output or standard error of the next call takes at most
+//!   so many bytes a put, and the puts with these numbers fail.
+//! - `call WORDS`: the words of a call over what the names hold.
+//! - `race WORDS`: the same, but only what no order of accesses changes is written.
+//! - `count WORDS`: the same, and who passed the gate; `owners WORDS`: and whether the workers of their
+//!   domains fired the events, where two workers have two domains.
+//! - `meet WORDS`: a call in which two cores, and then two domains, wait for each other at the gate.
+//! - `sure WORDS`: a call over files and streams that never fail.
+//! - `again WORDS`: a call, and whether it answers what the last one did.
+//! - `find TEXT`: how many lines of the last answer end with this text.
+//! - `kept MACHINE EXE SCHEDULE`: what the last call kept, and whether these names hold it.
+use crate::answers::{call, sink, write_line};
+use crate::contents::{MOST, contents};
 use crate::executables::{SEVEN, executable};
 use crate::machines::changed;
-use crate::top_call::answer;
+use crate::numbers::{numbers_of, words_of};
+use crate::scene::Scene;
 use machine_desc::read;
 use std::alloc::Global;
 use std::sync::Wait;
 use std::thread::Threads;
-use zs_host::{Files, MemFiles, MemSink, OpenGate, Sink};
+use zs_host::{Files, MemFiles, MemSink, OpenGate};
 
-/// The most bytes of the file of cases.
-const MOST: usize = 1 << 20;
-
-/// What all cases of the file `cases` answer, in their order. None where memory runs out or a line
-/// is no case.
-pub fn answers<F: Files>(
+/// Writes what all cases of the file `cases` answer, in their order. None where memory runs out or a
+/// line is no case, which then stands behind the answers of those before it.
+pub fn answer_all<F: Files>(
     rt: &(impl Threads + Wait + Sync),
     alloc: Global,
     files: &mut F,
-) -> Option<MemSink> {
-    let mut out = MemSink::new(alloc, usize::MAX, &[]).ok()?;
+    out: &mut MemSink,
+) -> Option<()> {
     let bytes = files.read(alloc, "cases", MOST).ok()?;
     let text = str::from_utf8(bytes.as_slice()).ok()?;
-    let mut held = MemFiles::new(alloc, &[]).ok()?;
+    let mut scene = Scene::new(alloc)?;
     for line in text.lines() {
-        let (kind, rest) = line.split_once(' ').unwrap_or((line, ""));
-        match kind {
-            "hold" => hold(alloc, rest, files, &mut held)?,
-            "call" => write_answer(rt, alloc, &words_of(alloc, rest)?, &mut held, &mut out)?,
-            "race" => write_steady(rt, alloc, &words_of(alloc, rest)?, &mut held, &mut out)?,
-            "show" => write_held(alloc, rest, &mut held, &mut out)?,
-            _ => write_case(rt, alloc, line, files, &mut out)?,
+        if write_case(rt, alloc, line, files, &mut scene, out).is_none() {
+            write_line(alloc, line, out)?;
+            return None;
         }
     }
-    Some(out)
+    Some(())
 }
 
-/// Has a name hold something. The files beside this one are in `files`.
-fn hold<F: Files>(alloc: Global, rest: &str, files: &mut F, held: &mut MemFiles) -> Option<()> {
-    let (name, rest) = rest.split_once(' ')?;
-    let (kind, rest) = rest.split_once(' ').unwrap_or((rest, ""));
-    match kind {
-        "machine" => held.set(alloc, name, changed(alloc, rest)?.as_bytes()),
-        "code" => held.set(
-            alloc,
-            name,
-            &executable(alloc, &numbers_of(alloc, rest)?).ok()?,
-        ),
-        "bytes" => held.set(alloc, name, &bytes_of(alloc, rest)?),
-        "file" => held.set(alloc, name, files.read(alloc, rest, MOST).ok()?.as_slice()),
-        _ => return None,
-    }
-    .ok()
-}
-
-/// Writes the bytes that a name holds, in hexadecimal digits.
-fn write_held(alloc: Global, name: &str, held: &mut MemFiles, out: &mut MemSink) -> Option<()> {
-    let bytes = held.read(alloc, name, MOST).ok()?;
-    let mut line = String::from_str(alloc, name).ok()?;
-    for byte in bytes.as_slice() {
-        let digits = format!(in alloc; " {byte:02x}").ok()?;
-        line.push_str(&digits).ok()?;
-    }
-    write_line(alloc, &line, out)
-}
-
-/// Writes what a case answers. The examples are in these files.
+/// Writes what a case answers. None where memory runs out or the line is no case.
 fn write_case<F: Files>(
     rt: &(impl Threads + Wait + Sync),
     alloc: Global,
     line: &str,
     files: &mut F,
+    scene: &mut Scene,
     out: &mut MemSink,
 ) -> Option<()> {
     let (kind, rest) = line.split_once(' ').unwrap_or((line, ""));
     match kind {
         "#" => write_line(alloc, line, out),
+        "words" => write_call(rt, alloc, rest, &executable(alloc, &SEVEN).ok()?, out),
         "example" => write_example(rt, alloc, rest, files, out),
         "files" => write_answer(rt, alloc, &words_of(alloc, rest)?, files, out),
         "describe" => write_machine(alloc, rest, files, out),
-        "words" => write_call(rt, alloc, rest, &executable(alloc, &SEVEN).ok()?, out),
-        "code" => write_run(
-            rt,
-            alloc,
-            &executable(alloc, &numbers_of(alloc, rest)?).ok()?,
-            out,
-        ),
-        "file" => write_run(rt, alloc, &bytes_of(alloc, rest)?, out),
+        "exe" => write_run(rt, alloc, &contents(alloc, rest, files)?, out),
+        "code" => write_run(rt, alloc, &contents(alloc, line, files)?, out),
         "spoil" => write_run(rt, alloc, &spoiled(alloc, rest)?, out),
+        "description" => write_on(rt, alloc, &contents(alloc, rest, files)?, &SEVEN, out),
         "machine" => write_on_changed(rt, alloc, rest, out),
-        "text" => write_on(
-            rt,
-            alloc,
-            rest.as_bytes(),
-            &executable(alloc, &SEVEN).ok()?,
-            out,
-        ),
-        "bytes" => write_on(
-            rt,
-            alloc,
-            &bytes_of(alloc, rest)?,
-            &executable(alloc, &SEVEN).ok()?,
-            out,
-        ),
-        _ => None,
+        _ => scene.play(rt, alloc, kind, rest, files, out),
     }
 }
 
@@ -165,26 +136,34 @@ fn write_on_changed(
     rest: &str,
     out: &mut MemSink,
 ) -> Option<()> {
-    let (changes, exe) = match rest.split_once(" : ") {
-        Some((changes, code)) => (changes, executable(alloc, &numbers_of(alloc, code)?).ok()?),
-        None => (rest, executable(alloc, &SEVEN).ok()?),
-    };
-    write_on(rt, alloc, changed(alloc, changes)?.as_bytes(), &exe, out)
+    match rest.split_once(" : ") {
+        Some((changes, code)) => {
+            let machine = changed(alloc, changes)?;
+            write_on(
+                rt,
+                alloc,
+                machine.as_bytes(),
+                &numbers_of(alloc, code)?,
+                out,
+            )
+        }
+        None => write_on(rt, alloc, changed(alloc, rest)?.as_bytes(), &SEVEN, out),
+    }
 }
 
-/// Writes what `run m A` answers, where m holds this description and A this executable.
+/// Writes what `run m A` answers, where m holds this description and A the executable of these
+/// instructions.
 fn write_on(
     rt: &(impl Threads + Wait + Sync),
     alloc: Global,
     machine: &[u8],
-    exe: &[u8],
+    code: &[u32],
     out: &mut MemSink,
 ) -> Option<()> {
-    let words = words_of(alloc, "run m A")?;
     let mut files = MemFiles::new(alloc, &[]).ok()?;
     files.set(alloc, "m", machine).ok()?;
-    files.set(alloc, "A", exe).ok()?;
-    write_answer(rt, alloc, &words, &mut files, out)
+    files.set(alloc, "A", &executable(alloc, code).ok()?).ok()?;
+    write_answer(rt, alloc, &words_of(alloc, "run m A")?, &mut files, out)
 }
 
 /// Writes what these words answer, where A holds this executable.
@@ -195,13 +174,12 @@ fn write_call(
     exe: &[u8],
     out: &mut MemSink,
 ) -> Option<()> {
-    let words = words_of(alloc, words)?;
     let mut files = MemFiles::new(alloc, &[]).ok()?;
     files.set(alloc, "A", exe).ok()?;
-    write_answer(rt, alloc, &words, &mut files, out)
+    write_answer(rt, alloc, &words_of(alloc, words)?, &mut files, out)
 }
 
-/// Writes what a call puts on both streams, and its status.
+/// Writes what a call on these words answers, over these files.
 fn write_answer<F: Files>(
     rt: &(impl Threads + Wait + Sync),
     alloc: Global,
@@ -209,76 +187,8 @@ fn write_answer<F: Files>(
     files: &mut F,
     out: &mut MemSink,
 ) -> Option<()> {
-    let mut err = MemSink::new(alloc, usize::MAX, &[]).ok()?;
-    let ended = answer(rt, alloc, words, files, out, &mut err, &OpenGate);
-    out.put(alloc, err.bytes()).ok()?;
-    let status = format!(in alloc; "status {}", ended.status.number()).ok()?;
-    write_line(alloc, &status, out)
-}
-
-/// Writes of what a call answers what no order of accesses changes: the lines of cores,
-/// instructions and accesses, how many lines there are, and the status.
-fn write_steady<F: Files>(
-    rt: &(impl Threads + Wait + Sync),
-    alloc: Global,
-    words: &[String],
-    files: &mut F,
-    out: &mut MemSink,
-) -> Option<()> {
-    let mut answer = MemSink::new(alloc, usize::MAX, &[]).ok()?;
-    write_answer(rt, alloc, words, files, &mut answer)?;
-    let mut lines = 0usize;
-    for line in str::from_utf8(answer.bytes()).ok()?.lines() {
-        if line.starts_with("status ") {
-            let count = format!(in alloc; "lines {lines}").ok()?;
-            write_line(alloc, &count, out)?;
-        }
-        if is_steady(line) {
-            write_line(alloc, line, out)?;
-        }
-        lines = lines.saturating_add(1);
-    }
-    Some(())
-}
-
-/// No order of accesses changes this line of a generated program's answer: its branches depend on
-/// no word that a core writes.
-fn is_steady(line: &str) -> bool {
-    line.starts_with("cores ")
-        || line.starts_with("instructions ")
-        || line.starts_with("accesses ")
-        || line.starts_with("status ")
-}
-
-fn write_line(alloc: Global, line: &str, out: &mut MemSink) -> Option<()> {
-    out.put(alloc, line.as_bytes()).ok()?;
-    out.put(alloc, b"\n").ok()?;
-    Some(())
-}
-
-fn words_of(alloc: Global, text: &str) -> Option<Vec<String>> {
-    let mut words = Vec::new(alloc);
-    for word in text.split_whitespace() {
-        words.push(String::from_str(alloc, word).ok()?).ok()?;
-    }
-    Some(words)
-}
-
-/// The numbers of a line, each in hexadecimal digits.
-fn numbers_of(alloc: Global, text: &str) -> Option<Vec<u32>> {
-    let mut numbers = Vec::new(alloc);
-    for word in text.split_whitespace() {
-        numbers.push(u32::from_str_radix(word, 16).ok()?).ok()?;
-    }
-    Some(numbers)
-}
-
-fn bytes_of(alloc: Global, text: &str) -> Option<Vec<u8>> {
-    let mut bytes = Vec::new(alloc);
-    for number in &numbers_of(alloc, text)? {
-        bytes.push((number % 256) as u8).ok()?;
-    }
-    Some(bytes)
+    let streams = (sink(alloc)?, sink(alloc)?);
+    call(rt, alloc, words, files, streams, &OpenGate).write(alloc, out)
 }
 
 /// The executable that exits with seven, with other bytes. The last two digits of a number are what

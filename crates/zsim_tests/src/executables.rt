@@ -4,18 +4,6 @@ use std::alloc::{AllocError, Global};
 /// `addi x10, x0, 7`; `addi x17, x0, 93`; `ecall`.
 pub const SEVEN: [u32; 3] = [0x0070_0513, 0x05D0_0893, 0x0000_0073];
 
-/// `ld x5, -8(x2)`; `addi x17, x0, 93`; `ecall`: a load from the core's own stack.
-pub const LOAD: [u32; 3] = [0xFF81_3283, 0x05D0_0893, 0x0000_0073];
-
-/// `addi x5, x0, 9`; `sd x5, -8(x2)`; `ld x10, -8(x2)`; `addi x17, x0, 93`; `ecall`.
-pub const STORE_AND_LOAD: [u32; 5] = [
-    0x0090_0293,
-    0xFE51_3C23,
-    0xFF81_3503,
-    0x05D0_0893,
-    0x0000_0073,
-];
-
 /// The file up to the sizes of its one segment: both headers of an executable whose code begins at
 /// 0x10000, at byte 120 of the file.
 const FRONT: [u8; 96] = [
@@ -40,7 +28,6 @@ pub fn executable(alloc: Global, words: &[u32]) -> Result<Vec<u8>, AllocError> {
 
 /// An executable of 128 program headers, the most that there may be: two of the same segment, behind
 /// others of none.
-#[cfg(test)]
 pub fn overlapping(alloc: Global) -> Result<Vec<u8>, AllocError> {
     let mut file = Vec::from_slice(alloc, &FRONT[..56])?;
     file.extend_from_slice(&128u16.to_le_bytes())?;

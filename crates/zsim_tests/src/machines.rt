@@ -32,3 +32,11 @@ fn write_lines(text: &mut String, lines: &str) -> Option<()> {
     }
     Some(())
 }
+
+/// A text in which an unknown key of so many letters stands before the built-in description. Each
+/// letter is two bytes, which do not print as themselves.
+pub fn with_long_key(alloc: Global, letters: usize) -> Option<Vec<u8>> {
+    let name = "é".repeat(alloc, letters).ok()?;
+    let text = format!(in alloc; "\"{name}\" = 1\n{PLAIN}").ok()?;
+    Vec::from_slice(alloc, text.as_bytes()).ok()
+}
