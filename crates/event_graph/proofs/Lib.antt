@@ -2,7 +2,6 @@ mod AccessSteps
 mod AllEvents
 mod BetweenFirings
 mod CriticalSteps
-mod Example
 pub mod FindFired
 mod Fitting
 mod FromEntries

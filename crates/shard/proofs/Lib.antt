@@ -33,4 +33,3 @@ pub mod StandsForStart
 pub mod StandsForStep
 pub mod StandsForSteps
 pub mod Unmarked
-pub mod WorkedRows

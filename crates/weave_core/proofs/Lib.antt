@@ -17,7 +17,6 @@ mod AtBarriers
 mod Solutions
 mod SoundDomains
 mod FromLaws
-mod Examples
 mod Keys
 mod Readied
 mod Indexing
