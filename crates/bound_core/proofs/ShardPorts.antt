@@ -1,4 +1,4 @@
--- Ports over a plain list of shards.
+-- Ports over a bare list of shards.
 use Rattle.std.proofs.Common.{mod-lt, length-set, take, drop, ◌++◌, ◌≡◌, ◌≤◌, ◌<◌, ◌+◌, ℕ, zero, suc, max, List, [], ◌∷◌, length, map, set, get_or, Some, refl, ap, sym, ◌∙◌, subst, arith}
 use Rattle.std.specs.Prelude.{◌%◌, slice_get, slice_index, slice_index_or, slice_set, unwrap_or}
 use Rattle.std.proofs.Math.Seq.{take-append_seam}

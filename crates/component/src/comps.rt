@@ -27,6 +27,7 @@ impl<C> Comps<C> {
         Comps { list }
     }
 
+    /// The components, in order of their numbers.
     pub fn as_slice(&self) -> &[C]
         ensures { result.now ≡ self.now }
     {
@@ -41,6 +42,7 @@ impl<C> Comps<C> {
         self.list.as_mut_slice()
     }
 
+    /// Gives the list back.
     pub fn into_list(self) -> Vec<C>
         ensures { result.items ≡ self }
     {

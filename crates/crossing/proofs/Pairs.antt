@@ -10,7 +10,7 @@ use Rattle.atomic_table.specs.Seated.{TableId}
 use Rattle.domain_map.specs.Domains.{Partition}
 use Rattle.domain_map.specs.declared.crossing.Crossing.{Crossing}
 use Rattle.crossing.specs.Pair.{IsPairOfEvents, pair}
-use Rattle.crossing.specs.Seats.{AreSeats, SeatValue, finishes_of, new_seat, owners_of}
+use Rattle.crossing.specs.Seats.{AreSeats, SeatValue, finishes_of, new_seat, sources_of}
 
 first_finish : (former latter : Bank) → finish_in (woven bank_step pair (former ∷ latter ∷ [])) 0 ≡ max 0 former.free + former.lookup
 unfolding woven after_firings fire_least
@@ -26,15 +26,15 @@ pair_finishes events p banks h =
     in
     ap (λ (xs : List Crossing). map (λ x. finish_in (woven bank_step events banks) x.parent) xs) h.crossings_are ∙ ap (λ (n : ℕ). n ∷ []) at
 
-pair_owners : (events : List Event) (p : Partition) (banks : List Bank) → IsPairOfEvents events p banks → owners_of p ≡ 0 ∷ []
+pair_owners : (events : List Event) (p : Partition) (banks : List Bank) → IsPairOfEvents events p banks → sources_of p ≡ 0 ∷ []
 pair_owners events p banks h = ap (λ (xs : List Crossing). map (λ x. x.source) xs) h.crossings_are ∙ ap (λ (n : ℕ). n ∷ []) h.source_is
 
 pair_seats : (events : List Event) (p : Partition) (banks : List Bank) (table : TableId) (seats : List SeatValue) → IsPairOfEvents events p banks
-    → AreSeats table (finishes_of bank_step events p banks) (owners_of p) (length p.events) seats → AreSeats table (10 ∷ []) (0 ∷ []) 2 seats
+    → AreSeats table (finishes_of bank_step events p banks) (sources_of p) (length p.events) seats → AreSeats table (10 ∷ []) (0 ∷ []) 2 seats
 pair_seats events p banks table seats h all =
     subst (λ (fs : List ℕ). AreSeats table fs (0 ∷ []) 2 seats) (pair_finishes events p banks h)
     (subst (λ (os : List ℕ). AreSeats table (finishes_of bank_step events p banks) os 2 seats) (pair_owners events p banks h)
-    (subst (λ (n : ℕ). AreSeats table (finishes_of bank_step events p banks) (owners_of p) n seats) h.domains_are all))
+    (subst (λ (n : ℕ). AreSeats table (finishes_of bank_step events p banks) (sources_of p) n seats) h.domains_are all))
 
 two : {X : Type 0} (xs : List X) (a b : X) → length xs ≡ 2 → slice_get xs 0 ≡ Some a → slice_get xs 1 ≡ Some b → xs ≡ a ∷ b ∷ []
 two [] a b l e f = absurd (omega (arith, l))
@@ -43,7 +43,7 @@ two (x ∷ y ∷ []) a b l e f = ap (λ (z : _). z ∷ y ∷ []) (same_Some x a 
 two (x ∷ y ∷ z ∷ xs) a b l e f = absurd (omega (arith, l))
 
 pub pair_of_seats : (events : List Event) (p : Partition) (banks : List Bank) (table : TableId) (seats : List SeatValue) → IsPairOfEvents events p banks
-    → AreSeats table (finishes_of bank_step events p banks) (owners_of p) (length p.events) seats
+    → AreSeats table (finishes_of bank_step events p banks) (sources_of p) (length p.events) seats
     → seats ≡ new_seat table (10 ∷ []) (0 ∷ []) 0 ∷ new_seat table (10 ∷ []) (0 ∷ []) 1 ∷ []
 pair_of_seats events p banks table seats h all =
     let s = pair_seats events p banks table seats h all in two seats _ _ s.count (s.each 0 (omega arith)) (s.each 1 (omega arith))

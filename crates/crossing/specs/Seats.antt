@@ -23,21 +23,21 @@ pub record SeatValue : Type 0 where
   pub crossings : TableId
   pub domain : ℕ
   pub finishes : List ℕ
-  pub owners : List ℕ
+  pub sources : List ℕ
   pub wrote : List ℕ
   pub noted : List ℕ
   pub looks : List ℕ
 
 -- a seat that has written and found nothing
-abbrev pub new_seat : TableId → (finishes owners : List ℕ) → (domain : ℕ) → SeatValue
-new_seat crossings finishes owners domain = record {
+abbrev pub new_seat : TableId → (finishes sources : List ℕ) → (domain : ℕ) → SeatValue
+new_seat crossings finishes sources domain = record {
   crossings = crossings;
   domain = domain;
   finishes = finishes;
-  owners = owners;
-  wrote = map (λ (x : ℕ). 0) owners;
-  noted = map (λ (x : ℕ). 0) owners;
-  looks = map (λ (x : ℕ). 0) owners;
+  sources = sources;
+  wrote = map (λ (x : ℕ). 0) sources;
+  noted = map (λ (x : ℕ). 0) sources;
+  looks = map (λ (x : ℕ). 0) sources;
 }
 
 -- The finishes of the parents of the crossings in the one-list weave.
@@ -45,18 +45,18 @@ abbrev pub finishes_of : {C : Type 0} (stepped : C → Kind → ℕ → C × ℕ
 finishes_of stepped events p comps = map (λ x. finish_in (woven stepped events comps) x.parent) p.crossings
 
 -- The domains that the crossings come from.
-abbrev pub owners_of : Partition → List ℕ
-owners_of p = map (λ x. x.source) p.crossings
+abbrev pub sources_of : Partition → List ℕ
+sources_of p = map (λ x. x.source) p.crossings
 
 -- Each domain has its seat.
-pub record AreSeats (crossings : TableId) (finishes owners : List ℕ) (domains : ℕ) (seats : List SeatValue) : Type 0 where
+pub record AreSeats (crossings : TableId) (finishes sources : List ℕ) (domains : ℕ) (seats : List SeatValue) : Type 0 where
   pub count : length seats ≡ domains
-  pub each : (domain : ℕ) → domain < domains → slice_get seats domain ≡ Some (new_seat crossings finishes owners domain)
+  pub each : (domain : ℕ) → domain < domains → slice_get seats domain ≡ Some (new_seat crossings finishes sources domain)
 
 -- The crossing is one of the seat's own, and its finish isn't published.
 pub record MayWrite (s : SeatValue) (x : ℕ) : Type 0 where
-  pub there : x < length s.owners
-  pub owner : slice_index s.owners x ≡ s.domain
+  pub there : x < length s.sources
+  pub owner : slice_index s.sources x ≡ s.domain
   pub unpublished : slice_index s.wrote x % 2 ≡ 0
 
 -- the seat wrote a word of this number
@@ -79,4 +79,4 @@ pub record Looked (old new : SeatValue) (x : ℕ) (word : Word) : Type 0 where
   pub is_true : IsTrueOfFinish (slice_index old.finishes x) word
   pub no_fall : slice_index old.noted x ≤ kept_number word
   pub exact_stays : slice_index old.noted x % 2 ≡ 1 → kept_number word ≡ slice_index old.noted x
-  pub own : slice_index old.owners x ≡ old.domain → kept_number word ≡ slice_index old.wrote x
+  pub own : slice_index old.sources x ≡ old.domain → kept_number word ≡ slice_index old.wrote x

@@ -2,9 +2,9 @@
 ghost use Rattle.std.specs.Prelude.{◌≡◌, ◌≤◌, ◌<◌, ◌+◌, ◌*◌, ◌^◌, All, length, slice_index};
 ghost use Rattle.crossing.specs.Seats.{Looked, MayWrite, with_written};
 
-use crate::knows::Words;
 use crate::plays::{Find, Write};
 use crate::seat::DomainSeat;
+use crate::view::Words;
 use std::marker::Model;
 use zs_num::{Cycle, Word};
 
@@ -57,7 +57,7 @@ impl Crossings {
     /// What the word of a crossing says now. Takes no memory and waits for nobody.
     pub fn look(&self, seat: &mut DomainSeat, x: u32) -> Word
         requires crossings { seat.old.crossings ≡ self.now }
-        requires there { x < length seat.old.owners }
+        requires there { x < length seat.old.sources }
         ensures { Looked seat.old seat.new x result }
     {
         let number = self

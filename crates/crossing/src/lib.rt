@@ -2,10 +2,10 @@
 #![tactic(auto)]
 
 mod crossings;
-mod knows;
 mod make;
 mod plays;
 mod seat;
+mod view;
 
 pub use crossings::Crossings;
 pub use seat::DomainSeat;

@@ -4,12 +4,12 @@ ghost use Rattle.std.specs.Vec.{vec_capacity};
 ghost use Rattle.event_graph.specs.Fits.{GraphFits};
 ghost use Rattle.domain_map.specs.Domains.{IsPartition};
 ghost use Rattle.crossing.specs.Rule.{untold};
-ghost use Rattle.crossing.specs.Seats.{AreSeats, finishes_of, owners_of};
+ghost use Rattle.crossing.specs.Seats.{AreSeats, finishes_of, sources_of};
 
 use crate::crossings::Crossings;
-use crate::knows::{Place, Words};
 use crate::plays::{Finishes, NextSeat, Say};
 use crate::seat::DomainSeat;
+use crate::view::{TableSeat, Words};
 use component::{Component, Comps};
 use domain_map::Parts;
 use event_graph::Graph;
@@ -30,7 +30,7 @@ impl Crossings {
     ) -> Result<(Crossings, Vec<DomainSeat>), NoMemory>
         requires fits { GraphFits C.serves C.floor g.now comps.now }
         requires partitions { IsPartition g.now p.now }
-        ensures { IfOk result (λ made. AreSeats made.0 (finishes_of C.stepped g.now p.now comps.now) (owners_of p.now) (length p.now.events) made.1.items) }
+        ensures { IfOk result (λ made. AreSeats made.0 (finishes_of C.stepped g.now p.now comps.now) (sources_of p.now) (length p.now.events) made.1.items) }
     {
         let count = p.crossings().len();
         if count > u32::MAX as usize {
@@ -45,10 +45,10 @@ impl Crossings {
     }
 }
 
-/// Tells the first seat the finishes and the owners, and gives each domain its seat.
+/// Tells the first seat the finishes and the sources, and gives each domain its seat.
 fn seated<C: Component, F: Finishes>(
     words: &Words,
-    mut first: Place,
+    mut first: TableSeat,
     domains: u16,
     mut seats: Vec<DomainSeat>,
     graph: &Graph,
@@ -58,10 +58,10 @@ fn seated<C: Component, F: Finishes>(
     requires empty { seats.items ≡ [] }
     requires room { domains ≤ vec_capacity seats }
     requires table { first.table_id ≡ words.now.shared.table_id }
-    requires count { words.now.shared.table_id.words ≡ 16 * length F.owners + 1 }
-    requires key { words.now.shared.key ≡ length F.owners }
+    requires count { words.now.shared.table_id.words ≡ 16 * length F.sources + 1 }
+    requires key { words.now.shared.key ≡ length F.sources }
     requires untold { first.me ≡ (untold, []) }
-    ensures { AreSeats words.now.shared.table_id F.finishes F.owners domains result.items }
+    ensures { AreSeats words.now.shared.table_id F.finishes F.sources domains result.items }
 {
     words.shared.load::<Say<F>>(&mut first, 0);
     for domain in 0..domains {

@@ -9,7 +9,7 @@ use Rattle.component.specs.declared.kind.Kind.{Kind}
 use Rattle.event_graph.specs.declared.event.Event.{Event}
 use Rattle.event_graph.specs.declared.event.Parent.{Parent}
 use Rattle.event_graph.specs.Numbered.{IsNumbered}
-use Rattle.event_graph.specs.OneListWeave.{Timed, Weave, finish_in, finish_or_zero, is_event_before, is_fired, is_parent_fired, is_ready, served, start_of}
+use Rattle.event_graph.specs.OneListWeave.{FiredEvent, Weave, finish_in, finish_or_zero, is_event_before, is_fired, is_parent_fired, is_ready, served, start_of}
 use Rattle.event_graph.specs.TimingSolution.{IsInOrder, ServesInTurn, after_serving, of_component}
 use Rattle.event_graph.proofs.FindFired.{AreParentsFired, Extends, IsOneEach, after_first, after_second, find_from_in, extends_from, fired_extends, fired_in, is_fired_from_in, parent_extends, start_extends}
 use Rattle.event_graph.proofs.Least.{IsLeast, ready_from, ready_parts}
@@ -26,26 +26,26 @@ pub record IsLawful {C : Type 0} (serves : C → Kind → Bool) (stepped : C →
 abbrev pub IsServed : {C : Type 0} → (C → Kind → Bool) → List C → Event → Type 0
 IsServed {C} serves comps e = (c : C) × ((slice_get comps e.component ≡ Some c) × IsTrue (serves c e.kind))
 
-pub of_component_same : (k : ℕ) (xs : List Timed) (y : Timed) → y.event.component ≡ k → of_component k (xs ++ y ∷ []) ≡ of_component k xs ++ y ∷ []
+pub of_component_same : (k : ℕ) (xs : List FiredEvent) (y : FiredEvent) → y.event.component ≡ k → of_component k (xs ++ y ∷ []) ≡ of_component k xs ++ y ∷ []
 of_component_same k xs y same =
-    filter-append (λ (x : Timed). x.event.component == k) xs (y ∷ [])
+    filter-append (λ (x : FiredEvent). x.event.component == k) xs (y ∷ [])
     ∙ ap (λ zs. of_component k xs ++ zs) (cond-true (y.event.component == k) (y ∷ []) [] (eq-eqb y.event.component k same))
 
-pub of_component_other : (k : ℕ) (xs : List Timed) (y : Timed) → (y.event.component ≡ k → ⊥) → of_component k (xs ++ y ∷ []) ≡ of_component k xs
+pub of_component_other : (k : ℕ) (xs : List FiredEvent) (y : FiredEvent) → (y.event.component ≡ k → ⊥) → of_component k (xs ++ y ∷ []) ≡ of_component k xs
 of_component_other k xs y apart =
-    filter-append (λ (x : Timed). x.event.component == k) xs (y ∷ [])
+    filter-append (λ (x : FiredEvent). x.event.component == k) xs (y ∷ [])
     ∙ (ap (λ zs. of_component k xs ++ zs) (cond-false (y.event.component == k) (y ∷ []) [] (ne_eqb y.event.component k apart)) ∙ append-nil (of_component k xs))
 
 module _ {C : Type 0} (serves : C → Kind → Bool) (stepped : C → Kind → ℕ → C × ℕ) (events : List Event) (comps : List C) where
   -- what holds between firings
   pub record HoldsBetween (w : Weave C) : Type 0 where
-    pub members : (x : Timed) → In x w.fired → In x.event events
+    pub members : (x : FiredEvent) → In x w.fired → In x.event events
     pub one_each : IsOneEach w.fired
-    pub starts : (x : Timed) → In x w.fired → x.start ≡ start_of (finish_in w.fired) x.event
-    pub parents : (x : Timed) → In x w.fired → AreParentsFired w.fired x.event
+    pub starts : (x : FiredEvent) → In x w.fired → x.start ≡ start_of (finish_in w.fired) x.event
+    pub parents : (x : FiredEvent) → In x w.fired → AreParentsFired w.fired x.event
     pub in_order : IsInOrder w.fired
     -- what is ready is later than what fired
-    pub later : (x : Timed) (y : Event) → In x w.fired → In y events → is_ready w.fired y ≡ true → is_event_before x.event x.start y (start_of (finish_in w.fired) y) ≡ true
+    pub later : (x : FiredEvent) (y : Event) → In x w.fired → In y events → is_ready w.fired y ≡ true → is_event_before x.event x.start y (start_of (finish_in w.fired) y) ≡ true
     pub are_served : (e : Event) → In e events → IsServed serves w.comps e
     pub turns : (k : ℕ) (c : C) → slice_get comps k ≡ Some c → ServesInTurn stepped c (of_component k w.fired)
     pub left : (k : ℕ) (c : C) → slice_get comps k ≡ Some c → slice_get w.comps k ≡ Some (after_serving stepped c (of_component k w.fired))
@@ -66,16 +66,16 @@ module _ {C : Type 0} (serves : C → Kind → Bool) (stepped : C → Kind → �
   -- an event fires
   module _ (lawful : IsLawful serves stepped) (numbered : IsNumbered events) (w : Weave C) (e : Event) (s : ℕ) (c : C)
       (h : HoldsBetween w) (l : IsLeast w.fired events e s) (is : slice_get w.comps e.component ≡ Some c) where
-    abbrev next : Timed
+    abbrev next : FiredEvent
     next = record { event = e; start = s; finish = (stepped c e.kind s).1 }
 
-    abbrev new : List Timed
+    abbrev new : List FiredEvent
     new = w.fired ++ next ∷ []
 
     unfired : is_fired w.fired e.number ≡ false
     unfired = (ready_parts w.fired e l.ready).0
 
-    not_among : (x : Timed) → In x w.fired → x.event.number ≡ e.number → ⊥
+    not_among : (x : FiredEvent) → In x w.fired → x.event.number ≡ e.number → ⊥
     not_among x m q = false≢true (sym unfired ∙ is_fired_from_in w.fired x e.number m q)
 
     one_each : IsOneEach new
@@ -83,10 +83,10 @@ module _ {C : Type 0} (serves : C → Kind → Bool) (stepped : C → Kind → �
         elim (in_push_cases x w.fired next mx) [
           | inl ox ↦ elim (in_push_cases y w.fired next my) [
             | inl oy ↦ h.one_each x y ox oy q
-            | inr ey ↦ absurd (not_among x ox (q ∙ ap (λ (z : Timed). z.event.number) (sym ey)))
+            | inr ey ↦ absurd (not_among x ox (q ∙ ap (λ (z : FiredEvent). z.event.number) (sym ey)))
           ]
           | inr ex ↦ elim (in_push_cases y w.fired next my) [
-            | inl oy ↦ absurd (not_among y oy (sym q ∙ ap (λ (z : Timed). z.event.number) (sym ex)))
+            | inl oy ↦ absurd (not_among y oy (sym q ∙ ap (λ (z : FiredEvent). z.event.number) (sym ex)))
             | inr ey ↦ sym ex ∙ ey
           ]
         ]
@@ -103,17 +103,17 @@ module _ {C : Type 0} (serves : C → Kind → Bool) (stepped : C → Kind → �
     finish_now : finish_in new e.number ≡ (stepped c e.kind s).1
     finish_now = ap finish_or_zero (find_from_in new one_each next e.number (in_push w.fired next) refl)
 
-    before_now : (x : Timed) → In x w.fired → is_event_before x.event x.start e s ≡ true
+    before_now : (x : FiredEvent) → In x w.fired → is_event_before x.event x.start e s ≡ true
     before_now x m = subst (λ n. is_event_before x.event x.start e n ≡ true) (sym l.start_is) (h.later x e m l.member l.ready)
 
     -- a parent that fired did so before, or is this event
     parent_cases : (o : Option Parent) → is_parent_fired new o ≡ true → (is_parent_fired w.fired o ≡ true) ⊎ ((p : Parent) × ((o ≡ Some p) × (p.number ≡ e.number)))
     parent_cases None k = inl refl
     parent_cases (Some p) k =
-        let r : (x : Timed) × (In x new × (x.event.number ≡ p.number)) = fired_in new p.number k in
+        let r : (x : FiredEvent) × (In x new × (x.event.number ≡ p.number)) = fired_in new p.number k in
         elim (in_push_cases r.0 w.fired next r.1.0) [
           | inl old ↦ inl (is_fired_from_in w.fired r.0 p.number old r.1.1)
-          | inr same ↦ inr (p, (refl, sym r.1.1 ∙ ap (λ (z : Timed). z.event.number) (sym same)))
+          | inr same ↦ inr (p, (refl, sym r.1.1 ∙ ap (λ (z : FiredEvent). z.event.number) (sym same)))
         ]
 
     unfired_before : (y : Event) → is_fired new y.number ≡ false → is_fired w.fired y.number ≡ false
@@ -138,14 +138,14 @@ module _ {C : Type 0} (serves : C → Kind → Bool) (stepped : C → Kind → �
           | inr a ↦ late (subst (λ n. finish_in new n ≤ start_of (finish_in new) y) a.1.1 (after_first (finish_in new) y a.0 a.1.0))
         ]
 
-    later_now : (x : Timed) (y : Event) → In x new → In y events → is_ready new y ≡ true → is_event_before x.event x.start y (start_of (finish_in new) y) ≡ true
+    later_now : (x : FiredEvent) (y : Event) → In x new → In y events → is_ready new y ≡ true → is_event_before x.event x.start y (start_of (finish_in new) y) ≡ true
     later_now x y mx my k =
         elim (in_push_cases x w.fired next mx) [
           | inl old ↦ before_trans x.event x.start e s y (start_of (finish_in new) y) (before_now x old) (after_now y my k)
-          | inr same ↦ subst (λ (z : Timed). is_event_before z.event z.start y (start_of (finish_in new) y) ≡ true) same (after_now y my k)
+          | inr same ↦ subst (λ (z : FiredEvent). is_event_before z.event z.start y (start_of (finish_in new) y) ≡ true) same (after_now y my k)
         ]
 
-    starts_now : (x : Timed) → In x new → (x.start ≡ start_of (finish_in new) x.event) × AreParentsFired new x.event
+    starts_now : (x : FiredEvent) → In x new → (x.start ≡ start_of (finish_in new) x.event) × AreParentsFired new x.event
     starts_now x mx =
         elim (in_push_cases x w.fired next mx) [
           | inl old ↦
@@ -153,7 +153,7 @@ module _ {C : Type 0} (serves : C → Kind → Bool) (stepped : C → Kind → �
               (h.starts x old ∙ sym (start_extends w.fired new extends x.event p), (parent_extends w.fired new extends x.event.first p.0, parent_extends w.fired new extends x.event.second p.1))
           | inr same ↦
               let p : AreParentsFired w.fired e = (ready_parts w.fired e l.ready).1 in
-              subst (λ (z : Timed). (z.start ≡ start_of (finish_in new) z.event) × AreParentsFired new z.event) same
+              subst (λ (z : FiredEvent). (z.start ≡ start_of (finish_in new) z.event) × AreParentsFired new z.event) same
               (l.start_is ∙ sym (start_extends w.fired new extends e p), (parent_extends w.fired new extends e.first p.0, parent_extends w.fired new extends e.second p.1))
         ]
 
@@ -205,11 +205,11 @@ module _ {C : Type 0} (serves : C → Kind → Bool) (stepped : C → Kind → �
 
     pub holds_after : HoldsBetween (served stepped w e s (Some c))
     holds_after = record {
-      members = λ x m. elim (in_push_cases x w.fired next m) [ inl old ↦ h.members x old | inr same ↦ subst (λ (z : Timed). In z.event events) same l.member ];
+      members = λ x m. elim (in_push_cases x w.fired next m) [ inl old ↦ h.members x old | inr same ↦ subst (λ (z : FiredEvent). In z.event events) same l.member ];
       one_each = one_each;
       starts = λ x m. (starts_now x m).0;
       parents = λ x m. (starts_now x m).1;
-      in_order = all_pairs_push (λ (x y : Timed). IsTrue (is_event_before x.event x.start y.event y.start)) w.fired next h.in_order (λ k d a. before_now (get_or w.fired k d) (in_get w.fired k d a));
+      in_order = all_pairs_push (λ (x y : FiredEvent). IsTrue (is_event_before x.event x.start y.event y.start)) w.fired next h.in_order (λ k d a. before_now (get_or w.fired k d) (in_get w.fired k d a));
       later = later_now;
       are_served = served_after;
       turns = turns_now;

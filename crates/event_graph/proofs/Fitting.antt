@@ -8,7 +8,7 @@ use Rattle.component.specs.declared.kind.Kind.{Kind}
 use Rattle.event_graph.specs.declared.event.Event.{Event}
 use Rattle.event_graph.specs.Fits.{EventFits, GraphFits}
 use Rattle.event_graph.specs.Numbered.{IsNumbered}
-use Rattle.event_graph.specs.OneListWeave.{Timed, after_firings}
+use Rattle.event_graph.specs.OneListWeave.{FiredEvent, after_firings}
 use Rattle.event_graph.specs.TimingSolution.{after_serving, of_component}
 use Rattle.event_graph.proofs.Kept.{after_keeps}
 use Rattle.event_graph.proofs.Lists.{In, from_filter, in_filter}
@@ -36,9 +36,9 @@ module _ {C : Type 0} (serves : C → Kind → Bool) (floor : C → Kind → ℕ
       ]
 
   -- a component serves the kinds of all its events
-  serves_each : (number : ℕ) (c : C) → slice_get comps number ≡ Some c → (x : Timed) → In x (of_component number (after_firings stepped events comps n).fired) → IsTrue (serves c x.event.kind)
+  serves_each : (number : ℕ) (c : C) → slice_get comps number ≡ Some c → (x : FiredEvent) → In x (of_component number (after_firings stepped events comps n).fired) → IsTrue (serves c x.event.kind)
   serves_each number c there x m =
-      let r : In x (after_firings stepped events comps n).fired × ((x.event.component == number) ≡ true) = from_filter (λ (t : Timed). t.event.component == number) x (after_firings stepped events comps n).fired m in
+      let r : In x (after_firings stepped events comps n).fired × ((x.event.component == number) ≡ true) = from_filter (λ (t : FiredEvent). t.event.component == number) x (after_firings stepped events comps n).fired m in
       let s : IsServed serves comps x.event = served_from serves floor stepped events comps fits x.event (between.members x r.0) in
       let found : slice_get comps number ≡ Some s.0 = subst (λ k. slice_get comps k ≡ Some s.0) (eqb-true x.event.component number r.1) s.1.0 in
       let same : s.0 ≡ c = cc in
@@ -55,9 +55,9 @@ module _ {C : Type 0} (serves : C → Kind → Bool) (floor : C → Kind → ℕ
         floor_is = ap (λ m. e.min_start + m) (k.1 e.kind) ∙ f.floor_is;
       }
 
-  pub finishes_later : (x : Timed) → In x (after_firings stepped events comps n).fired → x.start < x.finish
+  pub finishes_later : (x : FiredEvent) → In x (after_firings stepped events comps n).fired → x.start < x.finish
   finishes_later x m =
       let f : IsServed serves comps x.event = served_from serves floor stepped events comps fits x.event (between.members x m) in
       turns_grow stepped serves lawful.stays lawful.grows f.0 (of_component x.event.component (after_firings stepped events comps n).fired)
       (serves_each x.event.component f.0 f.1.0) (between.turns x.event.component f.0 f.1.0) x
-      (in_filter (λ (t : Timed). t.event.component == x.event.component) x (after_firings stepped events comps n).fired m (eq-eqb x.event.component x.event.component refl))
+      (in_filter (λ (t : FiredEvent). t.event.component == x.event.component) x (after_firings stepped events comps n).fired m (eq-eqb x.event.component x.event.component refl))

@@ -7,7 +7,7 @@ use Rattle.component.specs.declared.kind.Kind.{Kind}
 use Rattle.event_graph.specs.declared.event.Event.{Event}
 use Rattle.event_graph.specs.declared.event.Parent.{Parent}
 use Rattle.event_graph.specs.Numbered.{IsNumbered}
-use Rattle.event_graph.specs.OneListWeave.{AreSmallSteps, IsSmallStep, Timed, Weave, after_firings, after_parent, find_fired, finish_in, finish_or_zero, fire_least, least_ready, start_of, weave}
+use Rattle.event_graph.specs.OneListWeave.{AreSmallSteps, IsSmallStep, FiredEvent, Weave, after_firings, after_parent, find_fired, finish_in, finish_or_zero, fire_least, least_ready, start_of, weave}
 use Rattle.event_graph.specs.Near.{AreNear, IsNear}
 use Rattle.event_graph.specs.Growth.{BeginBy, IsPaced}
 use Rattle.event_graph.proofs.FindFired.{found_in}
@@ -16,17 +16,17 @@ use Rattle.event_graph.proofs.Lists.{In, get-set_other, get-set_same, in_at, in_
 use Rattle.event_graph.proofs.Progress.{after_first_firing, after_more, all_fired, fire_least_serves, fire_least_stays, holds, none_from_all, stays}
 use Rattle.event_graph.proofs.BetweenFirings.{IsLawful, IsServed}
 
-finish_below : (fired : List Timed) (top n : ℕ) → ((x : Timed) → In x fired → x.finish ≤ top) → (o : Option Timed) → find_fired fired n ≡ o → finish_or_zero o ≤ top
+finish_below : (fired : List FiredEvent) (top n : ℕ) → ((x : FiredEvent) → In x fired → x.finish ≤ top) → (o : Option FiredEvent) → find_fired fired n ≡ o → finish_or_zero o ≤ top
 finish_below fired top n h None is = omega arith
 finish_below fired top n h (Some x) is = h x (found_in fired n x is).0
 
-after_parent_below : (fired : List Timed) (top delay : ℕ) → ((x : Timed) → In x fired → x.finish ≤ top) → (o : Option Parent) → ((p : Parent) → o ≡ Some p → p.delay ≤ delay) → after_parent (finish_in fired) o ≤ top + delay
+after_parent_below : (fired : List FiredEvent) (top delay : ℕ) → ((x : FiredEvent) → In x fired → x.finish ≤ top) → (o : Option Parent) → ((p : Parent) → o ≡ Some p → p.delay ≤ delay) → after_parent (finish_in fired) o ≤ top + delay
 after_parent_below fired top delay h None k = omega arith
 after_parent_below fired top delay h (Some p) k =
     let f : finish_or_zero (find_fired fired p.number) ≤ top = finish_below fired top p.number h (find_fired fired p.number) refl in
     omega (arith, f, k p refl)
 
-start_below : (fired : List Timed) (base top delay : ℕ) → base ≤ top → ((x : Timed) → In x fired → x.finish ≤ top) → (e : Event) → IsNear base delay e → start_of (finish_in fired) e ≤ top + delay
+start_below : (fired : List FiredEvent) (base top delay : ℕ) → base ≤ top → ((x : FiredEvent) → In x fired → x.finish ≤ top) → (e : Event) → IsNear base delay e → start_of (finish_in fired) e ≤ top + delay
 start_below fired base top delay l h e near =
     omega (arith, l, near.min_start, after_parent_below fired top delay h e.first near.first, after_parent_below fired top delay h e.second near.second)
 
@@ -37,7 +37,7 @@ module _ {C : Type 0} (serves : C → Kind → Bool) (stepped : C → Kind → �
   -- no finish and no component is past this
   record IsBelow (top : ℕ) (w : Weave C) : Type 0 where
     base_below : base ≤ top
-    finishes : (x : Timed) → In x w.fired → x.finish ≤ top
+    finishes : (x : FiredEvent) → In x w.fired → x.finish ≤ top
     comps_below : BeginBy paced busy top w.comps
 
   step_below : (n top : ℕ) → IsBelow top (after_firings stepped events comps n) → (r : Event × ℕ) → least_ready (after_firings stepped events comps n).fired events ≡ Some r
@@ -65,14 +65,14 @@ module _ {C : Type 0} (serves : C → Kind → Bool) (stepped : C → Kind → �
       let f : IsServed serves (after_firings stepped events comps n).comps r.0 = (holds serves stepped events comps lawful numbered fits n).are_served r.0 l.member in
       let g : (r.1 ≤ top + delay) × (greatest f.0 r.0.kind r.1 ≤ top + (delay + most)) = step_below n top b r is f.0 f.1.0 f.1.1 in
       let p : IsTrue (paced f.0) × (busy f.0 ≤ top) = b.comps_below r.0.component f.0 f.1.0 in
-      let next : Timed = record { event = r.0; start = r.1; finish = (stepped f.0 r.0.kind r.1).1 } in
+      let next : FiredEvent = record { event = r.0; start = r.1; finish = (stepped f.0 r.0.kind r.1).1 } in
       subst (λ v. IsBelow (top + (delay + most)) v) (sym (fire_least_serves serves stepped events comps (after_firings stepped events comps n) r f.0 is f.1.0))
       (record {
         base_below = omega (arith, b.base_below);
         finishes = λ x m.
             elim (in_push_cases x (after_firings stepped events comps n).fired next m) [
               | inl old ↦ omega (arith, b.finishes x old)
-              | inr same ↦ subst (λ (z : Timed). z.finish ≤ top + (delay + most)) same (omega (arith, counts f.0 r.0.kind r.1 f.1.1, g.1))
+              | inr same ↦ subst (λ (z : FiredEvent). z.finish ≤ top + (delay + most)) same (omega (arith, counts f.0 r.0.kind r.1 f.1.1, g.1))
             ];
         comps_below = λ i c at.
             elim (cases_eq r.0.component i) [

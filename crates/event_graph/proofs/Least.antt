@@ -5,7 +5,7 @@ use Rattle.std.proofs.lemmas.Bool.{and_from, and_parts, cases_eq, cond_both, fal
 use Rattle.event_graph.specs.declared.event.Event.{Event}
 use Rattle.event_graph.specs.Firing.{IsNext}
 use Rattle.event_graph.specs.Numbered.{IsNumbered}
-use Rattle.event_graph.specs.OneListWeave.{Timed, earlier, finish_in, is_event_before, is_fired, is_parent_fired, is_ready, least_ready, start_of}
+use Rattle.event_graph.specs.OneListWeave.{FiredEvent, earlier, finish_in, is_event_before, is_fired, is_parent_fired, is_ready, least_ready, start_of}
 use Rattle.event_graph.proofs.FindFired.{AreParentsFired}
 use Rattle.event_graph.proofs.Lists.{In, contains_in, in_at, in_contains}
 use Rattle.event_graph.proofs.Order.{before_from_not, not_before_from, not_before_itself, not_before_trans}
@@ -21,25 +21,25 @@ same_event events numbered a b ma mb e =
     let k : slice_get events ib.0 ≡ Some a = subst (λ i. slice_get events i ≡ Some a) same ia.1 in
     cc
 
-pub ready_parts : (fired : List Timed) (e : Event) → is_ready fired e ≡ true → (is_fired fired e.number ≡ false) × AreParentsFired fired e
+pub ready_parts : (fired : List FiredEvent) (e : Event) → is_ready fired e ≡ true → (is_fired fired e.number ≡ false) × AreParentsFired fired e
 ready_parts fired e h =
     let a : (not (is_fired fired e.number) ≡ true) × ((is_parent_fired fired e.first && is_parent_fired fired e.second) ≡ true) = and_parts _ _ h in
     (not-true _ a.0, and_parts _ _ a.1)
 
-pub ready_from : (fired : List Timed) (e : Event) → is_fired fired e.number ≡ false → AreParentsFired fired e → is_ready fired e ≡ true
+pub ready_from : (fired : List FiredEvent) (e : Event) → is_fired fired e.number ≡ false → AreParentsFired fired e → is_ready fired e ≡ true
 ready_from fired e f p = and_from _ _ (not_from_false _ f) (and_from _ _ p.0 p.1)
 
 pair_same : {A B : Type 0} (p : A × B) (c : A) (d : B) → p.0 ≡ c → p.1 ≡ d → p ≡ (c, d)
 pair_same (a, b) c d e f = cc
 
 -- a ready event with its start, than which no ready event is earlier
-pub record IsLeast (fired : List Timed) (events : List Event) (e : Event) (s : ℕ) : Type 0 where
+pub record IsLeast (fired : List FiredEvent) (events : List Event) (e : Event) (s : ℕ) : Type 0 where
   pub member : In e events
   pub ready : is_ready fired e ≡ true
   pub start_is : s ≡ start_of (finish_in fired) e
   pub least : (y : Event) → In y events → is_ready fired y ≡ true → is_event_before y (start_of (finish_in fired) y) e s ≡ false
 
-pub least_none : (fired : List Timed) (events : List Event) → least_ready fired events ≡ None → (y : Event) → In y events → is_ready fired y ≡ false
+pub least_none : (fired : List FiredEvent) (events : List Event) → least_ready fired events ≡ None → (y : Event) → In y events → is_ready fired y ≡ false
 least_none fired [] h y m = absurd m
 least_none fired (e ∷ es) h y m =
     cond_both (is_ready fired e) (Some (earlier (e, start_of (finish_in fired) e) (least_ready fired es))) (least_ready fired es) (λ o. o ≡ None → is_ready fired y ≡ false)
@@ -48,7 +48,7 @@ least_none fired (e ∷ es) h y m =
     h
 
 -- the first event isn't ready
-skip : (fired : List Timed) (e : Event) (es : List Event) (r : Event × ℕ) → is_ready fired e ≡ false → IsLeast fired es r.0 r.1 → IsLeast fired (e ∷ es) r.0 r.1
+skip : (fired : List FiredEvent) (e : Event) (es : List Event) (r : Event × ℕ) → is_ready fired e ≡ false → IsLeast fired es r.0 r.1 → IsLeast fired (e ∷ es) r.0 r.1
 skip fired e es r f l = record {
   member = inr l.member;
   ready = l.ready;
@@ -57,7 +57,7 @@ skip fired e es r f l = record {
 }
 
 -- it is ready, and none of the rest is earlier
-first : (fired : List Timed) (e : Event) (es : List Event) → is_ready fired e ≡ true
+first : (fired : List FiredEvent) (e : Event) (es : List Event) → is_ready fired e ≡ true
     → ((y : Event) → In y es → is_ready fired y ≡ true → is_event_before y (start_of (finish_in fired) y) e (start_of (finish_in fired) e) ≡ false)
     → IsLeast fired (e ∷ es) e (start_of (finish_in fired) e)
 first fired e es t h = record {
@@ -71,7 +71,7 @@ first fired e es t h = record {
 }
 
 -- it is ready, and the least of the rest is earlier
-other : (fired : List Timed) (e : Event) (es : List Event) (b : Event × ℕ) → is_event_before b.0 b.1 e (start_of (finish_in fired) e) ≡ true → IsLeast fired es b.0 b.1 → IsLeast fired (e ∷ es) b.0 b.1
+other : (fired : List FiredEvent) (e : Event) (es : List Event) (b : Event × ℕ) → is_event_before b.0 b.1 e (start_of (finish_in fired) e) ≡ true → IsLeast fired es b.0 b.1 → IsLeast fired (e ∷ es) b.0 b.1
 other fired e es b t l = record {
   member = inr l.member;
   ready = l.ready;
@@ -82,7 +82,7 @@ other fired e es b t l = record {
   ];
 }
 
-head : (fired : List Timed) (e : Event) (es : List Event) → is_ready fired e ≡ true → (o : Option (Event × ℕ)) → least_ready fired es ≡ o → ((r : Event × ℕ) → o ≡ Some r → IsLeast fired es r.0 r.1)
+head : (fired : List FiredEvent) (e : Event) (es : List Event) → is_ready fired e ≡ true → (o : Option (Event × ℕ)) → least_ready fired es ≡ o → ((r : Event × ℕ) → o ≡ Some r → IsLeast fired es r.0 r.1)
     → (r : Event × ℕ) → Some (earlier (e, start_of (finish_in fired) e) o) ≡ Some r → IsLeast fired (e ∷ es) r.0 r.1
 head fired e es t None is ih r k =
     let same : (e, start_of (finish_in fired) e) ≡ r = cc in
@@ -97,7 +97,7 @@ head fired e es t (Some b) is ih r k =
     (first fired e es t (λ y m h. not_before_trans y (start_of (finish_in fired) y) b.0 b.1 e (start_of (finish_in fired) e) (l.least y m h) before)))
     k
 
-pub least_some : (fired : List Timed) (events : List Event) (r : Event × ℕ) → least_ready fired events ≡ Some r → IsLeast fired events r.0 r.1
+pub least_some : (fired : List FiredEvent) (events : List Event) (r : Event × ℕ) → least_ready fired events ≡ Some r → IsLeast fired events r.0 r.1
 least_some fired [] r h = absurd (cc)
 least_some fired (e ∷ es) r h =
     cond_both (is_ready fired e) (Some (earlier (e, start_of (finish_in fired) e) (least_ready fired es))) (least_ready fired es) (λ o. o ≡ Some r → IsLeast fired (e ∷ es) r.0 r.1)
@@ -105,7 +105,7 @@ least_some fired (e ∷ es) r h =
     (λ f k. skip fired e es r f (least_some fired es r k))
     h
 
-least_is_by : (fired : List Timed) (events : List Event) (e : Event) → In e events → is_ready fired e ≡ true
+least_is_by : (fired : List FiredEvent) (events : List Event) (e : Event) → In e events → is_ready fired e ≡ true
     → ((y : Event) → In y events → is_ready fired y ≡ true → (y ≡ e) ⊎ (is_event_before e (start_of (finish_in fired) e) y (start_of (finish_in fired) y) ≡ true))
     → (o : Option (Event × ℕ)) → least_ready fired events ≡ o → o ≡ Some (e, start_of (finish_in fired) e)
 least_is_by fired events e m t h None is = absurd (false≢true (sym (least_none fired events is e m) ∙ t))
@@ -120,13 +120,13 @@ least_is_by fired events e m t h (Some r) is =
     ]
 
 -- an event that is ready, and before each other ready one, is the least
-pub least_is : (fired : List Timed) (events : List Event) (e : Event) → In e events → is_ready fired e ≡ true
+pub least_is : (fired : List FiredEvent) (events : List Event) (e : Event) → In e events → is_ready fired e ≡ true
     → ((y : Event) → In y events → is_ready fired y ≡ true → (y ≡ e) ⊎ (is_event_before e (start_of (finish_in fired) e) y (start_of (finish_in fired) y) ≡ true))
     → least_ready fired events ≡ Some (e, start_of (finish_in fired) e)
 least_is fired events e m t h = least_is_by fired events e m t h (least_ready fired events) refl
 
 -- the least ready event is the next
-pub next_from_least : (fired : List Timed) (events : List Event) → IsNumbered events → (x : Timed) → IsLeast fired events x.event x.start → IsNext fired events x
+pub next_from_least : (fired : List FiredEvent) (events : List Event) → IsNumbered events → (x : FiredEvent) → IsLeast fired events x.event x.start → IsNext fired events x
 next_from_least fired events numbered x l = record {
   event = contains_in x.event events l.member;
   ready = l.ready;

@@ -11,7 +11,7 @@ use Rattle.component.specs.declared.kind.Kind.{Kind}
 use Rattle.event_graph.specs.declared.event.Event.{Event}
 use Rattle.event_graph.specs.Firing.{FiresNext}
 use Rattle.event_graph.specs.Numbered.{IsNumbered}
-use Rattle.event_graph.specs.OneListWeave.{Timed, after_firings, is_fired, least_ready, served, weave}
+use Rattle.event_graph.specs.OneListWeave.{FiredEvent, after_firings, is_fired, least_ready, served, weave}
 use Rattle.event_graph.proofs.FindFired.{find_push_other, is_fired_from_in}
 use Rattle.event_graph.proofs.Least.{IsLeast, least_some, next_from_least, ready_parts}
 use Rattle.event_graph.proofs.Lists.{In, get_within, in_at, in_push}
@@ -32,21 +32,21 @@ one_each_from (e ∷ es) n h = (
 )
 
 -- the events that didn't fire
-abbrev unfired_among : List Timed → List Event → List Event
+abbrev unfired_among : List FiredEvent → List Event → List Event
 unfired_among fired es = filter (λ e. not (is_fired fired e.number)) es
 
 none_fired : (es : List Event) → unfired_among [] es ≡ es
 none_fired [] = refl
 none_fired (e ∷ es) = ap (λ zs. e ∷ zs) (none_fired es)
 
-fired_all : (fired : List Timed) (es : List Event) → AllFired fired es → unfired_among fired es ≡ []
+fired_all : (fired : List FiredEvent) (es : List Event) → AllFired fired es → unfired_among fired es ≡ []
 fired_all fired [] h = refl
 fired_all fired (e ∷ es) h =
     cond-false (not (is_fired fired e.number)) (e ∷ unfired_among fired es) (unfired_among fired es) (not_from_true _ (h e (inl refl)))
     ∙ fired_all fired es (λ y m. h y (inr m))
 
 -- one more that fired
-module _ (fired : List Timed) (x : Timed) where
+module _ (fired : List FiredEvent) (x : FiredEvent) where
   other_fired : (n : ℕ) → (n ≡ x.event.number → ⊥) → is_fired (fired ++ x ∷ []) n ≡ is_fired fired n
   other_fired n ne = ap (λ o. is_some o) (find_push_other fired x n (λ q. ne (sym q)))
 
@@ -91,22 +91,22 @@ module _ (fired : List Timed) (x : Timed) where
             ])
       ]
 
-abbrev events_of : List Timed → List Event
+abbrev events_of : List FiredEvent → List Event
 events_of fired = map (λ x. x.event) fired
 
-one_more_done : (events left rest : List Event) (fired : List Timed) (x : Timed) → IsPermutation events (events_of fired ++ left) → IsPermutation left (x.event ∷ rest) → IsPermutation events (events_of (fired ++ x ∷ []) ++ rest)
+one_more_done : (events left rest : List Event) (fired : List FiredEvent) (x : FiredEvent) → IsPermutation events (events_of fired ++ left) → IsPermutation left (x.event ∷ rest) → IsPermutation events (events_of (fired ++ x ∷ []) ++ rest)
 one_more_done events left rest fired x all now =
-    subst (λ zs. IsPermutation events (zs ++ rest)) (sym (map-append (λ (y : Timed). y.event) fired (x ∷ [])))
+    subst (λ zs. IsPermutation events (zs ++ rest)) (sym (map-append (λ (y : FiredEvent). y.event) fired (x ∷ [])))
     (IsPermutation-pop_more events (events_of fired) left rest x.event all now)
 
 module _ {C : Type 0} (serves : C → Kind → Bool) (stepped : C → Kind → ℕ → C × ℕ) (events : List Event) (comps : List C)
     (lawful : IsLawful serves stepped) (numbered : IsNumbered events) (fits : (e : Event) → In e events → IsServed serves comps e) where
-  abbrev fired_after : ℕ → List Timed
+  abbrev fired_after : ℕ → List FiredEvent
   fired_after n = (after_firings stepped events comps n).fired
 
   -- the least ready event fires, or none is ready
   record Fires (n : ℕ) (r : Event × ℕ) : Type 0 where
-    next : Timed
+    next : FiredEvent
     event : next.event ≡ r.0
     start : next.start ≡ r.1
     least : IsLeast (fired_after n) events r.0 r.1
@@ -167,21 +167,21 @@ module _ {C : Type 0} (serves : C → Kind → Bool) (stepped : C → Kind → �
       omega (arith, ap length f.fired, length-append (fired_after n) (f.next ∷ []), count)
 
   -- what fired keeps its index
-  grows_by : (n : ℕ) (o : Option (Event × ℕ)) → least_ready (fired_after n) events ≡ o → (rest : List Timed) × (fired_after (suc n) ≡ fired_after n ++ rest)
+  grows_by : (n : ℕ) (o : Option (Event × ℕ)) → least_ready (fired_after n) events ≡ o → (rest : List FiredEvent) × (fired_after (suc n) ≡ fired_after n ++ rest)
   grows_by n None is = ([], fires_none n is ∙ sym (append-nil (fired_after n)))
   grows_by n (Some r) is = let f : Fires n r = fires n r is in (f.next ∷ [], f.fired)
 
-  grows : (n more : ℕ) → (rest : List Timed) × (fired_after (n + more) ≡ fired_after n ++ rest)
+  grows : (n more : ℕ) → (rest : List FiredEvent) × (fired_after (n + more) ≡ fired_after n ++ rest)
   grows n zero = ([], ap (λ k. fired_after k) (omega arith) ∙ sym (append-nil (fired_after n)))
   grows n (suc more) =
-      let a : (rest : List Timed) × (fired_after (n + more) ≡ fired_after n ++ rest) = grows n more in
-      let b : (rest : List Timed) × (fired_after (suc (n + more)) ≡ fired_after (n + more) ++ rest) = grows_by (n + more) (least_ready (fired_after (n + more)) events) refl in
+      let a : (rest : List FiredEvent) × (fired_after (n + more) ≡ fired_after n ++ rest) = grows n more in
+      let b : (rest : List FiredEvent) × (fired_after (suc (n + more)) ≡ fired_after (n + more) ++ rest) = grows_by (n + more) (least_ready (fired_after (n + more)) events) refl in
       let k : n + suc more ≡ suc (n + more) = omega arith in
       (a.0 ++ b.0, ap (λ m. fired_after m) k ∙ (b.1 ∙ (ap (λ xs. xs ++ b.0) a.1 ∙ append_assoc (fired_after n) a.0 b.0)))
 
-  begins_with : (n : ℕ) → n ≤ length events → (rest : List Timed) × ((weave stepped events comps).fired ≡ fired_after n ++ rest)
+  begins_with : (n : ℕ) → n ≤ length events → (rest : List FiredEvent) × ((weave stepped events comps).fired ≡ fired_after n ++ rest)
   begins_with n l =
-      let g : (rest : List Timed) × (fired_after (n + (length events - n)) ≡ fired_after n ++ rest) = grows n (length events - n) in
+      let g : (rest : List FiredEvent) × (fired_after (n + (length events - n)) ≡ fired_after n ++ rest) = grows n (length events - n) in
       let k : length events ≡ n + (length events - n) = omega (arith, l) in
       (g.0, ap (λ m. fired_after m) k ∙ g.1)
 
@@ -189,7 +189,7 @@ module _ {C : Type 0} (serves : C → Kind → Bool) (stepped : C → Kind → �
   first_of_weave n =
       elim (cases_lt n (length events)) [
         | inl l ↦
-            let b : (rest : List Timed) × ((weave stepped events comps).fired ≡ fired_after n ++ rest) = begins_with n (omega arith) in
+            let b : (rest : List FiredEvent) × ((weave stepped events comps).fired ≡ fired_after n ++ rest) = begins_with n (omega arith) in
             sym (ap (λ xs. take n xs) b.1
             ∙ (ap (λ k. take k (fired_after n ++ b.0)) (sym (counted n (omega arith))) ∙ take-append_seam (fired_after n) b.0))
         | inr l ↦
@@ -198,24 +198,24 @@ module _ {C : Type 0} (serves : C → Kind → Bool) (stepped : C → Kind → �
       ]
 
   -- what fires at an index of the weave was the least ready event
-  pub fires_at : (n : ℕ) (x : Timed) → slice_get (weave stepped events comps).fired n ≡ Some x → IsLeast (fired_after n) events x.event x.start
+  pub fires_at : (n : ℕ) (x : FiredEvent) → slice_get (weave stepped events comps).fired n ≡ Some x → IsLeast (fired_after n) events x.event x.start
   fires_at n x at =
       let l : n < length events = omega (arith, get_within (weave stepped events comps).fired n x at, counted (length events) (omega arith)) in
       let count : length (fired_after n) ≡ n = counted n (omega arith) in
       let r : (r : Event × ℕ) × (least_ready (fired_after n) events ≡ Some r) = some_ready n l count (least_ready (fired_after n) events) refl in
       let f : Fires n r.0 = fires n r.0 r.1 in
-      let b : (rest : List Timed) × ((weave stepped events comps).fired ≡ fired_after (suc n) ++ rest) = begins_with (suc n) (omega (arith, l)) in
+      let b : (rest : List FiredEvent) × ((weave stepped events comps).fired ≡ fired_after (suc n) ++ rest) = begins_with (suc n) (omega (arith, l)) in
       let stands : slice_get (weave stepped events comps).fired n ≡ Some f.next =
       ap (λ xs. slice_get xs n) (b.1 ∙ ap (λ xs. xs ++ b.0) f.fired)
       ∙ (slice_get_left (fired_after n ++ f.next ∷ []) b.0 n (omega (arith, count, length-append (fired_after n) (f.next ∷ [])))
       ∙ (ap (λ k. slice_get (fired_after n ++ f.next ∷ []) k) (omega (arith, count)) ∙ slice_get_right (fired_after n) (f.next ∷ []) zero))
       in
       let same : f.next ≡ x = cc in
-      subst (λ (z : Timed). IsLeast (fired_after n) events z.event z.start) same
+      subst (λ (z : FiredEvent). IsLeast (fired_after n) events z.event z.start) same
       (subst (λ e. IsLeast (fired_after n) events e f.next.start) (sym f.event) (subst (λ s. IsLeast (fired_after n) events r.0.0 s) (sym f.start) f.least))
 
   -- a firing while an event is unfired
-  pub firing_at : (n : ℕ) → n < length events → (x : Timed) × (c : C) × FiresNext serves stepped events (after_firings stepped events comps n) (after_firings stepped events comps (suc n)) x c
+  pub firing_at : (n : ℕ) → n < length events → (x : FiredEvent) × (c : C) × FiresNext serves stepped events (after_firings stepped events comps n) (after_firings stepped events comps (suc n)) x c
   firing_at n l =
       let count : length (fired_after n) ≡ n = counted n (omega (arith, l)) in
       let r : (r : Event × ℕ) × (least_ready (fired_after n) events ≡ Some r) = some_ready n l count (least_ready (fired_after n) events) refl in
@@ -224,7 +224,7 @@ module _ {C : Type 0} (serves : C → Kind → Bool) (stepped : C → Kind → �
       let next : after_firings stepped events comps (suc n) ≡ served stepped (after_firings stepped events comps n) r.0.0 r.0.1 (Some f.0) =
       after_more serves stepped events comps n ∙ fire_least_serves serves stepped events comps (after_firings stepped events comps n) r.0 f.0 r.1 f.1.0
       in
-      let x : Timed = record { event = r.0.0; start = r.0.1; finish = (stepped f.0 r.0.0.kind r.0.1).1 } in (
+      let x : FiredEvent = record { event = r.0.0; start = r.0.1; finish = (stepped f.0 r.0.0.kind r.0.1).1 } in (
         x,
         f.0,
         record {

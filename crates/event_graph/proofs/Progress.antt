@@ -6,13 +6,13 @@ use Rattle.component.specs.declared.kind.Kind.{Kind}
 use Rattle.event_graph.specs.declared.event.Event.{Event}
 use Rattle.event_graph.specs.declared.event.Parent.{Parent}
 use Rattle.event_graph.specs.Numbered.{IsNumbered}
-use Rattle.event_graph.specs.OneListWeave.{Timed, Weave, after_firings, fire, fire_least, is_fired, is_parent_fired, least_ready, served, weave}
+use Rattle.event_graph.specs.OneListWeave.{FiredEvent, Weave, after_firings, fire, fire_least, is_fired, is_parent_fired, least_ready, served, weave}
 use Rattle.event_graph.proofs.FindFired.{fired_in, is_fired_from_in}
 use Rattle.event_graph.proofs.Least.{IsLeast, least_none, least_some, ready_from, ready_parts}
 use Rattle.event_graph.proofs.Lists.{In, at_in, count, count_all, count_less, count_none, in_at, in_left, in_push}
 use Rattle.event_graph.proofs.BetweenFirings.{HoldsBetween, IsLawful, IsServed, holds_after, holds_at_first}
 
-abbrev pub AllFired : List Timed → List Event → Type 0
+abbrev pub AllFired : List FiredEvent → List Event → Type 0
 AllFired fired events = (e : Event) → In e events → is_fired fired e.number ≡ true
 
 pub get_below : {X : Type 0} (xs : List X) (i j : ℕ) (x : X) → slice_get xs i ≡ Some x → j < i → (y : X) × (slice_get xs j ≡ Some y)
@@ -21,15 +21,15 @@ get_below (z ∷ xs) zero j x h l = absurd (omega arith)
 get_below (z ∷ xs) (suc i) zero x h l = (z, refl)
 get_below (z ∷ xs) (suc i) (suc j) x h l = get_below xs i j x h (omega (arith, l))
 
-parent_fired : (fired : List Timed) (o : Option Parent) → ((p : Parent) → o ≡ Some p → is_fired fired p.number ≡ true) → is_parent_fired fired o ≡ true
+parent_fired : (fired : List FiredEvent) (o : Option Parent) → ((p : Parent) → o ≡ Some p → is_fired fired p.number ≡ true) → is_parent_fired fired o ≡ true
 parent_fired fired None h = refl
 parent_fired fired (Some p) h = h p refl
 
-unfired_before : (x : Event) (fired : List Timed) (next : Timed) → is_fired (fired ++ next ∷ []) x.number ≡ false → is_fired fired x.number ≡ false
+unfired_before : (x : Event) (fired : List FiredEvent) (next : FiredEvent) → is_fired (fired ++ next ∷ []) x.number ≡ false → is_fired fired x.number ≡ false
 unfired_before x fired next f =
     elim (cases_Bool (is_fired fired x.number)) [
       | inl t ↦
-          let r : (y : Timed) × (In y fired × (y.event.number ≡ x.number)) = fired_in fired x.number t in
+          let r : (y : FiredEvent) × (In y fired × (y.event.number ≡ x.number)) = fired_in fired x.number t in
           absurd (false≢true (sym f ∙ is_fired_from_in (fired ++ next ∷ []) r.0 x.number (in_left r.0 fired (next ∷ []) r.1.0) r.1.1))
       | inr k ↦ k
     ]
@@ -52,7 +52,7 @@ second_below events numbered e m p h =
     let at : (i : ℕ) × (slice_get events i ≡ Some e) = in_at e events m in
     omega (arith, numbered.number at.0 e at.1, numbered.second at.0 e p at.1 h)
 
-all_below : (events : List Event) → IsNumbered events → (fired : List Timed) → least_ready fired events ≡ None
+all_below : (events : List Event) → IsNumbered events → (fired : List FiredEvent) → least_ready fired events ≡ None
     → (n : ℕ) (e : Event) → In e events → e.number < n → is_fired fired e.number ≡ true
 all_below events numbered fired none zero e m l = absurd (omega arith)
 all_below events numbered fired none (suc n) e m l =
@@ -71,16 +71,16 @@ all_below events numbered fired none (suc n) e m l =
           )))
     ]
 
-pub all_fired_from_none : (events : List Event) → IsNumbered events → (fired : List Timed) → least_ready fired events ≡ None → AllFired fired events
+pub all_fired_from_none : (events : List Event) → IsNumbered events → (fired : List FiredEvent) → least_ready fired events ≡ None → AllFired fired events
 all_fired_from_none events numbered fired none e m = all_below events numbered fired none (suc e.number) e m (omega arith)
 
-none_from_all_by : (events : List Event) (fired : List Timed) → AllFired fired events → (o : Option (Event × ℕ)) → least_ready fired events ≡ o → o ≡ None
+none_from_all_by : (events : List Event) (fired : List FiredEvent) → AllFired fired events → (o : Option (Event × ℕ)) → least_ready fired events ≡ o → o ≡ None
 none_from_all_by events fired all None is = refl
 none_from_all_by events fired all (Some r) is =
     let l : IsLeast fired events r.0 r.1 = least_some fired events r is in
     absurd (false≢true (sym (ready_parts fired r.0 l.ready).0 ∙ all r.0 l.member))
 
-pub none_from_all : (events : List Event) (fired : List Timed) → AllFired fired events → least_ready fired events ≡ None
+pub none_from_all : (events : List Event) (fired : List FiredEvent) → AllFired fired events → least_ready fired events ≡ None
 none_from_all events fired all = none_from_all_by events fired all (least_ready fired events) refl
 
 module _ {C : Type 0} (serves : C → Kind → Bool) (stepped : C → Kind → ℕ → C × ℕ) (events : List Event) (comps : List C) where
@@ -116,7 +116,7 @@ module _ {C : Type 0} (serves : C → Kind → Bool) (stepped : C → Kind → �
         (holds_firing_by (after_firings stepped events comps n) (holds n) (least_ready (after_firings stepped events comps n).fired events) refl)
 
     -- how many events are unfired
-    abbrev pub unfired : List Timed → ℕ
+    abbrev pub unfired : List FiredEvent → ℕ
     unfired fired = count (λ e. not (is_fired fired e.number)) events
 
     fewer_by : (w : Weave C) → HoldsBetween serves stepped events comps w → (o : Option (Event × ℕ)) → least_ready w.fired events ≡ o
@@ -125,7 +125,7 @@ module _ {C : Type 0} (serves : C → Kind → Bool) (stepped : C → Kind → �
     fewer_by w h (Some r) is =
         let l : IsLeast w.fired events r.0 r.1 = least_some w.fired events r is in
         let f : IsServed serves w.comps r.0 = h.are_served r.0 l.member in
-        let next : Timed = record { event = r.0; start = r.1; finish = (stepped f.0 r.0.kind r.1).1 } in
+        let next : FiredEvent = record { event = r.0; start = r.1; finish = (stepped f.0 r.0.kind r.1).1 } in
         inr (subst (λ v. unfired v.fired + 1 ≤ unfired w.fired) (sym (fire_least_serves w r f.0 is f.1.0))
         (count_less (λ e. not (is_fired w.fired e.number)) (λ e. not (is_fired (w.fired ++ next ∷ []) e.number)) events r.0 l.member
         (not_from_false _ (ready_parts w.fired r.0 l.ready).0)

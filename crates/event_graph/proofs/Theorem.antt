@@ -5,7 +5,7 @@ use Rattle.component.specs.declared.kind.Kind.{Kind}
 use Rattle.event_graph.specs.declared.event.Event.{Event}
 use Rattle.event_graph.specs.Fits.{EventFits, GraphFits}
 use Rattle.event_graph.specs.Numbered.{IsNumbered}
-use Rattle.event_graph.specs.OneListWeave.{Timed, woven}
+use Rattle.event_graph.specs.OneListWeave.{FiredEvent, woven}
 use Rattle.event_graph.specs.TimingSolution.{IsSolution}
 use Rattle.event_graph.proofs.Lists.{In, in_at}
 use Rattle.event_graph.proofs.BetweenFirings.{IsLawful, IsServed}
@@ -28,7 +28,7 @@ module _ {C : Type 0} (serves : C → Kind → Bool) (floor : C → Kind → ℕ
       let f : EventFits serves floor comps e = fits at.0 e at.1 in
       (f.component, (f.there, f.served))
 
-  pub one_solution : IsLawful serves stepped → (events : List Event) (comps : List C) (timed : List Timed) → IsNumbered events → GraphFits serves floor events comps
+  pub one_solution : IsLawful serves stepped → (events : List Event) (comps : List C) (timed : List FiredEvent) → IsNumbered events → GraphFits serves floor events comps
       → (IsSolution stepped events comps timed ↔ (timed ≡ woven stepped events comps))
   one_solution lawful events comps timed numbered fits = (
     λ sol. is_woven serves stepped events comps lawful numbered (served_from events comps fits) timed sol,

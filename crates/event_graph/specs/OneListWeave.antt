@@ -8,7 +8,7 @@ use Rattle.event_graph.specs.declared.event.Parent.{Parent}
 use Rattle.event_graph.specs.declared.fired.Fired.{Fired}
 
 -- an event with its start and its finish
-pub record Timed : Type 0 where
+pub record FiredEvent : Type 0 where
   pub event : Event
   pub start : ℕ
   pub finish : ℕ
@@ -30,26 +30,26 @@ start_of finish e = max e.min_start (max (after_parent finish e.first) (after_pa
 
 -- What is known of the events that fired.
 
-abbrev pub find_fired : List Timed → ℕ → Option Timed
+abbrev pub find_fired : List FiredEvent → ℕ → Option FiredEvent
 find_fired fired number = find (λ x. x.event.number == number) fired
 
-abbrev pub finish_or_zero : Option Timed → ℕ
+abbrev pub finish_or_zero : Option FiredEvent → ℕ
 finish_or_zero None = 0
 finish_or_zero (Some x) = x.finish
 
 -- the finish of the event of this number
-abbrev pub finish_in : List Timed → ℕ → ℕ
+abbrev pub finish_in : List FiredEvent → ℕ → ℕ
 finish_in fired number = finish_or_zero (find_fired fired number)
 
-abbrev pub is_fired : List Timed → ℕ → Bool
+abbrev pub is_fired : List FiredEvent → ℕ → Bool
 is_fired fired number = is_some (find_fired fired number)
 
-abbrev pub is_parent_fired : List Timed → Option Parent → Bool
+abbrev pub is_parent_fired : List FiredEvent → Option Parent → Bool
 is_parent_fired fired None = true
 is_parent_fired fired (Some p) = is_fired fired p.number
 
 -- unfired, with its parents fired
-abbrev pub is_ready : List Timed → Event → Bool
+abbrev pub is_ready : List FiredEvent → Event → Bool
 is_ready fired e = not (is_fired fired e.number) && (is_parent_fired fired e.first && is_parent_fired fired e.second)
 
 -- the earlier of an event at its start and another one
@@ -58,25 +58,25 @@ earlier a None = a
 earlier a (Some b) = cond (is_event_before b.0 b.1 a.0 a.1) b a
 
 -- the ready event with the least (start, number), and its start
-abbrev pub least_ready : List Timed → List Event → Option (Event × ℕ)
+abbrev pub least_ready : List FiredEvent → List Event → Option (Event × ℕ)
 least_ready fired [] = None
 least_ready fired (e ∷ es) =
     cond (is_ready fired e) (Some (earlier (e, start_of (finish_in fired) e) (least_ready fired es))) (least_ready fired es)
 
 -- what is known of an event
 
-abbrev pub fired_or_unfired : Event → Option Timed → Timed
+abbrev pub fired_or_unfired : Event → Option FiredEvent → FiredEvent
 fired_or_unfired e None = record { event = e; start = 0; finish = 0 }
 fired_or_unfired e (Some x) = x
 
-abbrev pub timed_in : List Timed → Event → Timed
-timed_in fired e = fired_or_unfired e (find_fired fired e.number)
+abbrev pub fired_event_in : List FiredEvent → Event → FiredEvent
+fired_event_in fired e = fired_or_unfired e (find_fired fired e.number)
 
 -- The firings of the weave.
 
 -- the events that fired, in the order in which they did, and the components
 pub record Weave (C : Type 0) : Type 0 where
-  pub fired : List Timed
+  pub fired : List FiredEvent
   pub comps : List C
 
 module _ {C : Type 0} (stepped : C → Kind → ℕ → C × ℕ) where
@@ -107,8 +107,8 @@ module _ {C : Type 0} (stepped : C → Kind → ℕ → C × ℕ) where
 
   -- What the weave answers: each event with its start and finish, in order of number, and the components after.
 
-  unfoldable pub woven : List Event → List C → List Timed
-  woven events comps = map (timed_in (weave events comps).fired) events
+  unfoldable pub woven : List Event → List C → List FiredEvent
+  woven events comps = map (fired_event_in (weave events comps).fired) events
 
   abbrev pub comps_after : List Event → List C → List C
   comps_after events comps = (weave events comps).comps
@@ -123,5 +123,5 @@ module _ {C : Type 0} (stepped : C → Kind → ℕ → C × ℕ) where
       (firings : ℕ) → IsSmallStep greatest (after_firings events comps firings) (least_ready (after_firings events comps firings).fired events)
 
 -- an event's number, start and finish
-abbrev pub fired_of : Timed → Fired
+abbrev pub fired_of : FiredEvent → Fired
 fired_of x = record { number = x.event.number; start = x.start; finish = x.finish }

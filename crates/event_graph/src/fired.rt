@@ -35,12 +35,14 @@ impl FiredList {
         FiredList { list }
     }
 
+    /// The fired events, in the order of the list.
     pub fn as_slice(&self) -> &[Fired]
         ensures { result.now ≡ self.now }
     {
         &self.list
     }
 
+    /// Gives the list back.
     pub fn into_list(self) -> Vec<Fired>
         ensures { result.items ≡ self }
     {

@@ -33,6 +33,7 @@ impl Graph {
         Graph { events }
     }
 
+    /// The events, in order of their numbers.
     pub fn events(&self) -> &[Event]
         ensures events { result.now ≡ self.now }
         ensures numbered { IsNumbered self.now }

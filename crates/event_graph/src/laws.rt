@@ -12,7 +12,7 @@ ghost use Rattle.event_graph.specs.Growth.{BeginBy, IsPaced};
 ghost use Rattle.event_graph.specs.Laws.{MachineComponentsStay, MachineStepsStaySmall, PlainAccessesHaveFewEvents, PlainGraphsFit, PlainTellsComponents};
 ghost use Rattle.event_graph.specs.Near.{AreNear};
 ghost use Rattle.event_graph.specs.Numbered.{IsNumbered};
-ghost use Rattle.event_graph.specs.OneListWeave.{AreSmallSteps, Timed, after_firings, finish_in, fired_of, start_of, weave, woven};
+ghost use Rattle.event_graph.specs.OneListWeave.{AreSmallSteps, FiredEvent, after_firings, finish_in, fired_of, start_of, weave, woven};
 ghost use Rattle.event_graph.specs.Timely.{AreTimely};
 ghost use Rattle.event_graph.specs.TimingSolution.{IsInOrder, IsSolution, ServesInTurn, after_serving, of_component};
 ghost use Rattle.event_graph.specs.Told.{IsTrueOfComponents};
@@ -93,7 +93,7 @@ pub fn firings_are_of_the_first_events<C: Component>()
 /// Each event that the weave fires was the least ready one, with those fired that the weave fires
 /// before it.
 pub fn the_least_ready_event_fires<C: Component>()
-    ensures { (events : List Event) (comps : List C) (index : ℕ) (x : Timed) →
+    ensures { (events : List Event) (comps : List C) (index : ℕ) (x : FiredEvent) →
         IsNumbered events → GraphFits C.serves C.floor events comps →
         slice_get (weave C.stepped events comps).fired index ≡ Some x →
         IsNext (take index (weave C.stepped events comps).fired) events x }
@@ -103,7 +103,7 @@ pub fn the_least_ready_event_fires<C: Component>()
 pub fn each_firing_is_of_the_next_event<C: Component>()
     ensures { (events : List Event) (comps : List C) (firings : ℕ) →
         IsNumbered events → GraphFits C.serves C.floor events comps → firings < length events →
-        (x : Timed) × (c : C) × FiresNext C.serves C.stepped events (after_firings C.stepped events comps firings) (after_firings C.stepped events comps (suc firings)) x c }
+        (x : FiredEvent) × (c : C) × FiresNext C.serves C.stepped events (after_firings C.stepped events comps firings) (after_firings C.stepped events comps (suc firings)) x c }
 {}
 
 /// Each event that fired did so after its parents, started by the start rule, and took time.
@@ -147,7 +147,7 @@ pub fn graphs_keep_fitting<C: Component>()
 /// The one-list weave solves the timing rules, and nothing else does: the rules, which say nothing
 /// of an order of execution, fix every start and finish.
 pub fn weave_is_the_one_solution<C: Component>()
-    ensures { (events : List Event) (comps : List C) (timed : List Timed) →
+    ensures { (events : List Event) (comps : List C) (timed : List FiredEvent) →
         IsNumbered events → GraphFits C.serves C.floor events comps →
         (IsSolution C.stepped events comps timed ↔ (timed ≡ woven C.stepped events comps)) }
 {}

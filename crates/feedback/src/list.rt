@@ -26,12 +26,14 @@ impl Delays {
         Delays { list }
     }
 
+    /// The delay of each core, in cycles.
     pub fn as_slice(&self) -> &[u64]
         ensures { result.now ≡ self.now }
     {
         &self.list
     }
 
+    /// Gives the list back.
     pub fn into_list(self) -> Vec<u64>
         ensures { result.items ≡ self }
     {

@@ -10,7 +10,7 @@ use Rattle.machine_desc.specs.Keys.{KeyPath, Check, Ratio, range_check, pages_ch
 use Rattle.machine_desc.specs.Text.{natural, integer_at, version_of, integers_at}
 use Rattle.machine_desc.specs.Machine.{IsBetween, IsMemory, IsL1, IsL2, IsControllers, IsDomains, IsMachine}
 use Rattle.machine_desc.specs.Description.{checks_of, ratios_of, is_named, checks_refusal, ratios_refusal, written_domains, domain_refusal, names_refusal, document_refusal, memory_of, l1_of, l2_of, controllers_of, domains_of, numbers_of}
-use Rattle.machine_desc.proofs.Valid.{IsWithin, checks_none-append, check_none, integer_holds, share_holds, array_holds, ratio_none, ratio_holds, domains_hold, first_none, second_none, map_none}
+use Rattle.machine_desc.proofs.Valid.{IsInItsRange, checks_none-append, check_none, integer_holds, share_holds, array_holds, ratio_none, ratio_holds, domains_hold, first_none, second_none, map_none}
 
 -- the check and the ratio of this key
 abbrev is_check_of : KeyPath → Check → Bool
@@ -61,7 +61,7 @@ module _ (document : Members) (cs : List Check) (none : checks_refusal document 
       let holds = integer_holds document key (record { low = low; high = high; step = 1 }) (check_none document cs (is_check_of key) _ none found) in
       (holds.low, holds.high)
 
-  pages : (key : KeyPath) (low high : ℕ) → find (is_check_of key) cs ≡ Some (pages_check key low high) → IsWithin (record { low = low; high = high; step = 4096 }) (integer_at document key)
+  pages : (key : KeyPath) (low high : ℕ) → find (is_check_of key) cs ≡ Some (pages_check key low high) → IsInItsRange (record { low = low; high = high; step = 4096 }) (integer_at document key)
   pages key low high found = integer_holds document key _ (check_none document cs (is_check_of key) _ none found)
 
   listed : (key count : KeyPath) → find (is_check_of key) cs ≡ Some (array_check key count) → length (integers_at document key) ≡ integer_at document count

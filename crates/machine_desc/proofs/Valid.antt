@@ -67,26 +67,26 @@ value_passes is_good refusal missing None h = cc
 value_passes is_good refusal missing (Some d) h = integer_passes is_good (as_integer d) (map_none refusal _ h)
 
 -- the number is in the range
-pub record IsWithin (range : Range) (n : ℕ) : Type 0 where
+pub record IsInItsRange (range : Range) (n : ℕ) : Type 0 where
   pub low : range.low ≤ n
   pub high : n ≤ range.high
   pub step : n % range.step ≡ 0
 
-from_range : (range : Range) (z : ℤ) → is_in_range range z ≡ true → IsWithin range (natural z)
+from_range : (range : Range) (z : ℤ) → is_in_range range z ≡ true → IsInItsRange range (natural z)
 from_range range (pos n) h =
     let (ends, step) = and_parts (nat_le range.low n && nat_le n range.high) (n % range.step == 0) h in
     let (low, high) = and_parts (nat_le range.low n) (nat_le n range.high) ends in
     record { low = grind (arith, nat_tests); high = grind (arith, nat_tests); step = grind (arith, nat_tests) }
 from_range range (negsuc n) h = cc
 
-pub integer_holds : (document : Members) (key : KeyPath) (range : Range) → check_refusal document (record { key = key; rule = is_integer range }) ≡ None → IsWithin range (integer_at document key)
+pub integer_holds : (document : Members) (key : KeyPath) (range : Range) → check_refusal document (record { key = key; rule = is_integer range }) ≡ None → IsInItsRange range (integer_at document key)
 unfolding check_refusal bad_value integer_at
 integer_holds document key range h =
     let (z, passes) = value_passes (is_in_range range) (refusal_of key) _ (value_at document key) h in
     rw passes.1 (from_range range z passes.0)
 
 pub share_holds : (document : Members) (key : KeyPath) (range : Range) (times whole : KeyPath) → check_refusal document (record { key = key; rule = is_share range times whole }) ≡ None
-    → IsWithin range (integer_at document key) × (integer_at document times * integer_at document key ≤ integer_at document whole)
+    → IsInItsRange range (integer_at document key) × (integer_at document times * integer_at document key ≤ integer_at document whole)
 unfolding check_refusal bad_value integer_at
 share_holds document key range times whole h =
     let (z, passes) = value_passes (λ z. is_in_range range z && is_share_of (integer_at document times) (integer_at document whole) z) (refusal_of key) _ (value_at document key) h in

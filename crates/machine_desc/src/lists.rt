@@ -27,12 +27,14 @@ impl Places {
         Places { list }
     }
 
+    /// The domain of each, in order of their numbers.
     pub fn as_slice(&self) -> &[u16]
         ensures { result.now ≡ self.now }
     {
         &self.list
     }
 
+    /// Gives the list back.
     pub fn into_list(self) -> Vec<u16>
         ensures { result.items ≡ self }
     {
@@ -66,12 +68,14 @@ impl KeyName {
         }
     }
 
+    /// The bytes of the name.
     pub fn as_slice(&self) -> &[u8]
         ensures { result.now ≡ self.now }
     {
         self.text.as_bytes()
     }
 
+    /// Gives the bytes of the name.
     pub fn into_list(self) -> Vec<u8>
         ensures { result.items ≡ self }
     {

@@ -3,13 +3,13 @@ use Rattle.std.proofs.Common.{◌≡◌, ◌<◌, ◌≤◌, ◌+◌, ◌-◌, �
 use Rattle.zs_num.specs.declared.request.Request.TheVariants.{Load}
 use Rattle.rv_core.specs.declared.memory_range.MemoryRange.{MemoryRange}
 use Rattle.rv_core.specs.declared.pairing.Pairing.{Pairing}
-use Rattle.rv_core.specs.Accesses.{byte_loads, AreServed, IsServed}
+use Rattle.rv_core.specs.Accesses.{byte_loads, AreServableIn, IsServableIn}
 use Rattle.rv_core.specs.CoreState.{CoreState, ToConsole}
 use Rattle.rv_core.specs.Pairing.{ArePairedRight}
 use Rattle.rv_core.specs.Sound.{IsSoundCore}
 
 -- a byte of memory is in a line
-pub load_served : (memory : MemoryRange) (addr : ℕ) → memory.base ≤ addr → addr + 1 ≤ memory.base + memory.size → IsServed memory (Load addr 1)
+pub load_served : (memory : MemoryRange) (addr : ℕ) → memory.base ≤ addr → addr + 1 ≤ memory.base + memory.size → IsServableIn memory (Load addr 1)
 load_served memory addr begins ends = record {
   some = lit≤ tt;
   few = lit≤ tt;
@@ -19,7 +19,7 @@ load_served memory addr begins ends = record {
   aligned = tt;
 }
 
-pub loads_served : (memory : MemoryRange) (addr count : ℕ) → memory.base ≤ addr → addr + count ≤ memory.base + memory.size → AreServed memory (byte_loads addr count)
+pub loads_served : (memory : MemoryRange) (addr count : ℕ) → memory.base ≤ addr → addr + count ≤ memory.base + memory.size → AreServableIn memory (byte_loads addr count)
 loads_served memory addr zero begins ends = tt
 loads_served memory addr (suc count) begins ends =
     (load_served memory addr begins (omega arith), loads_served memory (addr + 1) count (omega arith) (omega arith))

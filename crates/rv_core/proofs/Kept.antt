@@ -4,7 +4,7 @@ use Rattle.std.specs.Prelude.{slice_index, if◌then◌else◌, ◌||◌}
 use Rattle.std.proofs.Math.Nat.{min-le_right}
 use Rattle.std.proofs.lemmas.Bool.{and_parts, eqb-true, leb-false, leb-true}
 use Rattle.std.proofs.lemmas.List.{get_or-set_other, length-set}
-use Rattle.zs_num.specs.Request.{addr_of, width_of, IsAligned, IsAtomic}
+use Rattle.zs_num.specs.Request.{addr_of, width_of, IsAligned, IsNaturallyAligned}
 use Rattle.zs_num.specs.declared.request.Request.{Request}
 use Rattle.rv_decode.specs.declared.inst.Inst.{Inst}
 use Rattle.rv_decode.specs.declared.name.Name.{Name}
@@ -15,7 +15,7 @@ use Rattle.rv_core.specs.declared.progress.Destination.{Destination}
 use Rattle.rv_core.specs.declared.progress.Reply.{Reply}
 use Rattle.rv_core.specs.declared.why.Why.{Why}
 use Rattle.rv_core.specs.declared.why.Why.TheVariants.{Exit}
-use Rattle.rv_core.specs.Accesses.{byte_loads, is_in_line, is_in_memory, load_requests, store_requests, AreServed}
+use Rattle.rv_core.specs.Accesses.{byte_loads, is_in_line, is_in_memory, load_requests, store_requests, AreServableIn}
 use Rattle.rv_core.specs.CoreState.{CoreState, Ending, ToRegister, ToConsole, ToNothing}
 use Rattle.rv_core.specs.Effect.{accesses, address, atomic, branches, calls, effect, ended, following, goes_through, goes_to, halts, jumps, loads, register, relative, stores, with_register, writes}
 use Rattle.rv_core.specs.Pairing.{ArePairedRight, IsPairedRight}
@@ -84,7 +84,7 @@ ended-keeps (ToConsole count) replies core s = goes_to-keeps core 10 count (foll
 ended-keeps ToNothing replies core s = goes_to-keeps core 0 0 (following core) s
 
 pub goes_through-keeps : (requests : List Request) (replies : List Reply) (ending : Ending) (core : CoreState) → IsSoundCore core
-    → AreServed core.memory requests → ArePairedRight core.pairing requests → EndsInRegister ending → length requests ≤ 256 → Keeps core (goes_through requests replies ending core)
+    → AreServableIn core.memory requests → ArePairedRight core.pairing requests → EndsInRegister ending → length requests ≤ 256 → Keeps core (goes_through requests replies ending core)
 goes_through-keeps [] replies ending core s served paired ends few = ended-keeps ending replies core s
 goes_through-keeps (request ∷ requests) replies ending core s served paired ends few = record {
   sound = record { registers = s.registers; zero = s.zero; reach = s.reach; served = served; paired = paired; ending = ends; few = few };
@@ -93,7 +93,7 @@ goes_through-keeps (request ∷ requests) replies ending core s served paired en
 }
 
 accesses-keeps : (addr width : ℕ) (requests : List Request) (ending : Ending) (core : CoreState) → IsSoundCore core
-    → (is_in_memory core.memory addr width ≡ true → AreServed core.memory requests) → ArePairedRight core.pairing requests → EndsInRegister ending → length requests ≤ 256
+    → (is_in_memory core.memory addr width ≡ true → AreServableIn core.memory requests) → ArePairedRight core.pairing requests → EndsInRegister ending → length requests ≤ 256
     → Keeps core (accesses addr width requests ending core)
 unfolding accesses
 accesses-keeps addr width requests ending core s served paired ends few =
@@ -110,7 +110,7 @@ inside_of memory addr width e =
     record { begins = leb-true _ _ both.0; ends = leb-true _ _ both.1 }
 
 -- either of two lists
-served-cond : (memory : MemoryRange) (test : Bool) (ones others : List Request) → (test ≡ true → AreServed memory ones) → (test ≡ false → AreServed memory others) → AreServed memory (if test then ones else others)
+served-cond : (memory : MemoryRange) (test : Bool) (ones others : List Request) → (test ≡ true → AreServableIn memory ones) → (test ≡ false → AreServableIn memory others) → AreServableIn memory (if test then ones else others)
 served-cond memory true ones others holds fails = holds refl
 served-cond memory false ones others holds fails = fails refl
 
@@ -118,7 +118,7 @@ paired-cond : (pairing : Option Pairing) (test : Bool) (ones others : List Reque
 paired-cond pairing true ones others holds fails = holds
 paired-cond pairing false ones others holds fails = fails
 
-loads-served : (memory : MemoryRange) (addr width : ℕ) → 1 ≤ width → width ≤ 8 → Inside memory addr width → AreServed memory (load_requests addr width)
+loads-served : (memory : MemoryRange) (addr width : ℕ) → 1 ≤ width → width ≤ 8 → Inside memory addr width → AreServableIn memory (load_requests addr width)
 unfolding load_requests
 loads-served memory addr width some few inside =
     served-cond memory (is_in_line addr width) _ _
@@ -129,7 +129,7 @@ loads-served memory addr width some few inside =
       (record { some = omega arith; few = omega arith; begins = omega arith; ends = omega arith; in_line = omega arith; aligned = tt }, tt),
     ))
 
-stores-served : (memory : MemoryRange) (addr width value : ℕ) → 1 ≤ width → width ≤ 8 → Inside memory addr width → AreServed memory (store_requests addr width value)
+stores-served : (memory : MemoryRange) (addr width value : ℕ) → 1 ≤ width → width ≤ 8 → Inside memory addr width → AreServableIn memory (store_requests addr width value)
 unfolding store_requests
 stores-served memory addr width value some few inside =
     served-cond memory (is_in_line addr width) _ _
@@ -181,7 +181,7 @@ aligned-in_line addr width (inl four) e = let e' : addr % 4 ≡ 0 = subst (λ w.
 aligned-in_line addr width (inr eight) e = let e' : addr % 8 ≡ 0 = subst (λ w. addr % w ≡ 0) eight e in omega arith
 
 atomic-keeps : (addr width : ℕ) (request : Request) (destination : Destination) (core : CoreState) → IsSoundCore core
-    → addr_of request ≡ addr → width_of request ≡ width → (width ≡ 4) ⊎ (width ≡ 8) → (IsAtomic addr width → IsAligned request) → IsPairedRight core.pairing request
+    → addr_of request ≡ addr → width_of request ≡ width → (width ≡ 4) ⊎ (width ≡ 8) → (IsNaturallyAligned addr width → IsAligned request) → IsPairedRight core.pairing request
     → destination.rd < 32 → destination.width ≡ width → Keeps core (atomic addr width request (ToRegister destination) core)
 unfolding atomic
 atomic-keeps addr width request destination core s same_addr same_width kind aligned paired rd size =

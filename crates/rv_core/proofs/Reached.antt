@@ -9,7 +9,7 @@ use Rattle.rv_core.specs.declared.memory_range.MemoryRange.{MemoryRange}
 use Rattle.rv_core.specs.declared.program.Fetched.{Fetched}
 use Rattle.rv_core.specs.declared.program.Fetched.TheVariants.{Outside, NoInstruction, Instruction}
 use Rattle.rv_core.specs.declared.why.Why.TheVariants.{Fetch, Illegal}
-use Rattle.rv_core.specs.Accesses.{reply_to, AreServed}
+use Rattle.rv_core.specs.Accesses.{reply_to, AreServableIn}
 use Rattle.rv_core.specs.CoreState.{CoreState, InProgress}
 use Rattle.rv_core.specs.Fetch.{fetched_at, of_decoded, of_word, HasRegisters}
 use Rattle.rv_core.specs.Laws.{Asks, none, advancing, answering, IsReached, starts, advances, is_answered}
@@ -56,7 +56,7 @@ idle-sound now core s = record { registers = s.registers; zero = s.zero; reach =
 after_reply-keeps : (now : InProgress) (reply : ℕ) (core : CoreState) → core.instruction ≡ Some now → IsSoundCore core
     → Keeps (record core { pairing = pairing_after core.pairing now.next; instruction = None }) (after_reply (Some now) reply core)
 after_reply-keeps now reply core e s =
-    let served : AreServed core.memory (left_of now) = subst (λ (o : Option InProgress). IfSome o (λ now. AreServed core.memory (left_of now))) e s.served in
+    let served : AreServableIn core.memory (left_of now) = subst (λ (o : Option InProgress). IfSome o (λ now. AreServableIn core.memory (left_of now))) e s.served in
     let paired : ArePairedRight core.pairing (left_of now) = subst (λ (o : Option InProgress). IfSome o (λ now. ArePairedRight core.pairing (left_of now))) e s.paired in
     let ending : EndsInRegister now.ending = subst (λ (o : Option InProgress). IfSome o (λ now. EndsInRegister now.ending)) e s.ending in
     let few : length now.later < 256 = subst (λ (o : Option InProgress). IfSome o (λ now. length now.later < 256)) e s.few in

@@ -64,10 +64,10 @@ sign_extended_bytes width number =
     if nat_lt number (2 ^ (8 * width - 1)) then number else (number + (2 ^ 64 - 2 ^ (8 * width))) % 2 ^ 64
 
 -- an access that memory can serve
-abbrev pub IsServed : MemoryRange → Request → Type 0
-IsServed memory request = IsServable memory.base memory.size request
+abbrev pub IsServableIn : MemoryRange → Request → Type 0
+IsServableIn memory request = IsServable memory.base memory.size request
 
 -- accesses that memory can serve
-abbrev pub AreServed : MemoryRange → List Request → Type 0
-AreServed memory [] = Unit {0}
-AreServed memory (request ∷ requests) = IsServed memory request × AreServed memory requests
+abbrev pub AreServableIn : MemoryRange → List Request → Type 0
+AreServableIn memory [] = Unit {0}
+AreServableIn memory (request ∷ requests) = IsServableIn memory request × AreServableIn memory requests

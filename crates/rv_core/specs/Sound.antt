@@ -4,7 +4,7 @@ use Rattle.zs_num.specs.declared.request.Request.{Request}
 use Rattle.rv_core.specs.declared.ask.Ask.{Ask}
 use Rattle.rv_core.specs.declared.ask.Ask.TheVariants.{Local, Access, Halted}
 use Rattle.rv_core.specs.declared.memory_range.MemoryRange.{MemoryRange}
-use Rattle.rv_core.specs.Accesses.{AreServed, IsServed}
+use Rattle.rv_core.specs.Accesses.{AreServableIn, IsServableIn}
 use Rattle.rv_core.specs.CoreState.{CoreState, Ending, ToRegister, ToConsole, ToNothing, InProgress}
 use Rattle.rv_core.specs.Pairing.{ArePairedRight}
 
@@ -24,13 +24,13 @@ pub record IsSoundCore (core : CoreState) : Type 0 where
   pub registers : length core.registers ≡ 32
   pub zero : slice_index core.registers 0 ≡ 0
   pub reach : core.memory.base + core.memory.size ≤ 2 ^ 48
-  pub served : IfSome core.instruction (λ now. AreServed core.memory (left_of now))
+  pub served : IfSome core.instruction (λ now. AreServableIn core.memory (left_of now))
   pub paired : IfSome core.instruction (λ now. ArePairedRight core.pairing (left_of now))
   pub ending : IfSome core.instruction (λ now. EndsInRegister now.ending)
   pub few : IfSome core.instruction (λ now. length now.later < 256)
 
 -- an access that is asked for can be served
-abbrev pub IsServedAsk : MemoryRange → Ask → Type 0
-IsServedAsk memory Local = Unit {0}
-IsServedAsk memory (Access request) = IsServed memory request
-IsServedAsk memory (Halted why) = Unit {0}
+abbrev pub IsServableAsk : MemoryRange → Ask → Type 0
+IsServableAsk memory Local = Unit {0}
+IsServableAsk memory (Access request) = IsServableIn memory request
+IsServableAsk memory (Halted why) = Unit {0}

@@ -1,7 +1,7 @@
 //! The state of a core.
 ghost use Rattle.std.specs.Prelude.{◌≡◌, ◌+◌, ◌<◌, ◌≤◌, ◌^◌, ◌++◌, [], ◌∷◌, None, IsTrue, IsSome, IfSome, option_map, is_some, option_to_list};
 ghost use Rattle.zs_num.specs.Request.{width_of};
-ghost use Rattle.rv_core.specs.Accesses.{byte_loads, is_in_memory, IsServed};
+ghost use Rattle.rv_core.specs.Accesses.{byte_loads, is_in_memory, IsServableIn};
 ghost use Rattle.rv_core.specs.CoreState.{ToConsole};
 ghost use Rattle.rv_core.specs.Effect.{ended, goes_on, goes_through, goes_to, halts, register};
 ghost use Rattle.rv_core.specs.Fetch.{fetched_at, HasRegisters};
@@ -100,7 +100,7 @@ impl Core {
     #[inline(always)]
     pub fn request(&self) -> Option<Request>
         ensures value { result ≡ option_map (λ now. now.next) self.now.instruction }
-        ensures served { IfSome result (IsServed self.now.memory) }
+        ensures served { IfSome result (IsServableIn self.now.memory) }
         ensures sound { IsSoundCore self.now }
     {
         match self.progress {
@@ -198,7 +198,7 @@ impl Core {
 
     /// Begins an instruction of one access.
     pub(crate) fn begin(&mut self, next: Request, destination: Option<Destination>)
-        requires served { IsServed self.old.memory next }
+        requires served { IsServableIn self.old.memory next }
         requires paired { IsPairedRight self.old.pairing next }
         requires ending { EndsInRegister (ending_of destination) }
         ensures { self.new ≡ goes_through (next ∷ []) [] (ending_of destination) self.old }
@@ -217,7 +217,7 @@ impl Core {
         upper: Request,
         destination: Option<Destination>,
     )
-        requires served { IsServed self.old.memory next × IsServed self.old.memory upper }
+        requires served { IsServableIn self.old.memory next × IsServableIn self.old.memory upper }
         requires narrow { width_of next < 8 }
         requires paired { ArePairedRight self.old.pairing (next ∷ upper ∷ []) }
         requires ending { EndsInRegister (ending_of destination) }

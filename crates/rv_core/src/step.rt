@@ -2,7 +2,7 @@
 ghost use Rattle.std.specs.Prelude.{◌≡◌, ◌<◌, false, IfNone, IfSome, IsTrue, OnSome};
 ghost use Rattle.rv_core.specs.Effect.{effect, goes_on, halts};
 ghost use Rattle.rv_core.specs.Fetch.{fetched_at, HasRegisters};
-ghost use Rattle.rv_core.specs.Sound.{IsServedAsk, IsSoundCore};
+ghost use Rattle.rv_core.specs.Sound.{IsServableAsk, IsSoundCore};
 ghost use Rattle.rv_core.specs.Step.{advanced, asked, executed, is_free};
 
 use crate::{Ask, Core, Fetched, Program, Why};
@@ -15,7 +15,7 @@ impl Core {
     pub fn next<P: Program>(&mut self, program: &P) -> Ask
         ensures value { self.new ≡ advanced (P.image program.now) self.old }
         ensures ask { result ≡ asked self.new.halted self.new.instruction }
-        ensures served { IsServedAsk self.new.memory result }
+        ensures served { IsServableAsk self.new.memory result }
         ensures sound { IsSoundCore self.new }
         ensures memory { self.new.memory ≡ self.old.memory }
     {
@@ -28,7 +28,7 @@ impl Core {
     /// What the core asks for.
     fn ask(&self) -> Ask
         ensures value { result ≡ asked self.now.halted self.now.instruction }
-        ensures served { IsServedAsk self.now.memory result }
+        ensures served { IsServableAsk self.now.memory result }
         ensures sound { IsSoundCore self.now }
     {
         match (self.halted(), self.request()) {

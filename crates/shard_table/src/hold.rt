@@ -9,7 +9,7 @@ ghost use Rattle.shard_table.specs.Lives.{MayAsk};
 ghost use Rattle.shard_table.specs.Steps.{IsEntryOf, gave_at, taken_at};
 
 use crate::plays::{Ends, Give, Take};
-use crate::rule::{Bench, Place};
+use crate::rule::{Bench, TableSeat};
 use crate::seat::{CoreSeat, Held};
 use crate::table::ShardTable;
 use std::marker::Brand;
@@ -105,7 +105,7 @@ impl ShardTable {
 }
 
 /// Takes a shard, and answers 0. Where another core holds it, answers that core's number plus 1.
-fn take(bench: &Bench, place: &mut Place, shard: usize, core: u16) -> u64
+fn take(bench: &Bench, place: &mut TableSeat, shard: usize, core: u16) -> u64
     requires table { place.old.table_id ≡ bench.now.table_id }
     requires word { (16 * shard < bench.now.table_id.words) × (16 * shard < 2 ^ 32) }
     requires shard { shard < length bench.now.key.shards.value.items }
@@ -122,7 +122,7 @@ fn take(bench: &Bench, place: &mut Place, shard: usize, core: u16) -> u64
 /// Serves an access by the shard that the seat has in hand.
 fn serve(
     bench: &Bench,
-    place: &mut Place,
+    place: &mut TableSeat,
     shard: usize,
     core: u16,
     start: Cycle,
@@ -142,7 +142,7 @@ fn serve(
 }
 
 /// Gives a shard back, after an access.
-fn give<E: Ends>(bench: &Bench, place: &mut Place, shard: usize, entry: Entry)
+fn give<E: Ends>(bench: &Bench, place: &mut TableSeat, shard: usize, entry: Entry)
     requires named { entry ≡ E.entry }
     requires table { place.old.table_id ≡ bench.now.table_id }
     requires word { (16 * shard < bench.now.table_id.words) × (16 * shard < 2 ^ 32) }

@@ -17,9 +17,10 @@ pub struct Opening {
     pub room: u32,
 }
 
-pub struct Holds;
+/// The rule of the words and the slots.
+pub struct WordRule;
 
-impl TableRule<Shard, View, Opening> for Holds {
+impl TableRule<Shard, View, Opening> for WordRule {
     ghost use Rattle.shard_table.specs.Views.{first_view};
     ghost use Rattle.shard_table.specs.Rule.{AreHoldsAtTable};
 
@@ -28,8 +29,11 @@ impl TableRule<Shard, View, Opening> for Holds {
     ghost first = { λ key. first_view key.shards.value.items key.cores key.room };
 }
 
-pub type Words = Table<Shard, View, Opening, Holds, Global>;
+/// The words, with the seats of those who step.
+pub type Words = Table<Shard, View, Opening, WordRule, Global>;
 
-pub type Bench = Shared<Shard, View, Opening, Holds>;
+/// The part of the table that all seats share.
+pub type Bench = Shared<Shard, View, Opening, WordRule>;
 
-pub type Place = Seat<Shard, View>;
+/// A seat at the table, by which a core steps.
+pub type TableSeat = Seat<Shard, View>;

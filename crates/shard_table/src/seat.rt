@@ -3,7 +3,7 @@ ghost use Rattle.std.specs.Prelude.{◌≡◌, ◌<◌, []};
 ghost use Rattle.shard_table.specs.Views.{next_seat, with_one_seat_more};
 
 use crate::plays::Cut;
-use crate::rule::{Bench, Place};
+use crate::rule::{Bench, TableSeat};
 use access_log::CoreLog;
 use std::marker::Model;
 use zs_num::{Entry, Stamp};
@@ -12,7 +12,7 @@ use zs_num::{Entry, Stamp};
 /// a table.
 #[derive(Drop)]
 pub struct CoreSeat {
-    pub(crate) place: Place,
+    pub(crate) place: TableSeat,
     pub(crate) log: CoreLog,
     pub(crate) last: Stamp,
     pub(crate) core: u16,

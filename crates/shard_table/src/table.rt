@@ -11,7 +11,7 @@ ghost use Rattle.shard_table.specs.Views.{first_view};
 
 use crate::buffers::Buffers;
 use crate::plays::Glue;
-use crate::rule::{Bench, Opening, Place, Words};
+use crate::rule::{Bench, Opening, TableSeat, Words};
 use crate::seat::CoreSeat;
 use access_log::CoreLog;
 use atomic_table::Closed;
@@ -160,7 +160,7 @@ impl ShardTable {
 /// The seats of all cores, in order, of which this is the first.
 fn seats(
     bench: &Bench,
-    place: Place,
+    place: TableSeat,
     mut logs: Vec<CoreLog>,
     mut seats: Vec<CoreSeat>,
     cores: u16,

@@ -7,7 +7,7 @@ use Rattle.std.specs.List.{enumerate_from}
 use Rattle.std.specs.Option.{option_map, option_map_or, option_to_list}
 use Rattle.component.specs.declared.kind.Kind.{Kind}
 use Rattle.event_graph.specs.declared.event.Event.{Event}
-use Rattle.event_graph.specs.OneListWeave.{Timed, is_event_before, is_fired, start_of}
+use Rattle.event_graph.specs.OneListWeave.{FiredEvent, is_event_before, is_fired, start_of}
 use Rattle.domain_map.specs.declared.crossing.Crossing.{Crossing}
 use Rattle.domain_map.specs.Domains.{Partition, IsPartition, domain_of_event}
 use Rattle.weave_core.specs.DomainMachine.{DomainState, MachineState, arrival_of, barrier, cycle_of, effect_of, fire, fresh_domain, is_allowed, is_clear, is_exact, is_ready_in, is_unresolved, known_finish, latency_at, latency_of, least_ready_start, next_in, ready_starts, state_of, take_step, with_floor, word_at}
@@ -44,14 +44,14 @@ from_starts events p n (x ∷ xs) v h =
 less_test : (a b : ℕ) → a < b → ltb a b ≡ true
 less_test a b h = grind (arith, nat_tests)
 
-module _ {C : Type 0} (stepped : C → Kind → ℕ → C × ℕ) (events : List Event) (p : Partition) (comps : List C) (all : List Timed)
+module _ {C : Type 0} (stepped : C → Kind → ℕ → C × ℕ) (events : List Event) (p : Partition) (comps : List C) (all : List FiredEvent)
     (o : IsOrder events all) (div : IsPartition events p)
-    (here : (k : ℕ) (x : Timed) → slice_get all k ≡ Some x → domain_of_event p.places x.event < length p.events)
+    (here : (k : ℕ) (x : FiredEvent) → slice_get all k ≡ Some x → domain_of_event p.places x.event < length p.events)
     (s : MachineState C) (h : AreFronts stepped events p comps all o div s)
     (resolved : (number : ℕ) (x : Crossing) → slice_get p.crossings number ≡ Some x → is_fired (state_of s x.source).fired x.parent ≡ true → is_exact (word_at (state_of s x.target).known number) ≡ true)
-    (k : ℕ) (x : Timed) (there : slice_get all k ≡ Some x)
+    (k : ℕ) (x : FiredEvent) (there : slice_get all k ≡ Some x)
     (unfired : is_fired (state_of s (domain_of_event p.places x.event)).fired x.event.number ≡ false)
-    (before : (earlier : ℕ) (y : Timed) → earlier < k → slice_get all earlier ≡ Some y → is_fired (state_of s (domain_of_event p.places y.event)).fired y.event.number ≡ true) where
+    (before : (earlier : ℕ) (y : FiredEvent) → earlier < k → slice_get all earlier ≡ Some y → is_fired (state_of s (domain_of_event p.places y.event)).fired y.event.number ≡ true) where
   first : IsFirst (is_left stepped events p comps all o div here s h resolved) all k x
   first = record {
     there = there;
@@ -62,14 +62,14 @@ module _ {C : Type 0} (stepped : C → Kind → ℕ → C × ℕ) (events : List
               let f : is_fired (of_domain p.places (domain_of_event p.places x.event) (take (h.cut (domain_of_event p.places x.event)) all)) x.event.number ≡ true =
               fired_before events all o p.places (domain_of_event p.places x.event) (h.cut (domain_of_event p.places x.event)) k x l there refl
               in
-              absurd (false≢true (sym unfired ∙ (ap (λ (xs : List Timed). is_fired xs x.event.number) (h.domains (domain_of_event p.places x.event)).fired ∙ f)))
+              absurd (false≢true (sym unfired ∙ (ap (λ (xs : List FiredEvent). is_fired xs x.event.number) (h.domains (domain_of_event p.places x.event)).fired ∙ f)))
         ]);
     before = λ j y l e.
         elim (test_cases (is_left stepped events p comps all o div here s h resolved j y)) [
           | inr fails_it ↦ fails_it
           | inl passes_it ↦
               let f : is_fired (of_domain p.places (domain_of_event p.places y.event) (take (h.cut (domain_of_event p.places y.event)) all)) y.event.number ≡ true =
-              ap (λ (xs : List Timed). is_fired xs y.event.number) (sym (h.domains (domain_of_event p.places y.event)).fired) ∙ before j y l e
+              ap (λ (xs : List FiredEvent). is_fired xs y.event.number) (sym (h.domains (domain_of_event p.places y.event)).fired) ∙ before j y l e
               in
               let b = before_fired events all o p.places (domain_of_event p.places y.event) (h.cut (domain_of_event p.places y.event)) j y e f in
               absurd (omega (arith, b.0, left_is stepped events p comps all o div here s h resolved j y passes_it))
@@ -81,7 +81,7 @@ module _ {C : Type 0} (stepped : C → Kind → ℕ → C × ℕ) (events : List
 
   -- no event that a domain may come to is before x
   not_earlier : (d : ℕ) (b : Event × ℕ) → next_in events p d (state_of s d) ≡ Some b
-      → (j : ℕ) × ((y : Timed) × ((k ≤ j) × ((slice_get all j ≡ Some y) × ((y.event ≡ b.0) × (y.start ≡ b.1)))))
+      → (j : ℕ) × ((y : FiredEvent) × ((k ≤ j) × ((slice_get all j ≡ Some y) × ((y.event ≡ b.0) × (y.start ≡ b.1)))))
   not_earlier d b is =
       let own = h.domains d in
       let l : IsLeast (is_ready_in events p d (state_of s d)) (λ e. start_of (known_finish events p d (state_of s d)) e) events b =
@@ -104,13 +104,13 @@ module _ {C : Type 0} (stepped : C → Kind → ℕ → C × ℕ) (events : List
         ),
       )
 
-  later_start : (j : ℕ) (y : Timed) → k ≤ j → slice_get all j ≡ Some y → x.start ≤ y.start
+  later_start : (j : ℕ) (y : FiredEvent) → k ≤ j → slice_get all j ≡ Some y → x.start ≤ y.start
   later_start j y l e =
       elim (cases_lt k j) [
         | inl less ↦ before_start x y (o.order k j x y less there e)
         | inr m ↦
             let same : k ≡ j = omega (arith, l) in
-            let t : x.start ≡ y.start = ap (λ (z : Timed). z.start) (same_Some x y (sym there ∙ (ap (slice_get all) same ∙ e))) in
+            let t : x.start ≡ y.start = ap (λ (z : FiredEvent). z.start) (same_Some x y (sym there ∙ (ap (slice_get all) same ∙ e))) in
             omega (arith, t)
       ]
 
@@ -148,8 +148,8 @@ module _ {C : Type 0} (stepped : C → Kind → ℕ → C × ℕ) (events : List
         | inr m ↦
             let same : k ≡ n.0 = omega (arith, n.1.1.0) in
             let is : x ≡ n.1.0 = same_Some x n.1.0 (sym there ∙ (ap (slice_get all) same ∙ n.1.1.1.0)) in
-            let e : b.0.0 ≡ x.event = sym (ap (λ (z : Timed). z.event) is ∙ n.1.1.1.1.0) in
-            let t : b.0.1 ≡ x.start = sym (ap (λ (z : Timed). z.start) is ∙ n.1.1.1.1.1) in
+            let e : b.0.0 ≡ x.event = sym (ap (λ (z : FiredEvent). z.event) is ∙ n.1.1.1.1.0) in
+            let t : b.0.1 ≡ x.start = sym (ap (λ (z : FiredEvent). z.start) is ∙ n.1.1.1.1.1) in
             b.1 ∙ (ap (λ (z : Event). Some (z, b.0.1)) e ∙ ap (λ (v : ℕ). Some (x.event, v)) t)
       ]
 

@@ -2,7 +2,7 @@
 use Rattle.std.proofs.Common.{◌≡◌, ◌<◌, ◌≤◌, ℕ, eqb, List, [], length, take, Some, slice_get, ◌∙◌, ap, arith}
 use Rattle.component.specs.declared.kind.Kind.{Kind}
 use Rattle.event_graph.specs.declared.event.Event.{Event}
-use Rattle.event_graph.specs.OneListWeave.{Timed, weave, woven}
+use Rattle.event_graph.specs.OneListWeave.{FiredEvent, weave, woven}
 use Rattle.event_graph.specs.TimingSolution.{IsInOrder, IsSolution}
 use Rattle.domain_map.specs.Domains.{Partition, IsPartition, domain_of_event}
 use Rattle.weave_core.specs.AtBarrier.{AreSoundDomains, IsFirstLeft, KnowFiredParents, MayGoOn, least_start_of, own_at}
@@ -18,11 +18,11 @@ use Rattle.weave_core.proofs.Steps.{AreFronts}
 
 module _ {C : Type 0} (stepped : C → Kind → ℕ → C × ℕ) (events : List Event) (p : Partition) (comps : List C)
     (o : IsOrder events (weave stepped events comps).fired) (div : IsPartition events p)
-    (here : (k : ℕ) (x : Timed) → slice_get (weave stepped events comps).fired k ≡ Some x → domain_of_event p.places x.event < length p.events)
+    (here : (k : ℕ) (x : FiredEvent) → slice_get (weave stepped events comps).fired k ≡ Some x → domain_of_event p.places x.event < length p.events)
     (in_order : IsInOrder (weave stepped events comps).fired)
-    (timed : List Timed) (solution : IsSolution stepped events comps timed) (is : timed ≡ woven stepped events comps)
+    (timed : List FiredEvent) (solution : IsSolution stepped events comps timed) (is : timed ≡ woven stepped events comps)
     (owns : List DomainState) (h : AreSoundDomains stepped events p comps timed solution owns) (told : KnowFiredParents p owns) where
-  abbrev all : List Timed
+  abbrev all : List FiredEvent
   all = (weave stepped events comps).fired
 
   abbrev state : MachineState C
@@ -34,9 +34,9 @@ module _ {C : Type 0} (stepped : C → Kind → ℕ → C × ℕ) (events : List
   cut_of : (d : ℕ) → (cut : ℕ) × ((own_at owns d).fired ≡ of_domain p.places d (take cut all))
   cut_of d =
       let cut : (cut : ℕ) × (take (length (own_at owns d).fired) (of_domain p.places d all) ≡ of_domain p.places d (take cut all)) =
-      front_cut (λ (y : Timed). eqb (domain_of_event p.places y.event) d) all (length (own_at owns d).fired)
+      front_cut (λ (y : FiredEvent). eqb (domain_of_event p.places y.event) d) all (length (own_at owns d).fired)
       in
-      (cut.0, h.fired d ∙ (ap (λ (xs : List Timed). take (length (own_at owns d).fired) (of_domain p.places d xs)) order ∙ cut.1))
+      (cut.0, h.fired d ∙ (ap (λ (xs : List FiredEvent). take (length (own_at owns d).fired) (of_domain p.places d xs)) order ∙ cut.1))
 
   abbrev at_fronts : AreFronts stepped events p comps all o div state
   at_fronts = record {
@@ -56,7 +56,7 @@ module _ {C : Type 0} (stepped : C → Kind → ℕ → C × ℕ) (events : List
         omega (arith, l, start_alike stepped events comps o timed is x.parent);
   }
 
-  pub may_go_on : (index : ℕ) (x : Timed) → IsFirstLeft stepped events p comps owns index x → MayGoOn events p owns x
+  pub may_go_on : (index : ℕ) (x : FiredEvent) → IsFirstLeft stepped events p comps owns index x → MayGoOn events p owns x
   may_go_on index x f =
       let s = start_at stepped events p comps all o div here state at_fronts told.each index x f.there f.unfired f.before in
       record {

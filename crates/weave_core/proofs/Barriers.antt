@@ -8,7 +8,7 @@ use Rattle.std.specs.List.{enumerate_from}
 use Rattle.std.specs.Option.{option_map, option_map_or, option_to_list}
 use Rattle.component.specs.declared.kind.Kind.{Kind}
 use Rattle.event_graph.specs.declared.event.Event.{Event}
-use Rattle.event_graph.specs.OneListWeave.{Timed, is_fired, start_of}
+use Rattle.event_graph.specs.OneListWeave.{FiredEvent, is_fired, start_of}
 use Rattle.domain_map.specs.declared.crossing.Crossing.{Crossing}
 use Rattle.domain_map.specs.Domains.{Partition, IsPartition, domain_of_event}
 use Rattle.weave_core.specs.DomainMachine.{DomainState, MachineState, barrier, effect_of, every_crossing, fresh_domain, is_allowed, is_exact, is_ready_in, is_settled, known_finish, least, least_ready_start, next_in, ready_starts, state_of, with_floor, word_at}
@@ -44,9 +44,9 @@ at_domain [] d l = absurd (omega arith)
 at_domain (x ∷ xs) zero l = refl
 at_domain (x ∷ xs) (suc d) l = at_domain xs d (omega arith)
 
-module _ {C : Type 0} (stepped : C → Kind → ℕ → C × ℕ) (events : List Event) (p : Partition) (comps : List C) (all : List Timed)
+module _ {C : Type 0} (stepped : C → Kind → ℕ → C × ℕ) (events : List Event) (p : Partition) (comps : List C) (all : List FiredEvent)
     (o : IsOrder events all) (div : IsPartition events p)
-    (here : (k : ℕ) (x : Timed) → slice_get all k ≡ Some x → domain_of_event p.places x.event < length p.events) where
+    (here : (k : ℕ) (x : FiredEvent) → slice_get all k ≡ Some x → domain_of_event p.places x.event < length p.events) where
   -- a crossing of a fired parent is resolved
   pub settled_is : (s : MachineState C) → every_crossing events p (is_settled events p stepped s) ≡ true → (number : ℕ) (x : Crossing) → slice_get p.crossings number ≡ Some x
       → is_fired (state_of s x.source).fired x.parent ≡ true → is_exact (word_at (state_of s x.target).known number) ≡ true
@@ -62,17 +62,17 @@ module _ {C : Type 0} (stepped : C → Kind → ℕ → C × ℕ) (events : List
   module _ (s : MachineState C) (h : AreFronts stepped events p comps all o div s)
       (resolved : (number : ℕ) (x : Crossing) → slice_get p.crossings number ≡ Some x → is_fired (state_of s x.source).fired x.parent ≡ true → is_exact (word_at (state_of s x.target).known number) ≡ true) where
     -- the event's domain has it yet to fire
-    abbrev pub is_left : ℕ → Timed → Bool
+    abbrev pub is_left : ℕ → FiredEvent → Bool
     is_left k x = leb (h.cut (domain_of_event p.places x.event)) k
 
-    pub left_test : (k : ℕ) (x : Timed) → h.cut (domain_of_event p.places x.event) ≤ k → is_left k x ≡ true
+    pub left_test : (k : ℕ) (x : FiredEvent) → h.cut (domain_of_event p.places x.event) ≤ k → is_left k x ≡ true
     left_test k x l = grind (arith, nat_tests)
 
-    pub left_is : (k : ℕ) (x : Timed) → is_left k x ≡ true → h.cut (domain_of_event p.places x.event) ≤ k
+    pub left_is : (k : ℕ) (x : FiredEvent) → is_left k x ≡ true → h.cut (domain_of_event p.places x.event) ≤ k
     left_is k x t = grind (arith, nat_tests)
 
     -- the first event that is left is ready in its domain
-    pub first_left_ready : (k : ℕ) (x : Timed) → IsFirst is_left all k x
+    pub first_left_ready : (k : ℕ) (x : FiredEvent) → IsFirst is_left all k x
         → is_ready_in events p (domain_of_event p.places x.event) (state_of s (domain_of_event p.places x.event)) x.event ≡ true
     first_left_ready k x f =
         let d : ℕ = domain_of_event p.places x.event in
@@ -94,7 +94,7 @@ module _ {C : Type 0} (stepped : C → Kind → ℕ → C × ℕ) (events : List
         elim (first_pending events p all o div (domain_of_event p.places x.event) (h.cut (domain_of_event p.places x.event)) (state_of s (domain_of_event p.places x.event)) own.fired own.known (bounds_from stepped events p comps all o div _ _ _ own) k x first) [
           | inl ready ↦ ready
           | inr a ↦
-              let q : (i : ℕ) × ((w : Timed) × ((i < k) × ((slice_get all i ≡ Some w) × ((w.event.number ≡ a.crossing.parent) × (a.crossing.source ≡ domain_of_event p.places w.event))))) =
+              let q : (i : ℕ) × ((w : FiredEvent) × ((i < k) × ((slice_get all i ≡ Some w) × ((w.event.number ≡ a.crossing.parent) × (a.crossing.source ≡ domain_of_event p.places w.event))))) =
               parent_before events p all o div a.number a.crossing a.there k x f.there (sym a.child)
               in
               let below : q.0 < h.cut (domain_of_event p.places q.1.0.event) =
@@ -108,7 +108,7 @@ module _ {C : Type 0} (stepped : C → Kind → ℕ → C × ℕ) (events : List
               in
               let known : is_fired (state_of s a.crossing.source).fired a.crossing.parent ≡ true =
               ap (λ n. is_fired (state_of s n).fired a.crossing.parent) q.1.1.1.1.1
-              ∙ (ap (λ (xs : List Timed). is_fired xs a.crossing.parent) (h.domains (domain_of_event p.places q.1.0.event)).fired
+              ∙ (ap (λ (xs : List FiredEvent). is_fired xs a.crossing.parent) (h.domains (domain_of_event p.places q.1.0.event)).fired
               ∙ (ap (is_fired (of_domain p.places (domain_of_event p.places q.1.0.event) (take (h.cut (domain_of_event p.places q.1.0.event)) all))) (sym q.1.1.1.1.0) ∙ fired))
               in
               let exact : is_exact (word_at (state_of s (domain_of_event p.places x.event)).known a.number) ≡ true =
@@ -118,7 +118,7 @@ module _ {C : Type 0} (stepped : C → Kind → ℕ → C × ℕ) (events : List
         ]
 
     -- while an event is left, some domain has one ready
-    pub some_start : (k : ℕ) (x : Timed) → IsFirst is_left all k x → (start : ℕ) × (least_ready_start events p stepped s ≡ Some start)
+    pub some_start : (k : ℕ) (x : FiredEvent) → IsFirst is_left all k x → (start : ℕ) × (least_ready_start events p stepped s ≡ Some start)
     some_start k x f =
         let ready = first_left_ready k x f in
         let i : In x.event events = at_in x.event events x.event.number (o.event k x f.there) in
@@ -135,10 +135,10 @@ module _ {C : Type 0} (stepped : C → Kind → ℕ → C × ℕ) (events : List
         (v.0, v.1.0)
 
     -- no event that is left starts before the least start of a ready event
-    pub least_start : (start : ℕ) → least_ready_start events p stepped s ≡ Some start → (k : ℕ) (x : Timed) → slice_get all k ≡ Some x
+    pub least_start : (start : ℕ) → least_ready_start events p stepped s ≡ Some start → (k : ℕ) (x : FiredEvent) → slice_get all k ≡ Some x
         → h.cut (domain_of_event p.places x.event) ≤ k → start ≤ x.start
     least_start start is k x there left =
-        let f : (j : ℕ) × ((y : Timed) × ((j ≤ k) × IsFirst is_left all j y)) = first_of is_left all k x there (left_test k x left) in
+        let f : (j : ℕ) × ((y : FiredEvent) × ((j ≤ k) × IsFirst is_left all j y)) = first_of is_left all k x there (left_test k x left) in
         let ready = first_left_ready f.0 f.1.0 f.1.1.1 in
         let d : ℕ = domain_of_event p.places f.1.0.event in
         let own = h.domains (domain_of_event p.places f.1.0.event) in
@@ -174,7 +174,7 @@ module _ {C : Type 0} (stepped : C → Kind → ℕ → C × ℕ) (events : List
           | inl less ↦ before_start f.1.0 x (o.order f.0 k f.1.0 x less f.1.1.1.there there)
           | inr m2 ↦
               let e : f.0 ≡ k = omega (arith, f.1.1.0) in
-              let t : f.1.0.start ≡ x.start = ap (λ (z : Timed). z.start) (same_Some f.1.0 x (sym f.1.1.1.there ∙ (ap (slice_get all) e ∙ there))) in
+              let t : f.1.0.start ≡ x.start = ap (λ (z : FiredEvent). z.start) (same_Some f.1.0 x (sym f.1.1.1.there ∙ (ap (slice_get all) e ∙ there))) in
               omega (arith, t)
         ]
         in
@@ -195,7 +195,7 @@ module _ {C : Type 0} (stepped : C → Kind → ℕ → C × ℕ) (events : List
               in
               let known : is_fired (state_of s x.source).fired x.parent ≡ true =
               ap (λ n. is_fired (state_of s n).fired x.parent) q.1.1.1.1
-              ∙ (ap (λ (xs : List Timed). is_fired xs x.parent) (h.domains (domain_of_event p.places q.1.0.event)).fired
+              ∙ (ap (λ (xs : List FiredEvent). is_fired xs x.parent) (h.domains (domain_of_event p.places q.1.0.event)).fired
               ∙ (ap (is_fired (of_domain p.places (domain_of_event p.places q.1.0.event) (take (h.cut (domain_of_event p.places q.1.0.event)) all))) (sym q.1.1.1.0) ∙ fired))
               in
               absurd (false≢true (sym unknown ∙ (ap (λ n. is_exact (word_at (state_of s n).known number)) (sym target) ∙ resolved number x there known)))

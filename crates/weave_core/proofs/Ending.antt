@@ -14,7 +14,7 @@ use Rattle.component.specs.declared.kind.Kind.{Kind}
 use Rattle.event_graph.specs.declared.event.Event.{Event}
 use Rattle.event_graph.specs.declared.event.Parent.{Parent}
 use Rattle.event_graph.specs.declared.fired.Fired.{Fired}
-use Rattle.event_graph.specs.OneListWeave.{Timed, after_parent, comps_after, find_fired, finish_in, finish_or_zero, fired_of, fired_or_unfired, is_fired, start_of, timed_in, weave, woven}
+use Rattle.event_graph.specs.OneListWeave.{FiredEvent, after_parent, comps_after, find_fired, finish_in, finish_or_zero, fired_of, fired_or_unfired, is_fired, start_of, fired_event_in, weave, woven}
 use Rattle.event_graph.specs.TimingSolution.{after_serving, of_component}
 use Rattle.domain_map.specs.declared.crossing.Crossing.{Crossing}
 use Rattle.domain_map.specs.Domains.{Partition, domain_at, domain_of_event, domain_of_number}
@@ -144,10 +144,10 @@ in_take xs n m x l h =
 
 module _ {C : Type 0} (serves : C → Kind → Bool) (floor : C → Kind → ℕ) (stepped : C → Kind → ℕ → C × ℕ) (greatest : C → Kind → ℕ → ℕ) (events : List Event) (p : Partition) (comps : List C)
     (f : Facts serves floor stepped greatest events p comps) where
-  abbrev all : List Timed
+  abbrev all : List FiredEvent
   all = (weave stepped events comps).fired
 
-  abbrev timed : List Timed
+  abbrev timed : List FiredEvent
   timed = woven stepped events comps
 
   -- all domains at once
@@ -166,7 +166,7 @@ module _ {C : Type 0} (serves : C → Kind → Bool) (floor : C → Kind → ℕ
       by_fired d None e = subst (λ (own : DomainState). IsFront own.fired (of_domain p.places d f.solution.sorted)) (sym (own_none vs d e)) (none_taken (of_domain p.places d f.solution.sorted))
       by_fired d (Some v) e =
           subst (λ (own : DomainState). IsFront own.fired (of_domain p.places d f.solution.sorted)) (sym (own_some vs d v e))
-          ((h.each d v e).keeps.fired ∙ ap (λ (xs : List Timed). take (length v.own.fired) (of_domain p.places d xs)) (sym order))
+          ((h.each d v e).keeps.fired ∙ ap (λ (xs : List FiredEvent). take (length v.own.fired) (of_domain p.places d xs)) (sym order))
 
       by_known : (d : ℕ) (o : Option (DomainValue C)) → slice_get vs d ≡ o → AreSoundWords timed p (own_at (owns_of vs) d).known
       by_known d None e = subst (λ (own : DomainState). AreSoundWords timed p own.known) (sym (own_none vs d e)) (record { each = λ n x h. subst (IsSoundWord timed x) (sym (no_word n)) (omega arith) })
@@ -178,25 +178,25 @@ module _ {C : Type 0} (serves : C → Kind → Bool) (floor : C → Kind → ℕ
 
   -- what a domain fired
 
-  in_all : (domain : ℕ) (own : DomainState) (parts : List C) → KeepsTo stepped events p comps domain own parts → (x : Timed) → In x own.fired → In x all
+  in_all : (domain : ℕ) (own : DomainState) (parts : List C) → KeepsTo stepped events p comps domain own parts → (x : FiredEvent) → In x own.fired → In x all
   in_all domain own parts k x h =
       let at : (i : ℕ) × (slice_get own.fired i ≡ Some x) = in_at x own.fired h in
-      let r = get_take (of_domain p.places domain all) (length own.fired) at.0 x (ap (λ (xs : List Timed). slice_get xs at.0) (sym k.fired) ∙ at.1) in
-      (from_filter (λ (y : Timed). eqb (domain_of_event p.places y.event) domain) x all (at_in x (of_domain p.places domain all) at.0 r.1)).0
+      let r = get_take (of_domain p.places domain all) (length own.fired) at.0 x (ap (λ (xs : List FiredEvent). slice_get xs at.0) (sym k.fired) ∙ at.1) in
+      (from_filter (λ (y : FiredEvent). eqb (domain_of_event p.places y.event) domain) x all (at_in x (of_domain p.places domain all) at.0 r.1)).0
 
-  answer_at : (k : ℕ) (x : Timed) → slice_get all k ≡ Some x → slice_get (map fired_of timed) x.event.number ≡ Some (fired_of x)
+  answer_at : (k : ℕ) (x : FiredEvent) → slice_get all k ≡ Some x → slice_get (map fired_of timed) x.event.number ≡ Some (fired_of x)
   unfolding woven
   answer_at k x h =
-      slice_get-map fired_of (map (timed_in all) events) x.event.number
-      ∙ (ap (option_map fired_of) (slice_get-map (timed_in all) events x.event.number)
-      ∙ (ap (λ (o : Option Event). option_map fired_of (option_map (timed_in all) o)) (f.order.event k x h)
-      ∙ ap (λ (o : Option Timed). Some (fired_of (fired_or_unfired x.event o))) (all_known events all f.order k x h)))
+      slice_get-map fired_of (map (fired_event_in all) events) x.event.number
+      ∙ (ap (option_map fired_of) (slice_get-map (fired_event_in all) events x.event.number)
+      ∙ (ap (λ (o : Option Event). option_map fired_of (option_map (fired_event_in all) o)) (f.order.event k x h)
+      ∙ ap (λ (o : Option FiredEvent). Some (fired_of (fired_or_unfired x.event o))) (all_known events all f.order k x h)))
 
-  pub firings : (domain : ℕ) (own : DomainState) (parts : List C) (place : ℕ) (x : Timed) → KeepsTo stepped events p comps domain own parts → slice_get own.fired place ≡ Some x
+  pub firings : (domain : ℕ) (own : DomainState) (parts : List C) (place : ℕ) (x : FiredEvent) → KeepsTo stepped events p comps domain own parts → slice_get own.fired place ≡ Some x
       → IsWeaveFiring stepped events p comps domain x
   firings domain own parts place x k h =
-      let r = get_take (of_domain p.places domain all) (length own.fired) place x (ap (λ (xs : List Timed). slice_get xs place) (sym k.fired) ∙ h) in
-      let m = from_filter (λ (y : Timed). eqb (domain_of_event p.places y.event) domain) x all (at_in x (of_domain p.places domain all) place r.1) in
+      let r = get_take (of_domain p.places domain all) (length own.fired) place x (ap (λ (xs : List FiredEvent). slice_get xs place) (sym k.fired) ∙ h) in
+      let m = from_filter (λ (y : FiredEvent). eqb (domain_of_event p.places y.event) domain) x all (at_in x (of_domain p.places domain all) place r.1) in
       let at : (j : ℕ) × (slice_get all j ≡ Some x) = in_at x all m.0 in
       record {
         there = f.order.event at.0 x at.1;
@@ -207,7 +207,7 @@ module _ {C : Type 0} (serves : C → Kind → Bool) (floor : C → Kind → ℕ
 
   pub counts : (length (weave stepped events comps).fired ≡ length events) × (length (map fired_of (woven stepped events comps)) ≡ length events)
   unfolding woven
-  counts = (f.count, length-map (map (timed_in all) events) fired_of ∙ length-map events (timed_in all))
+  counts = (f.count, length-map (map (fired_event_in all) events) fired_of ∙ length-map events (fired_event_in all))
 
   pub log : (domain : ℕ) (own : DomainState) (parts : List C) (fired : List Fired) → KeepsTo stepped events p comps domain own parts → own.fired ≡ map (timed_from events) fired → map fired_of own.fired ≡ fired
   log domain own parts fired k is = ap (map fired_of) is ∙ same_log events fired each
@@ -215,7 +215,7 @@ module _ {C : Type 0} (serves : C → Kind → Bool) (floor : C → Kind → ℕ
       each : (i : ℕ) (g : Fired) → slice_get fired i ≡ Some g → fired_of (timed_from events g) ≡ g
       each i g h =
           let there : slice_get own.fired i ≡ Some (timed_from events g) =
-          ap (λ (xs : List Timed). slice_get xs i) is ∙ (slice_get-map (timed_from events) fired i ∙ ap (option_map (timed_from events)) h)
+          ap (λ (xs : List FiredEvent). slice_get xs i) is ∙ (slice_get-map (timed_from events) fired i ∙ ap (option_map (timed_from events)) h)
           in
           let at : (j : ℕ) × (slice_get all j ≡ Some (timed_from events g)) = in_at (timed_from events g) all (in_all domain own parts k (timed_from events g) (at_in (timed_from events g) own.fired i there)) in
           elim (cases_lt g.number (length events)) [
@@ -240,7 +240,7 @@ module _ {C : Type 0} (serves : C → Kind → Bool) (floor : C → Kind → ℕ
       each : (i : ℕ) (e : Event) → slice_get events i ≡ Some e → IsSmallEvent e
       each i e h =
           let named : slice_get events e.number ≡ Some e = ap (slice_get events) (f.order.numbered i e h) ∙ h in
-          let w : (k : ℕ) × (x : Timed) × (slice_get all k ≡ Some x) × (x.event ≡ e) = f.order.each e named in
+          let w : (k : ℕ) × (x : FiredEvent) × (slice_get all k ≡ Some x) × (x.event ≡ e) = f.order.each e named in
           let time : w.1.start + latency_of e ≤ w.1.finish = subst (λ (z : Event). w.1.start + latency_of z ≤ w.1.finish) w.3 (f.order.time w.0 w.1 w.2) in
           let some : 1 ≤ latency_of e = subst (λ (z : Event). 1 ≤ latency_of z) w.3 (f.order.some w.0 w.1 w.2) in
           let start : w.1.start ≡ start_of (finish_in all) e = start_by_all events all f.order w.0 w.1 w.2 ∙ ap (start_of (finish_in all)) w.3 in
@@ -258,14 +258,14 @@ module _ {C : Type 0} (serves : C → Kind → Bool) (floor : C → Kind → ℕ
           parent None l = tt
           parent (Some q) l = omega arith
 
-          finish_at : (k : ℕ) (x : Timed) → slice_get all k ≡ Some x → finish_in all x.event.number ≡ x.finish
-          finish_at k x h = ap (λ (o : Option Timed). finish_or_zero o) (all_known events all f.order k x h)
+          finish_at : (k : ℕ) (x : FiredEvent) → slice_get all k ≡ Some x → finish_in all x.event.number ≡ x.finish
+          finish_at k x h = ap (λ (o : Option FiredEvent). finish_or_zero o) (all_known events all f.order k x h)
 
   pub ready : (domain : ℕ) (own : DomainState) (parts : List C) (e : Event) (start : ℕ) → KeepsTo stepped events p comps domain own parts → next_in events p domain own ≡ Some (e, start)
       → IsReadyEvent stepped events p comps domain own e start
   ready domain own parts e start k next =
       let cut : (cut : ℕ) × (take (length own.fired) (of_domain p.places domain all) ≡ of_domain p.places domain (take cut all)) =
-      front_cut (λ (y : Timed). eqb (domain_of_event p.places y.event) domain) all (length own.fired)
+      front_cut (λ (y : FiredEvent). eqb (domain_of_event p.places y.event) domain) all (length own.fired)
       in
       let known = words_alike stepped events comps f.order timed refl p own.known k.known in
       let bounds = bounds_alike stepped events comps f.order timed refl p domain own (f.bounds domain own k.known k.floor) in
@@ -327,14 +327,14 @@ module _ {C : Type 0} (serves : C → Kind → Bool) (floor : C → Kind → ℕ
   pub all_done : (vs : List (DomainValue C)) → AreKept stepped events p comps vs → KnowFiredParents p (owns_of vs) → least_start_of events p (owns_of vs) ≡ None → HaveAllFired stepped events p comps (owns_of vs)
   all_done vs h told none = λ index x there. upto (suc index) index x (omega arith) there
     where
-      upto : (n : ℕ) → (i : ℕ) (y : Timed) → i < n → slice_get all i ≡ Some y → is_fired (own_at (owns_of vs) (domain_of_event p.places y.event)).fired y.event.number ≡ true
+      upto : (n : ℕ) → (i : ℕ) (y : FiredEvent) → i < n → slice_get all i ≡ Some y → is_fired (own_at (owns_of vs) (domain_of_event p.places y.event)).fired y.event.number ≡ true
       upto zero i y l a = absurd (omega arith)
       upto (suc n) i y l a = elim (cases_lt i n) [
         | inl less ↦ upto n i y less a
         | inr past ↦ by_fired (λ j z k b. upto n j z (omega (arith, k, l)) b) (is_fired (own_at (owns_of vs) (domain_of_event p.places y.event)).fired y.event.number) refl
       ]
         where
-          by_fired : ((j : ℕ) (z : Timed) → j < i → slice_get all j ≡ Some z → is_fired (own_at (owns_of vs) (domain_of_event p.places z.event)).fired z.event.number ≡ true)
+          by_fired : ((j : ℕ) (z : FiredEvent) → j < i → slice_get all j ≡ Some z → is_fired (own_at (owns_of vs) (domain_of_event p.places z.event)).fired z.event.number ≡ true)
               → (t : Bool) → is_fired (own_at (owns_of vs) (domain_of_event p.places y.event)).fired y.event.number ≡ t → t ≡ true
           by_fired before true e = refl
           by_fired before false e =
@@ -348,12 +348,12 @@ module _ {C : Type 0} (serves : C → Kind → Bool) (floor : C → Kind → ℕ
     among number below =
         let e = get_there events number below in
         let is : e.0.number ≡ number = f.order.numbered number e.0 e.1 in
-        let w : (k : ℕ) × (x : Timed) × (slice_get all k ≡ Some x) × (x.event ≡ e.0) = f.order.each e.0 (ap (slice_get events) is ∙ e.1) in
+        let w : (k : ℕ) × (x : FiredEvent) × (slice_get all k ≡ Some x) × (x.event ≡ e.0) = f.order.each e.0 (ap (slice_get events) is ∙ e.1) in
         let v = get_there vs (domain_of_event p.places w.1.event) (let l = f.here w.0 w.1 w.2 in let n = h.count in omega (arith, l, n)) in
         let has : is_fired v.0.own.fired w.1.event.number ≡ true =
         ap (λ (own : DomainState). is_fired own.fired w.1.event.number) (sym (own_some vs (domain_of_event p.places w.1.event) v.0 v.1)) ∙ done w.0 w.1 w.2
         in
-        let y : (y : Timed) × ((find_fired v.0.own.fired w.1.event.number ≡ Some y) × (In y v.0.own.fired × (y.event.number ≡ w.1.event.number))) = finding v.0.own.fired w.1.event.number has in
+        let y : (y : FiredEvent) × ((find_fired v.0.own.fired w.1.event.number ≡ Some y) × (In y v.0.own.fired × (y.event.number ≡ w.1.event.number))) = finding v.0.own.fired w.1.event.number has in
         let at : (i : ℕ) × (slice_get v.0.own.fired i ≡ Some y.0) = in_at y.0 v.0.own.fired y.1.1.0 in
         record {
           domain = domain_of_event p.places w.1.event;
@@ -370,9 +370,9 @@ module _ {C : Type 0} (serves : C → Kind → Bool) (floor : C → Kind → ℕ
       k = (h.each domain v there).keeps
 
       cut : (cut : ℕ) × (take (length v.own.fired) (of_domain p.places domain all) ≡ of_domain p.places domain (take cut all))
-      cut = front_cut (λ (y : Timed). eqb (domain_of_event p.places y.event) domain) all (length v.own.fired)
+      cut = front_cut (λ (y : FiredEvent). eqb (domain_of_event p.places y.event) domain) all (length v.own.fired)
 
-      behind : (j : ℕ) (y : Timed) → cut.0 ≤ j → slice_get all j ≡ Some y → eqb (domain_of_event p.places y.event) domain ≡ false
+      behind : (j : ℕ) (y : FiredEvent) → cut.0 ≤ j → slice_get all j ≡ Some y → eqb (domain_of_event p.places y.event) domain ≡ false
       behind j y l a = by_test (eqb (domain_of_event p.places y.event) domain) refl
         where
           by_test : (t : Bool) → eqb (domain_of_event p.places y.event) domain ≡ t → t ≡ false
@@ -381,9 +381,9 @@ module _ {C : Type 0} (serves : C → Kind → Bool) (floor : C → Kind → ℕ
               let here : domain_of_event p.places y.event ≡ domain = eq_is (domain_of_event p.places y.event) domain e in
               let own : own_at (owns_of vs) (domain_of_event p.places y.event) ≡ v.own = ap (own_at (owns_of vs)) here ∙ own_some vs domain v there in
               let has : is_fired v.own.fired y.event.number ≡ true = ap (λ (own : DomainState). is_fired own.fired y.event.number) (sym own) ∙ done j y a in
-              let z : (z : Timed) × ((find_fired v.own.fired y.event.number ≡ Some z) × (In z v.own.fired × (z.event.number ≡ y.event.number))) = finding v.own.fired y.event.number has in
-              let inside : In z.0 (of_domain p.places domain (take cut.0 all)) = subst (λ (xs : List Timed). In z.0 xs) (k.fired ∙ cut.1) z.1.1.0 in
-              let front : In z.0 (take j all) = in_take all cut.0 j z.0 l (from_filter (λ (y : Timed). eqb (domain_of_event p.places y.event) domain) z.0 (take cut.0 all) inside).0 in
+              let z : (z : FiredEvent) × ((find_fired v.own.fired y.event.number ≡ Some z) × (In z v.own.fired × (z.event.number ≡ y.event.number))) = finding v.own.fired y.event.number has in
+              let inside : In z.0 (of_domain p.places domain (take cut.0 all)) = subst (λ (xs : List FiredEvent). In z.0 xs) (k.fired ∙ cut.1) z.1.1.0 in
+              let front : In z.0 (take j all) = in_take all cut.0 j z.0 l (from_filter (λ (y : FiredEvent). eqb (domain_of_event p.places y.event) domain) z.0 (take cut.0 all) inside).0 in
               absurd (false≢true (sym (f.order.once j y a) ∙ found (take j all) z.0 y.event.number front z.1.1.1))
 
       pub all_of_domain : v.own.fired ≡ of_domain p.places domain all
@@ -393,14 +393,14 @@ module _ {C : Type 0} (serves : C → Kind → Bool) (floor : C → Kind → ℕ
           ∙ elim (cases_lt cut.0 (length all)) [
             | inr past ↦ ap (of_domain p.places domain) (take_all all cut.0 past)
             | inl below ↦
-                sym (front_kept (λ (y : Timed). eqb (domain_of_event p.places y.event) domain) all cut.0 (length all) (omega (arith, below)) (λ j y a b c. behind j y a c))
+                sym (front_kept (λ (y : FiredEvent). eqb (domain_of_event p.places y.event) domain) all cut.0 (length all) (omega (arith, below)) (λ j y a b c. behind j y a c))
                 ∙ ap (of_domain p.places domain) (take_all all (length all) (omega arith))
           ])
 
       pub ended : v.comps ≡ comps_in p.places domain (comps_after stepped events comps)
       ended =
           k.parts_are
-          ∙ (ap (λ (xs : List Timed). comps_in p.places domain (map (left_by stepped xs) (enumerate_from 0 comps))) all_of_domain
+          ∙ (ap (λ (xs : List FiredEvent). comps_in p.places domain (map (left_by stepped xs) (enumerate_from 0 comps))) all_of_domain
           ∙ (same_in p.places domain 0 (left_by stepped (of_domain p.places domain all)) (left_by stepped all) comps
           (λ m c is. ap (after_serving stepped c)
           (ap (λ (d : ℕ). of_component m (of_domain p.places d all)) (sym is) ∙ sym (narrowed stepped events p comps all f.order f.can.partitioned.partitions f.served f.here m all)))

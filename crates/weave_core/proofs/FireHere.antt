@@ -6,7 +6,7 @@ use Rattle.zs_num.specs.declared.time.Key.{Key}
 use Rattle.component.specs.declared.kind.Kind.{Kind}
 use Rattle.event_graph.specs.declared.event.Event.{Event}
 use Rattle.event_graph.specs.declared.fired.Fired.{Fired}
-use Rattle.event_graph.specs.OneListWeave.{Timed}
+use Rattle.event_graph.specs.OneListWeave.{FiredEvent}
 use Rattle.weave_core.specs.declared.domain.Domain.TheInside.{Inside}
 use Rattle.weave_core.specs.DomainMachine.{next_in}
 use Rattle.weave_core.specs.Inside.{IsDomain, own_of}
@@ -63,7 +63,7 @@ take_front (x ∷ vs) rest (suc n) e = ap (λ (zs : List _). x ∷ zs) (take_fro
 pub fired_behind : (events : List Event) (xs : List Fired) (f : Fired) (e : Event) → slice_get events f.number ≡ Some e
     → map (timed_from events) (xs ++ f ∷ []) ≡ map (timed_from events) xs ++ (record { event = e; start = f.start; finish = f.finish }) ∷ []
 fired_behind events [] f e h = ap (λ (z : Event). record { event = z; start = f.start; finish = f.finish } ∷ []) (get_or_from_slice_get events f.number e no_event h)
-fired_behind events (x ∷ xs) f e h = ap (λ (zs : List Timed). timed_from events x ∷ zs) (fired_behind events xs f e h)
+fired_behind events (x ∷ xs) f e h = ap (λ (zs : List FiredEvent). timed_from events x ∷ zs) (fired_behind events xs f e h)
 
 -- a component that served one event serves the same kinds
 pub still_served : {C : Type 0} (serves : C → Kind → Bool) (d : Inside C) (i : IsDomain serves d) (spot : ℕ) (c now : C) → slice_get d.comps spot ≡ Some c

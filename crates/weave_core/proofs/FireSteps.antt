@@ -5,7 +5,7 @@ use Rattle.std.proofs.lemmas.Option.{same_Some, none-some, get_or_from_slice_get
 use Rattle.event_graph.specs.declared.event.Event.{Event}
 use Rattle.event_graph.specs.declared.event.Parent.{Parent}
 use Rattle.event_graph.specs.Numbered.{IsNumbered}
-use Rattle.event_graph.specs.OneListWeave.{Timed, find_fired, finish_in, finish_or_zero, is_fired}
+use Rattle.event_graph.specs.OneListWeave.{FiredEvent, find_fired, finish_in, finish_or_zero, is_fired}
 use Rattle.domain_map.specs.Domains.{Partition, domain_of_number}
 use Rattle.weave_core.specs.declared.children.Link.{Link}
 use Rattle.weave_core.specs.declared.incoming.Stub.{Stub}
@@ -111,7 +111,7 @@ can_tell finish w (l ∷ chain) sizes each counts =
 
 -- one more has fired
 
-find_behind : (n : ℕ) (xs : List Timed) (t : Timed) → is_fired xs n ≡ true → find_fired (xs ++ t ∷ []) n ≡ find_fired xs n
+find_behind : (n : ℕ) (xs : List FiredEvent) (t : FiredEvent) → is_fired xs n ≡ true → find_fired (xs ++ t ∷ []) n ≡ find_fired xs n
 find_behind n [] t h = absurd (false≢true h)
 find_behind n (x ∷ xs) t h = by_test (find_behind n xs t) (eqb x.event.number n) h
   where
@@ -120,7 +120,7 @@ find_behind n (x ∷ xs) t h = by_test (find_behind n xs t) (eqb x.event.number 
     by_test rest true h = refl
     by_test rest false h = rest h
 
-find_last : (n : ℕ) (xs : List Timed) (t : Timed) → is_fired xs n ≡ false → find_fired (xs ++ t ∷ []) n ≡ cond (eqb t.event.number n) (Some t) None
+find_last : (n : ℕ) (xs : List FiredEvent) (t : FiredEvent) → is_fired xs n ≡ false → find_fired (xs ++ t ∷ []) n ≡ cond (eqb t.event.number n) (Some t) None
 find_last n [] t h = refl
 find_last n (x ∷ xs) t h = by_test (find_last n xs t) (eqb x.event.number n) h
   where
@@ -129,7 +129,7 @@ find_last n (x ∷ xs) t h = by_test (find_last n xs t) (eqb x.event.number n) h
     by_test rest true h = absurd (false≢true (sym h))
     by_test rest false h = rest h
 
-find_same : (n : ℕ) (xs : List Timed) (t : Timed) → (t.event.number ≡ n → ⊥) → find_fired (xs ++ t ∷ []) n ≡ find_fired xs n
+find_same : (n : ℕ) (xs : List FiredEvent) (t : FiredEvent) → (t.event.number ≡ n → ⊥) → find_fired (xs ++ t ∷ []) n ≡ find_fired xs n
 find_same n xs t apart =
     elim (test_cases (is_fired xs n)) [
       | inl f ↦ find_behind n xs t f
@@ -137,11 +137,11 @@ find_same n xs t apart =
           find_last n xs t u ∙ (ap (λ (b : Bool). cond b (Some t) None) (apart_eq t.event.number n apart) ∙ sym (none_at (find_fired xs n) u))
     ]
   where
-    none_at : (o : Option Timed) → is_some o ≡ false → o ≡ None
+    none_at : (o : Option FiredEvent) → is_some o ≡ false → o ≡ None
     none_at None h = refl
     none_at (Some x) h = absurd (false≢true (sym h))
 
-find_it : (n : ℕ) (xs : List Timed) (t : Timed) → is_fired xs n ≡ false → t.event.number ≡ n → find_fired (xs ++ t ∷ []) n ≡ Some t
+find_it : (n : ℕ) (xs : List FiredEvent) (t : FiredEvent) → is_fired xs n ≡ false → t.event.number ≡ n → find_fired (xs ++ t ∷ []) n ≡ Some t
 find_it n xs t u e = find_last n xs t u ∙ ap (λ (b : Bool). cond b (Some t) None) (is_eq t.event.number n e)
 
 -- how many have fired
@@ -180,7 +180,7 @@ module _ (events : List Event) (p : Partition) (domain : ℕ) (here : List Event
     (numbered : IsNumbered events) (are_here : AreHere events p domain here) (stands : Stands events p domain own here stubs w)
     (place : ℕ) (e : Event) (there : slice_get here place ≡ Some e) (ready : slice_get w.waits place ≡ Some 0)
     (links : List Link) (head : ℕ) (children : IsChildren here links head e.number) (start finish : ℕ) where
-  abbrev last : Timed
+  abbrev last : FiredEvent
   last = record { event = e; start = start; finish = finish }
 
   -- the domain after it
@@ -234,14 +234,14 @@ module _ (events : List Event) (p : Partition) (domain : ℕ) (here : List Event
             ap (λ (t : Bool). cond (t && eqb (domain_of_number p.places events q.number) domain) (finish_in own.fired q.number + q.delay) 0) unfired
             in
             let after : start_after_own events p domain then (Some q) ≡ finish + q.delay =
-            ap (λ (o : Option Timed). cond (is_some o && eqb (domain_of_number p.places events q.number) domain) (finish_or_zero o + q.delay) 0) found
+            ap (λ (o : Option FiredEvent). cond (is_some o && eqb (domain_of_number p.places events q.number) domain) (finish_or_zero o + q.delay) 0) found
             ∙ ap (λ (t : Bool). cond (true && t) (finish + q.delay) 0) (domain_here q.number same)
             in
             let hit : hit_after finish e.number (Some q) ≡ finish + q.delay = ap (λ (t : Bool). cond t (finish + q.delay) 0) (is_eq q.number e.number same) in
             omega (arith, before, after, hit)
         | inr apart ↦
             let after : start_after_own events p domain then (Some q) ≡ start_after_own events p domain own (Some q) =
-            ap (λ (o : Option Timed). cond (is_some o && eqb (domain_of_number p.places events q.number) domain) (finish_or_zero o + q.delay) 0)
+            ap (λ (o : Option FiredEvent). cond (is_some o && eqb (domain_of_number p.places events q.number) domain) (finish_or_zero o + q.delay) 0)
             (find_same q.number own.fired last (λ (r : e.number ≡ q.number). apart (sym r)))
             in
             let hit : hit_after finish e.number (Some q) ≡ 0 = ap (λ (t : Bool). cond t (finish + q.delay) 0) (apart_eq q.number e.number apart) in

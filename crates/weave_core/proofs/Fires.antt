@@ -7,7 +7,7 @@ use Rattle.std.proofs.lemmas.Option.{same_Some}
 use Rattle.std.specs.Option.{option_map, option_map_or}
 use Rattle.component.specs.declared.kind.Kind.{Kind}
 use Rattle.event_graph.specs.declared.event.Event.{Event}
-use Rattle.event_graph.specs.OneListWeave.{Timed, Weave, is_fired, served}
+use Rattle.event_graph.specs.OneListWeave.{FiredEvent, Weave, is_fired, served}
 use Rattle.event_graph.specs.TimingSolution.{after_serving, of_component}
 use Rattle.domain_map.specs.Domains.{Partition, IsPartition, domain_at, domain_of_event}
 use Rattle.weave_core.specs.DomainMachine.{DomainState, MachineState, effect_of, fire, fire_event, fresh_domain, is_allowed, is_clear, next_in, state_of}
@@ -23,13 +23,13 @@ use Rattle.weave_core.proofs.PendingEvents.{IsNextHere, is_pending, may_fire, pe
 use Rattle.weave_core.proofs.Steps.{Holds, Stands, bounds_of}
 
 -- each event's finish is what its component computed, after the events of its own that fired before
-pub record IsServed {C : Type 0} (stepped : C → Kind → ℕ → C × ℕ) (comps : List C) (all : List Timed) : Type 0 where
-  pub at : (k : ℕ) (x : Timed) → slice_get all k ≡ Some x → (c : C) × ((slice_get comps x.event.component ≡ Some c)
+pub record IsServed {C : Type 0} (stepped : C → Kind → ℕ → C × ℕ) (comps : List C) (all : List FiredEvent) : Type 0 where
+  pub at : (k : ℕ) (x : FiredEvent) → slice_get all k ≡ Some x → (c : C) × ((slice_get comps x.event.component ≡ Some c)
       × (x.finish ≡ (stepped (after_serving stepped c (of_component x.event.component (take k all))) x.event.kind x.start).1))
 
-module _ {C : Type 0} (stepped : C → Kind → ℕ → C × ℕ) (events : List Event) (p : Partition) (comps : List C) (all : List Timed)
+module _ {C : Type 0} (stepped : C → Kind → ℕ → C × ℕ) (events : List Event) (p : Partition) (comps : List C) (all : List FiredEvent)
     (o : IsOrder events all) (div : IsPartition events p) (serves : IsServed stepped comps all)
-    (here : (k : ℕ) (x : Timed) → slice_get all k ≡ Some x → domain_of_event p.places x.event < length p.events) where
+    (here : (k : ℕ) (x : FiredEvent) → slice_get all k ≡ Some x → domain_of_event p.places x.event < length p.events) where
   -- the cut of the domain moves behind the event
   abbrev moved : (ℕ → ℕ) → (domain after : ℕ) → ℕ → ℕ
   moved cut domain after d = cond (eqb d domain) after (cut d)
@@ -46,9 +46,9 @@ module _ {C : Type 0} (stepped : C → Kind → ℕ → C × ℕ) (events : List
 
   -- between the cut and its next event a domain has no events
   pub gap_domain : (domain cut k : ℕ) (own : DomainState) (fired_is : own.fired ≡ of_domain p.places domain (take cut all))
-      (known : AreSoundWords all p own.known) (bounds : AreSoundBounds events all p domain own) (x : Timed)
+      (known : AreSoundWords all p own.known) (bounds : AreSoundBounds events all p domain own) (x : FiredEvent)
       → IsFirst (is_pending events p all o div domain cut own fired_is known bounds) all k x
-      → (j : ℕ) (y : Timed) → cut ≤ j → j < k → slice_get all j ≡ Some y → eqb (domain_of_event p.places y.event) domain ≡ false
+      → (j : ℕ) (y : FiredEvent) → cut ≤ j → j < k → slice_get all j ≡ Some y → eqb (domain_of_event p.places y.event) domain ≡ false
   gap_domain domain cut k own fired_is known bounds x f j y a b h =
       elim (test_cases (eqb (domain_of_event p.places y.event) domain)) [
         | inr fails_it ↦ fails_it
@@ -58,8 +58,8 @@ module _ {C : Type 0} (stepped : C → Kind → ℕ → C × ℕ) (events : List
       ]
 
   pub gap_component : (domain cut k number : ℕ) → domain_at p.places number ≡ domain
-      → ((j : ℕ) (y : Timed) → cut ≤ j → j < k → slice_get all j ≡ Some y → eqb (domain_of_event p.places y.event) domain ≡ false)
-      → (j : ℕ) (y : Timed) → cut ≤ j → j < k → slice_get all j ≡ Some y → eqb y.event.component number ≡ false
+      → ((j : ℕ) (y : FiredEvent) → cut ≤ j → j < k → slice_get all j ≡ Some y → eqb (domain_of_event p.places y.event) domain ≡ false)
+      → (j : ℕ) (y : FiredEvent) → cut ≤ j → j < k → slice_get all j ≡ Some y → eqb y.event.component number ≡ false
   gap_component domain cut k number d none j y a b h =
       elim (test_cases (eqb y.event.component number)) [
         | inr fails_it ↦ fails_it
@@ -69,7 +69,7 @@ module _ {C : Type 0} (stepped : C → Kind → ℕ → C × ℕ) (events : List
       ]
 
   -- the finished state: the domain has fired x, and its component served it
-  abbrev fired_state : MachineState C → (domain : ℕ) → Timed → C → MachineState C
+  abbrev fired_state : MachineState C → (domain : ℕ) → FiredEvent → C → MachineState C
   fired_state s domain x c = record s {
     domains = set s.domains domain (record (state_of s domain) { fired = (state_of s domain).fired ++ x ∷ [] });
     comps = set s.comps x.event.component (stepped c x.event.kind x.start).0;
@@ -78,7 +78,7 @@ module _ {C : Type 0} (stepped : C → Kind → ℕ → C × ℕ) (events : List
   abbrev with_served : MachineState C → (domain : ℕ) → Weave C → MachineState C
   with_served s domain w = record s { domains = set s.domains domain (record (state_of s domain) { fired = w.fired }); comps = w.comps }
 
-  effect_is : (s : MachineState C) (domain : ℕ) (b : Event × ℕ) (x : Timed) (c : C) → next_in events p domain (state_of s domain) ≡ Some b → x.event ≡ b.0 → x.start ≡ b.1
+  effect_is : (s : MachineState C) (domain : ℕ) (b : Event × ℕ) (x : FiredEvent) (c : C) → next_in events p domain (state_of s domain) ≡ Some b → x.event ≡ b.0 → x.start ≡ b.1
       → slice_get s.comps x.event.component ≡ Some c → x.finish ≡ (stepped c x.event.kind x.start).1
       → effect_of events p stepped s (fire domain) ≡ fired_state s domain x c
   effect_is s domain b x c next e t there finish =
@@ -116,19 +116,19 @@ module _ {C : Type 0} (stepped : C → Kind → ℕ → C × ℕ) (events : List
   fires_next s domain h b next n =
       let own = h.domains domain in
       let is = pending_is events p all o div domain (h.cut domain) (state_of s domain) own.fired own.known (bounds_of stepped events p comps all o div _ _ _ _ own) n.k n.x n.first.passes in
-      let gap : (j : ℕ) (y : Timed) → h.cut domain ≤ j → j < n.k → slice_get all j ≡ Some y → eqb (domain_of_event p.places y.event) domain ≡ false =
+      let gap : (j : ℕ) (y : FiredEvent) → h.cut domain ≤ j → j < n.k → slice_get all j ≡ Some y → eqb (domain_of_event p.places y.event) domain ≡ false =
       gap_domain domain (h.cut domain) n.k (state_of s domain) own.fired own.known (bounds_of stepped events p comps all o div _ _ _ _ own) n.x n.first
       in
       let sv = serves.at n.k n.x n.first.there in
-      let gap_here : (j : ℕ) (y : Timed) → h.cut domain ≤ j → j < n.k → slice_get all j ≡ Some y → eqb y.event.component n.x.event.component ≡ false =
+      let gap_here : (j : ℕ) (y : FiredEvent) → h.cut domain ≤ j → j < n.k → slice_get all j ≡ Some y → eqb y.event.component n.x.event.component ≡ false =
       gap_component domain (h.cut domain) n.k n.x.event.component is.0 gap
       in
       let front : of_component n.x.event.component (take n.k all) ≡ of_component n.x.event.component (take (h.cut domain) all) =
-      front_kept (λ (y : Timed). eqb y.event.component n.x.event.component) all (h.cut domain) n.k is.1 gap_here
+      front_kept (λ (y : FiredEvent). eqb y.event.component n.x.event.component) all (h.cut domain) n.k is.1 gap_here
       in
       let c : C = after_serving stepped sv.0 (of_component n.x.event.component (take (h.cut domain) all)) in
       let finish : n.x.finish ≡ (stepped (after_serving stepped sv.0 (of_component n.x.event.component (take (h.cut domain) all))) n.x.event.kind n.x.start).1 =
-      sv.1.1 ∙ ap (λ (xs : List Timed). (stepped (after_serving stepped sv.0 xs) n.x.event.kind n.x.start).1) front
+      sv.1.1 ∙ ap (λ (xs : List FiredEvent). (stepped (after_serving stepped sv.0 xs) n.x.event.kind n.x.start).1) front
       in
       let there : slice_get s.comps n.x.event.component ≡ Some (after_serving stepped sv.0 (of_component n.x.event.component (take (h.cut domain) all))) =
       h.comps_are n.x.event.component
@@ -156,8 +156,8 @@ module _ {C : Type 0} (stepped : C → Kind → ℕ → C × ℕ) (events : List
             (subst (λ d. d < length s.domains) is.0 (omega (arith, here n.k n.x n.first.there, h.count)))
             (record {
               fired =
-                  ap (λ (xs : List Timed). xs ++ n.x ∷ []) own.fired
-                  ∙ (sym (front_next (λ (y : Timed). eqb (domain_of_event p.places y.event) domain) all (h.cut domain) n.k n.x is.1 n.first.there (eq_test (domain_of_event p.places n.x.event) domain is.0) gap)
+                  ap (λ (xs : List FiredEvent). xs ++ n.x ∷ []) own.fired
+                  ∙ (sym (front_next (λ (y : FiredEvent). eqb (domain_of_event p.places y.event) domain) all (h.cut domain) n.k n.x is.1 n.first.there (eq_test (domain_of_event p.places n.x.event) domain is.0) gap)
                   ∙ ap (λ m. of_domain p.places domain (take m all)) (sym (moved_same h.cut domain (n.k + 1) domain refl)));
               known = own.known;
               floor = record { each = own.floor.each };
@@ -172,15 +172,15 @@ module _ {C : Type 0} (stepped : C → Kind → ℕ → C × ℕ) (events : List
             elim (cases_eq number n.x.event.component) [
               | inl same ↦
                   let grown : of_component n.x.event.component (take (n.k + 1) all) ≡ of_component n.x.event.component (take (h.cut domain) all) ++ n.x ∷ [] =
-                  front_next (λ (y : Timed). eqb y.event.component n.x.event.component) all (h.cut domain) n.k n.x is.1 n.first.there (eq_test n.x.event.component n.x.event.component refl) gap_here
+                  front_next (λ (y : FiredEvent). eqb y.event.component n.x.event.component) all (h.cut domain) n.k n.x is.1 n.first.there (eq_test n.x.event.component n.x.event.component refl) gap_here
                   in
                   let at : slice_get (set s.comps n.x.event.component (stepped (after_serving stepped sv.0 (of_component n.x.event.component (take (h.cut domain) all))) n.x.event.kind n.x.start).0) n.x.event.component
                   ≡ option_map (λ c. after_serving stepped c (of_component n.x.event.component (take (moved h.cut domain (n.k + 1) (domain_at p.places n.x.event.component)) all))) (slice_get comps n.x.event.component) =
                   get_set_same s.comps n.x.event.component _ _ there
                   ∙ sym (ap (λ (z : Option C). option_map (λ c. after_serving stepped c (of_component n.x.event.component (take (moved h.cut domain (n.k + 1) (domain_at p.places n.x.event.component)) all))) z) sv.1.0
                   ∙ (ap (λ m. Some (after_serving stepped sv.0 (of_component n.x.event.component (take m all)))) (moved_same h.cut domain (n.k + 1) (domain_at p.places n.x.event.component) is.0)
-                  ∙ (ap (λ (xs : List Timed). Some (after_serving stepped sv.0 xs)) grown
-                  ∙ ap (λ (z : C). Some z) (fold-push (λ before (x : Timed). (stepped before x.event.kind x.start).0) sv.0 (of_component n.x.event.component (take (h.cut domain) all)) n.x))))
+                  ∙ (ap (λ (xs : List FiredEvent). Some (after_serving stepped sv.0 xs)) grown
+                  ∙ ap (λ (z : C). Some z) (fold-push (λ before (x : FiredEvent). (stepped before x.event.kind x.start).0) sv.0 (of_component n.x.event.component (take (h.cut domain) all)) n.x))))
                   in
                   subst (λ m. slice_get (set s.comps n.x.event.component (stepped (after_serving stepped sv.0 (of_component n.x.event.component (take (h.cut domain) all))) n.x.event.kind n.x.start).0) m
                   ≡ option_map (λ c. after_serving stepped c (of_component m (take (moved h.cut domain (n.k + 1) (domain_at p.places m)) all))) (slice_get comps m)) (sym same) at
@@ -190,7 +190,7 @@ module _ {C : Type 0} (stepped : C → Kind → ℕ → C × ℕ) (events : List
                     | inr other ↦ ap (λ m. of_component number (take m all)) (sym (moved_other h.cut domain (n.k + 1) (domain_at p.places number) other))
                     | inl mine ↦
                         ap (λ d. of_component number (take (h.cut d) all)) mine
-                        ∙ (sym (front_kept (λ (y : Timed). eqb y.event.component number) all (h.cut domain) (n.k + 1) (omega (arith, is.1))
+                        ∙ (sym (front_kept (λ (y : FiredEvent). eqb y.event.component number) all (h.cut domain) (n.k + 1) (omega (arith, is.1))
                         (λ j y a l e.
                         elim (cases_lt j n.k) [
                           | inl less ↦ gap_component domain (h.cut domain) n.k number mine gap j y a less e
@@ -199,7 +199,7 @@ module _ {C : Type 0} (stepped : C → Kind → ℕ → C × ℕ) (events : List
                               let is_x : n.x ≡ y = same_Some n.x y (sym n.first.there ∙ (ap (slice_get all) (sym same) ∙ e)) in
                               elim (test_cases (eqb y.event.component number)) [
                                 | inr fails_it ↦ fails_it
-                                | inl passes_it ↦ absurd (apart (sym (ap (λ (z : Timed). z.event.component) is_x ∙ test_eq y.event.component number passes_it)))
+                                | inl passes_it ↦ absurd (apart (sym (ap (λ (z : FiredEvent). z.event.component) is_x ∙ test_eq y.event.component number passes_it)))
                               ]
                         ]))
                         ∙ ap (λ m. of_component number (take m all)) (sym (moved_same h.cut domain (n.k + 1) (domain_at p.places number) mine)))
@@ -207,7 +207,7 @@ module _ {C : Type 0} (stepped : C → Kind → ℕ → C × ℕ) (events : List
                   in
                   get_set_other s.comps n.x.event.component number _ apart
                   ∙ (h.comps_are number
-                  ∙ ap (λ (xs : List Timed). option_map (λ c. after_serving stepped c xs) (slice_get comps number)) kept)
+                  ∙ ap (λ (xs : List FiredEvent). option_map (λ c. after_serving stepped c xs) (slice_get comps number)) kept)
             ];
       })
 

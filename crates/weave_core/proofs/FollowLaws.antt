@@ -5,7 +5,7 @@ use Rattle.std.specs.List.{enumerate_from}
 use Rattle.component.specs.declared.kind.Kind.{Kind}
 use Rattle.event_graph.specs.declared.event.Event.{Event}
 use Rattle.event_graph.specs.declared.fired.Fired.{Fired}
-use Rattle.event_graph.specs.OneListWeave.{Timed, start_of}
+use Rattle.event_graph.specs.OneListWeave.{FiredEvent, start_of}
 use Rattle.event_graph.specs.TimingSolution.{IsSolution, after_serving, of_component}
 use Rattle.domain_map.specs.Domains.{domain_of_event}
 use Rattle.weave_core.specs.DomainCalls.{DomainValue, Follows, IsFire, comps_in}
@@ -52,10 +52,10 @@ floors_follow stepped = record {
 }
 
 module _ {C : Type 0} (serves : C → Kind → Bool) (floor : C → Kind → ℕ) (stepped : C → Kind → ℕ → C × ℕ) (sound : SoundDomainsFollow serves floor stepped)
-    (all : List C) (timed : List Timed) (old new : DomainValue C) (solution : IsSolution stepped old.events all timed) (result : Fired) (f : IsFire stepped old new result)
+    (all : List C) (timed : List FiredEvent) (old new : DomainValue C) (solution : IsSolution stepped old.events all timed) (result : Fired) (f : IsFire stepped old new result)
     (partitioned : IsPartitioned serves floor old.events old.partition all) (clear : is_clear old.events old.partition old.domain old.own f.start ≡ true) (follows : Follows stepped all timed old solution)
     (known : AreSoundWords timed old.partition old.own.known) (bounds : AreSoundBounds old.events timed old.partition old.domain old.own) where
-  firing : (x : Timed) × IsNextFiring stepped old.events old.partition all timed solution old.domain old.own (f.event, f.start) x
+  firing : (x : FiredEvent) × IsNextFiring stepped old.events old.partition all timed solution old.domain old.own (f.event, f.start) x
   firing = sound old.events old.partition all timed solution old.domain old.own (f.event, f.start) partitioned (record { fired = follows.fired known bounds; known = known; bounds = bounds }) f.next clear
 
   here : domain_of_event old.partition.places f.event ≡ old.domain
@@ -80,7 +80,7 @@ module _ {C : Type 0} (serves : C → Kind → Bool) (floor : C → Kind → ℕ
       ∙ spot_there old.partition.places old.domain left f.event.component (get_or old.partition.places f.event.component 0) _ placed here
       (left_at stepped old.own.fired 0 f.event.component all f.event.component firing.1.component (omega arith) there)))
 
-  abbrev last : Timed
+  abbrev last : FiredEvent
   last = record { event = f.event; start = f.start; finish = (stepped f.component f.event.kind f.start).1 }
 
   finish_is : firing.0.finish ≡ (stepped f.component f.event.kind f.start).1
@@ -99,7 +99,7 @@ module _ {C : Type 0} (serves : C → Kind → Bool) (floor : C → Kind → ℕ
   pub front_then : IsFront (old.own.fired ++ last ∷ []) (of_domain old.partition.places old.domain solution.sorted)
   front_then =
       longer_front old.own.fired (of_domain old.partition.places old.domain solution.sorted) last (follows.fired known bounds)
-      (firing.1.firing ∙ ap (λ (x : Timed). Some x) last_is)
+      (firing.1.firing ∙ ap (λ (x : FiredEvent). Some x) last_is)
 
   pub comps_then : set old.comps (place_in old.partition.places old.domain f.event.component) (stepped f.component f.event.kind f.start).0
       ≡ comps_in old.partition.places old.domain (map (left_by stepped (old.own.fired ++ last ∷ [])) (enumerate_from 0 all))

@@ -8,7 +8,7 @@ use Rattle.zs_num.specs.declared.time.Word.{Word}
 use Rattle.zs_num.specs.declared.time.Word.TheVariants.{Bound, Exact}
 use Rattle.component.specs.declared.kind.Kind.{Kind}
 use Rattle.event_graph.specs.declared.event.Event.{Event}
-use Rattle.event_graph.specs.OneListWeave.{Timed, finish_in}
+use Rattle.event_graph.specs.OneListWeave.{FiredEvent, finish_in}
 use Rattle.event_graph.specs.TimingSolution.{after_serving, of_component}
 use Rattle.domain_map.specs.declared.crossing.Crossing.{Crossing}
 use Rattle.domain_map.specs.Domains.{Partition}
@@ -22,7 +22,7 @@ use Rattle.weave_core.proofs.Words.{apart_eq, is_eq}
 
 -- a word
 
-module _ (events : List Event) (timed : List Timed) (p : Partition) (domain : ℕ) (own : DomainState) (number : ℕ) (word : Word) (may : MayTell events p domain own number word)
+module _ (events : List Event) (timed : List FiredEvent) (p : Partition) (domain : ℕ) (own : DomainState) (number : ℕ) (word : Word) (may : MayTell events p domain own number word)
     (known : AreSoundWords timed p (with_known own number word).known) (bounds : AreSoundBounds events timed p domain (with_known own number word)) where
   alike : (n : ℕ) → ((n ≡ number) × (word_at (with_known own number word).known n ≡ word)) ⊎ (word_at (with_known own number word).known n ≡ word_at own.known n)
   alike n = read_after own.known number word (Bound 0) n
@@ -77,7 +77,7 @@ module _ (events : List Event) (timed : List Timed) (p : Partition) (domain : �
 
 -- a floor
 
-pub floor_before : (events : List Event) (timed : List Timed) (p : Partition) (domain : ℕ) (own : DomainState) (floor : ℕ) → own.floor ≤ floor → AreSoundBounds events timed p domain (with_floor floor own) → AreSoundBounds events timed p domain own
+pub floor_before : (events : List Event) (timed : List FiredEvent) (p : Partition) (domain : ℕ) (own : DomainState) (floor : ℕ) → own.floor ≤ floor → AreSoundBounds events timed p domain (with_floor floor own) → AreSoundBounds events timed p domain own
 floor_before events timed p domain own floor l bounds = record {
   each = λ n x h target unknown.
       let now : bound_of events p (with_floor floor own) n x ≤ finish_in timed x.parent = bounds.each n x h target unknown in
@@ -94,63 +94,63 @@ take_next [] n x h = absurd (none-some x h)
 take_next (y ∷ xs) zero x h = ap (λ (z : _). z ∷ []) (same_Some y x h)
 take_next (y ∷ xs) (suc n) x h = ap (λ (zs : List _). y ∷ zs) (take_next xs n x h)
 
-pub longer_front : (front xs : List Timed) (x : Timed) → IsFront front xs → slice_get xs (length front) ≡ Some x → IsFront (front ++ x ∷ []) xs
+pub longer_front : (front xs : List FiredEvent) (x : FiredEvent) → IsFront front xs → slice_get xs (length front) ≡ Some x → IsFront (front ++ x ∷ []) xs
 longer_front front xs x is h =
     let size : suc (length front) ≡ length (front ++ x ∷ []) = omega (arith, length_push front x) in
-    ap (λ (ys : List Timed). ys ++ x ∷ []) is ∙ (sym (take_next xs (length front) x h) ∙ ap (λ n. take n xs) size)
+    ap (λ (ys : List FiredEvent). ys ++ x ∷ []) is ∙ (sym (take_next xs (length front) x h) ∙ ap (λ n. take n xs) size)
 
 module _ {C : Type 0} (stepped : C → Kind → ℕ → C × ℕ) where
-  pub served_next : (c : C) (xs : List Timed) (x : Timed) → after_serving stepped c (xs ++ x ∷ []) ≡ (stepped (after_serving stepped c xs) x.event.kind x.start).0
+  pub served_next : (c : C) (xs : List FiredEvent) (x : FiredEvent) → after_serving stepped c (xs ++ x ∷ []) ≡ (stepped (after_serving stepped c xs) x.event.kind x.start).0
   served_next c [] x = refl
   served_next c (y ∷ xs) x = served_next (stepped c y.event.kind y.start).0 xs x
 
-  mine_next : (n : ℕ) (xs : List Timed) (x : Timed) → x.event.component ≡ n → of_component n (xs ++ x ∷ []) ≡ of_component n xs ++ x ∷ []
+  mine_next : (n : ℕ) (xs : List FiredEvent) (x : FiredEvent) → x.event.component ≡ n → of_component n (xs ++ x ∷ []) ≡ of_component n xs ++ x ∷ []
   mine_next n [] x e = ap (λ (t : Bool). cond t (x ∷ []) []) (is_eq x.event.component n e)
   mine_next n (y ∷ xs) x e = by_test (mine_next n xs x e) (eqb y.event.component n)
     where
       by_test : of_component n (xs ++ x ∷ []) ≡ of_component n xs ++ x ∷ [] → (t : Bool)
           → cond t (y ∷ of_component n (xs ++ x ∷ [])) (of_component n (xs ++ x ∷ [])) ≡ cond t (y ∷ of_component n xs) (of_component n xs) ++ x ∷ []
-      by_test rest true = ap (λ (zs : List Timed). y ∷ zs) rest
+      by_test rest true = ap (λ (zs : List FiredEvent). y ∷ zs) rest
       by_test rest false = rest
 
-  others_next : (n : ℕ) (xs : List Timed) (x : Timed) → (x.event.component ≡ n → ⊥) → of_component n (xs ++ x ∷ []) ≡ of_component n xs
+  others_next : (n : ℕ) (xs : List FiredEvent) (x : FiredEvent) → (x.event.component ≡ n → ⊥) → of_component n (xs ++ x ∷ []) ≡ of_component n xs
   others_next n [] x e = ap (λ (t : Bool). cond t (x ∷ []) []) (apart_eq x.event.component n e)
   others_next n (y ∷ xs) x e = by_test (others_next n xs x e) (eqb y.event.component n)
     where
       by_test : of_component n (xs ++ x ∷ []) ≡ of_component n xs → (t : Bool)
           → cond t (y ∷ of_component n (xs ++ x ∷ [])) (of_component n (xs ++ x ∷ [])) ≡ cond t (y ∷ of_component n xs) (of_component n xs)
-      by_test rest true = ap (λ (zs : List Timed). y ∷ zs) rest
+      by_test rest true = ap (λ (zs : List FiredEvent). y ∷ zs) rest
       by_test rest false = rest
 
   -- the components, of which one served one event more
-  abbrev pub left_by : List Timed → ℕ × C → C
+  abbrev pub left_by : List FiredEvent → ℕ × C → C
   left_by fired at = after_serving stepped at.1 (of_component at.0 fired)
 
-  same_left : (fired : List Timed) (x : Timed) (n : ℕ) (all : List C) → x.event.component < n → map (left_by (fired ++ x ∷ [])) (enumerate_from n all) ≡ map (left_by fired) (enumerate_from n all)
+  same_left : (fired : List FiredEvent) (x : FiredEvent) (n : ℕ) (all : List C) → x.event.component < n → map (left_by (fired ++ x ∷ [])) (enumerate_from n all) ≡ map (left_by fired) (enumerate_from n all)
   same_left fired x n [] l = refl
   same_left fired x n (c ∷ all) l =
-      ap (λ (xs : List Timed). after_serving stepped c xs ∷ map (left_by (fired ++ x ∷ [])) (enumerate_from (n + 1) all)) (others_next n fired x (λ e. absurd (omega (arith, l, e))))
+      ap (λ (xs : List FiredEvent). after_serving stepped c xs ∷ map (left_by (fired ++ x ∷ [])) (enumerate_from (n + 1) all)) (others_next n fired x (λ e. absurd (omega (arith, l, e))))
       ∙ ap (λ (cs : List C). after_serving stepped c (of_component n fired) ∷ cs) (same_left fired x (n + 1) all (omega (arith, l)))
 
-  pub set_left : (fired : List Timed) (x : Timed) (n i : ℕ) (all : List C) (c : C) → x.event.component ≡ n + i → slice_get all i ≡ Some c
+  pub set_left : (fired : List FiredEvent) (x : FiredEvent) (n i : ℕ) (all : List C) (c : C) → x.event.component ≡ n + i → slice_get all i ≡ Some c
       → map (left_by (fired ++ x ∷ [])) (enumerate_from n all) ≡ set (map (left_by fired) (enumerate_from n all)) i (stepped (after_serving stepped c (of_component x.event.component fired)) x.event.kind x.start).0
   set_left fired x n i [] c e h = absurd (none-some c h)
   set_left fired x n zero (d ∷ all) c e h =
       let n_is : x.event.component ≡ n = omega (arith, e) in
-      ap (λ (xs : List Timed). after_serving stepped d xs ∷ map (left_by (fired ++ x ∷ [])) (enumerate_from (n + 1) all)) (mine_next n fired x n_is)
+      ap (λ (xs : List FiredEvent). after_serving stepped d xs ∷ map (left_by (fired ++ x ∷ [])) (enumerate_from (n + 1) all)) (mine_next n fired x n_is)
       ∙ (ap (λ (z : C). z ∷ map (left_by (fired ++ x ∷ [])) (enumerate_from (n + 1) all)) (served_next d (of_component n fired) x)
       ∙ (ap (λ (cs : List C). (stepped (after_serving stepped d (of_component n fired)) x.event.kind x.start).0 ∷ cs) (same_left fired x (n + 1) all (omega (arith, n_is)))
       ∙ (ap (λ (m : ℕ). (stepped (after_serving stepped d (of_component m fired)) x.event.kind x.start).0 ∷ map (left_by fired) (enumerate_from (n + 1) all)) (sym n_is)
       ∙ ap (λ (z : C). (stepped (after_serving stepped z (of_component x.event.component fired)) x.event.kind x.start).0 ∷ map (left_by fired) (enumerate_from (n + 1) all)) (same_Some d c h))))
   set_left fired x n (suc i) (d ∷ all) c e h =
-      ap (λ (xs : List Timed). after_serving stepped d xs ∷ map (left_by (fired ++ x ∷ [])) (enumerate_from (n + 1) all)) (others_next n fired x (λ q. absurd (omega (arith, e, q))))
+      ap (λ (xs : List FiredEvent). after_serving stepped d xs ∷ map (left_by (fired ++ x ∷ [])) (enumerate_from (n + 1) all)) (others_next n fired x (λ q. absurd (omega (arith, e, q))))
       ∙ ap (λ (cs : List C). after_serving stepped d (of_component n fired) ∷ cs) (set_left fired x (n + 1) i all c (omega (arith, e)) h)
 
   pub none_left : (n : ℕ) (all : List C) → map (left_by []) (enumerate_from n all) ≡ all
   none_left n [] = refl
   none_left n (c ∷ all) = ap (λ (cs : List C). c ∷ cs) (none_left (n + 1) all)
 
-  pub left_at : (fired : List Timed) (n i : ℕ) (all : List C) (m : ℕ) (c : C) → m ≡ n + i → slice_get all i ≡ Some c → slice_get (map (left_by fired) (enumerate_from n all)) i ≡ Some (after_serving stepped c (of_component m fired))
+  pub left_at : (fired : List FiredEvent) (n i : ℕ) (all : List C) (m : ℕ) (c : C) → m ≡ n + i → slice_get all i ≡ Some c → slice_get (map (left_by fired) (enumerate_from n all)) i ≡ Some (after_serving stepped c (of_component m fired))
   left_at fired n i [] m c e h = absurd (none-some c h)
   left_at fired n zero (d ∷ all) m c e h =
       let n_is : n ≡ m = omega (arith, e) in

@@ -7,7 +7,7 @@ use Rattle.std.specs.Option.{option_map_or}
 use Rattle.zs_num.specs.declared.time.Word.{Word}
 use Rattle.zs_num.specs.declared.time.Word.TheVariants.{Bound, Exact}
 use Rattle.event_graph.specs.declared.event.Event.{Event}
-use Rattle.event_graph.specs.OneListWeave.{Timed, finish_in}
+use Rattle.event_graph.specs.OneListWeave.{FiredEvent, finish_in}
 use Rattle.domain_map.specs.declared.crossing.Crossing.{Crossing}
 use Rattle.domain_map.specs.Domains.{Partition, IsPartition, domain_of_event, domain_of_number}
 use Rattle.weave_core.specs.DomainMachine.{DomainState, cycle_of, is_exact, latency_at, latency_of, word_at}
@@ -17,11 +17,11 @@ use Rattle.weave_core.proofs.Firing.{IsOrder, finish_is, parent_at, start_is}
 
 -- words
 
-pub sound_cycle : (all : List Timed) (x : Crossing) (w : Word) → IsSoundWord all x w → cycle_of w ≤ finish_in all x.parent
+pub sound_cycle : (all : List FiredEvent) (x : Crossing) (w : Word) → IsSoundWord all x w → cycle_of w ≤ finish_in all x.parent
 sound_cycle all x (Bound b) h = h
 sound_cycle all x (Exact f) h = omega (arith, h)
 
-pub exact_cycle : (all : List Timed) (x : Crossing) (w : Word) → IsSoundWord all x w → is_exact w ≡ true → cycle_of w ≡ finish_in all x.parent
+pub exact_cycle : (all : List FiredEvent) (x : Crossing) (w : Word) → IsSoundWord all x w → is_exact w ≡ true → cycle_of w ≡ finish_in all x.parent
 exact_cycle all x (Bound b) h e = absurd (false≢true e)
 exact_cycle all x (Exact f) h e = h
 
@@ -40,33 +40,33 @@ at_event events places number e h = ap (λ (z : Option Event). option_map_or (do
 pub latency_there : (events : List Event) (number : ℕ) (e : Event) → slice_get events number ≡ Some e → latency_at events number ≡ latency_of e
 latency_there events number e h = ap (λ (z : Option Event). option_map_or latency_of z 0) h
 
-module _ (events : List Event) (p : Partition) (all : List Timed) (o : IsOrder events all) (div : IsPartition events p) where
+module _ (events : List Event) (p : Partition) (all : List FiredEvent) (o : IsOrder events all) (div : IsPartition events p) where
   pub joined : (number : ℕ) (x : Crossing) → slice_get p.crossings number ≡ Some x → Joins p.places events x
   joined number x h = joins p.places events number x (subst (λ (xs : List Crossing). slice_get xs number ≡ Some x) div.crossings h)
 
   -- the event of a number is one
-  pub same_event : (k : ℕ) (y : Timed) (i : ℕ) (e : Event) → slice_get all k ≡ Some y → slice_get events i ≡ Some e → y.event.number ≡ e.number → y.event ≡ e
+  pub same_event : (k : ℕ) (y : FiredEvent) (i : ℕ) (e : Event) → slice_get all k ≡ Some y → slice_get events i ≡ Some e → y.event.number ≡ e.number → y.event ≡ e
   same_event k y i e a h n =
       let i_is : e.number ≡ i = o.numbered i e h in
       same_Some y.event e (sym (o.event k y a) ∙ (ap (slice_get events) (n ∙ i_is) ∙ h))
 
   -- the child of a crossing, and its slot
-  pub child_slot : (number : ℕ) (x : Crossing) (j : Joins p.places events x) (k : ℕ) (y : Timed) → slice_get all k ≡ Some y → y.event.number ≡ x.child
+  pub child_slot : (number : ℕ) (x : Crossing) (j : Joins p.places events x) (k : ℕ) (y : FiredEvent) → slice_get all k ≡ Some y → y.event.number ≡ x.child
       → y.event ≡ j.child
   child_slot number x j k y a n =
       same_event k y j.number j.child a j.there (n ∙ sym (ap (λ (z : Crossing). z.child) j.is))
 
   -- What a crossing's parent is.
   pub parent_of_crossing : (number : ℕ) (x : Crossing) → slice_get p.crossings number ≡ Some x
-      → (k : ℕ) × ((w : Timed) × ((slice_get all k ≡ Some w) × ((w.event.number ≡ x.parent) × (x.source ≡ domain_of_event p.places w.event))))
+      → (k : ℕ) × ((w : FiredEvent) × ((slice_get all k ≡ Some w) × ((w.event.number ≡ x.parent) × (x.source ≡ domain_of_event p.places w.event))))
   parent_of_crossing number x h =
       let j : Joins p.places events x = joined number x h in
       let e_at : slice_get events j.child.number ≡ Some j.child = ap (slice_get events) (o.numbered j.number j.child j.there) ∙ j.there in
-      let at : (k : ℕ) × (y : Timed) × (slice_get all k ≡ Some y) × (y.event ≡ j.child) = o.each j.child e_at in
+      let at : (k : ℕ) × (y : FiredEvent) × (slice_get all k ≡ Some y) × (y.event ≡ j.child) = o.each j.child e_at in
       let slot : (at.1.event.first ≡ Some j.parent) ⊎ (at.1.event.second ≡ Some j.parent) =
       subst (λ (e : Event). (e.first ≡ Some j.parent) ⊎ (e.second ≡ Some j.parent)) (sym at.3) j.slot
       in
-      let q : (i : ℕ) × ((y : Timed) × ((i < at.0) × ((slice_get all i ≡ Some y) × (y.event.number ≡ j.parent.number)))) =
+      let q : (i : ℕ) × ((y : FiredEvent) × ((i < at.0) × ((slice_get all i ≡ Some y) × (y.event.number ≡ j.parent.number)))) =
       parent_at events all o at.0 at.1 j.parent at.2 slot
       in
       let n : j.parent.number ≡ x.parent = ap (λ (z : Crossing). z.parent) j.is in
@@ -77,15 +77,15 @@ module _ (events : List Event) (p : Partition) (all : List Timed) (o : IsOrder e
       (q.0, (q.1.0, (q.1.1.1.0, (q.1.1.1.1 ∙ n, sym s ∙ d))))
 
   -- it stands before the child
-  pub parent_before : (number : ℕ) (c : Crossing) → slice_get p.crossings number ≡ Some c → (k : ℕ) (x : Timed) → slice_get all k ≡ Some x → x.event.number ≡ c.child
-      → (i : ℕ) × ((w : Timed) × ((i < k) × ((slice_get all i ≡ Some w) × ((w.event.number ≡ c.parent) × (c.source ≡ domain_of_event p.places w.event)))))
+  pub parent_before : (number : ℕ) (c : Crossing) → slice_get p.crossings number ≡ Some c → (k : ℕ) (x : FiredEvent) → slice_get all k ≡ Some x → x.event.number ≡ c.child
+      → (i : ℕ) × ((w : FiredEvent) × ((i < k) × ((slice_get all i ≡ Some w) × ((w.event.number ≡ c.parent) × (c.source ≡ domain_of_event p.places w.event)))))
   parent_before number c there k x a n =
       let j : Joins p.places events c = joined number c there in
       let e : x.event ≡ j.child = child_slot number c j k x a n in
       let slot : (x.event.first ≡ Some j.parent) ⊎ (x.event.second ≡ Some j.parent) =
       subst (λ (z : Event). (z.first ≡ Some j.parent) ⊎ (z.second ≡ Some j.parent)) (sym e) j.slot
       in
-      let q : (i : ℕ) × ((w : Timed) × ((i < k) × ((slice_get all i ≡ Some w) × (w.event.number ≡ j.parent.number)))) = parent_at events all o k x j.parent a slot in
+      let q : (i : ℕ) × ((w : FiredEvent) × ((i < k) × ((slice_get all i ≡ Some w) × (w.event.number ≡ j.parent.number)))) = parent_at events all o k x j.parent a slot in
       let s : domain_of_number p.places events j.parent.number ≡ c.source = ap (λ (z : Crossing). z.source) j.is in
       let d : domain_of_number p.places events j.parent.number ≡ domain_of_event p.places q.1.0.event =
       ap (domain_of_number p.places events) (sym q.1.1.1.1) ∙ at_event events p.places q.1.0.event.number q.1.0.event (o.event q.0 q.1.0 q.1.1.1.0)
@@ -96,7 +96,7 @@ module _ (events : List Event) (p : Partition) (all : List Timed) (o : IsOrder e
   pub sound_bounds : (domain : ℕ) (own : DomainState) → AreSoundWords all p own.known → IsSoundFloor all p domain own → AreSoundBounds events all p domain own
   sound_bounds domain own known floor = record {
     each = λ number x h target unknown.
-        let q : (k : ℕ) × ((w : Timed) × ((slice_get all k ≡ Some w) × ((w.event.number ≡ x.parent) × (x.source ≡ domain_of_event p.places w.event)))) = parent_of_crossing number x h in
+        let q : (k : ℕ) × ((w : FiredEvent) × ((slice_get all k ≡ Some w) × ((w.event.number ≡ x.parent) × (x.source ≡ domain_of_event p.places w.event)))) = parent_of_crossing number x h in
         let finish : finish_in all x.parent ≡ q.1.0.finish = ap (finish_in all) (sym q.1.1.1.0) ∙ finish_is events all o q.0 q.1.0 q.1.1.0 in
         let start : start_in all x.parent ≡ q.1.0.start = ap (start_in all) (sym q.1.1.1.0) ∙ start_is events all o q.0 q.1.0 q.1.1.0 in
         let latency : latency_at events x.parent ≡ latency_of q.1.0.event =

@@ -12,7 +12,7 @@ use Rattle.zs_num.specs.declared.time.Word.TheVariants.{Bound, Exact}
 use Rattle.component.specs.declared.kind.Kind.{Kind}
 use Rattle.event_graph.specs.declared.event.Event.{Event}
 use Rattle.event_graph.specs.declared.fired.Fired.{Fired}
-use Rattle.event_graph.specs.OneListWeave.{IsSmallStep, Timed, after_firings, fire, find_fired, finish_in, finish_or_zero, fired_of, least_ready, fire_least, served, weave, woven}
+use Rattle.event_graph.specs.OneListWeave.{IsSmallStep, FiredEvent, after_firings, fire, find_fired, finish_in, finish_or_zero, fired_of, least_ready, fire_least, served, weave, woven}
 use Rattle.event_graph.specs.Timely.{AreTimely, IsTimely}
 use Rattle.event_graph.specs.TimingSolution.{IsInOrder, IsSolution, after_serving, of_component}
 use Rattle.domain_map.specs.declared.crossing.Crossing.{Crossing}
@@ -46,10 +46,10 @@ none_known (x ∷ xs) zero = refl
 none_known (x ∷ xs) (suc n) = none_known xs n
 
 module _ {C : Type 0} (serves : C → Kind → Bool) (floor : C → Kind → ℕ) (stepped : C → Kind → ℕ → C × ℕ) (greatest : C → Kind → ℕ → ℕ) (events : List Event) (p : Partition) (comps : List C) where
-  abbrev pub all : List Timed
+  abbrev pub all : List FiredEvent
   all = (weave stepped events comps).fired
 
-  abbrev pub timed : List Timed
+  abbrev pub timed : List FiredEvent
   timed = woven stepped events comps
 
   -- what the laws of the weave say of this graph
@@ -58,7 +58,7 @@ module _ {C : Type 0} (serves : C → Kind → Bool) (floor : C → Kind → ℕ
     pub order : IsOrder events (weave stepped events comps).fired
     pub served : IsServed stepped comps (weave stepped events comps).fired
     pub in_order : IsInOrder (weave stepped events comps).fired
-    pub here : (k : ℕ) (x : Timed) → slice_get (weave stepped events comps).fired k ≡ Some x → domain_of_event p.places x.event < length p.events
+    pub here : (k : ℕ) (x : FiredEvent) → slice_get (weave stepped events comps).fired k ≡ Some x → domain_of_event p.places x.event < length p.events
     pub solution : IsSolution stepped events comps (woven stepped events comps)
     pub timely : AreTimely events (map fired_of (woven stepped events comps))
     pub front : (firings : ℕ) → (after_firings stepped events comps firings).fired ≡ take firings (weave stepped events comps).fired
@@ -70,7 +70,7 @@ module _ {C : Type 0} (serves : C → Kind → Bool) (floor : C → Kind → ℕ
     pub fires : FiresFollow serves floor stepped
     pub floors : (owns : List DomainState) (start : ℕ) → AreSoundDomains stepped events p comps (woven stepped events comps) solution owns → KnowFiredParents p owns → least_start_of events p owns ≡ Some start
         → (domain : ℕ) → IsSoundFloor (woven stepped events comps) p domain (with_floor start (own_at owns domain))
-    pub goes_on : (owns : List DomainState) (index : ℕ) (x : Timed) → AreSoundDomains stepped events p comps (woven stepped events comps) solution owns → KnowFiredParents p owns
+    pub goes_on : (owns : List DomainState) (index : ℕ) (x : FiredEvent) → AreSoundDomains stepped events p comps (woven stepped events comps) solution owns → KnowFiredParents p owns
         → IsFirstLeft stepped events p comps owns index x → MayGoOn events p owns x
 
   module _ (f : Facts) where
@@ -86,10 +86,10 @@ module _ {C : Type 0} (serves : C → Kind → Bool) (floor : C → Kind → ℕ
     pub finish_small : (number : ℕ) → finish_in timed number ≤ 2 ^ 62
     finish_small number = by_option (find_fired timed number) refl
       where
-        by_option : (z : Option Timed) → find_fired timed number ≡ z → finish_in timed number ≤ 2 ^ 62
+        by_option : (z : Option FiredEvent) → find_fired timed number ≡ z → finish_in timed number ≤ 2 ^ 62
         by_option None e = let is : finish_in timed number ≡ 0 = ap finish_or_zero e in omega (arith, is)
         by_option (Some y) e =
-            let s = find_some (λ (x : Timed). eqb x.event.number number) timed y e in
+            let s = find_some (λ (x : FiredEvent). eqb x.event.number number) timed y e in
             let i : (i : ℕ) × (slice_get timed i ≡ Some y) = in_at y timed s.0 in
             let there : slice_get (map fired_of timed) i.0 ≡ Some (fired_of y) = slice_get-map fired_of timed i.0 ∙ ap (option_map fired_of) i.1 in
             let event = get_there events i.0 (omega (arith, get_below (map fired_of timed) i.0 (fired_of y) there, f.timely.count)) in
@@ -102,18 +102,18 @@ module _ {C : Type 0} (serves : C → Kind → Bool) (floor : C → Kind → ℕ
     unfolding after_firings fire_least
     one_more_fired k = refl
 
-    longer : (k : ℕ) (x : Timed) → slice_get all k ≡ Some x → (after_firings stepped events comps (suc k)).fired ≡ (after_firings stepped events comps k).fired ++ x ∷ []
+    longer : (k : ℕ) (x : FiredEvent) → slice_get all k ≡ Some x → (after_firings stepped events comps (suc k)).fired ≡ (after_firings stepped events comps k).fired ++ x ∷ []
     longer k x h =
         let next : suc k ≡ k + 1 = omega arith in
         f.front (suc k)
         ∙ (ap (λ n. take n all) next
         ∙ (take_more all k x (get_below all k x h)
-        ∙ (ap (λ (z : Timed). take k all ++ z ∷ []) (get_or_from_slice_get all k x x h) ∙ ap (λ (xs : List Timed). xs ++ x ∷ []) (sym (f.front k)))))
+        ∙ (ap (λ (z : FiredEvent). take k all ++ z ∷ []) (get_or_from_slice_get all k x x h) ∙ ap (λ (xs : List FiredEvent). xs ++ x ∷ []) (sym (f.front k)))))
 
-    never_same : (xs : List Timed) (x : Timed) → xs ≡ xs ++ x ∷ [] → ⊥
+    never_same : (xs : List FiredEvent) (x : FiredEvent) → xs ≡ xs ++ x ∷ [] → ⊥
     never_same xs x e = absurd (omega (arith, ap length e, length_push xs x))
 
-    pub small_at : (k : ℕ) (x : Timed) → slice_get all k ≡ Some x → (event : Event) (start : ℕ) → x.event ≡ event → x.start ≡ start → (c : C)
+    pub small_at : (k : ℕ) (x : FiredEvent) → slice_get all k ≡ Some x → (event : Event) (start : ℕ) → x.event ≡ event → x.start ≡ start → (c : C)
         → slice_get (after_firings stepped events comps k).comps event.component ≡ Some c → greatest c event.kind start ≤ 2 ^ 62
     small_at k x h event start event_is start_is c there = by_next (least_ready (after_firings stepped events comps k).fired events) refl (f.can.small k)
       where
@@ -134,8 +134,8 @@ module _ {C : Type 0} (serves : C → Kind → Bool) (floor : C → Kind → ℕ
             ∙ longer k x h
             in
             let same = last_same (after_firings stepped events comps k).fired _ x grown in
-            let is_event : n.0 ≡ event = ap (λ (z : Timed). z.event) same ∙ event_is in
-            let is_start : n.1 ≡ start = ap (λ (z : Timed). z.start) same ∙ start_is in
+            let is_event : n.0 ≡ event = ap (λ (z : FiredEvent). z.event) same ∙ event_is in
+            let is_start : n.1 ≡ start = ap (λ (z : FiredEvent). z.start) same ∙ start_is in
             let is_component : d ≡ c = same_Some d c (sym g ∙ (ap (λ (z : Event). slice_get (after_firings stepped events comps k).comps z.component) is_event ∙ there)) in
             subst (λ (z : C). greatest z event.kind start ≤ 2 ^ 62) is_component
             (subst (λ (z : ℕ). greatest d event.kind z ≤ 2 ^ 62) is_start (subst (λ (z : Event). greatest d z.kind n.1 ≤ 2 ^ 62) is_event s))
@@ -200,7 +200,7 @@ module _ {C : Type 0} (serves : C → Kind → Bool) (floor : C → Kind → ℕ
       }
 
       abbrev cut : (cut : ℕ) × (take (length own.fired) (of_domain p.places domain all) ≡ of_domain p.places domain (take cut all))
-      cut = front_cut (λ (y : Timed). eqb (domain_of_event p.places y.event) domain) all (length own.fired)
+      cut = front_cut (λ (y : FiredEvent). eqb (domain_of_event p.places y.event) domain) all (length own.fired)
 
       fired_cut : own.fired ≡ of_domain p.places domain (take cut.0 all)
       fired_cut = k.fired ∙ cut.1
@@ -249,8 +249,8 @@ module _ {C : Type 0} (serves : C → Kind → Bool) (floor : C → Kind → ℕ
             in
             f.comps_at first.k event.component
             ∙ (ap (option_map (λ c. after_serving stepped c (of_component event.component (after_firings stepped events comps first.k).fired))) base
-            ∙ (ap (λ (xs : List Timed). Some (after_serving stepped firing.1.0 (of_component event.component xs))) (f.front first.k)
-            ∙ (ap (λ (xs : List Timed). Some (after_serving stepped firing.1.0 xs)) mine ∙ ap (λ (z : C). Some z) (sym (component_is c there)))))
+            ∙ (ap (λ (xs : List FiredEvent). Some (after_serving stepped firing.1.0 (of_component event.component xs))) (f.front first.k)
+            ∙ (ap (λ (xs : List FiredEvent). Some (after_serving stepped firing.1.0 xs)) mine ∙ ap (λ (z : C). Some z) (sym (component_is c there)))))
 
         pub small : (c : C) → slice_get parts (place_in p.places domain event.component) ≡ Some c → greatest c event.kind start ≤ 2 ^ 62
         small c there = small_at first.k first.x first.first.there event start first.event first.start c (in_weave c there)
@@ -271,7 +271,7 @@ module _ {C : Type 0} (serves : C → Kind → Bool) (floor : C → Kind → ℕ
 
         before : Follows stepped comps timed (domain_with stepped events p comps domain own parts) f.solution
         before = record {
-          fired = λ a b. k.fired ∙ ap (λ (xs : List Timed). take (length own.fired) (of_domain p.places domain xs)) (sym order);
+          fired = λ a b. k.fired ∙ ap (λ (xs : List FiredEvent). take (length own.fired) (of_domain p.places domain xs)) (sym order);
           comps_are = λ a b. k.parts_are;
         }
 
@@ -283,7 +283,7 @@ module _ {C : Type 0} (serves : C → Kind → Bool) (floor : C → Kind → ℕ
             subst (λ (v : DomainValue C). KeepsTo stepped events p comps domain v.own v.comps) (sym e)
             (record {
               fired = then.fired k.known (record { each = (f.bounds domain own k.known k.floor).each })
-                  ∙ ap (λ (xs : List Timed). take (length (own.fired ++ (record { event = fire.event; start = fire.start; finish = (stepped fire.component fire.event.kind fire.start).1 }) ∷ [])) (of_domain p.places domain xs)) order;
+                  ∙ ap (λ (xs : List FiredEvent). take (length (own.fired ++ (record { event = fire.event; start = fire.start; finish = (stepped fire.component fire.event.kind fire.start).1 }) ∷ [])) (of_domain p.places domain xs)) order;
               parts_are = then.comps_are k.known (record { each = (f.bounds domain own k.known k.floor).each });
               known = k.known;
               floor = record { each = k.floor.each };

@@ -8,7 +8,7 @@ use Rattle.zs_num.specs.declared.time.Word.{Word}
 use Rattle.zs_num.specs.declared.time.Word.TheVariants.{Bound, Exact}
 use Rattle.event_graph.specs.declared.event.Event.{Event}
 use Rattle.event_graph.specs.declared.event.Parent.{Parent}
-use Rattle.event_graph.specs.OneListWeave.{Timed, is_fired}
+use Rattle.event_graph.specs.OneListWeave.{FiredEvent, is_fired}
 use Rattle.domain_map.specs.declared.crossing.Crossing.{Crossing}
 use Rattle.domain_map.specs.Domains.{Partition}
 use Rattle.weave_core.specs.declared.incoming.Stub.{Stub}
@@ -92,7 +92,7 @@ unknown_few child (s ∷ stubs) = by_test (unknown_few child stubs) (eqb s.child
     by_test rest false = omega (arith, rest)
 
 -- what is kept of the graph doesn't read the words or the floor
-pub stands_alike : (events : List Event) (p : Partition) (domain : ℕ) (here : List Event) (stubs : List Stub) (w : Waits) (fired : List Timed) (known other : List Word) (floor over : ℕ)
+pub stands_alike : (events : List Event) (p : Partition) (domain : ℕ) (here : List Event) (stubs : List Stub) (w : Waits) (fired : List FiredEvent) (known other : List Word) (floor over : ℕ)
     → Stands events p domain (record { fired = fired; known = known; floor = floor }) here stubs w → Stands events p domain (record { fired = fired; known = other; floor = over }) here stubs w
 stands_alike events p domain here stubs w fired known other floor over s = record {
   starts_size = s.starts_size;

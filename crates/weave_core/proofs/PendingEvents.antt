@@ -7,7 +7,7 @@ use Rattle.std.specs.List.{filter, enumerate_from}
 use Rattle.std.specs.Option.{option_map, option_to_list}
 use Rattle.event_graph.specs.declared.event.Event.{Event}
 use Rattle.event_graph.specs.declared.event.Parent.{Parent}
-use Rattle.event_graph.specs.OneListWeave.{Timed, is_event_before, is_fired, start_of}
+use Rattle.event_graph.specs.OneListWeave.{FiredEvent, is_event_before, is_fired, start_of}
 use Rattle.domain_map.specs.declared.crossing.Crossing.{Crossing}
 use Rattle.domain_map.specs.Domains.{Partition, IsPartition, domain_of_event, domain_of_number}
 use Rattle.weave_core.specs.DomainMachine.{DomainState, arrival_of, every_crossing, is_clear, is_exact, is_own_parent_fired, is_ready_in, is_unresolved, known_finish, limit_of, next_in, word_at}
@@ -21,24 +21,24 @@ use Rattle.weave_core.proofs.Firing.{IsOrder, before_start, fired_before, parent
 use Rattle.weave_core.proofs.Joined.{at_event, child_slot, eq_test, joined, less_is, test_eq}
 use Rattle.weave_core.proofs.ReadyEvents.{IsPlaced, IsReady, is_ready, placed, ready_start, sound_arrival}
 
-module _ (events : List Event) (p : Partition) (all : List Timed) (o : IsOrder events all) (div : IsPartition events p) where
+module _ (events : List Event) (p : Partition) (all : List FiredEvent) (o : IsOrder events all) (div : IsPartition events p) where
   module _ (domain cut : ℕ) (own : DomainState) (fired_is : own.fired ≡ of_domain p.places domain (take cut all))
       (known : AreSoundWords all p own.known) (bounds : AreSoundBounds events all p domain own) where
     -- The domain's first event behind the cut.
 
-    abbrev pub is_pending : ℕ → Timed → Bool
+    abbrev pub is_pending : ℕ → FiredEvent → Bool
     is_pending k x = eqb (domain_of_event p.places x.event) domain && leb cut k
 
-    pub pending_test : (k : ℕ) (x : Timed) → domain_of_event p.places x.event ≡ domain → cut ≤ k → is_pending k x ≡ true
+    pub pending_test : (k : ℕ) (x : FiredEvent) → domain_of_event p.places x.event ≡ domain → cut ≤ k → is_pending k x ≡ true
     pending_test k x d b = grind (arith, nat_tests)
 
-    pub pending_is : (k : ℕ) (x : Timed) → is_pending k x ≡ true → (domain_of_event p.places x.event ≡ domain) × (cut ≤ k)
+    pub pending_is : (k : ℕ) (x : FiredEvent) → is_pending k x ≡ true → (domain_of_event p.places x.event ≡ domain) × (cut ≤ k)
     pending_is k x h =
         let a = both (eqb (domain_of_event p.places x.event) domain) (leb cut k) h in
         let b : cut ≤ k = grind (arith, nat_tests, a.1) in
         (test_eq (domain_of_event p.places x.event) domain a.0, b)
 
-    not_pending : (k : ℕ) (x : Timed) → is_pending k x ≡ false → domain_of_event p.places x.event ≡ domain → k < cut
+    not_pending : (k : ℕ) (x : FiredEvent) → is_pending k x ≡ false → domain_of_event p.places x.event ≡ domain → k < cut
     not_pending k x h d =
         elim (cases_lt k cut) [
           | inl l ↦ l
@@ -46,7 +46,7 @@ module _ (events : List Event) (p : Partition) (all : List Timed) (o : IsOrder e
         ]
 
     -- it is ready, or a crossing into it is unresolved
-    pub record IsAwaited (x : Timed) : Type 0 where
+    pub record IsAwaited (x : FiredEvent) : Type 0 where
       pub number : ℕ
       pub crossing : Crossing
       pub there : slice_get p.crossings number ≡ Some crossing
@@ -54,11 +54,11 @@ module _ (events : List Event) (p : Partition) (all : List Timed) (o : IsOrder e
       pub target : crossing.target ≡ domain
       pub unknown : is_exact (word_at own.known number) ≡ false
 
-    own_slot : (k : ℕ) (x : Timed) → IsFirst is_pending all k x → (s : Option Parent) → ((q : Parent) → s ≡ Some q → (x.event.first ≡ Some q) ⊎ (x.event.second ≡ Some q))
+    own_slot : (k : ℕ) (x : FiredEvent) → IsFirst is_pending all k x → (s : Option Parent) → ((q : Parent) → s ≡ Some q → (x.event.first ≡ Some q) ⊎ (x.event.second ≡ Some q))
         → is_own_parent_fired events p domain own s ≡ true
     own_slot k x f None slot = refl
     own_slot k x f (Some q) slot =
-        let r : (j : ℕ) × ((y : Timed) × ((j < k) × ((slice_get all j ≡ Some y) × (y.event.number ≡ q.number)))) = parent_at events all o k x q f.there (slot q refl) in
+        let r : (j : ℕ) × ((y : FiredEvent) × ((j < k) × ((slice_get all j ≡ Some y) × (y.event.number ≡ q.number)))) = parent_at events all o k x q f.there (slot q refl) in
         elim (test_cases (eqb (domain_of_number p.places events q.number) domain)) [
           | inr apart ↦ or_right (is_fired own.fired q.number) (not (eqb (domain_of_number p.places events q.number) domain)) (ap not apart)
           | inl here ↦
@@ -69,14 +69,14 @@ module _ (events : List Event) (p : Partition) (all : List Timed) (o : IsOrder e
               let l : r.0 < cut = not_pending r.0 r.1.0 (f.before r.0 r.1.0 r.1.1.0 r.1.1.1.0) d in
               let g : is_fired (of_domain p.places domain (take cut all)) r.1.0.event.number ≡ true = fired_before events all o p.places domain cut r.0 r.1.0 l r.1.1.1.0 d in
               or_left (is_fired own.fired q.number) (not (eqb (domain_of_number p.places events q.number) domain))
-              (ap (λ (xs : List Timed). is_fired xs q.number) fired_is ∙ (ap (is_fired (of_domain p.places domain (take cut all))) (sym r.1.1.1.1) ∙ g))
+              (ap (λ (xs : List FiredEvent). is_fired xs q.number) fired_is ∙ (ap (is_fired (of_domain p.places domain (take cut all))) (sym r.1.1.1.1) ∙ g))
         ]
 
-    pub first_pending : (k : ℕ) (x : Timed) → IsFirst is_pending all k x → (is_ready_in events p domain own x.event ≡ true) ⊎ IsAwaited x
+    pub first_pending : (k : ℕ) (x : FiredEvent) → IsFirst is_pending all k x → (is_ready_in events p domain own x.event ≡ true) ⊎ IsAwaited x
     first_pending k x f =
         let is = pending_is k x f.passes in
         let unfired : is_fired own.fired x.event.number ≡ false =
-        ap (λ (xs : List Timed). is_fired xs x.event.number) fired_is ∙ unfired_from events all o p.places domain cut k x is.1 f.there
+        ap (λ (xs : List FiredEvent). is_fired xs x.event.number) fired_is ∙ unfired_from events all o p.places domain cut k x is.1 f.there
         in
         elim (test_cases (every_crossing events p (λ number z. not (eqb z.child x.event.number) || is_exact (word_at own.known number)))) [
           | inl t ↦
@@ -107,19 +107,19 @@ module _ (events : List Event) (p : Partition) (all : List Timed) (o : IsOrder e
     -- An event that the domain may fire is its first behind the cut.
     pub record IsNextHere (b : Event × ℕ) : Type 0 where
       pub k : ℕ
-      pub x : Timed
+      pub x : FiredEvent
       pub first : IsFirst is_pending all k x
       pub event : x.event ≡ b.0
       pub start : x.start ≡ b.1
 
-    in_order : (j k : ℕ) (y x : Timed) → j ≤ k → slice_get all j ≡ Some y → slice_get all k ≡ Some x → y.start ≤ x.start
+    in_order : (j k : ℕ) (y x : FiredEvent) → j ≤ k → slice_get all j ≡ Some y → slice_get all k ≡ Some x → y.start ≤ x.start
     in_order j k y x l a b =
         elim (cases_lt j k) [
           | inl less ↦ before_start y x (o.order j k y x less a b)
           | inr m ↦
               let same : j ≡ k = omega arith in
               let e : y ≡ x = same_Some y x (sym a ∙ (ap (slice_get all) same ∙ b)) in
-              let s : y.start ≡ x.start = ap (λ (z : Timed). z.start) e in
+              let s : y.start ≡ x.start = ap (λ (z : FiredEvent). z.start) e in
               omega (arith, s)
         ]
 
@@ -131,7 +131,7 @@ module _ (events : List Event) (p : Partition) (all : List Timed) (o : IsOrder e
         let w : IsPlaced events p all o div domain cut own fired_is known bounds b.0 = placed events p all o div domain cut own fired_is known bounds b.0 l.there (is_ready events p all o div domain cut own fired_is known bounds b.0 l.passes) in
         let r : IsReady events p all o div domain cut own fired_is known bounds b.0 = is_ready events p all o div domain cut own fired_is known bounds b.0 l.passes in
         let at_start : w.x.start ≡ b.1 = sym w.start ∙ sym l.start_is in
-        let f : (j : ℕ) × ((y : Timed) × ((j ≤ w.k) × IsFirst is_pending all j y)) =
+        let f : (j : ℕ) × ((y : FiredEvent) × ((j ≤ w.k) × IsFirst is_pending all j y)) =
         first_of is_pending all w.k w.x w.there (pending_test w.k w.x (ap (domain_of_event p.places) w.event ∙ r.here) w.behind)
         in
         elim (cases_lt f.0 w.k) [
@@ -142,8 +142,8 @@ module _ (events : List Event) (p : Partition) (all : List Timed) (o : IsOrder e
                 k = f.0;
                 x = f.1.0;
                 first = f.1.1.1;
-                event = ap (λ (z : Timed). z.event) e ∙ w.event;
-                start = ap (λ (z : Timed). z.start) e ∙ at_start;
+                event = ap (λ (z : FiredEvent). z.event) e ∙ w.event;
+                start = ap (λ (z : FiredEvent). z.start) e ∙ at_start;
               }
           | inl less ↦
               let earlier : is_event_before f.1.0.event f.1.0.start w.x.event w.x.start ≡ true = o.order f.0 w.k f.1.0 w.x less f.1.1.1.there w.there in
@@ -185,10 +185,10 @@ module _ (events : List Event) (p : Partition) (all : List Timed) (o : IsOrder e
     arrivals = map (λ (at : ℕ × Crossing). arrival_of events p own at.0 at.1) (filter (λ (at : ℕ × Crossing). is_unresolved events p domain own at.0 at.1) (enumerate_from 0 p.crossings))
 
     -- No event behind the cut starts before the limit.
-    pub limit_holds : (limit : ℕ) → limit_of events p domain own ≡ Some limit → (k : ℕ) (x : Timed) → slice_get all k ≡ Some x → domain_of_event p.places x.event ≡ domain
+    pub limit_holds : (limit : ℕ) → limit_of events p domain own ≡ Some limit → (k : ℕ) (x : FiredEvent) → slice_get all k ≡ Some x → domain_of_event p.places x.event ≡ domain
         → cut ≤ k → limit ≤ x.start
     limit_holds limit is k x h d behind =
-        let f : (j : ℕ) × ((y : Timed) × ((j ≤ k) × IsFirst is_pending all j y)) = first_of is_pending all k x h (pending_test k x d behind) in
+        let f : (j : ℕ) × ((y : FiredEvent) × ((j ≤ k) × IsFirst is_pending all j y)) = first_of is_pending all k x h (pending_test k x d behind) in
         let order : f.1.0.start ≤ x.start = in_order f.0 k f.1.0 x f.1.1.0 f.1.1.1.there h in
         elim (first_pending f.0 f.1.0 f.1.1.1) [
           | inl ready ↦

@@ -5,7 +5,7 @@ use Rattle.std.specs.List.{find, enumerate_from}
 use Rattle.std.specs.Option.{option_map_or}
 use Rattle.event_graph.specs.declared.event.Event.{Event}
 use Rattle.event_graph.specs.declared.event.Parent.{Parent}
-use Rattle.event_graph.specs.OneListWeave.{Timed, after_parent, find_fired, finish_in, finish_or_zero, is_fired, start_of}
+use Rattle.event_graph.specs.OneListWeave.{FiredEvent, after_parent, find_fired, finish_in, finish_or_zero, is_fired, start_of}
 use Rattle.domain_map.specs.declared.crossing.Crossing.{Crossing}
 use Rattle.domain_map.specs.Domains.{Partition, IsPartition, crossings_of, domain_of_event, domain_of_number}
 use Rattle.weave_core.specs.DomainMachine.{DomainState, arrival_of, bound_of, cycle_of, is_exact, is_own_parent_fired, is_ready_in, known_finish, told_finish, word_at}
@@ -16,19 +16,19 @@ use Rattle.weave_core.proofs.Crossings.{Joins, crossing_at, crossing_of}
 use Rattle.weave_core.proofs.Firing.{IsOrder, all_known, finding, fired_before, from_domain, parent_at, start_after_parent, start_by_all}
 use Rattle.weave_core.proofs.Joined.{child_slot, eq_test, exact_cycle, joined, test_eq}
 
-module _ (events : List Event) (p : Partition) (all : List Timed) (o : IsOrder events all) (div : IsPartition events p) where
+module _ (events : List Event) (p : Partition) (all : List FiredEvent) (o : IsOrder events all) (div : IsPartition events p) where
   module _ (domain cut : ℕ) (own : DomainState) (fired_is : own.fired ≡ of_domain p.places domain (take cut all))
       (known : AreSoundWords all p own.known) (bounds : AreSoundBounds events all p domain own) where
     -- an unresolved crossing into an event lets it start no later than it does
     pub sound_arrival : (number : ℕ) (x : Crossing) → slice_get p.crossings number ≡ Some x → x.target ≡ domain → is_exact (word_at own.known number) ≡ false
-        → (k : ℕ) (y : Timed) → slice_get all k ≡ Some y → y.event.number ≡ x.child → arrival_of events p own number x ≤ y.start
+        → (k : ℕ) (y : FiredEvent) → slice_get all k ≡ Some y → y.event.number ≡ x.child → arrival_of events p own number x ≤ y.start
     sound_arrival number x h target unknown k y a n =
         let j : Joins p.places events x = joined events p all o div number x h in
         let e : y.event ≡ j.child = child_slot events p all o div number x j k y a n in
         let slot : (y.event.first ≡ Some j.parent) ⊎ (y.event.second ≡ Some j.parent) =
         subst (λ (z : Event). (z.first ≡ Some j.parent) ⊎ (z.second ≡ Some j.parent)) (sym e) j.slot
         in
-        let q : (i : ℕ) × ((w : Timed) × ((i < k) × ((slice_get all i ≡ Some w) × (w.event.number ≡ j.parent.number)))) = parent_at events all o k y j.parent a slot in
+        let q : (i : ℕ) × ((w : FiredEvent) × ((i < k) × ((slice_get all i ≡ Some w) × (w.event.number ≡ j.parent.number)))) = parent_at events all o k y j.parent a slot in
         let number_is : q.1.0.event.number ≡ x.parent = q.1.1.1.1 ∙ ap (λ (z : Crossing). z.parent) j.is in
         let delay_is : j.parent.delay ≡ x.delay = ap (λ (z : Crossing). z.delay) j.is in
         let after : finish_in all j.parent.number + j.parent.delay ≤ y.start = start_after_parent events all o k y j.parent a slot in
@@ -72,9 +72,9 @@ module _ (events : List Event) (p : Partition) (all : List Timed) (o : IsOrder e
         elim (either (is_fired own.fired q.number) (not (eqb (domain_of_number p.places events q.number) domain)) h) [
           | inr n ↦ absurd (false≢true (sym (not_true (eqb (domain_of_number p.places events q.number) domain) n) ∙ here))
           | inl f ↦
-              let r : (w : Timed) × ((find_fired own.fired q.number ≡ Some w) × (In w own.fired × (w.event.number ≡ q.number))) = finding own.fired q.number f in
+              let r : (w : FiredEvent) × ((find_fired own.fired q.number ≡ Some w) × (In w own.fired × (w.event.number ≡ q.number))) = finding own.fired q.number f in
               let place : (k : ℕ) × ((k < cut) × ((slice_get all k ≡ Some r.0) × (domain_of_event p.places r.0.event ≡ domain))) =
-              from_domain events all o p.places domain cut r.0 (subst (λ (xs : List Timed). In r.0 xs) fired_is r.1.1.0)
+              from_domain events all o p.places domain cut r.0 (subst (λ (xs : List FiredEvent). In r.0 xs) fired_is r.1.1.0)
               in
               let whole : find_fired all q.number ≡ Some r.0 = subst (λ (n : ℕ). find_fired all n ≡ Some r.0) r.1.1.1 (all_known events all o place.0 r.0 place.1.1.0) in
               ap finish_or_zero (r.1.0 ∙ sym whole)
@@ -123,7 +123,7 @@ module _ (events : List Event) (p : Partition) (all : List Timed) (o : IsOrder e
     -- a ready event stands behind the cut, with the start that the domain knows
     pub record IsPlaced (e : Event) : Type 0 where
       pub k : ℕ
-      pub x : Timed
+      pub x : FiredEvent
       pub there : slice_get all k ≡ Some x
       pub event : x.event ≡ e
       pub behind : cut ≤ k
@@ -133,7 +133,7 @@ module _ (events : List Event) (p : Partition) (all : List Timed) (o : IsOrder e
     placed e m r =
         let i : (i : ℕ) × (slice_get events i ≡ Some e) = in_at e events m in
         let at : slice_get events e.number ≡ Some e = ap (slice_get events) (o.numbered i.0 e i.1) ∙ i.1 in
-        let w : (k : ℕ) × (x : Timed) × (slice_get all k ≡ Some x) × (x.event ≡ e) = o.each e at in
+        let w : (k : ℕ) × (x : FiredEvent) × (slice_get all k ≡ Some x) × (x.event ≡ e) = o.each e at in
         record {
           k = w.0;
           x = w.1;
@@ -146,7 +146,7 @@ module _ (events : List Event) (p : Partition) (all : List Timed) (o : IsOrder e
                     fired_before events all o p.places domain cut w.0 w.1 l w.2 (ap (domain_of_event p.places) w.3 ∙ r.here)
                     in
                     let g : is_fired own.fired e.number ≡ true =
-                    ap (λ (xs : List Timed). is_fired xs e.number) fired_is ∙ (ap (λ (z : Event). is_fired (of_domain p.places domain (take cut all)) z.number) (sym w.3) ∙ f)
+                    ap (λ (xs : List FiredEvent). is_fired xs e.number) fired_is ∙ (ap (λ (z : Event). is_fired (of_domain p.places domain (take cut all)) z.number) (sym w.3) ∙ f)
                     in
                     absurd (false≢true (sym r.unfired ∙ g))
                 | inr b ↦ b

@@ -3,7 +3,7 @@ use Rattle.std.proofs.Common.{◌≡◌, ◌+◌, ◌<◌, ◌≤◌, ℕ, zero,
 use Rattle.std.specs.List.{filter}
 use Rattle.component.specs.declared.kind.Kind.{Kind}
 use Rattle.event_graph.specs.declared.event.Event.{Event}
-use Rattle.event_graph.specs.OneListWeave.{Timed, weave, woven}
+use Rattle.event_graph.specs.OneListWeave.{FiredEvent, weave, woven}
 use Rattle.event_graph.specs.TimingSolution.{IsInOrder, IsSolution, after_serving, of_component}
 use Rattle.domain_map.specs.Domains.{Partition, IsPartition, domain_of_event}
 use Rattle.weave_core.specs.DomainMachine.{DomainState, is_clear, next_in}
@@ -35,9 +35,9 @@ front_cut {X} test (x ∷ xs) (suc n) = by_test (front_cut test xs n) (front_cut
 
 module _ {C : Type 0} (stepped : C → Kind → ℕ → C × ℕ) (events : List Event) (p : Partition) (comps : List C)
     (o : IsOrder events (weave stepped events comps).fired) (div : IsPartition events p) (serves : IsServed stepped comps (weave stepped events comps).fired)
-    (here : (k : ℕ) (x : Timed) → slice_get (weave stepped events comps).fired k ≡ Some x → domain_of_event p.places x.event < length p.events)
+    (here : (k : ℕ) (x : FiredEvent) → slice_get (weave stepped events comps).fired k ≡ Some x → domain_of_event p.places x.event < length p.events)
     (in_order : IsInOrder (weave stepped events comps).fired) where
-  abbrev all : List Timed
+  abbrev all : List FiredEvent
   all = (weave stepped events comps).fired
 
   -- its component has served what the domain fired on it, and nothing else
@@ -46,13 +46,13 @@ module _ {C : Type 0} (stepped : C → Kind → ℕ → C × ℕ) (events : List
       → of_component n.x.event.component (take n.k all) ≡ of_component n.x.event.component own.fired
   mine_so_far domain cut own fired known bounds b n =
       let is = pending_is events p all o div domain cut own fired known bounds n.k n.x n.first.passes in
-      let gap : (j : ℕ) (y : Timed) → cut ≤ j → j < n.k → slice_get all j ≡ Some y → eqb (domain_of_event p.places y.event) domain ≡ false =
+      let gap : (j : ℕ) (y : FiredEvent) → cut ≤ j → j < n.k → slice_get all j ≡ Some y → eqb (domain_of_event p.places y.event) domain ≡ false =
       gap_domain stepped events p comps all o div serves here domain cut n.k own fired known bounds n.x n.first
       in
-      let gap_here : (j : ℕ) (y : Timed) → cut ≤ j → j < n.k → slice_get all j ≡ Some y → eqb y.event.component n.x.event.component ≡ false =
+      let gap_here : (j : ℕ) (y : FiredEvent) → cut ≤ j → j < n.k → slice_get all j ≡ Some y → eqb y.event.component n.x.event.component ≡ false =
       gap_component stepped events p comps all o div serves here domain cut n.k n.x.event.component is.0 gap
       in
-      front_kept (λ (y : Timed). eqb y.event.component n.x.event.component) all cut n.k is.1 gap_here
+      front_kept (λ (y : FiredEvent). eqb y.event.component n.x.event.component) all cut n.k is.1 gap_here
       ∙ (narrowed stepped events p comps all o div serves here n.x.event.component (take cut all)
       ∙ (ap (λ (d : ℕ). of_component n.x.event.component (of_domain p.places d (take cut all))) is.0
       ∙ ap (of_component n.x.event.component) (sym fired)))
@@ -65,37 +65,37 @@ module _ {C : Type 0} (stepped : C → Kind → ℕ → C × ℕ) (events : List
       × (n.x.finish ≡ (stepped (after_serving stepped c (of_component n.x.event.component own.fired)) n.x.event.kind n.x.start).1)))
   next_entry domain cut own fired known bounds b n =
       let is = pending_is events p all o div domain cut own fired known bounds n.k n.x n.first.passes in
-      let gap : (j : ℕ) (y : Timed) → cut ≤ j → j < n.k → slice_get all j ≡ Some y → eqb (domain_of_event p.places y.event) domain ≡ false =
+      let gap : (j : ℕ) (y : FiredEvent) → cut ≤ j → j < n.k → slice_get all j ≡ Some y → eqb (domain_of_event p.places y.event) domain ≡ false =
       gap_domain stepped events p comps all o div serves here domain cut n.k own fired known bounds n.x n.first
       in
       let grown : of_domain p.places domain (take (n.k + 1) all) ≡ own.fired ++ n.x ∷ [] =
-      front_next (λ (y : Timed). eqb (domain_of_event p.places y.event) domain) all cut n.k n.x is.1 n.first.there (eq_test (domain_of_event p.places n.x.event) domain is.0) gap
-      ∙ ap (λ (xs : List Timed). xs ++ n.x ∷ []) (sym fired)
+      front_next (λ (y : FiredEvent). eqb (domain_of_event p.places y.event) domain) all cut n.k n.x is.1 n.first.there (eq_test (domain_of_event p.places n.x.event) domain is.0) gap
+      ∙ ap (λ (xs : List FiredEvent). xs ++ n.x ∷ []) (sym fired)
       in
       let front : of_domain p.places domain (take (n.k + 1) all) ≡ take (length (of_domain p.places domain (take (n.k + 1) all))) (of_domain p.places domain all) =
-      filter_front (λ (y : Timed). eqb (domain_of_event p.places y.event) domain) all (n.k + 1)
+      filter_front (λ (y : FiredEvent). eqb (domain_of_event p.places y.event) domain) all (n.k + 1)
       in
       let at : slice_get (take (length (of_domain p.places domain (take (n.k + 1) all))) (of_domain p.places domain all)) (length own.fired) ≡ Some n.x =
-      ap (λ (xs : List Timed). slice_get xs (length own.fired)) (sym front ∙ grown) ∙ last_at own.fired n.x
+      ap (λ (xs : List FiredEvent). slice_get xs (length own.fired)) (sym front ∙ grown) ∙ last_at own.fired n.x
       in
       let sv = serves.at n.k n.x n.first.there in
       let mine : of_component n.x.event.component (take n.k all) ≡ of_component n.x.event.component own.fired =
       mine_so_far domain cut own fired known bounds b n
       in (
         (get_take (of_domain p.places domain all) (length (of_domain p.places domain (take (n.k + 1) all))) (length own.fired) n.x at).1,
-        (sv.0, (sv.1.0, sv.1.1 ∙ ap (λ (xs : List Timed). (stepped (after_serving stepped sv.0 xs) n.x.event.kind n.x.start).1) mine)),
+        (sv.0, (sv.1.0, sv.1.1 ∙ ap (λ (xs : List FiredEvent). (stepped (after_serving stepped sv.0 xs) n.x.event.kind n.x.start).1) mine)),
       )
 
-  pub sound_follow : (timed : List Timed) (solution : IsSolution stepped events comps timed) (is : timed ≡ woven stepped events comps) (domain : ℕ) (own : DomainState) (next : Event × ℕ)
+  pub sound_follow : (timed : List FiredEvent) (solution : IsSolution stepped events comps timed) (is : timed ≡ woven stepped events comps) (domain : ℕ) (own : DomainState) (next : Event × ℕ)
       → IsSoundDomain stepped events p comps timed solution domain own → next_in events p domain own ≡ Some next → is_clear events p domain own next.1 ≡ true
-      → (x : Timed) × IsNextFiring stepped events p comps timed solution domain own next x
+      → (x : FiredEvent) × IsNextFiring stepped events p comps timed solution domain own next x
   sound_follow timed solution is domain own next s n clear =
       let order : solution.sorted ≡ all = order_alike stepped events comps o timed is solution.sorted solution.in_order solution.same in_order in
       let front : own.fired ≡ take (length own.fired) (of_domain p.places domain all) =
-      s.fired ∙ ap (λ (xs : List Timed). take (length own.fired) (of_domain p.places domain xs)) order
+      s.fired ∙ ap (λ (xs : List FiredEvent). take (length own.fired) (of_domain p.places domain xs)) order
       in
       let cut : (cut : ℕ) × (take (length own.fired) (of_domain p.places domain all) ≡ of_domain p.places domain (take cut all)) =
-      front_cut (λ (y : Timed). eqb (domain_of_event p.places y.event) domain) all (length own.fired)
+      front_cut (λ (y : FiredEvent). eqb (domain_of_event p.places y.event) domain) all (length own.fired)
       in
       let fired : own.fired ≡ of_domain p.places domain (take cut.0 all) = front ∙ cut.1 in
       let known : AreSoundWords all p own.known = words_alike stepped events comps o timed is p own.known s.known in
@@ -104,7 +104,7 @@ module _ {C : Type 0} (stepped : C → Kind → ℕ → C × ℕ) (events : List
       let e = next_entry domain cut.0 own fired known bounds next f in (
         f.x,
         record {
-          firing = ap (λ (xs : List Timed). slice_get (of_domain p.places domain xs) (length own.fired)) order ∙ e.0;
+          firing = ap (λ (xs : List FiredEvent). slice_get (of_domain p.places domain xs) (length own.fired)) order ∙ e.0;
           event = f.event;
           start = f.start;
           component = e.1.0;

@@ -8,7 +8,7 @@ use Rattle.zs_num.specs.declared.time.Word.{Word}
 use Rattle.zs_num.specs.declared.time.Word.TheVariants.{Bound, Exact}
 use Rattle.component.specs.declared.kind.Kind.{Kind}
 use Rattle.event_graph.specs.declared.event.Event.{Event}
-use Rattle.event_graph.specs.OneListWeave.{Timed, find_fired, finish_in, finish_or_zero, is_fired}
+use Rattle.event_graph.specs.OneListWeave.{FiredEvent, find_fired, finish_in, finish_or_zero, is_fired}
 use Rattle.event_graph.specs.TimingSolution.{after_serving, of_component}
 use Rattle.domain_map.specs.declared.crossing.Crossing.{Crossing}
 use Rattle.domain_map.specs.Domains.{Partition, IsPartition, domain_at, domain_of_event}
@@ -29,7 +29,7 @@ written {X} Q xs i v d new old j =
       | inr e ↦ subst (λ (z : X). Q j z) (sym e) (old j)
     ]
 
-module _ {C : Type 0} (stepped : C → Kind → ℕ → C × ℕ) (events : List Event) (p : Partition) (comps : List C) (all : List Timed) (o : IsOrder events all) (div : IsPartition events p) where
+module _ {C : Type 0} (stepped : C → Kind → ℕ → C × ℕ) (events : List Event) (p : Partition) (comps : List C) (all : List FiredEvent) (o : IsOrder events all) (div : IsPartition events p) where
   -- a domain with its events up to the cut fired
   pub record Stands (words : List Word) (cut domain : ℕ) (own : DomainState) : Type 0 where
     pub fired : own.fired ≡ of_domain p.places domain (take cut all)
@@ -135,12 +135,12 @@ module _ {C : Type 0} (stepped : C → Kind → ℕ → C × ℕ) (events : List
       let source : x.source ≡ domain = test_eq x.source domain a.0 in
       let own : Stands s.words (h.cut domain) domain (state_of s domain) = h.domains domain in
       let unfired : is_fired (of_domain p.places domain (take (h.cut domain) all)) x.parent ≡ false =
-      ap (λ (xs : List Timed). is_fired xs x.parent) (sym own.fired) ∙ not_true (is_fired (state_of s domain).fired x.parent) b.0
+      ap (λ (xs : List FiredEvent). is_fired xs x.parent) (sym own.fired) ∙ not_true (is_fired (state_of s domain).fired x.parent) b.0
       in
       let l : (limit : ℕ) × ((limit_of events p domain (state_of s domain) ≡ Some limit) × (leb bound (latency_at events x.parent + limit) ≡ true)) =
       finding_option (limit_of events p domain (state_of s domain)) (λ limit. leb bound (latency_at events x.parent + limit)) c.1
       in
-      let q : (k : ℕ) × ((w : Timed) × ((slice_get all k ≡ Some w) × ((w.event.number ≡ x.parent) × (x.source ≡ domain_of_event p.places w.event)))) =
+      let q : (k : ℕ) × ((w : FiredEvent) × ((slice_get all k ≡ Some w) × ((w.event.number ≡ x.parent) × (x.source ≡ domain_of_event p.places w.event)))) =
       parent_of_crossing events p all o div number x there
       in
       let d : domain_of_event p.places q.1.0.event ≡ domain = sym q.1.1.1.1 ∙ source in
@@ -211,13 +211,13 @@ module _ {C : Type 0} (stepped : C → Kind → ℕ → C × ℕ) (events : List
       let a = both (eqb g.0.source domain) (is_fired (state_of s domain).fired g.0.parent) g.1.1 in
       let source : g.0.source ≡ domain = test_eq g.0.source domain a.0 in
       let own : Stands s.words (h.cut domain) domain (state_of s domain) = h.domains domain in
-      let fired : is_fired (of_domain p.places domain (take (h.cut domain) all)) g.0.parent ≡ true = ap (λ (xs : List Timed). is_fired xs g.0.parent) (sym own.fired) ∙ a.1 in
+      let fired : is_fired (of_domain p.places domain (take (h.cut domain) all)) g.0.parent ≡ true = ap (λ (xs : List FiredEvent). is_fired xs g.0.parent) (sym own.fired) ∙ a.1 in
       let r = finding (of_domain p.places domain (take (h.cut domain) all)) g.0.parent fired in
       let place = from_domain events all o p.places domain (h.cut domain) r.0 r.1.1.0 in
       let whole : find_fired all g.0.parent ≡ Some r.0 = subst (λ n. find_fired all n ≡ Some r.0) r.1.1.1 (all_known events all o place.0 r.0 place.1.1.0) in
       let finish : finish_of_parent events p stepped s domain number ≡ finish_in all g.0.parent =
       ap (λ (z : Option Crossing). option_map_or (λ x. finish_in (state_of s domain).fired x.parent) z 0) g.1.0
-      ∙ (ap (λ (xs : List Timed). finish_in xs g.0.parent) own.fired ∙ ap finish_or_zero (r.1.0 ∙ sym whole))
+      ∙ (ap (λ (xs : List FiredEvent). finish_in xs g.0.parent) own.fired ∙ ap finish_or_zero (r.1.0 ∙ sym whole))
       in
       let same : (y : Crossing) → slice_get p.crossings number ≡ Some y → g.0 ≡ y = λ y e. same_Some g.0 y (sym g.1.0 ∙ e) in
       record {

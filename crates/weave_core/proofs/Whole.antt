@@ -7,7 +7,7 @@ use Rattle.zs_num.specs.declared.time.Word.{Word}
 use Rattle.zs_num.specs.declared.time.Word.TheVariants.{Bound}
 use Rattle.component.specs.declared.kind.Kind.{Kind}
 use Rattle.event_graph.specs.declared.event.Event.{Event}
-use Rattle.event_graph.specs.OneListWeave.{Timed, weave}
+use Rattle.event_graph.specs.OneListWeave.{FiredEvent, weave}
 use Rattle.event_graph.specs.TimingSolution.{after_serving, of_component}
 use Rattle.domain_map.specs.declared.crossing.Crossing.{Crossing}
 use Rattle.domain_map.specs.Domains.{Partition, IsPartition, domain_at, domain_of_event}
@@ -32,9 +32,9 @@ either_value v d [] j = inr refl
 either_value v d (x ∷ xs) zero = inl refl
 either_value v d (x ∷ xs) (suc j) = either_value v d xs j
 
-module _ {C : Type 0} (stepped : C → Kind → ℕ → C × ℕ) (events : List Event) (p : Partition) (comps : List C) (all : List Timed)
+module _ {C : Type 0} (stepped : C → Kind → ℕ → C × ℕ) (events : List Event) (p : Partition) (comps : List C) (all : List FiredEvent)
     (o : IsOrder events all) (div : IsPartition events p) (serves : IsServed stepped comps all)
-    (here : (k : ℕ) (x : Timed) → slice_get all k ≡ Some x → domain_of_event p.places x.event < length p.events) where
+    (here : (k : ℕ) (x : FiredEvent) → slice_get all k ≡ Some x → domain_of_event p.places x.event < length p.events) where
   no_bound : (number : ℕ) → word_at (map (λ x. Bound 0) p.crossings) number ≡ Bound 0
   no_bound number = one_value (Bound 0) p.crossings number
 
@@ -96,11 +96,11 @@ module _ {C : Type 0} (stepped : C → Kind → ℕ → C × ℕ) (events : List
 
   pub fronts : (s : MachineState C) → Holds stepped events p comps all o div s → (domain : ℕ) → IsFront (state_of s domain).fired (of_domain p.places domain all)
   fronts s h domain =
-      subst (λ (xs : List Timed). xs ≡ take (length xs) (of_domain p.places domain all)) (sym (h.domains domain).fired)
-      (filter_front (λ (x : Timed). eqb (domain_of_event p.places x.event) domain) all (h.cut domain))
+      subst (λ (xs : List FiredEvent). xs ≡ take (length xs) (of_domain p.places domain all)) (sym (h.domains domain).fired)
+      (filter_front (λ (x : FiredEvent). eqb (domain_of_event p.places x.event) domain) all (h.cut domain))
 
   -- a component's events are its domain's
-  pub narrowed : (number : ℕ) (xs : List Timed) → of_component number xs ≡ of_component number (of_domain p.places (domain_at p.places number) xs)
+  pub narrowed : (number : ℕ) (xs : List FiredEvent) → of_component number xs ≡ of_component number (of_domain p.places (domain_at p.places number) xs)
   narrowed number [] = refl
   narrowed number (x ∷ xs) =
       by_tests (eqb x.event.component number) refl (eqb (domain_of_event p.places x.event) (domain_at p.places number)) refl (narrowed number xs)
@@ -110,7 +110,7 @@ module _ {C : Type 0} (stepped : C → Kind → ℕ → C × ℕ) (events : List
           → cond t (x ∷ of_component number xs) (of_component number xs)
           ≡ of_component number (cond u (x ∷ of_domain p.places (domain_at p.places number) xs) (of_domain p.places (domain_at p.places number) xs))
       by_tests true a true b rest =
-          ap (λ (zs : List Timed). x ∷ zs) rest
+          ap (λ (zs : List FiredEvent). x ∷ zs) rest
           ∙ sym (ap (λ (v : Bool). cond v (x ∷ of_component number (of_domain p.places (domain_at p.places number) xs)) (of_component number (of_domain p.places (domain_at p.places number) xs))) a)
       by_tests true a false b rest =
           absurd (false≢true (sym b ∙ eq_test (domain_of_event p.places x.event) (domain_at p.places number) (ap (domain_at p.places) (test_eq x.event.component number a))))
@@ -122,14 +122,14 @@ module _ {C : Type 0} (stepped : C → Kind → ℕ → C × ℕ) (events : List
       → slice_get s.comps number ≡ option_map (λ c. after_serving stepped c (of_component number (state_of s (domain_at p.places number)).fired)) (slice_get comps number)
   comps_follow s h number =
       h.comps_are number
-      ∙ ap (λ (xs : List Timed). option_map (λ c. after_serving stepped c xs) (slice_get comps number))
+      ∙ ap (λ (xs : List FiredEvent). option_map (λ c. after_serving stepped c xs) (slice_get comps number))
       (narrowed number (take (h.cut (domain_at p.places number)) all)
       ∙ ap (of_component number) (sym (h.domains (domain_at p.places number)).fired))
 
 -- each event's domain is there
-pub domain_there : (events : List Event) (p : Partition) (all : List Timed) → IsOrder events all → IsPartition events p
+pub domain_there : (events : List Event) (p : Partition) (all : List FiredEvent) → IsOrder events all → IsPartition events p
     → ((i : ℕ) (e : Event) → slice_get events i ≡ Some e → e.component < length p.places)
-    → (k : ℕ) (x : Timed) → slice_get all k ≡ Some x → domain_of_event p.places x.event < length p.events
+    → (k : ℕ) (x : FiredEvent) → slice_get all k ≡ Some x → domain_of_event p.places x.event < length p.events
 domain_there events p all o div within k x h =
     div.there.below x.event.component 0 (within x.event.number x.event (o.event k x h))
 
@@ -137,7 +137,7 @@ domain_there events p all o div within k x h =
 pub follows : {C : Type 0} (stepped : C → Kind → ℕ → C × ℕ) (events : List Event) (p : Partition) (comps : List C)
     (o : IsOrder events (weave stepped events comps).fired) (div : IsPartition events p)
     (serves : IsServed stepped comps (weave stepped events comps).fired)
-    (here : (k : ℕ) (x : Timed) → slice_get (weave stepped events comps).fired k ≡ Some x → domain_of_event p.places x.event < length p.events) (s : MachineState C)
+    (here : (k : ℕ) (x : FiredEvent) → slice_get (weave stepped events comps).fired k ≡ Some x → domain_of_event p.places x.event < length p.events) (s : MachineState C)
     → Holds stepped events p comps (weave stepped events comps).fired o div s → FollowsTheWeave stepped events p comps s
 follows stepped events p comps o div serves here s h = record {
   fired = fronts stepped events p comps (weave stepped events comps).fired o div serves here s h;

@@ -13,7 +13,7 @@ use Rattle.event_graph.specs.Fits.{GraphFits}
 use Rattle.event_graph.specs.TimingSolution.{IsSolution, after_serving, of_component}
 use Rattle.weave_core.specs.Interleavings.{IsFront, of_domain}
 use Rattle.weave_core.specs.Soundness.{AreSoundBounds, AreSoundWords}
-use Rattle.event_graph.specs.OneListWeave.{Timed, is_fired}
+use Rattle.event_graph.specs.OneListWeave.{FiredEvent, is_fired}
 use Rattle.domain_map.specs.declared.crossing.Crossing.{Crossing}
 use Rattle.domain_map.specs.Domains.{Partition, domain_at, domain_of_event}
 use Rattle.weave_core.specs.declared.next.Next.{Next}
@@ -134,7 +134,7 @@ pub record CanFire {C : Type 0} (greatest : C → Kind → ℕ → ℕ) (v : Dom
 
 -- Where the words that the domain knows and the bounds that it takes of them are sound for a solution, it fired the
 -- first of its events in that solution, at their cycles, and its components are what these leave.
-pub record Follows {C : Type 0} (stepped : C → Kind → ℕ → C × ℕ) (all : List C) (timed : List Timed) (v : DomainValue C) (solution : IsSolution stepped v.events all timed) : Type 0 where
+pub record Follows {C : Type 0} (stepped : C → Kind → ℕ → C × ℕ) (all : List C) (timed : List FiredEvent) (v : DomainValue C) (solution : IsSolution stepped v.events all timed) : Type 0 where
   pub fired : AreSoundWords timed v.partition v.own.known → AreSoundBounds v.events timed v.partition v.domain v.own
       → IsFront v.own.fired (of_domain v.partition.places v.domain solution.sorted)
   pub comps_are : AreSoundWords timed v.partition v.own.known → AreSoundBounds v.events timed v.partition v.domain v.own

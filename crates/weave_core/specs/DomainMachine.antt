@@ -8,7 +8,7 @@ use Rattle.zs_num.specs.declared.time.Word.TheVariants.{Bound, Exact}
 use Rattle.component.specs.declared.kind.Kind.{Kind}
 use Rattle.event_graph.specs.declared.event.Event.{Event}
 use Rattle.event_graph.specs.declared.event.Parent.{Parent}
-use Rattle.event_graph.specs.OneListWeave.{Timed, Weave, earlier, finish_in, is_fired, served, start_of}
+use Rattle.event_graph.specs.OneListWeave.{FiredEvent, Weave, earlier, finish_in, is_fired, served, start_of}
 use Rattle.domain_map.specs.declared.crossing.Crossing.{Crossing}
 use Rattle.domain_map.specs.Domains.{Partition, domain_of_event, domain_of_number}
 
@@ -33,7 +33,7 @@ word_at words crossing = slice_index_or words crossing (Bound 0)
 -- What a domain keeps: the events that it fired, in the order in which it did; the word that it knows of each crossing;
 -- and the cycle from which on, as it was told, every event starts that other domains haven't told it of.
 pub record DomainState : Type 0 where
-  pub fired : List Timed
+  pub fired : List FiredEvent
   pub known : List Word
   pub floor : ℕ
 

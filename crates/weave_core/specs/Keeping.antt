@@ -7,7 +7,7 @@ use Rattle.zs_num.specs.declared.time.Word.TheVariants.{Exact}
 use Rattle.component.specs.declared.kind.Kind.{Kind}
 use Rattle.event_graph.specs.declared.event.Event.{Event}
 use Rattle.event_graph.specs.declared.fired.Fired.{Fired}
-use Rattle.event_graph.specs.OneListWeave.{AreSmallSteps, Timed, comps_after, finish_in, fired_of, is_fired, weave, woven}
+use Rattle.event_graph.specs.OneListWeave.{AreSmallSteps, FiredEvent, comps_after, finish_in, fired_of, is_fired, weave, woven}
 use Rattle.event_graph.specs.TimingSolution.{after_serving, of_component}
 use Rattle.domain_map.specs.declared.crossing.Crossing.{Crossing}
 use Rattle.domain_map.specs.Domains.{Partition, domain_of_event}
@@ -76,7 +76,7 @@ module _ {C : Type 0} (stepped : C → Kind → ℕ → C × ℕ) (events : List
     pub apart : x.source ≡ x.target → ⊥
 
   -- the firing is one of the weave's, of an event of the domain
-  pub record IsWeaveFiring (domain : ℕ) (x : Timed) : Type 0 where
+  pub record IsWeaveFiring (domain : ℕ) (x : FiredEvent) : Type 0 where
     pub there : slice_get events x.event.number ≡ Some x.event
     pub here : domain_of_event p.places x.event ≡ domain
     pub finish : finish_in (woven stepped events comps) x.event.number ≡ x.finish
@@ -84,7 +84,7 @@ module _ {C : Type 0} (stepped : C → Kind → ℕ → C × ℕ) (events : List
 
   -- every event has fired in its domain
   abbrev pub HaveAllFired : List DomainState → Type 0
-  HaveAllFired owns = (index : ℕ) (x : Timed) → slice_get (weave stepped events comps).fired index ≡ Some x
+  HaveAllFired owns = (index : ℕ) (x : FiredEvent) → slice_get (weave stepped events comps).fired index ≡ Some x
       → is_fired (own_at owns (domain_of_event p.places x.event)).fired x.event.number ≡ true
 
   -- an event stands among those that some domain fired
@@ -93,7 +93,7 @@ module _ {C : Type 0} (stepped : C → Kind → ℕ → C × ℕ) (events : List
     pub value : DomainValue C
     pub there : slice_get vs domain ≡ Some value
     pub place : ℕ
-    pub firing : Timed
+    pub firing : FiredEvent
     pub fired : slice_get value.own.fired place ≡ Some firing
     pub number_is : firing.event.number ≡ number
 
@@ -120,7 +120,7 @@ pub record KeepingLaws {C : Type 0} (serves : C → Kind → Bool) (floor : C �
       → (domain : ℕ) (own : DomainState) (parts : List C) (e : Event) (start : ℕ) → KeepsTo stepped events p comps domain own parts → next_in events p domain own ≡ Some (e, start)
       → IsReadyEvent stepped events p comps domain own e start
   pub here : (events : List Event) (p : Partition) (comps : List C) → CanWeave serves floor stepped greatest events p comps
-      → (index : ℕ) (x : Timed) → slice_get (weave stepped events comps).fired index ≡ Some x → domain_of_event p.places x.event < length p.events
+      → (index : ℕ) (x : FiredEvent) → slice_get (weave stepped events comps).fired index ≡ Some x → domain_of_event p.places x.event < length p.events
   pub crossings : (events : List Event) (p : Partition) (comps : List C) → CanWeave serves floor stepped greatest events p comps
       → (number : ℕ) (x : Crossing) → slice_get p.crossings number ≡ Some x → JoinsDomains stepped events p comps x
   -- no finish passes 2^62
@@ -132,7 +132,7 @@ pub record KeepingLaws {C : Type 0} (serves : C → Kind → Bool) (floor : C �
       → (vs : List (DomainValue C)) (start : ℕ) → AreKept stepped events p comps vs → KnowFiredParents p (owns_of vs) → least_start_of events p (owns_of vs) ≡ Some start
       → (domain : ℕ) → IsSoundFloor (woven stepped events comps) p domain (with_floor start (own_at (owns_of vs) domain))
   pub goes_on : (events : List Event) (p : Partition) (comps : List C) → CanWeave serves floor stepped greatest events p comps
-      → (vs : List (DomainValue C)) (index : ℕ) (x : Timed) → AreKept stepped events p comps vs → KnowFiredParents p (owns_of vs) → IsFirstLeft stepped events p comps (owns_of vs) index x
+      → (vs : List (DomainValue C)) (index : ℕ) (x : FiredEvent) → AreKept stepped events p comps vs → KnowFiredParents p (owns_of vs) → IsFirstLeft stepped events p comps (owns_of vs) index x
       → MayGoOn events p (owns_of vs) x
   -- where no event is ready, all have fired
   pub all_done : (events : List Event) (p : Partition) (comps : List C) → CanWeave serves floor stepped greatest events p comps
@@ -150,7 +150,7 @@ pub record KeepingLaws {C : Type 0} (serves : C → Kind → Bool) (floor : C �
       → (domain : ℕ) (own : DomainState) (parts : List C) (fired : List Fired) → KeepsTo stepped events p comps domain own parts → own.fired ≡ map (timed_from events) fired
       → map fired_of own.fired ≡ fired
   pub firings : (events : List Event) (p : Partition) (comps : List C) → CanWeave serves floor stepped greatest events p comps
-      → (domain : ℕ) (own : DomainState) (parts : List C) (place : ℕ) (x : Timed) → KeepsTo stepped events p comps domain own parts → slice_get own.fired place ≡ Some x
+      → (domain : ℕ) (own : DomainState) (parts : List C) (place : ℕ) (x : FiredEvent) → KeepsTo stepped events p comps domain own parts → slice_get own.fired place ≡ Some x
       → IsWeaveFiring stepped events p comps domain x
   -- once all events have fired, each stands somewhere, and the components are the weave's
   pub among : (events : List Event) (p : Partition) (comps : List C) → CanWeave serves floor stepped greatest events p comps

@@ -9,7 +9,7 @@ use Rattle.component.specs.declared.kind.Kind.TheVariants.{Lookup}
 use Rattle.event_graph.specs.declared.event.Event.{Event}
 use Rattle.event_graph.specs.declared.event.Parent.{Parent}
 use Rattle.event_graph.specs.declared.fired.Fired.{Fired}
-use Rattle.event_graph.specs.OneListWeave.{Timed, finish_in, is_fired}
+use Rattle.event_graph.specs.OneListWeave.{FiredEvent, finish_in, is_fired}
 use Rattle.domain_map.specs.declared.crossing.Crossing.{Crossing}
 use Rattle.domain_map.specs.Domains.{Partition, domain_of_event, domain_of_number}
 use Rattle.weave_core.specs.declared.children.Link.{Link}
@@ -25,7 +25,7 @@ abbrev pub no_event : Event
 no_event = record { number = 0; core = 0; component = 0; kind = Lookup; min_start = 0; min_finish = 0; critical = false; first = None; second = None }
 
 -- the event that fired, with its start and its finish
-abbrev pub timed_from : List Event → Fired → Timed
+abbrev pub timed_from : List Event → Fired → FiredEvent
 timed_from events f = record { event = slice_index_or events f.number no_event; start = f.start; finish = f.finish }
 
 -- the word of a crossing, if it leads into the domain

@@ -6,7 +6,7 @@ use Rattle.std.specs.Option.{option_map}
 use Rattle.component.specs.declared.kind.Kind.{Kind}
 use Rattle.event_graph.specs.declared.event.Event.{Event}
 use Rattle.event_graph.specs.declared.fired.Fired.{Fired}
-use Rattle.event_graph.specs.OneListWeave.{Timed, fired_of, woven}
+use Rattle.event_graph.specs.OneListWeave.{FiredEvent, fired_of, woven}
 use Rattle.weave_core.specs.DomainCalls.{DomainValue}
 use Rattle.weave_core.specs.Keeping.{HaveAllFired, IsWeaveFiring, IsFiredSomewhere, KeepingLaws, owns_of}
 use Rattle.weave_core.specs.Layout.{timed_from}
@@ -29,7 +29,7 @@ module _ {C : Type 0} (serves : C → Kind → Bool) (floor : C → Kind → ℕ
 
   -- one event of a domain
   pub record IsGiven (v : DomainValue C) (place : ℕ) (g : Fired) : Type 0 where
-    pub firing : Timed
+    pub firing : FiredEvent
     pub there : slice_get v.own.fired place ≡ Some firing
     pub number : firing.event.number ≡ g.number
     pub below : g.number < length plan.graph.value
@@ -40,7 +40,7 @@ module _ {C : Type 0} (serves : C → Kind → Bool) (floor : C → Kind → ℕ
       let is_too : v.own.fired ≡ map (timed_from plan.graph.value) fs = is ∙ ap (λ (es : List Event). map (timed_from es) fs) (ap (λ (z : DomainValue C). z.events) i.is) in
       let log : map fired_of v.own.fired ≡ fs = laws.log plan.graph.value plan.parts.value plan.comps.value can v.domain v.own v.comps fs i.keeps is_too in
       let y_there : slice_get v.own.fired place ≡ Some (timed_from plan.graph.value g) =
-      ap (λ (xs : List Timed). slice_get xs place) is_too ∙ (slice_get-map (timed_from plan.graph.value) fs place ∙ ap (option_map (timed_from plan.graph.value)) at)
+      ap (λ (xs : List FiredEvent). slice_get xs place) is_too ∙ (slice_get-map (timed_from plan.graph.value) fs place ∙ ap (option_map (timed_from plan.graph.value)) at)
       in
       let e : IsWeaveFiring stepped plan.graph.value plan.parts.value plan.comps.value v.domain (timed_from plan.graph.value g) =
       laws.firings plan.graph.value plan.parts.value plan.comps.value can v.domain v.own v.comps place (timed_from plan.graph.value g) i.keeps y_there
@@ -67,16 +67,16 @@ module _ {C : Type 0} (serves : C → Kind → Bool) (floor : C → Kind → ℕ
         | inr other ↦ get_set_other times g.number n g other ∙ h
       ]
 
-  pub agrees_there : (times : List Fired) (v : DomainValue C) (place : ℕ) (g : Fired) → IsGiven v place g → length times ≡ length plan.graph.value → (y : Timed) → slice_get v.own.fired place ≡ Some y → AgreesAt stepped plan (set times g.number g) y.event.number
+  pub agrees_there : (times : List Fired) (v : DomainValue C) (place : ℕ) (g : Fired) → IsGiven v place g → length times ≡ length plan.graph.value → (y : FiredEvent) → slice_get v.own.fired place ≡ Some y → AgreesAt stepped plan (set times g.number g) y.event.number
   agrees_there times v place g i count y at =
       let same : i.firing ≡ y = same_Some i.firing y (sym i.there ∙ at) in
-      let number : y.event.number ≡ g.number = ap (λ (z : Timed). z.event.number) (sym same) ∙ i.number in
+      let number : y.event.number ≡ g.number = ap (λ (z : FiredEvent). z.event.number) (sym same) ∙ i.number in
       ap (slice_get (set times g.number g)) number
       ∙ (get_set_same times g.number g (let b = i.below in omega (arith, b, count)) ∙ (sym i.answer ∙ ap (slice_get wanted) (sym number)))
 
   -- all are
   pub all_filled : (vs : List (DomainValue C)) (times : List Fired) → AllKeep stepped plan vs → HaveAllFired stepped plan.graph.value plan.parts.value plan.comps.value (owns_of vs) → length times ≡ length plan.graph.value
-      → ((d : ℕ) (v : DomainValue C) (place : ℕ) (y : Timed) → slice_get vs d ≡ Some v → slice_get v.own.fired place ≡ Some y → AgreesAt stepped plan times y.event.number) → times ≡ wanted
+      → ((d : ℕ) (v : DomainValue C) (place : ℕ) (y : FiredEvent) → slice_get vs d ≡ Some v → slice_get v.own.fired place ≡ Some y → AgreesAt stepped plan times y.event.number) → times ≡ wanted
   all_filled vs times k done count upto =
       let size : length wanted ≡ length plan.graph.value = (laws.count plan.graph.value plan.parts.value plan.comps.value can).1 in
       same_list times wanted (omega (arith, count, size))

@@ -10,10 +10,10 @@ use Rattle.zs_num.specs.declared.time.Word.TheVariants.{Exact}
 use Rattle.component.specs.declared.kind.Kind.{Kind}
 use Rattle.event_graph.specs.declared.event.Event.{Event}
 use Rattle.event_graph.specs.declared.fired.Fired.{Fired}
-use Rattle.event_graph.specs.OneListWeave.{Timed, finish_in, is_fired, woven}
+use Rattle.event_graph.specs.OneListWeave.{FiredEvent, finish_in, is_fired, woven}
 use Rattle.domain_map.specs.declared.crossing.Crossing.{Crossing}
 use Rattle.domain_map.specs.Domains.{Partition, domain_of_event}
-use Rattle.crossing.specs.Seats.{IsTrueOfFinish, Looked, MayWrite, SeatValue, finishes_of, owners_of, with_written}
+use Rattle.crossing.specs.Seats.{IsTrueOfFinish, Looked, MayWrite, SeatValue, finishes_of, sources_of, with_written}
 use Rattle.weave_core.specs.DomainCalls.{DomainValue, IsAnswer, MayTell, with_known}
 use Rattle.weave_core.specs.DomainMachine.{DomainState, word_at}
 use Rattle.weave_core.specs.Keeping.{IsFinishOf, IsReadyEvent, JoinsDomains, KeepingLaws}
@@ -42,13 +42,13 @@ module _ {C : Type 0} (stepped : C → Kind → ℕ → C × ℕ) (plan : Plan C
   finish_at : (number : ℕ) (x : Crossing) → slice_get crossings number ≡ Some x → slice_index (finishes_of stepped plan.graph.value plan.parts.value plan.comps.value) number ≡ finish_in (woven stepped plan.graph.value plan.comps.value) x.parent
   finish_at number x at = index_map (λ (y : Crossing). finish_in (woven stepped plan.graph.value plan.comps.value) y.parent) crossings number x at
 
-  owner_at : (number : ℕ) (x : Crossing) → slice_get crossings number ≡ Some x → slice_index (owners_of plan.parts.value) number ≡ x.source
+  owner_at : (number : ℕ) (x : Crossing) → slice_get crossings number ≡ Some x → slice_index (sources_of plan.parts.value) number ≡ x.source
   owner_at number x at = index_map (λ (y : Crossing). y.source) crossings number x at
 
-  pub number_there : (table : TableId) (domain : ℕ) (s : SeatValue) → IsSeat stepped plan table domain s → (number : ℕ) (x : Crossing) → slice_get crossings number ≡ Some x → number < length s.owners
+  pub number_there : (table : TableId) (domain : ℕ) (s : SeatValue) → IsSeat stepped plan table domain s → (number : ℕ) (x : Crossing) → slice_get crossings number ≡ Some x → number < length s.sources
   number_there table domain s seat number x at =
       let w = slice_get_within crossings number x at in
-      let n = ap length seat.owners_are in
+      let n = ap length seat.sources_are in
       let m = length-map crossings (λ (y : Crossing). y.source) in
       omega (arith, w, n, m)
 
@@ -59,18 +59,18 @@ module _ {C : Type 0} (stepped : C → Kind → ℕ → C × ℕ) (plan : Plan C
     pub crossings_are : now.crossings ≡ old.crossings
     pub domain_is : now.domain ≡ old.domain
     pub finishes_are : now.finishes ≡ old.finishes
-    pub owners_are : now.owners ≡ old.owners
+    pub sources_are : now.sources ≡ old.sources
     pub others : (number : ℕ) (x : Crossing) → slice_get crossings number ≡ Some x → (number < link) ⊎ (x.parent ≡ parent → ⊥) → slice_index now.wrote number ≡ slice_index old.wrote number
 
   pub none_published : (s : SeatValue) (parent link : ℕ) → IsPublishing s s parent link
-  none_published s parent link = record { crossings_are = refl; domain_is = refl; finishes_are = refl; owners_are = refl; others = λ number x at h. refl }
+  none_published s parent link = record { crossings_are = refl; domain_is = refl; finishes_are = refl; sources_are = refl; others = λ number x at h. refl }
 
   pub all_published : (old now : SeatValue) (parent link : ℕ) → IsPublishing old now parent link → HasPublished plan old now parent
   all_published old now parent link h = record {
     crossings_are = h.crossings_are;
     domain_is = h.domain_is;
     finishes_are = h.finishes_are;
-    owners_are = h.owners_are;
+    sources_are = h.sources_are;
     others = λ number x at other. h.others number x at (inr other);
   }
 
@@ -96,8 +96,8 @@ module _ {C : Type 0} (stepped : C → Kind → ℕ → C × ℕ) (plan : Plan C
 
     pub may_write : MayWrite now (link - 1)
     may_write = record {
-      there = (let n = number_there table old.domain old seat (link - 1) one at_one in let l = ap length so_far.owners_are in omega (arith, n, l));
-      owner = ap (λ (xs : List ℕ). slice_index xs (link - 1)) (so_far.owners_are ∙ seat.owners_are) ∙ (owner_at (link - 1) one at_one ∙ (may.own (link - 1) one at_one parent_is ∙ sym so_far.domain_is));
+      there = (let n = number_there table old.domain old seat (link - 1) one at_one in let l = ap length so_far.sources_are in omega (arith, n, l));
+      owner = ap (λ (xs : List ℕ). slice_index xs (link - 1)) (so_far.sources_are ∙ seat.sources_are) ∙ (owner_at (link - 1) one at_one ∙ (may.own (link - 1) one at_one parent_is ∙ sym so_far.domain_is));
       unpublished = ap (λ (n : ℕ). n % 2) (so_far.others (link - 1) one at_one (inl (omega (arith, more)))) ∙ may.unpublished (link - 1) one at_one parent_is;
     }
 
@@ -124,7 +124,7 @@ module _ {C : Type 0} (stepped : C → Kind → ℕ → C × ℕ) (plan : Plan C
             crossings_are = ap (λ (s : SeatValue). s.crossings) new_is ∙ so_far.crossings_are;
             domain_is = ap (λ (s : SeatValue). s.domain) new_is ∙ so_far.domain_is;
             finishes_are = ap (λ (s : SeatValue). s.finishes) new_is ∙ so_far.finishes_are;
-            owners_are = ap (λ (s : SeatValue). s.owners) new_is ∙ so_far.owners_are;
+            sources_are = ap (λ (s : SeatValue). s.sources) new_is ∙ so_far.sources_are;
             others = λ m x at other.
                 let written : slice_index new.wrote m ≡ slice_index (set now.wrote (link - 1) n) m = ap (λ (s : SeatValue). slice_index s.wrote m) new_is in
                 elim other [
@@ -209,7 +209,7 @@ module _ {C : Type 0} (serves : C → Kind → Bool) (floor : C → Kind → ℕ
       crossings_are = ap (λ (s : SeatValue). s.crossings) looked.new_is ∙ ok.seated.seat.crossings_are;
       domain_is = ap (λ (s : SeatValue). s.domain) looked.new_is ∙ ok.seated.seat.domain_is;
       finishes_are = ap (λ (s : SeatValue). s.finishes) looked.new_is ∙ ok.seated.seat.finishes_are;
-      owners_are = ap (λ (s : SeatValue). s.owners) looked.new_is ∙ ok.seated.seat.owners_are;
+      sources_are = ap (λ (s : SeatValue). s.sources) looked.new_is ∙ ok.seated.seat.sources_are;
     }
 
     wrote_same : (n : ℕ) → slice_index seat.wrote n ≡ slice_index old.seat.wrote n
@@ -270,14 +270,14 @@ module _ {C : Type 0} (serves : C → Kind → Bool) (floor : C → Kind → ℕ
     }
 
     pub own_seat : IsSeat stepped plan table old.seat.domain old.seat
-    own_seat = record { crossings_are = ok.seated.seat.crossings_are; domain_is = refl; finishes_are = ok.seated.seat.finishes_are; owners_are = ok.seated.seat.owners_are }
+    own_seat = record { crossings_are = ok.seated.seat.crossings_are; domain_is = refl; finishes_are = ok.seated.seat.finishes_are; sources_are = ok.seated.seat.sources_are }
 
     now_fired : (n : ℕ) → is_fired v.own.fired n ≡ false → is_fired old.domain.own.fired n ≡ false
     now_fired n un = by_test (is_fired old.domain.own.fired n) refl
       where
         by_test : (t : Bool) → is_fired old.domain.own.fired n ≡ t → is_fired old.domain.own.fired n ≡ false
         by_test false e = e
-        by_test true e = absurd (false≢true (sym un ∙ (ap (λ (xs : List Timed). is_fired xs n) f.fired ∙ fired_by_more old.domain.own.fired _ n e)))
+        by_test true e = absurd (false≢true (sym un ∙ (ap (λ (xs : List FiredEvent). is_fired xs n) f.fired ∙ fired_by_more old.domain.own.fired _ n e)))
 
     pub fired_there : (s : SeatValue) → HasPublished plan old.seat s result.number → HasFiredThere stepped plan table old (record { number = old.number; domain = v; seat = s })
     fired_there s p = record {
@@ -288,12 +288,12 @@ module _ {C : Type 0} (serves : C → Kind → Bool) (floor : C → Kind → ℕ
             crossings_are = p.crossings_are ∙ ok.seated.seat.crossings_are;
             domain_is = p.domain_is ∙ (ok.seated.seat.domain_is ∙ sym f.same);
             finishes_are = p.finishes_are ∙ ok.seated.seat.finishes_are;
-            owners_are = p.owners_are ∙ ok.seated.seat.owners_are;
+            sources_are = p.sources_are ∙ ok.seated.seat.sources_are;
           };
           unpublished = λ n x at source un.
               let differs : x.parent ≡ result.number → ⊥ =
               λ e. false≢true
-              (sym un ∙ (ap (λ (xs : List Timed). is_fired xs x.parent) f.fired ∙ fired_last old.domain.own.fired (record { event = f.event; start = f.start; finish = result.finish }) x.parent (sym (e ∙ f.number))))
+              (sym un ∙ (ap (λ (xs : List FiredEvent). is_fired xs x.parent) f.fired ∙ fired_last old.domain.own.fired (record { event = f.event; start = f.start; finish = result.finish }) x.parent (sym (e ∙ f.number))))
               in
               ap (λ (k : ℕ). k % 2) (p.others n x at differs) ∙ ok.seated.unpublished n x at (source ∙ f.same) (now_fired x.parent un);
         };
@@ -306,7 +306,7 @@ module _ {C : Type 0} (serves : C → Kind → Bool) (floor : C → Kind → ℕ
 
   -- that it has gone on stays so
   pub gone_on_still : (v : DomainValue C) (a b : DomainState) → HasGoneOn events partition v.domain v.own a → Grows a b → HasGoneOn events partition v.domain v.own b
-  gone_on_still v a b h g e start next clear = ap (λ (xs : List Timed). is_fired xs e.number) g.fired ∙ fired_by_more a.fired g.rest e.number (h e start next clear)
+  gone_on_still v a b h g e start next clear = ap (λ (xs : List FiredEvent). is_fired xs e.number) g.fired ∙ fired_by_more a.fired g.rest e.number (h e start next clear)
 
   -- where it didn't fire, it has gone on at its first step, since it may not fire
   pub gone_on_looking : (first old new : Post C) (step : ℕ) (answer : Next) → HasServedSo stepped plan table first old → (step ≡ 0 → old.domain ≡ first.domain) → (0 < step → HasGoneOn events partition first.domain.domain first.domain.own old.domain.own)

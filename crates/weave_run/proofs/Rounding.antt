@@ -5,7 +5,7 @@ use Rattle.std.proofs.lemmas.List.{length-map}
 use Rattle.std.proofs.lemmas.Option.{same_Some, none-some, slice_get-get_or, slice_get_within}
 use Rattle.component.specs.declared.kind.Kind.{Kind}
 use Rattle.event_graph.specs.declared.event.Event.{Event}
-use Rattle.event_graph.specs.OneListWeave.{Timed, is_fired, weave, woven}
+use Rattle.event_graph.specs.OneListWeave.{FiredEvent, is_fired, weave, woven}
 use Rattle.event_graph.specs.declared.fired.Fired.{Fired}
 use Rattle.weave_core.specs.Layout.{timed_from}
 use Rattle.domain_map.specs.declared.crossing.Crossing.{Crossing}
@@ -22,12 +22,12 @@ use Rattle.weave_run.proofs.Running.{same_value}
 use Rattle.weave_run.proofs.Tellings.{get_set_other, get_set_same, grows_by_learning, grows_nothing, grows_twice, own_set_other, own_set_same, own_there, stays_exact}
 
 pub still_fired : (a b : DomainState) (n : ℕ) → Grows a b → is_fired a.fired n ≡ true → is_fired b.fired n ≡ true
-still_fired a b n g h = ap (λ (xs : List Timed). is_fired xs n) g.fired ∙ fired_by_more a.fired g.rest n h
+still_fired a b n g h = ap (λ (xs : List FiredEvent). is_fired xs n) g.fired ∙ fired_by_more a.fired g.rest n h
 
 module _ {C : Type 0} (stepped : C → Kind → ℕ → C × ℕ) (plan : Plan C) where
   -- After domains ran, each was told of the finishes of what the others fired meanwhile.
   pub met_again : (old mid new : List (DomainValue C)) → AreMet stepped plan old → AllGrow old mid → AllKeep stepped plan new → AllLearn mid new
-      → ((source at : ℕ) (y : Timed) → length (own_in old source).fired ≤ at → slice_get (own_in mid source).fired at ≡ Some y
+      → ((source at : ℕ) (y : FiredEvent) → length (own_in old source).fired ≤ at → slice_get (own_in mid source).fired at ≡ Some y
       → (number : ℕ) (x : Crossing) → slice_get plan.parts.value.crossings number ≡ Some x → x.parent ≡ y.event.number → IsResolved new number x)
       → HasMet stepped plan old new
   met_again old mid new m grow kept learn told = record {
@@ -35,13 +35,13 @@ module _ {C : Type 0} (stepped : C → Kind → ℕ → C × ℕ) (plan : Plan C
       kept = kept;
       told = record {
         each = λ n x there fired.
-            let f : StandsIn (own_in mid x.source).fired x.parent = fired_there (own_in mid x.source).fired x.parent (ap (λ (xs : List Timed). is_fired xs x.parent) (sym (learn.each x.source).fired) ∙ fired) in
+            let f : StandsIn (own_in mid x.source).fired x.parent = fired_there (own_in mid x.source).fired x.parent (ap (λ (xs : List FiredEvent). is_fired xs x.parent) (sym (learn.each x.source).fired) ∙ fired) in
             elim (cases_lt f.place (length (own_in old x.source).fired)) [
               | inr past ↦ told x.source f.place f.firing (omega (arith, past)) f.there n x there (sym f.number)
               | inl less ↦
                   let g : Grows (own_in old x.source) (own_in mid x.source) = grow.each x.source in
                   let before : slice_get (own_in old x.source).fired f.place ≡ Some f.firing =
-                  sym (front_get (own_in old x.source).fired g.rest f.place less) ∙ (ap (λ (xs : List Timed). slice_get xs f.place) (sym g.fired) ∙ f.there)
+                  sym (front_get (own_in old x.source).fired g.rest f.place less) ∙ (ap (λ (xs : List FiredEvent). slice_get xs f.place) (sym g.fired) ∙ f.there)
                   in
                   stays_exact (own_in mid x.target) (own_in new x.target) n ((learn.each x.target).words n)
                   (stays_exact (own_in old x.target) (own_in mid x.target) n ((grow.each x.target).words n)
@@ -132,7 +132,7 @@ module _ {C : Type 0} (stepped : C → Kind → ℕ → C × ℕ) (plan : Plan C
   pub record HasRunUpto (old new : List (DomainValue C)) (number : ℕ) : Type 0 where
     pub met : AreMet stepped plan new
     pub grow : AllGrow old new
-    pub advanced : (index : ℕ) (x : Timed) → IsFirstLeft stepped plan.graph.value plan.parts.value plan.comps.value (owns_of old) index x
+    pub advanced : (index : ℕ) (x : FiredEvent) → IsFirstLeft stepped plan.graph.value plan.parts.value plan.comps.value (owns_of old) index x
         → is_clear plan.graph.value plan.parts.value (domain_of_event plan.parts.value.places x.event) (own_in old (domain_of_event plan.parts.value.places x.event)) x.start ≡ true
         → domain_of_event plan.parts.value.places x.event < number → is_fired (own_in new (domain_of_event plan.parts.value.places x.event)).fired x.event.number ≡ true
 
@@ -147,7 +147,7 @@ module _ {C : Type 0} (serves : C → Kind → Bool) (floor : C → Kind → ℕ
   abbrev partition : Partition
   partition = plan.parts.value
 
-  abbrev all : List Timed
+  abbrev all : List FiredEvent
   all = (weave stepped events plan.comps.value).fired
 
   pub one_ran : (first old new : List (DomainValue C)) (number : ℕ) → HasRunUpto stepped plan first old number → HasRunHere stepped plan old new number → HasRunUpto stepped plan first new (number + 1)
@@ -159,7 +159,7 @@ module _ {C : Type 0} (serves : C → Kind → Bool) (floor : C → Kind → ℕ
         by_fired index x f clear l (is_fired (own_in old (domain_of_event partition.places x.event)).fired x.event.number) refl;
   }
     where
-      by_fired : (index : ℕ) (x : Timed) → IsFirstLeft stepped events partition plan.comps.value (owns_of first) index x
+      by_fired : (index : ℕ) (x : FiredEvent) → IsFirstLeft stepped events partition plan.comps.value (owns_of first) index x
           → is_clear events partition (domain_of_event partition.places x.event) (own_in first (domain_of_event partition.places x.event)) x.start ≡ true
           → domain_of_event partition.places x.event < number + 1 → (t : Bool) → is_fired (own_in old (domain_of_event partition.places x.event)).fired x.event.number ≡ t
           → is_fired (own_in new (domain_of_event partition.places x.event)).fired x.event.number ≡ true
@@ -222,7 +222,7 @@ module _ {C : Type 0} (stepped : C → Kind → ℕ → C × ℕ) (plan : Plan C
     pub met : AreMet stepped plan vs
     pub floors : HaveFloor vs floor
     pub small : floor ≤ 2 ^ 62
-    pub upto : (i : ℕ) (y : Timed) → i < round → slice_get (weave stepped plan.graph.value plan.comps.value).fired i ≡ Some y
+    pub upto : (i : ℕ) (y : FiredEvent) → i < round → slice_get (weave stepped plan.graph.value plan.comps.value).fired i ≡ Some y
         → is_fired (own_in vs (domain_of_event plan.parts.value.places y.event)).fired y.event.number ≡ true
 
   pub no_round : (vs : List (DomainValue C)) → AreMet stepped plan vs → HaveFloor vs 0 → HasRounds vs 0 0
@@ -239,10 +239,10 @@ module _ {C : Type 0} (serves : C → Kind → Bool) (floor_of : C → Kind → 
   abbrev cut : Partition
   cut = plan.parts.value
 
-  abbrev order : List Timed
+  abbrev order : List FiredEvent
   order = (weave stepped graph plan.comps.value).fired
 
-  abbrev home : Timed → ℕ
+  abbrev home : FiredEvent → ℕ
   home y = domain_of_event cut.places y.event
 
   pub all_fired : length graph ≤ round → HaveAllFired stepped graph cut plan.comps.value (owns_of vs)
@@ -290,15 +290,15 @@ module _ {C : Type 0} (serves : C → Kind → Bool) (floor_of : C → Kind → 
       told = record {
         each = λ n x there fired.
             ap (λ (ws : _). is_exact (word_at ws n)) (same_known (max front floor) vs x.target)
-            ∙ h.met.told.each n x there (ap (λ (xs : List Timed). is_fired xs x.parent) (sym (same_fired (max front floor) vs x.source)) ∙ fired);
+            ∙ h.met.told.each n x there (ap (λ (xs : List FiredEvent). is_fired xs x.parent) (sym (same_fired (max front floor) vs x.source)) ∙ fired);
       };
     }
 
-    fired_then : (new : List (DomainValue C)) → HasRunRound stepped plan lifted new → (y : Timed) → is_fired (own_in vs (home y)).fired y.event.number ≡ true → is_fired (own_in new (home y)).fired y.event.number ≡ true
+    fired_then : (new : List (DomainValue C)) → HasRunRound stepped plan lifted new → (y : FiredEvent) → is_fired (own_in vs (home y)).fired y.event.number ≡ true → is_fired (own_in new (home y)).fired y.event.number ≡ true
     fired_then new r y fired =
-        still_fired (own_in lifted (home y)) (own_in new (home y)) y.event.number (r.has_met.grow.each (home y)) (ap (λ (xs : List Timed). is_fired xs y.event.number) (same_fired (max front floor) vs (home y)) ∙ fired)
+        still_fired (own_in lifted (home y)) (own_in new (home y)) y.event.number (r.has_met.grow.each (home y)) (ap (λ (xs : List FiredEvent). is_fired xs y.event.number) (same_fired (max front floor) vs (home y)) ∙ fired)
 
-    next_fires : (new : List (DomainValue C)) → HasRunRound stepped plan lifted new → (y : Timed) → slice_get order round ≡ Some y → (t : Bool) → is_fired (own_in vs (home y)).fired y.event.number ≡ t
+    next_fires : (new : List (DomainValue C)) → HasRunRound stepped plan lifted new → (y : FiredEvent) → slice_get order round ≡ Some y → (t : Bool) → is_fired (own_in vs (home y)).fired y.event.number ≡ t
         → is_fired (own_in new (home y)).fired y.event.number ≡ true
     next_fires new r y at true e = fired_then new r y e
     next_fires new r y at false e =
@@ -314,8 +314,8 @@ module _ {C : Type 0} (serves : C → Kind → Bool) (floor_of : C → Kind → 
         let left_then : IsFirstLeft stepped graph cut plan.comps.value (owns_of lifted) round y =
         record {
           there = at;
-          unfired = ap (λ (xs : List Timed). is_fired xs y.event.number) (same_fired (max front floor) vs (home y)) ∙ e;
-          before = λ j z l b. ap (λ (xs : List Timed). is_fired xs z.event.number) (same_fired (max front floor) vs (home z)) ∙ h.upto j z l b;
+          unfired = ap (λ (xs : List FiredEvent). is_fired xs y.event.number) (same_fired (max front floor) vs (home y)) ∙ e;
+          before = λ j z l b. ap (λ (xs : List FiredEvent). is_fired xs z.event.number) (same_fired (max front floor) vs (home z)) ∙ h.upto j z l b;
         }
         in
         r.advanced round y left_then clear

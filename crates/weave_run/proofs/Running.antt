@@ -6,7 +6,7 @@ use Rattle.zs_num.specs.declared.time.Key.{Key}
 use Rattle.component.specs.declared.kind.Kind.{Kind}
 use Rattle.event_graph.specs.declared.event.Event.{Event}
 use Rattle.event_graph.specs.declared.fired.Fired.{Fired}
-use Rattle.event_graph.specs.OneListWeave.{Timed, is_fired}
+use Rattle.event_graph.specs.OneListWeave.{FiredEvent, is_fired}
 use Rattle.domain_map.specs.Domains.{Partition}
 use Rattle.weave_core.specs.DomainCalls.{CanFire, DomainValue, IsAnswer, IsFire, MayFire}
 use Rattle.weave_core.specs.DomainMachine.{DomainState, word_at}
@@ -30,7 +30,7 @@ module _ {C : Type 0} (stepped : C → Kind → ℕ → C × ℕ) (plan : Plan C
   pub record HasRunSo (old new : DomainValue C) : Type 0 where
     pub same : new.domain ≡ old.domain
     pub kept : KeepsToWeave stepped plan new
-    pub rest : List Timed
+    pub rest : List FiredEvent
     pub fired : new.own.fired ≡ old.own.fired ++ rest
     pub known : new.own.known ≡ old.own.known
     pub floor : new.own.floor ≡ old.own.floor
@@ -44,8 +44,8 @@ module _ {C : Type 0} (stepped : C → Kind → ℕ → C × ℕ) (plan : Plan C
     kept = f.kept;
     rest = h.rest ++ (record { event = f.event; start = f.start; finish = result.finish }) ∷ [];
     fired = f.fired
-        ∙ (ap (λ (xs : List Timed). xs ++ (let x : Timed = record { event = f.event; start = f.start; finish = result.finish } in x) ∷ []) h.fired
-        ∙ append_assoc first.own.fired h.rest ((let x : Timed = record { event = f.event; start = f.start; finish = result.finish } in x) ∷ []));
+        ∙ (ap (λ (xs : List FiredEvent). xs ++ (let x : FiredEvent = record { event = f.event; start = f.start; finish = result.finish } in x) ∷ []) h.fired
+        ∙ append_assoc first.own.fired h.rest ((let x : FiredEvent = record { event = f.event; start = f.start; finish = result.finish } in x) ∷ []));
     known = f.known ∙ h.known;
     floor = f.floor ∙ h.floor;
   }
@@ -77,7 +77,7 @@ module _ {C : Type 0} (serves : C → Kind → Bool) (floor : C → Kind → ℕ
         start = f.start;
         next = f.next;
         fired = ap (λ (v : DomainValue C). v.own.fired) f.new_is
-            ∙ ap (λ (n : ℕ). old.own.fired ++ (let x : Timed = record { event = f.event; start = f.start; finish = n } in x) ∷ []) (sym finish);
+            ∙ ap (λ (n : ℕ). old.own.fired ++ (let x : FiredEvent = record { event = f.event; start = f.start; finish = n } in x) ∷ []) (sym finish);
         known = ap (λ (v : DomainValue C). v.own.known) f.new_is;
         floor = ap (λ (v : DomainValue C). v.own.floor) f.new_is;
         number = ap (λ (z : Fired). z.number) f.result_is;
@@ -89,7 +89,7 @@ module _ {C : Type 0} (serves : C → Kind → Bool) (floor : C → Kind → ℕ
   goes_first old new result f e start next clear =
       let same : ◌≡◌ {A = Event × ℕ} (f.event, f.start) (e, start) = same_pair f.event f.start e start (sym f.next ∙ next) in
       let number : f.event.number ≡ e.number = ap (λ (b : Event × ℕ). b.0.number) same in
-      ap (λ (xs : List Timed). is_fired xs e.number) f.fired
+      ap (λ (xs : List FiredEvent). is_fired xs e.number) f.fired
       ∙ fired_last old.own.fired (record { event = f.event; start = f.start; finish = result.finish }) e.number number
     where
       same_pair : (a : Event) (s : ℕ) (b : Event) (t : ℕ) → ◌≡◌ {A = Option (Event × ℕ)} (Some (a, s)) (Some (b, t)) → ◌≡◌ {A = Event × ℕ} (a, s) (b, t)
@@ -97,7 +97,7 @@ module _ {C : Type 0} (serves : C → Kind → Bool) (floor : C → Kind → ℕ
 
   pub goes_still : (first old new : DomainValue C) (result : Fired) (d : ℕ) → HasGoneOn events parts d first.own old.own → HasFiredNext stepped plan old new result → HasGoneOn events parts d first.own new.own
   goes_still first old new result d h f e start next clear =
-      ap (λ (xs : List Timed). is_fired xs e.number) f.fired
+      ap (λ (xs : List FiredEvent). is_fired xs e.number) f.fired
       ∙ fired_by_more old.own.fired ((record { event = f.event; start = f.start; finish = result.finish }) ∷ []) e.number (h e start next clear)
 
   -- another answer than that the next event may fire

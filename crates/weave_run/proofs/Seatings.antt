@@ -8,7 +8,7 @@ use Rattle.std.specs.Prelude.{IfSome}
 use Rattle.atomic_table.specs.Seated.{TableId}
 use Rattle.component.specs.declared.kind.Kind.{Kind}
 use Rattle.event_graph.specs.OneListWeave.{is_fired}
-use Rattle.crossing.specs.Seats.{AreSeats, SeatValue, finishes_of, new_seat, owners_of}
+use Rattle.crossing.specs.Seats.{AreSeats, SeatValue, finishes_of, new_seat, sources_of}
 use Rattle.weave_core.specs.DomainCalls.{DomainValue}
 use Rattle.weave_core.specs.DomainMachine.{DomainState}
 use Rattle.weave_core.specs.Keeping.{IsKept}
@@ -132,7 +132,7 @@ module _ {C : Type 0} (stepped : C → Kind → ℕ → C × ℕ) (plan : Plan C
             crossings_are = i.seat.crossings_are;
             domain_is = i.seat.domain_is ∙ sym o.0;
             finishes_are = i.seat.finishes_are;
-            owners_are = i.seat.owners_are;
+            sources_are = i.seat.sources_are;
           };
           unpublished = λ n x crossing source unfired. i.unpublished n x crossing (source ∙ o.0) (before v.0 w x.parent o.1 unfired);
         };
@@ -171,18 +171,18 @@ module _ {C : Type 0} (stepped : C → Kind → ℕ → C × ℕ) (plan : Plan C
       floors_count floor (v ∷ vs) = ap suc (floors_count floor vs)
 
   pub seated_first : (vs : List (DomainValue C)) (seats : List SeatValue) → AreBegun plan.graph.value plan.parts.value plan.comps.value (length plan.parts.value.events) vs
-      → AreSeats table (finishes_of stepped plan.graph.value plan.parts.value plan.comps.value) (owners_of plan.parts.value) (length plan.parts.value.events) seats → AreSeated stepped plan table vs seats
+      → AreSeats table (finishes_of stepped plan.graph.value plan.parts.value plan.comps.value) (sources_of plan.parts.value) (length plan.parts.value.events) seats → AreSeated stepped plan table vs seats
   seated_first vs seats begun are = record {
     count = are.count ∙ sym begun.count_is;
     each = λ d v s at there.
-        let s_is : new_seat table (finishes_of stepped plan.graph.value plan.parts.value plan.comps.value) (owners_of plan.parts.value) d ≡ s =
+        let s_is : new_seat table (finishes_of stepped plan.graph.value plan.parts.value plan.comps.value) (sources_of plan.parts.value) d ≡ s =
         same_Some _ s (sym (are.each d (let b = slice_get_within vs d v at in let n = begun.count_is in omega (arith, b, n))) ∙ there)
         in
         let number : v.domain ≡ d = ap (λ (w : DomainValue C). w.domain) (begun.each d v at) in
         subst (IsSeated stepped plan table v) s_is
         (record {
-          seat = record { crossings_are = refl; domain_is = sym number; finishes_are = refl; owners_are = refl };
-          unpublished = λ n x crossing source unfired. ap (λ (k : ℕ). k % 2) (zeros (owners_of plan.parts.value) n);
+          seat = record { crossings_are = refl; domain_is = sym number; finishes_are = refl; sources_are = refl };
+          unpublished = λ n x crossing source unfired. ap (λ (k : ℕ). k % 2) (zeros (sources_of plan.parts.value) n);
         });
   }
 

@@ -8,7 +8,7 @@ use Rattle.zs_num.specs.declared.time.Word.TheVariants.{Bound, Exact}
 use Rattle.component.specs.declared.kind.Kind.{Kind}
 use Rattle.event_graph.specs.declared.event.Event.{Event}
 use Rattle.event_graph.specs.declared.fired.Fired.{Fired}
-use Rattle.event_graph.specs.OneListWeave.{Timed, finish_in, fired_of, woven}
+use Rattle.event_graph.specs.OneListWeave.{FiredEvent, finish_in, fired_of, woven}
 use Rattle.std.specs.Option.{option_map}
 use Rattle.weave_core.specs.Layout.{timed_from}
 use Rattle.domain_map.specs.declared.crossing.Crossing.{Crossing}
@@ -87,7 +87,7 @@ learn_more first old new h k = record { each = λ d. learns_twice (own_in first 
 pub grows_twice : (a b c : DomainState) → Grows a b → Grows b c → Grows a c
 grows_twice a b c h k = record {
   rest = h.rest ++ k.rest;
-  fired = k.fired ∙ (ap (λ (xs : List Timed). xs ++ k.rest) h.fired ∙ append_assoc a.fired h.rest k.rest);
+  fired = k.fired ∙ (ap (λ (xs : List FiredEvent). xs ++ k.rest) h.fired ∙ append_assoc a.fired h.rest k.rest);
   floor = k.floor ∙ h.floor;
   words = λ n. words_twice (word_at a.known n) (word_at b.known n) (word_at c.known n) (h.words n) (k.words n);
 }
@@ -152,7 +152,7 @@ module _ {C : Type 0} (stepped : C → Kind → ℕ → C × ℕ) (plan : Plan C
   pub record HasToldPart (first now : List (DomainValue C)) (source place next : ℕ) : Type 0 where
     pub kept : AllKeep stepped plan now
     pub learn : AllLearn first now
-    pub told : (at : ℕ) (y : Timed) → place ≤ at → at < next → slice_get (own_in first source).fired at ≡ Some y
+    pub told : (at : ℕ) (y : FiredEvent) → place ≤ at → at < next → slice_get (own_in first source).fired at ≡ Some y
         → (number : ℕ) (x : Crossing) → slice_get parts.crossings number ≡ Some x → x.parent ≡ y.event.number → IsResolved now number x
 
   pub no_part : (vs : List (DomainValue C)) (source place : ℕ) → AllKeep stepped plan vs → HasToldPart vs vs source place place
@@ -162,7 +162,7 @@ module _ {C : Type 0} (stepped : C → Kind → ℕ → C × ℕ) (plan : Plan C
     told = λ at y l m there. absurd (omega (arith, l, m));
   }
 
-  pub next_part : (first old new : List (DomainValue C)) (source place next : ℕ) (y : Timed) (n : ℕ) → HasToldPart first old source place next → slice_get (own_in first source).fired next ≡ Some y → y.event.number ≡ n
+  pub next_part : (first old new : List (DomainValue C)) (source place next : ℕ) (y : FiredEvent) (n : ℕ) → HasToldPart first old source place next → slice_get (own_in first source).fired next ≡ Some y → y.event.number ≡ n
       → HasToldAll stepped plan old new n → HasToldPart first new source place (next + 1)
   next_part first old new source place next y n h at number t = record {
     kept = t.kept;
@@ -173,7 +173,7 @@ module _ {C : Type 0} (stepped : C → Kind → ℕ → C × ℕ) (plan : Plan C
           | inr past ↦
               let same : i ≡ next = omega (arith, m, past) in
               let one : z ≡ y = same_Some z y (sym there ∙ (ap (slice_get (own_in first source).fired) same ∙ at)) in
-              t.told k x crossing (parent ∙ (ap (λ (w : Timed). w.event.number) one ∙ number))
+              t.told k x crossing (parent ∙ (ap (λ (w : FiredEvent). w.event.number) one ∙ number))
         ];
   }
 
@@ -204,7 +204,7 @@ module _ {C : Type 0} (stepped : C → Kind → ℕ → C × ℕ) (plan : Plan C
           | inr past ↦
               let same : source ≡ n = omega (arith, l, past) in
               let low : place ≤ at = (let e = ap (slice_index counts) same in omega (arith, m, is, e)) in
-              t.told at y low (ap (λ (xs : List Timed). slice_get xs at) ((h.learn.each n).fired ∙ ap (λ (d : ℕ). (own_in first d).fired) (sym same)) ∙ there) k x crossing parent
+              t.told at y low (ap (λ (xs : List FiredEvent). slice_get xs at) ((h.learn.each n).fired ∙ ap (λ (d : ℕ). (own_in first d).fired) (sym same)) ∙ there) k x crossing parent
         ];
   }
 
@@ -281,7 +281,7 @@ module _ {C : Type 0} (serves : C → Kind → Bool) (floor : C → Kind → ℕ
   -- all that a domain fired, as far as it was told
 
   pub record IsLogged (v : DomainValue C) (next : ℕ) (g : Fired) : Type 0 where
-    pub firing : Timed
+    pub firing : FiredEvent
     pub there : slice_get v.own.fired next ≡ Some firing
     pub number : firing.event.number ≡ g.number
     pub below : g.number < length events
@@ -294,7 +294,7 @@ module _ {C : Type 0} (serves : C → Kind → Bool) (floor : C → Kind → ℕ
       let is_too : v.own.fired ≡ map (timed_from events) fs = is ∙ ap (λ (es : List Event). map (timed_from es) fs) (ap (λ (z : DomainValue C). z.events) i.is) in
       let log : map fired_of v.own.fired ≡ fs = laws.log events partition plan.comps.value can source v.own v.comps fs i.keeps is_too in
       let y_there : slice_get v.own.fired next ≡ Some (timed_from events g) =
-      ap (λ (xs : List Timed). slice_get xs next) is_too ∙ (slice_get-map (timed_from events) fs next ∙ ap (option_map (timed_from events)) at)
+      ap (λ (xs : List FiredEvent). slice_get xs next) is_too ∙ (slice_get-map (timed_from events) fs next ∙ ap (option_map (timed_from events)) at)
       in
       let e : IsWeaveFiring stepped events partition plan.comps.value source (timed_from events g) = laws.firings events partition plan.comps.value can source v.own v.comps next (timed_from events g) i.keeps y_there in
       let same : fired_of (timed_from events g) ≡ g =
@@ -360,4 +360,4 @@ module _ {C : Type 0} (serves : C → Kind → Bool) (floor : C → Kind → ℕ
   pub next_done : (place : ℕ) (new : List (DomainValue C)) → HasToldPart stepped plan first vs source place next → HasToldAll stepped plan vs new (get_or fs next e).number → HasToldPart stepped plan first new source place (next + 1)
   next_done place new h t =
       next_part stepped plan first vs new source place next firing.firing (get_or fs next e).number h
-      (ap (λ (xs : List Timed). slice_get xs next) (sym (learn.each source).fired) ∙ (ap (λ (z : DomainState). slice_get z.fired next) own_is ∙ firing.there)) firing.number t
+      (ap (λ (xs : List FiredEvent). slice_get xs next) (sym (learn.each source).fired) ∙ (ap (λ (z : DomainState). slice_get z.fired next) own_is ∙ firing.there)) firing.number t

@@ -7,7 +7,7 @@ use Rattle.std.specs.Option.{option_map}
 use Rattle.std.specs.declared.alloc.Global.{Global}
 use Rattle.component.specs.declared.kind.Kind.{Kind}
 use Rattle.event_graph.specs.declared.event.Event.{Event}
-use Rattle.event_graph.specs.OneListWeave.{Timed, after_firings, comps_after, is_fired}
+use Rattle.event_graph.specs.OneListWeave.{FiredEvent, after_firings, comps_after, is_fired}
 use Rattle.event_graph.specs.TimingSolution.{after_serving, of_component}
 use Rattle.domain_map.specs.declared.crossing.Crossing.{Crossing}
 use Rattle.domain_map.specs.Domains.{Partition}
@@ -58,7 +58,7 @@ module _ {C : Type 0} (serves : C → Kind → Bool) (floor : C → Kind → ℕ
       each = λ n x there fired.
           absurd
           (false≢true
-          (ap (λ (xs : List Timed). is_fired xs x.parent) (sym (none_fired vs (λ d v at. ap (λ (w : DomainValue C). w.own.fired) (h.each d v at)) x.source)) ∙ fired));
+          (ap (λ (xs : List FiredEvent). is_fired xs x.parent) (sym (none_fired vs (λ d v at. ap (λ (w : DomainValue C). w.own.fired) (h.each d v at)) x.source)) ∙ fired));
     };
   }
 

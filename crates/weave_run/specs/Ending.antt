@@ -2,7 +2,7 @@
 use Rattle.std.specs.Prelude.{◌≡◌, ℕ, List, length, map, Some, slice_get}
 use Rattle.component.specs.declared.kind.Kind.{Kind}
 use Rattle.event_graph.specs.declared.fired.Fired.{Fired}
-use Rattle.event_graph.specs.OneListWeave.{Timed, fired_of, woven}
+use Rattle.event_graph.specs.OneListWeave.{FiredEvent, fired_of, woven}
 use Rattle.weave_core.specs.DomainCalls.{DomainValue}
 use Rattle.weave_run.specs.declared.plan.Plan.{Plan}
 
@@ -14,4 +14,4 @@ AgreesAt stepped plan times number = slice_get times number ≡ slice_get (map f
 pub record HasFilled {C : Type 0} (stepped : C → Kind → ℕ → C × ℕ) (plan : Plan C) (old new : List Fired) (v : DomainValue C) : Type 0 where
   pub count : length new ≡ length old
   pub stays : (number : ℕ) → AgreesAt stepped plan old number → AgreesAt stepped plan new number
-  pub all : (place : ℕ) (y : Timed) → slice_get v.own.fired place ≡ Some y → AgreesAt stepped plan new y.event.number
+  pub all : (place : ℕ) (y : FiredEvent) → slice_get v.own.fired place ≡ Some y → AgreesAt stepped plan new y.event.number

@@ -3,7 +3,7 @@ use Rattle.std.specs.Prelude.{◌≡◌, ◌≤◌, ◌<◌, ◌⊎◌, ◌++◌
 use Rattle.component.specs.declared.kind.Kind.{Kind}
 use Rattle.event_graph.specs.declared.event.Event.{Event}
 use Rattle.event_graph.specs.declared.fired.Fired.{Fired}
-use Rattle.event_graph.specs.OneListWeave.{Timed, finish_in, is_fired, woven}
+use Rattle.event_graph.specs.OneListWeave.{FiredEvent, finish_in, is_fired, woven}
 use Rattle.domain_map.specs.declared.crossing.Crossing.{Crossing}
 use Rattle.domain_map.specs.Domains.{Partition, domain_of_event}
 use Rattle.weave_core.specs.AtBarrier.{IsFirstLeft, KnowFiredParents, least_start_of, own_at}
@@ -24,7 +24,7 @@ AllKeep stepped plan vs = AreKept stepped plan.graph.value plan.parts.value plan
 
 -- A domain that fired more, and whose words stay or became finishes.
 pub record Grows (before after : DomainState) : Type 0 where
-  pub rest : List Timed
+  pub rest : List FiredEvent
   pub fired : after.fired ≡ before.fired ++ rest
   pub floor : after.floor ≡ before.floor
   pub words : (number : ℕ) → (word_at after.known number ≡ word_at before.known number) ⊎ (is_exact (word_at after.known number) ≡ true)
@@ -99,13 +99,13 @@ pub record HasToldAll {C : Type 0} (stepped : C → Kind → ℕ → C × ℕ) (
 pub record HasToldRest {C : Type 0} (stepped : C → Kind → ℕ → C × ℕ) (plan : Plan C) (old new : List (DomainValue C)) (source place : ℕ) : Type 0 where
   pub kept : AllKeep stepped plan new
   pub learn : AllLearn old new
-  pub told : (at : ℕ) (y : Timed) → place ≤ at → slice_get (own_in old source).fired at ≡ Some y
+  pub told : (at : ℕ) (y : FiredEvent) → place ≤ at → slice_get (own_in old source).fired at ≡ Some y
       → (number : ℕ) (x : Crossing) → slice_get plan.parts.value.crossings number ≡ Some x → x.parent ≡ y.event.number → IsResolved new number x
 
 pub record HasToldRests {C : Type 0} (stepped : C → Kind → ℕ → C × ℕ) (plan : Plan C) (old new : List (DomainValue C)) (counts : List ℕ) (sources : ℕ) : Type 0 where
   pub kept : AllKeep stepped plan new
   pub learn : AllLearn old new
-  pub told : (source at : ℕ) (y : Timed) → source < sources → slice_index counts source ≤ at → slice_get (own_in old source).fired at ≡ Some y
+  pub told : (source at : ℕ) (y : FiredEvent) → source < sources → slice_index counts source ≤ at → slice_get (own_in old source).fired at ≡ Some y
       → (number : ℕ) (x : Crossing) → slice_get plan.parts.value.crossings number ≡ Some x → x.parent ≡ y.event.number → IsResolved new number x
 
 -- how many events each domain below a number has fired
@@ -129,7 +129,7 @@ pub record HasRunHere {C : Type 0} (stepped : C → Kind → ℕ → C × ℕ) (
 -- of the events in the weave's order the first that is unfired has fired, if the unresolved crossings allowed it
 abbrev pub HasAdvanced : {C : Type 0} (stepped : C → Kind → ℕ → C × ℕ) → Plan C → (old new : List (DomainValue C)) → Type 0
 HasAdvanced stepped plan old new =
-    (index : ℕ) (x : Timed) → IsFirstLeft stepped plan.graph.value plan.parts.value plan.comps.value (owns_of old) index x
+    (index : ℕ) (x : FiredEvent) → IsFirstLeft stepped plan.graph.value plan.parts.value plan.comps.value (owns_of old) index x
     → is_clear plan.graph.value plan.parts.value (domain_of_event plan.parts.value.places x.event) (own_in old (domain_of_event plan.parts.value.places x.event)) x.start ≡ true
     → is_fired (own_in new (domain_of_event plan.parts.value.places x.event)).fired x.event.number ≡ true
 

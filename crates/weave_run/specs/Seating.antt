@@ -5,7 +5,7 @@ use Rattle.component.specs.declared.kind.Kind.{Kind}
 use Rattle.event_graph.specs.declared.fired.Fired.{Fired}
 use Rattle.event_graph.specs.OneListWeave.{is_fired}
 use Rattle.domain_map.specs.declared.crossing.Crossing.{Crossing}
-use Rattle.crossing.specs.Seats.{SeatValue, finishes_of, owners_of}
+use Rattle.crossing.specs.Seats.{SeatValue, finishes_of, sources_of}
 use Rattle.weave_core.specs.DomainCalls.{DomainValue}
 use Rattle.weave_run.specs.Rounds.{Grows, HasFiredNext, HasRun, KeepsToWeave}
 use Rattle.weave_run.specs.declared.post.Post.{Post}
@@ -16,7 +16,7 @@ pub record IsSeat {C : Type 0} (stepped : C → Kind → ℕ → C × ℕ) (plan
   pub crossings_are : s.crossings ≡ table
   pub domain_is : s.domain ≡ domain
   pub finishes_are : s.finishes ≡ finishes_of stepped plan.graph.value plan.parts.value plan.comps.value
-  pub owners_are : s.owners ≡ owners_of plan.parts.value
+  pub sources_are : s.sources ≡ sources_of plan.parts.value
 
 -- it has published nothing of an event that the domain hasn't fired
 abbrev pub IsUnpublished : {C : Type 0} → Plan C → DomainValue C → SeatValue → Type 0
@@ -60,7 +60,7 @@ pub record HasPublished {C : Type 0} (plan : Plan C) (old new : SeatValue) (pare
   pub crossings_are : new.crossings ≡ old.crossings
   pub domain_is : new.domain ≡ old.domain
   pub finishes_are : new.finishes ≡ old.finishes
-  pub owners_are : new.owners ≡ old.owners
+  pub sources_are : new.sources ≡ old.sources
   pub others : (number : ℕ) (x : Crossing) → slice_get plan.parts.value.crossings number ≡ Some x → (x.parent ≡ parent → ⊥) → slice_index new.wrote number ≡ slice_index old.wrote number
 
 -- the event is the domain's, and none of its crossings is published

@@ -1,7 +1,7 @@
 -- The workers that run domains beside each other.
 use Rattle.std.specs.Prelude.{◌≡◌, ◌≤◌, ◌<◌, ℕ, List, length}
 use Rattle.component.specs.declared.kind.Kind.{Kind}
-use Rattle.crossing.specs.Seats.{AreSeats, finishes_of, owners_of}
+use Rattle.crossing.specs.Seats.{AreSeats, finishes_of, sources_of}
 use Rattle.weave_core.specs.DomainCalls.{DomainValue}
 use Rattle.weave_run.specs.Crews.{AreFree}
 use Rattle.weave_run.specs.Seating.{AreSeated}
@@ -18,7 +18,7 @@ pub record HasWorkers {C : Type 0} (plan : Plan C) (t : Team C) : Type 0 where
 -- before the first round
 pub record IsNewTeam {C : Type 0} (stepped : C → Kind → ℕ → C × ℕ) (plan : Plan C) (t : Team C) : Type 0 where
   pub has : HasWorkers plan t
-  pub seats : AreSeats t.crossings (finishes_of stepped plan.graph.value plan.parts.value plan.comps.value) (owners_of plan.parts.value) (length plan.parts.value.events) t.seats.items
+  pub seats : AreSeats t.crossings (finishes_of stepped plan.graph.value plan.parts.value plan.comps.value) (sources_of plan.parts.value) (length plan.parts.value.events) t.seats.items
 
 -- between rounds
 pub record IsTeam {C : Type 0} (stepped : C → Kind → ℕ → C × ℕ) (plan : Plan C) (vs : List (DomainValue C)) (t : Team C) : Type 0 where

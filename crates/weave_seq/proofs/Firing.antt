@@ -10,7 +10,7 @@ use Rattle.event_graph.specs.declared.event.Parent.{Parent}
 use Rattle.event_graph.specs.Firing.{FiredByTheRules, FiresNext}
 use Rattle.event_graph.specs.Fits.{GraphFits}
 use Rattle.event_graph.specs.Numbered.{IsNumbered}
-use Rattle.event_graph.specs.OneListWeave.{AreSmallSteps, IsSmallStep, Timed, after_firings, finish_in, start_of}
+use Rattle.event_graph.specs.OneListWeave.{AreSmallSteps, IsSmallStep, FiredEvent, after_firings, finish_in, start_of}
 use Rattle.event_graph.proofs.Lists.{In, contains_in, get_within, in_push, read_is}
 use Rattle.weave_seq.specs.declared.children.ParentSlot.{ParentSlot}
 use Rattle.weave_seq.specs.declared.children.ParentSlot.TheVariants.{First}
@@ -29,19 +29,19 @@ by_all P xs h x m = let c : Contains xs x = contains_in x xs m in subst P c.2 (h
 
 module _ {C : Type 0} (serves : C → Kind → Bool) (floor : C → Kind → ℕ) (stepped : C → Kind → ℕ → C × ℕ) (greatest : C → Kind → ℕ → ℕ)
     (firings : (events : List Event) (comps : List C) (n : ℕ) → IsNumbered events → GraphFits serves floor events comps → n < length events
-    → (x : Timed) × (c : C) × FiresNext serves stepped events (after_firings stepped events comps n) (after_firings stepped events comps (suc n)) x c)
+    → (x : FiredEvent) × (c : C) × FiresNext serves stepped events (after_firings stepped events comps n) (after_firings stepped events comps (suc n)) x c)
     (rules : (events : List Event) (comps : List C) (n : ℕ) → IsNumbered events → GraphFits serves floor events comps → All (FiredByTheRules events (after_firings stepped events comps n).fired) (after_firings stepped events comps n).fired)
     (smalls : (events : List Event) (comps : List C) (n : ℕ) → IsNumbered events → GraphFits serves floor events comps → AreSmallSteps stepped greatest events comps
     → All (λ e. start_of (finish_in (after_firings stepped events comps n).fired) e ≤ 2 ^ 62) events)
     (events : List Event) (comps : List C) (numbered : IsNumbered events) (fits : GraphFits serves floor events comps) (small : AreSmallSteps stepped greatest events comps)
     (n : ℕ) (l : n < length events) (s : SoFar) (is : s ≡ known_to_all (finish_in (after_firings stepped events comps n).fired) events) where
-  abbrev fired : List Timed
+  abbrev fired : List FiredEvent
   fired = (after_firings stepped events comps n).fired
 
-  rule : (y : Timed) → In y (after_firings stepped events comps n).fired → FiredByTheRules events (after_firings stepped events comps n).fired y
+  rule : (y : FiredEvent) → In y (after_firings stepped events comps n).fired → FiredByTheRules events (after_firings stepped events comps n).fired y
   rule = by_all (FiredByTheRules events (after_firings stepped events comps n).fired) (after_firings stepped events comps n).fired (rules events comps n numbered fits)
 
-  pub x : Timed
+  pub x : FiredEvent
   x = (firings events comps n numbered fits l).0
 
   pub c : C

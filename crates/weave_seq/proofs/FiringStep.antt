@@ -11,7 +11,7 @@ use Rattle.event_graph.specs.declared.event.Parent.{Parent}
 use Rattle.event_graph.specs.declared.fired.Fired.{Fired}
 use Rattle.event_graph.specs.Firing.{FiredByTheRules, IsNext}
 use Rattle.event_graph.specs.Numbered.{IsNumbered}
-use Rattle.event_graph.specs.OneListWeave.{Timed, after_parent, find_fired, finish_in, finish_or_zero, is_event_before, is_fired, is_parent_fired, is_ready, least_ready, start_of}
+use Rattle.event_graph.specs.OneListWeave.{FiredEvent, after_parent, find_fired, finish_in, finish_or_zero, is_event_before, is_fired, is_parent_fired, is_ready, least_ready, start_of}
 use Rattle.event_graph.proofs.FindFired.{find_push_new, find_push_other, found_in, some_from_fired}
 use Rattle.event_graph.proofs.Least.{least_is, ready_from, ready_parts, same_event}
 use Rattle.event_graph.proofs.Lists.{In, at_in, contains_in, get-map, get-set_other, get-set_same, get_some, get_within, in_at, in_contains, map_same, read_is}
@@ -35,7 +35,7 @@ one_if b = cond b 1 0
 abbrev key_of : ℕ → ℕ → Key
 key_of start number = record { start = start; number = number }
 
-by_found : (o : Option Timed) → is_some o ≡ false → finish_or_zero o ≡ 0
+by_found : (o : Option FiredEvent) → is_some o ≡ false → finish_or_zero o ≡ 0
 by_found None h = refl
 by_found (Some x) h = absurd (cc)
 
@@ -112,13 +112,13 @@ module _ (events : List Event) (numbered : IsNumbered events) where
       λ i j. each j i
 
   -- what is ready is known to wait for no parent
-  module _ (fired : List Timed) (rules : (x : Timed) → In x fired → FiredByTheRules events fired x) where
+  module _ (fired : List FiredEvent) (rules : (x : FiredEvent) → In x fired → FiredByTheRules events fired x) where
     unfired_finish : (n : ℕ) → is_fired fired n ≡ false → finish_in fired n ≡ 0
     unfired_finish n h = by_found (find_fired fired n) h
 
     fired_finish : (n : ℕ) → is_fired fired n ≡ true → 0 < finish_in fired n
     fired_finish n h =
-        let r : (x : Timed) × (find_fired fired n ≡ Some x) = some_from_fired (find_fired fired n) h in
+        let r : (x : FiredEvent) × (find_fired fired n ≡ Some x) = some_from_fired (find_fired fired n) h in
         omega (arith, ap finish_or_zero r.1, (rules r.0 (found_in fired n r.0 r.1).0).later)
 
     unfired_from : (n : ℕ) → finish_in fired n ≡ 0 → is_fired fired n ≡ false
@@ -153,7 +153,7 @@ module _ (events : List Event) (numbered : IsNumbered events) where
               absurd (omega (arith, h, cond-false (finish_in fired e.number == 0) (unfired_parent (finish_in fired) e.first + unfired_parent (finish_in fired) e.second) 255 f))
         ]
 
-    module _ (x : Timed) (next : IsNext fired events x) (s : SoFar) (is : s ≡ known_to_all (finish_in fired) events) where
+    module _ (x : FiredEvent) (next : IsNext fired events x) (s : SoFar) (is : s ≡ known_to_all (finish_in fired) events) where
       member : In x.event events
       member = in_contains x.event events next.event
 
@@ -333,7 +333,7 @@ module _ (events : List Event) (numbered : IsNumbered events) where
               ∙ elim (cases_Bool (is_fired fired j)) [
                 | inr f ↦ unfired_finish j f
                 | inl t ↦
-                    let r : (y : Timed) × (find_fired fired j ≡ Some y) = some_from_fired (find_fired fired j) t in
+                    let r : (y : FiredEvent) × (find_fired fired j ≡ Some y) = some_from_fired (find_fired fired j) t in
                     let y = found_in fired j r.0 r.1 in
                     let rule : FiredByTheRules events fired r.0 = rules r.0 y.0 in
                     let same : r.0.event ≡ e = same_event events numbered r.0.event e (in_contains r.0.event events rule.event) (at_in e events j at) (y.1 ∙ sym (numbered.number j e at)) in

@@ -40,16 +40,16 @@ abbrev pub bank_of : (banks : ℕ) → Request → ℕ
 bank_of banks request = bank_of_line banks (line_of request)
 
 -- an atomic access is of a word or a doubleword, and lies at a multiple of its width
-abbrev pub IsAtomic : (addr width : ℕ) → Type 0
-IsAtomic addr width = ((width ≡ 4) ⊎ (width ≡ 8)) × (addr % width ≡ 0)
+abbrev pub IsNaturallyAligned : (addr width : ℕ) → Type 0
+IsNaturallyAligned addr width = ((width ≡ 4) ⊎ (width ≡ 8)) × (addr % width ≡ 0)
 
 -- a load and a store may lie anywhere
 abbrev pub IsAligned : Request → Type 0
 IsAligned (Load addr width) = Unit {0}
 IsAligned (Store addr width value) = Unit {0}
-IsAligned (Lr addr width) = IsAtomic addr width
-IsAligned (Sc addr width value paired) = IsAtomic addr width
-IsAligned (Amo op addr width value) = IsAtomic addr width
+IsAligned (Lr addr width) = IsNaturallyAligned addr width
+IsAligned (Sc addr width value paired) = IsNaturallyAligned addr width
+IsAligned (Amo op addr width value) = IsNaturallyAligned addr width
 
 -- What a memory of so many bytes from a base on can be asked: an access of 1 to 8 of its bytes, all in one line of 64
 -- bytes, and aligned if it is atomic.

@@ -6,6 +6,6 @@ pub mod ErrorLine
 pub mod Seen
 pub mod Setup
 pub mod Ended
-pub mod Told
+pub mod CommandValue
 pub mod Steps
 pub mod Laws

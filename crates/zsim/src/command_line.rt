@@ -4,7 +4,7 @@ ghost use Rattle.std.specs.Char.{is_ascii_digit};
 ghost use Rattle.std.specs.List.{list_all};
 ghost use Rattle.clap.specs.Words.{first_of, found_of, rows_of};
 ghost use Rattle.zsim.specs.CommandLine.{command_after, command_by, command_of, decimal_of, exe_of, is_decimal, machine_file_of, replay_of, run_of, workers_of};
-ghost use Rattle.zsim.specs.Told.{command_told, exe_told, task_told};
+ghost use Rattle.zsim.specs.CommandValue.{command_value, exe_value, task_value};
 ghost use Rattle.zsim.specs.Options.{replay_options, run_options};
 
 use crate::options::{matched_by, replay_options, run_options};
@@ -51,7 +51,7 @@ pub struct Command<'w> {
 /// The command that the words are, if they are one.
 #[tactic(auto, unfolding(crate::specs::CommandLine::command_of))]
 pub fn command_of(alloc: Global, words: &[String]) -> Result<Option<Command<'_>>, AllocError>
-    ensures { IfOk result (λ command. option_map command_told command ≡ command_of (map string_bytes words.now)) }
+    ensures { IfOk result (λ command. option_map command_value command ≡ command_of (map string_bytes words.now)) }
 {
     let Some((verb, words)) = words.split_first() else {
         return Ok(None);
@@ -65,7 +65,7 @@ pub fn command_of(alloc: Global, words: &[String]) -> Result<Option<Command<'_>>
 
 /// The command that the words after `run` ask for.
 fn command_after_run(alloc: Global, words: &[String]) -> Result<Option<Command<'_>>, AllocError>
-    ensures { IfOk result (λ command. option_map command_told command ≡ command_after run_options run_of (map string_bytes words.now)) }
+    ensures { IfOk result (λ command. option_map command_value command ≡ command_after run_options run_of (map string_bytes words.now)) }
 {
     match matched_by(run_options(alloc)?, words)? {
         Some(matches) => Ok(command_by(&matches, run_of(&matches))),
@@ -75,7 +75,7 @@ fn command_after_run(alloc: Global, words: &[String]) -> Result<Option<Command<'
 
 /// The command that the words after `replay` ask for.
 fn command_after_replay(alloc: Global, words: &[String]) -> Result<Option<Command<'_>>, AllocError>
-    ensures { IfOk result (λ command. option_map command_told command ≡ command_after replay_options replay_of (map string_bytes words.now)) }
+    ensures { IfOk result (λ command. option_map command_value command ≡ command_after replay_options replay_of (map string_bytes words.now)) }
 {
     match matched_by(replay_options(alloc)?, words)? {
         Some(matches) => Ok(command_by(&matches, replay_of(&matches))),
@@ -85,7 +85,7 @@ fn command_after_replay(alloc: Global, words: &[String]) -> Result<Option<Comman
 
 /// A run, where its number of workers is well formed.
 fn run_of<'w>(matches: &ArgMatches<'w>) -> Option<Task<'w>>
-    ensures { option_map task_told result ≡ run_of (rows_of (found_of matches.now)) }
+    ensures { option_map task_value result ≡ run_of (rows_of (found_of matches.now)) }
 {
     Some(Task::Run {
         workers: workers_of(value(matches, "workers"))?,
@@ -95,7 +95,7 @@ fn run_of<'w>(matches: &ArgMatches<'w>) -> Option<Task<'w>>
 
 /// A replay, where the schedule is named.
 fn replay_of<'w>(matches: &ArgMatches<'w>) -> Option<Task<'w>>
-    ensures { option_map task_told result ≡ replay_of (rows_of (found_of matches.now)) }
+    ensures { option_map task_value result ≡ replay_of (rows_of (found_of matches.now)) }
 {
     Some(Task::Replay {
         schedule: value(matches, "schedule")?,
@@ -105,7 +105,7 @@ fn replay_of<'w>(matches: &ArgMatches<'w>) -> Option<Task<'w>>
 /// What the matched words ask for beside a task, where their values are well formed.
 #[tactic(auto, unfolding(crate::specs::CommandLine::command_by))]
 fn command_by<'w>(matches: &ArgMatches<'w>, task: Option<Task<'w>>) -> Option<Command<'w>>
-    ensures { option_map command_told result ≡ command_by (rows_of (found_of matches.now)) (option_map task_told task.entry) }
+    ensures { option_map command_value result ≡ command_by (rows_of (found_of matches.now)) (option_map task_value task.entry) }
 {
     let machine = value(matches, "machine")?;
     let exe = exe_of(value(matches, "exe")?)?;
@@ -136,7 +136,7 @@ fn machine_file_of(word: &str) -> Option<&str>
 /// What the word for the executable names: `gen:N`, or a file.
 #[tactic(auto, unfolding(crate::specs::CommandLine::exe_of))]
 fn exe_of(word: &str) -> Option<Exe<'_>>
-    ensures { option_map exe_told result ≡ exe_of word.now }
+    ensures { option_map exe_value result ≡ exe_of word.now }
 {
     match word.strip_prefix("gen:") {
         Some(number) => Some(Exe::Generated(number_of(number)?)),

@@ -6,7 +6,7 @@ ghost use Rattle.zsim.specs.Ended.{IsExeOf, IsMachineText, IsScheduleFile};
 ghost use Rattle.zsim.specs.Seen.{files_seen, SameNames};
 ghost use Rattle.zsim.specs.Setup.{image_by, machine_by, schedule_by};
 ghost use Rattle.zsim.specs.Steps.{Checks, Reads, Takes, status_of_read};
-ghost use Rattle.zsim.specs.Told.{exe_told};
+ghost use Rattle.zsim.specs.CommandValue.{exe_value};
 
 use crate::command_line::Exe;
 use crate::limits::{EXE_LIMIT, MACHINE_LIMIT, SCHEDULE_LIMIT};
@@ -48,7 +48,7 @@ pub fn take_exe<F: Files>(
 ) -> Result<Image, Status>
     requires machine { IsMachine machine.now }
     requires nothing { bytes.old ≡ [] }
-    ensures takes { Takes (λ seen. IsExeOf seen machine.now (exe_told exe.entry)) (image_by machine.now) (exe_file (exe_told exe.entry)) result (files_seen F.tells F.contents F.faults F.latest files.old files.new) bytes.new }
+    ensures takes { Takes (λ seen. IsExeOf seen machine.now (exe_value exe.entry)) (image_by machine.now) (exe_file (exe_value exe.entry)) result (files_seen F.tells F.contents F.faults F.latest files.old files.new) bytes.new }
     ensures memory { IfOk result (λ image. (image.base ≡ machine.now.memory.base) × (image.size ≡ machine.now.memory.size)) }
 {
     match read_exe(alloc, machine, exe, files) {
@@ -113,9 +113,9 @@ fn read_exe<F: Files>(
     files: &mut F,
 ) -> Result<Bytes, FileFail>
     requires { IsMachine machine.now }
-    ensures exe { IfOk result (IsExeOf (files_seen F.tells F.contents F.faults F.latest files.old files.new) machine.now (exe_told exe.entry)) }
+    ensures exe { IfOk result (IsExeOf (files_seen F.tells F.contents F.faults F.latest files.old files.new) machine.now (exe_value exe.entry)) }
     ensures names { SameNames (files_seen F.tells F.contents F.faults F.latest files.old files.new) }
-    ensures faults { Reads result (files_seen F.tells F.contents F.faults F.latest files.old files.new) (exe_file (exe_told exe.entry)) }
+    ensures faults { Reads result (files_seen F.tells F.contents F.faults F.latest files.old files.new) (exe_file (exe_value exe.entry)) }
 {
     match exe {
         Exe::File(name) => files.read(alloc, name, EXE_LIMIT + 1),

@@ -8,7 +8,7 @@ ghost use Rattle.zsim.specs.Ended.{Gives, HasEnded, IsNoCommand, KeepsNothing, S
 ghost use Rattle.zsim.specs.Seen.{files_seen, sink_seen};
 ghost use Rattle.zsim.specs.Setup.{schedule_by};
 ghost use Rattle.zsim.specs.Steps.{ReplaysAs, ReplaysFile, RunGives, RunsAs};
-ghost use Rattle.zsim.specs.Told.{command_told};
+ghost use Rattle.zsim.specs.CommandValue.{command_value};
 
 use crate::command_line::{Command, Task, command_of};
 use crate::error_line::error_line;
@@ -78,8 +78,8 @@ fn carry_out<R: Threads + Wait + Sync, F: Files, O: Sink, G: Gate>(
     kept: &mut Kept,
 ) -> Status
     requires { KeepsNothing kept.old }
-    ensures ended { HasEnded (record { command = command_told command.now; files = files_seen F.tells F.contents F.faults F.latest files.old files.new; out = sink_seen O.tells O.bytes O.faults out.old out.new }) result kept.new }
-    ensures untouched { (out.new ≡ out.old) ⊎ ((r : Results) × Gives (command_told command.now) kept.new r) }
+    ensures ended { HasEnded (record { command = command_value command.now; files = files_seen F.tells F.contents F.faults F.latest files.old files.new; out = sink_seen O.tells O.bytes O.faults out.old out.new }) result kept.new }
+    ensures untouched { (out.new ≡ out.old) ⊎ ((r : Results) × Gives (command_value command.now) kept.new r) }
 {
     let machine = match take_machine(alloc, command.machine, files, &mut kept.machine) {
         Ok(machine) => machine,

@@ -7,13 +7,13 @@ use Rattle.crossing.proofs.Calls.{can_say, can_split, one_more, seat_made}
 use Rattle.crossing.proofs.make.seated.Goals as goal
 
 pub load-requires : goal.load-requires
-load-requires g c = (c.requires.table, omega (arith, c.requires.count), can_say _ _ _ c.args.first.me g.F.Finishes.finishes g.F.Finishes.owners c.requires.untold c.requires.key)
+load-requires g c = (c.requires.table, omega (arith, c.requires.count), can_say _ _ _ c.args.first.me g.F.Finishes.finishes g.F.Finishes.sources c.requires.untold c.requires.key)
 
 pub split_seat-place-requires : goal.split_seat-place-requires
 split_seat-place-requires g c = (
   c.loop-domain.invariant.table,
   omega (arith, c.requires.count),
-  can_split _ _ _ g.F.Finishes.finishes g.F.Finishes.owners c.loop-domain.domain (ap (λ m. m.0) c.loop-domain.invariant.next),
+  can_split _ _ _ g.F.Finishes.finishes g.F.Finishes.sources c.loop-domain.domain (ap (λ m. m.0) c.loop-domain.invariant.next),
 )
 
 pub loop-domain-preserved : goal.loop-domain-preserved
@@ -21,11 +21,11 @@ loop-domain-preserved g c =
     let told = c.split_seat-place.ensures in
     let seat = c.split_seat-place.result in
     let table = told.3 ∙ c.loop-domain.invariant.table in
-    let made = seat_made seat.table_id seat.me g.F.Finishes.finishes g.F.Finishes.owners c.loop-domain.domain c.loop-domain.first.me c.loop-domain.invariant.next told.4 in record {
+    let made = seat_made seat.table_id seat.me g.F.Finishes.finishes g.F.Finishes.sources c.loop-domain.domain c.loop-domain.first.me c.loop-domain.invariant.next told.4 in record {
       table = told.0 ∙ c.loop-domain.invariant.table;
       next = told.2 ∙ ap (λ m. (with_one_more m.0, m.1)) c.loop-domain.invariant.next;
       room = search rules;
-      seats = subst (AreSeats c.args.words.now.shared.table_id g.F.Finishes.finishes g.F.Finishes.owners (c.loop-domain.domain + 1)) (sym c.push_reserved.ensures.items)
+      seats = subst (AreSeats c.args.words.now.shared.table_id g.F.Finishes.finishes g.F.Finishes.sources (c.loop-domain.domain + 1)) (sym c.push_reserved.ensures.items)
           (one_more _ _ _ _ c.loop-domain.seats.items (seat_value seat.table_id seat.me.0) c.loop-domain.invariant.seats
-          (subst (λ t. seat_value seat.table_id seat.me.0 ≡ new_seat t g.F.Finishes.finishes g.F.Finishes.owners c.loop-domain.domain) table made));
+          (subst (λ t. seat_value seat.table_id seat.me.0 ≡ new_seat t g.F.Finishes.finishes g.F.Finishes.sources c.loop-domain.domain) table made));
     }

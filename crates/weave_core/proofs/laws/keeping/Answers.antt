@@ -6,7 +6,7 @@ use Rattle.event_graph.specs.declared.event.Event.{Event}
 use Rattle.std.specs.Option.{option_map}
 use Rattle.event_graph.specs.Firing.{FiresNext, IsNext}
 use Rattle.event_graph.specs.Fits.{GraphFits}
-use Rattle.event_graph.specs.OneListWeave.{Timed, after_firings, weave, woven}
+use Rattle.event_graph.specs.OneListWeave.{FiredEvent, after_firings, weave, woven}
 use Rattle.event_graph.specs.TimingSolution.{after_serving, of_component}
 use Rattle.domain_map.specs.Domains.{Partition}
 use Rattle.weave_core.specs.Keeping.{CanWeave}
@@ -27,8 +27,8 @@ returns g c =
     let fits = w.partitioned.fits in
     let once = c.each_event_fires_once.ensures events comps n fits in
     let in_order = c.events_fire_in_order.ensures events comps n fits in
-    let next : (index : ℕ) (x : Timed) → slice_get (weave T events comps).fired index ≡ Some x → IsNext (take index (weave T events comps).fired) events x = (λ index x h. c.the_least_ready_event_fires.ensures events comps index x n fits h) in
-    let firing : (firings : ℕ) → firings < length events → (x : Timed) × (c : g.row.C.Denot) × FiresNext S T events (after_firings T events comps firings) (after_firings T events comps (suc firings)) x c = (λ firings l. c.each_firing_is_of_the_next_event.ensures events comps firings n fits l) in
+    let next : (index : ℕ) (x : FiredEvent) → slice_get (weave T events comps).fired index ≡ Some x → IsNext (take index (weave T events comps).fired) events x = (λ index x h. c.the_least_ready_event_fires.ensures events comps index x n fits h) in
+    let firing : (firings : ℕ) → firings < length events → (x : FiredEvent) × (c : g.row.C.Denot) × FiresNext S T events (after_firings T events comps firings) (after_firings T events comps (suc firings)) x c = (λ firings l. c.each_firing_is_of_the_next_event.ensures events comps firings n fits l) in
     let front : (firings : ℕ) → (after_firings T events comps firings).fired ≡ take firings (weave T events comps).fired = (λ firings. c.firings_are_of_the_first_events.ensures events comps firings n fits) in
     let comps_at : (firings number : ℕ) → slice_get (after_firings T events comps firings).comps number ≡ option_map (λ (z : g.row.C.Denot). after_serving T z (of_component number (after_firings T events comps firings).fired)) (slice_get comps number) = (λ firings number. c.components_serve_their_own_events.ensures events comps firings number n fits) in
     let keep : (firings : ℕ) → GraphFits S F events (after_firings T events comps firings).comps = (λ firings. c.graphs_keep_fitting.ensures events comps firings n fits) in
@@ -43,7 +43,7 @@ returns g c =
       timely = c.events_take_their_time.ensures events comps n fits w.small;
       front = front;
       comps_at = comps_at;
-      count = sym (length-map (weave T events comps).fired (λ (x : Timed). x.event)) ∙ length_permutation events (map (λ (x : Timed). x.event) (weave T events comps).fired) once;
+      count = sym (length-map (weave T events comps).fired (λ (x : FiredEvent). x.event)) ∙ length_permutation events (map (λ (x : FiredEvent). x.event) (weave T events comps).fired) once;
       bounds = λ domain own known floor. c.sound_floors_bound.ensures events p comps (woven T events comps) solution domain own w.partitioned known floor;
       fires = c.fires_follow.ensures;
       floors = λ owns start h told least domain. c.barrier_floors_hold.ensures events p comps (woven T events comps) solution owns start w.partitioned h told least domain;

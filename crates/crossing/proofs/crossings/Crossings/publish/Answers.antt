@@ -1,5 +1,5 @@
 use Rattle.std.proofs.Common.{◌+◌, ◌*◌, ◌<◌, ◌≤◌, get_or, sym, ◌∙◌, ap, subst}
-use Rattle.crossing.specs.Inside.{IsPlace}
+use Rattle.crossing.specs.Inside.{IsTableSeat}
 use Rattle.crossing.specs.Seats.{MayWrite}
 use Rattle.crossing.proofs.Calls.{can_write, finish_is_true, inside, place_wrote}
 use Rattle.crossing.proofs.crossings.Crossings.publish.Goals as goal
@@ -17,5 +17,5 @@ store-requires c =
 pub invariant_of-seat : goal.invariant_of-seat
 invariant_of-seat c =
     let s = c.seat.inside.place in
-    subst (λ t. IsPlace t c.store.new.seat.me) (sym c.store.ensures.0)
+    subst (λ t. IsTableSeat t c.store.new.seat.me) (sym c.store.ensures.0)
     (place_wrote s.table_id s.me c.seat.invariant c.self.inside.words.shared.table_id.slots c.args.x (2 * c.args.finish + 1) c.store.new.seat.me c.store.ensures.2)

@@ -3,7 +3,7 @@ use Rattle.std.proofs.Common.{ℕ, ◌+◌, ◌<◌, ◌≤◌, ◌≡◌, ◌^�
 use Rattle.std.proofs.lemmas.Option.{get_or_from_slice_get, none-some, same_Some}
 use Rattle.std.proofs.lemmas.List.{length_push}
 use Rattle.event_graph.specs.declared.event.Event.{Event}
-use Rattle.event_graph.specs.OneListWeave.{Timed}
+use Rattle.event_graph.specs.OneListWeave.{FiredEvent}
 use Rattle.weave_core.specs.declared.children.Link.{Link}
 use Rattle.weave_core.specs.Children.{CanTell, CanTellChain, IsChain, tell_all}
 use Rattle.weave_core.specs.DomainCalls.{CanFire, DomainValue, IsFire}
@@ -287,7 +287,7 @@ invariant_of-self g c =
       few = i.few;
       stands =
           subst (λ (w : Waits). Stands d.graph.value d.parts.value d.domain (record (own_of c.self.inside) { fired = map (timed_from c.self.inside.graph.value) c.push_reserved.new.self.items }) d.here.items d.incoming.stubs w) (sym waiting)
-          (subst (λ (fs : List Timed). Stands d.graph.value d.parts.value d.domain (record (own_of c.self.inside) { fired = fs }) d.here.items d.incoming.stubs (tell_all c.step-finish.result (is_fired_wait c.self.inside.waiting c.in-Some.key.number) f.children.chain)) (sym fired_is)
+          (subst (λ (fs : List FiredEvent). Stands d.graph.value d.parts.value d.domain (record (own_of c.self.inside) { fired = fs }) d.here.items d.incoming.stubs (tell_all c.step-finish.result (is_fired_wait c.self.inside.waiting c.in-Some.key.number) f.children.chain)) (sym fired_is)
           (stands_then d.graph.value d.parts.value d.domain d.here.items d.incoming.stubs (own_of d) d.waiting i.numbered i.here i.stands k.number f.event f.there c.in-Some.ensures.first.ready
           d.links.items f.head f.children k.start c.step-finish.result));
       counted =
@@ -386,7 +386,7 @@ returns g c =
           ap (λ (e : Event). record { number = e.number; start = c.in-Some.key.start; finish = c.step-finish.result }) event
           ∙ ap (λ n. record { number = f.event.number; start = c.in-Some.key.start; finish = n }) finish_is;
       new_is =
-          ap (λ (fs : List Timed). record (domain_value c.self.inside) {
+          ap (λ (fs : List FiredEvent). record (domain_value c.self.inside) {
             own = record (own_of c.self.inside) { fired = fs };
             comps = take (length c.self.inside.comps) (set c.as_mut_slice.result.now c.from-2.result c.step-finish.new.self ++ drop (length (set c.as_mut_slice.result.now c.from-2.result c.step-finish.new.self)) c.self.inside.comps);
           }) (fired_is ∙ ap (λ n. map (timed_from c.self.inside.graph.value) c.self.inside.fired.items ++ (record { event = f.event; start = c.in-Some.key.start; finish = n }) ∷ []) finish_is)

@@ -4,8 +4,8 @@ use std::alloc::Global;
 
 /// What a seat knows. No value of it is made: contracts read the arrays as lists of any length.
 /// Words are kept as numbers, `2 * bound` or `2 * finish + 1`.
-pub struct Knows {
-    /// Whether the seat was told the finishes and the owners.
+pub struct View {
+    /// Whether the seat was told the finishes and the sources.
     pub told: bool,
     /// Whether it is the first seat, which makes the others.
     pub makes: bool,
@@ -14,7 +14,7 @@ pub struct Knows {
     /// The finish of each crossing's parent.
     pub finishes: [u64; 0],
     /// The domain that each crossing comes from.
-    pub owners: [u64; 0],
+    pub sources: [u64; 0],
     /// What this seat last wrote to each crossing's word.
     pub wrote: [u64; 0],
     /// What this seat last found in each crossing's word.
@@ -24,9 +24,9 @@ pub struct Knows {
 }
 
 /// The rule of the words. Its key is the number of crossings.
-pub struct Law;
+pub struct WordRule;
 
-impl TableRule<(), Knows, u64> for Law {
+impl TableRule<(), View, u64> for WordRule {
     ghost use Rattle.crossing.specs.Rule.{Holds, untold};
 
     ghost holds = { Holds };
@@ -34,6 +34,6 @@ impl TableRule<(), Knows, u64> for Law {
     ghost first = { λ _. untold };
 }
 
-pub(crate) type Words = Table<(), Knows, u64, Law, Global>;
+pub(crate) type Words = Table<(), View, u64, WordRule, Global>;
 
-pub(crate) type Place = Seat<(), Knows>;
+pub(crate) type TableSeat = Seat<(), View>;
