@@ -3,6 +3,7 @@ use crate::machines::edited;
 use component::{Bank, Comp, Component, Comps, Controller, Kind, components};
 use machine_desc::read;
 use std::alloc::Global;
+use std::process::Abort;
 use std::test::Fail;
 
 #[test]
@@ -38,8 +39,10 @@ fn comps_of(alloc: Global, edits: &[(&str, &str)]) -> Result<Comps<Comp>, Fail> 
     Ok(components(alloc, &machine)?)
 }
 
-/// Components of the plain machine, kinds, and the least time of an event, where it is served.
-static FLOORS: [(usize, Kind, Option<u64>); 7] = [
+/// A component, a kind, and the least time of an event, where it is served.
+type FloorRow = (usize, Kind, Option<u64>);
+
+static FLOORS: [FloorRow; 7] = [
     (0, Kind::Lookup, Some(10)),
     (0, Kind::Remote, Some(15)),
     (0, Kind::Fill, Some(2)),
@@ -55,20 +58,30 @@ fn floor(comps: &[Comp], number: usize, kind: Kind) -> Option<u64> {
     (comp.serves(kind) && comp.free() == 0).then(|| comp.floor(kind))
 }
 
+/// Checks each row.
+fn has_floors(rt: &impl Abort, comps: &[Comp], rows: &[FloorRow]) {
+    for &(number, kind, wanted) in rows {
+        assert_eq!(rt; floor(comps, number, kind), wanted);
+    }
+}
+
+/// How many components there are, as they are lent for their steps, and as they are taken apart
+/// and put together again.
+fn counts(mut comps: Comps<Comp>) -> (usize, usize) {
+    let lent = comps.as_mut_slice().len();
+    (lent, Comps::of(comps.into_list()).as_slice().len())
+}
+
 #[test]
 fn the_plain_machine_has_a_bank_and_then_a_controller(rt: HostRuntime) -> Result<(), Fail> {
-    let mut comps = comps_of(rt.alloc(), &[])?;
-    for &(number, kind, wanted) in &FLOORS {
-        let found = floor(comps.as_slice(), number, kind);
-        assert_eq!(rt; found, wanted, "{number} {kind:?}");
-    }
-    assert_eq!(rt; comps.as_mut_slice().len(), 2);
-    assert_eq!(rt; Comps::of(comps.into_list()).as_slice().len(), 2);
+    let comps = comps_of(rt.alloc(), &[])?;
+    has_floors(&rt, comps.as_slice(), &FLOORS);
+    assert_eq!(rt; counts(comps), (2, 2));
     Ok(())
 }
 
 /// 64 banks and 16 controllers.
-const MOST_COMPONENTS: [(&str, &str); 6] = [
+static MOST_COMPONENTS: [(&str, &str); 6] = [
     ("sets = 2", "sets = 64"),
     ("banks = 1", "banks = 64"),
     ("sets = 4", "sets = 64"),
@@ -88,14 +101,25 @@ const MOST_COMPONENTS: [(&str, &str); 6] = [
     ),
 ];
 
+/// Whether the component of a number is a bank.
+fn is_bank(comps: &[Comp], number: usize) -> bool {
+    matches!(comps.get(number), Some(Comp::Bank(_)))
+}
+
+/// Checks of each number whether its component is a bank.
+fn has_banks(rt: &impl Abort, comps: &[Comp], rows: &[(usize, bool)]) {
+    for &(number, wanted) in rows {
+        assert_eq!(rt; is_bank(comps, number), wanted);
+    }
+}
+
+/// The first and the last bank, and the first and the last controller.
+static ENDS: [(usize, bool); 4] = [(0, true), (63, true), (64, false), (79, false)];
+
 #[test]
 fn the_largest_machine_has_80_components(rt: HostRuntime) -> Result<(), Fail> {
     let comps = comps_of(rt.alloc(), &MOST_COMPONENTS)?;
-    let list = comps.as_slice();
-    assert_eq!(rt; list.len(), 80);
-    for (number, is_bank) in [(0, true), (63, true), (64, false), (79, false)] {
-        let found = matches!(list.get(number), Some(Comp::Bank(_)));
-        assert_eq!(rt; found, is_bank, "at {number}");
-    }
+    assert_eq!(rt; comps.as_slice().len(), 80);
+    has_banks(&rt, comps.as_slice(), &ENDS);
     Ok(())
 }

@@ -1,12 +1,16 @@
 //! Descriptions and what they read as. The texts are the built-in one with some words changed.
-use crate::machines::{edited, machine_of};
+use crate::machines::{edited, machine_of, small};
 use machine_desc::{
-    BadMachine, Controllers, KeyName, L1, L2, MachineFail, Memory, PLAIN, component_count,
-    domain_of, read,
+    BadMachine, Domains, Machine, MachineFail, PLAIN, component_count, domain_of, read,
 };
-use std::alloc::Global;
+use std::alloc::{AllocError, Global};
 use std::process::Abort;
 use std::test::Fail;
+
+/// Why a text is not read.
+fn refusal(alloc: Global, text: &[u8]) -> Option<MachineFail> {
+    machine_of(alloc, text).err()
+}
 
 /// The number of a refusal, its key, and its value or component.
 fn answer_of(bad: &BadMachine) -> (u8, &[u8], i64) {
@@ -19,6 +23,16 @@ fn answer_of(bad: &BadMachine) -> (u8, &[u8], i64) {
         BadMachine::Ratio { key } => (6, key.as_slice(), 0),
         BadMachine::Domain { component } => (7, b"", i64::from(*component)),
     }
+}
+
+/// Checks that a text is refused with this number, key and value.
+fn is_refused(rt: &(impl Abort + AllocGlobal), text: &[u8], number: u8, key: &[u8], value: i64) {
+    let Some(MachineFail::Bad(bad)) = refusal(rt.alloc(), text) else {
+        panic!(rt; "not refused");
+    };
+    let found = answer_of(&bad);
+    assert_eq!(rt; (found.0, found.2), (number, value));
+    assert_eq!(rt; found.1, key);
 }
 
 /// Edits of the built-in text, and the number, the key and the value of the refusal.
@@ -223,18 +237,9 @@ static DOMAINS: [Case; 4] = [
 ];
 
 fn refuse(rt: &(impl Abort + AllocGlobal), cases: &[Case]) -> Result<(), Fail> {
-    for (edits, number, key, value) in cases {
+    for &(edits, number, key, value) in cases {
         let text = edited(rt.alloc(), edits)?;
-        match machine_of(rt.alloc(), text.as_bytes()) {
-            Err(MachineFail::Bad(bad)) => {
-                assert_eq!(rt;
-                    answer_of(&bad),
-                    (*number, key.as_bytes(), *value),
-                    "at {text}"
-                )
-            }
-            _ => panic!(rt; "not refused: {text}"),
-        }
+        is_refused(rt, text.as_bytes(), number, key.as_bytes(), value);
     }
     Ok(())
 }
@@ -249,74 +254,43 @@ fn the_first_check_that_fails_is_told(rt: HostRuntime) -> Result<(), Fail> {
     refuse(&rt, &DOMAINS)
 }
 
+static NOT_TOML: [&[u8]; 4] = [b"cores =", b"\xff", b"cores = 1\ncores = 1\n", b"# \xc3\n"];
+
+/// Checks that each text is refused as no TOML.
+fn are_not_toml(rt: &(impl Abort + AllocGlobal), texts: &[&[u8]]) {
+    for &text in texts {
+        is_refused(rt, text, 1, b"", 0);
+    }
+}
+
 #[test]
 fn text_that_is_not_toml_is_refused(rt: HostRuntime) {
-    let texts = [
-        b"cores =".as_slice(),
-        b"\xff",
-        b"cores = 1\ncores = 1\n",
-        b"# \xc3\n",
-    ];
-    for text in texts {
-        assert!(rt;
-            matches!(
-                machine_of(rt.alloc(), text),
-                Err(MachineFail::Bad(BadMachine::Text))
-            )
-        );
-    }
+    are_not_toml(&rt, &NOT_TOML);
+}
+
+/// Whether two have the same domains.
+fn are_same_domains(one: &Domains, other: &Domains) -> bool {
+    one.count == other.count
+        && one.banks.as_slice() == other.banks.as_slice()
+        && one.controllers.as_slice() == other.controllers.as_slice()
+}
+
+/// Whether two have the same caches, controllers and memory.
+fn are_same_parts(one: &Machine, other: &Machine) -> bool {
+    one.memory == other.memory
+        && one.l1 == other.l1
+        && one.l2 == other.l2
+        && one.controllers == other.controllers
 }
 
 #[test]
 fn the_built_in_text_reads_as_its_machine(rt: HostRuntime) -> Result<(), Fail> {
     let machine = machine_of(rt.alloc(), PLAIN.as_bytes())?;
-    let memory = Memory {
-        base: 65536,
-        size: 1048576,
-        stack: 4096,
-    };
-    let l1 = L1 {
-        sets: 2,
-        ways: 1,
-        latency: 1,
-    };
-    let l2 = L2 {
-        banks: 1,
-        sets: 4,
-        ways: 2,
-        latency: 10,
-        remote: 5,
-        fill: 2,
-        occupancy: 4,
-    };
-    let controllers = Controllers {
-        count: 1,
-        read: 100,
-        write: 40,
-        occupancy: 20,
-    };
-    assert_eq!(rt;
-        (
-            machine.version,
-            machine.cores,
-            machine.interval,
-            machine.intervals
-        ),
-        (1, 1, 10000, 100000)
-    );
-    assert_eq!(rt;
-        (machine.memory, machine.l1, machine.l2, machine.controllers),
-        (memory, l1, l2, controllers)
-    );
-    let domains = &machine.domains;
-    assert_eq!(rt;
-        (
-            domains.count,
-            domains.banks.as_slice(),
-            domains.controllers.as_slice()
-        ),
-        (2, [0].as_slice(), [1].as_slice())
-    );
+    let wanted = small(rt.alloc(), 1)?;
+    assert_eq!(rt; (machine.version, machine.cores), (1, 1));
+    assert_eq!(rt; (machine.interval, machine.intervals), (10000, 100000));
+    assert!(rt; are_same_parts(&machine, &wanted));
+    assert!(rt; are_same_domains(&machine.domains, &wanted.domains));
     Ok(())
 }
 
@@ -354,42 +328,58 @@ fn domains_of(alloc: Global, text: &[u8]) -> Result<Vec<u16>, Fail> {
     Ok(domains)
 }
 
-#[test]
-fn the_greatest_machine_is_read(rt: HostRuntime) -> Result<(), Fail> {
-    let machine = machine_of(rt.alloc(), GREATEST.as_bytes())?;
-    assert_eq!(rt;
-        (machine.memory.base, machine.l1.sets, machine.l2.remote),
-        (0x100_0000_0000, 4096, 65536)
-    );
-    let domains = domains_of(rt.alloc(), GREATEST.as_bytes())?;
-    assert_eq!(rt; domains.len(), 80);
-    for (component, domain) in [(0, 0), (63, 63), (64, 63), (79, 48)] {
+/// Components of the greatest machine, and their domains.
+static GREATEST_DOMAINS: [(usize, u16); 4] = [(0, 0), (63, 63), (64, 63), (79, 48)];
+
+/// Checks numbers of the greatest machine.
+fn has_greatest_numbers(rt: &impl Abort, machine: &Machine) {
+    assert_eq!(rt; machine.memory.base, 0x100_0000_0000);
+    assert_eq!(rt; (machine.l1.sets, machine.l2.remote), (4096, 65536));
+}
+
+/// Checks the domain of each component of the rows.
+fn has_domains(rt: &impl Abort, domains: &[u16], rows: &[(usize, u16)]) {
+    for &(component, domain) in rows {
         assert_eq!(rt; domains.get(component).copied(), Some(domain));
     }
+}
+
+/// Checks the greatest machine, as a text has it.
+fn is_greatest(rt: &(impl Abort + AllocGlobal), text: &[u8]) -> Result<(), Fail> {
+    has_greatest_numbers(rt, &machine_of(rt.alloc(), text)?);
+    let domains = domains_of(rt.alloc(), text)?;
+    assert_eq!(rt; domains.len(), 80);
+    has_domains(rt, &domains, &GREATEST_DOMAINS);
     Ok(())
 }
 
-/// The key of the refusal, if a text is refused for a key that is unknown.
-fn unknown_key(alloc: Global, text: &str) -> Option<KeyName> {
-    match read(alloc, text.as_bytes()) {
-        Err(MachineFail::Bad(BadMachine::Unknown { key })) => Some(key),
-        _ => None,
-    }
+#[test]
+fn the_greatest_machine_is_read(rt: HostRuntime) -> Result<(), Fail> {
+    is_greatest(&rt, GREATEST.as_bytes())
+}
+
+/// A word so many times.
+fn repeated(alloc: Global, word: &str, count: usize) -> Result<String, AllocError> {
+    word.repeat(alloc, count)
+}
+
+/// The built-in text with a key of this name.
+fn with_key(alloc: Global, name: &str) -> Result<String, Fail> {
+    let line = format!(in alloc; "100000\n{name} = 1")?;
+    Ok(edited(alloc, &[("100000", line.as_str())])?)
 }
 
 #[test]
 fn a_long_name_is_told(rt: HostRuntime) -> Result<(), Fail> {
-    let name = "colour".repeat(rt.alloc(), 200)?;
-    let line = format!(in rt.alloc(); "100000\n{name} = 1")?;
-    let text = edited(rt.alloc(), &[("100000", line.as_str())])?;
-    let key = unknown_key(rt.alloc(), &text).ok_or("not refused")?;
-    assert_eq!(rt; key.as_slice(), name.as_bytes());
+    let name = repeated(rt.alloc(), "colour", 200)?;
+    let text = with_key(rt.alloc(), &name)?;
+    is_refused(&rt, text.as_bytes(), 5, name.as_bytes(), 0);
     Ok(())
 }
 
 #[test]
 fn a_long_text_is_read(rt: HostRuntime) -> Result<(), Fail> {
-    let comments = "# a line of a comment\n".repeat(rt.alloc(), 40_000)?;
+    let comments = repeated(rt.alloc(), "# a line of a comment\n", 40_000)?;
     let text = format!(in rt.alloc(); "{comments}{PLAIN}")?;
     let machine = machine_of(rt.alloc(), text.as_bytes())?;
     assert_eq!(rt; machine.interval, 10000);
@@ -397,7 +387,9 @@ fn a_long_text_is_read(rt: HostRuntime) -> Result<(), Fail> {
 }
 
 /// Edits of the built-in text, and the words of the refusal.
-static WORDS: [(&[(&str, &str)], &str); 7] = [
+type Words = (&'static [(&'static str, &'static str)], &'static str);
+
+static WORDS: [Words; 7] = [
     (
         &[("cores = 1", "cores =")],
         "the description is no TOML document",
@@ -429,17 +421,23 @@ static WORDS: [(&[(&str, &str)], &str); 7] = [
     ),
 ];
 
-#[test]
-fn a_refusal_is_told_in_words(rt: HostRuntime) -> Result<(), Fail> {
-    for (edits, words) in &WORDS {
+/// The words of a refusal.
+fn words_of(alloc: Global, fail: &MachineFail) -> Result<String, Fail> {
+    Ok(format!(in alloc; "{fail}")?)
+}
+
+/// Checks the words of each refusal.
+fn refuse_in_words(rt: &(impl Abort + AllocGlobal), cases: &[Words]) -> Result<(), Fail> {
+    for &(edits, wanted) in cases {
         let text = edited(rt.alloc(), edits)?;
-        match machine_of(rt.alloc(), text.as_bytes()) {
-            Ok(_) => panic!(rt; "not refused: {words}"),
-            Err(fail) => {
-                let told = format!(in rt.alloc(); "{fail}")?;
-                assert_eq!(rt; told.as_str(), *words);
-            }
-        }
+        let fail = refusal(rt.alloc(), text.as_bytes()).ok_or("not refused")?;
+        let words = words_of(rt.alloc(), &fail)?;
+        assert_eq!(rt; words.as_str(), wanted);
     }
     Ok(())
+}
+
+#[test]
+fn a_refusal_is_told_in_words(rt: HostRuntime) -> Result<(), Fail> {
+    refuse_in_words(&rt, &WORDS)
 }

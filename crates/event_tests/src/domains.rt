@@ -2,7 +2,7 @@
 ghost use Rattle.std.specs.Prelude.{◌<◌, ◌^◌, All, IsTrue, length};
 
 use crate::loads::{Load, MISS, graph_of};
-use crate::machines::two_cores;
+use crate::machines::small;
 use domain_map::{Crossing, Parts, split};
 use event_graph::Event;
 use std::process::Abort;
@@ -21,17 +21,31 @@ fn is_on_two(events: &[Event]) -> bool
 fn split_of(rt: &(impl Abort + AllocGlobal), loads: &[Load]) -> Result<Parts, Fail> {
     let graph = graph_of(rt, loads)?;
     assert!(rt; is_on_two(graph.events()));
-    let machine = two_cores(rt.alloc())?;
+    let machine = small(rt.alloc(), 2)?;
     Ok(split(rt.alloc(), &graph, &machine)?)
 }
 
-/// The domains of two components and the events of two domains, if there are just so many.
-fn places_and_events(parts: &Parts) -> Option<([u16; 2], [&[u32]; 2])> {
-    if parts.places().len() != 2 || parts.domains() != 2 {
-        return None;
-    }
-    let places = [parts.domain(0), parts.domain(1)];
-    Some((places, [parts.events(0), parts.events(1)]))
+/// Checks how many domains there are, and those of the components.
+fn has_domains(rt: &impl Abort, parts: &Parts, count: u16, places: &[u16]) {
+    assert_eq!(rt; parts.domains(), count);
+    assert!(rt; parts.places() == places);
+}
+
+/// Checks the domain of a component.
+fn is_in_domain(rt: &impl Abort, parts: &Parts, component: u16, wanted: u16) {
+    assert!(rt; usize::from(component) < parts.places().len());
+    assert_eq!(rt; parts.domain(component), wanted);
+}
+
+/// Checks the events of a domain.
+fn has_events(rt: &impl Abort, parts: &Parts, domain: u16, wanted: &[u32]) {
+    assert!(rt; domain < parts.domains());
+    assert!(rt; parts.events(domain) == wanted);
+}
+
+/// Checks the crossings between the domains.
+fn has_crossings(rt: &impl Abort, parts: &Parts, wanted: &[Crossing]) {
+    assert!(rt; parts.crossings() == wanted);
 }
 
 static TWO_MISSES_CROSS: [Crossing; 4] = [
@@ -68,11 +82,12 @@ static TWO_MISSES_CROSS: [Crossing; 4] = [
 #[test]
 fn two_misses_cross_four_times(rt: HostRuntime) -> Result<(), Fail> {
     let parts = split_of(&rt, &[(0, 1, MISS), (1, 1, MISS)])?;
-    let found = places_and_events(&parts);
-    let events = [[0, 2, 3, 5].as_slice(), [1, 4].as_slice()];
-    assert_eq!(rt; found, Some(([0, 1], events)));
-    assert_eq!(rt; parts.places(), [0, 1].as_slice());
-    assert_eq!(rt; parts.crossings(), TWO_MISSES_CROSS.as_slice());
+    has_domains(&rt, &parts, 2, &[0, 1]);
+    is_in_domain(&rt, &parts, 0, 0);
+    is_in_domain(&rt, &parts, 1, 1);
+    has_events(&rt, &parts, 0, &[0, 2, 3, 5]);
+    has_events(&rt, &parts, 1, &[1, 4]);
+    has_crossings(&rt, &parts, &TWO_MISSES_CROSS);
     Ok(())
 }
 
@@ -111,6 +126,6 @@ static A_FILL_WAITS: [Crossing; 4] = [
 fn a_fill_waits_across_for_the_read_and_for_the_write_back(rt: HostRuntime) -> Result<(), Fail> {
     let outcome = Outcome::Miss { dirty_victim: true };
     let parts = split_of(&rt, &[(0, 1, outcome)])?;
-    assert_eq!(rt; parts.crossings(), A_FILL_WAITS.as_slice());
+    has_crossings(&rt, &parts, &A_FILL_WAITS);
     Ok(())
 }

@@ -1,13 +1,16 @@
 //! Graphs of loads: worked cycles, and that the calls succeed.
-use crate::loads::{MISS, entry, graph_of};
-use crate::machines::two_cores;
+use crate::loads::{Load, MISS, entry, graph_of};
+use crate::machines::small;
 use event_graph::{Event, Expand, Fired, FiredList, Graph, Kind, Parent, Plain};
 use std::alloc::Global;
+use std::process::Abort;
 use std::test::Fail;
 use zs_num::{Cycle, NoMemory, Outcome};
 
-/// Outcomes, and the time at zero load and the number of events of each.
-static AT_ZERO_LOAD: [(Outcome, u64, u16); 7] = [
+/// An outcome, and the time at zero load and the number of events.
+type ZeroLoad = (Outcome, u64, u16);
+
+static AT_ZERO_LOAD: [ZeroLoad; 7] = [
     (Outcome::Hit, 1, 0),
     (Outcome::Upgrade { others: false }, 11, 1),
     (Outcome::Upgrade { others: true }, 16, 1),
@@ -19,18 +22,22 @@ static AT_ZERO_LOAD: [(Outcome, u64, u16); 7] = [
 
 /// The time at zero load and the number of events of a load with this outcome.
 fn at_zero_load(alloc: Global, outcome: Outcome) -> Result<(u64, u16), NoMemory> {
-    let plain = Plain::of(&two_cores(alloc)?);
+    let plain = Plain::of(&small(alloc, 2)?);
     let entry = entry(&(0, 6, outcome));
     Ok((plain.time(&entry), plain.count(&entry)))
 }
 
-#[test]
-fn accesses_take_their_zero_load_times(rt: HostRuntime) -> Result<(), Fail> {
-    for &(outcome, time, count) in &AT_ZERO_LOAD {
-        let found = at_zero_load(rt.alloc(), outcome)?;
-        assert_eq!(rt; found, (time, count), "{outcome:?}");
+/// Checks each row.
+fn take_these(rt: &(impl Abort + AllocGlobal), rows: &[ZeroLoad]) -> Result<(), Fail> {
+    for &(outcome, time, count) in rows {
+        assert_eq!(rt; at_zero_load(rt.alloc(), outcome)?, (time, count));
     }
     Ok(())
+}
+
+#[test]
+fn accesses_take_their_zero_load_times(rt: HostRuntime) -> Result<(), Fail> {
+    take_these(&rt, &AT_ZERO_LOAD)
 }
 
 /// The core, the component, the kind, the first and last cycle in the bound phase and the parent of
@@ -66,16 +73,22 @@ fn event_of(number: u32, row: &Row) -> Event {
     }
 }
 
+/// The events of rows, numbered in their order.
+fn events_of(alloc: Global, rows: &[Row]) -> Result<Vec<Event>, NoMemory> {
+    let mut events = Vec::new(alloc);
+    let mut number = 0u32;
+    for row in rows {
+        events.push(event_of(number, row))?;
+        number = number.wrapping_add(1);
+    }
+    Ok(events)
+}
+
 #[test]
 fn two_cores_that_miss_at_once_make_six_events(rt: HostRuntime) -> Result<(), Fail> {
     let graph = graph_of(&rt, &[(0, 1, MISS), (1, 1, MISS)])?;
-    let mut wanted = Vec::new(rt.alloc());
-    let mut number = 0u32;
-    for row in &SIX_EVENTS {
-        wanted.push(event_of(number, row))?;
-        number = number.wrapping_add(1);
-    }
-    assert_eq!(rt; graph.events(), wanted.as_slice());
+    let wanted = events_of(rt.alloc(), &SIX_EVENTS)?;
+    assert!(rt; graph.events() == wanted.as_slice());
     Ok(())
 }
 
@@ -106,32 +119,47 @@ fn a_core_goes_on_from_its_last_critical_event(rt: HostRuntime) -> Result<(), Fa
     Ok(())
 }
 
+/// So many misses of core 0 at cycle 1.
+fn misses(alloc: Global, count: usize) -> Result<Vec<Load>, NoMemory> {
+    Ok(vec![in alloc; (0, 1, MISS); count]?)
+}
+
+/// How many events there are, and the number and the first parent of the last.
+fn count_and_last(events: &[Event]) -> Option<(usize, u32, Option<Parent>)> {
+    let last = events.last()?;
+    Some((events.len(), last.number, last.first))
+}
+
 #[test]
 fn a_graph_may_have_more_events_than_two_bytes_count(rt: HostRuntime) -> Result<(), Fail> {
-    let loads = vec![in rt.alloc(); (0, 1, MISS); 22_000]?;
+    let loads = misses(rt.alloc(), 22_000)?;
     let graph = graph_of(&rt, &loads)?;
-    let last = graph.events().last().ok_or("no event")?;
     let parent = Parent {
         number: 65_998,
         delay: 0,
     };
-    assert_eq!(rt;
-        (graph.events().len(), last.number, last.first),
-        (66_000, 65_999, Some(parent))
-    );
+    let wanted = Some((66_000, 65_999, Some(parent)));
+    assert_eq!(rt; count_and_last(graph.events()), wanted);
+    Ok(())
+}
+
+/// Checks that a list of one fired event has it.
+fn keeps(rt: &(impl Abort + AllocGlobal), fired: Fired) -> Result<(), Fail> {
+    let list = FiredList::of(vec![in rt.alloc(); fired]?);
+    assert_eq!(rt; list.as_slice(), [fired].as_slice());
+    assert_eq!(rt; list.into_list().len(), 1);
     Ok(())
 }
 
 #[test]
 fn fired_events_are_kept(rt: HostRuntime) -> Result<(), Fail> {
-    let fired = Fired {
-        number: 0,
-        start: 2,
-        finish: 12,
-    };
-    let list = FiredList::of(vec![in rt.alloc(); fired]?);
-    assert_eq!(rt; list.as_slice(), [fired].as_slice());
-    assert_eq!(rt; list.into_list().len(), 1);
     assert_eq!(rt; Graph::of(Vec::new(rt.alloc())).events().len(), 0);
-    Ok(())
+    keeps(
+        &rt,
+        Fired {
+            number: 0,
+            start: 2,
+            finish: 12,
+        },
+    )
 }

@@ -2,11 +2,12 @@
 ghost use Rattle.std.specs.Prelude.{◌<◌, ◌^◌, All, IsTrue, length, sum_by};
 ghost use Rattle.event_graph.specs.Timing.{pieces_of};
 
-use crate::machines::two_cores;
+use crate::machines::small;
 use event_graph::{Graph, Plain, build, laws};
+use std::alloc::Global;
 use std::process::Abort;
 use std::test::Fail;
-use zs_num::{Cycle, Entries, Entry, Outcome, Request};
+use zs_num::{Cycle, Entries, Entry, NoMemory, Outcome, Request};
 
 /// A miss whose victim is clean.
 pub(crate) const MISS: Outcome = Outcome::Miss {
@@ -50,14 +51,20 @@ fn are_few(plain: &Plain, entries: &[Entry]) -> bool
     entries.len() <= 1 << 20
 }
 
-/// The graph that loads make on the machine of two cores.
-pub(crate) fn graph_of(rt: &(impl Abort + AllocGlobal), loads: &[Load]) -> Result<Graph, Fail> {
-    let mut entries = Vec::with_capacity(rt.alloc(), loads.len())?;
+/// The entries of loads.
+fn entries_of(alloc: Global, loads: &[Load]) -> Result<Entries, NoMemory> {
+    let mut entries = Vec::with_capacity(alloc, loads.len())?;
     for load in loads {
         entries.push(entry(load))?;
     }
-    let plain = Plain::of(&two_cores(rt.alloc())?);
-    assert!(rt; are_of_two_cores(&entries));
-    assert!(rt; are_few(&plain, &entries));
-    Ok(build(rt.alloc(), &plain, &Entries::of(entries), 2)?)
+    Ok(Entries::of(entries))
+}
+
+/// The graph that loads make on the machine of two cores.
+pub(crate) fn graph_of(rt: &(impl Abort + AllocGlobal), loads: &[Load]) -> Result<Graph, Fail> {
+    let entries = entries_of(rt.alloc(), loads)?;
+    let plain = Plain::of(&small(rt.alloc(), 2)?);
+    assert!(rt; are_of_two_cores(entries.as_slice()));
+    assert!(rt; are_few(&plain, entries.as_slice()));
+    Ok(build(rt.alloc(), &plain, &entries, 2)?)
 }

@@ -1,5 +1,5 @@
 //! The built-in description with some words changed, and a small machine.
-ghost use Rattle.std.specs.Prelude.{◌≡◌, IfOk};
+ghost use Rattle.std.specs.Prelude.{◌≡◌, ◌≤◌, IfOk};
 ghost use Rattle.machine_desc.specs.Components.{component_count};
 ghost use Rattle.machine_desc.specs.Machine.{IsMachine};
 
@@ -9,11 +9,16 @@ use machine_desc::{
 use std::alloc::{AllocError, Global};
 use zs_num::NoMemory;
 
+/// A text with the first `old` in it replaced.
+fn replaced(alloc: Global, text: &str, old: &str, new: &str) -> Result<String, AllocError> {
+    text.replacen(alloc, old, new, 1)
+}
+
 /// The built-in text with each first word of a pair replaced by the second.
 pub(crate) fn edited(alloc: Global, edits: &[(&str, &str)]) -> Result<String, AllocError> {
     let mut text = String::from_str(alloc, PLAIN)?;
     for (old, new) in edits {
-        text = text.replacen(alloc, *old, *new, 1)?;
+        text = replaced(alloc, &text, *old, *new)?;
     }
     Ok(text)
 }
@@ -23,15 +28,18 @@ pub(crate) fn machine_of(alloc: Global, text: &[u8]) -> Result<Machine, MachineF
     read(alloc, text)
 }
 
-/// Two cores, one bank in domain 0 and one controller in domain 1.
-pub(crate) fn two_cores(alloc: Global) -> Result<Machine, NoMemory>
+/// One core or two, one bank in domain 0 and one controller in domain 1, with the numbers of the
+/// built-in text.
+pub(crate) fn small(alloc: Global, cores: u16) -> Result<Machine, NoMemory>
+    requires some { 1 ≤ cores }
+    requires few { cores ≤ 2 }
     ensures machine { IfOk result IsMachine }
     ensures components { IfOk result (λ m. component_count m ≡ 2) }
     ensures domains { IfOk result (λ m. m.domains.count ≡ 2) }
 {
     Ok(Machine {
         version: 1,
-        cores: 2,
+        cores,
         interval: 10_000,
         intervals: 100_000,
         memory: Memory {

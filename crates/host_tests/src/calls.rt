@@ -1,8 +1,8 @@
 //! Tables of calls, with what each has to answer.
 use std::alloc::Global;
 use std::process::Abort;
-use std::test::Fail;
 use zs_host::{Fault, FileFail, Files, Operation, Sink, SinkFail};
+use zs_num::Bytes;
 
 /// A name, how many bytes are read at most, and the bytes; None where the read fails.
 pub(crate) type ReadRow = (&'static str, usize, Option<&'static str>);
@@ -13,34 +13,54 @@ pub(crate) type WriteRow = (&'static str, &'static str, Result<(), FileFail>);
 /// A piece, and the answer to it.
 pub(crate) type PutRow = (&'static str, Result<usize, SinkFail>);
 
-/// Reads each row.
-pub(crate) fn reads<R: Abort, F: Files>(
-    rt: &R,
+/// The first bytes of a name.
+pub(crate) fn first<F: Files>(
     alloc: Global,
     files: &mut F,
-    rows: &[ReadRow],
-) -> Result<(), Fail> {
-    for &(name, most, want) in rows {
-        let read = files.read(alloc, name, most);
-        match want {
-            Some(text) => assert_eq!(rt; read?.as_slice(), text.as_bytes(), "{name} up to {most}"),
-            None => assert_eq!(rt; read.err(), Some(FileFail::Failed), "{name}"),
-        }
+    name: &str,
+    most: usize,
+) -> Result<Bytes, FileFail> {
+    files.read(alloc, name, most)
+}
+
+/// The answer to a read is these bytes, or that it failed.
+fn is_read<R: Abort>(rt: &R, answer: &Result<Bytes, FileFail>, want: Option<&str>) {
+    match (answer, want) {
+        (Ok(bytes), Some(text)) => assert!(rt; bytes.as_slice() == text.as_bytes()),
+        (Err(fail), None) => assert!(rt; *fail == FileFail::Failed),
+        _ => panic!(rt; "read where it was to fail, or failed"),
     }
-    Ok(())
+}
+
+/// Reads each row.
+pub(crate) fn reads<R: Abort, F: Files>(rt: &R, alloc: Global, files: &mut F, rows: &[ReadRow]) {
+    for &(name, most, want) in rows {
+        let answer = first(alloc, files, name, most);
+        is_read(rt, &answer, want);
+    }
+}
+
+/// The answer to a write.
+fn written<F: Files>(alloc: Global, files: &mut F, name: &str, text: &str) -> Result<(), FileFail> {
+    files.write(alloc, name, text.as_bytes())
 }
 
 /// Writes each row.
 pub(crate) fn writes<R: Abort, F: Files>(rt: &R, alloc: Global, files: &mut F, rows: &[WriteRow]) {
     for &(name, text, answer) in rows {
-        assert_eq!(rt; files.write(alloc, name, text.as_bytes()), answer, "{name}");
+        assert!(rt; written(alloc, files, name, text) == answer);
     }
+}
+
+/// The answer to a piece.
+fn put<S: Sink>(alloc: Global, sink: &mut S, piece: &str) -> Result<usize, SinkFail> {
+    sink.put(alloc, piece.as_bytes())
 }
 
 /// Puts each row.
 pub(crate) fn puts<R: Abort, S: Sink>(rt: &R, alloc: Global, sink: &mut S, rows: &[PutRow]) {
     for &(piece, answer) in rows {
-        assert_eq!(rt; sink.put(alloc, piece.as_bytes()), answer, "{piece}");
+        assert!(rt; put(alloc, sink, piece) == answer);
     }
 }
 

@@ -14,9 +14,9 @@ fn set(alloc: Global, files: &mut MemFiles, name: &str, text: &str) -> Result<()
 /// The name holds a text, or is not there.
 fn holds<R: Abort>(rt: &R, files: &MemFiles, name: &str, want: Option<&str>) {
     match (files.get(name), want) {
-        (Some(bytes), Some(text)) => assert_eq!(rt; bytes, text.as_bytes(), "{name}"),
+        (Some(bytes), Some(text)) => assert!(rt; bytes == text.as_bytes()),
         (None, None) => {}
-        _ => panic!(rt; "{name} is there, or is not"),
+        _ => panic!(rt; "there where it was not to be, or not there"),
     }
 }
 
@@ -34,7 +34,7 @@ fn files_in_memory_hold_what_was_set_and_written(rt: HostRuntime) -> Result<(), 
     let mut files = MemFiles::new(alloc, &[])?;
     set(alloc, &mut files, "machine", "cores = 1")?;
     writes(&rt, alloc, &mut files, &[("report", "cycles 3", Ok(()))]);
-    reads(&rt, alloc, &mut files, &HELD)?;
+    reads(&rt, alloc, &mut files, &HELD);
     writes(&rt, alloc, &mut files, &[("report", "", Ok(()))]);
     holds(&rt, &files, "report", Some(""));
     holds(&rt, &files, "machine", Some("cores = 1"));
@@ -55,7 +55,7 @@ fn calls_on_files_in_memory_fail_by_number_and_where_a_name_is_missing(
         alloc,
         &mut files,
         &[("a", 3, Some("old")), ("a", 3, None)],
-    )?;
+    );
     writes(
         &rt,
         alloc,
@@ -66,7 +66,7 @@ fn calls_on_files_in_memory_fail_by_number_and_where_a_name_is_missing(
     writes(&rt, alloc, &mut files, &[("a", "new", Ok(()))]);
     holds(&rt, &files, "a", Some("new"));
     holds(&rt, &files, "b", Some("stays"));
-    reads(&rt, alloc, &mut files, &[("c", 3, None)])?;
+    reads(&rt, alloc, &mut files, &[("c", 3, None)]);
     let want = (3, Operation::Read, "c");
     assert_faults(&rt, files.fault_count(), files.latest_fault(), want);
     Ok(())
@@ -83,10 +83,10 @@ static SURE: [ReadRow; 4] = [
 fn a_name_that_was_never_written_holds_no_bytes(rt: HostRuntime) -> Result<(), Fail> {
     let alloc = rt.alloc();
     let mut files = SureFiles::new(alloc);
-    reads(&rt, alloc, &mut files, &[("missing", 9, Some(""))])?;
+    reads(&rt, alloc, &mut files, &[("missing", 9, Some(""))]);
     files.set(alloc, "machine", b"cores = 1")?;
     writes(&rt, alloc, &mut files, &[("report", "cycles 3", Ok(()))]);
-    reads(&rt, alloc, &mut files, &SURE)?;
+    reads(&rt, alloc, &mut files, &SURE);
     assert_eq!(rt; files.get("machine"), b"cores = 1".as_slice());
     Ok(())
 }

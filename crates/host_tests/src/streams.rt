@@ -52,7 +52,7 @@ impl Flaky {
     /// It took these bytes, in this order, and no others.
     fn took<R: Abort>(&self, rt: &R, want: &str) {
         match self.taken.try_borrow() {
-            Ok(taken) => assert_eq!(rt; taken.as_slice(), want.as_bytes()),
+            Ok(taken) => assert!(rt; taken.as_slice() == want.as_bytes()),
             Err(_) => panic!(rt; "the bytes are held"),
         }
     }

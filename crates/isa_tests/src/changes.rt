@@ -61,13 +61,18 @@ pub(crate) fn changed(
     Ok(file)
 }
 
+/// Adds the header of SEVEN's segment with these changes, each at its place in SEVEN.
+fn add_header(file: &mut Vec<u8>, alloc: Global, changes: &[Change]) -> Result<(), AllocError> {
+    let header = changed(alloc, &SEVEN[..120], changes)?;
+    file.extend_from_slice(header.get(64..).unwrap_or(&[]))
+}
+
 /// The headers of SEVEN's segment with changes of their own, each at its place in SEVEN, and the
 /// bytes of the segment.
 pub(crate) fn with_headers(alloc: Global, headers: &[[Change; 2]]) -> Result<Vec<u8>, AllocError> {
     let mut file = changed(alloc, &SEVEN[..64], &[(E_PHNUM, 2, headers.len() as u64)])?;
     for changes in headers {
-        let header = changed(alloc, &SEVEN[..120], changes)?;
-        file.extend_from_slice(header.get(64..).unwrap_or(&[]))?;
+        add_header(&mut file, alloc, changes)?;
     }
     file.extend_from_slice(&SEVEN[120..])?;
     Ok(file)

@@ -1,10 +1,9 @@
 //! Executables of one segment.
 ghost use Rattle.std.specs.Prelude.{◌≡◌, ◌+◌, ◌≤◌, ◌^◌, IfOk};
 
-use elf_load::{Image, load};
+use elf_load::{Image, LoadFail, load};
 use std::alloc::Global;
-use std::test::Fail;
-use zs_num::Bytes;
+use zs_num::NoMemory;
 
 /// The first address of memory.
 pub(crate) const BASE: u64 = 0x1_0000;
@@ -23,12 +22,8 @@ static HEADERS: [u8; 88] = [
     0x00, 0x00, 0x01, 0x00, 0x00, 0x00, 0x00, 0x00,
 ];
 
-/// The image of a program of these words in a memory of `size` bytes from `base` on.
-pub(crate) fn loaded(alloc: Global, words: &[u32], base: u64, size: u64) -> Result<Image, Fail>
-    requires { base + size ≤ 2 ^ 48 }
-    ensures base { IfOk result (λ image. image.base ≡ base) }
-    ensures size { IfOk result (λ image. image.size ≡ size) }
-{
+/// The file of a program of these words.
+pub(crate) fn file_of(alloc: Global, words: &[u32]) -> Result<Vec<u8>, NoMemory> {
     let bytes = 4 * words.len() as u64;
     let mut file = Vec::from_slice(alloc, &HEADERS)?;
     for number in [BASE, bytes, bytes, 1] {
@@ -37,5 +32,15 @@ pub(crate) fn loaded(alloc: Global, words: &[u32], base: u64, size: u64) -> Resu
     for word in words {
         file.extend_from_slice(&word.to_le_bytes())?;
     }
-    Ok(load(alloc, &file, base, size)?)
+    Ok(file)
+}
+
+/// The image of a program of these words in a memory of `size` bytes from `base` on.
+pub(crate) fn loaded(alloc: Global, words: &[u32], base: u64, size: u64) -> Result<Image, LoadFail>
+    requires { base + size ≤ 2 ^ 48 }
+    ensures base { IfOk result (λ image. image.base ≡ base) }
+    ensures size { IfOk result (λ image. image.size ≡ size) }
+{
+    let file = file_of(alloc, words)?;
+    load(alloc, &file, base, size)
 }

@@ -1,9 +1,11 @@
 //! Generated programs against the words of the assembler of GNU binutils 2.40, and loaded.
-use crate::executables::BASE;
-use crate::images::{has_segments, read};
+use crate::checks::are_so_many;
+use crate::executables::{BASE, SIZE};
+use crate::images::{Shape, has_segments, lies_at, read};
 use elf_load::{BadElf, LoadFail, load};
 use gen_prog::generate;
 use std::alloc::{AllocError, Global};
+use std::process::Abort;
 use std::test::Fail;
 use zs_num::{Bytes, NoMemory};
 
@@ -66,30 +68,39 @@ fn end_of(alloc: Global, n: u64, masked: u32, iterations: u64) -> Result<Vec<u8>
     Ok(bytes)
 }
 
+/// Checks the length of a file, and its end.
+fn ends_with(rt: &impl Abort, file: &[u8], length: usize, end: &[u8]) {
+    are_so_many(rt, file.len(), length);
+    assert!(rt; file.ends_with(end));
+}
+
 #[test]
 fn programs_are_those_of_another_assembler(rt: HostRuntime) -> Result<(), Fail> {
     for &(n, masked, iterations) in &NUMBERS {
         let wanted = end_of(rt.alloc(), n, masked, iterations)?;
         let file = generated(rt.alloc(), n)?;
-        assert_eq!(rt; file.as_slice().len(), 304);
-        assert!(rt; file.as_slice().ends_with(&wanted), "at {n}");
+        ends_with(&rt, file.as_slice(), 304, &wanted);
     }
     Ok(())
 }
 
+/// Whether a file is refused in a memory of a page, since its second segment lies past it.
+fn is_past_a_page(alloc: Global, file: &[u8]) -> bool {
+    let refused = load(alloc, file, BASE, 4096);
+    matches!(
+        refused,
+        Err(LoadFail::Bad(BadElf::SegmentPastMemory { index: 1 }))
+    )
+}
+
 #[test]
 fn a_program_is_loaded_where_it_lies_in_memory(rt: HostRuntime) -> Result<(), Fail> {
-    let alloc = rt.alloc();
-    let file = generated(alloc, 7)?;
-    let image = read(alloc, file.as_slice())?;
-    assert_eq!(rt; image.entry(), BASE);
-    has_segments(
-        &rt,
-        &image,
-        &[(BASE, 112, 112, true), (BASE + 4096, 16, 2112, false)],
-    )?;
-    let refused = load(alloc, file.as_slice(), BASE, 4096).err();
-    let past = LoadFail::Bad(BadElf::SegmentPastMemory { index: 1 });
-    assert_eq!(rt; refused, Some(past));
+    let file = generated(rt.alloc(), 7)?;
+    let image = read(rt.alloc(), file.as_slice())?;
+    lies_at(&rt, &image, BASE, SIZE, BASE);
+    has_segments(&rt, &image, &SEGMENTS);
+    assert!(rt; is_past_a_page(rt.alloc(), file.as_slice()));
     Ok(())
 }
+
+static SEGMENTS: [Shape; 2] = [(BASE, 112, 112, true), (BASE + 4096, 16, 2112, false)];

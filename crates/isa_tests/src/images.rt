@@ -1,12 +1,11 @@
 //! Images of files, and what is wanted of them.
 ghost use Rattle.std.specs.Prelude.{◌≡◌};
 
+use crate::checks::{are_bytes, are_so_many, is_number};
 use crate::executables::{BASE, SIZE};
-use elf_load::{Image, LoadFail, load};
+use elf_load::{Image, LoadFail, Segment, load};
 use std::alloc::Global;
 use std::process::Abort;
-use std::test::Fail;
-use zs_num::NoMemory;
 
 /// The image of a file in a memory of `SIZE` bytes from `BASE` on.
 pub(crate) fn read(alloc: Global, file: &[u8]) -> Result<Image, LoadFail> {
@@ -20,6 +19,18 @@ fn base_of(image: &Image) -> u64
     image.base()
 }
 
+/// Checks the first address of memory, its size, and where the program begins.
+pub(crate) fn lies_at(rt: &impl Abort, image: &Image, base: u64, size: u64, entry: u64) {
+    is_number(rt, base, image.base(), base);
+    is_number(rt, base, image.size(), size);
+    is_number(rt, base, image.entry(), entry);
+}
+
+/// Checks the word at an address.
+fn is_word(rt: &impl Abort, found: Option<u32>, wanted: Option<u32>) {
+    assert_eq!(rt; found, wanted);
+}
+
 /// Checks the words at these addresses, with and without a place to look at first.
 pub(crate) fn has_words(
     rt: &impl Abort,
@@ -29,8 +40,8 @@ pub(crate) fn has_words(
 ) -> usize {
     let mut near = near;
     for &(pc, word) in words {
-        assert_eq!(rt; image.word(pc), word, "at {pc:#x}");
-        assert_eq!(rt; image.word_near(&mut near, pc), word, "near {pc:#x}");
+        is_word(rt, image.word(pc), word);
+        is_word(rt, image.word_near(&mut near, pc), word);
     }
     near
 }
@@ -48,7 +59,7 @@ fn byte_of(image: &Image, addr: u64) -> Option<u8> {
 /// Checks the bytes at these addresses.
 pub(crate) fn has_bytes(rt: &impl Abort, image: &Image, bytes: &[(u64, u8)]) {
     for &(addr, byte) in bytes {
-        assert_eq!(rt; byte_of(image, addr), Some(byte), "at {addr:#x}");
+        assert_eq!(rt; byte_of(image, addr), Some(byte));
     }
 }
 
@@ -66,30 +77,34 @@ fn copy(image: &Image, addr: u64, out: &mut [u8]) -> bool {
 pub(crate) fn has_copied(rt: &impl Abort, image: &Image, addr: u64, bytes: [u8; 6]) {
     let mut copied = [0xff; 6];
     assert!(rt; copy(image, addr, &mut copied));
-    assert_eq!(rt; copied, bytes);
+    are_bytes(rt, &copied, &bytes);
 }
 
 /// A segment: its address, how many bytes the file has of it and how many it takes of memory, and
 /// whether it may be executed.
 pub(crate) type Shape = (u64, usize, u64, bool);
 
-/// The segments of an image.
-fn shapes(alloc: Global, image: &Image) -> Result<Vec<Shape>, NoMemory> {
-    let mut found = Vec::new(alloc);
-    for segment in image.segments() {
-        let length = segment.bytes.as_slice().len();
-        found.push((segment.vaddr, length, segment.memsz, segment.exec))?;
-    }
-    Ok(found)
+/// Checks a segment.
+fn is_segment(rt: &impl Abort, segment: &Segment, wanted: Shape) {
+    let (vaddr, length, memsz, exec) = wanted;
+    is_number(rt, vaddr, segment.vaddr, vaddr);
+    are_so_many(rt, segment.bytes.as_slice().len(), length);
+    is_number(rt, vaddr, segment.memsz, memsz);
+    assert!(rt; segment.exec == exec);
 }
 
 /// Checks the segments.
-pub(crate) fn has_segments(
-    rt: &(impl Abort + AllocGlobal),
-    image: &Image,
-    wanted: &[Shape],
-) -> Result<(), Fail> {
-    let found = shapes(rt.alloc(), image)?;
-    assert_eq!(rt; found.as_slice(), wanted);
-    Ok(())
+pub(crate) fn has_segments(rt: &impl Abort, image: &Image, wanted: &[Shape]) {
+    let segments = image.segments();
+    are_so_many(rt, segments.len(), wanted.len());
+    for (segment, shape) in segments.iter().zip(wanted) {
+        is_segment(rt, segment, *shape);
+    }
+}
+
+/// Checks that two images have the same bytes in each segment.
+pub(crate) fn have_same_bytes(rt: &impl Abort, one: &Image, other: &Image) {
+    for (left, right) in one.segments().iter().zip(other.segments()) {
+        are_bytes(rt, left.bytes.as_slice(), right.bytes.as_slice());
+    }
 }

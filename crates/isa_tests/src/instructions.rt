@@ -1,8 +1,10 @@
 //! Whole instructions and small programs, with numbers from the RISC-V Unprivileged ISA manual and
 //! its table of opcodes.
-ghost use Rattle.std.specs.Prelude.{IsSome};
+ghost use Rattle.std.specs.Prelude.{◌<◌, IsSome};
 
-use crate::executables::{BASE, SIZE, loaded};
+use crate::checks::is_number;
+use crate::executables::{BASE, SIZE, file_of};
+use crate::images::read;
 use elf_load::Image;
 use rv_core::{Ask, Core, DecodedProgram, Program, Why};
 use std::alloc::Global;
@@ -17,7 +19,8 @@ const ECALL: u32 = 0x73;
 
 /// The image of a program of these words.
 fn image(alloc: Global, words: &[u32]) -> Result<Image, Fail> {
-    loaded(alloc, words, BASE, SIZE)
+    let file = file_of(alloc, words)?;
+    Ok(read(alloc, &file)?)
 }
 
 /// The one core of a machine, before its first instruction.
@@ -30,9 +33,11 @@ fn next<P: Program>(core: &mut Core, program: &P) -> Ask {
     core.next(program)
 }
 
-/// The number in a register, 0 to 31.
-fn register(core: &Core, n: u8) -> Option<u64> {
-    if n < 32 { Some(core.reg(n)) } else { None }
+/// The number in a register.
+fn register(core: &Core, n: u8) -> u64
+    requires { n < 32 }
+{
+    core.reg(n)
 }
 
 /// Answers the access that the core waits for.
@@ -50,22 +55,19 @@ fn reply(rt: &impl Abort, core: &mut Core, number: u64) -> Option<u8> {
 
 /// Checks what a core asks for.
 fn is_ask(rt: &impl Abort, found: Ask, wanted: Ask) {
-    assert_eq!(rt; found, wanted);
+    assert!(rt; found == wanted);
 }
 
-/// Checks why a core halted.
-fn is_halted(rt: &impl Abort, core: &Core, why: Why) {
-    let found = match core.halted() {
-        Some(why) => Ask::Halted(why),
-        None => Ask::Local,
-    };
-    is_ask(rt, found, Ask::Halted(why));
+/// Checks that a core halted at the fetch from this address.
+fn is_halted_at(rt: &impl Abort, core: &Core, wanted: u64) {
+    assert!(rt; matches!(core.halted(), Some(Why::Fetch { addr }) if addr == wanted));
 }
 
 /// Checks the number in a register, and pc.
 fn is_at(rt: &impl Abort, core: &Core, n: u8, number: u64, pc: u64) {
-    assert_eq!(rt; register(core, n), Some(number), "x{n}");
-    assert_eq!(rt; core.pc(), pc);
+    assert!(rt; n < 32);
+    is_number(rt, u64::from(n), register(core, n), number);
+    is_number(rt, u64::from(n), core.pc(), pc);
 }
 
 /// What the first instruction that is not local asks for.
@@ -82,7 +84,7 @@ fn first_ask(core: &mut Core, image: &Image) -> Ask {
 /// Checks what a program of these words asks for first.
 fn asks(rt: &(impl Abort + AllocGlobal), words: &[u32], wanted: Ask) -> Result<(), Fail> {
     let image = image(rt.alloc(), words)?;
-    assert_eq!(rt; first_ask(&mut core(), &image), wanted, "{words:?}");
+    is_ask(rt, first_ask(&mut core(), &image), wanted);
     Ok(())
 }
 
@@ -378,19 +380,18 @@ static UPDATES: [Access; 2] = [
     ),
 ];
 
+static LETTERS: [u8; 3] = [b'h', b'e', b'y'];
+
+/// The letter of "hey" at a place, where it stands again and again.
+fn letter_of(place: u64) -> u8 {
+    LETTERS[(place % 3) as usize]
+}
+
 /// Checks the access of a byte for the console, and answers the letters of "hey" in turn.
 fn give_letter(rt: &impl Abort, core: &mut Core, request: Request, bytes: u64) {
     let addr = BASE.wrapping_add(bytes);
-    is_ask(
-        rt,
-        Ask::Access(request),
-        Ask::Access(Request::Load { addr, width: 1 }),
-    );
-    let letter = match bytes % 3 {
-        0 => b'h',
-        1 => b'e',
-        _ => b'y',
-    };
+    assert!(rt; request == Request::Load { addr, width: 1 });
+    let letter = letter_of(bytes);
     assert_eq!(rt; reply(rt, core, u64::from(letter)), Some(letter));
 }
 
@@ -414,7 +415,7 @@ fn write(rt: &impl Abort, alloc: Global, call: [u32; 4]) -> Result<(u64, u64), F
 #[test]
 fn a_write_call_gives_its_count_or_a_linux_error(rt: HostRuntime) -> Result<(), Fail> {
     for &(call, a0, bytes) in &CALLS {
-        assert_eq!(rt; write(&rt, rt.alloc(), call)?, (a0, bytes), "{call:?}");
+        assert_eq!(rt; write(&rt, rt.alloc(), call)?, (a0, bytes));
     }
     Ok(())
 }
@@ -461,7 +462,6 @@ static CALLS: [([u32; 4], u64, u64); 10] = [
 #[test]
 fn a_core_begins_with_its_number_the_number_of_cores_and_its_stack(rt: HostRuntime) {
     let core = Core::new(3, 4, 0x1_0078, 0x10_d000, BASE, SIZE);
-    assert_eq!(rt; core.pc(), 0x1_0078);
     assert!(rt; core.halted().is_none() && !core.in_progress());
     for n in 0..32 {
         let number = match n {
@@ -470,7 +470,7 @@ fn a_core_begins_with_its_number_the_number_of_cores_and_its_stack(rt: HostRunti
             11 => 4,
             _ => 0,
         };
-        assert_eq!(rt; register(&core, n), Some(number), "x{n}");
+        is_at(&rt, &core, n, number, 0x1_0078);
     }
 }
 
@@ -490,9 +490,8 @@ fn a_program_decoded_once_is_the_same_program(rt: HostRuntime) -> Result<(), Fai
     let (mut once, mut anew) = (core(), core());
     for _ in 0..12 {
         is_ask(&rt, next(&mut once, &program), next(&mut anew, &image));
-        assert_eq!(rt; once.pc(), anew.pc());
-        assert_eq!(rt; register(&once, 5), register(&anew, 5));
+        is_at(&rt, &once, 5, register(&anew, 5), anew.pc());
     }
-    is_halted(&rt, &once, Why::Fetch { addr: BASE + 24 });
+    is_halted_at(&rt, &once, BASE + 24);
     Ok(())
 }

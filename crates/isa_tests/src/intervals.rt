@@ -4,12 +4,13 @@ ghost use Rattle.std.specs.Prelude.{◌≡◌, ◌-◌, ◌<◌, ◌≤◌, leng
 ghost use Rattle.machine_desc.specs.Machine.{IsMachine};
 ghost use Rattle.flat_memory.specs.FlatMemory.{memory_after, memory_reply};
 
+use crate::checks::{are_bytes, are_so_many, is_number};
 use crate::executables::loaded;
 use bound_core::{BoundCore, Port, Turned};
 use elf_load::Image;
 use event_graph::Plain;
 use flat_memory::FlatMemory;
-use machine_desc::{Controllers, Domains, L1, L2, Machine, Memory, Places};
+use machine_desc::{Machine, MachineFail, PLAIN, read};
 use rv_core::{DecodedProgram, Program, Why};
 use std::alloc::Global;
 use std::process::Abort;
@@ -57,46 +58,11 @@ static CROSSING: [u32; 17] = [
     0x8877_6655,
 ];
 
-/// The machine of the built-in description.
-fn machine(alloc: Global) -> Result<Machine, NoMemory>
+/// The machine of a description.
+fn machine(alloc: Global, text: &[u8]) -> Result<Machine, MachineFail>
     ensures { IfOk result IsMachine }
 {
-    Ok(Machine {
-        version: 1,
-        cores: 1,
-        interval: 10_000,
-        intervals: 100_000,
-        memory: Memory {
-            base: 0x1_0000,
-            size: 0x10_0000,
-            stack: 4096,
-        },
-        l1: L1 {
-            sets: 2,
-            ways: 1,
-            latency: 1,
-        },
-        l2: L2 {
-            banks: 1,
-            sets: 4,
-            ways: 2,
-            latency: 10,
-            remote: 5,
-            fill: 2,
-            occupancy: 4,
-        },
-        controllers: Controllers {
-            count: 1,
-            read: 100,
-            write: 40,
-            occupancy: 20,
-        },
-        domains: Domains {
-            count: 2,
-            banks: Places::of(vec![in alloc; 0]?),
-            controllers: Places::of(vec![in alloc; 1]?),
-        },
-    })
+    read(alloc, text)
 }
 
 /// A port of one core over a flat memory. It keeps the entries that it answered.
@@ -148,42 +114,36 @@ struct Served {
 }
 
 impl Served {
-    /// Makes room for an interval of 1,000 cycles.
-    fn reserve(&mut self) -> Result<(), NoMemory>
+    /// Makes room for an interval of 1,000 cycles, where the clock is no later.
+    fn prepare(&mut self) -> Result<(), Fail>
+        ensures clock { OnOk result (self.new.core.timed.clock ≤ 1000) }
         ensures spare { OnOk result (1258 ≤ self.new.core.spare) }
         ensures room { OnOk result (1258 ≤ vec_capacity self.new.port.entries - vec_len self.new.port.entries) }
     {
+        if self.core.clock() > 1000 {
+            return Err("a later cycle".into());
+        }
         self.core.reserve(1000)?;
         self.port.entries.reserve(1258)?;
         Ok(())
     }
 
-    /// A turn of the core in an interval that ends then.
-    fn turn<P: Program>(&mut self, program: &P, times: &Plain, end: Cycle) -> Result<Turned, Fail>
+    /// A turn of the core in an interval that ends then, and whether it made an access.
+    fn turn<P: Program>(&mut self, program: &P, times: &Plain, end: Cycle) -> Result<bool, Fail>
         requires { end ≤ 1000 }
     {
-        self.reserve()?;
-        if self.core.clock() > 1000 {
-            return Err("a later cycle".into());
-        }
-        Ok(self.core.turn(program, times, end, &mut self.port))
+        self.prepare()?;
+        let turned = self.core.turn(program, times, end, &mut self.port);
+        Ok(matches!(turned, Turned::Took(_)))
     }
 
     /// Runs the core to the end of an interval.
     fn run_one<P: Program>(&mut self, program: &P, times: &Plain, end: Cycle) -> Result<(), Fail>
         requires { end ≤ 1000 }
     {
-        self.reserve()?;
-        if self.core.clock() > 1000 {
-            return Err("a later cycle".into());
-        }
+        self.prepare()?;
         self.core.run_one(program, times, end, &mut self.port);
         Ok(())
-    }
-
-    /// Checks the bytes that the core wrote.
-    fn has_written(&self, rt: &impl Abort, wanted: &[u8]) {
-        assert_eq!(rt; self.core.console(), wanted);
     }
 
     /// The number with which the program ended.
@@ -194,23 +154,33 @@ impl Served {
         }
     }
 
+    /// Checks the clock, and how many instructions were counted.
+    fn has_counted(&self, rt: &impl Abort, clock: Cycle, instructions: u64) {
+        is_number(rt, clock, self.core.clock(), clock);
+        is_number(rt, clock, self.core.instructions(), instructions);
+    }
+
+    /// Checks where each access of the port began, and what it was answered.
+    fn has_answered(&self, rt: &impl Abort, wanted: &[(Cycle, u64)]) {
+        are_so_many(rt, self.port.entries.len(), wanted.len());
+        for (entry, &(start, reply)) in self.port.entries.iter().zip(wanted) {
+            is_number(rt, start, entry.start, start);
+            is_number(rt, start, entry.reply, reply);
+        }
+    }
+
+    /// Checks the bytes that the core wrote, and the number with which the program ended.
+    fn has_ended(&self, rt: &impl Abort, console: &[u8], number: u64) {
+        are_bytes(rt, self.core.console(), console);
+        assert!(rt; self.exit() == Some(number));
+    }
+
     /// The core waits 10 cycles.
     fn delay(&mut self) -> Result<(), Fail> {
-        if self.core.clock() > 1000 {
-            return Err("a later cycle".into());
-        }
+        self.prepare()?;
         self.core.delay(10);
         Ok(())
     }
-}
-
-/// Where each access of the port began, and what it was answered.
-fn answers(alloc: Global, port: &FlatPort) -> Result<Vec<(u64, u64)>, NoMemory> {
-    let mut found = Vec::new(alloc);
-    for entry in &port.entries {
-        found.push((entry.start, entry.reply))?;
-    }
-    Ok(found)
 }
 
 /// Core 0 at its start.
@@ -231,50 +201,66 @@ fn fresh(alloc: Global, machine: &Machine, image: &Image) -> Result<Served, NoMe
 
 /// A program of these words, the times of the built-in machine, and its core at its start.
 fn started(alloc: Global, words: &[u32]) -> Result<(Image, Plain, Served), Fail> {
-    let machine = machine(alloc)?;
+    let machine = machine(alloc, PLAIN.as_bytes())?;
     let image = loaded(alloc, words, machine.memory.base, machine.memory.size)?;
     let served = fresh(alloc, &machine, &image)?;
     Ok((image, Plain::of(&machine), served))
 }
 
+/// The core after an interval of 1,000 cycles of a program of these words.
+fn ran(alloc: Global, words: &[u32]) -> Result<Served, Fail> {
+    let (image, times, mut served) = started(alloc, words)?;
+    served.run_one(&image, &times, 1000)?;
+    Ok(served)
+}
+
 #[test]
 fn a_write_call_writes_byte_by_byte(rt: HostRuntime) -> Result<(), Fail> {
-    let (image, times, mut served) = started(rt.alloc(), &WRITE)?;
-    served.run_one(&image, &times, 1000)?;
-    // Five instructions and the call come before the first byte.
-    let wanted = [(6, 0x68), (6 + MISS, 0x69), (6 + 2 * MISS, 0x0a)];
-    assert_eq!(rt;
-        answers(rt.alloc(), &served.port)?.as_slice(),
-        wanted.as_slice()
-    );
-    served.has_written(&rt, b"hi\n");
-    assert_eq!(rt; served.exit(), Some(0));
-    assert_eq!(rt; served.core.clock(), 6 + 3 * MISS + 3);
-    assert_eq!(rt; served.core.instructions(), 9);
+    let served = ran(rt.alloc(), &WRITE)?;
+    served.has_answered(&rt, &WRITTEN);
+    served.has_ended(&rt, b"hi\n", 0);
+    served.has_counted(&rt, 6 + 3 * MISS + 3, 9);
     Ok(())
+}
+
+/// Five instructions and the call come before the first byte.
+static WRITTEN: [(Cycle, u64); 3] = [(6, 0x68), (6 + MISS, 0x69), (6 + 2 * MISS, 0x0a)];
+
+/// Turns of the core with a program that loads across a line at cycle 2.
+fn cross(
+    rt: &impl Abort,
+    served: &mut Served,
+    program: &impl Program,
+    times: &Plain,
+) -> Result<(), Fail> {
+    // The interval ends where the load begins its first access.
+    let took = served.turn(program, times, 2)?;
+    assert!(rt; took);
+    is_number(rt, 2, served.core.clock(), 2 + MISS);
+    assert!(rt; served.core.core().in_progress());
+    served.run_one(program, times, 2)?;
+    is_number(rt, 2, served.core.clock(), 2 + 2 * MISS);
+    served.delay()?;
+    let took = served.turn(program, times, 500)?;
+    assert!(rt; !took);
+    Ok(())
+}
+
+/// The core after those turns, with a program that is decoded once.
+fn crossed(rt: &(impl Abort + AllocGlobal)) -> Result<Served, Fail> {
+    let (image, times, mut served) = started(rt.alloc(), &CROSSING)?;
+    let program = DecodedProgram::of(rt.alloc(), &image)?;
+    cross(rt, &mut served, &program, &times)?;
+    Ok(served)
 }
 
 #[test]
 fn a_load_that_crosses_a_line_goes_on_past_the_end(rt: HostRuntime) -> Result<(), Fail> {
-    let (image, times, mut served) = started(rt.alloc(), &CROSSING)?;
-    let program = DecodedProgram::of(rt.alloc(), &image)?;
-    // The interval ends where the load begins its first access.
-    let first = served.turn(&program, &times, 2)?;
-    assert!(rt; matches!(first, Turned::Took(_)));
-    assert_eq!(rt; served.core.clock(), 2 + MISS);
-    assert!(rt; served.core.core().in_progress());
-    served.run_one(&program, &times, 2)?;
-    assert_eq!(rt; served.core.clock(), 2 + 2 * MISS);
-    served.delay()?;
-    let last = served.turn(&program, &times, 500)?;
-    assert_eq!(rt; last, Turned::Ended);
-    let wanted = [(2, 0x4433_2211), (2 + MISS, 0x8877_6655)];
-    assert_eq!(rt;
-        answers(rt.alloc(), &served.port)?.as_slice(),
-        wanted.as_slice()
-    );
-    assert_eq!(rt; served.exit(), Some(0x8877_6655_4433_2211));
-    assert_eq!(rt; served.core.clock(), 2 + 2 * MISS + 10 + 3);
-    assert_eq!(rt; served.core.instructions(), 5);
+    let served = crossed(&rt)?;
+    served.has_answered(&rt, &LOADED);
+    served.has_ended(&rt, b"", 0x8877_6655_4433_2211);
+    served.has_counted(&rt, 2 + 2 * MISS + 10 + 3, 5);
     Ok(())
 }
+
+static LOADED: [(Cycle, u64); 2] = [(2, 0x4433_2211), (2 + MISS, 0x8877_6655)];

@@ -7,9 +7,9 @@ mod arithmetic;
 #[cfg(test)]
 mod changes;
 #[cfg(test)]
-mod decoding;
+mod checks;
 #[cfg(test)]
-mod encoding;
+mod decoding;
 #[cfg(test)]
 mod executables;
 #[cfg(test)]

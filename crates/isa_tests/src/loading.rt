@@ -2,9 +2,10 @@
 ghost use Rattle.std.specs.Prelude.{◌≡◌, [], ◌∷◌, true, IfOk};
 
 use crate::changes::{Change, P_MEMSZ, P_OFFSET, P_VADDR, changed, with_headers};
+use crate::checks::are_so_many;
 use crate::executables::{BASE, SIZE};
 use crate::files::{GREETING, LINKED_APART, LINKED_AS_ONE, SEVEN};
-use crate::images::{Shape, has_bytes, has_copied, has_segments, has_words, read};
+use crate::images::{Shape, has_bytes, has_copied, has_segments, has_words, lies_at, read};
 use elf_load::{Image, Segment};
 use std::alloc::{AllocError, Global};
 use std::test::Fail;
@@ -19,12 +20,17 @@ fn apart(alloc: Global) -> Result<Vec<[Change; 2]>, AllocError> {
     Ok(headers)
 }
 
+/// An executable of as many program headers as may be.
+fn most_headers(alloc: Global) -> Result<Vec<u8>, AllocError> {
+    let headers = apart(alloc)?;
+    with_headers(alloc, &headers)
+}
+
 #[test]
 fn as_many_program_headers_as_may_be_are_loaded(rt: HostRuntime) -> Result<(), Fail> {
-    let headers = apart(rt.alloc())?;
-    let file = with_headers(rt.alloc(), &headers)?;
+    let file = most_headers(rt.alloc())?;
     let image = read(rt.alloc(), &file)?;
-    assert_eq!(rt; image.segments().len(), 128);
+    are_so_many(&rt, image.segments().len(), 128);
     has_words(&rt, &image, 0, &[(0x107f8, Some(0x73)), (0x107fc, None)]);
     Ok(())
 }
@@ -33,51 +39,62 @@ fn as_many_program_headers_as_may_be_are_loaded(rt: HostRuntime) -> Result<(), F
 fn a_segment_may_fill_memory(rt: HostRuntime) -> Result<(), Fail> {
     let file = changed(rt.alloc(), &SEVEN, &[(P_MEMSZ, 8, SIZE)])?;
     let image = read(rt.alloc(), &file)?;
-    assert_eq!(rt;
-        (image.base(), image.size(), image.entry()),
-        (BASE, SIZE, 0x10000)
-    );
-    has_words(
-        &rt,
-        &image,
-        0,
-        &[
-            (0x10008, Some(0x73)),
-            (0x10_FFFC, Some(0)),
-            (0x10_FFFE, None),
-        ],
-    );
-    has_bytes(&rt, &image, &[(0x10_FFFF, 0)]);
+    lies_at(&rt, &image, BASE, SIZE, 0x10000);
+    has_words(&rt, &image, 0, &FULL_WORDS);
+    has_bytes(&rt, &image, &FULL_BYTES);
     Ok(())
 }
+
+static FULL_WORDS: [(u64, Option<u32>); 3] = [
+    (0x10008, Some(0x73)),
+    (0x10_FFFC, Some(0)),
+    (0x10_FFFE, None),
+];
+
+static FULL_BYTES: [(u64, u8); 1] = [(0x10_FFFF, 0)];
 
 #[test]
 fn headers_of_other_types_are_skipped(rt: HostRuntime) -> Result<(), Fail> {
     let image = read(rt.alloc(), &GREETING)?;
-    has_segments(&rt, &image, &[(0x10000, 39, 39, true)])?;
-    has_words(&rt, &image, 0, &[(0x10000, Some(0x597))]);
-    has_bytes(&rt, &image, &[(0x10024, b'h'), (0x10027, 0)]);
+    has_segments(&rt, &image, &GREETING_SEGMENTS);
+    has_words(&rt, &image, 0, &GREETING_WORDS);
+    has_bytes(&rt, &image, &GREETING_BYTES);
     has_copied(&rt, &image, 0x10023, [0, b'h', b'i', b'\n', 0, 0]);
     Ok(())
 }
+
+static GREETING_SEGMENTS: [Shape; 1] = [(0x10000, 39, 39, true)];
+
+static GREETING_WORDS: [(u64, Option<u32>); 1] = [(0x10000, Some(0x597))];
+
+static GREETING_BYTES: [(u64, u8); 2] = [(0x10024, b'h'), (0x10027, 0)];
 
 /// The addresses, lengths and words are those that readelf and objdump tell.
 #[test]
 fn a_linked_executable_begins_with_its_header(rt: HostRuntime) -> Result<(), Fail> {
     let image = read(rt.alloc(), &LINKED_AS_ONE)?;
-    assert_eq!(rt; image.entry(), 0x100fc);
-    has_segments(&rt, &image, &[(0x10000, 0x180, 0x180, true)])?;
-    let words = [(0x100fc, Some(0xff01_0113)), (0x100e8, Some(0x797))];
-    assert_eq!(rt; has_words(&rt, &image, 7, &words), 0);
-    has_bytes(&rt, &image, &[(0x10000, 0x7f), (0x10158, b'h')]);
+    lies_at(&rt, &image, BASE, SIZE, 0x100fc);
+    has_segments(&rt, &image, &AS_ONE_SEGMENTS);
+    let near = has_words(&rt, &image, 7, &AS_ONE_WORDS);
+    are_so_many(&rt, near, 0);
+    has_bytes(&rt, &image, &AS_ONE_BYTES);
     Ok(())
 }
+
+static AS_ONE_SEGMENTS: [Shape; 1] = [(0x10000, 0x180, 0x180, true)];
+
+static AS_ONE_WORDS: [(u64, Option<u32>); 2] = [
+    (0x100fc, Some(0xff01_0113)),
+    (0x100e8, Some(0x797)),
+];
+
+static AS_ONE_BYTES: [(u64, u8); 2] = [(0x10000, 0x7f), (0x10158, b'h')];
 
 #[test]
 fn a_linked_executable_has_gaps_between_segments(rt: HostRuntime) -> Result<(), Fail> {
     let image = read(rt.alloc(), &LINKED_APART)?;
-    assert_eq!(rt; image.entry(), 0x10014);
-    has_segments(&rt, &image, &APART_SEGMENTS)?;
+    lies_at(&rt, &image, BASE, SIZE, 0x10014);
+    has_segments(&rt, &image, &APART_SEGMENTS);
     has_words(&rt, &image, 1, &APART_WORDS);
     has_bytes(&rt, &image, &APART_BYTES);
     has_copied(&rt, &image, 0x11fff, [0, b'h', b'i', b'\n', 0, 0]);
@@ -121,14 +138,16 @@ fn alone(alloc: Global) -> Result<Vec<Segment>, NoMemory>
     Ok(segments)
 }
 
+/// An image of that segment, entered at its second word.
+fn made(alloc: Global) -> Result<Image, NoMemory> {
+    let segments = alone(alloc)?;
+    Ok(Image::make(BASE, SIZE, BASE + 4, segments))
+}
+
 #[test]
 fn an_image_of_segments(rt: HostRuntime) -> Result<(), Fail> {
-    let segments = alone(rt.alloc())?;
-    let image = Image::make(BASE, SIZE, BASE + 4, segments);
-    assert_eq!(rt;
-        (image.base(), image.size(), image.entry()),
-        (0x10000, 0x10_0000, 0x10004)
-    );
+    let image = made(rt.alloc())?;
+    lies_at(&rt, &image, 0x10000, 0x10_0000, 0x10004);
     has_words(&rt, &image, 0, &[(0x10004, Some(0)), (0x10008, None)]);
     Ok(())
 }

@@ -1,12 +1,17 @@
 //! Accesses of two cores on known numbers, in 4,096 bytes of memory from 0x10000 on.
-ghost use Rattle.std.specs.Prelude.{◌≡◌, ◌<◌, length};
+ghost use Rattle.std.specs.Prelude.{◌≡◌, ◌<◌, length, IsTrue};
 ghost use Rattle.zs_num.specs.Request.{IsServable};
 
+use crate::checks::is_number;
 use crate::executables::{BASE, loaded};
 use flat_memory::FlatMemory;
 use std::alloc::Global;
+use std::process::Abort;
 use std::test::Fail;
 use zs_num::{AmoOp, Request};
+
+/// How many bytes of memory there are.
+const BYTES: u64 = 4096;
 
 /// Memory of two cores.
 #[derive(Drop)]
@@ -17,14 +22,33 @@ struct Small {
     ghost cores: { length memory.reservations ≡ 2 },
 }
 
+/// Whether the small memory can be asked this.
+fn is_servable(request: &Request) -> bool
+    ensures { IsTrue result → IsServable 0x10000 4096 request.now }
+{
+    let (addr, width) = (request.addr(), u64::from(request.width()));
+    let is_there = addr >= BASE && addr - BASE + width <= BYTES;
+    let is_aligned = match *request {
+        Request::Load { .. } | Request::Store { .. } => true,
+        _ => (width == 4 || width == 8) && addr % width == 0,
+    };
+    is_there && is_aligned && width >= 1 && width <= 8 && addr % 64 + width <= 64
+}
+
 impl Small {
     /// Memory loaded with an executable of one instruction, which lies at the base.
     fn fresh(alloc: Global) -> Result<Self, Fail> {
         // ecall
-        let image = loaded(alloc, &[0x73], BASE, 4096)?;
+        let image = loaded(alloc, &[0x73], BASE, BYTES)?;
         Ok(Small {
             memory: FlatMemory::loaded(alloc, &image, 2)?,
         })
+    }
+
+    /// Checks the byte at an address.
+    fn has_byte(&self, rt: &impl Abort, addr: u64, byte: u8) {
+        assert!(rt; addr >= BASE && addr < BASE + BYTES);
+        is_number(rt, addr, u64::from(self.memory.byte(addr)), u64::from(byte));
     }
 
     /// Serves an access of a core, and answers its reply.
@@ -34,121 +58,151 @@ impl Small {
     {
         self.memory.serve(core, request)
     }
+
+    /// Checks the reply to an access of a core.
+    fn replies(&mut self, rt: &impl Abort, access: &Access) {
+        let &(core, request, reply) = access;
+        assert!(rt; core < 2);
+        assert!(rt; is_servable(&request));
+        is_number(rt, request.addr(), self.serve(core, request), reply);
+    }
 }
 
 #[test]
 fn memory_holds_the_executable(rt: HostRuntime) -> Result<(), Fail> {
-    let Small { memory } = Small::fresh(rt.alloc())?;
-    assert_eq!(rt; memory.byte(0x10000), 0x73);
-    assert_eq!(rt; memory.byte(0x10001), 0);
-    assert_eq!(rt; memory.byte(0x10fff), 0);
+    let small = Small::fresh(rt.alloc())?;
+    for (addr, byte) in [(0x10000, 0x73), (0x10001, 0), (0x10fff, 0)] {
+        small.has_byte(&rt, addr, byte);
+    }
+    Ok(())
+}
+
+/// A core, its access, and the reply.
+type Access = (u16, Request, u64);
+
+/// Checks accesses of cores to a fresh memory.
+fn answers(rt: &(impl Abort + AllocGlobal), accesses: &[Access]) -> Result<(), Fail> {
+    let mut memory = Small::fresh(rt.alloc())?;
+    for access in accesses {
+        memory.replies(rt, access);
+    }
     Ok(())
 }
 
 #[test]
-fn a_pair_stores_once(rt: HostRuntime) -> Result<(), Fail> {
-    let mut memory = Small::fresh(rt.alloc())?;
-    let reserve = Request::Lr {
-        addr: 0x10100,
-        width: 8,
-    };
-    let store = Request::Sc {
-        addr: 0x10100,
-        width: 8,
-        value: 9,
-        paired: true,
-    };
-    assert_eq!(rt; memory.serve(0, reserve), 0);
-    assert_eq!(rt; memory.serve(0, store), 0);
-    assert_eq!(rt; memory.serve(0, store), 1);
-    Ok(())
+fn a_pair_stores_unless_another_core_stored_to_its_line(rt: HostRuntime) -> Result<(), Fail> {
+    answers(&rt, &STORES_ONCE)?;
+    answers(&rt, &ENDED)?;
+    answers(&rt, &LEFT)
 }
 
-#[test]
-fn a_store_of_another_core_ends_a_pair(rt: HostRuntime) -> Result<(), Fail> {
-    let mut memory = Small::fresh(rt.alloc())?;
-    let reserve = Request::Lr {
-        addr: 0x10100,
-        width: 8,
-    };
-    let other = Request::Store {
-        addr: 0x10108,
-        width: 1,
-        value: 5,
-    };
-    let store = Request::Sc {
-        addr: 0x10100,
-        width: 8,
-        value: 9,
-        paired: true,
-    };
-    let load = Request::Load {
-        addr: 0x10100,
-        width: 8,
-    };
-    assert_eq!(rt; memory.serve(0, reserve), 0);
-    assert_eq!(rt; memory.serve(1, other), 0);
-    assert_eq!(rt; memory.serve(0, store), 1);
-    assert_eq!(rt; memory.serve(0, load), 0);
-    Ok(())
-}
+const RESERVE: Request = Request::Lr {
+    addr: 0x10100,
+    width: 8,
+};
 
-#[test]
-fn own_stores_and_other_lines_leave_a_pair(rt: HostRuntime) -> Result<(), Fail> {
-    let mut memory = Small::fresh(rt.alloc())?;
-    let reserve = Request::Lr {
-        addr: 0x10100,
-        width: 4,
-    };
-    let own = Request::Store {
-        addr: 0x10104,
-        width: 4,
-        value: 7,
-    };
-    let other = Request::Store {
-        addr: 0x10140,
-        width: 4,
-        value: 7,
-    };
-    let store = Request::Sc {
-        addr: 0x10100,
-        width: 4,
-        value: 9,
-        paired: true,
-    };
-    let load = Request::Load {
-        addr: 0x10100,
-        width: 8,
-    };
-    assert_eq!(rt; memory.serve(0, reserve), 0);
-    assert_eq!(rt; memory.serve(0, own), 0);
-    assert_eq!(rt; memory.serve(1, other), 0);
-    assert_eq!(rt; memory.serve(0, store), 0);
-    assert_eq!(rt; memory.serve(1, load), 0x7_0000_0009);
-    Ok(())
-}
+const STORE_PAIRED: Request = Request::Sc {
+    addr: 0x10100,
+    width: 8,
+    value: 9,
+    paired: true,
+};
+
+const LOAD: Request = Request::Load {
+    addr: 0x10100,
+    width: 8,
+};
+
+/// A pair stores once.
+static STORES_ONCE: [Access; 3] = [(0, RESERVE, 0), (0, STORE_PAIRED, 0), (0, STORE_PAIRED, 1)];
+
+/// A store of another core ends a pair.
+static ENDED: [Access; 4] = [
+    (0, RESERVE, 0),
+    (
+        1,
+        Request::Store {
+            addr: 0x10108,
+            width: 1,
+            value: 5,
+        },
+        0,
+    ),
+    (0, STORE_PAIRED, 1),
+    (0, LOAD, 0),
+];
+
+/// Own stores, and other lines, leave a pair.
+static LEFT: [Access; 5] = [
+    (
+        0,
+        Request::Lr {
+            addr: 0x10100,
+            width: 4,
+        },
+        0,
+    ),
+    (
+        0,
+        Request::Store {
+            addr: 0x10104,
+            width: 4,
+            value: 7,
+        },
+        0,
+    ),
+    (
+        1,
+        Request::Store {
+            addr: 0x10140,
+            width: 4,
+            value: 7,
+        },
+        0,
+    ),
+    (
+        0,
+        Request::Sc {
+            addr: 0x10100,
+            width: 4,
+            value: 9,
+            paired: true,
+        },
+        0,
+    ),
+    (1, LOAD, 0x7_0000_0009),
+];
 
 #[test]
 fn an_amo_answers_the_old_number_and_stores_the_new_one(rt: HostRuntime) -> Result<(), Fail> {
-    let mut memory = Small::fresh(rt.alloc())?;
-    let store = Request::Store {
-        addr: 0x10100,
-        width: 3,
-        value: 0xff_ffff,
-    };
-    let add = Request::Amo {
-        op: AmoOp::Add,
-        addr: 0x10100,
-        width: 4,
-        value: 0xffff_ffff,
-    };
-    let load = Request::Load {
-        addr: 0x10101,
-        width: 2,
-    };
-    assert_eq!(rt; memory.serve(0, store), 0);
-    assert_eq!(rt; memory.serve(1, add), 0xff_ffff);
-    assert_eq!(rt; memory.serve(1, add), 0xff_fffe);
-    assert_eq!(rt; memory.serve(0, load), 0xffff);
-    Ok(())
+    answers(&rt, &AMOS)
 }
+
+const ADD: Request = Request::Amo {
+    op: AmoOp::Add,
+    addr: 0x10100,
+    width: 4,
+    value: 0xffff_ffff,
+};
+
+static AMOS: [Access; 4] = [
+    (
+        0,
+        Request::Store {
+            addr: 0x10100,
+            width: 3,
+            value: 0xff_ffff,
+        },
+        0,
+    ),
+    (1, ADD, 0xff_ffff),
+    (1, ADD, 0xff_fffe),
+    (
+        0,
+        Request::Load {
+            addr: 0x10101,
+            width: 2,
+        },
+        0xffff,
+    ),
+];

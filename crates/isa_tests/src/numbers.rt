@@ -1,13 +1,20 @@
 //! What every layer speaks of: lists of bytes, keys of events, and requests.
+use crate::checks::are_bytes;
+use std::process::Abort;
 use std::test::Fail;
 use zs_num::{AmoOp, Bytes, Key, Request};
 
+/// Checks that a list of these bytes keeps them.
+fn keeps(rt: &(impl Abort + AllocGlobal), wanted: &[u8]) -> Result<(), Fail> {
+    let bytes = Bytes::from_slice(rt.alloc(), wanted)?;
+    are_bytes(rt, bytes.as_slice(), wanted);
+    are_bytes(rt, bytes.into_list().as_slice(), wanted);
+    Ok(())
+}
+
 #[test]
 fn bytes_keep_what_they_copy(rt: HostRuntime) -> Result<(), Fail> {
-    let bytes = Bytes::from_slice(rt.alloc(), b"zsim")?;
-    assert_eq!(rt; bytes.as_slice(), b"zsim".as_slice());
-    assert_eq!(rt; bytes.into_list().as_slice(), b"zsim".as_slice());
-    Ok(())
+    keeps(&rt, b"zsim")
 }
 
 #[test]

@@ -3,27 +3,37 @@ use crate::changes::{
     CLASS, Change, DATA, E_ENTRY, E_FLAGS, E_MACHINE, E_PHENTSIZE, E_PHNUM, E_PHOFF, E_TYPE,
     P_FILESZ, P_FLAGS, P_MEMSZ, P_OFFSET, P_TYPE, P_VADDR, changed, with_headers,
 };
-use crate::executables::{BASE, SIZE};
+use crate::executables::BASE;
 use crate::files::SEVEN;
-use elf_load::{BadElf, LoadFail, load};
-use std::alloc::Global;
+use crate::images::read;
+use elf_load::{BadElf, LoadFail};
 use std::process::Abort;
 use std::test::Fail;
 
-/// What is answered for a memory of `SIZE` bytes from `BASE` on: the refusal, or None for an image.
-fn refusal_of(alloc: Global, file: &[u8]) -> Option<LoadFail> {
-    load(alloc, file, BASE, SIZE).err()
+/// Checks that this check refuses a file.
+fn is_refused(rt: &(impl Abort + AllocGlobal), file: &[u8], refusal: BadElf) {
+    let answer = read(rt.alloc(), file);
+    assert!(rt; matches!(answer, Err(LoadFail::Bad(found)) if found == refusal));
+}
+
+/// Checks that SEVEN with these changes is refused so.
+fn is_refused_with(
+    rt: &(impl Abort + AllocGlobal),
+    changes: &[Change],
+    refusal: BadElf,
+) -> Result<(), Fail> {
+    let file = changed(rt.alloc(), &SEVEN, changes)?;
+    is_refused(rt, &file, refusal);
+    Ok(())
 }
 
 #[test]
 fn each_field_out_of_order_is_refused_by_its_check(rt: HostRuntime) -> Result<(), Fail> {
     for &(at, width, value, refusal) in &FIELDS {
-        let file = changed(rt.alloc(), &SEVEN, &[(at, width, value)])?;
-        assert_eq!(rt;
-            refusal_of(rt.alloc(), &file),
-            Some(LoadFail::Bad(refusal)),
-            "at {at}"
-        );
+        is_refused_with(&rt, &[(at, width, value)], refusal)?;
+    }
+    for &(size, refusal) in &SIZES {
+        is_refused_with(&rt, &[(P_FILESZ, 8, size), (P_MEMSZ, 8, size)], refusal)?;
     }
     Ok(())
 }
@@ -59,21 +69,8 @@ static FIELDS: [(usize, usize, u64, BadElf); 22] = [
     (P_TYPE, 4, 4, BadElf::Entry),
 ];
 
-#[test]
-fn a_segment_of_more_bytes_than_the_file_and_an_empty_one(rt: HostRuntime) -> Result<(), Fail> {
-    for &(size, refusal) in &SIZES {
-        let sizes = [(P_FILESZ, 8, size), (P_MEMSZ, 8, size)];
-        let file = changed(rt.alloc(), &SEVEN, &sizes)?;
-        assert_eq!(rt;
-            refusal_of(rt.alloc(), &file),
-            Some(LoadFail::Bad(refusal)),
-            "{size}"
-        );
-    }
-    Ok(())
-}
-
-/// How many bytes SEVEN's segment has, of the file and in memory, and the refusal.
+/// How many bytes SEVEN's segment has, of the file and in memory, and the refusal: more than the
+/// file, and none.
 static SIZES: [(u64, BadElf); 2] = [
     (13, BadElf::SegmentPastFile { index: 0 }),
     (0, BadElf::Entry),
@@ -82,17 +79,9 @@ static SIZES: [(u64, BadElf); 2] = [
 #[test]
 fn short_and_empty_files_are_refused(rt: HostRuntime) {
     for &(len, refusal) in &LENGTHS {
-        let file = SEVEN.get(..len).unwrap_or(&[]);
-        assert_eq!(rt;
-            refusal_of(rt.alloc(), file),
-            Some(LoadFail::Bad(refusal)),
-            "{len}"
-        );
+        is_refused(&rt, SEVEN.get(..len).unwrap_or(&[]), refusal);
     }
-    assert_eq!(rt;
-        refusal_of(rt.alloc(), &[0; 64]),
-        Some(LoadFail::Bad(BadElf::Magic))
-    );
+    is_refused(&rt, &[0; 64], BadElf::Magic);
 }
 
 /// How many bytes of SEVEN a file has, and the refusal.
@@ -110,7 +99,7 @@ fn are_refused(
     refusal: BadElf,
 ) -> Result<(), Fail> {
     let file = with_headers(rt.alloc(), &[first, second])?;
-    assert_eq!(rt; refusal_of(rt.alloc(), &file), Some(LoadFail::Bad(refusal)));
+    is_refused(rt, &file, refusal);
     Ok(())
 }
 

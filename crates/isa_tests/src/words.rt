@@ -1,9 +1,11 @@
 //! Words that the assembler of GNU binutils 2.40 made, with what was written.
 use rv_decode::Name;
 
-/// A word, and the name, rd, rs1, rs2 and immediate of the instruction that it was made from. Each
-/// name is there, and each edge of each immediate.
-pub(crate) static WORDS: [(u32, Name, u8, u8, u8, i64); 179] = [
+/// A word, and the name, rd, rs1, rs2 and immediate of the instruction that it was made from.
+pub(crate) type Row = (u32, Name, u8, u8, u8, i64);
+
+/// Each name is there, and each edge of each immediate.
+pub(crate) static WORDS: [Row; 179] = [
     (0x123450b7, Name::Lui, 1, 0, 0, 305418240),
     (0x12345097, Name::Auipc, 1, 0, 0, 305418240),
     (0x00000fb7, Name::Lui, 31, 0, 0, 0),

@@ -1,9 +1,11 @@
 //! Written files against files made by hand, and read again.
+use crate::checks::are_bytes;
+use crate::executables::{BASE, SIZE};
 use crate::files::SEVEN;
-use crate::images::{Shape, has_segments, read};
+use crate::images::{Shape, has_segments, have_same_bytes, lies_at, read};
 use elf_load::Image;
 use elf_write::write;
-use std::alloc::{AllocError, Global};
+use std::alloc::Global;
 use std::process::Abort;
 use std::test::Fail;
 use zs_num::{Bytes, NoMemory};
@@ -53,7 +55,8 @@ fn written(alloc: Global, image: &Image) -> Result<Bytes, NoMemory> {
 /// Checks that the image of a file is written as this file.
 fn is_written_again(rt: &(impl Abort + AllocGlobal), file: &[u8]) -> Result<(), Fail> {
     let image = read(rt.alloc(), file)?;
-    assert_eq!(rt; written(rt.alloc(), &image)?.as_slice(), file);
+    let again = written(rt.alloc(), &image)?;
+    are_bytes(rt, again.as_slice(), file);
     Ok(())
 }
 
@@ -64,25 +67,20 @@ fn a_written_image_is_the_file_that_it_was_read_from(rt: HostRuntime) -> Result<
     is_written_again(&rt, &THREE_SEGMENTS)
 }
 
-/// The bytes that the file has of all segments.
-fn contents(alloc: Global, image: &Image) -> Result<Vec<u8>, AllocError> {
-    let mut bytes = Vec::new(alloc);
-    for segment in image.segments() {
-        bytes.extend_from_slice(segment.bytes.as_slice())?;
-    }
-    Ok(bytes)
+/// The image of what is written of an image.
+fn read_again(alloc: Global, image: &Image) -> Result<Image, Fail> {
+    let file = written(alloc, image)?;
+    Ok(read(alloc, file.as_slice())?)
 }
 
 #[test]
 fn three_written_segments_are_read_again(rt: HostRuntime) -> Result<(), Fail> {
     let image = read(rt.alloc(), &THREE_SEGMENTS)?;
-    let file = written(rt.alloc(), &image)?;
-    let again = read(rt.alloc(), file.as_slice())?;
-    assert_eq!(rt; again.entry(), 0x10004);
-    has_segments(&rt, &image, &SEGMENTS)?;
-    has_segments(&rt, &again, &SEGMENTS)?;
-    let bytes = contents(rt.alloc(), &image)?;
-    assert_eq!(rt; contents(rt.alloc(), &again)?.as_slice(), bytes.as_slice());
+    let again = read_again(rt.alloc(), &image)?;
+    lies_at(&rt, &again, BASE, SIZE, 0x10004);
+    has_segments(&rt, &image, &SEGMENTS);
+    has_segments(&rt, &again, &SEGMENTS);
+    have_same_bytes(&rt, &image, &again);
     Ok(())
 }
 

@@ -269,28 +269,33 @@ fn counted_on_two_cores(alloc: Global) -> Result<SizedCounters, NoMemory> {
 }
 
 /// Checks what was counted of a core.
-fn has_core(rt: &impl Abort, found: &SizedCounters, n: u16, wanted: CoreCount) {
-    assert_eq!(rt; found.core(n), Some(wanted), "core {n}");
+fn has_core(rt: &impl Abort, found: &SizedCounters, n: u16, wanted: &CoreCount) {
+    assert!(rt; found.core(n) == Some(*wanted));
 }
 
 /// Checks what was counted of a component.
-fn has_comp(rt: &impl Abort, found: &SizedCounters, n: u16, wanted: CompCount) {
-    assert_eq!(rt; found.comp(n), Some(wanted), "component {n}");
+fn has_comp(rt: &impl Abort, found: &SizedCounters, n: u16, wanted: &CompCount) {
+    assert!(rt; found.comp(n) == Some(*wanted));
+}
+
+/// Checks how many accesses and events there were in all.
+fn has_totals(rt: &impl Abort, found: &SizedCounters, accesses: u64, events: u64) {
+    assert_eq!(rt; found.counters.accesses(), accesses);
+    assert_eq!(rt; found.counters.events(), events);
 }
 
 #[test]
 fn two_intervals_are_counted(rt: HostRuntime) -> Result<(), Fail> {
     let counted = counted_on_two_cores(rt.alloc())?;
-    has_core(&rt, &counted, 0, CORE_0);
-    has_core(&rt, &counted, 1, CORE_1);
-    has_comp(&rt, &counted, 0, BANK);
-    has_comp(&rt, &counted, 1, CONTROLLER);
-    assert_eq!(rt; counted.counters.accesses(), 5);
-    assert_eq!(rt; counted.counters.events(), 7);
+    has_core(&rt, &counted, 0, &CORE_0);
+    has_core(&rt, &counted, 1, &CORE_1);
+    has_comp(&rt, &counted, 0, &BANK);
+    has_comp(&rt, &counted, 1, &CONTROLLER);
+    has_totals(&rt, &counted, 5, 7);
     Ok(())
 }
 
-const CORE_0: CoreCount = CoreCount {
+static CORE_0: CoreCount = CoreCount {
     delay: 24,
     loads: 1,
     stores: 0,
@@ -301,7 +306,7 @@ const CORE_0: CoreCount = CoreCount {
     misses: 1,
 };
 
-const CORE_1: CoreCount = CoreCount {
+static CORE_1: CoreCount = CoreCount {
     delay: 2,
     loads: 1,
     stores: 1,
@@ -312,42 +317,53 @@ const CORE_1: CoreCount = CoreCount {
     misses: 0,
 };
 
-const BANK: CompCount = CompCount {
+static BANK: CompCount = CompCount {
     events: 5,
     waited: 6,
     free: 10_009,
 };
 
-const CONTROLLER: CompCount = CompCount {
+static CONTROLLER: CompCount = CompCount {
     events: 2,
     waited: 20,
     free: 52,
 };
 
+/// The counters of a machine before the first interval.
+fn uncounted(alloc: Global, machine: &Machine) -> Result<SizedCounters, NoMemory>
+    requires { IsMachine machine.now }
+{
+    Ok(SizedCounters {
+        counters: Counters::new(alloc, machine)?,
+        cores: machine.cores,
+        comps: component_count(machine),
+    })
+}
+
 /// The counters of the largest machine before the first interval: of 64 cores, 64 banks and 16
 /// controllers.
 fn largest(alloc: Global) -> Result<SizedCounters, NoMemory> {
     let machine = machine(alloc, 64, 64, 16)?;
-    Ok(SizedCounters {
-        counters: Counters::new(alloc, &machine)?,
-        cores: machine.cores,
-        comps: component_count(&machine),
-    })
+    uncounted(alloc, &machine)
+}
+
+/// Checks of how many cores and components there are counts.
+fn has_counts(rt: &impl Abort, found: &SizedCounters, cores: u16, comps: u16) {
+    assert_eq!(rt; (found.cores, found.comps), (cores, comps));
+    assert_eq!(rt; found.counters.comp_counts().len(), usize::from(comps));
 }
 
 #[test]
 fn the_largest_machine_has_counters(rt: HostRuntime) -> Result<(), Fail> {
     let largest = largest(rt.alloc())?;
-    assert_eq!(rt; (largest.cores, largest.comps), (64, 80));
-    assert_eq!(rt; largest.counters.comp_counts().len(), 80);
-    has_core(&rt, &largest, 63, NO_CORE_COUNT);
-    has_comp(&rt, &largest, 79, NO_COMP_COUNT);
-    assert_eq!(rt; largest.counters.accesses(), 0);
-    assert_eq!(rt; largest.counters.events(), 0);
+    has_counts(&rt, &largest, 64, 80);
+    has_core(&rt, &largest, 63, &NO_CORE_COUNT);
+    has_comp(&rt, &largest, 79, &NO_COMP_COUNT);
+    has_totals(&rt, &largest, 0, 0);
     Ok(())
 }
 
-const NO_CORE_COUNT: CoreCount = CoreCount {
+static NO_CORE_COUNT: CoreCount = CoreCount {
     delay: 0,
     loads: 0,
     stores: 0,
@@ -358,7 +374,7 @@ const NO_CORE_COUNT: CoreCount = CoreCount {
     misses: 0,
 };
 
-const NO_COMP_COUNT: CompCount = CompCount {
+static NO_COMP_COUNT: CompCount = CompCount {
     events: 0,
     waited: 0,
     free: 0,

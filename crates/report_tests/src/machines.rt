@@ -1,10 +1,18 @@
 //! The machines of the tests.
-ghost use Rattle.std.specs.Prelude.{◌≡◌, ◌≤◌, IfOk};
+ghost use Rattle.std.specs.Prelude.{◌≡◌, ◌<◌, ◌≤◌, All, IfOk, length};
 ghost use Rattle.machine_desc.specs.Machine.{IsMachine};
 
 use machine_desc::{Controllers, Domains, L1, L2, Machine, Memory, Places};
 use std::alloc::Global;
 use zs_num::NoMemory;
+
+/// So many places in domain 0.
+fn places(alloc: Global, count: u16) -> Result<Places, NoMemory>
+    ensures count { IfOk result (λ places. length places ≡ count) }
+    ensures first { IfOk result (All (λ domain. domain < 1)) }
+{
+    Ok(Places::of(vec![in alloc; 0; usize::from(count)]?))
+}
 
 /// A machine of so many cores, banks and controllers, with one set of each L1 and of the L2 to a
 /// bank, and as many intervals as there can be.
@@ -57,8 +65,8 @@ pub(crate) fn machine(
         },
         domains: Domains {
             count: 1,
-            banks: Places::of(vec![in alloc; 0; usize::from(banks)]?),
-            controllers: Places::of(vec![in alloc; 0; usize::from(controllers)]?),
+            banks: places(alloc, banks)?,
+            controllers: places(alloc, controllers)?,
         },
     })
 }

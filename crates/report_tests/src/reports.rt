@@ -1,6 +1,6 @@
 //! Reports of small programs on one core, with texts made by hand. The words are from the tables of
 //! the RISC-V Unprivileged ISA manual.
-ghost use Rattle.std.specs.Prelude.{◌≡◌, ◌+◌, ◌≤◌, ◌^◌, IfOk, ⊤, None};
+ghost use Rattle.std.specs.Prelude.{◌≡◌, ◌+◌, ◌≤◌, ◌^◌, IfOk, ⊤, None, length};
 ghost use Rattle.machine_desc.specs.Machine.{IsMachine};
 
 use crate::machines::machine;
@@ -10,11 +10,11 @@ use event_graph::Plain;
 use machine_desc::Machine;
 use report::{text, write_printed};
 use stats::Counters;
-use std::alloc::Global;
+use std::alloc::{AllocError, Global};
 use std::array;
 use std::process::Abort;
 use std::test::Fail;
-use zs_num::{Bytes, Cycle, Entry, Outcome, Request};
+use zs_num::{Bytes, Cycle, Entry, NoMemory, Outcome, Request};
 
 /// The ELF header, and the header of one segment that may be executed: the 28 bytes of the file
 /// from 120 on are at 0x10000.
@@ -86,16 +86,27 @@ impl Port for WrittenBytes {
     }
 }
 
+/// Puts a word at the end of a file.
+fn push_word(file: &mut Vec<u8>, word: u32) -> Result<(), AllocError> {
+    file.extend_from_slice(&word.to_le_bytes())
+}
+
+/// A file of these headers and words.
+fn file_of(alloc: Global, headers: &[u8], words: &[u32]) -> Result<Vec<u8>, AllocError> {
+    let mut file = Vec::from_slice(alloc, headers)?;
+    for word in words {
+        push_word(&mut file, *word)?;
+    }
+    Ok(file)
+}
+
 /// The image of a program of these words in a memory of `size` bytes from `base` on.
 fn loaded(alloc: Global, words: &[u32; 7], base: u64, size: u64) -> Result<Image, Fail>
     requires { base + size ≤ 2 ^ 48 }
     ensures base { IfOk result (λ image. image.base ≡ base) }
     ensures size { IfOk result (λ image. image.size ≡ size) }
 {
-    let mut file = Vec::from_slice(alloc, &HEADERS)?;
-    for word in words {
-        file.extend_from_slice(&word.to_le_bytes())?;
-    }
+    let file = file_of(alloc, &HEADERS, words)?;
     Ok(load(alloc, &file, base, size)?)
 }
 
@@ -184,10 +195,8 @@ const RUNNING: &str =
 /// Checks that a part of the report of a program is as wanted.
 fn has_part(rt: &(impl Abort + AllocGlobal), words: &[u32; 7], wanted: &str) -> Result<(), Fail> {
     let found = report(rt.alloc(), words, 1000, false)?;
-    assert!(rt;
-        str::from_utf8(found.as_slice())?.contains(wanted),
-        "{wanted}"
-    );
+    let found = str::from_utf8(found.as_slice())?;
+    assert!(rt; found.contains(wanted));
     Ok(())
 }
 
@@ -262,29 +271,32 @@ fn cores_of(alloc: Global, machine: &Machine, image: &Image) -> Result<Vec<Bound
 
 /// The report of a machine of which these are the cores, after as many intervals as there can be.
 /// Nothing is counted.
-fn report_of(alloc: Global, machine: &Machine, cores: &[BoundCore]) -> Result<Bytes, Fail>
-    requires { IsMachine machine.now }
+fn report_of(alloc: Global, machine: &Machine, cores: &[BoundCore]) -> Result<Bytes, NoMemory>
+    requires machine { IsMachine machine.now }
+    requires cores { length cores.now ≡ machine.now.cores }
 {
     let counters = Counters::new(alloc, machine)?;
-    if cores.len() == usize::from(machine.cores) {
-        Ok(text(alloc, machine, &counters, cores, machine.intervals, false)?)
-    } else {
-        Err("other cores".into())
-    }
+    text(alloc, machine, &counters, cores, machine.intervals, false)
 }
 
 /// The report of the greatest machine before its cores' first instruction.
-fn greatest_report(alloc: Global) -> Result<Bytes, Fail> {
-    let machine = machine(alloc, 64, 64, 16)?;
-    let image = image(alloc, &machine, &SEVEN)?;
-    let cores = cores_of(alloc, &machine, &image)?;
-    report_of(alloc, &machine, &cores)
+fn greatest_report(rt: &(impl Abort + AllocGlobal)) -> Result<Bytes, Fail> {
+    let machine = machine(rt.alloc(), 64, 64, 16)?;
+    let image = image(rt.alloc(), &machine, &SEVEN)?;
+    let cores = cores_of(rt.alloc(), &machine, &image)?;
+    assert!(rt; cores.len() == usize::from(machine.cores));
+    Ok(report_of(rt.alloc(), &machine, &cores)?)
+}
+
+/// How many lines a text has.
+fn line_count(text: &str) -> usize {
+    text.lines().count()
 }
 
 /// Checks the lines of a report: how many they are, how they begin and end, and a part of them.
-fn has_lines(rt: &impl Abort, report: &str, count: usize, parts: [&str; 3]) {
-    let [start, part, end] = parts;
-    assert_eq!(rt; report.lines().count(), count);
+fn has_lines(rt: &impl Abort, report: &str, count: usize, parts: &[&str; 3]) {
+    let &[start, part, end] = parts;
+    assert_eq!(rt; line_count(report), count);
     assert!(rt; report.starts_with(start));
     assert!(rt; report.contains(part));
     assert!(rt; report.ends_with(end));
@@ -293,13 +305,13 @@ fn has_lines(rt: &impl Abort, report: &str, count: usize, parts: [&str; 3]) {
 /// Seven lines, two of each core, and one of each component.
 #[test]
 fn the_report_of_the_greatest_machine_is_whole(rt: HostRuntime) -> Result<(), Fail> {
-    let whole = greatest_report(rt.alloc())?;
+    let whole = greatest_report(&rt)?;
     let report = str::from_utf8(whole.as_slice())?;
-    has_lines(&rt, report, 7 + 2 * 64 + 64 + 16, GREATEST_PARTS);
+    has_lines(&rt, report, 7 + 2 * 64 + 64 + 16, &GREATEST_PARTS);
     Ok(())
 }
 
-const GREATEST_PARTS: [&str; 3] = [
+static GREATEST_PARTS: [&str; 3] = [
     "zsim report 1\ncores 64\nintervals 1048576\ninstructions 0\ncycles 0\naccesses 0\nevents 0\ncore 0 instructions 0 cycles 0 delay 0 loads 0 stores 0 atomics 0 hits 0 upgrades 0 l2hits 0 misses 0 halt running\ncore 0 console 0 \"\"\ncore 1 instructions 0 ",
     "\ncore 63 console 0 \"\"\nbank 0 events 0 waited 0 free 0\nbank 1 events ",
     "\ncontroller 15 events 0 waited 0 free 0\n",

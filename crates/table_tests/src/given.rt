@@ -1,4 +1,4 @@
-//! What the tests run: the built-in machine with some words of its text changed, and executables of
+//! What the tests run: the built-in machine with some lines of its text changed, and executables of
 //! eight words.
 ghost use Rattle.std.specs.Prelude.{◌≡◌, IfOk};
 ghost use Rattle.machine_desc.specs.Machine.{IsMachine};
@@ -39,7 +39,7 @@ static FRONT: [u8; 120] = [
     0x01, 0x00, 0x00, 0x00, 0x00, 0x00, 0x00, 0x00,
 ];
 
-/// The machine of the built-in text with each first word of a pair replaced by the second.
+/// The machine of the built-in text with each first line of a pair replaced by the second.
 pub(crate) fn machine_of(alloc: Global, edits: &[(&str, &str)]) -> Result<Machine, Fail>
     ensures { IfOk result IsMachine }
 {
@@ -47,13 +47,25 @@ pub(crate) fn machine_of(alloc: Global, edits: &[(&str, &str)]) -> Result<Machin
     Ok(read(alloc, text.as_bytes())?)
 }
 
-/// The built-in text with each first word of a pair replaced by the second.
+/// The built-in text with each first line of a pair replaced by the second.
 fn edited(alloc: Global, edits: &[(&str, &str)]) -> Result<String, AllocError> {
-    let mut text = String::from_str(alloc, PLAIN)?;
-    for (old, new) in edits {
-        text = text.replacen(alloc, *old, *new, 1)?;
+    let mut text = String::new(alloc);
+    for line in PLAIN.lines() {
+        push_edited(&mut text, line, edits)?;
     }
     Ok(text)
+}
+
+/// Appends a line, or the one that stands in its place.
+fn push_edited(text: &mut String, line: &str, edits: &[(&str, &str)]) -> Result<(), AllocError> {
+    for (old, new) in edits {
+        if *old == line {
+            text.push_str(new)?;
+            return text.push_str("\n");
+        }
+    }
+    text.push_str(line)?;
+    text.push_str("\n")
 }
 
 /// The image of eight words in the machine's memory.

@@ -1,5 +1,6 @@
 //! Worked accesses: stamps, replies and logs, and two threads that add to one doubleword.
 ghost use Rattle.std.specs.Prelude.{◌≡◌, ◌<◌, []};
+ghost use Rattle.zs_num.specs.Request.{IsServable};
 ghost use Rattle.shard.specs.Served.{CanServe};
 ghost use Rattle.shard_table.specs.Access.{IsSameSeat, IsSeatOf};
 ghost use Rattle.table_tests.specs.Tested.{IsTested};
@@ -9,6 +10,7 @@ use crate::tested::{ONE_BANK, TWO_BANKS, Tested};
 use shard::Shard;
 use shard_table::{CoreSeat, ShardTable};
 use std::alloc::Global;
+use std::process::Abort;
 use std::sync::Wait;
 use std::test::Fail;
 use std::thread;
@@ -32,16 +34,61 @@ fn a_core_loads_what_it_stored(rt: HostRuntime) -> Result<(), Fail> {
     Ok(())
 }
 
+/// Whether core 0 makes an access and not core 1, whether it stores, and whether to the even line;
+/// and the stamp that it gets.
+static FIRST_STEPS: [(bool, bool, bool, Stamp); 3] = [
+    (true, true, true, 1),
+    (true, false, true, 2),
+    (false, true, false, 1),
+];
+
+static LATER_STEPS: [(bool, bool, bool, Stamp); 2] = [
+    (false, false, true, 3),
+    (false, false, false, 4),
+];
+
 #[test]
 fn stamps_pass_those_of_the_shard_and_of_the_core(rt: HostRuntime) -> Result<(), Fail> {
     let mut t = Tested::fresh(&rt, rt.alloc(), &TWO_BANKS, 2)?;
-    assert_eq!(rt; t.first_asks(&rt, store_of(EVEN, 5))?.stamp, 1);
-    assert_eq!(rt; t.first_asks(&rt, load_of(EVEN))?.stamp, 2);
-    assert_eq!(rt; t.second_asks(&rt, store_of(ODD, 6))?.stamp, 1);
+    for &(is_first, stores, is_even, stamp) in &FIRST_STEPS {
+        let found = stamp_of(&rt, &mut t, is_first, request_of(stores, is_even))?;
+        assert_eq!(rt; found, stamp);
+    }
     assert_eq!(rt; schedule(rt.alloc(), &t)?.as_slice(), [0, 1, 0].as_slice());
-    assert_eq!(rt; t.second_asks(&rt, load_of(EVEN))?.stamp, 3);
-    assert_eq!(rt; t.second_asks(&rt, load_of(ODD))?.stamp, 4);
+    for &(is_first, stores, is_even, stamp) in &LATER_STEPS {
+        let found = stamp_of(&rt, &mut t, is_first, request_of(stores, is_even))?;
+        assert_eq!(rt; found, stamp);
+    }
     Ok(())
+}
+
+/// A store or a load of the even or the odd line.
+fn request_of(stores: bool, is_even: bool) -> Request
+    ensures { IsServable 65536 1048576 result }
+{
+    let addr = if is_even { EVEN } else { ODD };
+    if stores {
+        store_of(addr, 5)
+    } else {
+        load_of(addr)
+    }
+}
+
+/// The stamp of an access of core 0 or core 1.
+fn stamp_of<R: Abort>(
+    rt: &R,
+    t: &mut Tested,
+    is_first: bool,
+    request: Request,
+) -> Result<Stamp, Fail>
+    requires { IsServable 65536 1048576 request }
+{
+    let entry = if is_first {
+        t.first_asks(rt, request)?
+    } else {
+        t.second_asks(rt, request)?
+    };
+    Ok(entry.stamp)
 }
 
 /// The cores of the accesses in recorded order: by stamps, and at a tie by cores.

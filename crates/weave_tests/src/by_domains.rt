@@ -69,8 +69,9 @@ impl<'a> ReadyDomains<'a> {
 
     /// Takes in a domain.
     fn add(&mut self, domain: Driven<'a>) -> Result<(), NoMemory> {
-        self.first.push(domain.earliest().unwrap_or(NONE_READY))?;
+        let first = domain.earliest().unwrap_or(NONE_READY);
         self.domains.push(domain)?;
+        self.first.push(first)?;
         Ok(())
     }
 
@@ -156,6 +157,59 @@ impl<'a> ReadyDomains<'a> {
         self.refresh(number);
         true
     }
+
+    /// Goes to domains until none has a ready event, and answers how often it went.
+    fn weave(&mut self, crossings: &[Crossing], outgoing: &Outgoing, times: &mut [Fired]) -> u32 {
+        let mut visits = 0u32;
+        for _ in 0..times.len() {
+            if !self.go(crossings, outgoing, times) {
+                break;
+            }
+            visits = visits.wrapping_add(1);
+        }
+        visits
+    }
+
+    /// For each server of a domain, one domain after the other, the cycle from which on it is free.
+    fn finish(self, alloc: Global) -> Result<Vec<Cycle>, NoMemory> {
+        let mut frees = Vec::new(alloc);
+        for domain in self.domains {
+            for server in domain.finish().as_slice() {
+                frees.push(server.free)?;
+            }
+        }
+        Ok(frees)
+    }
+}
+
+/// The domains of a graph, before their first events fire, or `None` where their conditions are not
+/// seen to hold.
+fn prepared<'a>(
+    alloc: Global,
+    graph: &'a Graph,
+    parts: &'a Parts,
+    servers: &[Server],
+) -> Result<Option<ReadyDomains<'a>>, NoMemory>
+    requires { IsPartition graph.now parts.now }
+{
+    let mut all = ReadyDomains::new(alloc);
+    for number in 0..parts.domains() {
+        let Some(domain) = Driven::prepare(alloc, graph, parts, number, servers)? else {
+            return Ok(None);
+        };
+        all.add(domain)?;
+    }
+    Ok(Some(all))
+}
+
+/// So many events, of which none has fired.
+fn unfired(alloc: Global, count: usize) -> Result<Vec<Fired>, NoMemory> {
+    let unfired = Fired {
+        number: 0,
+        start: 0,
+        finish: 0,
+    };
+    Ok(vec![in alloc; unfired; count]?)
 }
 
 /// The weave of a graph that was partitioned, or `None` where its conditions are not seen to hold.
@@ -167,35 +221,14 @@ pub(crate) fn woven_by_domains(
 ) -> Result<Option<LeftByDomains>, NoMemory>
     requires { IsPartition graph.now parts.now }
 {
-    let mut all = ReadyDomains::new(alloc);
-    for number in 0..parts.domains() {
-        let Some(domain) = Driven::prepare(alloc, graph, parts, number, servers)? else {
-            return Ok(None);
-        };
-        all.add(domain)?;
-    }
     let count = graph.events().len();
     let outgoing = Outgoing::of(alloc, count, parts.crossings())?;
-    let unfired = Fired {
-        number: 0,
-        start: 0,
-        finish: 0,
+    let mut fired = unfired(alloc, count)?;
+    let Some(mut all) = prepared(alloc, graph, parts, servers)? else {
+        return Ok(None);
     };
-    let mut fired = vec![in alloc; unfired; count]?;
-    let mut visits = 0u32;
-    for _ in 0..count {
-        if !all.go(parts.crossings(), &outgoing, &mut fired) {
-            break;
-        }
-        visits = visits.wrapping_add(1);
-    }
-    let mut frees = Vec::with_capacity(alloc, servers.len())?;
-    for domain in all.domains {
-        let servers = domain.finish();
-        for server in servers.as_slice() {
-            frees.push(server.free)?;
-        }
-    }
+    let visits = all.weave(parts.crossings(), &outgoing, &mut fired);
+    let frees = all.finish(alloc)?;
     Ok(Some(LeftByDomains {
         fired,
         frees,

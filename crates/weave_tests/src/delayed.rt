@@ -1,14 +1,23 @@
 //! The delays of cores, from the weave of a graph on one list.
+ghost use Rattle.std.specs.Prelude.{◌<◌, All, IsTrue};
+
 use crate::fitting::{LIMIT, are_fast, is_graph};
 use crate::server::Server;
 use crate::worked::{BANK_AND_CONTROLLER, TWO_MISSES, listed};
 use component::{Comps, Kind};
-use event_graph::{Event, FiredList, Graph, laws};
+use event_graph::{Event, Fired, FiredList, Graph, laws};
 use feedback::{Delays, delays};
 use std::alloc::Global;
 use std::io;
 use weave_seq::weave_seq;
 use zs_num::{Cycle, NoMemory};
+
+/// Whether the events are of so many cores.
+fn are_of_cores(events: &[Event], cores: u16) -> bool
+    ensures { IsTrue result → All (λ event. event.core < cores) events.now }
+{
+    events.iter().all(|event| event.core < cores)
+}
 
 /// The weave of events on these servers and the delays of so many cores, or `None` where the
 /// conditions of either are not seen to hold.
@@ -22,7 +31,7 @@ fn delayed(
     if count > LIMIT as usize
         || !is_graph(events.as_slice(), servers.as_slice())
         || !are_fast(servers.as_slice())
-        || !events.iter().all(|event| event.core < cores)
+        || !are_of_cores(events.as_slice(), cores)
     {
         return Ok(None);
     }
@@ -46,15 +55,21 @@ fn of_two_cores(alloc: Global) -> Option<Vec<Event>> {
     Some(events)
 }
 
-/// When the events finish, and by how much each core is late.
-fn woven(alloc: Global) -> Option<(Vec<Cycle>, Vec<u64>)> {
-    let servers = Vec::from_slice(alloc, &BANK_AND_CONTROLLER).ok()?;
-    let (fired, found) = delayed(alloc, of_two_cores(alloc)?, servers, 2).ok()??;
-    let mut finishes = Vec::new(alloc);
-    for event in fired.as_slice() {
+/// When the events finish.
+fn finishes(alloc: Global, fired: &[Fired]) -> Option<Vec<Cycle>> {
+    let mut finishes = Vec::with_capacity(alloc, fired.len()).ok()?;
+    for event in fired {
         finishes.push(event.finish).ok()?;
     }
-    Some((finishes, found.into_list()))
+    Some(finishes)
+}
+
+/// When the events finish, and by how much each core is late.
+fn woven(alloc: Global) -> Option<(Vec<Cycle>, Vec<u64>)> {
+    let events = of_two_cores(alloc)?;
+    let servers = Vec::from_slice(alloc, &BANK_AND_CONTROLLER).ok()?;
+    let (fired, found) = delayed(alloc, events, servers, 2).ok()??;
+    Some((finishes(alloc, fired.as_slice())?, found.into_list()))
 }
 
 /// The second core waits for the bank until 6, and then for the controller until 32.

@@ -122,6 +122,30 @@ pub(crate) fn event(
     }
 }
 
+/// The events of a graph by the domains of a machine, or `None` where there are 2^31 or more, or
+/// the machine has no such component.
+fn divided(alloc: Global, graph: &Graph, m: &Machine) -> Result<Option<Parts>, NoMemory>
+    requires { IsMachine m.now }
+    ensures { IfOk result (λ found. IfSome found (λ parts. IsPartition graph.now parts)) }
+{
+    let events = graph.events();
+    let components = component_count(m);
+    if events.len() >= 1 << 31 || !events.iter().all(|event| event.component < components) {
+        return Ok(None);
+    }
+    Ok(Some(split(alloc, graph, m)?))
+}
+
+/// The events of a graph by these domains, or `None` where no machine has such domains.
+fn in_domains(alloc: Global, graph: &Graph, layout: Layout) -> Result<Option<Parts>, NoMemory>
+    ensures { IfOk result (λ found. IfSome found (λ parts. IsPartition graph.now parts)) }
+{
+    match machine(alloc, layout)? {
+        Some(m) => divided(alloc, graph, &m),
+        None => Ok(None),
+    }
+}
+
 /// A graph of these events, partitioned by a machine whose banks are in these domains; or `None`
 /// where the events make no graph on these servers.
 pub(crate) fn partitioned(
@@ -132,19 +156,14 @@ pub(crate) fn partitioned(
 ) -> Result<Option<(Graph, Parts)>, NoMemory>
     ensures { IfOk result (λ found. IfSome found (λ it. IsPartition it.0 it.1)) }
 {
-    let Some(m) = machine(alloc, layout)? else {
-        return Ok(None);
-    };
-    let components = component_count(&m);
-    if events.len() >= 1 << 31
-        || !is_graph(&events, servers)
-        || !events.iter().all(|event| event.component < components)
-    {
+    if !is_graph(&events, servers) {
         return Ok(None);
     }
     let graph = Graph::of(events);
-    let parts = split(alloc, &graph, &m)?;
-    Ok(Some((graph, parts)))
+    match in_domains(alloc, &graph, layout)? {
+        Some(parts) => Ok(Some((graph, parts))),
+        None => Ok(None),
+    }
 }
 
 /// So many idle servers, each busy for so many cycles with an event.
@@ -163,19 +182,50 @@ impl Random {
     fn below(&mut self, bound: u64) -> u64
         ensures { 0 < bound → result < bound }
     {
-        self.state = self
-            .state
-            .wrapping_mul(6_364_136_223_846_793_005)
-            .wrapping_add(1_442_695_040_888_963_407);
+        self.advance();
         if bound == 0 {
             return 0;
         }
         (self.state >> 33) % bound
     }
+
+    /// Goes on to the next state.
+    fn advance(&mut self) {
+        self.state = self
+            .state
+            .wrapping_mul(6_364_136_223_846_793_005)
+            .wrapping_add(1_442_695_040_888_963_407);
+    }
 }
 
-/// Events of every kind on so many components, each with up to two parents among the events that
+/// A kind, and for how long a server serves an event of it, in cycles.
+fn random_kind(random: &mut Random) -> (Kind, u64)
+    ensures { result.1 ≤ 100 }
+{
+    match random.below(5) {
+        0 => (Kind::Lookup, 10),
+        1 => (Kind::Remote, 15),
+        2 => (Kind::Fill, 2),
+        3 => (Kind::Read, 100),
+        _ => (Kind::Write, 100),
+    }
+}
+
+/// An event of any kind on one of so many components, with up to two parents among the events that
 /// were recorded shortly before it.
+fn random_event(random: &mut Random, number: u32, components: u16) -> Event
+    requires { 0 < components }
+{
+    let (kind, latency) = random_kind(random);
+    let component = random.below(u64::from(components)) as u16;
+    let start = random.below(50) + u64::from(number) / 2;
+    let mut event = event(number, component, kind, (start, start + latency), None);
+    event.first = random_parent(random, number);
+    event.second = random_parent(random, number);
+    event
+}
+
+/// So many such events.
 pub(crate) fn random_events(
     alloc: Global,
     count: u32,
@@ -187,19 +237,7 @@ pub(crate) fn random_events(
     let mut random = Random { state: seed };
     let mut events = Vec::with_capacity(alloc, count as usize)?;
     for number in 0..count {
-        let (kind, latency) = match random.below(5) {
-            0 => (Kind::Lookup, 10),
-            1 => (Kind::Remote, 15),
-            2 => (Kind::Fill, 2),
-            3 => (Kind::Read, 100),
-            _ => (Kind::Write, 100),
-        };
-        let component = random.below(u64::from(components)) as u16;
-        let start = random.below(50) + u64::from(number) / 2;
-        let mut event = event(number, component, kind, (start, start + latency), None);
-        event.first = random_parent(&mut random, number);
-        event.second = random_parent(&mut random, number);
-        events.push(event)?;
+        events.push(random_event(&mut random, number, components))?;
     }
     Ok(events)
 }
@@ -226,51 +264,45 @@ pub(crate) const SIXTEEN_DOMAINS: Layout = Layout {
     controllers: &[0, 1, 2, 3, 4, 5, 6, 7, 8, 9, 10, 11, 12, 13, 14, 15],
 };
 
-/// The events of accesses that all miss: 64 cores whose accesses follow each other at once, 64
-/// banks, and 16 controllers, which are the components from 64 on. A bank looks up the line, a
-/// controller reads it, and the bank takes it in.
+/// An event of an access to a line, where all miss: 64 cores whose accesses follow each other at
+/// once, 64 banks, and 16 controllers, which are the components from 64 on. A bank looks up the
+/// line, a controller reads it, and the bank takes it in.
+fn miss(number: u32, line: u64) -> Event {
+    let access = number / 3;
+    let start = u64::from(access / 64) * 112;
+    let bank = (line % 64) as u16;
+    let before = number.checked_sub(1);
+    let mut event = match number % 3 {
+        0 => {
+            let before = number.checked_sub(3 * 64 - 2);
+            event(number, bank, Kind::Lookup, (start, start + 10), before)
+        }
+        1 => {
+            let controller = 64 + (line % 16) as u16;
+            event(
+                number,
+                controller,
+                Kind::Read,
+                (start + 10, start + 110),
+                before,
+            )
+        }
+        _ => event(number, bank, Kind::Fill, (start + 110, start + 112), before),
+    };
+    event.core = (access % 64) as u16;
+    event
+}
+
+/// The events of accesses that all miss, each to a random line.
 pub(crate) fn misses(alloc: Global, count: u32, seed: u64) -> Result<Vec<Event>, NoMemory> {
     let mut random = Random { state: seed };
     let mut events = Vec::with_capacity(alloc, count as usize)?;
-    let mut line = 0u64;
+    let mut line = 0;
     for number in 0..count {
-        let access = number / 3;
-        let start = u64::from(access / 64) * 112;
-        let mut event = match number % 3 {
-            0 => {
-                line = random.below(1 << 20);
-                let before = number.checked_sub(3 * 64 - 2);
-                event(
-                    number,
-                    (line % 64) as u16,
-                    Kind::Lookup,
-                    (start, start + 10),
-                    before,
-                )
-            }
-            1 => {
-                let controller = 64 + (line % 16) as u16;
-                event(
-                    number,
-                    controller,
-                    Kind::Read,
-                    (start + 10, start + 110),
-                    Some(number - 1),
-                )
-            }
-            _ => {
-                let bank = (line % 64) as u16;
-                event(
-                    number,
-                    bank,
-                    Kind::Fill,
-                    (start + 110, start + 112),
-                    Some(number - 1),
-                )
-            }
-        };
-        event.core = (access % 64) as u16;
-        events.push(event)?;
+        if number % 3 == 0 {
+            line = random.below(1 << 20);
+        }
+        events.push(miss(number, line))?;
     }
     Ok(events)
 }

@@ -98,6 +98,17 @@ impl Shape {
         fired.start == start && fired.finish == self.finish(fired.number)
     }
 
+    /// Of how many events that is so.
+    fn kept(self, fired: &[Fired]) -> u32 {
+        let mut kept = 0u32;
+        for fired in fired {
+            if self.is_kept(fired) {
+                kept = kept.wrapping_add(1);
+            }
+        }
+        kept
+    }
+
     /// The weave on one list, and of fewer than a million events in every other way.
     fn woven<T: Threads + Sync>(self, threads: &T, alloc: Global) -> Option<Outcome> {
         let layout = match self {
@@ -118,19 +129,14 @@ impl Shape {
 
 /// Writes how many events of a graph start and finish when they must, and until when the servers
 /// are busy.
-fn write(rt: &HostRuntime, shape: Shape, found: Option<Outcome>) -> io::Result<()> {
+fn write(rt: &HostRuntime, shape: Shape, found: Option<&Outcome>) -> io::Result<()> {
     let name = shape.name();
     let Some(found) = found else {
         return println!(rt; "{name}: not woven");
     };
-    let mut kept = 0u32;
-    for fired in &found.fired {
-        if shape.is_kept(fired) {
-            kept = kept.wrapping_add(1);
-        }
-    }
+    let (kept, count) = (shape.kept(&found.fired), found.fired.len());
     println!(rt; "{name}")?;
-    println!(rt; "  {kept} of {} events as they must", found.fired.len())?;
+    println!(rt; "  {kept} of {count} events as they must")?;
     println!(rt; "  busy until {:?}", found.frees)
 }
 
@@ -138,7 +144,7 @@ fn write(rt: &HostRuntime, shape: Shape, found: Option<Outcome>) -> io::Result<(
 pub(crate) fn run<T: Threads + Sync>(rt: &HostRuntime, threads: &T) -> io::Result<()> {
     for shape in [Shape::Fan, Shape::Line, Shape::Chain, Shape::Chains] {
         let found = shape.woven(threads, rt.alloc());
-        write(rt, shape, found)?;
+        write(rt, shape, found.as_ref())?;
     }
     Ok(())
 }

@@ -135,7 +135,8 @@ fn play_all(rt: &HostRuntime, domains: &mut [Driven], script: &[Line]) -> io::Re
 }
 
 /// Drives two domains through a script.
-fn drive(rt: &HostRuntime, rows: &[Row], script: &[Line]) -> io::Result<()> {
+fn drive(rt: &HostRuntime, name: &str, rows: &[Row], script: &[Line]) -> io::Result<()> {
+    println!(rt; "{name}")?;
     let alloc = rt.alloc();
     let Some((graph, parts)) = graph_of(alloc, rows) else {
         return println!(rt; "  no graph");
@@ -149,14 +150,14 @@ fn drive(rt: &HostRuntime, rows: &[Row], script: &[Line]) -> io::Result<()> {
 
 /// Drives domains through all scripts.
 pub(crate) fn run(rt: &HostRuntime) -> io::Result<()> {
-    println!(rt; "a domain without events is done")?;
-    drive(rt, &[], &OF_NONE)?;
-    println!(rt; "the domains of a ring wait for each other")?;
-    drive(rt, &RING, &OF_RING)?;
-    println!(rt; "at a tie a domain waits")?;
-    drive(rt, &TIE, &OF_TIE)?;
-    println!(rt; "a bound lets earlier events fire")?;
-    drive(rt, &LATER, &OF_BOUND)?;
-    println!(rt; "a floor lets earlier events fire")?;
-    drive(rt, &LATER, &OF_FLOOR)
+    drive(rt, "a domain without events is done", &[], &OF_NONE)?;
+    drive(
+        rt,
+        "the domains of a ring wait for each other",
+        &RING,
+        &OF_RING,
+    )?;
+    drive(rt, "at a tie a domain waits", &TIE, &OF_TIE)?;
+    drive(rt, "a bound lets earlier events fire", &LATER, &OF_BOUND)?;
+    drive(rt, "a floor lets earlier events fire", &LATER, &OF_FLOOR)
 }

@@ -42,6 +42,15 @@ pub(crate) fn on_one_list(alloc: Global, events: &[Event], servers: &[Server]) -
     })
 }
 
+/// Whether two lists have the same cycles, in whatever order.
+fn are_same(alloc: Global, some: &[Cycle], others: &[Cycle]) -> Option<bool> {
+    let mut some = Vec::from_slice(alloc, some).ok()?;
+    some.sort().ok()?;
+    let mut others = Vec::from_slice(alloc, others).ok()?;
+    others.sort().ok()?;
+    Some(some.as_slice() == others.as_slice())
+}
+
 /// Whether the weave by domains leaves this, but for the order of the servers.
 fn is_by_domains(
     alloc: Global,
@@ -53,11 +62,8 @@ fn is_by_domains(
     requires { IsPartition graph.now parts.now }
 {
     let found = woven_by_domains(alloc, graph, parts, servers).ok()??;
-    let mut also = found.frees;
-    let mut frees = Vec::from_slice(alloc, &wanted.frees).ok()?;
-    also.sort().ok()?;
-    frees.sort().ok()?;
-    Some(found.fired.as_slice() == wanted.fired.as_slice() && also.as_slice() == frees.as_slice())
+    let same = are_same(alloc, &found.frees, &wanted.frees)?;
+    Some(same && found.fired.as_slice() == wanted.fired.as_slice())
 }
 
 /// What so many workers leave, and in how many rounds.
@@ -74,11 +80,9 @@ pub(crate) fn by_workers<T: Threads + Sync, G: Gate>(
 {
     let own = Vec::from_slice(alloc, servers).ok()?;
     let woven = woven_by_workers(threads, alloc, graph, parts, own, workers, gate).ok()??;
-    let outcome = Outcome {
-        fired: woven.fired.into_list(),
-        frees: frees(alloc, woven.comps.as_slice())?,
-    };
-    Some((outcome, woven.rounds))
+    let frees = frees(alloc, woven.comps.as_slice())?;
+    let fired = woven.fired.into_list();
+    Some((Outcome { fired, frees }, woven.rounds))
 }
 
 /// Whether so many workers leave this, in no more rounds than there are events.
@@ -109,6 +113,29 @@ fn is_by_workers<T: Threads + Sync>(
     )
 }
 
+/// Whether the domains and each of these numbers of workers leave this.
+fn is_every_way<T: Threads + Sync>(
+    threads: &T,
+    alloc: Global,
+    graph: &Graph,
+    parts: &Parts,
+    servers: &[Server],
+    numbers: &[u16],
+    wanted: &Outcome,
+) -> Option<bool>
+    requires { IsPartition graph.now parts.now }
+{
+    if !is_by_domains(alloc, graph, parts, servers, wanted)? {
+        return Some(false);
+    }
+    for workers in numbers {
+        if !is_by_workers(threads, alloc, graph, parts, servers, *workers, wanted)? {
+            return Some(false);
+        }
+    }
+    Some(true)
+}
+
 /// What every way of weaving leaves of the events, by these numbers of workers too; or `None` where
 /// two ways differ, or the events make no graph on these servers and in these domains.
 pub(crate) fn every_way<T: Threads + Sync>(
@@ -122,13 +149,5 @@ pub(crate) fn every_way<T: Threads + Sync>(
     let wanted = on_one_list(alloc, events, servers)?;
     let events = Vec::from_slice(alloc, events).ok()?;
     let (graph, parts) = partitioned(alloc, events, servers, layout).ok()??;
-    if !is_by_domains(alloc, &graph, &parts, servers, &wanted)? {
-        return None;
-    }
-    for workers in numbers {
-        if !is_by_workers(threads, alloc, &graph, &parts, servers, *workers, &wanted)? {
-            return None;
-        }
-    }
-    Some(wanted)
+    is_every_way(threads, alloc, &graph, &parts, servers, numbers, &wanted)?.then_some(wanted)
 }

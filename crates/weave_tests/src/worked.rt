@@ -74,7 +74,7 @@ pub(crate) fn listed(alloc: Global, rows: &[Row]) -> Option<Vec<Event>> {
 }
 
 /// Writes what a weave leaves.
-fn write(rt: &HostRuntime, name: &str, found: Option<Outcome>) -> io::Result<()> {
+fn write(rt: &HostRuntime, name: &str, found: Option<&Outcome>) -> io::Result<()> {
     let Some(found) = found else {
         return println!(rt; "{name}: not woven");
     };
@@ -88,7 +88,7 @@ fn write(rt: &HostRuntime, name: &str, found: Option<Outcome>) -> io::Result<()>
     println!(rt; "  busy until {:?}", found.frees)
 }
 
-/// Weaves the events of these rows in every way.
+/// What every way of weaving leaves of the events of these rows.
 fn woven<T: Threads + Sync>(
     threads: &T,
     alloc: Global,
@@ -100,19 +100,34 @@ fn woven<T: Threads + Sync>(
     every_way(threads, alloc, &events, servers, layout, &WORKERS)
 }
 
+/// Writes what every way of weaving leaves of the events of these rows.
+fn write_woven<T: Threads + Sync>(
+    rt: &HostRuntime,
+    threads: &T,
+    name: &str,
+    rows: &[Row],
+    servers: &[Server],
+    layout: Layout,
+) -> io::Result<()> {
+    let found = woven(threads, rt.alloc(), rows, servers, layout);
+    write(rt, name, found.as_ref())
+}
+
 /// Writes the worked weaves.
 pub(crate) fn run<T: Threads + Sync>(rt: &HostRuntime, threads: &T) -> io::Result<()> {
-    let alloc = rt.alloc();
-    let misses = woven(threads, alloc, &TWO_MISSES, &BANK_AND_CONTROLLER, ONE_BANK);
-    write(
+    let misses = "two misses wait for each other at a bank and a controller";
+    write_woven(
         rt,
-        "two misses wait for each other at a bank and a controller",
+        threads,
         misses,
+        &TWO_MISSES,
+        &BANK_AND_CONTROLLER,
+        ONE_BANK,
     )?;
-    let ring = woven(threads, alloc, &RING, &BANKS, TWO_BANKS);
-    write(rt, "a ring of two banks", ring)?;
-    let tie = woven(threads, alloc, &TIE, &BANKS, TWO_BANKS);
-    write(rt, "at a tie the lesser number is served first", tie)
+    let ring = "a ring of two banks";
+    write_woven(rt, threads, ring, &RING, &BANKS, TWO_BANKS)?;
+    let tie = "at a tie the lesser number is served first";
+    write_woven(rt, threads, tie, &TIE, &BANKS, TWO_BANKS)
 }
 
 /// What two workers leave of the ring at a gate.
@@ -127,10 +142,7 @@ fn woven_at<T: Threads + Sync>(threads: &T, alloc: Global, gate: &MeetingGate) -
 pub(crate) fn run_at_a_gate<T: Threads + Sync>(rt: &HostRuntime, threads: &T) -> io::Result<()> {
     let gate = MeetingGate::new();
     let found = woven_at(threads, rt.alloc(), &gate);
-    write(
-        rt,
-        "two workers fire in two domains beside each other",
-        found,
-    )?;
+    let name = "two workers fire in two domains beside each other";
+    write(rt, name, found.as_ref())?;
     println!(rt; "  {:?}", gate.domains())
 }

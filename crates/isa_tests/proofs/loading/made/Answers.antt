@@ -1,7 +1,7 @@
 use Rattle.std.proofs.Common.{lit<, lit≤, refl}
 use Rattle.elf_load.proofs.Meanings.{sound_alone}
-use Rattle.isa_tests.proofs.loading.an_image_of_segments.Goals as goal
+use Rattle.isa_tests.proofs.loading.made.Goals as goal
 
-pub make-image-requires : goal.make-image-requires
-make-image-requires g c =
+pub make-requires : goal.make-requires
+make-requires c =
     rw c.in_ok-segments.ensures (sound_alone _ _ _ _ (lit≤ tt) (lit< tt) (lit≤ tt) (lit≤ tt) (lit≤ tt) refl refl (lit≤ tt) (lit≤ tt))
