@@ -15,14 +15,20 @@ HEADER = "zsim report 1\n"
 LINE = re.compile("(cores|intervals|instructions|cycles|accesses|events|core|bank|controller) ")
 
 
+CUT = re.compile(r".*[.][.]$|zsim: cannot write$")
+
+
 def reports_in(text):
-    """Returns the reports in a text, as they stand there between other lines."""
+    """Returns the reports in a text, as they stand there between other lines, but for those that are cut off."""
     found = []
     lines = iter(text.splitlines(keepends=True))
     for line in lines:
+        is_open = found and not found[-1].endswith("\n\n")
         if line == HEADER:
             found.append(HEADER)
-        elif found and LINE.match(line) and found[-1].endswith("\n") and not found[-1].endswith("\n\n"):
+        elif is_open and CUT.match(line):
+            found.pop()
+        elif is_open and LINE.match(line):
             found[-1] += line
         elif found:
             found[-1] += "\n\n"
