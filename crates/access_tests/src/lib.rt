@@ -3,9 +3,13 @@
 #![tactic(auto)]
 
 #[cfg(test)]
+mod checks;
+#[cfg(test)]
 mod directories;
 #[cfg(test)]
 mod logs;
+#[cfg(test)]
+mod machines;
 #[cfg(test)]
 mod schedule_files;
 #[cfg(test)]

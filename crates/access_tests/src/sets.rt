@@ -1,41 +1,110 @@
 //! Sets of two ways that fill up, and the letters of their marks.
+use Act::{Change, LastIfFull, Look, Put, TakeOut, Touch};
 use cache_set::{Letter, Set, Way};
+use std::process::Abort;
 use std::test::Fail;
+
+/// What is asked of a set, with the line and the mark where it takes them. It answers nothing where
+/// it is touched or changed.
+#[derive(Clone, Copy)]
+enum Act {
+    Put(u64, u8),
+    Touch(u64),
+    Change(u64, u8),
+    Look(u64),
+    TakeOut(u64),
+    LastIfFull,
+}
+
+/// A line and its mark.
+type Marked = (u64, u8);
+
+/// The line and the mark with which a set answers.
+fn answer(rt: &impl Abort, set: &mut Set, act: Act) -> Option<Marked> {
+    match act {
+        Put(line, mark) => {
+            assert!(rt; set.look(line).is_none());
+            of_way(set.put(line, mark))
+        }
+        Touch(line) => {
+            assert!(rt; set.look(line).is_some());
+            set.touch(line);
+            None
+        }
+        Change(line, mark) => {
+            assert!(rt; set.look(line).is_some());
+            set.change(line, mark);
+            None
+        }
+        Look(line) => marked(line, set.look(line)),
+        TakeOut(line) => marked(line, set.take_out(line)),
+        LastIfFull => of_way(set.last_if_full()),
+    }
+}
+
+/// A way's line and mark.
+fn of_way(way: Option<Way>) -> Option<Marked> {
+    match way {
+        Some(way) => Some((way.line, way.mark)),
+        None => None,
+    }
+}
+
+/// A line with its mark, if it has one.
+fn marked(line: u64, mark: Option<u8>) -> Option<Marked> {
+    match mark {
+        Some(mark) => Some((line, mark)),
+        None => None,
+    }
+}
+
+/// A new set of two ways answers each call as the row says.
+fn answers(rt: &(impl Abort + AllocGlobal), rows: &[(Act, Option<Marked>)]) -> Result<(), Fail> {
+    let mut set = Set::new(rt.alloc(), 2)?;
+    for &(act, wanted) in rows {
+        assert!(rt; answer(rt, &mut set, act) == wanted);
+    }
+    Ok(())
+}
+
+static FULL: [(Act, Option<Marked>); 9] = [
+    (Put(7, 1), None),
+    (LastIfFull, None),
+    (Put(8, 2), None),
+    (Touch(7), None),
+    (LastIfFull, Some((8, 2))),
+    (Put(9, 3), Some((8, 2))),
+    (Look(7), Some((7, 1))),
+    (Look(8), None),
+    (Look(9), Some((9, 3))),
+];
 
 #[test]
 fn the_least_recently_used_line_leaves_a_full_set(rt: HostRuntime) -> Result<(), Fail> {
-    let mut set = Set::new(rt.alloc(), 2)?;
-    assert_eq!(rt; set.put(7, 1), None);
-    assert_eq!(rt; set.last_if_full(), None);
-    assert_eq!(rt; set.put(8, 2), None);
-    set.touch(7);
-    assert_eq!(rt; set.last_if_full(), Some(Way { line: 8, mark: 2 }));
-    assert_eq!(rt; set.put(9, 3), Some(Way { line: 8, mark: 2 }));
-    assert_eq!(rt;
-        (set.look(7), set.look(8), set.look(9)),
-        (Some(1), None, Some(3))
-    );
-    Ok(())
+    answers(&rt, &FULL)
 }
+
+static CHANGED: [(Act, Option<Marked>); 8] = [
+    (Put(7, 1), None),
+    (Put(8, 2), None),
+    (Change(7, 4), None),
+    (LastIfFull, Some((7, 4))),
+    (TakeOut(8), Some((8, 2))),
+    (TakeOut(8), None),
+    (Put(9, 3), None),
+    (LastIfFull, Some((7, 4))),
+];
 
 #[test]
 fn a_changed_line_keeps_its_place_and_a_line_that_is_taken_out_leaves_room(
     rt: HostRuntime,
 ) -> Result<(), Fail> {
-    let mut set = Set::new(rt.alloc(), 2)?;
-    assert_eq!(rt; set.put(7, 1), None);
-    assert_eq!(rt; set.put(8, 2), None);
-    set.change(7, 4);
-    assert_eq!(rt; set.last_if_full(), Some(Way { line: 7, mark: 4 }));
-    assert_eq!(rt; (set.take_out(8), set.take_out(8)), (Some(2), None));
-    assert_eq!(rt; set.put(9, 3), None);
-    assert_eq!(rt; set.last_if_full(), Some(Way { line: 7, mark: 4 }));
-    Ok(())
+    answers(&rt, &CHANGED)
 }
 
 #[test]
 fn a_letter_is_read_again_from_its_mark(rt: HostRuntime) {
     for letter in [Letter::M, Letter::E, Letter::S, Letter::I] {
-        assert_eq!(rt; Letter::of_mark(letter.mark()), letter);
+        assert!(rt; Letter::of_mark(letter.mark()) == letter);
     }
 }

@@ -1,28 +1,20 @@
 //! Accesses of two cores to one shard, with outcomes, letters and stamps worked by hand on the
 //! numbers of the built-in machine: two sets of one way in each core's own cache, and four of two
 //! ways in the shared one.
-ghost use Rattle.std.specs.Prelude.{◌≡◌, length, IfOk, IsTrue};
-ghost use Rattle.machine_desc.specs.Machine.{IsMachine};
-ghost use Rattle.zs_num.specs.Request.{IsServable, bank_of_line, line_at};
+ghost use Rattle.std.specs.Prelude.{◌≡◌, ◌%◌, ◌<◌, ◌≤◌, length, IfOk, IsTrue};
+ghost use Rattle.zs_num.specs.Request.{IsServable, addr_of, bank_of_line, line_at};
 
+use crate::checks::is_number;
+use crate::machines::two_cores;
 use Access::{Load, Reserve, Store, StoreIf};
 use cache_set::Letter;
 use cache_set::Letter::{E, I, M, S};
 use elf_load::{Image, load};
-use machine_desc::{Machine, PLAIN, read};
 use shard::Shard;
-use std::alloc::{AllocError, Global};
+use std::alloc::Global;
 use std::process::Abort;
 use std::test::Fail;
 use zs_num::{Entry, LINE, Outcome, Request, Stamp};
-
-const ONE_BANK: [(&str, &str); 1] = [("cores = 1", "cores = 2")];
-
-const TWO_BANKS: [(&str, &str); 3] = [
-    ("cores = 1", "cores = 2"),
-    ("banks = 1", "banks = 2"),
-    ("banks = [0]", "banks = [0, 1]"),
-];
 
 /// Where memory begins, and its size.
 const BASE: u64 = 0x10000;
@@ -37,28 +29,6 @@ static FILE: [u8; 124] = [
     0, 1, 0, 0, 0, 0, 0, 4, 0, 0, 0, 0, 0, 0, 0, 4, 0, 0, 0, 0, 0, 0, 0, 1, 0, 0, 0, 0, 0, 0, 0,
     0x73, 0, 0, 0,
 ];
-
-/// The built-in text with each first word of a pair replaced by the second.
-fn edited(alloc: Global, edits: &[(&str, &str)]) -> Result<String, AllocError> {
-    let mut text = String::from_str(alloc, PLAIN)?;
-    for &(old, new) in edits {
-        text = replaced(alloc, &text, old, new)?;
-    }
-    Ok(text)
-}
-
-/// The text with a word replaced where it first stands.
-fn replaced(alloc: Global, text: &str, old: &str, new: &str) -> Result<String, AllocError> {
-    text.replacen(alloc, old, new, 1)
-}
-
-/// The machine of the edited text.
-fn edited_machine(alloc: Global, edits: &[(&str, &str)]) -> Result<Machine, Fail>
-    ensures { IfOk result IsMachine }
-{
-    let text = edited(alloc, edits)?;
-    Ok(read(alloc, text.as_bytes())?)
-}
 
 /// The executable in memory.
 fn image(alloc: Global) -> Result<Image, Fail>
@@ -79,7 +49,9 @@ enum Access {
 }
 
 impl Access {
-    fn request(self) -> Request {
+    fn request(self) -> Request
+        ensures { addr_of result % 8 ≡ 0 → 65536 ≤ addr_of result → addr_of result < 1114112 → IsServable 65536 1048576 result }
+    {
         match self {
             Load(addr) => Request::Load { addr, width: 8 },
             Store(addr, value) => Request::Store {
@@ -96,14 +68,6 @@ impl Access {
             },
         }
     }
-}
-
-/// It is of eight bytes at a multiple of eight, in memory.
-fn is_of_a_doubleword(request: &Request) -> bool
-    ensures { IsTrue result → IsServable 65536 1048576 request.now }
-{
-    let addr = request.addr();
-    request.width() == 8 && addr % 8 == 0 && addr >= BASE && addr < BASE + SIZE
 }
 
 /// An access of a core, its outcome and its reply, and what line 0x440 then is, which begins at
@@ -125,20 +89,18 @@ struct Tested {
 }
 
 impl Tested {
-    fn fresh<R: Abort>(
-        rt: &R,
-        alloc: Global,
-        edits: &[(&str, &str)],
-        number: u16,
-    ) -> Result<Self, Fail> {
-        let machine = edited_machine(alloc, edits)?;
-        assert!(rt; machine.cores == 2 && number < machine.l2.banks);
-        assert!(rt; machine.memory.base == BASE && machine.memory.size == SIZE);
+    /// The shard of a number, of so many.
+    fn fresh(alloc: Global, banks: u16, number: u16) -> Result<Self, Fail>
+        requires some { 1 ≤ banks }
+        requires few { banks ≤ 64 }
+        requires l1 { 2 % banks ≡ 0 }
+        requires l2 { 4 % banks ≡ 0 }
+        requires number { number < banks }
+    {
+        let machine = two_cores(alloc, banks)?;
         let image = image(alloc)?;
-        Ok(Tested {
-            shard: Shard::new(alloc, &machine, number, &image)?,
-            banks: machine.l2.banks,
-        })
+        let shard = Shard::new(alloc, &machine, number, &image)?;
+        Ok(Tested { shard, banks })
     }
 
     /// The line of an address is one of the shard's.
@@ -150,17 +112,24 @@ impl Tested {
 
     /// The entry of an access of a core whose own last stamp is `last`.
     #[tactic(auto, unfolding(shard::specs::Served::CanServe))]
-    fn ask<R: Abort>(&mut self, rt: &R, core: u16, last: Stamp, request: Request) -> Entry {
+    fn ask<R: Abort>(&mut self, rt: &R, core: u16, last: Stamp, access: Access) -> Entry {
+        let request = access.request();
+        let addr = request.addr();
         assert!(rt; core < 2 && last < 1000 && self.shard.last() < 1000);
-        assert!(rt; is_of_a_doubleword(&request) && self.has(request.addr()));
+        assert!(rt; addr % 8 == 0 && addr >= BASE && addr < BASE + SIZE && self.has(addr));
         self.shard.serve(core, 0, last, request)
+    }
+
+    /// The byte at an address of the shard.
+    fn byte<R: Abort>(&self, rt: &R, addr: u64) -> u8 {
+        assert!(rt; addr >= BASE && addr - BASE < SIZE && self.has(addr));
+        self.shard.byte(addr)
     }
 
     /// The bytes at these addresses are these.
     fn holds<R: Abort>(&self, rt: &R, bytes: &[(u64, u8)]) {
         for &(addr, byte) in bytes {
-            assert!(rt; addr >= BASE && addr - BASE < SIZE && self.has(addr));
-            assert_eq!(rt; self.shard.byte(addr), byte, "at {addr:#x}");
+            is_number(rt, self.byte(rt, addr).into(), byte.into());
         }
     }
 
@@ -168,35 +137,45 @@ impl Tested {
     fn stamps<R: Abort>(&mut self, rt: &R, list: &[Stamped], last: Stamp) {
         for &(number, core, own_last, access, stamp) in list {
             if number == self.shard.number() {
-                let entry = self.ask(rt, core, own_last, access.request());
-                assert_eq!(rt; entry.stamp, stamp);
+                let entry = self.ask(rt, core, own_last, access);
+                is_number(rt, entry.stamp, stamp);
             }
         }
-        assert_eq!(rt; self.shard.last(), last);
+        self.has_last(rt, last);
     }
 
-    fn restarts<R: Abort>(&mut self, rt: &R) {
-        self.shard.restart();
-        assert_eq!(rt; self.shard.last(), 0);
+    /// The latest stamp is `last`.
+    fn has_last<R: Abort>(&self, rt: &R, last: Stamp) {
+        is_number(rt, self.shard.last(), last);
     }
 
-    fn resumes<R: Abort>(&mut self, rt: &R, last: Stamp) {
-        self.shard.resume(last);
-        assert_eq!(rt; self.shard.last(), last);
+    /// It is of a number, and has answered no access.
+    fn begins<R: Abort>(&self, rt: &R, number: u16) {
+        is_number(rt, self.shard.number().into(), number.into());
+        self.has_last(rt, 0);
+    }
+
+    /// It goes on with the last stamp of an earlier interval, or with none.
+    fn goes_on<R: Abort>(&mut self, rt: &R, earlier: Option<Stamp>) {
+        match earlier {
+            Some(last) => self.shard.resume(last),
+            None => self.shard.restart(),
+        }
+        self.has_last(rt, earlier.unwrap_or(0));
+    }
+
+    /// The letters of line 0x440 for core 0 and core 1, and whether it is dirty in the shared cache.
+    fn line(&self) -> ((Letter, Letter), Option<bool>) {
+        let letters = (self.shard.letter(0, 0x440), self.shard.letter(1, 0x440));
+        (letters, self.shard.l2_dirty(0x440))
     }
 
     /// The steps are answered as they say, one after the other.
     fn answers<R: Abort>(&mut self, rt: &R, steps: &[Step]) {
         for &(core, access, outcome, reply, letters, dirty) in steps {
-            let entry = self.ask(rt, core, 0, access.request());
-            let addr = entry.request.addr();
-            let after = (self.shard.letter(0, 0x440), self.shard.letter(1, 0x440));
-            let (was, now) = (
-                (entry.outcome, entry.reply),
-                (after, self.shard.l2_dirty(0x440)),
-            );
-            assert_eq!(rt; was, (outcome, reply), "core {core} at {addr:#x}");
-            assert_eq!(rt; now, (letters, dirty), "core {core} at {addr:#x}");
+            let entry = self.ask(rt, core, 0, access);
+            assert!(rt; (entry.outcome, entry.reply) == (outcome, reply));
+            assert!(rt; self.line() == (letters, dirty));
         }
     }
 }
@@ -273,58 +252,74 @@ static STAMPED: [Stamped; 5] = [
 /// Addresses, and the bytes there at the beginning.
 static FIRST_BYTES: [(u64, u8); 3] = [(0x10000, 0x73), (0x10001, 0), (0x10ffff, 0)];
 
-/// A new shard, which is alone, answers the steps as they say.
-fn answered<R: Abort>(rt: &R, alloc: Global, steps: &[Step]) -> Result<(), Fail> {
-    Tested::fresh(rt, alloc, &ONE_BANK, 0)?.answers(rt, steps);
+/// A new shard, which is alone, has the number 0 and gave no stamp. It answers the first steps; then
+/// it has the bytes, and then it answers the later steps.
+fn plays<R: Abort>(
+    rt: &R,
+    alloc: Global,
+    first: &[Step],
+    bytes: &[(u64, u8)],
+    later: &[Step],
+) -> Result<(), Fail> {
+    let mut t = Tested::fresh(alloc, 1, 0)?;
+    t.begins(rt, 0);
+    t.answers(rt, first);
+    t.holds(rt, bytes);
+    t.answers(rt, later);
     Ok(())
 }
 
 #[test]
 fn a_shard_begins_with_the_executable(rt: HostRuntime) -> Result<(), Fail> {
-    let t = Tested::fresh(&rt, rt.alloc(), &ONE_BANK, 0)?;
-    t.holds(&rt, &FIRST_BYTES);
-    assert_eq!(rt; [u64::from(t.shard.number()), t.shard.last()], [0, 0]);
-    Ok(())
+    plays(&rt, rt.alloc(), &[], &FIRST_BYTES, &[])
 }
 
 #[test]
 fn two_lines_of_a_set_of_one_way_take_turns(rt: HostRuntime) -> Result<(), Fail> {
-    answered(&rt, rt.alloc(), &TURNS)
+    plays(&rt, rt.alloc(), &TURNS, &[], &[])
 }
 
 #[test]
 fn a_modified_line_that_leaves_is_written_back(rt: HostRuntime) -> Result<(), Fail> {
-    answered(&rt, rt.alloc(), &MODIFIED)
+    plays(&rt, rt.alloc(), &MODIFIED, &[], &[])
 }
 
 #[test]
 fn two_cores_share_a_line_and_write_it_in_turns(rt: HostRuntime) -> Result<(), Fail> {
-    answered(&rt, rt.alloc(), &SHARED)
+    plays(&rt, rt.alloc(), &SHARED, &[], &[])
 }
 
 #[test]
 fn a_pair_stores_once_and_a_store_conditional_that_fails_is_a_write(
     rt: HostRuntime,
 ) -> Result<(), Fail> {
-    let mut t = Tested::fresh(&rt, rt.alloc(), &ONE_BANK, 0)?;
-    t.answers(&rt, &PAIR);
-    t.holds(&rt, &[(0x11000, 9)]);
-    t.answers(&rt, &AFTER_PAIR);
-    Ok(())
+    plays(&rt, rt.alloc(), &PAIR, &[(0x11000, 9)], &AFTER_PAIR)
 }
 
 #[test]
 fn a_store_of_another_core_ends_a_pair(rt: HostRuntime) -> Result<(), Fail> {
-    answered(&rt, rt.alloc(), &PARTED)
+    plays(&rt, rt.alloc(), &PARTED, &[], &[])
+}
+
+/// The shard of a number, of two, gives the accesses to it their stamps, of which the latest is
+/// `last`, and goes on with the last stamp of an earlier interval, or with none.
+fn stamps<R: Abort>(
+    rt: &R,
+    alloc: Global,
+    number: u16,
+    last: Stamp,
+    earlier: Option<Stamp>,
+) -> Result<(), Fail>
+    requires { number < 2 }
+{
+    let mut t = Tested::fresh(alloc, 2, number)?;
+    t.stamps(rt, &STAMPED, last);
+    t.goes_on(rt, earlier);
+    Ok(())
 }
 
 #[test]
 fn a_stamp_passes_those_of_the_shard_and_of_the_core(rt: HostRuntime) -> Result<(), Fail> {
-    let mut even = Tested::fresh(&rt, rt.alloc(), &TWO_BANKS, 0)?;
-    let mut odd = Tested::fresh(&rt, rt.alloc(), &TWO_BANKS, 1)?;
-    even.stamps(&rt, &STAMPED, 3);
-    odd.stamps(&rt, &STAMPED, 4);
-    even.restarts(&rt);
-    odd.resumes(&rt, 9);
-    Ok(())
+    stamps(&rt, rt.alloc(), 0, 3, None)?;
+    stamps(&rt, rt.alloc(), 1, 4, Some(9))
 }

@@ -1,10 +1,13 @@
 //! Components: worked cycles, and that the calls succeed, at the largest machine too.
-use crate::machines::edited;
+use crate::machines::{edited, machine_of};
 use component::{Bank, Comp, Component, Comps, Controller, Kind, components};
-use machine_desc::read;
-use std::alloc::Global;
 use std::process::Abort;
-use std::test::Fail;
+use zs_num::Cycle;
+
+/// Checks the finishes of two events, and when their component is free again.
+fn are_times(rt: &impl Abort, found: [Cycle; 3], wanted: [Cycle; 3]) {
+    assert!(rt; found == wanted);
+}
 
 #[test]
 fn two_misses_at_once_wait_for_bank_and_controller(rt: HostRuntime) {
@@ -23,20 +26,19 @@ fn two_misses_at_once_wait_for_bank_and_controller(rt: HostRuntime) {
     };
     let first = bank.step(Kind::Lookup, 2);
     let second = bank.step(Kind::Lookup, 2);
-    assert_eq!(rt; (first, second, bank.free), (12, 16, 10));
+    are_times(&rt, [first, second, bank.free], [12, 16, 10]);
     let first = controller.step(Kind::Read, 12);
     let second = controller.step(Kind::Read, 16);
-    assert_eq!(rt; (first, second, controller.free), (112, 132, 52));
+    are_times(&rt, [first, second, controller.free], [112, 132, 52]);
     let first = bank.step(Kind::Fill, 112);
     let second = bank.step(Kind::Fill, 132);
-    assert_eq!(rt; (first, second, bank.free), (114, 134, 136));
+    are_times(&rt, [first, second, bank.free], [114, 134, 136]);
 }
 
 /// The components of the machine of the edited text.
-fn comps_of(alloc: Global, edits: &[(&str, &str)]) -> Result<Comps<Comp>, Fail> {
-    let text = edited(alloc, edits)?;
-    let machine = read(alloc, text.as_bytes())?;
-    Ok(components(alloc, &machine)?)
+fn comps_of(rt: &(impl Abort + AllocGlobal), edits: &[(&str, &str)]) -> Comps<Comp> {
+    let machine = machine_of(rt, edited(rt, edits).as_bytes());
+    components(rt.alloc(), &machine).expect(rt, "memory")
 }
 
 /// A component, a kind, and the least time of an event, where it is served.
@@ -61,23 +63,22 @@ fn floor(comps: &[Comp], number: usize, kind: Kind) -> Option<u64> {
 /// Checks each row.
 fn has_floors(rt: &impl Abort, comps: &[Comp], rows: &[FloorRow]) {
     for &(number, kind, wanted) in rows {
-        assert_eq!(rt; floor(comps, number, kind), wanted);
+        assert!(rt; floor(comps, number, kind) == wanted);
     }
 }
 
-/// How many components there are, as they are lent for their steps, and as they are taken apart
-/// and put together again.
-fn counts(mut comps: Comps<Comp>) -> (usize, usize) {
-    let lent = comps.as_mut_slice().len();
-    (lent, Comps::of(comps.into_list()).as_slice().len())
+/// Checks how many components there are, as they are lent for their steps, and as they are taken
+/// apart and put together again.
+fn are_so_many(rt: &impl Abort, mut comps: Comps<Comp>, count: usize) {
+    assert!(rt; comps.as_mut_slice().len() == count);
+    assert!(rt; Comps::of(comps.into_list()).as_slice().len() == count);
 }
 
 #[test]
-fn the_plain_machine_has_a_bank_and_then_a_controller(rt: HostRuntime) -> Result<(), Fail> {
-    let comps = comps_of(rt.alloc(), &[])?;
+fn the_plain_machine_has_a_bank_and_then_a_controller(rt: HostRuntime) {
+    let comps = comps_of(&rt, &[]);
     has_floors(&rt, comps.as_slice(), &FLOORS);
-    assert_eq!(rt; counts(comps), (2, 2));
-    Ok(())
+    are_so_many(&rt, comps, 2);
 }
 
 /// 64 banks and 16 controllers.
@@ -109,7 +110,7 @@ fn is_bank(comps: &[Comp], number: usize) -> bool {
 /// Checks of each number whether its component is a bank.
 fn has_banks(rt: &impl Abort, comps: &[Comp], rows: &[(usize, bool)]) {
     for &(number, wanted) in rows {
-        assert_eq!(rt; is_bank(comps, number), wanted);
+        assert!(rt; is_bank(comps, number) == wanted);
     }
 }
 
@@ -117,9 +118,8 @@ fn has_banks(rt: &impl Abort, comps: &[Comp], rows: &[(usize, bool)]) {
 static ENDS: [(usize, bool); 4] = [(0, true), (63, true), (64, false), (79, false)];
 
 #[test]
-fn the_largest_machine_has_80_components(rt: HostRuntime) -> Result<(), Fail> {
-    let comps = comps_of(rt.alloc(), &MOST_COMPONENTS)?;
-    assert_eq!(rt; comps.as_slice().len(), 80);
+fn the_largest_machine_has_80_components(rt: HostRuntime) {
+    let comps = comps_of(&rt, &MOST_COMPONENTS);
     has_banks(&rt, comps.as_slice(), &ENDS);
-    Ok(())
+    are_so_many(&rt, comps, 80);
 }

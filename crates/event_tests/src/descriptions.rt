@@ -1,15 +1,15 @@
 //! Descriptions and what they read as. The texts are the built-in one with some words changed.
+ghost use Rattle.machine_desc.specs.Machine.{IsMachine};
+
 use crate::machines::{edited, machine_of, small};
 use machine_desc::{
     BadMachine, Domains, Machine, MachineFail, PLAIN, component_count, domain_of, read,
 };
-use std::alloc::{AllocError, Global};
 use std::process::Abort;
-use std::test::Fail;
 
 /// Why a text is not read.
-fn refusal(alloc: Global, text: &[u8]) -> Option<MachineFail> {
-    machine_of(alloc, text).err()
+fn refusal(rt: &(impl Abort + AllocGlobal), text: &[u8]) -> MachineFail {
+    read(rt.alloc(), text).err().expect(rt, "not refused")
 }
 
 /// The number of a refusal, its key, and its value or component.
@@ -25,14 +25,19 @@ fn answer_of(bad: &BadMachine) -> (u8, &[u8], i64) {
     }
 }
 
+/// Checks the number, the key and the value of a refusal.
+fn is_bad(rt: &impl Abort, bad: &BadMachine, number: u8, key: &[u8], value: i64) {
+    let found = answer_of(bad);
+    assert!(rt; found.0 == number && found.2 == value);
+    assert!(rt; found.1 == key);
+}
+
 /// Checks that a text is refused with this number, key and value.
 fn is_refused(rt: &(impl Abort + AllocGlobal), text: &[u8], number: u8, key: &[u8], value: i64) {
-    let Some(MachineFail::Bad(bad)) = refusal(rt.alloc(), text) else {
-        panic!(rt; "not refused");
-    };
-    let found = answer_of(&bad);
-    assert_eq!(rt; (found.0, found.2), (number, value));
-    assert_eq!(rt; found.1, key);
+    match refusal(rt, text) {
+        MachineFail::Bad(bad) => is_bad(rt, &bad, number, key, value),
+        MachineFail::NoMemory => panic!(rt; "out of memory"),
+    }
 }
 
 /// Edits of the built-in text, and the number, the key and the value of the refusal.
@@ -236,22 +241,22 @@ static DOMAINS: [Case; 4] = [
     (&[("count = 2", "count = 1")], 7, "", 1),
 ];
 
-fn refuse(rt: &(impl Abort + AllocGlobal), cases: &[Case]) -> Result<(), Fail> {
+/// Checks that each edited text is refused as its row says.
+fn refuse(rt: &(impl Abort + AllocGlobal), cases: &[Case]) {
     for &(edits, number, key, value) in cases {
-        let text = edited(rt.alloc(), edits)?;
+        let text = edited(rt, edits);
         is_refused(rt, text.as_bytes(), number, key.as_bytes(), value);
     }
-    Ok(())
 }
 
 #[test]
-fn the_first_check_that_fails_is_told(rt: HostRuntime) -> Result<(), Fail> {
-    refuse(&rt, &MISSING)?;
-    refuse(&rt, &KINDS)?;
-    refuse(&rt, &RANGES)?;
-    refuse(&rt, &NAMES)?;
-    refuse(&rt, &RATIOS)?;
-    refuse(&rt, &DOMAINS)
+fn the_first_check_that_fails_is_told(rt: HostRuntime) {
+    refuse(&rt, &MISSING);
+    refuse(&rt, &KINDS);
+    refuse(&rt, &RANGES);
+    refuse(&rt, &NAMES);
+    refuse(&rt, &RATIOS);
+    refuse(&rt, &DOMAINS);
 }
 
 static NOT_TOML: [&[u8]; 4] = [b"cores =", b"\xff", b"cores = 1\ncores = 1\n", b"# \xc3\n"];
@@ -283,15 +288,17 @@ fn are_same_parts(one: &Machine, other: &Machine) -> bool {
         && one.controllers == other.controllers
 }
 
+/// Checks that two are the same machine.
+fn is_same(rt: &impl Abort, one: &Machine, other: &Machine) {
+    assert!(rt; one.version == other.version && one.cores == other.cores);
+    assert!(rt; one.interval == other.interval && one.intervals == other.intervals);
+    assert!(rt; are_same_parts(one, other));
+    assert!(rt; are_same_domains(&one.domains, &other.domains));
+}
+
 #[test]
-fn the_built_in_text_reads_as_its_machine(rt: HostRuntime) -> Result<(), Fail> {
-    let machine = machine_of(rt.alloc(), PLAIN.as_bytes())?;
-    let wanted = small(rt.alloc(), 1)?;
-    assert_eq!(rt; (machine.version, machine.cores), (1, 1));
-    assert_eq!(rt; (machine.interval, machine.intervals), (10000, 100000));
-    assert!(rt; are_same_parts(&machine, &wanted));
-    assert!(rt; are_same_domains(&machine.domains, &wanted.domains));
-    Ok(())
+fn the_built_in_text_reads_as_its_machine(rt: HostRuntime) {
+    is_same(&rt, &machine_of(&rt, PLAIN.as_bytes()), &small(&rt, 1));
 }
 
 /// The greatest machine: each number at the upper end of its range.
@@ -318,72 +325,63 @@ domains.banks = [
 domains.controllers = [63, 62, 61, 60, 59, 58, 57, 56, 55, 54, 53, 52, 51, 50, 49, 48]
 ";
 
-/// The domain of each component of the machine that a text reads as.
-fn domains_of(alloc: Global, text: &[u8]) -> Result<Vec<u16>, Fail> {
-    let machine = read(alloc, text)?;
-    let mut domains = Vec::new(alloc);
-    for component in 0..component_count(&machine) {
-        domains.push(domain_of(&machine, component))?;
-    }
-    Ok(domains)
-}
-
 /// Components of the greatest machine, and their domains.
-static GREATEST_DOMAINS: [(usize, u16); 4] = [(0, 0), (63, 63), (64, 63), (79, 48)];
+static GREATEST_DOMAINS: [(u16, u16); 4] = [(0, 0), (63, 63), (64, 63), (79, 48)];
 
 /// Checks numbers of the greatest machine.
 fn has_greatest_numbers(rt: &impl Abort, machine: &Machine) {
-    assert_eq!(rt; machine.memory.base, 0x100_0000_0000);
-    assert_eq!(rt; (machine.l1.sets, machine.l2.remote), (4096, 65536));
+    assert!(rt; machine.memory.base == 0x100_0000_0000);
+    assert!(rt; machine.l1.sets == 4096 && machine.l2.remote == 65536);
 }
 
-/// Checks the domain of each component of the rows.
-fn has_domains(rt: &impl Abort, domains: &[u16], rows: &[(usize, u16)]) {
+/// Checks how many components there are, and the domain of each component of the rows.
+fn has_domains(rt: &impl Abort, machine: &Machine, count: u16, rows: &[(u16, u16)])
+    requires { IsMachine machine.now }
+{
+    assert!(rt; component_count(machine) == count);
     for &(component, domain) in rows {
-        assert_eq!(rt; domains.get(component).copied(), Some(domain));
+        assert!(rt; component < component_count(machine));
+        assert!(rt; domain_of(machine, component) == domain);
     }
 }
 
-/// Checks the greatest machine, as a text has it.
-fn is_greatest(rt: &(impl Abort + AllocGlobal), text: &[u8]) -> Result<(), Fail> {
-    has_greatest_numbers(rt, &machine_of(rt.alloc(), text)?);
-    let domains = domains_of(rt.alloc(), text)?;
-    assert_eq!(rt; domains.len(), 80);
-    has_domains(rt, &domains, &GREATEST_DOMAINS);
-    Ok(())
-}
-
 #[test]
-fn the_greatest_machine_is_read(rt: HostRuntime) -> Result<(), Fail> {
-    is_greatest(&rt, GREATEST.as_bytes())
+fn the_greatest_machine_is_read(rt: HostRuntime) {
+    let machine = machine_of(&rt, GREATEST.as_bytes());
+    has_greatest_numbers(&rt, &machine);
+    has_domains(&rt, &machine, 80, &GREATEST_DOMAINS);
 }
 
 /// A word so many times.
-fn repeated(alloc: Global, word: &str, count: usize) -> Result<String, AllocError> {
-    word.repeat(alloc, count)
+fn repeated(rt: &(impl Abort + AllocGlobal), word: &str, count: usize) -> String {
+    word.repeat(rt.alloc(), count).expect(rt, "memory")
+}
+
+/// Adds a text.
+fn add(rt: &impl Abort, text: &mut String, more: &str) {
+    text.push_str(more).expect(rt, "memory");
 }
 
 /// The built-in text with a key of this name.
-fn with_key(alloc: Global, name: &str) -> Result<String, Fail> {
-    let line = format!(in alloc; "100000\n{name} = 1")?;
-    Ok(edited(alloc, &[("100000", line.as_str())])?)
+fn with_key(rt: &(impl Abort + AllocGlobal), name: &str) -> String {
+    let mut line = repeated(rt, "100000\n", 1);
+    add(rt, &mut line, name);
+    add(rt, &mut line, " = 1");
+    edited(rt, &[("100000", line.as_str())])
 }
 
 #[test]
-fn a_long_name_is_told(rt: HostRuntime) -> Result<(), Fail> {
-    let name = repeated(rt.alloc(), "colour", 200)?;
-    let text = with_key(rt.alloc(), &name)?;
+fn a_long_name_is_told(rt: HostRuntime) {
+    let name = repeated(&rt, "colour", 200);
+    let text = with_key(&rt, &name);
     is_refused(&rt, text.as_bytes(), 5, name.as_bytes(), 0);
-    Ok(())
 }
 
 #[test]
-fn a_long_text_is_read(rt: HostRuntime) -> Result<(), Fail> {
-    let comments = repeated(rt.alloc(), "# a line of a comment\n", 40_000)?;
-    let text = format!(in rt.alloc(); "{comments}{PLAIN}")?;
-    let machine = machine_of(rt.alloc(), text.as_bytes())?;
-    assert_eq!(rt; machine.interval, 10000);
-    Ok(())
+fn a_long_text_is_read(rt: HostRuntime) {
+    let mut text = repeated(&rt, "# a line of a comment\n", 40_000);
+    add(&rt, &mut text, PLAIN);
+    assert!(rt; machine_of(&rt, text.as_bytes()).interval == 10000);
 }
 
 /// Edits of the built-in text, and the words of the refusal.
@@ -422,22 +420,25 @@ static WORDS: [Words; 7] = [
 ];
 
 /// The words of a refusal.
-fn words_of(alloc: Global, fail: &MachineFail) -> Result<String, Fail> {
-    Ok(format!(in alloc; "{fail}")?)
+fn words_of(rt: &(impl Abort + AllocGlobal), fail: &MachineFail) -> String {
+    format!(in rt.alloc(); "{fail}").expect(rt, "memory")
+}
+
+/// Checks the words with which a text is refused.
+fn is_refused_in_words(rt: &(impl Abort + AllocGlobal), text: &[u8], wanted: &str) {
+    let words = words_of(rt, &refusal(rt, text));
+    assert!(rt; words.as_str() == wanted);
 }
 
 /// Checks the words of each refusal.
-fn refuse_in_words(rt: &(impl Abort + AllocGlobal), cases: &[Words]) -> Result<(), Fail> {
+fn refuse_in_words(rt: &(impl Abort + AllocGlobal), cases: &[Words]) {
     for &(edits, wanted) in cases {
-        let text = edited(rt.alloc(), edits)?;
-        let fail = refusal(rt.alloc(), text.as_bytes()).ok_or("not refused")?;
-        let words = words_of(rt.alloc(), &fail)?;
-        assert_eq!(rt; words.as_str(), wanted);
+        let text = edited(rt, edits);
+        is_refused_in_words(rt, text.as_bytes(), wanted);
     }
-    Ok(())
 }
 
 #[test]
-fn a_refusal_is_told_in_words(rt: HostRuntime) -> Result<(), Fail> {
-    refuse_in_words(&rt, &WORDS)
+fn a_refusal_is_told_in_words(rt: HostRuntime) {
+    refuse_in_words(&rt, &WORDS);
 }

@@ -1,12 +1,14 @@
 //! Worked graphs, split by hand.
-ghost use Rattle.std.specs.Prelude.{◌<◌, ◌^◌, All, IsTrue, length};
+ghost use Rattle.std.specs.Prelude.{◌≡◌, ◌<◌, ◌^◌, All, IsTrue, length};
+ghost use Rattle.machine_desc.specs.Components.{component_count};
+ghost use Rattle.machine_desc.specs.Machine.{IsMachine};
 
 use crate::loads::{Load, MISS, graph_of};
 use crate::machines::small;
 use domain_map::{Crossing, Parts, split};
-use event_graph::Event;
+use event_graph::{Event, Graph};
+use machine_desc::Machine;
 use std::process::Abort;
-use std::test::Fail;
 use zs_num::Outcome;
 
 /// Whether these events can be split on a machine of two components.
@@ -17,24 +19,30 @@ fn is_on_two(events: &[Event]) -> bool
     events.len() < 1 << 31 && events.iter().all(|event| event.component < 2)
 }
 
-/// How the graph of loads is split on the machine of two cores.
-fn split_of(rt: &(impl Abort + AllocGlobal), loads: &[Load]) -> Result<Parts, Fail> {
-    let graph = graph_of(rt, loads)?;
+/// How a graph is split on a machine of two components.
+fn parts_of(rt: &(impl Abort + AllocGlobal), graph: &Graph, machine: &Machine) -> Parts
+    requires machine { IsMachine machine.now }
+    requires components { component_count machine.now ≡ 2 }
+{
     assert!(rt; is_on_two(graph.events()));
-    let machine = small(rt.alloc(), 2)?;
-    Ok(split(rt.alloc(), &graph, &machine)?)
+    split(rt.alloc(), graph, machine).expect(rt, "memory")
+}
+
+/// How the graph of loads is split on the machine of two cores.
+fn split_of(rt: &(impl Abort + AllocGlobal), loads: &[Load]) -> Parts {
+    parts_of(rt, &graph_of(rt, loads), &small(rt, 2))
 }
 
 /// Checks how many domains there are, and those of the components.
 fn has_domains(rt: &impl Abort, parts: &Parts, count: u16, places: &[u16]) {
-    assert_eq!(rt; parts.domains(), count);
+    assert!(rt; parts.domains() == count);
     assert!(rt; parts.places() == places);
 }
 
 /// Checks the domain of a component.
 fn is_in_domain(rt: &impl Abort, parts: &Parts, component: u16, wanted: u16) {
     assert!(rt; usize::from(component) < parts.places().len());
-    assert_eq!(rt; parts.domain(component), wanted);
+    assert!(rt; parts.domain(component) == wanted);
 }
 
 /// Checks the events of a domain.
@@ -79,16 +87,21 @@ static TWO_MISSES_CROSS: [Crossing; 4] = [
     },
 ];
 
+static TWO_MISSES: [Load; 2] = [(0, 1, MISS), (1, 1, MISS)];
+
+/// Checks the domains, the events and the crossings of the two misses.
+fn cross_four_times(rt: &impl Abort, parts: &Parts) {
+    has_domains(rt, parts, 2, &[0, 1]);
+    is_in_domain(rt, parts, 0, 0);
+    is_in_domain(rt, parts, 1, 1);
+    has_events(rt, parts, 0, &[0, 2, 3, 5]);
+    has_events(rt, parts, 1, &[1, 4]);
+    has_crossings(rt, parts, &TWO_MISSES_CROSS);
+}
+
 #[test]
-fn two_misses_cross_four_times(rt: HostRuntime) -> Result<(), Fail> {
-    let parts = split_of(&rt, &[(0, 1, MISS), (1, 1, MISS)])?;
-    has_domains(&rt, &parts, 2, &[0, 1]);
-    is_in_domain(&rt, &parts, 0, 0);
-    is_in_domain(&rt, &parts, 1, 1);
-    has_events(&rt, &parts, 0, &[0, 2, 3, 5]);
-    has_events(&rt, &parts, 1, &[1, 4]);
-    has_crossings(&rt, &parts, &TWO_MISSES_CROSS);
-    Ok(())
+fn two_misses_cross_four_times(rt: HostRuntime) {
+    cross_four_times(&rt, &split_of(&rt, &TWO_MISSES));
 }
 
 static A_FILL_WAITS: [Crossing; 4] = [
@@ -122,10 +135,9 @@ static A_FILL_WAITS: [Crossing; 4] = [
     },
 ];
 
+static DIRTY_MISS: [Load; 1] = [(0, 1, Outcome::Miss { dirty_victim: true })];
+
 #[test]
-fn a_fill_waits_across_for_the_read_and_for_the_write_back(rt: HostRuntime) -> Result<(), Fail> {
-    let outcome = Outcome::Miss { dirty_victim: true };
-    let parts = split_of(&rt, &[(0, 1, outcome)])?;
-    has_crossings(&rt, &parts, &A_FILL_WAITS);
-    Ok(())
+fn a_fill_waits_across_for_the_read_and_for_the_write_back(rt: HostRuntime) {
+    has_crossings(&rt, &split_of(&rt, &DIRTY_MISS), &A_FILL_WAITS);
 }

@@ -1,11 +1,8 @@
 //! Graphs of loads: worked cycles, and that the calls succeed.
-use crate::loads::{Load, MISS, entry, graph_of};
-use crate::machines::small;
+use crate::loads::{Load, MISS, entry, graph_of, plain};
 use event_graph::{Event, Expand, Fired, FiredList, Graph, Kind, Parent, Plain};
-use std::alloc::Global;
 use std::process::Abort;
-use std::test::Fail;
-use zs_num::{Cycle, NoMemory, Outcome};
+use zs_num::{Cycle, Outcome};
 
 /// An outcome, and the time at zero load and the number of events.
 type ZeroLoad = (Outcome, u64, u16);
@@ -20,24 +17,23 @@ static AT_ZERO_LOAD: [ZeroLoad; 7] = [
     (Outcome::Miss { dirty_victim: true }, 113, 4),
 ];
 
-/// The time at zero load and the number of events of a load with this outcome.
-fn at_zero_load(alloc: Global, outcome: Outcome) -> Result<(u64, u16), NoMemory> {
-    let plain = Plain::of(&small(alloc, 2)?);
-    let entry = entry(&(0, 6, outcome));
-    Ok((plain.time(&entry), plain.count(&entry)))
+/// Checks the time at zero load and the number of events of a load.
+fn takes(rt: &impl Abort, plain: &Plain, load: &Load, time: u64, count: u16) {
+    let entry = entry(load);
+    assert!(rt; plain.time(&entry) == time);
+    assert!(rt; plain.count(&entry) == count);
 }
 
 /// Checks each row.
-fn take_these(rt: &(impl Abort + AllocGlobal), rows: &[ZeroLoad]) -> Result<(), Fail> {
+fn take_these(rt: &impl Abort, plain: &Plain, rows: &[ZeroLoad]) {
     for &(outcome, time, count) in rows {
-        assert_eq!(rt; at_zero_load(rt.alloc(), outcome)?, (time, count));
+        takes(rt, plain, &(0, 6, outcome), time, count);
     }
-    Ok(())
 }
 
 #[test]
-fn accesses_take_their_zero_load_times(rt: HostRuntime) -> Result<(), Fail> {
-    take_these(&rt, &AT_ZERO_LOAD)
+fn accesses_take_their_zero_load_times(rt: HostRuntime) {
+    take_these(&rt, &plain(&rt), &AT_ZERO_LOAD);
 }
 
 /// The core, the component, the kind, the first and last cycle in the bound phase and the parent of
@@ -73,23 +69,26 @@ fn event_of(number: u32, row: &Row) -> Event {
     }
 }
 
-/// The events of rows, numbered in their order.
-fn events_of(alloc: Global, rows: &[Row]) -> Result<Vec<Event>, NoMemory> {
-    let mut events = Vec::new(alloc);
-    let mut number = 0u32;
-    for row in rows {
-        events.push(event_of(number, row))?;
-        number = number.wrapping_add(1);
-    }
-    Ok(events)
+/// Checks an event.
+fn is_event(rt: &impl Abort, found: &Event, wanted: &Event) {
+    assert!(rt; *found == *wanted);
 }
 
+/// Checks that the events are those of the rows, numbered in their order.
+fn are_events(rt: &impl Abort, events: &[Event], rows: &[Row]) {
+    assert!(rt; events.len() == rows.len());
+    let mut number = 0u32;
+    for (event, row) in events.iter().zip(rows) {
+        is_event(rt, event, &event_of(number, row));
+        number = number.wrapping_add(1);
+    }
+}
+
+static TWO_AT_ONCE: [Load; 2] = [(0, 1, MISS), (1, 1, MISS)];
+
 #[test]
-fn two_cores_that_miss_at_once_make_six_events(rt: HostRuntime) -> Result<(), Fail> {
-    let graph = graph_of(&rt, &[(0, 1, MISS), (1, 1, MISS)])?;
-    let wanted = events_of(rt.alloc(), &SIX_EVENTS)?;
-    assert!(rt; graph.events() == wanted.as_slice());
-    Ok(())
+fn two_cores_that_miss_at_once_make_six_events(rt: HostRuntime) {
+    are_events(&rt, graph_of(&rt, &TWO_AT_ONCE).events(), &SIX_EVENTS);
 }
 
 /// Of two misses of a core, the finish of the first, and the start, the first parent and the finish
@@ -107,59 +106,73 @@ fn first_and_second(events: &[Event]) -> Option<(Cycle, Cycle, Option<Parent>, C
     ))
 }
 
+/// Checks these times and this parent of the two misses.
+fn goes_on(rt: &impl Abort, events: &[Event], wanted: (Cycle, Cycle, Option<Parent>, Cycle)) {
+    assert!(rt; first_and_second(events) == Some(wanted));
+}
+
+static IN_TURN: [Load; 2] = [(0, 2, MISS), (0, 116, MISS)];
+
 #[test]
-fn a_core_goes_on_from_its_last_critical_event(rt: HostRuntime) -> Result<(), Fail> {
-    let graph = graph_of(&rt, &[(0, 2, MISS), (0, 116, MISS)])?;
+fn a_core_goes_on_from_its_last_critical_event(rt: HostRuntime) {
     let parent = Parent {
         number: 2,
         delay: 2,
     };
-    let wanted = Some((115, 117, Some(parent), 229));
-    assert_eq!(rt; first_and_second(graph.events()), wanted);
-    Ok(())
+    let wanted = (115, 117, Some(parent), 229);
+    goes_on(&rt, graph_of(&rt, &IN_TURN).events(), wanted);
 }
 
 /// So many misses of core 0 at cycle 1.
-fn misses(alloc: Global, count: usize) -> Result<Vec<Load>, NoMemory> {
-    Ok(vec![in alloc; (0, 1, MISS); count]?)
+fn misses(rt: &(impl Abort + AllocGlobal), count: usize) -> Vec<Load> {
+    vec![in rt.alloc(); (0, 1, MISS); count].expect(rt, "memory")
 }
 
-/// How many events there are, and the number and the first parent of the last.
-fn count_and_last(events: &[Event]) -> Option<(usize, u32, Option<Parent>)> {
-    let last = events.last()?;
-    Some((events.len(), last.number, last.first))
+/// Checks how many events there are, and the number and the first parent of the last.
+fn ends_with(rt: &impl Abort, events: &[Event], count: usize, number: u32, parent: Parent) {
+    assert!(rt; events.len() == count);
+    let Some(last) = events.last() else {
+        panic!(rt; "no events");
+    };
+    assert!(rt; last.number == number);
+    assert!(rt; last.first == Some(parent));
 }
 
 #[test]
-fn a_graph_may_have_more_events_than_two_bytes_count(rt: HostRuntime) -> Result<(), Fail> {
-    let loads = misses(rt.alloc(), 22_000)?;
-    let graph = graph_of(&rt, &loads)?;
+fn a_graph_may_have_more_events_than_two_bytes_count(rt: HostRuntime) {
+    let graph = graph_of(&rt, &misses(&rt, 22_000));
     let parent = Parent {
         number: 65_998,
         delay: 0,
     };
-    let wanted = Some((66_000, 65_999, Some(parent)));
-    assert_eq!(rt; count_and_last(graph.events()), wanted);
-    Ok(())
+    ends_with(&rt, graph.events(), 66_000, 65_999, parent);
+}
+
+/// Whether this is the one fired event of a list.
+fn is_alone(list: &[Fired], fired: &Fired) -> bool {
+    list.len() == 1 && list[0] == *fired
+}
+
+/// A list of one fired event.
+fn list_of(rt: &(impl Abort + AllocGlobal), fired: &Fired) -> FiredList {
+    FiredList::of(vec![in rt.alloc(); *fired].expect(rt, "memory"))
 }
 
 /// Checks that a list of one fired event has it.
-fn keeps(rt: &(impl Abort + AllocGlobal), fired: Fired) -> Result<(), Fail> {
-    let list = FiredList::of(vec![in rt.alloc(); fired]?);
-    assert_eq!(rt; list.as_slice(), [fired].as_slice());
-    assert_eq!(rt; list.into_list().len(), 1);
-    Ok(())
+fn keeps(rt: &(impl Abort + AllocGlobal), fired: &Fired) {
+    let list = list_of(rt, fired);
+    assert!(rt; is_alone(list.as_slice(), fired));
+    assert!(rt; is_alone(&list.into_list(), fired));
 }
 
 #[test]
-fn fired_events_are_kept(rt: HostRuntime) -> Result<(), Fail> {
-    assert_eq!(rt; Graph::of(Vec::new(rt.alloc())).events().len(), 0);
-    keeps(
-        &rt,
-        Fired {
-            number: 0,
-            start: 2,
-            finish: 12,
-        },
-    )
+fn fired_events_are_kept(rt: HostRuntime) {
+    assert!(rt; Graph::of(Vec::new(rt.alloc())).events().is_empty());
+    keeps(&rt, &FIRED);
 }
+
+static FIRED: Fired = Fired {
+    number: 0,
+    start: 2,
+    finish: 12,
+};

@@ -4,10 +4,8 @@ ghost use Rattle.event_graph.specs.Timing.{pieces_of};
 
 use crate::machines::small;
 use event_graph::{Graph, Plain, build, laws};
-use std::alloc::Global;
 use std::process::Abort;
-use std::test::Fail;
-use zs_num::{Cycle, Entries, Entry, NoMemory, Outcome, Request};
+use zs_num::{Cycle, Entries, Entry, Outcome, Request};
 
 /// A miss whose victim is clean.
 pub(crate) const MISS: Outcome = Outcome::Miss {
@@ -52,19 +50,27 @@ fn are_few(plain: &Plain, entries: &[Entry]) -> bool
 }
 
 /// The entries of loads.
-fn entries_of(alloc: Global, loads: &[Load]) -> Result<Entries, NoMemory> {
-    let mut entries = Vec::with_capacity(alloc, loads.len())?;
+fn entries_of(rt: &(impl Abort + AllocGlobal), loads: &[Load]) -> Entries {
+    let mut entries = Vec::new(rt.alloc());
     for load in loads {
-        entries.push(entry(load))?;
+        entries.push(entry(load)).expect(rt, "memory");
     }
-    Ok(Entries::of(entries))
+    Entries::of(entries)
+}
+
+/// The expansion of the machine of two cores.
+pub(crate) fn plain(rt: &(impl Abort + AllocGlobal)) -> Plain {
+    Plain::of(&small(rt, 2))
+}
+
+/// The graph of entries of two cores.
+fn built(rt: &(impl Abort + AllocGlobal), plain: &Plain, entries: &Entries) -> Graph {
+    assert!(rt; are_of_two_cores(entries.as_slice()));
+    assert!(rt; are_few(plain, entries.as_slice()));
+    build(rt.alloc(), plain, entries, 2).expect(rt, "memory")
 }
 
 /// The graph that loads make on the machine of two cores.
-pub(crate) fn graph_of(rt: &(impl Abort + AllocGlobal), loads: &[Load]) -> Result<Graph, Fail> {
-    let entries = entries_of(rt.alloc(), loads)?;
-    let plain = Plain::of(&small(rt.alloc(), 2)?);
-    assert!(rt; are_of_two_cores(entries.as_slice()));
-    assert!(rt; are_few(&plain, entries.as_slice()));
-    Ok(build(rt.alloc(), &plain, &entries, 2)?)
+pub(crate) fn graph_of(rt: &(impl Abort + AllocGlobal), loads: &[Load]) -> Graph {
+    built(rt, &plain(rt), &entries_of(rt, loads))
 }

@@ -1,43 +1,54 @@
 //! The built-in description with some words changed, and a small machine.
-ghost use Rattle.std.specs.Prelude.{◌≡◌, ◌≤◌, IfOk};
+ghost use Rattle.std.specs.Prelude.{◌≡◌, ◌≤◌, [], ◌∷◌};
 ghost use Rattle.machine_desc.specs.Components.{component_count};
 ghost use Rattle.machine_desc.specs.Machine.{IsMachine};
 
-use machine_desc::{
-    Controllers, Domains, L1, L2, Machine, MachineFail, Memory, PLAIN, Places, read,
-};
-use std::alloc::{AllocError, Global};
-use zs_num::NoMemory;
+use machine_desc::{Controllers, Domains, L1, L2, Machine, Memory, PLAIN, Places, read};
+use std::process::Abort;
 
 /// A text with the first `old` in it replaced.
-fn replaced(alloc: Global, text: &str, old: &str, new: &str) -> Result<String, AllocError> {
-    text.replacen(alloc, old, new, 1)
+fn replaced(rt: &(impl Abort + AllocGlobal), text: &str, old: &str, new: &str) -> String {
+    text.replacen(rt.alloc(), old, new, 1).expect(rt, "memory")
+}
+
+/// A copy of a text.
+fn copy_of(rt: &(impl Abort + AllocGlobal), text: &str) -> String {
+    String::from_str(rt.alloc(), text).expect(rt, "memory")
 }
 
 /// The built-in text with each first word of a pair replaced by the second.
-pub(crate) fn edited(alloc: Global, edits: &[(&str, &str)]) -> Result<String, AllocError> {
-    let mut text = String::from_str(alloc, PLAIN)?;
+pub(crate) fn edited(rt: &(impl Abort + AllocGlobal), edits: &[(&str, &str)]) -> String {
+    let mut text = copy_of(rt, PLAIN);
     for (old, new) in edits {
-        text = replaced(alloc, &text, *old, *new)?;
+        text = replaced(rt, &text, *old, *new);
     }
-    Ok(text)
+    text
 }
 
 /// What a text reads as.
-pub(crate) fn machine_of(alloc: Global, text: &[u8]) -> Result<Machine, MachineFail> {
-    read(alloc, text)
+pub(crate) fn machine_of(rt: &(impl Abort + AllocGlobal), text: &[u8]) -> Machine
+    ensures { IsMachine result }
+{
+    read(rt.alloc(), text).expect(rt, "a machine")
+}
+
+/// A list of one domain.
+fn place(rt: &(impl Abort + AllocGlobal), domain: u16) -> Places
+    ensures { result ≡ domain ∷ [] }
+{
+    Places::of(vec![in rt.alloc(); domain].expect(rt, "memory"))
 }
 
 /// One core or two, one bank in domain 0 and one controller in domain 1, with the numbers of the
 /// built-in text.
-pub(crate) fn small(alloc: Global, cores: u16) -> Result<Machine, NoMemory>
+pub(crate) fn small(rt: &(impl Abort + AllocGlobal), cores: u16) -> Machine
     requires some { 1 ≤ cores }
     requires few { cores ≤ 2 }
-    ensures machine { IfOk result IsMachine }
-    ensures components { IfOk result (λ m. component_count m ≡ 2) }
-    ensures domains { IfOk result (λ m. m.domains.count ≡ 2) }
+    ensures machine { IsMachine result }
+    ensures components { component_count result ≡ 2 }
+    ensures domains { result.domains.count ≡ 2 }
 {
-    Ok(Machine {
+    Machine {
         version: 1,
         cores,
         interval: 10_000,
@@ -69,8 +80,8 @@ pub(crate) fn small(alloc: Global, cores: u16) -> Result<Machine, NoMemory>
         },
         domains: Domains {
             count: 2,
-            banks: Places::of(vec![in alloc; 0]?),
-            controllers: Places::of(vec![in alloc; 1]?),
+            banks: place(rt, 0),
+            controllers: place(rt, 1),
         },
-    })
+    }
 }

@@ -13,6 +13,19 @@ pub(crate) type WriteRow = (&'static str, &'static str, Result<(), FileFail>);
 /// A piece, and the answer to it.
 pub(crate) type PutRow = (&'static str, Result<usize, SinkFail>);
 
+/// Whether these are the bytes of a text.
+pub(crate) fn are_of(bytes: &[u8], text: &str) -> bool {
+    bytes == text.as_bytes()
+}
+
+/// Checks bytes; None where there are to be none.
+pub(crate) fn are_bytes<R: Abort>(rt: &R, bytes: &[u8], want: Option<&str>) {
+    match want {
+        Some(text) => assert!(rt; are_of(bytes, text)),
+        None => panic!(rt; "bytes where there were to be none"),
+    }
+}
+
 /// The first bytes of a name.
 pub(crate) fn first<F: Files>(
     alloc: Global,
@@ -23,12 +36,16 @@ pub(crate) fn first<F: Files>(
     files.read(alloc, name, most)
 }
 
+/// Whether a call failed, and memory did not run out.
+fn is_failed(fail: &FileFail) -> bool {
+    *fail == FileFail::Failed
+}
+
 /// The answer to a read is these bytes, or that it failed.
 fn is_read<R: Abort>(rt: &R, answer: &Result<Bytes, FileFail>, want: Option<&str>) {
-    match (answer, want) {
-        (Ok(bytes), Some(text)) => assert!(rt; bytes.as_slice() == text.as_bytes()),
-        (Err(fail), None) => assert!(rt; *fail == FileFail::Failed),
-        _ => panic!(rt; "read where it was to fail, or failed"),
+    match answer {
+        Ok(bytes) => are_bytes(rt, bytes.as_slice(), want),
+        Err(fail) => assert!(rt; want.is_none() && is_failed(fail)),
     }
 }
 
@@ -45,10 +62,15 @@ fn written<F: Files>(alloc: Global, files: &mut F, name: &str, text: &str) -> Re
     files.write(alloc, name, text.as_bytes())
 }
 
+/// Whether two answers to a write are the same.
+fn are_same_written(one: &Result<(), FileFail>, other: &Result<(), FileFail>) -> bool {
+    one == other
+}
+
 /// Writes each row.
 pub(crate) fn writes<R: Abort, F: Files>(rt: &R, alloc: Global, files: &mut F, rows: &[WriteRow]) {
-    for &(name, text, answer) in rows {
-        assert!(rt; written(alloc, files, name, text) == answer);
+    for (name, text, answer) in rows {
+        assert!(rt; are_same_written(&written(alloc, files, *name, *text), answer));
     }
 }
 
@@ -57,11 +79,21 @@ fn put<S: Sink>(alloc: Global, sink: &mut S, piece: &str) -> Result<usize, SinkF
     sink.put(alloc, piece.as_bytes())
 }
 
+/// Whether two answers to a piece are the same.
+fn are_same_put(one: &Result<usize, SinkFail>, other: &Result<usize, SinkFail>) -> bool {
+    one == other
+}
+
 /// Puts each row.
 pub(crate) fn puts<R: Abort, S: Sink>(rt: &R, alloc: Global, sink: &mut S, rows: &[PutRow]) {
-    for &(piece, answer) in rows {
-        assert!(rt; put(alloc, sink, piece) == answer);
+    for (piece, answer) in rows {
+        assert!(rt; are_same_put(&put(alloc, sink, *piece), answer));
     }
+}
+
+/// Whether two operations are the same.
+fn are_same_operations(one: &Operation, other: &Operation) -> bool {
+    *one == *other
 }
 
 /// So many calls failed, and the latest was of this operation and name.
@@ -71,12 +103,10 @@ pub(crate) fn assert_faults<R: Abort>(
     latest: Option<&Fault>,
     want: (u64, Operation, &str),
 ) {
-    assert_eq!(rt; count, want.0);
-    match latest {
-        Some(fault) => {
-            assert_eq!(rt; fault.operation, want.1);
-            assert_eq!(rt; fault.name.as_slice(), want.2.as_bytes());
-        }
-        None => panic!(rt; "no fault is kept"),
-    }
+    let Some(fault) = latest else {
+        panic!(rt; "no fault is kept");
+    };
+    assert!(rt; count == want.0);
+    assert!(rt; are_same_operations(&fault.operation, &want.1));
+    assert!(rt; are_of(fault.name.as_slice(), want.2));
 }

@@ -119,12 +119,21 @@ impl<'a> System for Slow<'a> {
     }
 }
 
+/// Files of that system, which count their reads.
+fn slow_files(reads: &Cell<u32>) -> RealFiles<Slow<'_>> {
+    RealFiles::new(Slow { reads })
+}
+
+/// Reads a row.
+fn reads_slowly<R: Abort>(rt: &R, alloc: Global, files: &mut RealFiles<Slow<'_>>, row: ReadRow) {
+    reads(rt, alloc, files, &[row]);
+}
+
 /// A file is read up to so many bytes, which are these, in so many reads.
 fn is_read_in<R: Abort>(rt: &R, alloc: Global, row: ReadRow, count: u32) {
     let made = Cell::new(0);
-    let mut files = RealFiles::new(Slow { reads: &made });
-    reads(rt, alloc, &mut files, &[row]);
-    assert_eq!(rt; made.get(), count);
+    reads_slowly(rt, alloc, &mut slow_files(&made), row);
+    assert!(rt; made.get() == count);
 }
 
 static READS: [(ReadRow, u32); 3] = [

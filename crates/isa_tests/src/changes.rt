@@ -1,6 +1,7 @@
 //! Executables like SEVEN with other numbers in their headers.
 use crate::files::SEVEN;
-use std::alloc::{AllocError, Global};
+use crate::lists::{add, copy_of};
+use std::process::Abort;
 
 /// A number to write into a file: its place, how many bytes it takes there, and the number.
 pub(crate) type Change = (usize, usize, u64);
@@ -50,30 +51,30 @@ fn put(file: &mut [u8], change: Change) {
 
 /// A copy of these bytes with the changes made.
 pub(crate) fn changed(
-    alloc: Global,
+    rt: &(impl Abort + AllocGlobal),
     bytes: &[u8],
     changes: &[Change],
-) -> Result<Vec<u8>, AllocError> {
-    let mut file = Vec::from_slice(alloc, bytes)?;
+) -> Vec<u8> {
+    let mut file = copy_of(rt, bytes);
     for change in changes {
         put(&mut file, *change);
     }
-    Ok(file)
+    file
 }
 
 /// Adds the header of SEVEN's segment with these changes, each at its place in SEVEN.
-fn add_header(file: &mut Vec<u8>, alloc: Global, changes: &[Change]) -> Result<(), AllocError> {
-    let header = changed(alloc, &SEVEN[..120], changes)?;
-    file.extend_from_slice(header.get(64..).unwrap_or(&[]))
+fn add_header(rt: &(impl Abort + AllocGlobal), file: &mut Vec<u8>, changes: &[Change]) {
+    let header = changed(rt, &SEVEN[..120], changes);
+    add(rt, file, header.get(64..).unwrap_or(&[]));
 }
 
 /// The headers of SEVEN's segment with changes of their own, each at its place in SEVEN, and the
 /// bytes of the segment.
-pub(crate) fn with_headers(alloc: Global, headers: &[[Change; 2]]) -> Result<Vec<u8>, AllocError> {
-    let mut file = changed(alloc, &SEVEN[..64], &[(E_PHNUM, 2, headers.len() as u64)])?;
+pub(crate) fn with_headers(rt: &(impl Abort + AllocGlobal), headers: &[[Change; 2]]) -> Vec<u8> {
+    let mut file = changed(rt, &SEVEN[..64], &[(E_PHNUM, 2, headers.len() as u64)]);
     for changes in headers {
-        add_header(&mut file, alloc, changes)?;
+        add_header(rt, &mut file, changes);
     }
-    file.extend_from_slice(&SEVEN[120..])?;
-    Ok(file)
+    add(rt, &mut file, &SEVEN[120..]);
+    file
 }

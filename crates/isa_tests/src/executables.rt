@@ -1,9 +1,9 @@
 //! Executables of one segment.
-ghost use Rattle.std.specs.Prelude.{◌≡◌, ◌+◌, ◌≤◌, ◌^◌, IfOk};
+ghost use Rattle.std.specs.Prelude.{◌≡◌, ◌+◌, ◌≤◌, ◌^◌};
 
-use elf_load::{Image, LoadFail, load};
-use std::alloc::Global;
-use zs_num::NoMemory;
+use crate::lists::{add_number, add_word, copy_of};
+use elf_load::{Image, load};
+use std::process::Abort;
 
 /// The first address of memory.
 pub(crate) const BASE: u64 = 0x1_0000;
@@ -23,24 +23,23 @@ static HEADERS: [u8; 88] = [
 ];
 
 /// The file of a program of these words.
-pub(crate) fn file_of(alloc: Global, words: &[u32]) -> Result<Vec<u8>, NoMemory> {
+pub(crate) fn file_of(rt: &(impl Abort + AllocGlobal), words: &[u32]) -> Vec<u8> {
     let bytes = 4 * words.len() as u64;
-    let mut file = Vec::from_slice(alloc, &HEADERS)?;
+    let mut file = copy_of(rt, &HEADERS);
     for number in [BASE, bytes, bytes, 1] {
-        file.extend_from_slice(&number.to_le_bytes())?;
+        add_number(rt, &mut file, number);
     }
     for word in words {
-        file.extend_from_slice(&word.to_le_bytes())?;
+        add_word(rt, &mut file, *word);
     }
-    Ok(file)
+    file
 }
 
 /// The image of a program of these words in a memory of `size` bytes from `base` on.
-pub(crate) fn loaded(alloc: Global, words: &[u32], base: u64, size: u64) -> Result<Image, LoadFail>
+pub(crate) fn loaded(rt: &(impl Abort + AllocGlobal), words: &[u32], base: u64, size: u64) -> Image
     requires { base + size ≤ 2 ^ 48 }
-    ensures base { IfOk result (λ image. image.base ≡ base) }
-    ensures size { IfOk result (λ image. image.size ≡ size) }
+    ensures base { result.base ≡ base }
+    ensures size { result.size ≡ size }
 {
-    let file = file_of(alloc, words)?;
-    load(alloc, &file, base, size)
+    load(rt.alloc(), &file_of(rt, words), base, size).expect(rt, "an image")
 }

@@ -2,12 +2,12 @@
 use crate::checks::are_so_many;
 use crate::executables::{BASE, SIZE};
 use crate::images::{Shape, has_segments, lies_at, read};
+use crate::lists::{add_number, add_word};
 use elf_load::{BadElf, LoadFail, load};
 use gen_prog::generate;
-use std::alloc::{AllocError, Global};
+use std::alloc::Global;
 use std::process::Abort;
-use std::test::Fail;
-use zs_num::{Bytes, NoMemory};
+use zs_num::Bytes;
 
 /// The words of the program of a table of 16 doublewords. Word 13 has the mask.
 static WORDS: [u32; 28] = [
@@ -51,21 +51,20 @@ static NUMBERS: [(u64, u32, u64); 5] = [
 ];
 
 /// The program of a number, for a memory from `BASE` on.
-fn generated(alloc: Global, n: u64) -> Result<Bytes, NoMemory> {
-    generate(alloc, n, BASE)
+fn generated(rt: &(impl Abort + AllocGlobal), n: u64) -> Bytes {
+    generate(rt.alloc(), n, BASE).expect(rt, "memory")
 }
 
 /// The end of the file of the program of a number: its words, of which word 13 has the mask, the
 /// number, and its iterations.
-fn end_of(alloc: Global, n: u64, masked: u32, iterations: u64) -> Result<Vec<u8>, AllocError> {
-    let mut bytes = Vec::new(alloc);
+fn end_of(rt: &(impl Abort + AllocGlobal), n: u64, masked: u32, iterations: u64) -> Vec<u8> {
+    let mut bytes = Vec::new(rt.alloc());
     for (place, &word) in WORDS.iter().enumerate() {
-        let word = if place == 13 { masked } else { word };
-        bytes.extend_from_slice(&word.to_le_bytes())?;
+        add_word(rt, &mut bytes, if place == 13 { masked } else { word });
     }
-    bytes.extend_from_slice(&n.to_le_bytes())?;
-    bytes.extend_from_slice(&iterations.to_le_bytes())?;
-    Ok(bytes)
+    add_number(rt, &mut bytes, n);
+    add_number(rt, &mut bytes, iterations);
+    bytes
 }
 
 /// Checks the length of a file, and its end.
@@ -75,13 +74,11 @@ fn ends_with(rt: &impl Abort, file: &[u8], length: usize, end: &[u8]) {
 }
 
 #[test]
-fn programs_are_those_of_another_assembler(rt: HostRuntime) -> Result<(), Fail> {
+fn programs_are_those_of_another_assembler(rt: HostRuntime) {
     for &(n, masked, iterations) in &NUMBERS {
-        let wanted = end_of(rt.alloc(), n, masked, iterations)?;
-        let file = generated(rt.alloc(), n)?;
-        ends_with(&rt, file.as_slice(), 304, &wanted);
+        let wanted = end_of(&rt, n, masked, iterations);
+        ends_with(&rt, generated(&rt, n).as_slice(), 304, &wanted);
     }
-    Ok(())
 }
 
 /// Whether a file is refused in a memory of a page, since its second segment lies past it.
@@ -94,13 +91,12 @@ fn is_past_a_page(alloc: Global, file: &[u8]) -> bool {
 }
 
 #[test]
-fn a_program_is_loaded_where_it_lies_in_memory(rt: HostRuntime) -> Result<(), Fail> {
-    let file = generated(rt.alloc(), 7)?;
-    let image = read(rt.alloc(), file.as_slice())?;
+fn a_program_is_loaded_where_it_lies_in_memory(rt: HostRuntime) {
+    let file = generated(&rt, 7);
+    let image = read(&rt, file.as_slice());
     lies_at(&rt, &image, BASE, SIZE, BASE);
     has_segments(&rt, &image, &SEGMENTS);
     assert!(rt; is_past_a_page(rt.alloc(), file.as_slice()));
-    Ok(())
 }
 
 static SEGMENTS: [Shape; 2] = [(BASE, 112, 112, true), (BASE + 4096, 16, 2112, false)];

@@ -3,13 +3,18 @@ ghost use Rattle.std.specs.Prelude.{◌≡◌};
 
 use crate::checks::{are_bytes, are_so_many, is_number};
 use crate::executables::{BASE, SIZE};
-use elf_load::{Image, LoadFail, Segment, load};
-use std::alloc::Global;
+use elf_load::{Image, Segment, load};
+use rv_core::DecodedProgram;
 use std::process::Abort;
 
 /// The image of a file in a memory of `SIZE` bytes from `BASE` on.
-pub(crate) fn read(alloc: Global, file: &[u8]) -> Result<Image, LoadFail> {
-    load(alloc, file, BASE, SIZE)
+pub(crate) fn read(rt: &(impl Abort + AllocGlobal), file: &[u8]) -> Image {
+    load(rt.alloc(), file, BASE, SIZE).expect(rt, "an image")
+}
+
+/// The program of an image, decoded once.
+pub(crate) fn decoded<'a>(rt: &(impl Abort + AllocGlobal), image: &'a Image) -> DecodedProgram<'a> {
+    DecodedProgram::of(rt.alloc(), image).expect(rt, "memory")
 }
 
 /// The address of the first byte of memory.
@@ -28,7 +33,7 @@ pub(crate) fn lies_at(rt: &impl Abort, image: &Image, base: u64, size: u64, entr
 
 /// Checks the word at an address.
 fn is_word(rt: &impl Abort, found: Option<u32>, wanted: Option<u32>) {
-    assert_eq!(rt; found, wanted);
+    assert!(rt; found == wanted);
 }
 
 /// Checks the words at these addresses, with and without a place to look at first.
@@ -59,7 +64,7 @@ fn byte_of(image: &Image, addr: u64) -> Option<u8> {
 /// Checks the bytes at these addresses.
 pub(crate) fn has_bytes(rt: &impl Abort, image: &Image, bytes: &[(u64, u8)]) {
     for &(addr, byte) in bytes {
-        assert_eq!(rt; byte_of(image, addr), Some(byte));
+        assert!(rt; byte_of(image, addr) == Some(byte));
     }
 }
 
@@ -99,12 +104,5 @@ pub(crate) fn has_segments(rt: &impl Abort, image: &Image, wanted: &[Shape]) {
     are_so_many(rt, segments.len(), wanted.len());
     for (segment, shape) in segments.iter().zip(wanted) {
         is_segment(rt, segment, *shape);
-    }
-}
-
-/// Checks that two images have the same bytes in each segment.
-pub(crate) fn have_same_bytes(rt: &impl Abort, one: &Image, other: &Image) {
-    for (left, right) in one.segments().iter().zip(other.segments()) {
-        are_bytes(rt, left.bytes.as_slice(), right.bytes.as_slice());
     }
 }

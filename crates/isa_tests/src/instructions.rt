@@ -4,12 +4,10 @@ ghost use Rattle.std.specs.Prelude.{◌<◌, IsSome};
 
 use crate::checks::is_number;
 use crate::executables::{BASE, SIZE, file_of};
-use crate::images::read;
+use crate::images::{decoded, read};
 use elf_load::Image;
 use rv_core::{Ask, Core, DecodedProgram, Program, Why};
-use std::alloc::Global;
 use std::process::Abort;
-use std::test::Fail;
 use zs_num::{AmoOp, Request};
 
 /// addi a7, x0, 93
@@ -18,9 +16,8 @@ const EXIT: u32 = 0x05d0_0893;
 const ECALL: u32 = 0x73;
 
 /// The image of a program of these words.
-fn image(alloc: Global, words: &[u32]) -> Result<Image, Fail> {
-    let file = file_of(alloc, words)?;
-    Ok(read(alloc, &file)?)
+fn image(rt: &(impl Abort + AllocGlobal), words: &[u32]) -> Image {
+    read(rt, &file_of(rt, words))
 }
 
 /// The one core of a machine, before its first instruction.
@@ -58,9 +55,12 @@ fn is_ask(rt: &impl Abort, found: Ask, wanted: Ask) {
     assert!(rt; found == wanted);
 }
 
-/// Checks that a core halted at the fetch from this address.
-fn is_halted_at(rt: &impl Abort, core: &Core, wanted: u64) {
-    assert!(rt; matches!(core.halted(), Some(Why::Fetch { addr }) if addr == wanted));
+/// The address of the fetch at which a core halted.
+fn fetch_of(core: &Core) -> Option<u64> {
+    match core.halted() {
+        Some(Why::Fetch { addr }) => Some(addr),
+        _ => None,
+    }
 }
 
 /// Checks the number in a register, and pc.
@@ -82,121 +82,122 @@ fn first_ask(core: &mut Core, image: &Image) -> Ask {
 }
 
 /// Checks what a program of these words asks for first.
-fn asks(rt: &(impl Abort + AllocGlobal), words: &[u32], wanted: Ask) -> Result<(), Fail> {
-    let image = image(rt.alloc(), words)?;
-    is_ask(rt, first_ask(&mut core(), &image), wanted);
-    Ok(())
+fn asks(rt: &(impl Abort + AllocGlobal), words: &[u32], wanted: Ask) {
+    is_ask(rt, first_ask(&mut core(), &image(rt, words)), wanted);
 }
 
 /// An access that a core asks for, what it is answered, a register with the number that it then
 /// has, and pc.
 type Access = (Request, u64, u8, u64, u64);
 
-/// Checks the accesses of a program of these words, and answers them.
-fn accesses(
-    rt: &(impl Abort + AllocGlobal),
-    words: &[u32],
-    accesses: &[Access],
-) -> Result<Core, Fail> {
-    let image = image(rt.alloc(), words)?;
-    let mut core = core();
-    for &(request, number, n, value, pc) in accesses {
-        is_ask(rt, first_ask(&mut core, &image), Ask::Access(request));
-        assert_eq!(rt; reply(rt, &mut core, number), None);
-        is_at(rt, &core, n, value, pc);
+/// Checks an access of a core, and answers it.
+fn is_asked(rt: &impl Abort, core: &mut Core, image: &Image, access: &Access) {
+    is_ask(rt, first_ask(core, image), Ask::Access(access.0));
+    assert!(rt; reply(rt, core, access.1).is_none());
+    is_at(rt, core, access.2, access.3, access.4);
+}
+
+/// Checks the accesses of a core, and answers them. The last ends its instruction.
+fn are_asked(rt: &impl Abort, core: &mut Core, image: &Image, accesses: &[Access]) {
+    for access in accesses {
+        is_asked(rt, core, image, access);
     }
-    Ok(core)
+    assert!(rt; !core.in_progress());
+}
+
+/// Checks the accesses of a program of these words.
+fn accesses(rt: &(impl Abort + AllocGlobal), words: &[u32], accesses: &[Access]) {
+    are_asked(rt, &mut core(), &image(rt, words), accesses);
 }
 
 #[test]
-fn words_that_are_no_instructions_halt(rt: HostRuntime) -> Result<(), Fail> {
+fn words_that_are_no_instructions_halt(rt: HostRuntime) {
     for word in [0, 0x0200_101b, 0x0000_100f, 0x0000_1073] {
-        asks(&rt, &[word], Ask::Halted(Why::Illegal { word }))?;
+        asks(&rt, &[word], Ask::Halted(Why::Illegal { word }));
     }
-    Ok(())
+}
+
+/// Checks that a core halts so, is then at the base with nothing in x5, and stays halted.
+fn stays_halted(rt: &impl Abort, core: &mut Core, image: &Image, halted: Ask) {
+    is_ask(rt, next(core, image), halted);
+    is_at(rt, core, 5, 0, BASE);
+    is_ask(rt, next(core, image), halted);
 }
 
 #[test]
-fn a_misaligned_jump_halts_and_writes_nothing(rt: HostRuntime) -> Result<(), Fail> {
+fn a_misaligned_jump_halts_and_writes_nothing(rt: HostRuntime) {
     let halted = Ask::Halted(Why::Misaligned { target: 2 });
     // jalr x5, 2(x0)
-    let image = image(rt.alloc(), &[0x0020_02e7])?;
-    let mut core = core();
-    is_ask(&rt, next(&mut core, &image), halted);
-    is_at(&rt, &core, 5, 0, BASE);
-    is_ask(&rt, next(&mut core, &image), halted);
+    stays_halted(&rt, &mut core(), &image(&rt, &[0x0020_02e7]), halted);
     // jalr x0, 2(x0)
-    asks(&rt, &[0x0020_0067], halted)?;
+    asks(&rt, &[0x0020_0067], halted);
     // beq x0, x0, 6
     asks(
         &rt,
         &[0x0000_0363],
         Ask::Halted(Why::Misaligned { target: BASE + 6 }),
-    )?;
+    );
     // bne x0, x0, 6; ebreak
-    asks(&rt, &[0x0000_1363, 0x0010_0073], Ask::Halted(Why::Break))
+    asks(&rt, &[0x0000_1363, 0x0010_0073], Ask::Halted(Why::Break));
 }
 
 #[test]
-fn a_jump_out_of_the_program_halts_at_the_fetch(rt: HostRuntime) -> Result<(), Fail> {
+fn a_jump_out_of_the_program_halts_at_the_fetch(rt: HostRuntime) {
     // jalr x0, 0(x0)
-    asks(&rt, &[0x0000_0067], Ask::Halted(Why::Fetch { addr: 0 }))?;
+    asks(&rt, &[0x0000_0067], Ask::Halted(Why::Fetch { addr: 0 }));
     // fence, and then past the end
     asks(
         &rt,
         &[0x0ff0_000f],
         Ask::Halted(Why::Fetch { addr: BASE + 4 }),
-    )
+    );
+}
+
+/// Checks that a core jumps over the word that is no instruction, and has the address behind the
+/// jump in x5.
+fn jumps(rt: &impl Abort, core: &mut Core, image: &Image) {
+    is_ask(rt, first_ask(core, image), Ask::Halted(Why::Break));
+    is_at(rt, core, 0, 0, BASE + 16);
+    is_at(rt, core, 5, BASE + 8, BASE + 16);
 }
 
 #[test]
-fn a_register_jump_goes_by_the_old_register_with_its_lowest_bit_cleared(
-    rt: HostRuntime,
-) -> Result<(), Fail> {
-    // lui x5, 0x10; jalr x5, 13(x5); two words that are no instructions; addi x0, x0, 5; ebreak
+fn a_register_jump_goes_by_the_old_register_with_its_lowest_bit_cleared(rt: HostRuntime) {
+    // lui x5, 0x10; jalr x5, 13(x5); a word that is no instruction; addi x0, x0, 5; ebreak
     let words = [0x0001_02b7, 0x00d2_82e7, 0, 0x0050_0013, 0x0010_0073];
-    let image = image(rt.alloc(), &words)?;
-    let mut core = core();
-    is_ask(&rt, first_ask(&mut core, &image), Ask::Halted(Why::Break));
-    is_at(&rt, &core, 0, 0, BASE + 16);
-    is_at(&rt, &core, 5, BASE + 8, BASE + 16);
-    Ok(())
+    jumps(&rt, &mut core(), &image(&rt, &words));
 }
 
 #[test]
-fn an_access_that_is_not_all_in_memory_halts_at_its_own_address(
-    rt: HostRuntime,
-) -> Result<(), Fail> {
+fn an_access_that_is_not_all_in_memory_halts_at_its_own_address(rt: HostRuntime) {
     // ld x5, 0(x0)
-    asks(&rt, &[0x0000_3283], Ask::Halted(Why::Access { addr: 0 }))?;
+    asks(&rt, &[0x0000_3283], Ask::Halted(Why::Access { addr: 0 }));
     // lui x6, 0x110; ld x5, -4(x6): memory ends, and with it a line, at 0x110000
     let halted = Ask::Halted(Why::Access { addr: 0x10_fffc });
-    asks(&rt, &[0x0011_0337, 0xffc3_3283], halted)?;
+    asks(&rt, &[0x0011_0337, 0xffc3_3283], halted);
     // lui x6, 0x110; ld x5, -8(x6)
     let last = Request::Load {
         addr: 0x10_fff8,
         width: 8,
     };
-    asks(&rt, &[0x0011_0337, 0xff83_3283], Ask::Access(last))
+    asks(&rt, &[0x0011_0337, 0xff83_3283], Ask::Access(last));
 }
 
 #[test]
-fn an_atomic_is_tested_for_alignment_before_memory(rt: HostRuntime) -> Result<(), Fail> {
+fn an_atomic_is_tested_for_alignment_before_memory(rt: HostRuntime) {
     let halted = Ask::Halted(Why::AtomicAlign { addr: 1 });
     // lr.d x5, (x11), where a1 is the number of cores
-    asks(&rt, &[0x1005_b2af], halted)?;
+    asks(&rt, &[0x1005_b2af], halted);
     // amoadd.w x5, x7, (x11)
-    asks(&rt, &[0x0075_a2af], halted)?;
+    asks(&rt, &[0x0075_a2af], halted);
     // lr.w x5, (x6), where x6 is 0
-    asks(&rt, &[0x1003_22af], Ask::Halted(Why::Access { addr: 0 }))
+    asks(&rt, &[0x1003_22af], Ask::Halted(Why::Access { addr: 0 }));
 }
 
 #[test]
-fn a_load_that_crosses_a_line_joins_two_accesses(rt: HostRuntime) -> Result<(), Fail> {
+fn a_load_that_crosses_a_line_joins_two_accesses(rt: HostRuntime) {
     // lui x6, 0x11; ld x5, 60(x6)
-    let core = accesses(&rt, &[0x0001_1337, 0x03c3_3283], &CROSSING_LOAD)?;
-    assert!(rt; !core.in_progress());
-    Ok(())
+    accesses(&rt, &[0x0001_1337, 0x03c3_3283], &CROSSING_LOAD);
 }
 
 static CROSSING_LOAD: [Access; 2] = [
@@ -223,16 +224,13 @@ static CROSSING_LOAD: [Access; 2] = [
 ];
 
 #[test]
-fn a_store_that_crosses_a_line_stores_the_lower_bytes_in_the_lower_line(
-    rt: HostRuntime,
-) -> Result<(), Fail> {
+fn a_store_that_crosses_a_line_stores_the_lower_bytes_in_the_lower_line(rt: HostRuntime) {
     // lui x6, 0x11; lui x5, 0x12345; sw x5, 63(x6)
     accesses(
         &rt,
         &[0x0001_1337, 0x1234_52b7, 0x0253_2fa3],
         &CROSSING_STORE,
-    )?;
-    Ok(())
+    );
 }
 
 static CROSSING_STORE: [Access; 2] = [
@@ -261,7 +259,7 @@ static CROSSING_STORE: [Access; 2] = [
 ];
 
 #[test]
-fn loads_extend_by_their_sign_or_by_zeros(rt: HostRuntime) -> Result<(), Fail> {
+fn loads_extend_by_their_sign_or_by_zeros(rt: HostRuntime) {
     for &(word, width, number, loaded) in &LOADS {
         let load = Request::Load {
             addr: 0x1_1000,
@@ -272,9 +270,8 @@ fn loads_extend_by_their_sign_or_by_zeros(rt: HostRuntime) -> Result<(), Fail> {
             &rt,
             &[0x0001_1337, word],
             &[(load, number, 5, loaded, BASE + 8)],
-        )?;
+        );
     }
-    Ok(())
 }
 
 /// Loads of x5 from x6, of so many bytes, what is in memory, and what x5 gets.
@@ -291,9 +288,7 @@ static LOADS: [(u32, u8, u64, u64); 9] = [
 ];
 
 #[test]
-fn a_store_conditional_is_paired_with_the_latest_load_reserved(
-    rt: HostRuntime,
-) -> Result<(), Fail> {
+fn a_store_conditional_is_paired_with_the_latest_load_reserved(rt: HostRuntime) {
     // lui x6, 0x11; addi x5, x0, -1; lr.w x8, (x6); sc.d x7, x5, (x6); lr.w x8, (x6);
     // sc.w x7, x5, (x6); sc.w x7, x5, (x6)
     let words = [
@@ -305,8 +300,7 @@ fn a_store_conditional_is_paired_with_the_latest_load_reserved(
         0x1853_23af,
         0x1853_23af,
     ];
-    accesses(&rt, &words, &CONDITIONALS)?;
-    Ok(())
+    accesses(&rt, &words, &CONDITIONALS);
 }
 
 const RESERVE: Request = Request::Lr {
@@ -346,11 +340,10 @@ static CONDITIONALS: [Access; 5] = [
 ];
 
 #[test]
-fn an_atomic_update_gives_the_old_number(rt: HostRuntime) -> Result<(), Fail> {
+fn an_atomic_update_gives_the_old_number(rt: HostRuntime) {
     // lui x6, 0x11; addi x7, x0, -1; amoadd.w x5, x7, (x6); amoswap.d x5, x7, (x6)
     let words = [0x0001_1337, 0xfff0_0393, 0x0073_22af, 0x0873_32af];
-    accesses(&rt, &words, &UPDATES)?;
-    Ok(())
+    accesses(&rt, &words, &UPDATES);
 }
 
 static UPDATES: [Access; 2] = [
@@ -387,37 +380,48 @@ fn letter_of(place: u64) -> u8 {
     LETTERS[(place % 3) as usize]
 }
 
-/// Checks the access of a byte for the console, and answers the letters of "hey" in turn.
-fn give_letter(rt: &impl Abort, core: &mut Core, request: Request, bytes: u64) {
+/// Checks that a core asks for a byte for the console, and answers the letters of "hey" in turn.
+fn give_letter(rt: &impl Abort, core: &mut Core, ask: Ask, bytes: u64) {
     let addr = BASE.wrapping_add(bytes);
-    assert!(rt; request == Request::Load { addr, width: 1 });
+    is_ask(rt, ask, Ask::Access(Request::Load { addr, width: 1 }));
     let letter = letter_of(bytes);
-    assert_eq!(rt; reply(rt, core, u64::from(letter)), Some(letter));
+    assert!(rt; reply(rt, core, u64::from(letter)) == Some(letter));
 }
 
-/// What a write of so many bytes from an address on gives in a0, where memory has the letters of
-/// "hey" from the base on again and again, and how many bytes reach the console.
-fn write(rt: &impl Abort, alloc: Global, call: [u32; 4]) -> Result<(u64, u64), Fail> {
+/// The number with which a program ends.
+fn exit_of(ask: Ask) -> Option<u64> {
+    match ask {
+        Ask::Halted(Why::Exit(number)) => Some(number),
+        _ => None,
+    }
+}
+
+/// What a core gives in a0 in the end, where memory has the letters of "hey" from the base on again
+/// and again, and how many bytes reach the console.
+fn written(rt: &impl Abort, core: &mut Core, image: &Image) -> (u64, u64) {
+    for bytes in 0..300 {
+        let ask = first_ask(core, image);
+        if let Some(a0) = exit_of(ask) {
+            return (a0, bytes);
+        }
+        give_letter(rt, core, ask, bytes);
+    }
+    panic!(rt; "no halt")
+}
+
+/// What a call gives in a0, and how many bytes reach the console.
+fn write(rt: &(impl Abort + AllocGlobal), call: [u32; 4]) -> (u64, u64) {
     // addi a7, x0, 64, the arguments, ecall, and then exit with a0
     let [number, file, addr, count] = call;
-    let image = image(alloc, &[number, file, addr, count, ECALL, EXIT, ECALL])?;
-    let mut core = core();
-    for bytes in 0..300 {
-        match first_ask(&mut core, &image) {
-            Ask::Access(request) => give_letter(rt, &mut core, request, bytes),
-            Ask::Halted(Why::Exit(a0)) => return Ok((a0, bytes)),
-            _ => return Err("another halt".into()),
-        }
-    }
-    Err("no halt".into())
+    let image = image(rt, &[number, file, addr, count, ECALL, EXIT, ECALL]);
+    written(rt, &mut core(), &image)
 }
 
 #[test]
-fn a_write_call_gives_its_count_or_a_linux_error(rt: HostRuntime) -> Result<(), Fail> {
+fn a_write_call_gives_its_count_or_a_linux_error(rt: HostRuntime) {
     for &(call, a0, bytes) in &CALLS {
-        assert_eq!(rt; write(&rt, rt.alloc(), call)?, (a0, bytes));
+        assert!(rt; write(&rt, call) == (a0, bytes));
     }
-    Ok(())
 }
 
 /// Instructions that set a7, a0, a1 and a2 before a call, and what it gives in a0 and on the
@@ -474,8 +478,29 @@ fn a_core_begins_with_its_number_the_number_of_cores_and_its_stack(rt: HostRunti
     }
 }
 
+/// Checks that two cores ask for the same, and are then at the same pc with the same x5.
+fn asks_the_same(
+    rt: &impl Abort,
+    once: &mut Core,
+    program: &DecodedProgram,
+    anew: &mut Core,
+    image: &Image,
+) {
+    is_ask(rt, next(once, program), next(anew, image));
+    is_at(rt, once, 5, register(anew, 5), anew.pc());
+}
+
+/// Checks that two cores do the same, the one with the program that is decoded once.
+fn do_the_same(rt: &impl Abort, program: &DecodedProgram, image: &Image) {
+    let (mut once, mut anew) = (core(), core());
+    for _ in 0..12 {
+        asks_the_same(rt, &mut once, program, &mut anew, image);
+    }
+    assert!(rt; fetch_of(&once) == Some(BASE + 24));
+}
+
 #[test]
-fn a_program_decoded_once_is_the_same_program(rt: HostRuntime) -> Result<(), Fail> {
+fn a_program_decoded_once_is_the_same_program(rt: HostRuntime) {
     // addi x5, x0, 3; addi x5, x5, -1; bne x5, x0, -4; jal x0, 8; 0; and past the end
     let words = [
         0x0030_0293,
@@ -485,13 +510,6 @@ fn a_program_decoded_once_is_the_same_program(rt: HostRuntime) -> Result<(), Fai
         0,
         0x0000_0013,
     ];
-    let image = image(rt.alloc(), &words)?;
-    let program = DecodedProgram::of(rt.alloc(), &image)?;
-    let (mut once, mut anew) = (core(), core());
-    for _ in 0..12 {
-        is_ask(&rt, next(&mut once, &program), next(&mut anew, &image));
-        is_at(&rt, &once, 5, register(&anew, 5), anew.pc());
-    }
-    is_halted_at(&rt, &once, BASE + 24);
-    Ok(())
+    let image = image(&rt, &words);
+    do_the_same(&rt, &decoded(&rt, &image), &image);
 }

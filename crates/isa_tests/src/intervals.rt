@@ -1,21 +1,20 @@
 //! Small programs on one core, with numbers from the RISC-V Unprivileged ISA manual and its table
 //! of opcodes. Memory is a flat list of bytes, and each access finds its line in memory.
-ghost use Rattle.std.specs.Prelude.{◌≡◌, ◌-◌, ◌<◌, ◌≤◌, length, vec_capacity, vec_len, IfOk, OnOk, Some};
+ghost use Rattle.std.specs.Prelude.{◌≡◌, ◌-◌, ◌<◌, ◌≤◌, length, vec_capacity, vec_len, Some};
 ghost use Rattle.machine_desc.specs.Machine.{IsMachine};
 ghost use Rattle.flat_memory.specs.FlatMemory.{memory_after, memory_reply};
 
 use crate::checks::{are_bytes, are_so_many, is_number};
 use crate::executables::loaded;
+use crate::images::decoded;
 use bound_core::{BoundCore, Port, Turned};
 use elf_load::Image;
 use event_graph::Plain;
 use flat_memory::FlatMemory;
-use machine_desc::{Machine, MachineFail, PLAIN, read};
-use rv_core::{DecodedProgram, Program, Why};
-use std::alloc::Global;
+use machine_desc::{Machine, PLAIN, read};
+use rv_core::{Program, Why};
 use std::process::Abort;
-use std::test::Fail;
-use zs_num::{Cycle, Entry, NoMemory, Outcome, Request};
+use zs_num::{Cycle, Entry, Outcome, Request};
 
 /// The time of an access that finds its line in memory on the built-in machine: the look-up in the
 /// core's own cache, that in the shared cache, the read of memory and the fill.
@@ -59,10 +58,10 @@ static CROSSING: [u32; 17] = [
 ];
 
 /// The machine of a description.
-fn machine(alloc: Global, text: &[u8]) -> Result<Machine, MachineFail>
-    ensures { IfOk result IsMachine }
+fn machine(rt: &(impl Abort + AllocGlobal), text: &[u8]) -> Machine
+    ensures { IsMachine result }
 {
-    read(alloc, text)
+    read(rt.alloc(), text).expect(rt, "a machine")
 }
 
 /// A port of one core over a flat memory. It keeps the entries that it answered.
@@ -103,6 +102,13 @@ impl Port for FlatPort {
     }
 }
 
+/// Checks where an access began, and what it was answered.
+fn is_answered(rt: &impl Abort, entry: &Entry, wanted: (Cycle, u64)) {
+    let (start, reply) = wanted;
+    is_number(rt, start, entry.start, start);
+    is_number(rt, start, entry.reply, reply);
+}
+
 /// A core and the port to its memory.
 #[derive(Drop)]
 struct Served {
@@ -115,35 +121,31 @@ struct Served {
 
 impl Served {
     /// Makes room for an interval of 1,000 cycles, where the clock is no later.
-    fn prepare(&mut self) -> Result<(), Fail>
-        ensures clock { OnOk result (self.new.core.timed.clock ≤ 1000) }
-        ensures spare { OnOk result (1258 ≤ self.new.core.spare) }
-        ensures room { OnOk result (1258 ≤ vec_capacity self.new.port.entries - vec_len self.new.port.entries) }
+    fn prepare(&mut self, rt: &impl Abort)
+        ensures clock { self.new.core.timed.clock ≤ 1000 }
+        ensures spare { 1258 ≤ self.new.core.spare }
+        ensures room { 1258 ≤ vec_capacity self.new.port.entries - vec_len self.new.port.entries }
     {
-        if self.core.clock() > 1000 {
-            return Err("a later cycle".into());
-        }
-        self.core.reserve(1000)?;
-        self.port.entries.reserve(1258)?;
-        Ok(())
+        assert!(rt; self.core.clock() <= 1000);
+        self.core.reserve(1000).expect(rt, "memory");
+        self.port.entries.reserve(1258).expect(rt, "memory");
     }
 
     /// A turn of the core in an interval that ends then, and whether it made an access.
-    fn turn<P: Program>(&mut self, program: &P, times: &Plain, end: Cycle) -> Result<bool, Fail>
+    fn turn<P: Program>(&mut self, rt: &impl Abort, program: &P, times: &Plain, end: Cycle) -> bool
         requires { end ≤ 1000 }
     {
-        self.prepare()?;
+        self.prepare(rt);
         let turned = self.core.turn(program, times, end, &mut self.port);
-        Ok(matches!(turned, Turned::Took(_)))
+        matches!(turned, Turned::Took(_))
     }
 
     /// Runs the core to the end of an interval.
-    fn run_one<P: Program>(&mut self, program: &P, times: &Plain, end: Cycle) -> Result<(), Fail>
+    fn run_one<P: Program>(&mut self, rt: &impl Abort, program: &P, times: &Plain, end: Cycle)
         requires { end ≤ 1000 }
     {
-        self.prepare()?;
+        self.prepare(rt);
         self.core.run_one(program, times, end, &mut self.port);
-        Ok(())
     }
 
     /// The number with which the program ended.
@@ -163,9 +165,8 @@ impl Served {
     /// Checks where each access of the port began, and what it was answered.
     fn has_answered(&self, rt: &impl Abort, wanted: &[(Cycle, u64)]) {
         are_so_many(rt, self.port.entries.len(), wanted.len());
-        for (entry, &(start, reply)) in self.port.entries.iter().zip(wanted) {
-            is_number(rt, start, entry.start, start);
-            is_number(rt, start, entry.reply, reply);
+        for (entry, wanted) in self.port.entries.iter().zip(wanted) {
+            is_answered(rt, entry, *wanted);
         }
     }
 
@@ -176,91 +177,86 @@ impl Served {
     }
 
     /// The core waits 10 cycles.
-    fn delay(&mut self) -> Result<(), Fail> {
-        self.prepare()?;
+    fn delay(&mut self, rt: &impl Abort) {
+        self.prepare(rt);
         self.core.delay(10);
-        Ok(())
     }
 }
 
 /// Core 0 at its start.
-fn fresh(alloc: Global, machine: &Machine, image: &Image) -> Result<Served, NoMemory>
+fn fresh(rt: &(impl Abort + AllocGlobal), machine: &Machine, image: &Image) -> Served
     requires machine { IsMachine machine.now }
     requires base { image.now.base ≡ machine.now.memory.base }
     requires size { image.now.size ≡ machine.now.memory.size }
 {
-    Ok(Served {
-        core: BoundCore::new(alloc, machine, image, 0)?,
+    Served {
+        core: BoundCore::new(rt.alloc(), machine, image, 0).expect(rt, "memory"),
         port: FlatPort {
-            memory: FlatMemory::loaded(alloc, image, 1)?,
+            memory: FlatMemory::loaded(rt.alloc(), image, 1).expect(rt, "memory"),
             core: 0,
-            entries: Vec::new(alloc),
+            entries: Vec::new(rt.alloc()),
         },
-    })
+    }
 }
 
-/// A program of these words, the times of the built-in machine, and its core at its start.
-fn started(alloc: Global, words: &[u32]) -> Result<(Image, Plain, Served), Fail> {
-    let machine = machine(alloc, PLAIN.as_bytes())?;
-    let image = loaded(alloc, words, machine.memory.base, machine.memory.size)?;
-    let served = fresh(alloc, &machine, &image)?;
-    Ok((image, Plain::of(&machine), served))
+/// Runs a core for an interval of 1,000 cycles.
+fn run(rt: &impl Abort, served: &mut Served, image: &Image, machine: &Machine)
+    requires { IsMachine machine.now }
+{
+    served.run_one(rt, image, &Plain::of(machine), 1000);
 }
 
 /// The core after an interval of 1,000 cycles of a program of these words.
-fn ran(alloc: Global, words: &[u32]) -> Result<Served, Fail> {
-    let (image, times, mut served) = started(alloc, words)?;
-    served.run_one(&image, &times, 1000)?;
-    Ok(served)
+fn ran(rt: &(impl Abort + AllocGlobal), machine: &Machine, words: &[u32]) -> Served
+    requires { IsMachine machine.now }
+{
+    let image = loaded(rt, words, machine.memory.base, machine.memory.size);
+    let mut served = fresh(rt, machine, &image);
+    run(rt, &mut served, &image, machine);
+    served
 }
 
 #[test]
-fn a_write_call_writes_byte_by_byte(rt: HostRuntime) -> Result<(), Fail> {
-    let served = ran(rt.alloc(), &WRITE)?;
+fn a_write_call_writes_byte_by_byte(rt: HostRuntime) {
+    let served = ran(&rt, &machine(&rt, PLAIN.as_bytes()), &WRITE);
     served.has_answered(&rt, &WRITTEN);
     served.has_ended(&rt, b"hi\n", 0);
     served.has_counted(&rt, 6 + 3 * MISS + 3, 9);
-    Ok(())
 }
 
 /// Five instructions and the call come before the first byte.
 static WRITTEN: [(Cycle, u64); 3] = [(6, 0x68), (6 + MISS, 0x69), (6 + 2 * MISS, 0x0a)];
 
 /// Turns of the core with a program that loads across a line at cycle 2.
-fn cross(
-    rt: &impl Abort,
-    served: &mut Served,
-    program: &impl Program,
-    times: &Plain,
-) -> Result<(), Fail> {
+fn cross(rt: &impl Abort, served: &mut Served, program: &impl Program, times: &Plain) {
     // The interval ends where the load begins its first access.
-    let took = served.turn(program, times, 2)?;
+    let took = served.turn(rt, program, times, 2);
     assert!(rt; took);
     is_number(rt, 2, served.core.clock(), 2 + MISS);
     assert!(rt; served.core.core().in_progress());
-    served.run_one(program, times, 2)?;
+    served.run_one(rt, program, times, 2);
     is_number(rt, 2, served.core.clock(), 2 + 2 * MISS);
-    served.delay()?;
-    let took = served.turn(program, times, 500)?;
+    served.delay(rt);
+    let took = served.turn(rt, program, times, 500);
     assert!(rt; !took);
-    Ok(())
 }
 
 /// The core after those turns, with a program that is decoded once.
-fn crossed(rt: &(impl Abort + AllocGlobal)) -> Result<Served, Fail> {
-    let (image, times, mut served) = started(rt.alloc(), &CROSSING)?;
-    let program = DecodedProgram::of(rt.alloc(), &image)?;
-    cross(rt, &mut served, &program, &times)?;
-    Ok(served)
+fn crossed(rt: &(impl Abort + AllocGlobal), machine: &Machine) -> Served
+    requires { IsMachine machine.now }
+{
+    let image = loaded(rt, &CROSSING, machine.memory.base, machine.memory.size);
+    let mut served = fresh(rt, machine, &image);
+    cross(rt, &mut served, &decoded(rt, &image), &Plain::of(machine));
+    served
 }
 
 #[test]
-fn a_load_that_crosses_a_line_goes_on_past_the_end(rt: HostRuntime) -> Result<(), Fail> {
-    let served = crossed(&rt)?;
+fn a_load_that_crosses_a_line_goes_on_past_the_end(rt: HostRuntime) {
+    let served = crossed(&rt, &machine(&rt, PLAIN.as_bytes()));
     served.has_answered(&rt, &LOADED);
     served.has_ended(&rt, b"", 0x8877_6655_4433_2211);
     served.has_counted(&rt, 2 + 2 * MISS + 10 + 3, 5);
-    Ok(())
 }
 
 static LOADED: [(Cycle, u64); 2] = [(2, 0x4433_2211), (2 + MISS, 0x8877_6655)];

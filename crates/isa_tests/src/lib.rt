@@ -23,6 +23,8 @@ mod instructions;
 #[cfg(test)]
 mod intervals;
 #[cfg(test)]
+mod lists;
+#[cfg(test)]
 mod loading;
 #[cfg(test)]
 mod memory;

@@ -5,9 +5,7 @@ ghost use Rattle.zs_num.specs.Request.{IsServable};
 use crate::checks::is_number;
 use crate::executables::{BASE, loaded};
 use flat_memory::FlatMemory;
-use std::alloc::Global;
 use std::process::Abort;
-use std::test::Fail;
 use zs_num::{AmoOp, Request};
 
 /// How many bytes of memory there are.
@@ -37,18 +35,25 @@ fn is_servable(request: &Request) -> bool
 
 impl Small {
     /// Memory loaded with an executable of one instruction, which lies at the base.
-    fn fresh(alloc: Global) -> Result<Self, Fail> {
+    fn fresh(rt: &(impl Abort + AllocGlobal)) -> Self {
         // ecall
-        let image = loaded(alloc, &[0x73], BASE, BYTES)?;
-        Ok(Small {
-            memory: FlatMemory::loaded(alloc, &image, 2)?,
-        })
+        let image = loaded(rt, &[0x73], BASE, BYTES);
+        Small {
+            memory: FlatMemory::loaded(rt.alloc(), &image, 2).expect(rt, "memory"),
+        }
     }
 
     /// Checks the byte at an address.
     fn has_byte(&self, rt: &impl Abort, addr: u64, byte: u8) {
         assert!(rt; addr >= BASE && addr < BASE + BYTES);
         is_number(rt, addr, u64::from(self.memory.byte(addr)), u64::from(byte));
+    }
+
+    /// Checks the byte at each address.
+    fn has_bytes(&self, rt: &impl Abort, rows: &[(u64, u8)]) {
+        for &(addr, byte) in rows {
+            self.has_byte(rt, addr, byte);
+        }
     }
 
     /// Serves an access of a core, and answers its reply.
@@ -69,31 +74,29 @@ impl Small {
 }
 
 #[test]
-fn memory_holds_the_executable(rt: HostRuntime) -> Result<(), Fail> {
-    let small = Small::fresh(rt.alloc())?;
-    for (addr, byte) in [(0x10000, 0x73), (0x10001, 0), (0x10fff, 0)] {
-        small.has_byte(&rt, addr, byte);
-    }
-    Ok(())
+fn memory_holds_the_executable(rt: HostRuntime) {
+    Small::fresh(&rt).has_bytes(&rt, &HELD);
 }
+
+/// Addresses, and their bytes.
+static HELD: [(u64, u8); 3] = [(0x10000, 0x73), (0x10001, 0), (0x10fff, 0)];
 
 /// A core, its access, and the reply.
 type Access = (u16, Request, u64);
 
 /// Checks accesses of cores to a fresh memory.
-fn answers(rt: &(impl Abort + AllocGlobal), accesses: &[Access]) -> Result<(), Fail> {
-    let mut memory = Small::fresh(rt.alloc())?;
+fn answers(rt: &(impl Abort + AllocGlobal), accesses: &[Access]) {
+    let mut memory = Small::fresh(rt);
     for access in accesses {
         memory.replies(rt, access);
     }
-    Ok(())
 }
 
 #[test]
-fn a_pair_stores_unless_another_core_stored_to_its_line(rt: HostRuntime) -> Result<(), Fail> {
-    answers(&rt, &STORES_ONCE)?;
-    answers(&rt, &ENDED)?;
-    answers(&rt, &LEFT)
+fn a_pair_stores_unless_another_core_stored_to_its_line(rt: HostRuntime) {
+    answers(&rt, &STORES_ONCE);
+    answers(&rt, &ENDED);
+    answers(&rt, &LEFT);
 }
 
 const RESERVE: Request = Request::Lr {
@@ -174,8 +177,8 @@ static LEFT: [Access; 5] = [
 ];
 
 #[test]
-fn an_amo_answers_the_old_number_and_stores_the_new_one(rt: HostRuntime) -> Result<(), Fail> {
-    answers(&rt, &AMOS)
+fn an_amo_answers_the_old_number_and_stores_the_new_one(rt: HostRuntime) {
+    answers(&rt, &AMOS);
 }
 
 const ADD: Request = Request::Amo {

@@ -1,20 +1,18 @@
 //! What every layer speaks of: lists of bytes, keys of events, and requests.
-use crate::checks::are_bytes;
+use crate::checks::{are_bytes, is_number};
 use std::process::Abort;
-use std::test::Fail;
 use zs_num::{AmoOp, Bytes, Key, Request};
 
 /// Checks that a list of these bytes keeps them.
-fn keeps(rt: &(impl Abort + AllocGlobal), wanted: &[u8]) -> Result<(), Fail> {
-    let bytes = Bytes::from_slice(rt.alloc(), wanted)?;
+fn keeps(rt: &(impl Abort + AllocGlobal), wanted: &[u8]) {
+    let bytes = Bytes::from_slice(rt.alloc(), wanted).expect(rt, "memory");
     are_bytes(rt, bytes.as_slice(), wanted);
     are_bytes(rt, bytes.into_list().as_slice(), wanted);
-    Ok(())
 }
 
 #[test]
-fn bytes_keep_what_they_copy(rt: HostRuntime) -> Result<(), Fail> {
-    keeps(&rt, b"zsim")
+fn bytes_keep_what_they_copy(rt: HostRuntime) {
+    keeps(&rt, b"zsim");
 }
 
 #[test]
@@ -42,5 +40,7 @@ fn a_request_tells_its_address_width_and_line(rt: HostRuntime) {
         width: 8,
         value: 1,
     };
-    assert_eq!(rt; (add.addr(), add.width(), add.line()), (0x11078, 8, 0x441));
+    is_number(&rt, add.addr(), add.addr(), 0x11078);
+    is_number(&rt, add.addr(), u64::from(add.width()), 8);
+    is_number(&rt, add.addr(), add.line(), 0x441);
 }

@@ -3,39 +3,44 @@ use crate::changes::{
     CLASS, Change, DATA, E_ENTRY, E_FLAGS, E_MACHINE, E_PHENTSIZE, E_PHNUM, E_PHOFF, E_TYPE,
     P_FILESZ, P_FLAGS, P_MEMSZ, P_OFFSET, P_TYPE, P_VADDR, changed, with_headers,
 };
-use crate::executables::BASE;
+use crate::executables::{BASE, SIZE};
 use crate::files::SEVEN;
-use crate::images::read;
-use elf_load::{BadElf, LoadFail};
+use elf_load::{BadElf, LoadFail, load};
 use std::process::Abort;
-use std::test::Fail;
+
+/// Why a file is not loaded.
+fn refusal_of(rt: &(impl Abort + AllocGlobal), file: &[u8]) -> LoadFail {
+    load(rt.alloc(), file, BASE, SIZE)
+        .err()
+        .expect(rt, "not refused")
+}
+
+/// Checks which check refused a file.
+fn is_by(rt: &impl Abort, found: &LoadFail, wanted: &BadElf) {
+    match found {
+        LoadFail::Bad(found) => assert!(rt; *found == *wanted),
+        LoadFail::NoMemory => panic!(rt; "out of memory"),
+    }
+}
 
 /// Checks that this check refuses a file.
 fn is_refused(rt: &(impl Abort + AllocGlobal), file: &[u8], refusal: BadElf) {
-    let answer = read(rt.alloc(), file);
-    assert!(rt; matches!(answer, Err(LoadFail::Bad(found)) if found == refusal));
+    is_by(rt, &refusal_of(rt, file), &refusal);
 }
 
 /// Checks that SEVEN with these changes is refused so.
-fn is_refused_with(
-    rt: &(impl Abort + AllocGlobal),
-    changes: &[Change],
-    refusal: BadElf,
-) -> Result<(), Fail> {
-    let file = changed(rt.alloc(), &SEVEN, changes)?;
-    is_refused(rt, &file, refusal);
-    Ok(())
+fn is_refused_with(rt: &(impl Abort + AllocGlobal), changes: &[Change], refusal: BadElf) {
+    is_refused(rt, &changed(rt, &SEVEN, changes), refusal);
 }
 
 #[test]
-fn each_field_out_of_order_is_refused_by_its_check(rt: HostRuntime) -> Result<(), Fail> {
+fn each_field_out_of_order_is_refused_by_its_check(rt: HostRuntime) {
     for &(at, width, value, refusal) in &FIELDS {
-        is_refused_with(&rt, &[(at, width, value)], refusal)?;
+        is_refused_with(&rt, &[(at, width, value)], refusal);
     }
     for &(size, refusal) in &SIZES {
-        is_refused_with(&rt, &[(P_FILESZ, 8, size), (P_MEMSZ, 8, size)], refusal)?;
+        is_refused_with(&rt, &[(P_FILESZ, 8, size), (P_MEMSZ, 8, size)], refusal);
     }
-    Ok(())
 }
 
 /// A field of SEVEN's headers, another number in it, and the refusal.
@@ -97,27 +102,25 @@ fn are_refused(
     first: [Change; 2],
     second: [Change; 2],
     refusal: BadElf,
-) -> Result<(), Fail> {
-    let file = with_headers(rt.alloc(), &[first, second])?;
-    is_refused(rt, &file, refusal);
-    Ok(())
+) {
+    is_refused(rt, &with_headers(rt, &[first, second]), refusal);
 }
 
 #[test]
-fn a_check_is_made_of_all_headers_before_the_next_check(rt: HostRuntime) -> Result<(), Fail> {
-    are_refused(&rt, PAST_FILE, DYNAMIC, BadElf::Dynamic)?;
+fn a_check_is_made_of_all_headers_before_the_next_check(rt: HostRuntime) {
+    are_refused(&rt, PAST_FILE, DYNAMIC, BadElf::Dynamic);
     are_refused(
         &rt,
         PAST_MEMORY,
         PAST_FILE,
         BadElf::SegmentPastFile { index: 1 },
-    )?;
+    );
     are_refused(
         &rt,
         LOADED,
         PAST_MEMORY,
         BadElf::SegmentPastMemory { index: 1 },
-    )?;
+    );
     are_refused(
         &rt,
         LOADED,
@@ -126,7 +129,7 @@ fn a_check_is_made_of_all_headers_before_the_next_check(rt: HostRuntime) -> Resu
             first: 0,
             second: 1,
         },
-    )
+    );
 }
 
 const LOADED: [Change; 2] = [(P_OFFSET, 8, 176), (P_FLAGS, 4, 7)];

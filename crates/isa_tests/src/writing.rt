@@ -2,13 +2,11 @@
 use crate::checks::are_bytes;
 use crate::executables::{BASE, SIZE};
 use crate::files::SEVEN;
-use crate::images::{Shape, has_segments, have_same_bytes, lies_at, read};
+use crate::images::{Shape, has_segments, lies_at, read};
 use elf_load::Image;
 use elf_write::write;
-use std::alloc::Global;
 use std::process::Abort;
-use std::test::Fail;
-use zs_num::{Bytes, NoMemory};
+use zs_num::Bytes;
 
 /// The code of SEVEN, entered at its second instruction, and 64 bytes of data at 0x12000, of which
 /// the file has three. GNU readelf tells the same of it.
@@ -48,40 +46,42 @@ static THREE_SEGMENTS: [u8; 251] = [
 ];
 
 /// What is written of an image.
-fn written(alloc: Global, image: &Image) -> Result<Bytes, NoMemory> {
-    write(alloc, image)
+fn written(rt: &(impl Abort + AllocGlobal), image: &Image) -> Bytes {
+    write(rt.alloc(), image).expect(rt, "memory")
 }
 
 /// Checks that the image of a file is written as this file.
-fn is_written_again(rt: &(impl Abort + AllocGlobal), file: &[u8]) -> Result<(), Fail> {
-    let image = read(rt.alloc(), file)?;
-    let again = written(rt.alloc(), &image)?;
-    are_bytes(rt, again.as_slice(), file);
-    Ok(())
+fn is_written_again(rt: &(impl Abort + AllocGlobal), file: &[u8]) {
+    are_bytes(rt, written(rt, &read(rt, file)).as_slice(), file);
 }
 
 #[test]
-fn a_written_image_is_the_file_that_it_was_read_from(rt: HostRuntime) -> Result<(), Fail> {
-    is_written_again(&rt, &SEVEN)?;
-    is_written_again(&rt, &CODE_AND_DATA)?;
-    is_written_again(&rt, &THREE_SEGMENTS)
+fn a_written_image_is_the_file_that_it_was_read_from(rt: HostRuntime) {
+    is_written_again(&rt, &SEVEN);
+    is_written_again(&rt, &CODE_AND_DATA);
+    is_written_again(&rt, &THREE_SEGMENTS);
 }
 
 /// The image of what is written of an image.
-fn read_again(alloc: Global, image: &Image) -> Result<Image, Fail> {
-    let file = written(alloc, image)?;
-    Ok(read(alloc, file.as_slice())?)
+fn read_again(rt: &(impl Abort + AllocGlobal), image: &Image) -> Image {
+    read(rt, written(rt, image).as_slice())
+}
+
+/// Checks that two images have the same bytes in each segment.
+fn have_same_bytes(rt: &impl Abort, one: &Image, other: &Image) {
+    for (left, right) in one.segments().iter().zip(other.segments()) {
+        are_bytes(rt, left.bytes.as_slice(), right.bytes.as_slice());
+    }
 }
 
 #[test]
-fn three_written_segments_are_read_again(rt: HostRuntime) -> Result<(), Fail> {
-    let image = read(rt.alloc(), &THREE_SEGMENTS)?;
-    let again = read_again(rt.alloc(), &image)?;
+fn three_written_segments_are_read_again(rt: HostRuntime) {
+    let image = read(&rt, &THREE_SEGMENTS);
+    let again = read_again(&rt, &image);
     lies_at(&rt, &again, BASE, SIZE, 0x10004);
     has_segments(&rt, &image, &SEGMENTS);
     has_segments(&rt, &again, &SEGMENTS);
     have_same_bytes(&rt, &image, &again);
-    Ok(())
 }
 
 static SEGMENTS: [Shape; 3] = [

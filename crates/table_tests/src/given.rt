@@ -1,12 +1,13 @@
-//! What the tests run: the built-in machine with some lines of its text changed, and executables of
-//! eight words.
-ghost use Rattle.std.specs.Prelude.{◌≡◌, IfOk};
+//! What the tests run: machines of small stacks with the caches and the memory of the built-in one,
+//! and executables of eight words.
+ghost use Rattle.std.specs.Prelude.{◌≡◌, ◌<◌, ◌≤◌, ◌%◌, All, IfOk, length};
 ghost use Rattle.machine_desc.specs.Machine.{IsMachine};
 
 use elf_load::{Image, load};
-use machine_desc::{Machine, PLAIN, read};
+use machine_desc::{Controllers, Domains, L1, L2, Machine, Memory, Places};
 use std::alloc::{AllocError, Global};
 use std::test::Fail;
+use zs_num::NoMemory;
 
 /// ld x5, -8(x2); addi x17, x0, 93; ecall
 pub(crate) const ONE_LOAD: [u32; 8] = [0xFF81_3283, 0x05D0_0893, 0x0000_0073, 0, 0, 0, 0, 0];
@@ -39,33 +40,64 @@ static FRONT: [u8; 120] = [
     0x01, 0x00, 0x00, 0x00, 0x00, 0x00, 0x00, 0x00,
 ];
 
-/// The machine of the built-in text with each first line of a pair replaced by the second.
-pub(crate) fn machine_of(alloc: Global, edits: &[(&str, &str)]) -> Result<Machine, Fail>
-    ensures { IfOk result IsMachine }
+/// So many places in domain 0.
+fn places(alloc: Global, count: u16) -> Result<Places, NoMemory>
+    ensures count { IfOk result (λ places. length places ≡ count) }
+    ensures first { IfOk result (All (λ domain. domain < 1)) }
 {
-    let text = edited(alloc, edits)?;
-    Ok(read(alloc, text.as_bytes())?)
+    Ok(Places::of(vec![in alloc; 0; usize::from(count)]?))
 }
 
-/// The built-in text with each first line of a pair replaced by the second.
-fn edited(alloc: Global, edits: &[(&str, &str)]) -> Result<String, AllocError> {
-    let mut text = String::new(alloc);
-    for line in PLAIN.lines() {
-        push_edited(&mut text, line, edits)?;
-    }
-    Ok(text)
-}
-
-/// Appends a line, or the one that stands in its place.
-fn push_edited(text: &mut String, line: &str, edits: &[(&str, &str)]) -> Result<(), AllocError> {
-    for (old, new) in edits {
-        if *old == line {
-            text.push_str(new)?;
-            return text.push_str("\n");
-        }
-    }
-    text.push_str(line)?;
-    text.push_str("\n")
+/// A machine of so many cores and banks. The stack of each core is a line.
+pub(crate) fn machine(alloc: Global, cores: u16, banks: u16) -> Result<Machine, NoMemory>
+    requires some_cores { 1 ≤ cores }
+    requires few_cores { cores ≤ 64 }
+    requires some_banks { 1 ≤ banks }
+    requires few_banks { banks ≤ 64 }
+    requires l1 { 2 % banks ≡ 0 }
+    requires l2 { 4 % banks ≡ 0 }
+    ensures machine { IfOk result IsMachine }
+    ensures cores { IfOk result (λ m. m.cores ≡ cores) }
+    ensures banks { IfOk result (λ m. m.l2.banks ≡ banks) }
+    ensures base { IfOk result (λ m. m.memory.base ≡ 65536) }
+    ensures size { IfOk result (λ m. m.memory.size ≡ 1048576) }
+{
+    Ok(Machine {
+        version: 1,
+        cores,
+        interval: 10_000,
+        intervals: 100_000,
+        memory: Memory {
+            base: 0x1_0000,
+            size: 0x10_0000,
+            stack: 64,
+        },
+        l1: L1 {
+            sets: 2,
+            ways: 1,
+            latency: 1,
+        },
+        l2: L2 {
+            banks,
+            sets: 4,
+            ways: 2,
+            latency: 10,
+            remote: 5,
+            fill: 2,
+            occupancy: 4,
+        },
+        controllers: Controllers {
+            count: 1,
+            read: 100,
+            write: 40,
+            occupancy: 20,
+        },
+        domains: Domains {
+            count: 1,
+            banks: places(alloc, banks)?,
+            controllers: places(alloc, 1)?,
+        },
+    })
 }
 
 /// The image of eight words in the machine's memory.

@@ -1,11 +1,11 @@
 //! A table with the seats of its two cores.
-ghost use Rattle.std.specs.Prelude.{◌≡◌, ◌<◌, [], ◌∷◌, length, IfOk};
+ghost use Rattle.std.specs.Prelude.{◌≡◌, ◌<◌, ◌≤◌, ◌%◌, [], ◌∷◌, length, IfOk};
 ghost use Rattle.machine_desc.specs.Machine.{IsMachine};
 ghost use Rattle.zs_num.specs.Request.{IsServable};
 ghost use Rattle.shard_table.specs.Access.{IsSameSeat, IsSeatOf};
 ghost use Rattle.table_tests.specs.Tested.{AreOf, CanBeAsked, IsAt, IsOf, IsTested};
 
-use crate::given::{ECALL, image_of, machine_of};
+use crate::given::{ECALL, image_of, machine};
 use access_log::CoreLog;
 use elf_load::Image;
 use machine_desc::Machine;
@@ -15,16 +15,6 @@ use std::alloc::Global;
 use std::process::Abort;
 use std::test::Fail;
 use zs_num::{Entry, NoMemory, Request};
-
-/// What makes two cores of the built-in description.
-pub(crate) const ONE_BANK: [(&str, &str); 1] = [("cores = 1", "cores = 2")];
-
-/// What also makes two banks.
-pub(crate) const TWO_BANKS: [(&str, &str); 3] = [
-    ("cores = 1", "cores = 2"),
-    ("banks = 1", "banks = 2"),
-    ("banks = [0]", "banks = [0, 1]"),
-];
 
 /// How many accesses a core can make.
 pub(crate) const ROOM: u32 = 1000;
@@ -58,19 +48,16 @@ fn shards_of(alloc: Global, machine: &Machine, image: &Image) -> Result<Vec<Shar
     Ok(shards)
 }
 
-/// The shards of an edited machine, which has so many of them.
-fn edited_shards<R: Abort>(
-    rt: &R,
-    alloc: Global,
-    edits: &[(&str, &str)],
-    banks: u16,
-) -> Result<Vec<Shard>, Fail>
+/// The shards of a machine of two cores, which has so many of them.
+fn tested_shards(alloc: Global, banks: u16) -> Result<Vec<Shard>, Fail>
+    requires some { 0 < banks }
+    requires few { banks ≤ 64 }
+    requires l1 { 2 % banks ≡ 0 }
+    requires l2 { 4 % banks ≡ 0 }
     ensures count { IfOk result (λ shards. length shards.items ≡ banks) }
     ensures each { IfOk result (λ shards. AreOf banks shards.items) }
 {
-    let machine = machine_of(alloc, edits)?;
-    assert!(rt; machine.cores == 2 && machine.l2.banks == banks);
-    assert!(rt; machine.memory.base == 65536 && machine.memory.size == 1048576);
+    let machine = machine(alloc, 2, banks)?;
     let image = image_of(alloc, &machine, &ECALL)?;
     let shards = shards_of(alloc, &machine, &image)?;
     Ok(shards)
@@ -118,17 +105,15 @@ pub(crate) struct Tested {
 
 impl Tested {
     /// A new table.
-    pub(crate) fn fresh<R: Abort>(
-        rt: &R,
-        alloc: Global,
-        edits: &[(&str, &str)],
-        banks: u16,
-    ) -> Result<Self, Fail>
+    pub(crate) fn fresh(alloc: Global, banks: u16) -> Result<Self, Fail>
         requires some { 0 < banks }
+        requires few { banks ≤ 64 }
+        requires l1 { 2 % banks ≡ 0 }
+        requires l2 { 4 % banks ≡ 0 }
         ensures banks { IfOk result (λ t. t.banks ≡ banks) }
         ensures empty { IfOk result (λ t. (t.first.entries ≡ []) × (t.second.entries ≡ [])) }
     {
-        let shards = edited_shards(rt, alloc, edits, banks)?;
+        let shards = tested_shards(alloc, banks)?;
         let Ok((table, seats)) = ShardTable::make(alloc, shards, 2, ROOM) else {
             return Err(NoMemory.into());
         };

@@ -6,7 +6,7 @@ ghost use Rattle.shard_table.specs.Access.{IsSameSeat, IsSeatOf};
 ghost use Rattle.table_tests.specs.Tested.{IsTested};
 
 use crate::requests::{load_of, one_more_at, store_of};
-use crate::tested::{ONE_BANK, TWO_BANKS, Tested};
+use crate::tested::Tested;
 use shard::Shard;
 use shard_table::{CoreSeat, ShardTable};
 use std::alloc::Global;
@@ -15,7 +15,7 @@ use std::sync::Wait;
 use std::test::Fail;
 use std::thread;
 use std::thread::Threads;
-use zs_num::{NoMemory, Request, Stamp};
+use zs_num::{Entry, NoMemory, Request, Stamp};
 
 /// Two words of lines next to each other: of two shards, the first is in shard 0 and the other in
 /// shard 1.
@@ -23,15 +23,24 @@ const EVEN: u64 = 0x11000;
 
 const ODD: u64 = 0x11040;
 
+/// Checks that core 0 loads what it stored, and has the entries of both accesses.
+fn stores_and_loads<R: Abort>(rt: &R, t: &mut Tested) -> Result<(), Fail> {
+    let stored = t.first_asks(rt, store_of(EVEN, 5))?;
+    let loaded = t.first_asks(rt, load_of(EVEN))?;
+    assert_eq!(rt; (stored.reply, loaded.reply), (0, 5));
+    are_entries(rt, t.first.entries(), &[stored, loaded]);
+    are_entries(rt, t.second.entries(), &[]);
+    Ok(())
+}
+
+/// Checks entries.
+fn are_entries(rt: &impl Abort, found: &[Entry], wanted: &[Entry]) {
+    assert!(rt; found == wanted);
+}
+
 #[test]
 fn a_core_loads_what_it_stored(rt: HostRuntime) -> Result<(), Fail> {
-    let mut t = Tested::fresh(&rt, rt.alloc(), &ONE_BANK, 1)?;
-    let stored = t.first_asks(&rt, store_of(EVEN, 5))?;
-    let loaded = t.first_asks(&rt, load_of(EVEN))?;
-    assert_eq!(rt; (stored.reply, loaded.reply), (0, 5));
-    assert_eq!(rt; t.first.entries(), [stored, loaded].as_slice());
-    assert_eq!(rt; t.second.entries().len(), 0);
-    Ok(())
+    stores_and_loads(&rt, &mut Tested::fresh(rt.alloc(), 1)?)
 }
 
 /// Whether core 0 makes an access and not core 1, whether it stores, and whether to the even line;
@@ -47,19 +56,40 @@ static LATER_STEPS: [(bool, bool, bool, Stamp); 2] = [
     (false, false, false, 4),
 ];
 
-#[test]
-fn stamps_pass_those_of_the_shard_and_of_the_core(rt: HostRuntime) -> Result<(), Fail> {
-    let mut t = Tested::fresh(&rt, rt.alloc(), &TWO_BANKS, 2)?;
-    for &(is_first, stores, is_even, stamp) in &FIRST_STEPS {
-        let found = stamp_of(&rt, &mut t, is_first, request_of(stores, is_even))?;
-        assert_eq!(rt; found, stamp);
-    }
-    assert_eq!(rt; schedule(rt.alloc(), &t)?.as_slice(), [0, 1, 0].as_slice());
-    for &(is_first, stores, is_even, stamp) in &LATER_STEPS {
-        let found = stamp_of(&rt, &mut t, is_first, request_of(stores, is_even))?;
+/// Checks the stamp of each row's access.
+fn get_stamps<R: Abort>(
+    rt: &R,
+    t: &mut Tested,
+    rows: &[(bool, bool, bool, Stamp)],
+) -> Result<(), Fail> {
+    for &(is_first, stores, is_even, stamp) in rows {
+        let found = stamp_of(rt, t, is_first, request_of(stores, is_even))?;
         assert_eq!(rt; found, stamp);
     }
     Ok(())
+}
+
+/// Checks the stamps and the cores of the accesses in recorded order.
+fn is_schedule(
+    rt: &(impl Abort + AllocGlobal),
+    t: &Tested,
+    wanted: &[(Stamp, u16)],
+) -> Result<(), Fail> {
+    let found = schedule(rt.alloc(), t)?;
+    assert!(rt; found.as_slice() == wanted);
+    Ok(())
+}
+
+/// Checks the stamps of the first steps, their recorded order, and the stamps of the later steps.
+fn pass_each_other(rt: &(impl Abort + AllocGlobal), t: &mut Tested) -> Result<(), Fail> {
+    get_stamps(rt, t, &FIRST_STEPS)?;
+    is_schedule(rt, t, &[(1, 0), (1, 1), (2, 0)])?;
+    get_stamps(rt, t, &LATER_STEPS)
+}
+
+#[test]
+fn stamps_pass_those_of_the_shard_and_of_the_core(rt: HostRuntime) -> Result<(), Fail> {
+    pass_each_other(&rt, &mut Tested::fresh(rt.alloc(), 2)?)
 }
 
 /// A store or a load of the even or the odd line.
@@ -91,12 +121,21 @@ fn stamp_of<R: Abort>(
     Ok(entry.stamp)
 }
 
-/// The cores of the accesses in recorded order: by stamps, and at a tie by cores.
-fn schedule(alloc: Global, t: &Tested) -> Result<Vec<u16>, NoMemory> {
-    let both = t.first.entries().iter().chain(t.second.entries());
-    let mut keys: Vec<(Stamp, u16)> = both.map(|e| (e.stamp, e.core)).collect(alloc)?;
+/// Appends the stamp and the core of each access.
+fn push_keys(keys: &mut Vec<(Stamp, u16)>, entries: &[Entry]) -> Result<(), NoMemory> {
+    for entry in entries {
+        keys.push((entry.stamp, entry.core))?;
+    }
+    Ok(())
+}
+
+/// The stamps and the cores of the accesses in recorded order: by stamps, and at a tie by cores.
+fn schedule(alloc: Global, t: &Tested) -> Result<Vec<(Stamp, u16)>, NoMemory> {
+    let mut keys = Vec::new(alloc);
+    push_keys(&mut keys, t.first.entries())?;
+    push_keys(&mut keys, t.second.entries())?;
     keys.sort()?;
-    Ok(keys.iter().map(|key| key.1).collect(alloc)?)
+    Ok(keys)
 }
 
 /// Adds 1 to a doubleword a thousand times.
@@ -150,21 +189,49 @@ fn doubleword(shard: &Shard) -> [u8; 8]
     bytes
 }
 
-#[test]
-fn two_threads_that_add_lose_nothing(rt: HostRuntime) -> Result<(), Fail> {
-    let alloc = rt.alloc();
-    let t = both_add(&rt, Tested::fresh(&rt, alloc, &ONE_BANK, 1)?);
-    let both = t.first.entries().iter().chain(t.second.entries());
-    let mut replies: Vec<u64> = both.map(|e| e.reply).collect(alloc)?;
+/// Appends the reply to each access.
+fn push_replies(replies: &mut Vec<u64>, entries: &[Entry]) -> Result<(), NoMemory> {
+    for entry in entries {
+        replies.push(entry.reply)?;
+    }
+    Ok(())
+}
+
+/// The replies to both cores, in ascending order.
+fn replies(alloc: Global, t: &Tested) -> Result<Vec<u64>, NoMemory> {
+    let mut replies = Vec::new(alloc);
+    push_replies(&mut replies, t.first.entries())?;
+    push_replies(&mut replies, t.second.entries())?;
     replies.sort()?;
-    let all: Vec<u64> = (0..2000).collect(alloc)?;
-    assert_eq!(rt; replies, all);
+    Ok(replies)
+}
+
+/// Checks that the additions found each number below 2,000 once.
+fn find_each_other(rt: &(impl Abort + AllocGlobal), t: &Tested) -> Result<(), Fail> {
+    let mut wanted = 0u64;
+    for &reply in &replies(rt.alloc(), t)? {
+        assert_eq!(rt; reply, wanted);
+        wanted = wanted.wrapping_add(1);
+    }
+    assert_eq!(rt; wanted, 2000);
+    Ok(())
+}
+
+/// Closes a table of one shard, and checks how many entries each core has, and the doubleword.
+fn closes<R: Abort>(rt: &R, alloc: Global, t: Tested) -> Result<(), Fail>
+    requires { t.banks ≡ 1 }
+{
     let (shards, logs) = t.close(alloc)?;
     assert!(rt; shards.len() == 1 && logs.len() == 2);
-    assert_eq!(rt;
-        (logs[0].entries().len(), logs[1].entries().len()),
-        (1000, 1000)
-    );
-    assert_eq!(rt; doubleword(&shards[0]), [0xd0, 0x07, 0, 0, 0, 0, 0, 0]);
+    assert!(rt; doubleword(&shards[0]) == [0xd0, 0x07, 0, 0, 0, 0, 0, 0]);
+    assert!(rt; logs[0].entries().len() == 1000);
+    assert!(rt; logs[1].entries().len() == 1000);
     Ok(())
+}
+
+#[test]
+fn two_threads_that_add_lose_nothing(rt: HostRuntime) -> Result<(), Fail> {
+    let t = both_add(&rt, Tested::fresh(rt.alloc(), 1)?);
+    find_each_other(&rt, &t)?;
+    closes(&rt, rt.alloc(), t)
 }

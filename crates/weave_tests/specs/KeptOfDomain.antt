@@ -5,7 +5,7 @@ use Rattle.zs_num.specs.declared.time.Word.TheVariants.{Bound, Exact}
 use Rattle.event_graph.specs.declared.event.Event.{Event}
 use Rattle.domain_map.specs.declared.crossing.Crossing.{Crossing}
 use Rattle.domain_map.specs.Domains.{Partition}
-use Rattle.weave_core.specs.DomainCalls.{DomainValue}
+use Rattle.weave_core.specs.DomainCalls.{DomainValue, at_first}
 use Rattle.weave_core.specs.DomainMachine.{cycle_of, is_exact, word_at}
 use Rattle.weave_tests.specs.declared.server.Server.{Server}
 
@@ -17,6 +17,12 @@ pub record HasTold (crossings : List Crossing) (known : List Word) (told : List 
 -- no server is slow, and each is free by a cycle
 pub record AreCalm (busy : ℕ) (servers : List Server) : Type 0 where
   pub each : (i : ℕ) (s : Server) → slice_get servers i ≡ Some s → (s.occupancy ≤ 4194304) × (s.free ≤ busy)
+
+-- a domain that has fired nothing and was told nothing, and whose servers are fast and soon free
+pub record IsNew (events : List Event) (p : Partition) (domain : ℕ) (v : DomainValue Server) : Type 0 where
+  pub comps : List Server
+  pub is : v ≡ record { domain = domain; events = events; partition = p; own = at_first p; comps = comps }
+  pub calm : AreCalm 4194304 comps
 
 -- which domain it is, the words that it was told, the finishes that it was told of parents, its floor, and a cycle by
 -- which its servers are free

@@ -3,10 +3,11 @@ ghost use Rattle.domain_map.specs.Domains.{IsPartition};
 
 use crate::driven::Driven;
 use crate::server::Server;
+use crate::ways::add_frees;
 use domain_map::{Crossing, Parts};
 use event_graph::{Fired, Graph};
 use std::alloc::Global;
-use zs_num::{Cycle, Key, NoMemory, Word};
+use zs_num::{Cycle, Key, Word};
 
 /// The crossings out of each event: for each event the last of them, and for each crossing the one
 /// before of the same parent. Both are numbers of crossings and 1; 0 is none.
@@ -17,21 +18,28 @@ struct Outgoing {
 }
 
 impl Outgoing {
-    fn of(alloc: Global, events: usize, crossings: &[Crossing]) -> Result<Self, NoMemory> {
-        let mut last = vec![in alloc; 0; events]?;
-        let mut before = Vec::with_capacity(alloc, crossings.len())?;
+    fn of(alloc: Global, events: usize, crossings: &[Crossing]) -> Option<Self> {
+        let mut outgoing = Outgoing {
+            last: vec![in alloc; 0; events].ok()?,
+            before: Vec::new(alloc),
+        };
+        outgoing.add(crossings)?;
+        Some(outgoing)
+    }
+
+    fn add(&mut self, crossings: &[Crossing]) -> Option<()> {
         let mut number = 0u32;
         for crossing in crossings {
             let parent = crossing.parent as usize;
             number = number.wrapping_add(1);
             let mut earlier = 0;
-            if parent < last.len() {
-                earlier = last[parent];
-                last[parent] = number;
+            if parent < self.last.len() {
+                earlier = self.last[parent];
+                self.last[parent] = number;
             }
-            before.push(earlier)?;
+            self.before.push(earlier).ok()?;
         }
-        Ok(Outgoing { last, before })
+        Some(())
     }
 }
 
@@ -44,6 +52,22 @@ pub(crate) struct LeftByDomains {
     pub(crate) frees: Vec<Cycle>,
     /// How often it went to a domain.
     pub(crate) visits: u32,
+}
+
+impl LeftByDomains {
+    /// So many events, of which none has fired.
+    pub(crate) fn new(alloc: Global, count: usize) -> Option<Self> {
+        let unfired = Fired {
+            number: 0,
+            start: 0,
+            finish: 0,
+        };
+        Some(LeftByDomains {
+            fired: vec![in alloc; unfired; count].ok()?,
+            frees: Vec::new(alloc),
+            visits: 0,
+        })
+    }
 }
 
 /// What stands for a domain that has no ready event.
@@ -67,12 +91,29 @@ impl<'a> ReadyDomains<'a> {
         }
     }
 
+    /// Takes in the domains of a graph, before their first events fire, or answers `None` where
+    /// memory runs out or their conditions are not seen to hold.
+    fn prepare(
+        &mut self,
+        alloc: Global,
+        graph: &'a Graph,
+        parts: &'a Parts,
+        servers: &[Server],
+    ) -> Option<()>
+        requires { IsPartition graph.now parts.now }
+    {
+        for number in 0..parts.domains() {
+            self.add(Driven::prepare(alloc, graph, parts, number, servers)?)?;
+        }
+        Some(())
+    }
+
     /// Takes in a domain.
-    fn add(&mut self, domain: Driven<'a>) -> Result<(), NoMemory> {
-        let first = domain.earliest().unwrap_or(NONE_READY);
-        self.domains.push(domain)?;
-        self.first.push(first)?;
-        Ok(())
+    fn add(&mut self, domain: Driven<'a>) -> Option<()> {
+        self.first
+            .push(domain.earliest().unwrap_or(NONE_READY))
+            .ok()?;
+        self.domains.push(domain).ok()
     }
 
     /// Looks again at which event of a domain is ready first.
@@ -170,68 +211,33 @@ impl<'a> ReadyDomains<'a> {
         visits
     }
 
-    /// For each server of a domain, one domain after the other, the cycle from which on it is free.
-    fn finish(self, alloc: Global) -> Result<Vec<Cycle>, NoMemory> {
-        let mut frees = Vec::new(alloc);
+    /// Adds for each server of a domain, one domain after the other, the cycle from which on it is
+    /// free. `None` where memory ran out for one; the others are there all the same.
+    fn finish(self, frees: &mut Vec<Cycle>) -> Option<()> {
+        let mut all = Some(());
         for domain in self.domains {
-            for server in domain.finish().as_slice() {
-                frees.push(server.free)?;
+            if add_frees(domain.finish().as_slice(), frees).is_none() {
+                all = None;
             }
         }
-        Ok(frees)
+        all
     }
 }
 
-/// The domains of a graph, before their first events fire, or `None` where their conditions are not
-/// seen to hold.
-fn prepared<'a>(
-    alloc: Global,
-    graph: &'a Graph,
-    parts: &'a Parts,
-    servers: &[Server],
-) -> Result<Option<ReadyDomains<'a>>, NoMemory>
-    requires { IsPartition graph.now parts.now }
-{
-    let mut all = ReadyDomains::new(alloc);
-    for number in 0..parts.domains() {
-        let Some(domain) = Driven::prepare(alloc, graph, parts, number, servers)? else {
-            return Ok(None);
-        };
-        all.add(domain)?;
-    }
-    Ok(Some(all))
-}
-
-/// So many events, of which none has fired.
-fn unfired(alloc: Global, count: usize) -> Result<Vec<Fired>, NoMemory> {
-    let unfired = Fired {
-        number: 0,
-        start: 0,
-        finish: 0,
-    };
-    Ok(vec![in alloc; unfired; count]?)
-}
-
-/// The weave of a graph that was partitioned, or `None` where its conditions are not seen to hold.
-pub(crate) fn woven_by_domains(
+/// Weaves a graph that was partitioned, and puts down what that leaves in `left`, which is for as
+/// many events. `None` where memory runs out or its conditions are not seen to hold.
+pub(crate) fn weave_by_domains(
     alloc: Global,
     graph: &Graph,
     parts: &Parts,
     servers: &[Server],
-) -> Result<Option<LeftByDomains>, NoMemory>
+    left: &mut LeftByDomains,
+) -> Option<()>
     requires { IsPartition graph.now parts.now }
 {
-    let count = graph.events().len();
-    let outgoing = Outgoing::of(alloc, count, parts.crossings())?;
-    let mut fired = unfired(alloc, count)?;
-    let Some(mut all) = prepared(alloc, graph, parts, servers)? else {
-        return Ok(None);
-    };
-    let visits = all.weave(parts.crossings(), &outgoing, &mut fired);
-    let frees = all.finish(alloc)?;
-    Ok(Some(LeftByDomains {
-        fired,
-        frees,
-        visits,
-    }))
+    let outgoing = Outgoing::of(alloc, graph.events().len(), parts.crossings())?;
+    let mut all = ReadyDomains::new(alloc);
+    all.prepare(alloc, graph, parts, servers)?;
+    left.visits = all.weave(parts.crossings(), &outgoing, &mut left.fired);
+    all.finish(&mut left.frees)
 }

@@ -10,19 +10,18 @@ use std::alloc::Global;
 use std::thread::Threads;
 use weave_run::{Woven, weave};
 use zs_host::Gate;
-use zs_num::NoMemory;
 
-/// The weave of a graph that was partitioned, by so many workers, or `None` where its conditions
-/// are not seen to hold.
+/// The weave of a graph that was partitioned, by so many workers, or `None` where memory runs out
+/// or its conditions are not seen to hold.
 pub(crate) fn woven_by_workers<R: Threads + Sync, G: Gate>(
     rt: &R,
     alloc: Global,
     graph: &Graph,
     parts: &Parts,
-    servers: Vec<Server>,
+    servers: &[Server],
     workers: u16,
     gate: &G,
-) -> Result<Option<Woven<Server>>, NoMemory>
+) -> Option<Woven<Server>>
     requires { IsPartition graph.now parts.now }
 {
     let events = graph.events();
@@ -30,14 +29,12 @@ pub(crate) fn woven_by_workers<R: Threads + Sync, G: Gate>(
         || workers > 64
         || events.len() > LIMIT as usize
         || parts.places().len() != servers.len()
-        || !is_graph(events, servers.as_slice())
-        || !are_fast(servers.as_slice())
+        || !is_graph(events, servers)
+        || !are_fast(servers)
     {
-        return Ok(None);
+        return None;
     }
     laws::steps_stay_small::<Server>();
-    match weave(rt, alloc, graph, parts, Comps::of(servers), workers, gate) {
-        Ok(woven) => Ok(Some(woven)),
-        Err((NoMemory, _servers)) => Err(NoMemory),
-    }
+    let comps = Comps::of(Vec::from_slice(alloc, servers).ok()?);
+    weave(rt, alloc, graph, parts, comps, workers, gate).ok()
 }

@@ -1,9 +1,9 @@
 //! A domain with what it was told, so that what it may be told next is seen when the program runs.
-ghost use Rattle.std.specs.Prelude.{◌≡◌, ◌≤◌, ◌+◌, ◌^◌, true, max, IfOk, IfSome, IsTrue, length, replicate};
+ghost use Rattle.std.specs.Prelude.{◌≡◌, ◌≤◌, ◌+◌, ◌^◌, [], true, max, IfSome, IsTrue, OnOk, length, replicate};
 ghost use Rattle.domain_map.specs.Domains.{IsPartition};
 ghost use Rattle.weave_core.specs.DomainCalls.{comps_in};
 ghost use Rattle.weave_core.specs.DomainMachine.{cycle_of, is_exact, latency_at};
-ghost use Rattle.weave_tests.specs.KeptOfDomain.{KeptOfDomain, Rises, told_after as known_after};
+ghost use Rattle.weave_tests.specs.KeptOfDomain.{IsNew, KeptOfDomain, Rises, told_after as known_after};
 
 use crate::fitting::{LIMIT, are_fast, is_graph};
 use crate::server::Server;
@@ -18,7 +18,6 @@ use zs_num::{Cycle, Key, NoMemory, Word};
 const LATEST: Cycle = 1 << 61;
 
 /// A domain of a graph on servers.
-#[derive(Drop)]
 pub(crate) struct Driven<'a> {
     graph: &'a Graph,
     parts: &'a Parts,
@@ -34,23 +33,49 @@ pub(crate) struct Driven<'a> {
     ghost keeps: { KeptOfDomain graph.now parts.now number domain known.items told.items floor busy },
 }
 
-/// Those of the servers that are in a domain.
-fn servers_in(
-    alloc: Global,
+/// Taken apart in this one place, so that whoever lets go of a domain owes this call alone.
+impl Drop for Driven<'_> {
+    fn drop(self) {
+        let Driven {
+            graph: _,
+            parts: _,
+            number: _,
+            domain: _domain,
+            known: _known,
+            told: _told,
+            floor: _,
+            busy: _,
+        } = self;
+    }
+}
+
+/// Adds those of the servers that are in a domain.
+fn add_servers(
     places: &[u16],
     domain: u16,
     servers: &[Server],
-) -> Result<Vec<Server>, NoMemory>
-    requires { length places.now ≡ length servers.now }
-    ensures { IfOk result (λ some. some.items ≡ comps_in places.now domain servers.now) }
+    some: &mut Vec<Server>,
+) -> Result<(), NoMemory>
+    requires size { length places.now ≡ length servers.now }
+    requires none { some.old.items ≡ [] }
+    ensures { OnOk result (some.new.items ≡ comps_in places.now domain servers.now) }
 {
-    let mut some = Vec::new(alloc);
     for index in 0..servers.len() {
         if places[index] == domain {
             some.push(servers[index])?;
         }
     }
-    Ok(some)
+    Ok(())
+}
+
+/// Those of the servers that are in a domain.
+fn servers_in(alloc: Global, places: &[u16], domain: u16, servers: &[Server]) -> Option<Vec<Server>>
+    requires { length places.now ≡ length servers.now }
+    ensures { IfSome result (λ some. some.items ≡ comps_in places.now domain servers.now) }
+{
+    let mut some = Vec::new(alloc);
+    add_servers(places, domain, servers, &mut some).ok()?;
+    Some(some)
 }
 
 /// Whether a word may follow another, where the parent does not finish before a bound.
@@ -109,56 +134,70 @@ fn bound_of(was: Word, floor: Cycle, latency: u64) -> Option<Cycle>
 }
 
 /// The words of so many crossings of which nothing is known.
-fn nothing_known(alloc: Global, count: usize) -> Result<Vec<Word>, NoMemory>
-    ensures { IfOk result (λ words. words.items ≡ replicate count (Word.Bound 0)) }
+fn nothing_known(alloc: Global, count: usize) -> Option<Vec<Word>>
+    ensures { IfSome result (λ words. words.items ≡ replicate count (Word.Bound 0)) }
 {
-    Ok(vec![in alloc; Word::Bound(0); count]?)
+    vec![in alloc; Word::Bound(0); count].ok()
+}
+
+/// The domain of this number as it is prepared, or `None` where memory runs out or its conditions
+/// are not seen to hold.
+fn prepared(
+    alloc: Global,
+    graph: &Graph,
+    parts: &Parts,
+    number: u16,
+    servers: &[Server],
+) -> Option<Domain<Server>>
+    requires partitions { IsPartition graph.now parts.now }
+    ensures { IfSome result (λ it. IsNew graph.now parts.now number it) }
+{
+    let events = graph.events();
+    let places = parts.places();
+    if number >= parts.domains()
+        || events.len() >= 1 << 30
+        || parts.crossings().len() >= 1 << 31
+        || places.len() >= 1 << 16
+        || places.len() != servers.len()
+        || !is_graph(events, servers)
+    {
+        return None;
+    }
+    let some = servers_in(alloc, places, number, servers)?;
+    if !are_fast(&some) {
+        return None;
+    }
+    if let Ok(domain) = Domain::prepare(alloc, graph, parts, number, Comps::of(some)) {
+        return Some(domain);
+    }
+    None
 }
 
 impl<'a> Driven<'a> {
-    /// The domain of this number before its first event fires, or `None` where its conditions are
-    /// not seen to hold.
+    /// The domain of this number before its first event fires, or `None` where memory runs out or
+    /// its conditions are not seen to hold.
     pub(crate) fn prepare(
         alloc: Global,
         graph: &'a Graph,
         parts: &'a Parts,
         number: u16,
         servers: &[Server],
-    ) -> Result<Option<Self>, NoMemory>
+    ) -> Option<Self>
         requires partitions { IsPartition graph.now parts.now }
     {
-        let events = graph.events();
-        let crossings = parts.crossings();
-        let places = parts.places();
-        if number >= parts.domains()
-            || events.len() >= 1 << 30
-            || crossings.len() >= 1 << 31
-            || places.len() >= 1 << 16
-            || places.len() != servers.len()
-            || !is_graph(events, servers)
-        {
-            return Ok(None);
-        }
-        let some = servers_in(alloc, places, number, servers)?;
-        if !are_fast(&some) {
-            return Ok(None);
-        }
-        let comps = Comps::of(some);
-        let known = nothing_known(alloc, crossings.len())?;
-        let told = vec![in alloc; None; events.len()]?;
-        match Domain::prepare(alloc, graph, parts, number, comps) {
-            Ok(domain) => Ok(Some(Driven {
-                graph,
-                parts,
-                number,
-                domain,
-                known,
-                told,
-                floor: 0,
-                busy: LIMIT,
-            })),
-            Err((error, _comps)) => Err(error),
-        }
+        let known = nothing_known(alloc, parts.crossings().len())?;
+        let told = vec![in alloc; None; graph.events().len()].ok()?;
+        let domain = prepared(alloc, graph, parts, number, servers)?;
+        Some(Driven {
+            graph,
+            parts,
+            number,
+            domain,
+            known,
+            told,
+            floor: 0,
+            busy: LIMIT,
+        })
     }
 
     pub(crate) fn next(&self) -> Next {
@@ -220,6 +259,16 @@ impl<'a> Driven<'a> {
 
     /// The servers of the domain.
     pub(crate) fn finish(self) -> Comps<Server> {
-        self.domain.finish()
+        let Driven {
+            graph: _,
+            parts: _,
+            number: _,
+            domain,
+            known: _known,
+            told: _told,
+            floor: _,
+            busy: _,
+        } = self;
+        domain.finish()
     }
 }

@@ -1,5 +1,5 @@
 //! Graphs to weave, and machines that partition them.
-ghost use Rattle.std.specs.Prelude.{◌≡◌, ◌+◌, ◌<◌, ◌≤◌, All, IfOk, IfSome, IsTrue, length};
+ghost use Rattle.std.specs.Prelude.{◌≡◌, ◌+◌, ◌<◌, ◌≤◌, All, IfSome, IsTrue, length};
 ghost use Rattle.domain_map.specs.Domains.{IsPartition};
 ghost use Rattle.machine_desc.specs.Machine.{IsMachine};
 
@@ -10,7 +10,7 @@ use domain_map::{Parts, split};
 use event_graph::{Event, Graph, Parent};
 use machine_desc::{Controllers, Domains, L1, L2, Machine, Memory, Places, component_count};
 use std::alloc::Global;
-use zs_num::{Cycle, NoMemory};
+use zs_num::Cycle;
 
 /// The domains of the components of a machine: of its banks, and of its controllers.
 #[derive(Clone, Copy)]
@@ -50,20 +50,21 @@ fn are_places(places: &[u16], most: usize, domains: u16) -> bool
     !places.is_empty() && places.len() <= most && places.iter().all(|domain| *domain < domains)
 }
 
-/// A machine whose components are in these domains, or `None` where there is none.
-fn machine(alloc: Global, layout: Layout) -> Result<Option<Machine>, NoMemory>
-    ensures { IfOk result (λ found. IfSome found IsMachine) }
+/// A machine whose components are in these domains, or `None` where there is none or memory runs
+/// out.
+fn machine(alloc: Global, layout: Layout) -> Option<Machine>
+    ensures { IfSome result IsMachine }
 {
     if layout.domains == 0
         || layout.domains > 64
         || !are_places(layout.banks, 64, layout.domains)
         || !are_places(layout.controllers, 16, layout.domains)
     {
-        return Ok(None);
+        return None;
     }
     let banks = layout.banks.len() as u16;
     let controllers = layout.controllers.len() as u16;
-    Ok(Some(Machine {
+    Some(Machine {
         version: 1,
         cores: 1,
         interval: 10_000,
@@ -95,10 +96,10 @@ fn machine(alloc: Global, layout: Layout) -> Result<Option<Machine>, NoMemory>
         },
         domains: Domains {
             count: layout.domains,
-            banks: Places::of(Vec::from_slice(alloc, layout.banks)?),
-            controllers: Places::of(Vec::from_slice(alloc, layout.controllers)?),
+            banks: Places::of(Vec::from_slice(alloc, layout.banks).ok()?),
+            controllers: Places::of(Vec::from_slice(alloc, layout.controllers).ok()?),
         },
-    }))
+    })
 }
 
 /// An event of core 0, of which the bound phase lasted from `min_start` to `min_finish`.
@@ -122,53 +123,41 @@ pub(crate) fn event(
     }
 }
 
-/// The events of a graph by the domains of a machine, or `None` where there are 2^31 or more, or
-/// the machine has no such component.
-fn divided(alloc: Global, graph: &Graph, m: &Machine) -> Result<Option<Parts>, NoMemory>
+/// The events of a graph by the domains of a machine, or `None` where there are 2^31 or more, the
+/// machine has no such component, or memory runs out.
+fn divided(alloc: Global, graph: &Graph, m: &Machine) -> Option<Parts>
     requires { IsMachine m.now }
-    ensures { IfOk result (λ found. IfSome found (λ parts. IsPartition graph.now parts)) }
+    ensures { IfSome result (λ parts. IsPartition graph.now parts) }
 {
     let events = graph.events();
     let components = component_count(m);
     if events.len() >= 1 << 31 || !events.iter().all(|event| event.component < components) {
-        return Ok(None);
+        return None;
     }
-    Ok(Some(split(alloc, graph, m)?))
+    split(alloc, graph, m).ok()
 }
 
-/// The events of a graph by these domains, or `None` where no machine has such domains.
-fn in_domains(alloc: Global, graph: &Graph, layout: Layout) -> Result<Option<Parts>, NoMemory>
-    ensures { IfOk result (λ found. IfSome found (λ parts. IsPartition graph.now parts)) }
+/// The events of a graph by these domains, or `None` where no machine has such domains or memory
+/// runs out.
+pub(crate) fn in_domains(alloc: Global, graph: &Graph, layout: Layout) -> Option<Parts>
+    ensures { IfSome result (λ parts. IsPartition graph.now parts) }
 {
-    match machine(alloc, layout)? {
-        Some(m) => divided(alloc, graph, &m),
-        None => Ok(None),
+    let machine = machine(alloc, layout)?;
+    divided(alloc, graph, &machine)
+}
+
+/// A graph of these events, or `None` where they make none on these servers.
+pub(crate) fn graph_of(events: Vec<Event>, servers: &[Server]) -> Option<Graph> {
+    if is_graph(&events, servers) {
+        Some(Graph::of(events))
+    } else {
+        None
     }
 }
 
-/// A graph of these events, partitioned by a machine whose banks are in these domains; or `None`
-/// where the events make no graph on these servers.
-pub(crate) fn partitioned(
-    alloc: Global,
-    events: Vec<Event>,
-    servers: &[Server],
-    layout: Layout,
-) -> Result<Option<(Graph, Parts)>, NoMemory>
-    ensures { IfOk result (λ found. IfSome found (λ it. IsPartition it.0 it.1)) }
-{
-    if !is_graph(&events, servers) {
-        return Ok(None);
-    }
-    let graph = Graph::of(events);
-    match in_domains(alloc, &graph, layout)? {
-        Some(parts) => Ok(Some((graph, parts))),
-        None => Ok(None),
-    }
-}
-
-/// So many idle servers, each busy for so many cycles with an event.
-pub(crate) fn idle(alloc: Global, count: usize, occupancy: u64) -> Result<Vec<Server>, NoMemory> {
-    Ok(vec![in alloc; Server { occupancy, free: 0 }; count]?)
+/// So many idle servers, each busy for so many cycles with an event. `None` where memory runs out.
+pub(crate) fn idle(alloc: Global, count: usize, occupancy: u64) -> Option<Vec<Server>> {
+    vec![in alloc; Server { occupancy, free: 0 }; count].ok()
 }
 
 /// A linear congruential generator, with the multiplier and the increment of Knuth's MMIX.
@@ -231,15 +220,24 @@ pub(crate) fn random_events(
     count: u32,
     components: u16,
     seed: u64,
-) -> Result<Vec<Event>, NoMemory>
+) -> Option<Vec<Event>>
+    requires { 0 < components }
+{
+    let mut events = Vec::with_capacity(alloc, count as usize).ok()?;
+    add_random(count, components, seed, &mut events)?;
+    Some(events)
+}
+
+fn add_random(count: u32, components: u16, seed: u64, events: &mut Vec<Event>) -> Option<()>
     requires { 0 < components }
 {
     let mut random = Random { state: seed };
-    let mut events = Vec::with_capacity(alloc, count as usize)?;
     for number in 0..count {
-        events.push(random_event(&mut random, number, components))?;
+        events
+            .push(random_event(&mut random, number, components))
+            .ok()?;
     }
-    Ok(events)
+    Some(())
 }
 
 /// No parent, or one of the 40 events before this one.
@@ -294,15 +292,20 @@ fn miss(number: u32, line: u64) -> Event {
 }
 
 /// The events of accesses that all miss, each to a random line.
-pub(crate) fn misses(alloc: Global, count: u32, seed: u64) -> Result<Vec<Event>, NoMemory> {
+pub(crate) fn misses(alloc: Global, count: u32, seed: u64) -> Option<Vec<Event>> {
+    let mut events = Vec::with_capacity(alloc, count as usize).ok()?;
+    add_misses(count, seed, &mut events)?;
+    Some(events)
+}
+
+fn add_misses(count: u32, seed: u64, events: &mut Vec<Event>) -> Option<()> {
     let mut random = Random { state: seed };
-    let mut events = Vec::with_capacity(alloc, count as usize)?;
     let mut line = 0;
     for number in 0..count {
         if number % 3 == 0 {
             line = random.below(1 << 20);
         }
-        events.push(miss(number, line))?;
+        events.push(miss(number, line)).ok()?;
     }
-    Ok(events)
+    Some(())
 }

@@ -1,8 +1,8 @@
 //! Random graphs, and one of accesses that all miss, in every way.
-use crate::graphs::{Layout, SIXTEEN_DOMAINS, idle, misses, random_events};
+use crate::graphs::{Layout, SIXTEEN_DOMAINS, graph_of, idle, misses, random_events};
+use crate::page::Page;
 use crate::ways::{Outcome, every_way};
 use std::alloc::Global;
-use std::io;
 use std::thread::Threads;
 
 /// How many events a graph has, and in how many domains its components are.
@@ -32,19 +32,19 @@ fn woven<T: Threads + Sync>(
         banks: &banks,
         controllers: &[0],
     };
-    let events = random_events(alloc, count, 6, seed).ok()?;
-    let servers = idle(alloc, 6, 1 + 5 * (seed % 5)).ok()?;
-    every_way(threads, alloc, &events, &servers, layout, &[1, 2, 3, 64])
+    let servers = idle(alloc, 6, 1 + 5 * (seed % 5))?;
+    let graph = graph_of(random_events(alloc, count, 6, seed)?, &servers)?;
+    every_way(threads, alloc, &graph, &servers, layout, &[1, 2, 3, 64])
 }
 
 /// What every way leaves of 3000 events of accesses that all miss.
 fn woven_misses<T: Threads + Sync>(threads: &T, alloc: Global) -> Option<Outcome> {
-    let events = misses(alloc, 3000, 1).ok()?;
-    let servers = idle(alloc, SIXTEEN_DOMAINS.components(), 4).ok()?;
+    let servers = idle(alloc, SIXTEEN_DOMAINS.components(), 4)?;
+    let graph = graph_of(misses(alloc, 3000, 1)?, &servers)?;
     every_way(
         threads,
         alloc,
-        &events,
+        &graph,
         &servers,
         SIXTEEN_DOMAINS,
         &[1, 2, 4],
@@ -64,13 +64,16 @@ fn same_of_five<T: Threads + Sync>(threads: &T, alloc: Global, count: u32, domai
 
 /// Weaves five random graphs of each size, and the misses, and writes whether every way leaves the
 /// same.
-pub(crate) fn run<T: Threads + Sync>(rt: &HostRuntime, threads: &T) -> io::Result<()> {
-    let alloc = rt.alloc();
-    println!(rt; "random graphs weave as on one list, by domains and by workers")?;
+pub(crate) fn run<T: Threads + Sync>(threads: &T, alloc: Global, page: &mut Page) {
+    page.line("random graphs weave as on one list, by domains and by workers");
     for &(count, domains) in &SIZES {
         let same = same_of_five(threads, alloc, count, domains);
-        println!(rt; "  {count} events in {domains} domains: {same} of 5 graphs the same")?;
+        page.count("  ", u64::from(count));
+        page.count(" events in ", u64::from(domains));
+        page.count(" domains: ", u64::from(same));
+        page.line(" of 5 graphs the same");
     }
-    let same = woven_misses(threads, alloc).is_some();
-    println!(rt; "3000 events of accesses that all miss, in 16 domains: {same}")
+    page.text("3000 events of accesses that all miss, in 16 domains: ");
+    page.truth(woven_misses(threads, alloc).is_some());
+    page.line("");
 }

@@ -1,10 +1,10 @@
 //! Larger graphs, of which a formula says when each event starts and finishes.
-use crate::graphs::{Layout, TWO_BANKS, event, idle};
+use crate::graphs::{Layout, TWO_BANKS, event, graph_of, idle};
+use crate::page::Page;
 use crate::ways::{Outcome, every_way, on_one_list};
 use component::Kind;
 use event_graph::{Event, Fired};
 use std::alloc::Global;
-use std::io;
 use std::thread::Threads;
 use zs_num::Cycle;
 
@@ -80,13 +80,18 @@ impl Shape {
 
     fn events(self, alloc: Global) -> Option<Vec<Event>> {
         let mut events = Vec::with_capacity(alloc, self.count() as usize).ok()?;
+        self.add_events(&mut events)?;
+        Some(events)
+    }
+
+    fn add_events(self, events: &mut Vec<Event>) -> Option<()> {
         for number in 0..self.count() {
             let parent = self.parent(number);
             events
                 .push(event(number, self.bank(number), Kind::Lookup, (0, 10), parent))
                 .ok()?;
         }
-        Some(events)
+        Some(())
     }
 
     /// Whether an event starts once its parent has finished, and finishes when it must.
@@ -115,36 +120,35 @@ impl Shape {
             Shape::Fan => SIXTY_FOUR_DOMAINS,
             _ => TWO_BANKS,
         };
-        let events = self.events(alloc)?;
-        let servers = idle(alloc, layout.components(), 4).ok()?;
+        let servers = idle(alloc, layout.components(), 4)?;
+        let graph = graph_of(self.events(alloc)?, &servers)?;
         match self {
             Shape::Fan | Shape::Chain => {
-                every_way(threads, alloc, &events, &servers, layout, &[1, 2, 7, 64])
+                every_way(threads, alloc, &graph, &servers, layout, &[1, 2, 7, 64])
             }
-            Shape::Line => every_way(threads, alloc, &events, &servers, layout, &[1, 2]),
-            Shape::Chains => on_one_list(alloc, &events, &servers),
+            Shape::Line => every_way(threads, alloc, &graph, &servers, layout, &[1, 2]),
+            Shape::Chains => on_one_list(alloc, &graph, &servers),
         }
     }
 }
 
 /// Writes how many events of a graph start and finish when they must, and until when the servers
 /// are busy.
-fn write(rt: &HostRuntime, shape: Shape, found: Option<&Outcome>) -> io::Result<()> {
-    let name = shape.name();
-    let Some(found) = found else {
-        return println!(rt; "{name}: not woven");
-    };
-    let (kept, count) = (shape.kept(&found.fired), found.fired.len());
-    println!(rt; "{name}")?;
-    println!(rt; "  {kept} of {count} events as they must")?;
-    println!(rt; "  busy until {:?}", found.frees)
+fn write(shape: Shape, found: &Outcome, page: &mut Page) {
+    page.count("\n  ", u64::from(shape.kept(&found.fired)));
+    page.count(" of ", found.fired.len() as u64);
+    page.text(" events as they must\n  busy until ");
+    page.list(&found.frees);
+    page.line("");
 }
 
 /// Weaves the larger graphs.
-pub(crate) fn run<T: Threads + Sync>(rt: &HostRuntime, threads: &T) -> io::Result<()> {
+pub(crate) fn run<T: Threads + Sync>(threads: &T, alloc: Global, page: &mut Page) {
     for shape in [Shape::Fan, Shape::Line, Shape::Chain, Shape::Chains] {
-        let found = shape.woven(threads, rt.alloc());
-        write(rt, shape, found.as_ref())?;
+        page.text(shape.name());
+        match shape.woven(threads, alloc) {
+            Some(found) => write(shape, &found, page),
+            None => page.line(": not woven"),
+        }
     }
-    Ok(())
 }

@@ -1,17 +1,17 @@
 //! Domains that are driven by hand: each step of a script, and what the domain answers.
-ghost use Rattle.std.specs.Prelude.{IfSome};
 ghost use Rattle.domain_map.specs.Domains.{IsPartition};
 
 use crate::driven::Driven;
-use crate::graphs::{TWO_BANKS, partitioned};
-use crate::ways::frees;
+use crate::graphs::{TWO_BANKS, graph_of, in_domains};
+use crate::page::Page;
+use crate::server::Server;
 use crate::worked::{BANKS, RING, Row, TIE, listed};
 use component::Kind;
 use domain_map::Parts;
-use event_graph::Graph;
+use event_graph::{Fired, Graph};
 use std::alloc::Global;
-use std::io;
-use zs_num::{Cycle, Word};
+use weave_core::Next;
+use zs_num::{Cycle, Key, Word};
 
 /// What a domain is asked or told.
 #[derive(Clone, Copy)]
@@ -79,85 +79,187 @@ static OF_FLOOR: [Line; 4] = [
 ];
 
 /// Makes a step, and writes what the domain answers.
-fn play(rt: &HostRuntime, number: usize, domain: &mut Driven, step: Step) -> io::Result<()> {
+fn play(number: usize, domain: &mut Driven, step: Step, page: &mut Page) {
+    page.count("  ", number as u64);
     match step {
-        Step::Next => println!(rt; "  {number} next: {:?}", domain.next()),
-        Step::Earliest => println!(rt; "  {number} earliest: {:?}", domain.earliest()),
-        Step::Fire => println!(rt; "  {number} fires: {:?}", domain.fire()),
-        Step::Floor(cycle) => println!(rt; "  {number} floor {cycle}: {}", domain.set_floor(cycle)),
+        Step::Next => write_next(domain.next(), page),
+        Step::Earliest => write_earliest(domain.earliest(), page),
+        Step::Fire => write_fired(domain.fire(), page),
+        Step::Floor(cycle) => write_floor(cycle, domain.set_floor(cycle), page),
         Step::Tell(crossing, word) => {
-            println!(rt;
-                "  {number} told of {crossing} {word:?}: {}",
-                domain.tell(crossing, word)
-            )
+            write_told(crossing, word, domain.tell(crossing, word), page);
         }
     }
+    page.line("");
 }
 
-/// A graph of these rows in two domains.
-fn graph_of(alloc: Global, rows: &[Row]) -> Option<(Graph, Parts)>
-    ensures { IfSome result (λ it. IsPartition it.0 it.1) }
-{
-    partitioned(alloc, listed(alloc, rows)?, &BANKS, TWO_BANKS).ok()?
+fn write_key(key: Key, page: &mut Page) {
+    page.count("Key { start: ", key.start);
+    page.count(", number: ", u64::from(key.number));
+    page.text(" }");
 }
 
-/// Both domains, before their first events fire.
-fn domains_of<'a>(alloc: Global, graph: &'a Graph, parts: &'a Parts) -> Option<Vec<Driven<'a>>>
+fn write_next(next: Next, page: &mut Page) {
+    page.text(" next: ");
+    match next {
+        Next::Fire { key } => {
+            page.text("Fire { key: ");
+            write_key(key, page);
+            page.text(" }");
+        }
+        Next::Blocked { crossing, bound } => {
+            page.count("Blocked { crossing: ", u64::from(crossing));
+            page.count(", bound: ", bound);
+            page.text(" }");
+        }
+        Next::Done => page.text("Done"),
+    }
+}
+
+fn write_earliest(earliest: Option<Key>, page: &mut Page) {
+    page.text(" earliest: ");
+    match earliest {
+        Some(key) => {
+            page.text("Some(");
+            write_key(key, page);
+            page.text(")");
+        }
+        None => page.text("None"),
+    }
+}
+
+fn write_fired(fired: Option<Fired>, page: &mut Page) {
+    page.text(" fires: ");
+    match fired {
+        Some(fired) => {
+            page.count("Some(Fired { number: ", u64::from(fired.number));
+            page.count(", start: ", fired.start);
+            page.count(", finish: ", fired.finish);
+            page.text(" })");
+        }
+        None => page.text("None"),
+    }
+}
+
+fn write_floor(cycle: Cycle, is_set: bool, page: &mut Page) {
+    page.count(" floor ", cycle);
+    page.text(": ");
+    page.truth(is_set);
+}
+
+fn write_told(crossing: u32, word: Word, is_told: bool, page: &mut Page) {
+    page.count(" told of ", u64::from(crossing));
+    match word {
+        Word::Bound(cycle) => page.count(" Bound(", cycle),
+        Word::Exact(cycle) => page.count(" Exact(", cycle),
+    }
+    page.text("): ");
+    page.truth(is_told);
+}
+
+/// Adds both domains, before their first events fire.
+fn add_domains<'a>(
+    alloc: Global,
+    graph: &'a Graph,
+    parts: &'a Parts,
+    domains: &mut Vec<Driven<'a>>,
+) -> Option<()>
     requires { IsPartition graph.now parts.now }
 {
-    let mut domains = Vec::new(alloc);
     for number in 0..2 {
-        let domain = Driven::prepare(alloc, graph, parts, number, &BANKS).ok()??;
+        let domain = Driven::prepare(alloc, graph, parts, number, &BANKS)?;
         domains.push(domain).ok()?;
     }
-    Some(domains)
+    Some(())
+}
+
+/// Writes until when these servers are busy.
+fn write_busy(servers: &[Server], page: &mut Page) {
+    let mut before = "  busy until [";
+    for server in servers {
+        page.count(before, server.free);
+        before = ", ";
+    }
+    page.line("]");
 }
 
 /// Writes until when the servers of each domain are busy.
-fn end(rt: &HostRuntime, domains: Vec<Driven>) -> io::Result<()> {
+fn end(domains: Vec<Driven>, page: &mut Page) {
     for domain in domains {
-        match frees(rt.alloc(), domain.finish().as_slice()) {
-            Some(frees) => println!(rt; "  busy until {frees:?}")?,
-            None => println!(rt; "  no memory")?,
-        }
+        write_busy(domain.finish().as_slice(), page);
     }
-    Ok(())
 }
 
 /// Makes the steps of a script.
-fn play_all(rt: &HostRuntime, domains: &mut [Driven], script: &[Line]) -> io::Result<()> {
+fn play_all(domains: &mut [Driven], script: &[Line], page: &mut Page) {
     for &(number, step) in script {
         if number < domains.len() {
-            play(rt, number, &mut domains[number], step)?;
+            play(number, &mut domains[number], step, page);
         }
     }
-    Ok(())
 }
 
-/// Drives two domains through a script.
-fn drive(rt: &HostRuntime, name: &str, rows: &[Row], script: &[Line]) -> io::Result<()> {
-    println!(rt; "{name}")?;
-    let alloc = rt.alloc();
-    let Some((graph, parts)) = graph_of(alloc, rows) else {
-        return println!(rt; "  no graph");
-    };
-    let Some(mut domains) = domains_of(alloc, &graph, &parts) else {
-        return println!(rt; "  no domains");
-    };
-    play_all(rt, &mut domains, script)?;
-    end(rt, domains)
+/// Drives both domains of a graph through a script. `None` where they cannot be prepared.
+fn drive_in(
+    alloc: Global,
+    graph: &Graph,
+    parts: &Parts,
+    script: &[Line],
+    page: &mut Page,
+) -> Option<()>
+    requires { IsPartition graph.now parts.now }
+{
+    let mut domains = Vec::new(alloc);
+    add_domains(alloc, graph, parts, &mut domains)?;
+    play_all(&mut domains, script, page);
+    end(domains, page);
+    Some(())
+}
+
+/// Drives both domains of the graph of these rows through a script. `None` where they make none, or
+/// the domains cannot be prepared.
+fn drive_rows(alloc: Global, rows: &[Row], script: &[Line], page: &mut Page) -> Option<()> {
+    let graph = graph_of(listed(alloc, rows)?, &BANKS)?;
+    let parts = in_domains(alloc, &graph, TWO_BANKS)?;
+    drive_in(alloc, &graph, &parts, script, page)
+}
+
+fn drive(alloc: Global, name: &str, rows: &[Row], script: &[Line], page: &mut Page) {
+    page.line(name);
+    if drive_rows(alloc, rows, script, page).is_none() {
+        page.line("  not driven");
+    }
 }
 
 /// Drives domains through all scripts.
-pub(crate) fn run(rt: &HostRuntime) -> io::Result<()> {
-    drive(rt, "a domain without events is done", &[], &OF_NONE)?;
+pub(crate) fn run(alloc: Global, page: &mut Page) {
     drive(
-        rt,
+        alloc,
+        "a domain without events is done",
+        &[],
+        &OF_NONE,
+        page,
+    );
+    drive(
+        alloc,
         "the domains of a ring wait for each other",
         &RING,
         &OF_RING,
-    )?;
-    drive(rt, "at a tie a domain waits", &TIE, &OF_TIE)?;
-    drive(rt, "a bound lets earlier events fire", &LATER, &OF_BOUND)?;
-    drive(rt, "a floor lets earlier events fire", &LATER, &OF_FLOOR)
+        page,
+    );
+    drive(alloc, "at a tie a domain waits", &TIE, &OF_TIE, page);
+    drive(
+        alloc,
+        "a bound lets earlier events fire",
+        &LATER,
+        &OF_BOUND,
+        page,
+    );
+    drive(
+        alloc,
+        "a floor lets earlier events fire",
+        &LATER,
+        &OF_FLOOR,
+        page,
+    );
 }

@@ -1,33 +1,27 @@
 //! How long each way of weaving takes.
-ghost use Rattle.std.specs.Prelude.{IfSome};
 ghost use Rattle.domain_map.specs.Domains.{IsPartition};
 
-use crate::by_domains::woven_by_domains;
-use crate::graphs::{Layout, SIXTEEN_DOMAINS, idle, misses, partitioned};
+use crate::by_domains::{LeftByDomains, weave_by_domains};
+use crate::by_workers::woven_by_workers;
+use crate::graphs::{SIXTEEN_DOMAINS, graph_of, idle, in_domains, misses};
 use crate::one_list::woven;
 use crate::server::Server;
-use crate::ways::by_workers;
+use component::Comps;
 use domain_map::Parts;
-use event_graph::{Event, Graph};
+use event_graph::Graph;
 use std::alloc::Global;
 use std::io;
 use std::thread::Threads;
 use std::time::Instant;
 use zs_host::OpenGate;
 
-/// A graph of so many events on these servers, partitioned; or `None` where memory runs out.
-fn graph_of(alloc: Global, count: u32, servers: &[Server], layout: Layout) -> Option<(Graph, Parts)>
-    ensures { IfSome result (λ it. IsPartition it.0 it.1) }
-{
-    let events = misses(alloc, count, 1).ok()?;
-    partitioned(alloc, events, servers, layout).ok()?
-}
-
 /// In how many visits the domains weave, if they do.
 fn visits(alloc: Global, graph: &Graph, parts: &Parts, servers: &[Server]) -> Option<u32>
     requires { IsPartition graph.now parts.now }
 {
-    Some(woven_by_domains(alloc, graph, parts, servers).ok()??.visits)
+    let mut left = LeftByDomains::new(alloc, graph.events().len())?;
+    weave_by_domains(alloc, graph, parts, servers, &mut left)?;
+    Some(left.visits)
 }
 
 /// Writes how long the weave by domains took, if the graph was woven.
@@ -58,7 +52,7 @@ fn rounds<T: Threads + Sync>(
 ) -> Option<u32>
     requires { IsPartition graph.now parts.now }
 {
-    Some(by_workers(threads, alloc, graph, parts, servers, workers, &OpenGate)?.1)
+    Some(woven_by_workers(threads, alloc, graph, parts, servers, workers, &OpenGate)?.rounds)
 }
 
 /// Writes how long so many workers took, if the graph was woven.
@@ -83,35 +77,20 @@ fn time_workers<T: Threads + Sync>(
     Ok(true)
 }
 
-/// The events and the servers, to be given away.
-fn copied(
-    alloc: Global,
-    events: &[Event],
-    servers: &[Server],
-) -> Option<(Vec<Event>, Vec<Server>)> {
-    Some((
-        Vec::from_slice(alloc, events).ok()?,
-        Vec::from_slice(alloc, servers).ok()?,
-    ))
-}
-
-/// Whether one list weaves the events.
-fn is_woven(alloc: Global, events: Vec<Event>, servers: Vec<Server>) -> bool {
-    matches!(woven(alloc, events, servers), Ok(Some(_)))
-}
-
 /// Writes how long one list took, if the graph was woven.
-fn time_one_list(rt: &HostRuntime, graph: &Graph, servers: &[Server]) -> io::Result<bool> {
-    let alloc = rt.alloc();
-    let Some((events, servers)) = copied(alloc, graph.events(), servers) else {
-        return Ok(false);
-    };
+fn time_one_list(rt: &HostRuntime, graph: &Graph, comps: &mut Comps<Server>) -> io::Result<bool> {
     let begin = Instant::now(rt)?;
-    if !is_woven(alloc, events, servers) {
+    if woven(rt.alloc(), graph, comps).is_none() {
         return Ok(false);
     }
     println!(rt; "one list {:?}", begin.elapsed(rt)?)?;
     Ok(true)
+}
+
+/// Writes how long one list took on these servers, which stay as they are, if the graph was woven.
+fn time_on(rt: &HostRuntime, graph: &Graph, servers: &[Server]) -> io::Result<bool> {
+    let mut comps = Comps::of(Vec::from_slice(rt.alloc(), servers)?);
+    time_one_list(rt, graph, &mut comps)
 }
 
 /// Writes how long each way of weaving a graph takes. Answers whether all wove it.
@@ -126,7 +105,7 @@ fn time_all<T: Threads + Sync>(
 {
     let (events, crossings) = (graph.events().len(), parts.crossings().len());
     println!(rt; "{events} events, {crossings} crossings")?;
-    if !time_one_list(rt, graph, servers)? || !time_domains(rt, graph, parts, servers)? {
+    if !time_on(rt, graph, servers)? || !time_domains(rt, graph, parts, servers)? {
         return Ok(false);
     }
     for workers in [1, 2, 4] {
@@ -137,6 +116,24 @@ fn time_all<T: Threads + Sync>(
     Ok(true)
 }
 
+/// A graph of so many events on these servers, or `None` where memory runs out or they make none.
+fn graph_on(alloc: Global, count: u32, servers: &[Server]) -> Option<Graph> {
+    graph_of(misses(alloc, count, 1)?, servers)
+}
+
+/// Writes how long each way of weaving a graph in sixteen domains takes. Answers whether all wove it.
+fn time_graph<T: Threads + Sync>(
+    rt: &HostRuntime,
+    threads: &T,
+    graph: &Graph,
+    servers: &[Server],
+) -> io::Result<bool> {
+    match in_domains(rt.alloc(), graph, SIXTEEN_DOMAINS) {
+        Some(parts) => time_all(rt, threads, graph, &parts, servers),
+        None => Ok(false),
+    }
+}
+
 /// Weaves a graph of so many events each way, and writes how long it took. Answers whether all
 /// were woven.
 pub(crate) fn run<T: Threads + Sync>(
@@ -145,11 +142,11 @@ pub(crate) fn run<T: Threads + Sync>(
     count: u32,
 ) -> io::Result<bool> {
     let alloc = rt.alloc();
-    let Ok(servers) = idle(alloc, SIXTEEN_DOMAINS.components(), 4) else {
+    let Some(servers) = idle(alloc, SIXTEEN_DOMAINS.components(), 4) else {
         return Ok(false);
     };
-    let Some((graph, parts)) = graph_of(alloc, count, &servers, SIXTEEN_DOMAINS) else {
-        return Ok(false);
-    };
-    time_all(rt, threads, &graph, &parts, &servers)
+    match graph_on(alloc, count, &servers) {
+        Some(graph) => time_graph(rt, threads, &graph, &servers),
+        None => Ok(false),
+    }
 }

@@ -1,14 +1,18 @@
 //! Worked weaves. Each is woven in every way, and its line has when each event starts and finishes
 //! and until when the servers are busy.
-use crate::graphs::{Layout, ONE_BANK, TWO_BANKS, event, partitioned};
+ghost use Rattle.domain_map.specs.Domains.{IsPartition};
+
+use crate::by_workers::woven_by_workers;
+use crate::graphs::{Layout, ONE_BANK, TWO_BANKS, event, graph_of, in_domains};
+use crate::page::Page;
 use crate::server::Server;
-use crate::ways::{Outcome, by_workers, every_way};
+use crate::ways::{Outcome, every_way, outcome_of};
 use component::{Component, Kind};
-use event_graph::Event;
+use domain_map::Parts;
+use event_graph::{Event, Graph};
 use std::alloc::Global;
-use std::io;
 use std::thread::Threads;
-use zs_host::MeetingGate;
+use zs_host::{MeetingGate, Passes};
 use zs_num::Cycle;
 
 const WORKERS: [u16; 4] = [1, 2, 7, 64];
@@ -62,6 +66,11 @@ pub(crate) static BANKS: [Server; 3] = [Server {
 /// The events of these rows.
 pub(crate) fn listed(alloc: Global, rows: &[Row]) -> Option<Vec<Event>> {
     let mut events = Vec::with_capacity(alloc, rows.len()).ok()?;
+    add_rows(rows, &mut events)?;
+    Some(events)
+}
+
+fn add_rows(rows: &[Row], events: &mut Vec<Event>) -> Option<()> {
     let mut number = 0u32;
     for &(component, kind, start, parent) in rows {
         let finish = start.saturating_add(BANK_AND_CONTROLLER[0].floor(kind));
@@ -70,22 +79,29 @@ pub(crate) fn listed(alloc: Global, rows: &[Row]) -> Option<Vec<Event>> {
             .ok()?;
         number = number.wrapping_add(1);
     }
-    Some(events)
+    Some(())
 }
 
 /// Writes what a weave leaves.
-fn write(rt: &HostRuntime, name: &str, found: Option<&Outcome>) -> io::Result<()> {
-    let Some(found) = found else {
-        return println!(rt; "{name}: not woven");
-    };
-    println!(rt; "{name}")?;
-    for fired in &found.fired {
-        println!(rt;
-            "  event {} from {} to {}",
-            fired.number, fired.start, fired.finish
-        )?;
+fn write(name: &str, found: Option<&Outcome>, page: &mut Page) {
+    page.text(name);
+    match found {
+        Some(found) => write_outcome(found, page),
+        None => page.line(": not woven"),
     }
-    println!(rt; "  busy until {:?}", found.frees)
+}
+
+fn write_outcome(found: &Outcome, page: &mut Page) {
+    page.line("");
+    for fired in &found.fired {
+        page.count("  event ", u64::from(fired.number));
+        page.count(" from ", fired.start);
+        page.count(" to ", fired.finish);
+        page.line("");
+    }
+    page.text("  busy until ");
+    page.list(&found.frees);
+    page.line("");
 }
 
 /// What every way of weaving leaves of the events of these rows.
@@ -96,53 +112,89 @@ fn woven<T: Threads + Sync>(
     servers: &[Server],
     layout: Layout,
 ) -> Option<Outcome> {
-    let events = listed(alloc, rows)?;
-    every_way(threads, alloc, &events, servers, layout, &WORKERS)
+    let graph = graph_of(listed(alloc, rows)?, servers)?;
+    every_way(threads, alloc, &graph, servers, layout, &WORKERS)
 }
 
 /// Writes what every way of weaving leaves of the events of these rows.
 fn write_woven<T: Threads + Sync>(
-    rt: &HostRuntime,
     threads: &T,
+    alloc: Global,
     name: &str,
     rows: &[Row],
     servers: &[Server],
     layout: Layout,
-) -> io::Result<()> {
-    let found = woven(threads, rt.alloc(), rows, servers, layout);
-    write(rt, name, found.as_ref())
+    page: &mut Page,
+) {
+    let found = woven(threads, alloc, rows, servers, layout);
+    write(name, found.as_ref(), page);
 }
 
 /// Writes the worked weaves.
-pub(crate) fn run<T: Threads + Sync>(rt: &HostRuntime, threads: &T) -> io::Result<()> {
-    let misses = "two misses wait for each other at a bank and a controller";
+pub(crate) fn run<T: Threads + Sync>(threads: &T, alloc: Global, page: &mut Page) {
     write_woven(
-        rt,
         threads,
-        misses,
+        alloc,
+        "two misses wait for each other at a bank and a controller",
         &TWO_MISSES,
         &BANK_AND_CONTROLLER,
         ONE_BANK,
-    )?;
-    let ring = "a ring of two banks";
-    write_woven(rt, threads, ring, &RING, &BANKS, TWO_BANKS)?;
-    let tie = "at a tie the lesser number is served first";
-    write_woven(rt, threads, tie, &TIE, &BANKS, TWO_BANKS)
+        page,
+    );
+    write_woven(
+        threads,
+        alloc,
+        "a ring of two banks",
+        &RING,
+        &BANKS,
+        TWO_BANKS,
+        page,
+    );
+    write_woven(
+        threads,
+        alloc,
+        "at a tie the lesser number is served first",
+        &TIE,
+        &BANKS,
+        TWO_BANKS,
+        page,
+    );
+}
+
+/// What two workers leave of a graph at a gate.
+fn by_two<T: Threads + Sync>(
+    threads: &T,
+    alloc: Global,
+    graph: &Graph,
+    parts: &Parts,
+    gate: &MeetingGate,
+) -> Option<Outcome>
+    requires { IsPartition graph.now parts.now }
+{
+    let woven = woven_by_workers(threads, alloc, graph, parts, &BANKS, 2, gate)?;
+    outcome_of(alloc, woven.fired.as_slice(), woven.comps.as_slice())
 }
 
 /// What two workers leave of the ring at a gate.
 fn woven_at<T: Threads + Sync>(threads: &T, alloc: Global, gate: &MeetingGate) -> Option<Outcome> {
-    let events = listed(alloc, &RING)?;
-    let (graph, parts) = partitioned(alloc, events, &BANKS, TWO_BANKS).ok()??;
-    Some(by_workers(threads, alloc, &graph, &parts, &BANKS, 2, gate)?.0)
+    let graph = graph_of(listed(alloc, &RING)?, &BANKS)?;
+    let parts = in_domains(alloc, &graph, TWO_BANKS)?;
+    by_two(threads, alloc, &graph, &parts, gate)
 }
 
 /// Domains 0 and 1 both come to their first fire before either makes it, so two workers run them
 /// beside each other.
-pub(crate) fn run_at_a_gate<T: Threads + Sync>(rt: &HostRuntime, threads: &T) -> io::Result<()> {
+pub(crate) fn run_at_a_gate<T: Threads + Sync>(threads: &T, alloc: Global, page: &mut Page) {
     let gate = MeetingGate::new();
-    let found = woven_at(threads, rt.alloc(), &gate);
+    let found = woven_at(threads, alloc, &gate);
     let name = "two workers fire in two domains beside each other";
-    write(rt, name, found.as_ref())?;
-    println!(rt; "  {:?}", gate.domains())
+    write(name, found.as_ref(), page);
+    write_passes(gate.domains(), page);
+}
+
+fn write_passes(passes: Passes, page: &mut Page) {
+    page.count("  Passes { first: ", passes.first);
+    page.count(", second: ", passes.second);
+    page.count(", met: ", passes.met);
+    page.line(" }");
 }

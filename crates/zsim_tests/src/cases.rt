@@ -31,61 +31,117 @@
 //! - `again WORDS`: a call, and whether it answers what the last one did.
 //! - `find TEXT`: how many lines of the last answer end with this text.
 //! - `kept MACHINE EXE SCHEDULE`: what the last call kept, and whether these names hold it.
-use crate::answers::{call, sink, write_line};
-use crate::contents::{MOST, contents};
-use crate::executables::{SEVEN, executable};
-use crate::machines::changed;
-use crate::numbers::{numbers_of, words_of};
+use crate::answers::{Streams, call};
+use crate::contents::MOST;
+use crate::executables::SEVEN;
+use crate::gates::CaseGate;
+use crate::page::Page;
 use crate::scene::Scene;
+use crate::words::{parted, put_words, words_of};
 use machine_desc::read;
 use std::alloc::Global;
 use std::sync::Wait;
 use std::thread::Threads;
-use zs_host::{Files, MemFiles, MemSink, OpenGate};
+use zs_host::Files;
 
-/// Writes what all cases of the file `cases` answer, in their order. None where memory runs out or a
-/// line is no case, which then stands behind the answers of those before it.
+/// Writes what all cases of the file `cases` answer, in their order. `None` where memory runs out for
+/// a call or a line is no case, which then stands behind the answers of those before it.
 pub fn answer_all<F: Files>(
     rt: &(impl Threads + Wait + Sync),
     alloc: Global,
     files: &mut F,
-    out: &mut MemSink,
+    page: &mut Page,
 ) -> Option<()> {
     let bytes = files.read(alloc, "cases", MOST).ok()?;
-    let text = str::from_utf8(bytes.as_slice()).ok()?;
     let mut scene = Scene::new(alloc)?;
+    let text = str::from_utf8(bytes.as_slice()).ok()?;
+    write_cases(rt, alloc, text, files, &mut scene, page)
+}
+
+/// Writes what the cases of these lines answer.
+fn write_cases<F: Files>(
+    rt: &(impl Threads + Wait + Sync),
+    alloc: Global,
+    text: &str,
+    files: &mut F,
+    scene: &mut Scene,
+    page: &mut Page,
+) -> Option<()> {
     for line in text.lines() {
-        if write_case(rt, alloc, line, files, &mut scene, out).is_none() {
-            write_line(alloc, line, out)?;
+        if write_case(rt, alloc, line, files, scene, page).is_none() {
+            page.line(line);
             return None;
         }
     }
     Some(())
 }
 
-/// Writes what a case answers. None where memory runs out or the line is no case.
+/// Writes what a case answers. `None` where memory runs out for its call or the line is no case.
 fn write_case<F: Files>(
     rt: &(impl Threads + Wait + Sync),
     alloc: Global,
     line: &str,
     files: &mut F,
     scene: &mut Scene,
-    out: &mut MemSink,
+    page: &mut Page,
 ) -> Option<()> {
-    let (kind, rest) = line.split_once(' ').unwrap_or((line, ""));
+    let (kind, rest) = parted(line);
     match kind {
-        "#" => write_line(alloc, line, out),
-        "words" => write_call(rt, alloc, rest, &executable(alloc, &SEVEN).ok()?, out),
-        "example" => write_example(rt, alloc, rest, files, out),
-        "files" => write_answer(rt, alloc, &words_of(alloc, rest)?, files, out),
-        "describe" => write_machine(alloc, rest, files, out),
-        "exe" => write_run(rt, alloc, &contents(alloc, rest, files)?, out),
-        "code" => write_run(rt, alloc, &contents(alloc, line, files)?, out),
-        "spoil" => write_run(rt, alloc, &spoiled(alloc, rest)?, out),
-        "description" => write_on(rt, alloc, &contents(alloc, rest, files)?, &SEVEN, out),
-        "machine" => write_on_changed(rt, alloc, rest, out),
-        _ => scene.play(rt, alloc, kind, rest, files, out),
+        "#" => {
+            page.line(line);
+            Some(())
+        }
+        "words" => write_call(rt, alloc, rest, ("code", SEVEN), files, page),
+        "example" => write_example(rt, alloc, rest, files, page),
+        "files" => write_files(rt, alloc, rest, files, page),
+        "describe" => write_machine(alloc, rest, files, page),
+        "exe" => write_call(rt, alloc, "run plain A", parted(rest), files, page),
+        "code" | "spoil" => write_call(rt, alloc, "run plain A", (kind, rest), files, page),
+        "description" => write_on(rt, alloc, parted(rest), SEVEN, files, page),
+        "machine" => write_on_changed(rt, alloc, rest, files, page),
+        _ => scene.play(rt, alloc, kind, rest, files, page),
     }
+}
+
+/// Writes what these words answer, where A holds these contents.
+fn write_call<F: Files>(
+    rt: &(impl Threads + Wait + Sync),
+    alloc: Global,
+    words: &str,
+    exe: (&str, &str),
+    files: &mut F,
+    page: &mut Page,
+) -> Option<()> {
+    let mut scene = Scene::new(alloc)?;
+    scene.write_call(rt, alloc, words, exe, files, page)
+}
+
+/// Writes what `run m A` answers, where m holds the built-in machine with changes, and A the
+/// executable of the instructions behind ` : `, if there are any, and else the one that exits with
+/// seven.
+fn write_on_changed<F: Files>(
+    rt: &(impl Threads + Wait + Sync),
+    alloc: Global,
+    rest: &str,
+    files: &mut F,
+    page: &mut Page,
+) -> Option<()> {
+    let (changes, code) = rest.split_once(" : ").unwrap_or((rest, SEVEN));
+    write_on(rt, alloc, ("machine", changes), code, files, page)
+}
+
+/// Writes what `run m A` answers, where m holds these contents and A the executable of these
+/// instructions.
+fn write_on<F: Files>(
+    rt: &(impl Threads + Wait + Sync),
+    alloc: Global,
+    machine: (&str, &str),
+    code: &str,
+    files: &mut F,
+    page: &mut Page,
+) -> Option<()> {
+    let mut scene = Scene::new(alloc)?;
+    scene.write_on(rt, alloc, machine, code, files, page)
 }
 
 /// Writes what `run plain NAME` answers, over these files.
@@ -94,11 +150,41 @@ fn write_example<F: Files>(
     alloc: Global,
     name: &str,
     files: &mut F,
-    out: &mut MemSink,
+    page: &mut Page,
 ) -> Option<()> {
+    let words = run_of(alloc, name)?;
+    write_answer(rt, alloc, &words, files, page)
+}
+
+/// The words `run plain NAME`.
+fn run_of(alloc: Global, name: &str) -> Option<Vec<String>> {
     let mut words = words_of(alloc, "run plain")?;
-    words.push(String::from_str(alloc, name).ok()?).ok()?;
-    write_answer(rt, alloc, &words, files, out)
+    put_words(alloc, name, &mut words)?;
+    Some(words)
+}
+
+/// Writes what a call on these words answers, over these files.
+fn write_files<F: Files>(
+    rt: &(impl Threads + Wait + Sync),
+    alloc: Global,
+    words: &str,
+    files: &mut F,
+    page: &mut Page,
+) -> Option<()> {
+    let words = words_of(alloc, words)?;
+    write_answer(rt, alloc, &words, files, page)
+}
+
+fn write_answer<F: Files>(
+    rt: &(impl Threads + Wait + Sync),
+    alloc: Global,
+    words: &[String],
+    files: &mut F,
+    page: &mut Page,
+) -> Option<()> {
+    let streams = Streams::new(alloc)?;
+    call(rt, alloc, words, files, streams, CaseGate::Open).write(page);
+    Some(())
 }
 
 /// Writes the numbers of cores, banks, controllers and domains of the machine that a file
@@ -107,96 +193,21 @@ fn write_machine<F: Files>(
     alloc: Global,
     name: &str,
     files: &mut F,
-    out: &mut MemSink,
+    page: &mut Page,
 ) -> Option<()> {
     let text = files.read(alloc, name, MOST).ok()?;
     let machine = read(alloc, text.as_slice()).ok()?;
-    let (cores, banks) = (machine.cores, machine.l2.banks);
-    let (controllers, domains) = (machine.controllers.count, machine.domains.count);
-    let line = format!(in alloc; "{name}: {cores} {banks} {controllers} {domains}").ok()?;
-    write_line(alloc, &line, out)
-}
-
-/// Writes what `run plain A` answers, where A holds this executable.
-fn write_run(
-    rt: &(impl Threads + Wait + Sync),
-    alloc: Global,
-    exe: &[u8],
-    out: &mut MemSink,
-) -> Option<()> {
-    write_call(rt, alloc, "run plain A", exe, out)
-}
-
-/// Writes what `run m A` answers, where m holds the built-in machine with changes, and A the
-/// executable of the instructions behind ` : `, if there are any, and else the one that exits with
-/// seven.
-fn write_on_changed(
-    rt: &(impl Threads + Wait + Sync),
-    alloc: Global,
-    rest: &str,
-    out: &mut MemSink,
-) -> Option<()> {
-    match rest.split_once(" : ") {
-        Some((changes, code)) => {
-            let machine = changed(alloc, changes)?;
-            write_on(
-                rt,
-                alloc,
-                machine.as_bytes(),
-                &numbers_of(alloc, code)?,
-                out,
-            )
-        }
-        None => write_on(rt, alloc, changed(alloc, rest)?.as_bytes(), &SEVEN, out),
+    page.text(name);
+    page.text(":");
+    for number in [
+        machine.cores,
+        machine.l2.banks,
+        machine.controllers.count,
+        machine.domains.count,
+    ] {
+        page.text(" ");
+        page.number(u64::from(number));
     }
-}
-
-/// Writes what `run m A` answers, where m holds this description and A the executable of these
-/// instructions.
-fn write_on(
-    rt: &(impl Threads + Wait + Sync),
-    alloc: Global,
-    machine: &[u8],
-    code: &[u32],
-    out: &mut MemSink,
-) -> Option<()> {
-    let mut files = MemFiles::new(alloc, &[]).ok()?;
-    files.set(alloc, "m", machine).ok()?;
-    files.set(alloc, "A", &executable(alloc, code).ok()?).ok()?;
-    write_answer(rt, alloc, &words_of(alloc, "run m A")?, &mut files, out)
-}
-
-/// Writes what these words answer, where A holds this executable.
-fn write_call(
-    rt: &(impl Threads + Wait + Sync),
-    alloc: Global,
-    words: &str,
-    exe: &[u8],
-    out: &mut MemSink,
-) -> Option<()> {
-    let mut files = MemFiles::new(alloc, &[]).ok()?;
-    files.set(alloc, "A", exe).ok()?;
-    write_answer(rt, alloc, &words_of(alloc, words)?, &mut files, out)
-}
-
-/// Writes what a call on these words answers, over these files.
-fn write_answer<F: Files>(
-    rt: &(impl Threads + Wait + Sync),
-    alloc: Global,
-    words: &[String],
-    files: &mut F,
-    out: &mut MemSink,
-) -> Option<()> {
-    let streams = (sink(alloc)?, sink(alloc)?);
-    call(rt, alloc, words, files, streams, &OpenGate).write(alloc, out)
-}
-
-/// The executable that exits with seven, with other bytes. The last two digits of a number are what
-/// the byte at the index of the digits before them becomes.
-fn spoiled(alloc: Global, text: &str) -> Option<Vec<u8>> {
-    let mut bytes = executable(alloc, &SEVEN).ok()?;
-    for number in &numbers_of(alloc, text)? {
-        *bytes.get_mut((number / 256) as usize)? = (number % 256) as u8;
-    }
-    Some(bytes)
+    page.line("");
+    Some(())
 }

@@ -1,8 +1,30 @@
-//! A gate that counts who passes it, and what is written of those that do.
-use crate::answers::{Called, write_line};
+//! The gates of calls, and what is written of those that pass.
+use crate::answers::Called;
+use crate::page::Page;
 use std::alloc::Global;
 use std::sync::atomic::{AtomicU64, Ordering};
-use zs_host::{Gate, MeetingGate, MemSink, Passes, Point};
+use zs_host::{Gate, MeetingGate, OpenGate, Passes, Point};
+
+/// The gate of a call.
+#[derive(Clone, Copy)]
+pub enum CaseGate<'a> {
+    /// It holds nobody up.
+    Open,
+    /// It counts who passes.
+    Counting(&'a CountingGate),
+    /// Two cores and two domains meet there.
+    Meeting(&'a MeetingGate),
+}
+
+impl Gate for CaseGate<'_> {
+    fn pass(&self, worker: u16, point: Point) {
+        match self {
+            CaseGate::Open => OpenGate.pass(worker, point),
+            CaseGate::Counting(gate) => gate.pass(worker, point),
+            CaseGate::Meeting(gate) => gate.pass(worker, point),
+        }
+    }
+}
 
 /// A gate that counts accesses, by worker 0, by the others, and of core 3; and events: all, those of
 /// domain 1, and those that one of two workers fires whose domain it is.
@@ -51,33 +73,37 @@ impl CountingGate {
 
     /// Writes who made the accesses, and of the events, whose number depends on the order of the
     /// accesses: whether the report has as many.
-    pub fn write(&self, alloc: Global, called: &Called, out: &mut MemSink) -> Option<()> {
-        let (first, others) = (counted(&self.by_first), counted(&self.by_others));
-        let last = counted(&self.of_last);
-        let line = format!(in alloc;
-            "accesses {first} by worker 0, {others} by others, {last} of core 3"
-        ).ok()?;
-        write_line(alloc, &line, out)?;
-        let events = counted(&self.events);
-        let told = format!(in alloc; "\nevents {events}\n").ok()?;
-        let are_told = str::from_utf8(called.out.bytes())
-            .ok()?
-            .contains(told.as_str());
-        let line = format!(in alloc; "all events reported: {are_told}").ok()?;
-        write_line(alloc, &line, out)
+    pub fn write(&self, alloc: Global, called: &Called, page: &mut Page) -> Option<()> {
+        page.text("accesses ");
+        page.number(counted(&self.by_first));
+        page.text(" by worker 0, ");
+        page.number(counted(&self.by_others));
+        page.text(" by others, ");
+        page.number(counted(&self.of_last));
+        page.line(" of core 3");
+        page.text("all events reported: ");
+        page.truth(are_told(alloc, counted(&self.events), called.report()?)?);
+        page.line("");
+        Some(())
     }
 
     /// Writes whether there were several intervals, and several events in the second of two domains,
     /// and whether all events were fired by the workers of their domains, of which there were two.
-    pub fn write_owners(&self, alloc: Global, called: &Called, out: &mut MemSink) -> Option<()> {
-        let intervals = called.ended.kept.schedule.intervals() > 1;
-        let second = counted(&self.of_second) > 1;
-        let owned = counted(&self.by_owner) == counted(&self.events);
-        let line = format!(in alloc;
-            "several intervals {intervals}, several events in domain 1 {second}, by owners {owned}"
-        ).ok()?;
-        write_line(alloc, &line, out)
+    pub fn write_owners(&self, called: &Called, page: &mut Page) {
+        page.text("several intervals ");
+        page.truth(called.ended.kept.schedule.intervals() > 1);
+        page.text(", several events in domain 1 ");
+        page.truth(counted(&self.of_second) > 1);
+        page.text(", by owners ");
+        page.truth(counted(&self.by_owner) == counted(&self.events));
+        page.line("");
     }
+}
+
+/// Whether a line of the report has so many events.
+fn are_told(alloc: Global, events: u64, report: &str) -> Option<bool> {
+    let line = format!(in alloc; "\nevents {events}\n").ok()?;
+    Some(report.contains(line.as_str()))
 }
 
 impl Gate for CountingGate {
@@ -98,13 +124,18 @@ fn counted(number: &AtomicU64) -> u64 {
 }
 
 /// Writes who came to the gate at which the cores 0 and 1, and the domains 0 and 1, meet.
-pub fn write_met(alloc: Global, gate: &MeetingGate, out: &mut MemSink) -> Option<()> {
-    write_passes(alloc, "cores", gate.cores(), out)?;
-    write_passes(alloc, "domains", gate.domains(), out)
+pub fn write_met(gate: &MeetingGate, page: &mut Page) {
+    write_passes("cores", gate.cores(), page);
+    write_passes("domains", gate.domains(), page);
 }
 
-fn write_passes(alloc: Global, who: &str, passes: Passes, out: &mut MemSink) -> Option<()> {
-    let Passes { first, second, met } = passes;
-    let line = format!(in alloc; "{who} passed {first} and {second}, met {met}").ok()?;
-    write_line(alloc, &line, out)
+fn write_passes(who: &str, passes: Passes, page: &mut Page) {
+    page.text(who);
+    page.text(" passed ");
+    page.number(passes.first);
+    page.text(" and ");
+    page.number(passes.second);
+    page.text(", met ");
+    page.number(passes.met);
+    page.line("");
 }

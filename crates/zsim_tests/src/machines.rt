@@ -1,42 +1,47 @@
 //! Machine descriptions of cases: the built-in one with other lines.
 use machine_desc::PLAIN;
-use std::alloc::Global;
 
-/// The built-in description with changes, which stand between `;`. Each is `OLD -> NEW`: a whole
-/// line, and the lines that stand in its place, between `|`. None where memory runs out or a change
-/// has no arrow.
-pub fn changed(alloc: Global, changes: &str) -> Option<String> {
-    let mut text = String::new(alloc);
+/// Puts the built-in description with changes, which stand between `;`. Each is `OLD -> NEW`: a
+/// whole line, and the lines that stand in its place, between `|`. None where memory runs out or a
+/// change has no arrow.
+pub fn put_changed(changes: &str, text: &mut Vec<u8>) -> Option<()> {
     for line in PLAIN.lines() {
-        write_changed(&mut text, line, changes)?;
-    }
-    Some(text)
-}
-
-/// Writes a line, or those that stand in its place.
-fn write_changed(text: &mut String, line: &str, changes: &str) -> Option<()> {
-    for change in changes.split_terminator(';') {
-        let (old, new) = change.split_once("->")?;
-        if old.trim() == line {
-            return write_lines(text, new);
-        }
-    }
-    write_lines(text, line)
-}
-
-/// Writes the lines that stand between `|`.
-fn write_lines(text: &mut String, lines: &str) -> Option<()> {
-    for line in lines.split('|') {
-        text.push_str(line.trim()).ok()?;
-        text.push_str("\n").ok()?;
+        put_lines(changed(line, changes)?, text)?;
     }
     Some(())
 }
 
-/// A text in which an unknown key of so many letters stands before the built-in description. Each
-/// letter is two bytes, which do not print as themselves.
-pub fn with_long_key(alloc: Global, letters: usize) -> Option<Vec<u8>> {
-    let name = "é".repeat(alloc, letters).ok()?;
-    let text = format!(in alloc; "\"{name}\" = 1\n{PLAIN}").ok()?;
-    Vec::from_slice(alloc, text.as_bytes()).ok()
+/// A line, or those that stand in its place.
+fn changed<'a>(line: &'a str, changes: &'a str) -> Option<&'a str> {
+    for change in changes.split_terminator(';') {
+        let (old, new) = change.split_once("->")?;
+        if old.trim() == line {
+            return Some(new);
+        }
+    }
+    Some(line)
+}
+
+/// Puts the lines that stand between `|`.
+fn put_lines(lines: &str, text: &mut Vec<u8>) -> Option<()> {
+    for line in lines.split('|') {
+        put_line(line.trim(), text)?;
+    }
+    Some(())
+}
+
+fn put_line(line: &str, text: &mut Vec<u8>) -> Option<()> {
+    text.extend_from_slice(line.as_bytes()).ok()?;
+    text.push(b'\n').ok()
+}
+
+/// Puts an unknown key of so many letters and the built-in description behind it. Each letter is
+/// two bytes, which do not print as themselves.
+pub fn put_long_key(letters: usize, text: &mut Vec<u8>) -> Option<()> {
+    text.push(b'"').ok()?;
+    for _ in 0..letters {
+        text.extend_from_slice("é".as_bytes()).ok()?;
+    }
+    put_line("\" = 1", text)?;
+    text.extend_from_slice(PLAIN.as_bytes()).ok()
 }

@@ -8,24 +8,25 @@ mod contents;
 mod executables;
 mod gates;
 mod machines;
-mod numbers;
+mod page;
 mod scene;
 mod top_call;
+mod words;
 
+use crate::page::Page;
 use std::io::Print;
 use std::process::ExitCode;
 use zs_host::RealFiles;
 
 fn main(rt: HostRuntime) -> ExitCode {
     let alloc = rt.alloc();
-    let stdout = rt.stdout();
     let mut files = RealFiles::new(&rt);
-    let Some(mut out) = answers::sink(alloc) else {
-        return ExitCode::FAILURE;
-    };
-    let all = cases::answer_all(&rt, alloc, &mut files, &mut out);
-    match stdout.write_all(out.bytes()) {
-        Ok(()) if all.is_some() => ExitCode::SUCCESS,
-        _ => ExitCode::FAILURE,
+    let mut page = Page::new(alloc);
+    let all = cases::answer_all(&rt, alloc, &mut files, &mut page);
+    let written = rt.stdout().write_all(page.bytes()).is_ok();
+    if all.is_some() && page.is_whole() && written {
+        ExitCode::SUCCESS
+    } else {
+        ExitCode::FAILURE
     }
 }

@@ -1,37 +1,51 @@
-//! Lines of the file of cases that stand on those before them.
-use crate::answers::{Called, call, sink, write_ended, write_line};
-use crate::contents::contents;
-use crate::gates::{CountingGate, write_met};
-use crate::numbers::{counts_of, words_of};
+//! The calls of the cases: what names hold, the streams, and what the last call answered.
+use crate::answers::{Called, Streams, call, write_ended};
+use crate::contents::put_contents;
+use crate::gates::{CaseGate, CountingGate, write_met};
+use crate::page::Page;
 use crate::top_call::answer;
+use crate::words::{counts_of, parted, words_of};
 use std::alloc::Global;
 use std::mem;
 use std::sync::Wait;
 use std::thread::Threads;
-use zs_host::{Files, Gate, MeetingGate, MemFiles, MemSink, OpenGate, Sink, SureFiles, SureSink};
+use zs_host::{Files, MeetingGate, MemFiles, MemSink, SureFiles, SureSink};
 
-/// What names hold, the streams of the next call, and what the last call answered.
-#[derive(Drop)]
+/// What names hold, the streams of the next call, and what the last call answered, and for a moment
+/// the one before it.
 pub struct Scene {
+    streams: Streams,
     files: MemFiles,
-    out: MemSink,
-    err: MemSink,
     last: Option<Called>,
+    before: Option<Called>,
+}
+
+/// Taken apart in this one place, so that whoever lets go of a scene owes this call alone.
+impl Drop for Scene {
+    fn drop(self) {
+        let Scene {
+            streams: _streams,
+            files: _files,
+            last: _last,
+            before: _before,
+        } = self;
+    }
 }
 
 impl Scene {
     /// No names, streams that take all, and no call.
     pub fn new(alloc: Global) -> Option<Self> {
         Some(Scene {
+            streams: Streams::new(alloc)?,
             files: MemFiles::new(alloc, &[]).ok()?,
-            out: sink(alloc)?,
-            err: sink(alloc)?,
             last: None,
+            before: None,
         })
     }
 
-    /// Does what a line says, and writes what it has to write. The files beside this one are in
-    /// `beside`. None where memory runs out or the line is none of these.
+    /// Does what a line says that stands on those before it, and writes what it has to write. The
+    /// files beside this one are in `beside`. `None` where memory runs out for a call or the line is
+    /// none of these.
     pub fn play<F: Files>(
         &mut self,
         rt: &(impl Threads + Wait + Sync),
@@ -39,61 +53,152 @@ impl Scene {
         kind: &str,
         rest: &str,
         beside: &mut F,
-        out: &mut MemSink,
+        page: &mut Page,
     ) -> Option<()> {
         match kind {
-            "anew" => self.files = MemFiles::new(alloc, &counts_of(alloc, rest)?).ok()?,
-            "hold" => self.hold(alloc, rest, beside)?,
-            "show" => self.write_held(alloc, rest, out)?,
-            "out" => self.out = taking(alloc, rest)?,
-            "err" => self.err = taking(alloc, rest)?,
-            "call" => self.call(rt, alloc, rest, &OpenGate)?.write(alloc, out)?,
-            "race" => self
-                .call(rt, alloc, rest, &OpenGate)?
-                .write_steady(alloc, out)?,
-            "meet" => self.write_met(rt, alloc, rest, out)?,
-            "count" => self.write_counts(rt, alloc, rest, false, out)?,
-            "owners" => self.write_counts(rt, alloc, rest, true, out)?,
-            "again" => self.write_again(rt, alloc, rest, out)?,
-            "sure" => self.write_sure(rt, alloc, rest, out)?,
-            "find" => self.last.as_ref()?.write_found(alloc, rest, out)?,
-            "kept" => self.write_kept(alloc, rest, out)?,
-            _ => return None,
+            "anew" => self.begin(alloc, rest),
+            "hold" => self.hold_named(alloc, rest, beside),
+            "show" => self.write_held(rest, page),
+            "out" => self.set_out(alloc, rest),
+            "err" => self.set_err(alloc, rest),
+            "call" => self.write_called(rt, alloc, rest, page),
+            "race" => self.write_race(rt, alloc, rest, page),
+            "meet" => self.write_met(rt, alloc, rest, page),
+            "count" => self.write_counts(rt, alloc, rest, false, page),
+            "owners" => self.write_counts(rt, alloc, rest, true, page),
+            "again" => self.write_again(rt, alloc, rest, page),
+            "sure" => self.write_sure(rt, alloc, rest, page),
+            "find" => self.last.as_ref()?.write_found(rest, page),
+            "kept" => self.write_kept(alloc, rest, page),
+            _ => None,
         }
+    }
+
+    /// From here on no name holds anything, and the calls on the files with these numbers fail.
+    fn begin(&mut self, alloc: Global, numbers: &str) -> Option<()> {
+        self.files = MemFiles::new(alloc, &counts_of(alloc, numbers)?).ok()?;
         Some(())
     }
 
-    /// Has a name hold something.
-    fn hold<F: Files>(&mut self, alloc: Global, rest: &str, beside: &mut F) -> Option<()> {
-        let (name, text) = rest.split_once(' ')?;
-        let bytes = contents(alloc, text, beside)?;
+    /// Has the standard output of the next call take and fail as these numbers say (`taking`).
+    fn set_out(&mut self, alloc: Global, numbers: &str) -> Option<()> {
+        self.streams.out = taking(alloc, numbers)?;
+        Some(())
+    }
+
+    /// Has the standard error of the next call take and fail as these numbers say (`taking`).
+    fn set_err(&mut self, alloc: Global, numbers: &str) -> Option<()> {
+        self.streams.err = taking(alloc, numbers)?;
+        Some(())
+    }
+
+    /// Has the name that a line begins with hold the contents behind it.
+    fn hold_named<F: Files>(&mut self, alloc: Global, rest: &str, beside: &mut F) -> Option<()> {
+        let (name, text) = parted(rest);
+        self.hold(alloc, name, parted(text), beside)
+    }
+
+    /// Has a name hold contents.
+    fn hold<F: Files>(
+        &mut self,
+        alloc: Global,
+        name: &str,
+        (kind, rest): (&str, &str),
+        beside: &mut F,
+    ) -> Option<()> {
+        let mut bytes = Vec::new(alloc);
+        put_contents(alloc, kind, rest, beside, &mut bytes)?;
         self.files.set(alloc, name, &bytes).ok()
     }
 
     /// Writes the bytes that a name holds, in hexadecimal digits.
-    fn write_held(&mut self, alloc: Global, name: &str, out: &mut MemSink) -> Option<()> {
-        let mut line = String::from_str(alloc, name).ok()?;
-        for byte in self.files.get(name)? {
-            let digits = format!(in alloc; " {byte:02x}").ok()?;
-            line.push_str(&digits).ok()?;
+    fn write_held(&self, name: &str, page: &mut Page) -> Option<()> {
+        let held = self.files.get(name)?;
+        page.text(name);
+        for byte in held {
+            page.text(" ");
+            page.byte(*byte);
         }
-        write_line(alloc, &line, out)
+        page.line("");
+        Some(())
     }
 
     /// Calls on these words past this gate, over what the names hold and the streams that stand
     /// ready. Those of the next call take all.
-    fn call<G: Gate>(
+    fn call(
         &mut self,
         rt: &(impl Threads + Wait + Sync),
         alloc: Global,
         words: &str,
-        gate: &G,
-    ) -> Option<&Called> {
+        gate: CaseGate,
+    ) -> Option<()> {
         let words = words_of(alloc, words)?;
-        let out = mem::replace(&mut self.out, sink(alloc)?);
-        let err = mem::replace(&mut self.err, sink(alloc)?);
-        self.last = Some(call(rt, alloc, &words, &mut self.files, (out, err), gate));
-        self.last.as_ref()
+        self.call_on(rt, alloc, &words, gate)
+    }
+
+    fn call_on(
+        &mut self,
+        rt: &(impl Threads + Wait + Sync),
+        alloc: Global,
+        words: &[String],
+        gate: CaseGate,
+    ) -> Option<()> {
+        let streams = mem::replace(&mut self.streams, Streams::new(alloc)?);
+        self.last = Some(call(rt, alloc, words, &mut self.files, streams, gate));
+        Some(())
+    }
+
+    /// Writes what a call answers.
+    fn write_called(
+        &mut self,
+        rt: &(impl Threads + Wait + Sync),
+        alloc: Global,
+        words: &str,
+        page: &mut Page,
+    ) -> Option<()> {
+        self.call(rt, alloc, words, CaseGate::Open)?;
+        self.last.as_ref()?.write(page);
+        Some(())
+    }
+
+    /// Has A hold these contents, and writes what a call answers.
+    pub fn write_call<F: Files>(
+        &mut self,
+        rt: &(impl Threads + Wait + Sync),
+        alloc: Global,
+        words: &str,
+        exe: (&str, &str),
+        beside: &mut F,
+        page: &mut Page,
+    ) -> Option<()> {
+        self.hold(alloc, "A", exe, beside)?;
+        self.write_called(rt, alloc, words, page)
+    }
+
+    /// Has m hold these contents, and writes what a run of these instructions on it answers.
+    pub fn write_on<F: Files>(
+        &mut self,
+        rt: &(impl Threads + Wait + Sync),
+        alloc: Global,
+        machine: (&str, &str),
+        code: &str,
+        beside: &mut F,
+        page: &mut Page,
+    ) -> Option<()> {
+        self.hold(alloc, "m", machine, beside)?;
+        self.write_call(rt, alloc, "run m A", ("code", code), beside, page)
+    }
+
+    /// Writes of what a call answers what no order of accesses changes.
+    fn write_race(
+        &mut self,
+        rt: &(impl Threads + Wait + Sync),
+        alloc: Global,
+        words: &str,
+        page: &mut Page,
+    ) -> Option<()> {
+        self.call(rt, alloc, words, CaseGate::Open)?;
+        self.last.as_ref()?.write_steady(page)
     }
 
     /// Writes who met whom in a call of several workers, and what it answered.
@@ -102,11 +207,13 @@ impl Scene {
         rt: &(impl Threads + Wait + Sync),
         alloc: Global,
         words: &str,
-        out: &mut MemSink,
+        page: &mut Page,
     ) -> Option<()> {
         let gate = MeetingGate::new();
-        self.call(rt, alloc, words, &gate)?.write(alloc, out)?;
-        write_met(alloc, &gate, out)
+        self.call(rt, alloc, words, CaseGate::Meeting(&gate))?;
+        self.last.as_ref()?.write(page);
+        write_met(&gate, page);
+        Some(())
     }
 
     /// Writes who passed the gate in a call of several workers, and what no order of accesses
@@ -117,16 +224,11 @@ impl Scene {
         alloc: Global,
         words: &str,
         with_owners: bool,
-        out: &mut MemSink,
+        page: &mut Page,
     ) -> Option<()> {
         let gate = CountingGate::new();
-        let called = self.call(rt, alloc, words, &gate)?;
-        called.write_steady(alloc, out)?;
-        gate.write(alloc, called, out)?;
-        if with_owners {
-            gate.write_owners(alloc, called, out)?;
-        }
-        Some(())
+        self.call(rt, alloc, words, CaseGate::Counting(&gate))?;
+        write_counted(alloc, self.last.as_ref()?, &gate, with_owners, page)
     }
 
     /// Writes whether a call answers what the last one did, and if not, what it answers. It is no
@@ -136,16 +238,13 @@ impl Scene {
         rt: &(impl Threads + Wait + Sync),
         alloc: Global,
         words: &str,
-        out: &mut MemSink,
+        page: &mut Page,
     ) -> Option<()> {
-        let before = self.last.take()?;
-        let is_as = self.call(rt, alloc, words, &OpenGate)?.is_as(&before);
-        let again = mem::replace(&mut self.last, Some(before))?;
-        if is_as {
-            write_line(alloc, "the same", out)
-        } else {
-            again.write(alloc, out)
-        }
+        self.before = self.last.take();
+        self.call(rt, alloc, words, CaseGate::Open)?;
+        write_compared(self.last.as_ref()?, self.before.as_ref()?, page);
+        self.last = self.before.take();
+        Some(())
     }
 
     /// Writes what a call answers over files and streams that never fail. Of the names, those among
@@ -155,35 +254,68 @@ impl Scene {
         rt: &(impl Threads + Wait + Sync),
         alloc: Global,
         words: &str,
-        out: &mut MemSink,
+        page: &mut Page,
     ) -> Option<()> {
         let words = words_of(alloc, words)?;
         let mut files = SureFiles::new(alloc);
-        for name in &words {
+        self.give(alloc, &words, &mut files)?;
+        write_surely(rt, alloc, &words, &mut files, page);
+        Some(())
+    }
+
+    /// Has those of the names that hold something here hold it there.
+    fn give(&self, alloc: Global, names: &[String], files: &mut SureFiles) -> Option<()> {
+        for name in names {
             if let Some(bytes) = self.files.get(name) {
                 files.set(alloc, name, bytes).ok()?;
             }
         }
-        let (mut output, mut error) = (SureSink::new(alloc), SureSink::new(alloc));
-        let ended = answer(
-            rt,
-            alloc,
-            &words,
-            &mut files,
-            &mut output,
-            &mut error,
-            &OpenGate,
-        );
-        write_ended(alloc, &ended, output.bytes(), error.bytes(), out)
+        Some(())
     }
 
     /// Writes what the last call kept.
-    fn write_kept(&mut self, alloc: Global, names: &str, out: &mut MemSink) -> Option<()> {
+    fn write_kept(&self, alloc: Global, names: &str, page: &mut Page) -> Option<()> {
         let names = words_of(alloc, names)?;
-        self.last
-            .as_ref()?
-            .write_kept(alloc, &names, &self.files, out)
+        self.last.as_ref()?.write_kept(&names, &self.files, page)
     }
+}
+
+/// Writes what no order of accesses changes, and who passed the gate.
+fn write_counted(
+    alloc: Global,
+    called: &Called,
+    gate: &CountingGate,
+    with_owners: bool,
+    page: &mut Page,
+) -> Option<()> {
+    called.write_steady(page)?;
+    gate.write(alloc, called, page)?;
+    if with_owners {
+        gate.write_owners(called, page);
+    }
+    Some(())
+}
+
+/// Writes whether a call answered the same as one before, and if not, what it answered.
+fn write_compared(called: &Called, before: &Called, page: &mut Page) {
+    if called.is_as(before) {
+        page.line("the same");
+    } else {
+        called.write(page);
+    }
+}
+
+/// Writes what a call answers over files and streams that never fail.
+fn write_surely(
+    rt: &(impl Threads + Wait + Sync),
+    alloc: Global,
+    words: &[String],
+    files: &mut SureFiles,
+    page: &mut Page,
+) {
+    let (mut out, mut err) = (SureSink::new(alloc), SureSink::new(alloc));
+    let ended = answer(rt, alloc, words, files, &mut out, &mut err, CaseGate::Open);
+    write_ended(&ended, out.bytes(), err.bytes(), page);
 }
 
 /// A stream that takes at most so many bytes a put, as the first number says. The puts of the other

@@ -1,20 +1,21 @@
 //! The one place here that calls the top call. What calls this has none of that call's contract
 //! among what is known.
+use crate::gates::CaseGate;
 use std::alloc::Global;
 use std::sync::Wait;
 use std::thread::Threads;
-use zs_host::{Files, Gate, Sink};
+use zs_host::{Files, Sink};
 use zsim::{Ended, zsim};
 
 /// What the top call answers. No clause says so: the tests look at the answer itself.
-pub fn answer<R: Threads + Wait + Sync, F: Files, O: Sink, E: Sink, G: Gate>(
+pub fn answer<R: Threads + Wait + Sync, F: Files, S: Sink>(
     rt: &R,
     alloc: Global,
     words: &[String],
     files: &mut F,
-    out: &mut O,
-    err: &mut E,
-    gate: &G,
+    out: &mut S,
+    err: &mut S,
+    gate: CaseGate,
 ) -> Ended {
-    zsim(rt, alloc, words, files, out, err, gate)
+    zsim(rt, alloc, words, files, out, err, &gate)
 }

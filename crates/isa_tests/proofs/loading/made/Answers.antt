@@ -3,5 +3,5 @@ use Rattle.elf_load.proofs.Meanings.{sound_alone}
 use Rattle.isa_tests.proofs.loading.made.Goals as goal
 
 pub make-requires : goal.make-requires
-make-requires c =
-    rw c.in_ok-segments.ensures (sound_alone _ _ _ _ (lit≤ tt) (lit< tt) (lit≤ tt) (lit≤ tt) (lit≤ tt) refl refl (lit≤ tt) (lit≤ tt))
+make-requires g c =
+    rw c.alone-segments.ensures (sound_alone _ _ _ _ (lit≤ tt) (lit< tt) (lit≤ tt) (lit≤ tt) (lit≤ tt) refl refl (lit≤ tt) (lit≤ tt))

@@ -1,24 +1,24 @@
 -- A step adds no more than the occupancy and the longest latency.
-use Rattle.std.proofs.Common.{◌≡◌, ◌≤◌, List, length, leb, Some, sym, ◌∙◌, ap, subst, arith, rules}
+use Rattle.std.proofs.Common.{◌≡◌, ◌≤◌, List, length, leb, Some, ap, subst, arith, rules}
 use Rattle.std.specs.Prelude.{slice_get}
 use Rattle.std.proofs.lemmas.Bool.{leb-true}
 use Rattle.event_graph.specs.declared.event.Event.{Event}
 use Rattle.event_graph.specs.Near.{AreNear}
-use Rattle.event_graph.specs.Numbered.{IsNumbered}
+use Rattle.weave_tests.specs.declared.server.Server.{Server}
 use Rattle.weave_tests.proofs.by_workers.woven_by_workers.Goals as goal
 
 pub weave-requires-clause-small : goal.weave-requires-clause-small
 weave-requires-clause-small g c κs within =
+    let same : c.of-comps.result ≡ c.args.servers.now = search rules in
     let events : c.events-events.result.now ≡ c.args.graph.now = c.events-events.ensures.events in
-    let few = c.if-events.false in
-    let count : length c.args.graph.now ≤ 4194304 = omega (arith, ap length events, few) in
-    c.steps_stay_small.ensures (λ s. leb s.occupancy 4194304) (λ s. s.free) 4194404 4194304 4194304 c.args.graph.now c.of.result
-    (subst IsNumbered events (c.is_graph.ensures.numbered c.if-not-is_graph.false)) (search rules)
+    let count : length c.args.graph.now ≤ 4194304 = omega (arith, ap length events, c.if-events.false) in
+    c.steps_stay_small.ensures (λ s. leb s.occupancy 4194304) (λ s. s.free) 4194404 4194304 4194304 c.args.graph.now c.of-comps.result
+    c.events-events.ensures.numbered (search rules)
     (record {
       sum = λ s kind start p q. omega (arith, leb-true s.occupancy 4194304 p);
       stays = λ s kind start p q. p;
       next = λ s kind start p q. omega (arith, leb-true s.occupancy 4194304 p);
     })
     (subst (λ (es : List Event). AreNear 4194304 4194304 es) events (c.is_graph.ensures.near c.if-not-is_graph.false))
-    (λ i s at. c.are_fast.ensures c.if-not-are_fast.false i s (subst (λ xs. slice_get xs i ≡ Some s) (c.of.ensures ∙ sym c.as_slice-else-not-is_graph.ensures.value) at))
+    (λ i s at. c.are_fast.ensures c.if-not-are_fast.false i s (subst (λ (xs : List Server). slice_get xs i ≡ Some s) same at))
     (omega (arith, count))

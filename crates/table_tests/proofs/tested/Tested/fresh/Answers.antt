@@ -5,10 +5,10 @@ use Rattle.table_tests.proofs.Asking.{new_seats, tested}
 use Rattle.table_tests.proofs.tested.Tested.fresh.Goals as goal
 
 pub make-requires-clause-numbers : goal.make-requires-clause-numbers
-make-requires-clause-numbers g c = λ number shard at. (c.in_ok-shards.ensures.each number shard at).number_is
+make-requires-clause-numbers c = λ number shard at. (c.in_ok-shards.ensures.each number shard at).number_is
 
 pub invariant_of-result : goal.invariant_of-result
-invariant_of-result g c =
+invariant_of-result c =
     let t = c.in-Ok.ensures.table in
     let seats = new_seats c.in-Ok.table c.both-first.result.0 c.both-first.result.1 (subst (AreNewSeats c.in-Ok.table) c.both-first.ensures c.in-Ok.ensures.seats) in
     record {
@@ -19,6 +19,6 @@ invariant_of-result g c =
     }
 
 pub returns-clause-empty : goal.returns-clause-empty
-returns-clause-empty g c =
+returns-clause-empty c =
     let seats = new_seats c.in-Ok.table c.both-first.result.0 c.both-first.result.1 (subst (AreNewSeats c.in-Ok.table) c.both-first.ensures c.in-Ok.ensures.seats) in
     (seats.2, seats.3)

@@ -3,7 +3,7 @@ use Rattle.std.proofs.lemmas.Bool.Decides.{nat_tests}
 use Rattle.std.specs.List.{IsDistinct}
 use Rattle.zs_num.specs.declared.entry.Entry.{Entry}
 use Rattle.access_log.specs.Logs.{HaveDistinctKeys, LogState, have_same_key}
-use Rattle.access_tests.proofs.logs.logs_are_merged_by_stamp_and_then_by_core.Goals as goal
+use Rattle.access_tests.proofs.logs.merged.Goals as goal
 
 other_cores : (a b : Entry) → a.core ≡ 0 → b.core ≡ 1 → have_same_key a b ≡ false
 other_cores a b p q = grind (arith, nat_tests)
@@ -26,7 +26,7 @@ distinct a b c d p q r s = (
 )
 
 pub merge-requires-clause-keys : goal.merge-requires-clause-keys
-merge-requires-clause-keys g c =
+merge-requires-clause-keys c =
     subst (λ (x : LogState). HaveDistinctKeys (x.entries ++ (c.in_ok-second.second.entries ++ []))) (sym c.in_ok-first.ensures)
     (subst (λ (x : LogState). HaveDistinctKeys (c.load.result ∷ c.load-2.result ∷ (x.entries ++ []))) (sym c.in_ok-second.ensures)
     (distinct c.load.result c.load-2.result c.load-3.result c.load-4.result

@@ -3,8 +3,8 @@ use Rattle.std.proofs.Common.{◌≡◌, ◌<◌, ◌+◌, ◌++◌, ◌∷◌, 
 use Rattle.weave_core.specs.DomainCalls.{comps_in}
 use Rattle.weave_tests.specs.declared.server.Server.{Server}
 use Rattle.weave_tests.proofs.Serving.{next_is_apart, next_is_here, servers_from, there_at}
-use Rattle.weave_tests.proofs.driven.servers_in.Goals as goal
-use Rattle.weave_tests.proofs.driven.servers_in.Goals.{then-places-index+in_ok-push, else-places-index}
+use Rattle.weave_tests.proofs.driven.add_servers.Goals as goal
+use Rattle.weave_tests.proofs.driven.add_servers.Goals.{then-places-index+in_ok-push, else-places-index}
 
 pub loop-index-preserved : goal.loop-index-preserved
 loop-index-preserved c =

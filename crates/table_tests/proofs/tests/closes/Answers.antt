@@ -4,14 +4,13 @@ use Rattle.shard.specs.Served.{ShardState}
 use Rattle.zs_num.specs.Request.{IsServable, line_of}
 use Rattle.zs_num.specs.declared.request.Request.TheVariants.{Load}
 use Rattle.table_tests.proofs.Asking.{first_there}
-use Rattle.table_tests.proofs.tests.two_threads_that_add_lose_nothing.Goals as goal
+use Rattle.table_tests.proofs.tests.closes.Goals as goal
 
 pub doubleword-requires : goal.doubleword-requires
 doubleword-requires g c =
     let some : 0 < length c.in_ok-shards.shards.items = search rules in
-    let banks : c.both_add-t.result.banks ≡ 1 = c.both_add-t.ensures ∙ c.in_ok-fresh.ensures.banks in
-    let at : slice_get c.in_ok-shards.shards.items 0 ≡ Some c.index-3.result.now =
-    first_there c.in_ok-shards.shards.items c.index-3.result.now some ∙ ap (λ (s : ShardState). Some s) (sym c.index-3.ensures)
+    let at : slice_get c.in_ok-shards.shards.items 0 ≡ Some c.index.result.now =
+    first_there c.in_ok-shards.shards.items c.index.result.now some ∙ ap (λ (s : ShardState). Some s) (sym c.index.ensures)
     in
     let can : IsServable 65536 1048576 (Load 69632 8) = search rules in
-    c.in_ok-shards.ensures 0 c.index-3.result.now (Load 69632 8) at can (ap (λ (n : ℕ). line_of (Load 69632 8) % n) banks)
+    c.in_ok-shards.ensures 0 c.index.result.now (Load 69632 8) at can (ap (λ (n : ℕ). line_of (Load 69632 8) % n) c.requires)
