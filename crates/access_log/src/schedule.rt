@@ -8,7 +8,7 @@ use std::marker::Model;
 use zs_num::{Entries, NoMemory};
 
 /// For each interval that was run, the numbers of the cores in the order of their accesses.
-#[derive(Debug, Drop)]
+#[derive(Drop)]
 pub struct Schedule {
     cores: u16,
     lists: Vec<Vec<u16>>,

@@ -2,7 +2,7 @@
 use zs_num::Entry;
 
 /// What a turn gives.
-#[derive(Clone, Copy, Debug, PartialEq, Eq)]
+#[derive(Clone, Copy)]
 pub enum Turned {
     /// The core made an access, which has this entry.
     Took(Entry),

@@ -3,7 +3,7 @@ ghost use Rattle.std.specs.Prelude.{◌≡◌};
 ghost use Rattle.cache_set.specs.Letters.{mark_of, letter_of};
 
 /// The state of a line in a core's cache (the MESI protocol).
-#[derive(Clone, Copy, Debug, PartialEq, Eq)]
+#[derive(Clone, Copy, PartialEq, Eq)]
 pub enum Letter {
     /// Modified: this core alone has the line, and its bytes are newer than those of memory.
     M,

@@ -8,7 +8,7 @@ use std::marker::Model;
 use zs_num::NoMemory;
 
 /// A line in a set.
-#[derive(Clone, Copy, Debug, PartialEq, Eq)]
+#[derive(Clone, Copy)]
 pub struct Way {
     /// The number of the line: its address by the bytes of a line.
     pub line: u64,
@@ -18,7 +18,7 @@ pub struct Way {
 
 /// The lines of one set with their marks, which contracts see as a list, the most recently used
 /// first.
-#[derive(Debug, Drop)]
+#[derive(Drop)]
 pub struct Set {
     ways: usize,
     tags: Vec<u64>,

@@ -5,7 +5,7 @@ use crate::{Component, Kind};
 use zs_num::Cycle;
 
 /// A bank of the shared cache. It serves one event after the other. Times are in cycles.
-#[derive(Debug, Drop)]
+#[derive(Drop)]
 pub struct Bank {
     /// The time of a look-up.
     pub lookup: u64,

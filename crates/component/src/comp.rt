@@ -3,7 +3,7 @@ use crate::{Bank, Component, Controller, Kind};
 use zs_num::Cycle;
 
 /// A bank of the shared cache or a memory controller.
-#[derive(Debug, Drop)]
+#[derive(Drop)]
 pub enum Comp {
     Bank(Bank),
     Controller(Controller),

@@ -2,7 +2,7 @@
 use std::marker::Model;
 
 /// The components of a machine in order of their numbers, which contracts see as a list.
-#[derive(Debug, Drop)]
+#[derive(Drop)]
 pub struct Comps<C> {
     list: Vec<C>,
 }

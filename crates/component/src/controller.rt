@@ -5,7 +5,7 @@ use crate::{Component, Kind};
 use zs_num::Cycle;
 
 /// A memory controller. It serves one event after the other. Times are in cycles.
-#[derive(Debug, Drop)]
+#[derive(Drop)]
 pub struct Controller {
     /// The time of a read.
     pub read: u64,

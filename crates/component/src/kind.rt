@@ -1,7 +1,7 @@
 //! What an event asks of its component.
 
 /// What an event asks of its component.
-#[derive(Clone, Copy, Debug, PartialEq, Eq)]
+#[derive(Clone, Copy, PartialEq, Eq)]
 pub enum Kind {
     /// A bank looks up a line.
     Lookup,

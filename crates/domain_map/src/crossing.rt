@@ -2,7 +2,7 @@
 
 /// A parent in one domain and its child in another: the child's domain has to learn the parent's
 /// finish from the parent's.
-#[derive(Clone, Copy, Debug, PartialEq, Eq)]
+#[derive(Clone, Copy, PartialEq, Eq)]
 pub struct Crossing {
     /// The number of the parent.
     pub parent: u32,

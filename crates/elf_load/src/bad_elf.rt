@@ -35,7 +35,7 @@ pub enum BadElf {
 }
 
 /// Why an executable was not loaded.
-#[derive(Clone, Copy, Debug, PartialEq, Eq, Error)]
+#[derive(Clone, Copy, Debug, Error)]
 pub enum LoadFail {
     #[error(transparent)]
     Bad(BadElf),

@@ -3,7 +3,7 @@ use zs_num::Bytes;
 
 /// A range of memory that the executable fills: its first bytes are those of the file, the rest are
 /// 0.
-#[derive(Debug, Drop)]
+#[derive(Drop)]
 pub struct Segment {
     /// The address of its first byte.
     pub vaddr: u64,

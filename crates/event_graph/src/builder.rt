@@ -9,7 +9,7 @@ use std::alloc::Global;
 use zs_num::{Cycle, Entries, Entry, NoMemory};
 
 /// What is kept of a core's last critical event: its number, and its finish at zero load.
-#[derive(Clone, Copy, Debug, PartialEq, Eq)]
+#[derive(Clone, Copy)]
 struct Critical {
     number: u32,
     finish: Cycle,

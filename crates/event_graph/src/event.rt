@@ -3,7 +3,7 @@ use component::Kind;
 use zs_num::Cycle;
 
 /// An event that has to finish before another starts.
-#[derive(Clone, Copy, Debug, PartialEq, Eq)]
+#[derive(Clone, Copy, PartialEq, Eq)]
 pub struct Parent {
     /// The number of the parent.
     pub number: u32,
@@ -13,7 +13,7 @@ pub struct Parent {
 
 /// A recorded event. Events are numbered from 0 in each interval; a parent has a smaller number.
 /// There are millions of them in an interval, so the small fields lie side by side.
-#[derive(Clone, Copy, Debug, PartialEq, Eq)]
+#[derive(Clone, Copy, PartialEq, Eq)]
 pub struct Event {
     pub number: u32,
     /// The core whose access made it.

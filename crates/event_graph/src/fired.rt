@@ -5,7 +5,7 @@ use std::marker::Model;
 use zs_num::Cycle;
 
 /// An event with the cycles that the weave found for it.
-#[derive(Clone, Copy, Debug, PartialEq, Eq)]
+#[derive(Clone, Copy, PartialEq, Eq)]
 pub struct Fired {
     pub number: u32,
     pub start: Cycle,
@@ -13,7 +13,7 @@ pub struct Fired {
 }
 
 /// A list of fired events, which contracts see as a list.
-#[derive(Debug, Drop)]
+#[derive(Drop)]
 pub struct FiredList {
     list: Vec<Fired>,
 }

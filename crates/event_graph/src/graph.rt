@@ -5,7 +5,7 @@ use crate::Event;
 use std::marker::Model;
 
 /// The events of an interval, in order of their numbers.
-#[derive(Debug, Drop)]
+#[derive(Drop)]
 pub struct Graph {
     events: Vec<Event>,
 }

@@ -2,7 +2,7 @@
 use component::Kind;
 
 /// One of the events of an access, by its place in the access. Times are in cycles.
-#[derive(Clone, Copy, Debug, PartialEq, Eq)]
+#[derive(Clone, Copy)]
 pub struct Piece {
     /// The component that serves it.
     pub component: u16,

@@ -8,7 +8,7 @@ use machine_desc::{Controllers, L1, L2, Machine};
 use zs_num::{Entry, Outcome};
 
 /// The expansion of accesses into events where banks and controllers are joined without a network.
-#[derive(Debug, Drop)]
+#[derive(Drop)]
 pub struct Plain {
     pub l1: L1,
     pub l2: L2,

@@ -5,7 +5,7 @@ use std::marker::Model;
 
 /// How many cycles each core's clock has to grow, by the cores' numbers. Contracts see it as a
 /// list.
-#[derive(Debug, Drop)]
+#[derive(Drop)]
 pub struct Delays {
     list: Vec<u64>,
 }

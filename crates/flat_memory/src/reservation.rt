@@ -6,7 +6,7 @@ use zs_num::LINE;
 
 /// What a load-reserved reserves: so many bytes from an address on (RISC-V Unprivileged ISA manual,
 /// "Load-Reserved/Store-Conditional Instructions").
-#[derive(Clone, Copy, Debug, PartialEq, Eq)]
+#[derive(Clone, Copy)]
 pub struct Reservation {
     pub addr: u64,
     /// In bytes, 4 or 8.

@@ -14,7 +14,7 @@ use std::alloc::{AllocError, Global};
 use toml::{Table, Value};
 
 /// What is wrong with a value.
-#[derive(Clone, Copy, Debug)]
+#[derive(Clone, Copy)]
 pub(crate) enum BadValue {
     OtherKind,
     /// The integer, or the length of the array.

@@ -12,14 +12,14 @@ use std::alloc::{AllocError, Global};
 use toml::Table;
 
 /// Where a value stands: the name of its table, which is empty at the top level, and its own name.
-#[derive(Clone, Copy, Debug)]
+#[derive(Clone, Copy)]
 pub(crate) struct KeyPath {
     pub table: &'static str,
     pub name: &'static str,
 }
 
 /// The integers from `low` to `high` that are multiples of `step`.
-#[derive(Clone, Copy, Debug)]
+#[derive(Clone, Copy)]
 pub(crate) struct Range {
     pub low: u64,
     pub high: u64,
@@ -39,7 +39,7 @@ impl Range {
 }
 
 /// What a value has to be.
-#[derive(Clone, Copy, Debug)]
+#[derive(Clone, Copy)]
 pub(crate) enum Rule {
     /// A table.
     Table,
@@ -57,14 +57,14 @@ pub(crate) enum Rule {
 }
 
 /// A key that has to be there, and what its value has to be.
-#[derive(Clone, Copy, Debug)]
+#[derive(Clone, Copy)]
 pub(crate) struct Check {
     pub key: KeyPath,
     pub rule: Rule,
 }
 
 /// A key whose number has to be a multiple of the number at `divisor`.
-#[derive(Clone, Copy, Debug)]
+#[derive(Clone, Copy)]
 pub(crate) struct Ratio {
     pub key: KeyPath,
     pub divisor: KeyPath,

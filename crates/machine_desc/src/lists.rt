@@ -6,7 +6,7 @@ use std::fmt;
 use std::marker::Model;
 
 /// The domains of some components, in order of the components' numbers.
-#[derive(Debug, Drop)]
+#[derive(Drop)]
 pub struct Places {
     list: Vec<u16>,
 }

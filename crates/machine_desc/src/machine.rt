@@ -2,7 +2,7 @@
 use crate::Places;
 
 /// The memory of a machine, in bytes.
-#[derive(Clone, Copy, Debug, PartialEq, Eq)]
+#[derive(Clone, Copy, PartialEq, Eq)]
 pub struct Memory {
     /// The first address, a multiple of 4096 up to 2^40.
     pub base: u64,
@@ -13,7 +13,7 @@ pub struct Memory {
 }
 
 /// A core's own data cache.
-#[derive(Clone, Copy, Debug, PartialEq, Eq)]
+#[derive(Clone, Copy, PartialEq, Eq)]
 pub struct L1 {
     /// How many sets it has: 1 to 4096, a multiple of the number of banks.
     pub sets: u32,
@@ -24,7 +24,7 @@ pub struct L1 {
 }
 
 /// The shared cache. Times are in cycles.
-#[derive(Clone, Copy, Debug, PartialEq, Eq)]
+#[derive(Clone, Copy, PartialEq, Eq)]
 pub struct L2 {
     /// How many banks it has: 1 to 64.
     pub banks: u16,
@@ -43,7 +43,7 @@ pub struct L2 {
 }
 
 /// The memory controllers. Times are in cycles.
-#[derive(Clone, Copy, Debug, PartialEq, Eq)]
+#[derive(Clone, Copy, PartialEq, Eq)]
 pub struct Controllers {
     /// How many there are: 1 to 16.
     pub count: u16,
@@ -56,7 +56,7 @@ pub struct Controllers {
 }
 
 /// Which domain of the weave each component belongs to.
-#[derive(Debug, Drop)]
+#[derive(Drop)]
 pub struct Domains {
     /// How many domains there are: 1 to 64.
     pub count: u16,
@@ -67,7 +67,7 @@ pub struct Domains {
 }
 
 /// A machine.
-#[derive(Debug, Drop)]
+#[derive(Drop)]
 pub struct Machine {
     /// The version of the description: 1.
     pub version: u32,

@@ -11,7 +11,7 @@ use zs_num::NoMemory;
 
 /// Which cores have a line, which contracts see as a finite map from lines to their sharers and to
 /// the one that may write it, the owner. A line that no core has takes no room.
-#[derive(Debug, Drop)]
+#[derive(Drop)]
 pub struct Directory {
     room: usize,
     cores: u16,

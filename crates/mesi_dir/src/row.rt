@@ -2,7 +2,7 @@
 use crate::core_set::CoreSet;
 
 /// The cores that have a line, and the one that may write it.
-#[derive(Clone, Copy, Debug)]
+#[derive(Clone, Copy)]
 pub struct DirectoryRow {
     pub sharers: CoreSet,
     pub owner: Option<u16>,

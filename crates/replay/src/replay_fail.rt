@@ -6,7 +6,7 @@ use thiserror::Error;
 use zs_num::NoMemory;
 
 /// Why a replay gives no results.
-#[derive(Clone, Copy, Debug, PartialEq, Eq, Error)]
+#[derive(Clone, Copy, Debug, Error)]
 pub enum ReplayFail {
     /// The first place of the schedule that is not legal for the run: the number of an interval,
     /// from 0 on, and a place in its list. The place is the list's length where a core still has an

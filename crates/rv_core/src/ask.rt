@@ -3,7 +3,7 @@ use crate::Why;
 use zs_num::Request;
 
 /// What a core did or asks for when it was asked for its next step.
-#[derive(Clone, Copy, Debug, PartialEq, Eq)]
+#[derive(Clone, Copy, PartialEq, Eq)]
 pub enum Ask {
     /// One whole instruction was executed, with no access.
     Local,

@@ -16,7 +16,7 @@ const MOST_WORDS: usize = 1 << 20;
 const WORD: u64 = 4;
 
 /// What the program has at an address.
-#[derive(Clone, Copy, Debug)]
+#[derive(Clone, Copy)]
 pub struct DecodedWord {
     pub pc: u64,
     pub fetched: Fetched,
@@ -24,7 +24,7 @@ pub struct DecodedWord {
 
 /// The words of one segment: `count` of them, from a place on, are of the addresses
 /// from the first on.
-#[derive(Clone, Copy, Debug)]
+#[derive(Clone, Copy)]
 struct Span {
     first: u64,
     place: usize,

@@ -3,7 +3,7 @@ ghost use Rattle.std.specs.Prelude.{◌≡◌, ◌+◌, ◌≤◌, ◌^◌};
 ghost use Rattle.rv_core.specs.Accesses.{is_in_memory};
 
 /// The range of memory: so many bytes from the first on.
-#[derive(Clone, Copy, Debug, PartialEq, Eq)]
+#[derive(Clone, Copy)]
 pub struct MemoryRange {
     /// The address of the first byte.
     pub base: u64,

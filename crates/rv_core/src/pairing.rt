@@ -5,7 +5,7 @@ ghost use Rattle.rv_core.specs.Pairing.{is_paired, pairing_after};
 use zs_num::Request;
 
 /// The address and the width of a core's latest load-reserved.
-#[derive(Clone, Copy, Debug, PartialEq, Eq)]
+#[derive(Clone, Copy)]
 pub struct Pairing {
     pub addr: u64,
     /// In bytes, 4 or 8.

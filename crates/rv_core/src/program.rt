@@ -8,7 +8,7 @@ use elf_load::Image;
 use rv_decode::{Inst, decode};
 
 /// What a program has at an address.
-#[derive(Clone, Copy, Debug, PartialEq, Eq)]
+#[derive(Clone, Copy)]
 pub enum Fetched {
     /// The four bytes are not in one executable segment.
     Outside,

@@ -2,7 +2,7 @@
 use zs_num::Request;
 
 /// A register that gets what an instruction's accesses reply.
-#[derive(Clone, Copy, Debug, PartialEq, Eq)]
+#[derive(Clone, Copy)]
 pub struct Destination {
     /// The number of the register, 0 to 31. A write to register 0 is dropped.
     pub rd: u8,
@@ -13,14 +13,14 @@ pub struct Destination {
 }
 
 /// A reply to an access: a number of so many bytes.
-#[derive(Clone, Copy, Debug, PartialEq, Eq)]
+#[derive(Clone, Copy)]
 pub struct Reply {
     pub width: u8,
     pub number: u64,
 }
 
 /// The accesses that are left of an instruction, and what was replied so far.
-#[derive(Clone, Copy, Debug, PartialEq, Eq)]
+#[derive(Clone, Copy)]
 pub enum Progress {
     /// No instruction is in progress.
     Idle,

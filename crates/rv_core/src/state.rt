@@ -23,7 +23,7 @@ use zs_num::Request;
 pub(crate) const A0: u8 = 10;
 
 /// The registers of a core, the address of its next instruction, and what it is about.
-#[derive(Debug, Drop)]
+#[derive(Drop)]
 pub struct Core {
     registers: [u64; 32],
     pc: u64,

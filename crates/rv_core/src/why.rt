@@ -1,7 +1,7 @@
 //! Why a core halted.
 
 /// Why a core halted.
-#[derive(Clone, Copy, Debug, PartialEq, Eq)]
+#[derive(Clone, Copy, PartialEq, Eq)]
 pub enum Why {
     /// The program ended with this number.
     Exit(u64),

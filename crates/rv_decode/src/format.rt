@@ -2,7 +2,7 @@
 
 /// What a word holds beside the bits that its row of the instruction table states (RISC-V
 /// Unprivileged ISA manual, "Base Instruction Formats" and "Immediate Encoding Variants").
-#[derive(Clone, Copy, Debug, PartialEq, Eq)]
+#[derive(Clone, Copy)]
 pub enum Format {
     /// rd and the U immediate.
     U,

@@ -2,7 +2,7 @@
 use crate::Name;
 
 /// A decoded instruction. A field that its format does not have is 0.
-#[derive(Clone, Copy, Debug, PartialEq, Eq)]
+#[derive(Clone, Copy)]
 pub struct Inst {
     pub name: Name,
     /// The destination register, 0 to 31.

@@ -3,7 +3,7 @@
 /// The instructions of RV64I with the extensions M and A, one variant a row of the instruction
 /// table. The names are those of the RISC-V Unprivileged ISA manual; atomics end in `W` for words
 /// and in `D` for doublewords.
-#[derive(Clone, Copy, Debug, PartialEq, Eq)]
+#[derive(Clone, Copy)]
 pub enum Name {
     // RV32I and RV64I, in the order of the opcodes' section
     Lui,

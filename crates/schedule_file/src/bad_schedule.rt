@@ -26,7 +26,7 @@ pub enum BadSchedule {
 }
 
 /// Why a schedule was not read.
-#[derive(Clone, Copy, Debug, PartialEq, Eq, Error)]
+#[derive(Clone, Copy, Debug, Error)]
 pub enum ScheduleReadFail {
     #[error(transparent)]
     Bad(BadSchedule),

@@ -30,7 +30,7 @@ impl Model for CoreSeat {
 }
 
 /// Another core holds the shard.
-#[derive(Clone, Copy, Debug, PartialEq, Eq)]
+#[derive(Clone, Copy, Debug)]
 pub struct Held {
     /// The number of that core.
     pub holder: u16,

@@ -11,7 +11,7 @@ use std::marker::Model;
 use zs_num::{Entries, NoMemory};
 
 /// What was counted so far, by the numbers of the cores and of the components.
-#[derive(Debug, Drop)]
+#[derive(Drop)]
 pub struct Counters {
     core_counts: Vec<CoreCount>,
     comp_counts: Vec<CompCount>,

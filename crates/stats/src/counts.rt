@@ -2,7 +2,7 @@
 use zs_num::Cycle;
 
 /// What is counted of a core's accesses.
-#[derive(Clone, Copy, Debug, PartialEq, Eq)]
+#[derive(Clone, Copy, PartialEq, Eq)]
 pub struct CoreCount {
     /// The sum of the delays that the weave fed back, in cycles.
     pub delay: u128,
@@ -23,7 +23,7 @@ pub struct CoreCount {
 }
 
 /// What is counted of a bank or a controller.
-#[derive(Clone, Copy, Debug, PartialEq, Eq)]
+#[derive(Clone, Copy, PartialEq, Eq)]
 pub struct CompCount {
     /// How many events it served.
     pub events: u64,

@@ -6,7 +6,7 @@ use crate::waiting::Waiting;
 use zs_num::Cycle;
 
 /// A child of an event, where both are of the domain.
-#[derive(Clone, Copy, Debug)]
+#[derive(Clone, Copy)]
 pub(crate) struct Link {
     /// The place of the child.
     pub(crate) child: u32,

@@ -11,7 +11,7 @@ use std::marker::Model;
 use zs_num::{Cycle, Key, NoMemory, Word};
 
 /// A crossing into the domain, as far as its child needs it.
-#[derive(Clone, Copy, Debug)]
+#[derive(Clone, Copy)]
 pub(crate) struct Stub {
     /// The number of the crossing.
     pub(crate) number: u32,

@@ -2,7 +2,7 @@
 use zs_num::{Cycle, Key};
 
 /// What a domain can do next.
-#[derive(Clone, Copy, Debug, PartialEq, Eq)]
+#[derive(Clone, Copy)]
 pub enum Next {
     /// Every event of the domain is fired.
     Done,

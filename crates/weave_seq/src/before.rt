@@ -8,7 +8,7 @@ pub(crate) trait Before {
 }
 
 /// Nothing is done.
-#[derive(Clone, Copy, Debug)]
+#[derive(Clone, Copy)]
 pub(crate) struct Nothing;
 
 impl Before for Nothing {

@@ -7,7 +7,7 @@ use std::alloc::Global;
 use zs_num::NoMemory;
 
 /// Which of an event's two parents.
-#[derive(Clone, Copy, Debug, PartialEq, Eq)]
+#[derive(Clone, Copy)]
 pub(crate) enum ParentSlot {
     First,
     Second,

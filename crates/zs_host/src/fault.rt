@@ -2,14 +2,14 @@
 use zs_num::Bytes;
 
 /// What a call does with a file.
-#[derive(Clone, Copy, Debug, PartialEq, Eq)]
+#[derive(Clone, Copy)]
 pub enum Operation {
     Read,
     Write,
 }
 
 /// A call that failed: what it was to do, and the name of the file.
-#[derive(Debug, Drop)]
+#[derive(Drop)]
 pub struct Fault {
     pub operation: Operation,
     /// The name, in UTF-8.

@@ -10,7 +10,7 @@ use std::alloc::Global;
 use zs_num::Bytes;
 
 /// Why a call on files did not do what it was to do.
-#[derive(Clone, Copy, Debug, PartialEq, Eq)]
+#[derive(Clone, Copy, PartialEq, Eq)]
 pub enum FileFail {
     /// The file could not be read or written. It is counted, and kept as the latest fault.
     Failed,

@@ -1,7 +1,7 @@
 //! Where workers can be held up from outside, between two atomic steps.
 
 /// What a worker is about to do.
-#[derive(Clone, Copy, Debug, PartialEq, Eq)]
+#[derive(Clone, Copy)]
 pub enum Point {
     /// One access of this core. The worker holds no shard.
     Access { core: u16 },
@@ -17,7 +17,7 @@ pub trait Gate: Sync {
 }
 
 /// A gate that holds nobody up.
-#[derive(Clone, Copy, Debug, PartialEq, Eq)]
+#[derive(Clone, Copy)]
 pub struct OpenGate;
 
 impl Gate for OpenGate {

@@ -8,7 +8,7 @@ use std::sync::atomic::{AtomicU64, Ordering};
 const LOOKS: u32 = 50_000_000;
 
 /// How often a gate was passed.
-#[derive(Clone, Copy, Debug, PartialEq, Eq)]
+#[derive(Clone, Copy, PartialEq, Eq)]
 pub struct Passes {
     /// By core 0, or by domain 0.
     pub first: u64,

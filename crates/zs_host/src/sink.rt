@@ -5,7 +5,7 @@ ghost use Rattle.zs_host.specs.Faults.{SinkFaults};
 use std::alloc::Global;
 
 /// Why a sink took nothing.
-#[derive(Clone, Copy, Debug, PartialEq, Eq)]
+#[derive(Clone, Copy, PartialEq, Eq)]
 pub enum SinkFail {
     /// The bytes could not be put. It is counted.
     Failed,

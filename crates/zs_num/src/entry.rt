@@ -5,7 +5,7 @@ use crate::{Cycle, Request, Stamp};
 use std::marker::Model;
 
 /// How the caches met a request.
-#[derive(Clone, Copy, Debug, PartialEq, Eq)]
+#[derive(Clone, Copy, PartialEq, Eq)]
 pub enum Outcome {
     /// The core's own cache had the line with the permission that was needed.
     Hit,
@@ -19,7 +19,7 @@ pub enum Outcome {
 }
 
 /// One access of a core, as it was served.
-#[derive(Clone, Copy, Debug, PartialEq, Eq)]
+#[derive(Clone, Copy, PartialEq, Eq)]
 pub struct Entry {
     /// The number of the core.
     pub core: u16,

@@ -4,7 +4,7 @@ use std::error::Error;
 use std::fmt;
 
 /// There is no memory left. It is the one answer that no clause ties to a cause.
-#[derive(Clone, Copy, Debug, PartialEq, Eq)]
+#[derive(Clone, Copy, Debug)]
 pub struct NoMemory;
 
 impl fmt::Display for NoMemory {

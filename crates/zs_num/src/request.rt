@@ -5,7 +5,7 @@ ghost use Rattle.std.specs.Prelude.{◌≡◌};
 pub const LINE: u64 = 64;
 
 /// The operation of an atomic read-modify-write (RISC-V Unprivileged ISA manual, "A" extension).
-#[derive(Clone, Copy, Debug, PartialEq, Eq)]
+#[derive(Clone, Copy, PartialEq, Eq)]
 pub enum AmoOp {
     Swap,
     Add,
@@ -24,7 +24,7 @@ pub enum AmoOp {
 
 /// What a core asks of memory. It lies in one line. Widths are in bytes: 1 to 8 for a
 /// load or a store, 4 or 8 for the others. Of a `value` the low `width` bytes count.
-#[derive(Clone, Copy, Debug, PartialEq, Eq)]
+#[derive(Clone, Copy, PartialEq, Eq)]
 pub enum Request {
     Load {
         addr: u64,

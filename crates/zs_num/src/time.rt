@@ -7,7 +7,7 @@ pub type Cycle = u64;
 pub type Stamp = u64;
 
 /// The place of an event in the order in which a weave takes events: by start, then by number.
-#[derive(Clone, Copy, Debug, PartialEq, Eq, PartialOrd, Ord)]
+#[derive(Clone, Copy, PartialEq, Eq, PartialOrd, Ord)]
 pub struct Key {
     /// The cycle at which the event starts.
     pub start: Cycle,

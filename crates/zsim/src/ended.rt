@@ -9,7 +9,7 @@ use zs_num::Bytes;
 
 /// What a call answers: how it ended, what it could say of that on standard error, and what it
 /// kept.
-#[derive(Debug, Drop)]
+#[derive(Drop)]
 pub struct Ended {
     pub status: Status,
     pub said: Said,
@@ -17,7 +17,7 @@ pub struct Ended {
 }
 
 /// How a call ended.
-#[derive(Debug, Drop)]
+#[derive(Drop)]
 pub enum Status {
     /// The run ended with every core halted, and its report was written.
     Ran,
@@ -63,7 +63,7 @@ impl Status {
 }
 
 /// Which file has more bytes than its limit.
-#[derive(Clone, Copy, Debug, PartialEq, Eq)]
+#[derive(Clone, Copy)]
 pub enum Which {
     /// The machine description, of 2^20 bytes at most.
     Machine,
@@ -74,7 +74,7 @@ pub enum Which {
 }
 
 /// Why a schedule was refused.
-#[derive(Clone, Copy, Debug, PartialEq, Eq)]
+#[derive(Clone, Copy)]
 pub enum ScheduleFault {
     /// The file fails this check first.
     File(BadSchedule),
@@ -83,7 +83,7 @@ pub enum ScheduleFault {
 }
 
 /// How much of the status's line went to standard error.
-#[derive(Clone, Copy, Debug, PartialEq, Eq)]
+#[derive(Clone, Copy)]
 pub enum Said {
     /// The whole line.
     All,
@@ -94,7 +94,7 @@ pub enum Said {
 }
 
 /// What was read, and the schedule of the run.
-#[derive(Debug, Drop)]
+#[derive(Drop)]
 pub struct Kept {
     /// The text of the machine. It is empty where it was not read.
     pub machine: Bytes,
