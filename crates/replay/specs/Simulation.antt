@@ -5,8 +5,9 @@ use Rattle.zs_num.specs.declared.entry.Entry.{Entry}
 use Rattle.elf_load.specs.MemoryImage.{MemoryImage}
 use Rattle.machine_desc.specs.declared.machine.Machine.{Machine}
 use Rattle.machine_desc.specs.Components.{component_count}
+use Rattle.component.specs.declared.comp.Comp.{Comp}
 use Rattle.component.specs.ComponentStep.{free_of}
-use Rattle.component.specs.Components.{AreComponents}
+use Rattle.component.specs.Components.{AreComponents, AreFresh}
 use Rattle.event_graph.specs.declared.event.Event.{Event}
 use Rattle.event_graph.specs.declared.fired.Fired.{Fired}
 use Rattle.bound_core.specs.History.{begun_over_shards}
@@ -25,7 +26,7 @@ use Rattle.replay.specs.declared.simulation.Simulation.{Simulation}
 use Rattle.replay.specs.IntervalWeave.{HaveFired}
 use Rattle.replay.specs.Limits.{beside_cycles}
 use Rattle.replay.specs.Port.{LoggedPortState}
-use Rattle.replay.specs.ReferenceRun.{RunState, access_room, after_interval, end_of, has_ended, recorded_turns, time_of, world_of}
+use Rattle.replay.specs.ReferenceRun.{RunState, access_room, after_interval, end_of, first_state, has_ended, recorded_turns, time_of, world_of}
 
 -- ---- cores and shards
 
@@ -64,6 +65,10 @@ pub record StandsFor (machine : Machine) (s : RunState) (p : Simulation) : Type 
   pub counters : p.counters ≡ counts_of machine.cores s.comps s.intervals
   pub over : All (IsOver (length s.intervals * machine.interval)) s.cores
   pub counted : IsCounted machine s
+
+-- no instruction was executed, and the components are fresh
+abbrev pub IsAtStart : Machine → MemoryImage → Simulation → Type 0
+IsAtStart machine image p = (comps : List Comp) × AreFresh machine comps × StandsFor machine (first_state machine image comps) p
 
 -- the run goes on with an interval that ends then
 pub record GoesOn (machine : Machine) (end : ℕ) (s : RunState) (p : Simulation) : Type 0 where
@@ -154,6 +159,16 @@ pub record IsBoundPhase (machine : Machine) (image : MemoryImage) (end : ℕ) (b
   pub numbered : AreNumbered after.cores.items
   pub over : All (IsOver end) (cores_of after)
   pub stamps : length after.port.world.stamps ≡ machine.cores
+
+-- The run has the bound phase of its next interval behind it, under these turns and with these entries. No event has
+-- fired, and nothing is counted.
+pub record HasBound (machine : Machine) (image : MemoryImage) (s : RunState) (turns : List ℕ) (p : Simulation) (entries : List Entry) : Type 0 where
+  pub end : ℕ
+  pub before : Simulation
+  pub goes_on : GoesOn machine end s before
+  pub bounded : IsBoundPhase machine image end before turns p entries
+  pub comps : p.comps ≡ before.comps
+  pub counters : p.counters ≡ before.counters
 
 -- The run has the bound phase of its next interval behind it, under these turns and with these entries, and the events
 -- of these have fired.

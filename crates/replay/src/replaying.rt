@@ -3,11 +3,11 @@ ghost use Rattle.std.specs.Prelude.{◌≡◌, IfOk};
 ghost use Rattle.machine_desc.specs.Machine.{IsMachine};
 ghost use Rattle.replay.specs.Replay.{Replays};
 ghost use Rattle.replay.specs.Results.{HasCounts};
+ghost use Rattle.replay.specs.Simulation.{IsAtStart};
 
 use crate::simulation::Simulation;
 use crate::{Final, ReplayFail};
 use access_log::Schedule;
-use component::laws::fresh_components_are_there;
 use elf_load::Image;
 use event_graph::Plain;
 use machine_desc::Machine;
@@ -29,10 +29,26 @@ pub fn replay(
     ensures gives { Replays machine.now image.now schedule.now.lists result }
     ensures counted { IfOk result (HasCounts machine.now) }
 {
-    fresh_components_are_there();
-    let plain = Plain::of(machine);
     let program = DecodedProgram::of(alloc, image)?;
-    let mut simulation = Simulation::new(alloc, machine, image)?;
+    let simulation = Simulation::new(alloc, machine, image)?;
+    replay_on(alloc, machine, &program, simulation, schedule)
+}
+
+/// The same, of a simulation that is at its start.
+fn replay_on(
+    alloc: Global,
+    machine: &Machine,
+    program: &DecodedProgram<'_>,
+    mut simulation: Simulation,
+    schedule: &Schedule,
+) -> Result<Final, ReplayFail>
+    requires machine { IsMachine machine.now }
+    requires starts { IsAtStart machine.now program.now simulation }
+    requires cores { schedule.now.cores ≡ machine.now.cores }
+    ensures gives { Replays machine.now program.now schedule.now.lists result }
+    ensures counted { IfOk result (HasCounts machine.now) }
+{
+    let plain = Plain::of(machine);
     let mut list = Vec::new(alloc);
     let lists = schedule.intervals();
     let mut k = 0;
@@ -46,7 +62,7 @@ pub fn replay(
         }
         end += machine.interval;
         let turns = schedule.list(k);
-        list = simulation.interval_under(alloc, machine, &program, &plain, end, k, turns, list)?;
+        list = simulation.interval_under(alloc, machine, program, &plain, end, k, turns, list)?;
         k += 1;
     }
     if k < lists {

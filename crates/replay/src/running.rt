@@ -1,8 +1,9 @@
 //! The run of an executable: intervals until every core halted, or until a limit.
-ghost use Rattle.std.specs.Prelude.{◌≡◌, [], IfOk};
+ghost use Rattle.std.specs.Prelude.{◌≡◌, ◌≤◌, [], IfOk};
 ghost use Rattle.machine_desc.specs.Machine.{IsMachine};
 ghost use Rattle.replay.specs.ReferenceRun.{IsKeptInOrder, IsRunOf};
 ghost use Rattle.replay.specs.Results.{HasCounts};
+ghost use Rattle.replay.specs.Simulation.{IsAtStart};
 
 use crate::Final;
 use crate::simulation::Simulation;
@@ -51,11 +52,38 @@ pub fn run<R: Threads + Wait + Sync, G: Gate>(
     ensures cores { schedule.new.cores ≡ schedule.old.cores }
 {
     fresh_components_are_there();
-    let plain = Plain::of(machine);
     let places = places_of(alloc, machine)?;
     let program = DecodedProgram::of(alloc, image)?;
-    let mut simulation = Simulation::new(alloc, machine, image)?;
+    let simulation = Simulation::new(alloc, machine, image)?;
     let workers = workers.clamp(1, 64);
+    run_on(
+        rt, alloc, machine, &program, &places, simulation, workers, gate, schedule,
+    )
+}
+
+/// The same, of a simulation that is at its start. `places` has the domain of each component.
+fn run_on<R: Threads + Wait + Sync, G: Gate>(
+    rt: &R,
+    alloc: Global,
+    machine: &Machine,
+    program: &DecodedProgram<'_>,
+    places: &[u16],
+    mut simulation: Simulation,
+    workers: u16,
+    gate: &G,
+    schedule: &mut Schedule,
+) -> Result<Final, NoMemory>
+    requires machine { IsMachine machine.now }
+    requires starts { IsAtStart machine.now program.now simulation }
+    requires workers { (1 ≤ workers) × (workers ≤ 64) }
+    requires empty { schedule.old.lists ≡ [] }
+    requires cores_known { schedule.old.cores ≡ machine.now.cores }
+    ensures ok { IfOk result (IsRunOf machine.now program.now schedule.new.lists) }
+    ensures counted { IfOk result (HasCounts machine.now) }
+    ensures in_order { IsKeptInOrder machine.now program.now schedule.new.lists }
+    ensures cores { schedule.new.cores ≡ schedule.old.cores }
+{
+    let plain = Plain::of(machine);
     let mut buffers = PhaseBuffers::new(alloc);
     let mut is_worth = true;
     let mut k = 0;
@@ -68,12 +96,12 @@ pub fn run<R: Threads + Wait + Sync, G: Gate>(
             rt,
             alloc,
             machine,
-            &program,
+            program,
             &plain,
             end,
             workers,
             gate,
-            &places,
+            places,
             &mut is_worth,
             &mut buffers,
         )?;

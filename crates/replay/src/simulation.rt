@@ -6,16 +6,15 @@ ghost use Rattle.machine_desc.specs.Components.{component_count};
 ghost use Rattle.machine_desc.specs.Machine.{IsMachine};
 ghost use Rattle.elf_load.specs.MemoryImage.{MemoryImage};
 ghost use Rattle.component.specs.ComponentStep.{free_of};
-ghost use Rattle.component.specs.Components.{AreFresh};
 ghost use Rattle.bound_core.specs.History.{begun_over_shards};
 ghost use Rattle.bound_core.specs.ReferenceMachine.{bound_phase};
 ghost use Rattle.bound_core.specs.ShardPort.{base_of, room_of, size_of};
 ghost use Rattle.bound_core.specs.ShardWorld.{restarted, shards_serve};
 ghost use Rattle.bound_core.specs.TimedCore.{NumberedCore, first_core, timed_of};
-ghost use Rattle.replay.specs.ReferenceRun.{RunState, access_room, after_interval, all_delayed, at_limit, first_state, has_ended_at, have_halted, results_of, time_of};
+ghost use Rattle.replay.specs.ReferenceRun.{RunState, access_room, after_interval, all_delayed, at_limit, has_ended_at, have_halted, results_of, time_of};
 ghost use Rattle.replay.specs.Limits.{cycle_limit};
 ghost use Rattle.replay.specs.Replay.{IfIllegal};
-ghost use Rattle.replay.specs.Simulation.{AreNumbered, CanRunInterval, GoesOn, HasFired, HasRoomForInterval, HasRunThroughPort, HaveRunThroughPort, IsBoundPhase, LeadsTo, StandsFor, cores_of, phase_of};
+ghost use Rattle.replay.specs.Simulation.{AreNumbered, CanRunInterval, GoesOn, HasBound, HasFired, HasRoomForInterval, HasRunThroughPort, HaveRunThroughPort, IsAtStart, IsBoundPhase, LeadsTo, StandsFor, cores_of, phase_of};
 ghost use Rattle.replay.specs.Turns.{HaveTurned};
 ghost use Rattle.replay.specs.IntervalWeave.{IsPlainOf};
 
@@ -58,7 +57,7 @@ impl Simulation {
         requires machine { IsMachine machine.now }
         requires base { image.now.base ≡ machine.now.memory.base }
         requires size { image.now.size ≡ machine.now.memory.size }
-        ensures { IfOk result (λ p. (comps : _) × AreFresh machine.now comps × StandsFor machine.now (first_state machine.now image.now comps) p) }
+        ensures { IfOk result (IsAtStart machine.now image.now) }
     {
         stats::laws::nothing_is_counted_first();
         bound_core::laws::intervals_begin();
@@ -134,12 +133,9 @@ impl Simulation {
             rt, alloc, machine, program, plain, end, runners, gate, memory,
         )?;
         let weavers = workers.min(machine.domains.count);
-        let graph = events_of(alloc, machine, plain, &entries, &simulation.comps)?;
-        let comps = &mut simulation.comps;
-        let fired = fire_all(
-            rt, alloc, machine, &graph, comps, weavers, gate, places, is_worth,
+        simulation.weave(
+            rt, alloc, machine, plain, &entries, weavers, gate, places, is_worth,
         )?;
-        simulation.take_in(alloc, machine, &entries, graph, fired)?;
         Ok((simulation, entries))
     }
 
@@ -338,6 +334,35 @@ impl Simulation {
             &mut self.port,
         )?;
         Ok(self.port.take_sorted(alloc))
+    }
+
+    /// The weave of an interval by so many workers, behind its bound phase: fires the events of the
+    /// accesses, and takes them in.
+    fn weave<R: Threads + Sync, G: Gate>(
+        &mut self,
+        rt: &R,
+        alloc: Global,
+        machine: &Machine,
+        plain: &Plain,
+        entries: &Entries,
+        workers: u16,
+        gate: &G,
+        places: &[u16],
+        is_worth: &mut bool,
+    ) -> Result<(), NoMemory>
+        requires machine { IsMachine machine.now }
+        requires plain { IsPlainOf machine.now plain.now }
+        requires workers { (1 ≤ workers) × (workers ≤ 64) }
+        requires bound { (image : MemoryImage) × (s : RunState) × (turns : List ℕ) × HasBound machine.now image s turns self.old entries.now }
+        ensures { OnOk result ((image : MemoryImage) (s : RunState) (turns : List ℕ) → HasBound machine.now image s turns self.old entries.now → (leads : LeadsTo machine.now image s turns self.new) × (leads.entries ≡ entries.now)) }
+    {
+        let graph = events_of(alloc, machine, plain, entries, &self.comps)?;
+        let comps = &mut self.comps;
+        let fired = fire_all(
+            rt, alloc, machine, &graph, comps, workers, gate, places, is_worth,
+        )?;
+        self.take_in(alloc, machine, entries, graph, fired)?;
+        Ok(())
     }
 
     /// Takes in an interval whose events have fired: counts it, and lets the cores wait.

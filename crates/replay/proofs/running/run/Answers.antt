@@ -1,13 +1,9 @@
-use Rattle.std.proofs.Common.{◌≡◌, ℕ, ◌+◌, ◌-◌, ◌<◌, List, ◌++◌, ◌∷◌, [], length, map, Ok, sym, ◌∙◌, ap, refl, subst, arith, rules, All, true, false}
-use Rattle.std.proofs.lemmas.List.{length-append}
-use Rattle.zs_num.specs.declared.entry.Entry.{Entry}
+use Rattle.std.proofs.Common.{ap, sym, subst}
+use Rattle.std.specs.Prelude.{IfOk}
 use Rattle.elf_load.specs.MemoryImage.{MemoryImage}
-use Rattle.access_log.specs.Schedule.{ScheduleState}
-use Rattle.replay.specs.ReferenceRun.{IsKeptInOrder, after_intervals, first_state, has_ended}
-use Rattle.replay.specs.Simulation.{LeadsTo}
-use Rattle.replay.proofs.NextInterval.{has_room}
-use Rattle.replay.proofs.RunEnds.{counted_results}
-use Rattle.replay.proofs.RunSoFar.{HasRunInOrder, accesses_are, below_limit, ends_with, further_in_order, goes, kept_in_order, nothing_run, same_ending}
+use Rattle.replay.specs.ReferenceRun.{IsKeptInOrder, IsRunOf}
+use Rattle.replay.specs.Simulation.{IsAtStart}
+use Rattle.replay.proofs.RunSoFar.{nothing_run}
 use Rattle.replay.proofs.running.run.Goals as goal
 
 pub returns-in_err-places-clause-in_order : goal.returns-in_err-places-clause-in_order
@@ -28,129 +24,14 @@ returns-in_err-simulation-clause-in_order g c =
     let there = c.fresh_components_are_there.ensures machine c.requires.machine in
     nothing_run machine c.args.image.now c.args.schedule.now.lists c.requires.empty there.0 there.1
 
-pub loop-alloc-init : goal.loop-alloc-init
-loop-alloc-init g c =
-    let machine = c.args.machine.now in
-    let image = c.args.image.now in
-    let first = c.in_ok-simulation.ensures in
-    let none : length c.args.schedule.now.lists ≡ 0 = ap length c.requires.empty in
-    let accesses = accesses_are machine (first_state machine image first.0) c.in_ok-simulation.simulation first.2 in
-    record {
-      ran = record {
-        run = record {
-          comps = first.0;
-          fresh = first.1;
-          state = first_state machine image first.0;
-          reached = ap (after_intervals machine image (first_state machine image first.0)) c.requires.empty;
-          as_long = sym none;
-          come = first.2;
-        };
-        in_order = c.requires.empty;
-      };
-      plain = record { l1 = c.of-plain.ensures.l1; l2 = c.of-plain.ensures.l2; controllers = c.of-plain.ensures.controllers };
-      count = none;
-      end = omega arith;
-      small = omega arith;
-      within = omega arith;
-      accesses = omega (arith, accesses);
-      cores = refl;
-    }
+pub run_on-requires-clause-starts : goal.run_on-requires-clause-starts
+run_on-requires-clause-starts g c κs within =
+    subst (λ (i : MemoryImage). IsAtStart c.args.machine.now i c.in_ok-simulation.simulation) (sym c.in_ok-program.ensures) c.in_ok-simulation.ensures
 
 pub returns-clause-ok : goal.returns-clause-ok
 returns-clause-ok g c =
-    let machine = c.args.machine.now in
-    let image = c.args.image.now in
-    let lists = c.loop-alloc.schedule.lists in
-    let p = c.loop-alloc.simulation in
-    let h = c.loop-alloc.invariant.ran.run in
-    let long : length h.state.intervals ≡ c.loop-alloc.k = h.as_long ∙ c.loop-alloc.invariant.count in
-    let halts : c.has_ended.result ≡ true = search rules in
-    let ends : has_ended machine h.state ≡ true = sym (same_ending machine h.state p h.come c.loop-alloc.k long) ∙ sym c.has_ended.ensures ∙ halts in
-    record {
-      comps = h.comps;
-      fresh = h.fresh;
-      gives = ends_with machine image lists p h ends ∙ ap Ok (sym (c.results.ensures.results machine h.state h.come long));
-    }
+    subst (λ (i : MemoryImage). IfOk c.run_on.result (IsRunOf c.args.machine.now i c.run_on.new.schedule.lists)) c.in_ok-program.ensures c.run_on.ensures.ok
 
 pub returns-clause-in_order : goal.returns-clause-in_order
 returns-clause-in_order g c =
-    kept_in_order c.args.machine.now c.args.image.now c.loop-alloc.schedule.lists c.loop-alloc.simulation c.loop-alloc.invariant.ran
-
-pub returns-clause-counted : goal.returns-clause-counted
-returns-clause-counted g c =
-    let h = c.loop-alloc.invariant.ran.run in
-    counted_results c.args.machine.now h.state c.loop-alloc.simulation h.come c.results.result c.results.ensures.cores c.results.ensures.counts
-
-pub interval-requires-clause-room : goal.interval-requires-clause-room
-interval-requires-clause-room g c κs within =
-    let was = c.loop-alloc.invariant in
-    let machine = c.args.machine.now in
-    let image = c.args.image.now in
-    let p = c.loop-alloc.simulation in
-    let running : c.has_ended.result ≡ false = search rules in
-    let on = goes machine image c.loop-alloc.schedule.lists p was.ran.run c.loop-alloc.k c.loop-alloc.end was.count was.end (sym c.has_ended.ensures ∙ running) in
-    has_room machine (c.loop-alloc.end + machine.interval) was.ran.run.state p on
-
-pub interval-requires-clause-goes_on : goal.interval-requires-clause-goes_on
-interval-requires-clause-goes_on g c κs within =
-    let was = c.loop-alloc.invariant in
-    let running : c.has_ended.result ≡ false = search rules in
-    (was.ran.run.state, goes c.args.machine.now c.args.image.now c.loop-alloc.schedule.lists c.loop-alloc.simulation was.ran.run c.loop-alloc.k c.loop-alloc.end was.count was.end (sym c.has_ended.ensures ∙ running))
-
-pub add-requires-clause-cores : goal.add-requires-clause-cores
-add-requires-clause-cores g c =
-    let known : c.loop-alloc.schedule.cores ≡ c.args.machine.now.cores = c.loop-alloc.invariant.cores ∙ c.requires.cores_known in
-    subst (λ (n : ℕ). All (λ (e : Entry). e.core < n) c.in_ok-next.entries) (sym known) c.in_ok-next.ensures.cores
-
-pub returns-in_err-add-clause-in_order : goal.returns-in_err-add-clause-in_order
-returns-in_err-add-clause-in_order g c =
-    let machine = c.args.machine.now in
-    let image = c.args.image.now in
-    let before : IsKeptInOrder machine image c.loop-alloc.schedule.lists = kept_in_order machine image c.loop-alloc.schedule.lists c.loop-alloc.simulation c.loop-alloc.invariant.ran in
-    let same : c.add.new.self ≡ c.loop-alloc.schedule = c.in_err-add.ensures.err in
-    subst (λ (kept : ScheduleState). IsKeptInOrder machine image kept.lists) (sym same) before
-
-pub loop-alloc-smaller : goal.loop-alloc-smaller
-loop-alloc-smaller g c =
-    let was = c.loop-alloc.invariant in
-    let running : c.has_ended.result ≡ false = search rules in
-    let below = below_limit c.args.machine.now c.args.image.now c.loop-alloc.schedule.lists c.loop-alloc.simulation was.ran.run c.loop-alloc.k c.loop-alloc.end was.count was.end (sym c.has_ended.ensures ∙ running) was.within in
-    let less : c.args.machine.now.intervals - (c.loop-alloc.k + 1) < c.args.machine.now.intervals - c.loop-alloc.k = omega (arith, below) in
-    less
-
-pub returns-in_err-next-clause-in_order : goal.returns-in_err-next-clause-in_order
-returns-in_err-next-clause-in_order g c =
-    let machine = c.args.machine.now in
-    let image = c.args.image.now in
-    kept_in_order machine image c.loop-alloc.schedule.lists c.loop-alloc.simulation c.loop-alloc.invariant.ran
-
-pub loop-alloc-preserved : goal.loop-alloc-preserved
-loop-alloc-preserved g c =
-    let was = c.loop-alloc.invariant in
-    let machine = c.args.machine.now in
-    let image = c.args.image.now in
-    let lists = c.loop-alloc.schedule.lists in
-    let p = c.loop-alloc.simulation in
-    let running : c.has_ended.result ≡ false = search rules in
-    let test = sym c.has_ended.ensures ∙ running in
-    let below = below_limit machine image lists p was.ran.run c.loop-alloc.k c.loop-alloc.end was.count was.end test was.within in
-    let come = goes machine image lists p was.ran.run c.loop-alloc.k c.loop-alloc.end was.count was.end test in
-    let turns : List ℕ = map (λ (e : Entry). e.core) c.in_ok-next.entries in
-    let q = c.in_ok-next.next in
-    let Leads : MemoryImage → Type 0 = λ i. (leads : LeadsTo machine i was.ran.run.state turns q) × (leads.entries ≡ c.in_ok-next.entries) in
-    let found : Leads image = subst Leads c.in_ok-program.ensures (c.in_ok-next.ensures.leads was.ran.run.state come) in
-    let leads : LeadsTo machine image was.ran.run.state turns q = found.0 in
-    let in_order : turns ≡ map (λ (e : Entry). e.core) leads.entries = ap (map (λ (e : Entry). e.core)) (sym found.1) in
-    let added : c.add.new.self.lists ≡ lists ++ turns ∷ [] = c.in_ok-add.ensures.ok in
-    let ran : HasRunInOrder machine image (lists ++ turns ∷ []) q = further_in_order machine image lists p q was.ran turns come.on leads in_order in
-    let accesses = accesses_are machine leads.state q leads.come in
-    record {
-      ran = subst (λ (all : List (List ℕ)). HasRunInOrder machine image all q) (sym added) ran;
-      plain = was.plain;
-      count = omega (arith, ap length added, length-append lists (turns ∷ []), was.count);
-      end = omega (arith, was.end);
-      small = omega (arith, was.small, c.requires.machine.interval);
-      within = omega (arith, below);
-      accesses = omega (arith, accesses, leads.come.counted.accesses);
-      cores = c.in_ok-add.ensures.cores ∙ was.cores;
-    }
+    subst (λ (i : MemoryImage). IsKeptInOrder c.args.machine.now i c.run_on.new.schedule.lists) c.in_ok-program.ensures c.run_on.ensures.in_order

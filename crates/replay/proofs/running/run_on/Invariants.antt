@@ -2,11 +2,11 @@
 use Rattle.std.proofs.Common.{◌≡◌, ◌≤◌, ◌-◌, ◌*◌, ◌^◌, length}
 use Rattle.replay.specs.IntervalWeave.{IsPlainOf}
 use Rattle.replay.proofs.RunSoFar.{HasRunInOrder}
-use Rattle.replay.proofs.running.run.Given as goal
+use Rattle.replay.proofs.running.run_on.Given as goal
 
 abbrev pub invariant-loop-alloc : goal.invariant-loop-alloc
 invariant-loop-alloc g l = record {
-  ran : HasRunInOrder l.machine l.image l.schedule.lists l.simulation;
+  ran : HasRunInOrder l.machine l.program l.schedule.lists l.simulation;
   plain : IsPlainOf l.machine l.plain;
   count : length l.schedule.lists ≡ l.k;
   end : l.end ≡ l.k * l.machine.interval;

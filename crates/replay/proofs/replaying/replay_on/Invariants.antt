@@ -2,11 +2,11 @@
 use Rattle.std.proofs.Common.{◌≡◌, ◌≤◌, ◌-◌, ◌*◌, ◌^◌, length, take}
 use Rattle.replay.specs.IntervalWeave.{IsPlainOf}
 use Rattle.replay.proofs.RunSoFar.{HasRun}
-use Rattle.replay.proofs.replaying.replay.Given as goal
+use Rattle.replay.proofs.replaying.replay_on.Given as goal
 
 abbrev pub invariant-loop-alloc : goal.invariant-loop-alloc
 invariant-loop-alloc l = record {
-  run : HasRun l.machine l.image (take l.k l.schedule.lists) l.simulation;
+  run : HasRun l.machine l.program (take l.k l.schedule.lists) l.simulation;
   plain : IsPlainOf l.machine l.plain;
   count : l.k ≤ length l.schedule.lists;
   end : l.end ≡ l.k * l.machine.interval;

@@ -1,0 +1,216 @@
+use Rattle.std.proofs.Common.{◌≡◌, ◌<◌, ◌+◌, ◌-◌, ℕ, List, [], ◌∷◌, ◌++◌, get_or, length, drop, take, true, false, ◌^◌, Ok, Err, All, Some, refl, sym, ◌∙◌, ap, subst, arith, rules}
+use Rattle.std.specs.Prelude.{slice_get}
+use Rattle.std.proofs.lemmas.List.{drop_more, length-take-le, take-append-drop, take_all, take_more}
+use Rattle.std.proofs.lemmas.Option.{get_or_from_slice_get, slice_get_within}
+use Rattle.replay.specs.ReferenceRun.{Illegal, IsIllegalAt, RunState, after_interval, first_state, has_ended, next_place, reference_run}
+use Rattle.replay.specs.Simulation.{GoesOn, LeadsTo}
+use Rattle.replay.proofs.NextInterval.{has_room}
+use Rattle.replay.proofs.RunEnds.{counted_results}
+use Rattle.replay.proofs.RunSoFar.{HasRun, accesses_are, below_limit, ends_too_soon, ends_with, further, goes, goes_too_far, same_ending, stops_at}
+use Rattle.replay.proofs.HandedOn.{of_place, replay_failed}
+use Rattle.replay.proofs.replaying.replay_on.Goals as goal
+
+pub loop-alloc-init : goal.loop-alloc-init
+loop-alloc-init c =
+    let machine = c.args.machine.now in
+    let image = c.args.program.now in
+    let first = c.requires.starts in
+    let accesses = accesses_are machine (first_state machine image first.0) c.args.simulation first.2 in
+    record {
+      run = record {
+        comps = first.0;
+        fresh = first.1;
+        state = first_state machine image first.0;
+        reached = refl;
+        as_long = refl;
+        come = first.2;
+      };
+      plain = record { l1 = c.of-plain.ensures.l1; l2 = c.of-plain.ensures.l2; controllers = c.of-plain.ensures.controllers };
+      count = omega arith;
+      end = omega arith;
+      small = omega arith;
+      within = omega arith;
+      accesses = omega (arith, accesses);
+    }
+
+pub interval_under-requires-clause-room : goal.interval_under-requires-clause-room
+interval_under-requires-clause-room c =
+    let was = c.loop-alloc.invariant in
+    let machine = c.args.machine.now in
+    let k = c.loop-alloc.k in
+    let lists = c.args.schedule.now.lists in
+    let running : c.has_ended.result ≡ false = search rules in
+    let g = goes machine c.args.program.now (take k lists) c.loop-alloc.simulation was.run k c.loop-alloc.end (length-take-le k lists was.count) was.end (sym c.has_ended.ensures ∙ running) in
+    has_room machine (c.loop-alloc.end + machine.interval) was.run.state c.loop-alloc.simulation g
+
+pub interval_under-requires-clause-goes_on : goal.interval_under-requires-clause-goes_on
+interval_under-requires-clause-goes_on c =
+    let was = c.loop-alloc.invariant in
+    let k = c.loop-alloc.k in
+    let lists = c.args.schedule.now.lists in
+    let running : c.has_ended.result ≡ false = search rules in
+    (was.run.state, goes c.args.machine.now c.args.program.now (take k lists) c.loop-alloc.simulation was.run k c.loop-alloc.end (length-take-le k lists was.count) was.end (sym c.has_ended.ensures ∙ running))
+
+pub returns-clause-counted : goal.returns-clause-counted
+returns-clause-counted c =
+    let h = c.loop-alloc.invariant.run in
+    counted_results c.args.machine.now h.state c.loop-alloc.simulation h.come c.results.result c.results.ensures.cores c.results.ensures.counts
+
+pub interval_under-requires-clause-known : goal.interval_under-requires-clause-known
+interval_under-requires-clause-known c =
+    let k = c.loop-alloc.k in
+    let lists = c.args.schedule.now.lists in
+    let turns : List ℕ = c.list-turns.result.now in
+    let there : slice_get lists k ≡ Some turns = c.list-turns.ensures in
+    let is : get_or lists k turns ≡ turns = get_or_from_slice_get lists k turns turns there in
+    let known = c.intervals-lists.ensures.turns.known k turns (slice_get_within lists k turns there) in
+    subst (λ (n : ℕ). All (λ (number : ℕ). number < n) turns) c.requires.cores (subst (All (λ (number : ℕ). number < c.args.schedule.now.cores)) is known)
+
+pub interval_under-requires-clause-few : goal.interval_under-requires-clause-few
+interval_under-requires-clause-few c =
+    let k = c.loop-alloc.k in
+    let lists = c.args.schedule.now.lists in
+    let turns : List ℕ = c.list-turns.result.now in
+    let there : slice_get lists k ≡ Some turns = c.list-turns.ensures in
+    let is : get_or lists k turns ≡ turns = get_or_from_slice_get lists k turns turns there in
+    subst (λ (ns : List ℕ). length ns < 2 ^ 32) is (c.intervals-lists.ensures.turns.short k turns (slice_get_within lists k turns there))
+
+pub loop-alloc-smaller : goal.loop-alloc-smaller
+loop-alloc-smaller c =
+    let lists = c.args.schedule.now.lists in
+    let k = c.loop-alloc.k in
+    let within : k < length lists = slice_get_within lists k c.list-turns.result.now c.list-turns.ensures in
+    let less : length lists - (k + 1) < length lists - k = omega (arith, within) in
+    less
+
+pub loop-alloc-preserved : goal.loop-alloc-preserved
+loop-alloc-preserved c =
+    let was = c.loop-alloc.invariant in
+    let machine = c.args.machine.now in
+    let image = c.args.program.now in
+    let lists = c.args.schedule.now.lists in
+    let k = c.loop-alloc.k in
+    let p = c.loop-alloc.simulation in
+    let q = c.interval_under.new.self in
+    let turns : List ℕ = c.list-turns.result.now in
+    let there : slice_get lists k ≡ Some turns = c.list-turns.ensures in
+    let within : k < length lists = slice_get_within lists k turns there in
+    let is : get_or lists k turns ≡ turns = get_or_from_slice_get lists k turns turns there in
+    let running : c.has_ended.result ≡ false = search rules in
+    let on = sym c.has_ended.ensures ∙ running in
+    let long : length (take k lists) ≡ k = length-take-le k lists was.count in
+    let below = below_limit machine image (take k lists) p was.run k c.loop-alloc.end long was.end on was.within in
+    let g = goes machine image (take k lists) p was.run k c.loop-alloc.end long was.end on in
+    let leads : LeadsTo machine image was.run.state turns q = c.in_ok-list.ensures.leads was.run.state g in
+    let more : take k lists ++ turns ∷ [] ≡ take (k + 1) lists =
+    ap (λ (ns : List ℕ). take k lists ++ ns ∷ []) (sym is) ∙ sym (take_more lists k turns within)
+    in
+    let run : HasRun machine image (take k lists ++ turns ∷ []) q = further machine image (take k lists) p q was.run turns g.on leads in
+    let accesses = accesses_are machine leads.state q leads.come in
+    record {
+      run = subst (λ (all : List (List ℕ)). HasRun machine image all q) more run;
+      plain = was.plain;
+      count = omega (arith, within);
+      end = omega (arith, was.end);
+      small = omega (arith, was.small, c.requires.machine.interval);
+      within = omega (arith, below);
+      accesses = omega (arith, accesses, leads.come.counted.accesses);
+    }
+
+-- the schedule ends, and the run goes on
+pub returns-then-k-lists-clause-gives : goal.returns-then-k-lists-clause-gives
+returns-then-k-lists-clause-gives c =
+    let was = c.loop-alloc.invariant in
+    let machine = c.args.machine.now in
+    let image = c.args.program.now in
+    let lists = c.args.schedule.now.lists in
+    let k = c.loop-alloc.k in
+    let p = c.loop-alloc.simulation in
+    let running : c.has_ended.result ≡ false = search rules in
+    let long : length (take k lists) ≡ k = length-take-le k lists was.count in
+    let g = goes machine image (take k lists) p was.run k c.loop-alloc.end long was.end (sym c.has_ended.ensures ∙ running) in
+    let all : take k lists ≡ lists = take_all k lists (omega (arith, c.if-k-lists.true, c.intervals-lists.ensures.value)) in
+    let place : next_place was.run.state ≡ record { interval = k; place = 0 } = ap (λ (n : ℕ). let at : Illegal = record { interval = n; place = 0 } in at) (was.run.as_long ∙ long) in
+    record {
+      comps = was.run.comps;
+      fresh = was.run.fresh;
+      gives = ap (reference_run machine image was.run.comps) (sym all) ∙ ends_too_soon machine image (take k lists) p was.run g.on ∙ ap Err place;
+    }
+
+-- a place of a list is not legal
+pub returns-in_err-list-clause-gives : goal.returns-in_err-list-clause-gives
+returns-in_err-list-clause-gives c =
+    let was = c.loop-alloc.invariant in
+    let machine = c.args.machine.now in
+    let image = c.args.program.now in
+    let lists = c.args.schedule.now.lists in
+    let k = c.loop-alloc.k in
+    let p = c.loop-alloc.simulation in
+    let turns : List ℕ = c.list-turns.result.now in
+    let there : slice_get lists k ≡ Some turns = c.list-turns.ensures in
+    let within : k < length lists = slice_get_within lists k turns there in
+    let is : get_or lists k turns ≡ turns = get_or_from_slice_get lists k turns turns there in
+    let running : c.has_ended.result ≡ false = search rules in
+    let long : length (take k lists) ≡ k = length-take-le k lists was.count in
+    let g = goes machine image (take k lists) p was.run k c.loop-alloc.end long was.end (sym c.has_ended.ensures ∙ running) in
+    let rest : List (List ℕ) = drop (k + 1) lists in
+    let all : take k lists ++ turns ∷ rest ≡ lists =
+    ap (λ (ns : List ℕ). take k lists ++ ns ∷ rest) (sym is) ∙ ap (λ (ls : List (List ℕ)). take k lists ++ ls) (sym (drop_more lists k turns within)) ∙ take-append-drop k lists
+    in
+    let Place : Illegal → Type 0 = λ at.
+    (at.interval ≡ k)
+    × ((s : RunState) → GoesOn machine (c.loop-alloc.end + machine.interval) s p → after_interval machine image s turns ≡ Err (record { interval = length s.intervals; place = at.place }))
+    in
+    let found : (at : Illegal) → Place at → IsIllegalAt machine image lists at = λ at why.
+    let number : length was.run.state.intervals ≡ at.interval = was.run.as_long ∙ long ∙ sym why.0 in
+    let same = ap (λ (n : ℕ). let other : Illegal = record { interval = n; place = at.place } in other) number in
+    let stops : after_interval machine image was.run.state turns ≡ Err at = why.1 was.run.state g ∙ ap Err same in
+    record {
+      comps = was.run.comps;
+      fresh = was.run.fresh;
+      gives = ap (reference_run machine image was.run.comps) (sym all) ∙ stops_at machine image (take k lists) turns rest p was.run g.on at stops;
+    }
+    in
+    replay_failed machine image lists _ c.from_residual.result c.from_residual.ensures.1 (of_place _ Place (IsIllegalAt machine image lists) found c.in_err-list.ensures.illegal)
+
+-- the run has ended, and the schedule goes on
+pub returns-then-k-lists-2-clause-gives : goal.returns-then-k-lists-2-clause-gives
+returns-then-k-lists-2-clause-gives c =
+    let was = c.loop-alloc.invariant in
+    let machine = c.args.machine.now in
+    let image = c.args.program.now in
+    let lists = c.args.schedule.now.lists in
+    let k = c.loop-alloc.k in
+    let p = c.loop-alloc.simulation in
+    let halts : c.has_ended.result ≡ true = search rules in
+    let long : length (take k lists) ≡ k = length-take-le k lists was.count in
+    let within : k < length lists = omega (arith, c.if-k-lists-2.true, c.intervals-lists.ensures.value) in
+    let ends : has_ended machine was.run.state ≡ true = sym (same_ending machine was.run.state p was.run.come k (was.run.as_long ∙ long)) ∙ sym c.has_ended.ensures ∙ halts in
+    let next : List ℕ = get_or lists k [] in
+    let rest : List (List ℕ) = drop (k + 1) lists in
+    let all : take k lists ++ next ∷ rest ≡ lists = ap (λ (ls : List (List ℕ)). take k lists ++ ls) (sym (drop_more lists k [] within)) ∙ take-append-drop k lists in
+    let place : next_place was.run.state ≡ record { interval = k; place = 0 } = ap (λ (n : ℕ). let at : Illegal = record { interval = n; place = 0 } in at) (was.run.as_long ∙ long) in
+    record {
+      comps = was.run.comps;
+      fresh = was.run.fresh;
+      gives = ap (reference_run machine image was.run.comps) (sym all) ∙ goes_too_far machine image (take k lists) next rest p was.run ends ∙ ap Err place;
+    }
+
+pub returns-clause-gives : goal.returns-clause-gives
+returns-clause-gives c =
+    let was = c.loop-alloc.invariant in
+    let machine = c.args.machine.now in
+    let image = c.args.program.now in
+    let lists = c.args.schedule.now.lists in
+    let k = c.loop-alloc.k in
+    let p = c.loop-alloc.simulation in
+    let halts : c.has_ended.result ≡ true = search rules in
+    let long : length (take k lists) ≡ k = length-take-le k lists was.count in
+    let as_long : length was.run.state.intervals ≡ k = was.run.as_long ∙ long in
+    let ends : has_ended machine was.run.state ≡ true = sym (same_ending machine was.run.state p was.run.come k as_long) ∙ sym c.has_ended.ensures ∙ halts in
+    let all : take k lists ≡ lists = take_all k lists (omega (arith, c.if-k-lists-2.false, c.intervals-lists.ensures.value)) in
+    record {
+      comps = was.run.comps;
+      fresh = was.run.fresh;
+      gives = ap (reference_run machine image was.run.comps) (sym all) ∙ ends_with machine image (take k lists) p was.run ends ∙ ap Ok (sym (c.results.ensures.results machine was.run.state was.run.come as_long));
+    }
