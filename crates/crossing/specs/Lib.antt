@@ -1,4 +1,3 @@
 pub mod Inside
-pub mod Pair
 pub mod Rule
 pub mod Seats

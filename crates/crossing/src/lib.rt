@@ -9,6 +9,3 @@ mod view;
 
 pub use crossings::Crossings;
 pub use seat::DomainSeat;
-
-#[cfg(test)]
-mod tests;

@@ -4,6 +4,8 @@
 #[cfg(test)]
 mod components;
 #[cfg(test)]
+mod crossings;
+#[cfg(test)]
 mod descriptions;
 #[cfg(test)]
 mod domains;

@@ -9,7 +9,7 @@ use Rattle.event_graph.specs.OneListWeave.{after_firings, finish_in, fire_least,
 use Rattle.atomic_table.specs.Seated.{TableId}
 use Rattle.domain_map.specs.Domains.{Partition}
 use Rattle.domain_map.specs.declared.crossing.Crossing.{Crossing}
-use Rattle.crossing.specs.Pair.{IsPairOfEvents, pair}
+use Rattle.event_tests.specs.Pair.{IsPairOfEvents, pair}
 use Rattle.crossing.specs.Seats.{AreSeats, SeatValue, finishes_of, new_seat, sources_of}
 
 first_finish : (former latter : Bank) → finish_in (woven bank_step pair (former ∷ latter ∷ [])) 0 ≡ max 0 former.free + former.lookup
