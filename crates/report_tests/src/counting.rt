@@ -1,26 +1,26 @@
 //! What no clause says: counts worked by hand, on one bank and one controller with the times of the
 //! built-in machine, and that the calls succeed at the largest machine too.
-ghost use Rattle.std.specs.Prelude.{◌≡◌, ◌<◌, ◌≤◌, All, IfOk, None, length};
+ghost use Rattle.std.specs.Prelude.{◌≡◌, ◌<◌, ◌≤◌, All, None, length};
+ghost use Rattle.component.specs.Components.{AreFresh};
 ghost use Rattle.machine_desc.specs.Machine.{IsMachine};
+ghost use Rattle.event_graph.specs.Numbered.{IsNumbered};
 ghost use Rattle.event_graph.specs.Timely.{AreTimely};
-ghost use Rattle.stats.specs.Counts.{CountsFit, added};
+ghost use Rattle.stats.specs.Counts.{CountsFit, added, no_counts};
 
-use crate::machines::machine;
+use crate::machines::{machine, no_counters};
 use component::{Bank, Comp, Comps, Controller, components};
 use event_graph::{Event, Fired, FiredList, Graph, Kind};
 use feedback::Delays;
 use machine_desc::{Machine, component_count};
 use stats::{CompCount, CoreCount, Counters, laws};
-use std::alloc::Global;
 use std::process::Abort;
-use std::test::Fail;
-use zs_num::{AmoOp, Cycle, Entries, Entry, NoMemory, Outcome, Request};
+use zs_num::{AmoOp, Cycle, Entries, Entry, Outcome, Request};
 
 /// The bank and the controller, free from these cycles on.
-fn comps(alloc: Global, bank: Cycle, controller: Cycle) -> Result<Comps<Comp>, NoMemory>
-    ensures { IfOk result (λ c. length c ≡ 2) }
+fn comps(rt: &(impl Abort + AllocGlobal), bank: Cycle, controller: Cycle) -> Comps<Comp>
+    ensures { length result ≡ 2 }
 {
-    let list = vec![in alloc;
+    let list = vec![in rt.alloc();
         Comp::Bank(Bank {
             lookup: 10,
             remote: 15,
@@ -34,8 +34,8 @@ fn comps(alloc: Global, bank: Cycle, controller: Cycle) -> Result<Comps<Comp>, N
             occupancy: 20,
             free: controller,
         }),
-    ]?;
-    Ok(Comps::of(list))
+    ];
+    Comps::of(list.expect(rt, "memory"))
 }
 
 fn access(core: u16, start: Cycle, request: Request, outcome: Outcome) -> Entry
@@ -127,57 +127,80 @@ struct WovenInterval {
     ghost comp_count: { length comps ≡ 2 },
 }
 
+/// An interval of these accesses, events, delays and components.
+fn woven(
+    rt: &(impl Abort + AllocGlobal),
+    entries: &[Entry],
+    events: &[Event],
+    fired: &[Fired],
+    delays: &[u64],
+    comps: Comps<Comp>,
+) -> WovenInterval
+    requires cores { All (λ e. e.core < 2) entries.now }
+    requires components { All (λ e. e.component < 2) events.now }
+    requires few_entries { length entries.now < 10 }
+    requires few_events { length events.now < 10 }
+    requires numbered { IsNumbered events.now }
+    requires timely { AreTimely events.now fired.now }
+    requires delay_count { length delays.now ≡ 2 }
+    requires short_delays { All (λ d. d ≤ 100) delays.now }
+    requires comp_count { length comps ≡ 2 }
+{
+    let alloc = rt.alloc();
+    let entries = Vec::from_slice(alloc, entries).expect(rt, "memory");
+    let events = Vec::from_slice(alloc, events).expect(rt, "memory");
+    let fired = Vec::from_slice(alloc, fired).expect(rt, "memory");
+    let delays = Vec::from_slice(alloc, delays).expect(rt, "memory");
+    WovenInterval {
+        entries: Entries::of(entries),
+        graph: Graph::of(events),
+        fired: FiredList::of(fired),
+        delays: Delays::of(delays),
+        comps,
+    }
+}
+
 /// Core 0 misses at cycle 1, and a line is written back: the write waits 20 cycles for the read,
 /// and so the fill comes 20 cycles later. Core 1 takes the write permission from another core at
 /// cycle 3, and waits 2 cycles for the bank; then it has a hit.
-fn first(alloc: Global) -> Result<WovenInterval, NoMemory> {
-    let entries = vec![in alloc;
+fn first(rt: &(impl Abort + AllocGlobal)) -> WovenInterval {
+    let entries = [
         access(0, 1, LOAD, Outcome::Miss { dirty_victim: true }),
         access(1, 3, STORE, Outcome::Upgrade { others: true }),
         access(1, 20, LOAD, Outcome::Hit),
-    ]?;
-    let events = vec![in alloc;
+    ];
+    let events = [
         event(0, 0, Kind::Lookup, 2, 12),
         event(1, 1, Kind::Read, 12, 112),
         event(2, 1, Kind::Write, 12, 52),
         event(3, 0, Kind::Fill, 112, 114),
         event(4, 0, Kind::Remote, 4, 19),
-    ]?;
-    let woven = vec![in alloc;
+    ];
+    let woven_events = [
         fired(0, 2, 12),
         fired(1, 12, 112),
         fired(2, 12, 72),
         fired(3, 132, 134),
         fired(4, 4, 21),
-    ]?;
-    Ok(WovenInterval {
-        entries: Entries::of(entries),
-        graph: Graph::of(events),
-        fired: FiredList::of(woven),
-        delays: Delays::of(vec![in alloc; 20, 2]?),
-        comps: comps(alloc, 136, 52)?,
-    })
+    ];
+    let comps = comps(rt, 136, 52);
+    woven(rt, &entries, &events, &woven_events, &[20, 2], comps)
 }
 
 /// Both cores find lines in the shared cache at the same cycle. Core 0's look-up is the second, and
 /// waits 4 cycles for the bank.
-fn second(alloc: Global) -> Result<WovenInterval, NoMemory> {
-    let entries = vec![in alloc;
+fn second(rt: &(impl Abort + AllocGlobal)) -> WovenInterval {
+    let entries = [
         access(1, 10_000, CONDITIONAL, Outcome::L2 { others: false }),
         access(0, 10_000, ADD, Outcome::L2 { others: false }),
-    ]?;
-    let events = vec![in alloc;
+    ];
+    let events = [
         event(0, 0, Kind::Lookup, 10_001, 10_011),
         event(1, 0, Kind::Lookup, 10_001, 10_011),
-    ]?;
-    let woven = vec![in alloc; fired(0, 10_001, 10_011), fired(1, 10_001, 10_015)]?;
-    Ok(WovenInterval {
-        entries: Entries::of(entries),
-        graph: Graph::of(events),
-        fired: FiredList::of(woven),
-        delays: Delays::of(vec![in alloc; 4, 0]?),
-        comps: comps(alloc, 10_009, 52)?,
-    })
+    ];
+    let woven_events = [fired(0, 10_001, 10_011), fired(1, 10_001, 10_015)];
+    let comps = comps(rt, 10_009, 52);
+    woven(rt, &entries, &events, &woven_events, &[4, 0], comps)
 }
 
 /// Adds an interval to the counters of two cores and two components.
@@ -197,25 +220,41 @@ fn add(counters: &mut Counters, w: &WovenInterval)
     counters.add(&w.entries, &w.graph, &w.fired, &w.delays, &w.comps);
 }
 
+/// The components of a machine before its first interval.
+fn first_comps(rt: &(impl Abort + AllocGlobal), machine: &Machine) -> Comps<Comp>
+    requires { IsMachine machine.now }
+    ensures { AreFresh machine.now result }
+{
+    components(rt.alloc(), machine).expect(rt, "memory")
+}
+
+/// The counters of a machine before its first interval.
+fn first_counters(rt: &(impl Abort + AllocGlobal), machine: &Machine) -> Counters
+    requires { IsMachine machine.now }
+    ensures { result ≡ no_counts machine.now }
+{
+    Counters::new(rt.alloc(), machine).expect(rt, "memory")
+}
+
 /// The counters after both intervals, which fit by the laws.
-fn counted(alloc: Global, machine: &Machine) -> Result<Counters, NoMemory>
+fn counted(rt: &(impl Abort + AllocGlobal), machine: &Machine) -> Counters
     requires machine { IsMachine machine.now }
     requires cores { machine.now.cores ≡ 2 }
     requires banks { machine.now.l2.banks ≡ 1 }
     requires controllers { machine.now.controllers.count ≡ 1 }
-    ensures cores { IfOk result (λ c. length c.core_counts ≡ 2) }
-    ensures comps { IfOk result (λ c. length c.comp_counts ≡ 2) }
+    ensures cores { length result.core_counts ≡ 2 }
+    ensures comps { length result.comp_counts ≡ 2 }
 {
     laws::nothing_is_counted_first();
     laws::counters_are_sums();
     laws::sums_fit();
-    let _before = components(alloc, machine)?;
-    let mut counters = Counters::new(alloc, machine)?;
-    let one = first(alloc)?;
+    let _before = first_comps(rt, machine);
+    let mut counters = first_counters(rt, machine);
+    let one = first(rt);
     add(&mut counters, &one);
-    let two = second(alloc)?;
+    let two = second(rt);
     add(&mut counters, &two);
-    Ok(counters)
+    counters
 }
 
 /// Counters, of so many cores and so many components.
@@ -249,23 +288,17 @@ impl SizedCounters {
 }
 
 /// What was counted of both intervals on a machine of two cores, a bank and a controller.
-fn of_both(alloc: Global, machine: &Machine) -> Result<SizedCounters, NoMemory>
+fn of_both(rt: &(impl Abort + AllocGlobal), machine: &Machine) -> SizedCounters
     requires machine { IsMachine machine.now }
     requires cores { machine.now.cores ≡ 2 }
     requires banks { machine.now.l2.banks ≡ 1 }
     requires controllers { machine.now.controllers.count ≡ 1 }
 {
-    Ok(SizedCounters {
-        counters: counted(alloc, machine)?,
+    SizedCounters {
+        counters: counted(rt, machine),
         cores: 2,
         comps: 2,
-    })
-}
-
-/// The counters of both intervals.
-fn counted_on_two_cores(alloc: Global) -> Result<SizedCounters, NoMemory> {
-    let machine = machine(alloc, 2, 1, 1)?;
-    of_both(alloc, &machine)
+    }
 }
 
 /// Checks what was counted of a core.
@@ -280,19 +313,22 @@ fn has_comp(rt: &impl Abort, found: &SizedCounters, n: u16, wanted: &CompCount) 
 
 /// Checks how many accesses and events there were in all.
 fn has_totals(rt: &impl Abort, found: &SizedCounters, accesses: u64, events: u64) {
-    assert_eq!(rt; found.counters.accesses(), accesses);
-    assert_eq!(rt; found.counters.events(), events);
+    assert!(rt; found.counters.accesses() == accesses);
+    assert!(rt; found.counters.events() == events);
+}
+
+/// Checks the counts of both intervals.
+fn has_both(rt: &impl Abort, found: &SizedCounters) {
+    has_core(rt, found, 0, &CORE_0);
+    has_core(rt, found, 1, &CORE_1);
+    has_comp(rt, found, 0, &BANK);
+    has_comp(rt, found, 1, &CONTROLLER);
+    has_totals(rt, found, 5, 7);
 }
 
 #[test]
-fn two_intervals_are_counted(rt: HostRuntime) -> Result<(), Fail> {
-    let counted = counted_on_two_cores(rt.alloc())?;
-    has_core(&rt, &counted, 0, &CORE_0);
-    has_core(&rt, &counted, 1, &CORE_1);
-    has_comp(&rt, &counted, 0, &BANK);
-    has_comp(&rt, &counted, 1, &CONTROLLER);
-    has_totals(&rt, &counted, 5, 7);
-    Ok(())
+fn two_intervals_are_counted(rt: HostRuntime) {
+    has_both(&rt, &of_both(&rt, &machine(&rt, 2, 1, 1)));
 }
 
 static CORE_0: CoreCount = CoreCount {
@@ -330,37 +366,33 @@ static CONTROLLER: CompCount = CompCount {
 };
 
 /// The counters of a machine before the first interval.
-fn uncounted(alloc: Global, machine: &Machine) -> Result<SizedCounters, NoMemory>
+fn uncounted(rt: &(impl Abort + AllocGlobal), machine: &Machine) -> SizedCounters
     requires { IsMachine machine.now }
 {
-    Ok(SizedCounters {
-        counters: Counters::new(alloc, machine)?,
+    SizedCounters {
+        counters: no_counters(rt, machine),
         cores: machine.cores,
         comps: component_count(machine),
-    })
-}
-
-/// The counters of the largest machine before the first interval: of 64 cores, 64 banks and 16
-/// controllers.
-fn largest(alloc: Global) -> Result<SizedCounters, NoMemory> {
-    let machine = machine(alloc, 64, 64, 16)?;
-    uncounted(alloc, &machine)
+    }
 }
 
 /// Checks of how many cores and components there are counts.
 fn has_counts(rt: &impl Abort, found: &SizedCounters, cores: u16, comps: u16) {
-    assert_eq!(rt; (found.cores, found.comps), (cores, comps));
-    assert_eq!(rt; found.counters.comp_counts().len(), usize::from(comps));
+    assert!(rt; found.cores == cores && found.comps == comps);
+    assert!(rt; found.counters.comp_counts().len() == usize::from(comps));
+}
+
+/// Checks that nothing is counted of 64 cores, 64 banks and 16 controllers.
+fn has_nothing(rt: &impl Abort, found: &SizedCounters) {
+    has_counts(rt, found, 64, 80);
+    has_core(rt, found, 63, &NO_CORE_COUNT);
+    has_comp(rt, found, 79, &NO_COMP_COUNT);
+    has_totals(rt, found, 0, 0);
 }
 
 #[test]
-fn the_largest_machine_has_counters(rt: HostRuntime) -> Result<(), Fail> {
-    let largest = largest(rt.alloc())?;
-    has_counts(&rt, &largest, 64, 80);
-    has_core(&rt, &largest, 63, &NO_CORE_COUNT);
-    has_comp(&rt, &largest, 79, &NO_COMP_COUNT);
-    has_totals(&rt, &largest, 0, 0);
-    Ok(())
+fn the_largest_machine_has_counters(rt: HostRuntime) {
+    has_nothing(&rt, &uncounted(&rt, &machine(&rt, 64, 64, 16)));
 }
 
 static NO_CORE_COUNT: CoreCount = CoreCount {

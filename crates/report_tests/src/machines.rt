@@ -1,39 +1,40 @@
 //! The machines of the tests.
-ghost use Rattle.std.specs.Prelude.{◌≡◌, ◌<◌, ◌≤◌, All, IfOk, length};
+ghost use Rattle.std.specs.Prelude.{◌≡◌, ◌<◌, ◌≤◌, All, length};
+ghost use Rattle.machine_desc.specs.Components.{component_count};
 ghost use Rattle.machine_desc.specs.Machine.{IsMachine};
 
 use machine_desc::{Controllers, Domains, L1, L2, Machine, Memory, Places};
-use std::alloc::Global;
-use zs_num::NoMemory;
+use stats::Counters;
+use std::process::Abort;
 
 /// So many places in domain 0.
-fn places(alloc: Global, count: u16) -> Result<Places, NoMemory>
-    ensures count { IfOk result (λ places. length places ≡ count) }
-    ensures first { IfOk result (All (λ domain. domain < 1)) }
+fn places(rt: &(impl Abort + AllocGlobal), count: u16) -> Places
+    ensures count { length result ≡ count }
+    ensures first { All (λ domain. domain < 1) result }
 {
-    Ok(Places::of(vec![in alloc; 0; usize::from(count)]?))
+    Places::of(vec![in rt.alloc(); 0; usize::from(count)].expect(rt, "memory"))
 }
 
 /// A machine of so many cores, banks and controllers, with one set of each L1 and of the L2 to a
 /// bank, and as many intervals as there can be.
 pub(crate) fn machine(
-    alloc: Global,
+    rt: &(impl Abort + AllocGlobal),
     cores: u16,
     banks: u16,
     controllers: u16,
-) -> Result<Machine, NoMemory>
+) -> Machine
     requires some_cores { 1 ≤ cores }
     requires few_cores { cores ≤ 64 }
     requires some_banks { 1 ≤ banks }
     requires few_banks { banks ≤ 64 }
     requires some_controllers { 1 ≤ controllers }
     requires few_controllers { controllers ≤ 16 }
-    ensures machine { IfOk result IsMachine }
-    ensures cores { IfOk result (λ m. m.cores ≡ cores) }
-    ensures banks { IfOk result (λ m. m.l2.banks ≡ banks) }
-    ensures controllers { IfOk result (λ m. m.controllers.count ≡ controllers) }
+    ensures machine { IsMachine result }
+    ensures cores { result.cores ≡ cores }
+    ensures banks { result.l2.banks ≡ banks }
+    ensures controllers { result.controllers.count ≡ controllers }
 {
-    Ok(Machine {
+    Machine {
         version: 1,
         cores,
         interval: 10_000,
@@ -65,8 +66,17 @@ pub(crate) fn machine(
         },
         domains: Domains {
             count: 1,
-            banks: places(alloc, banks)?,
-            controllers: places(alloc, controllers)?,
+            banks: places(rt, banks),
+            controllers: places(rt, controllers),
         },
-    })
+    }
+}
+
+/// The counters of a machine before the first interval.
+pub(crate) fn no_counters(rt: &(impl Abort + AllocGlobal), machine: &Machine) -> Counters
+    requires { IsMachine machine.now }
+    ensures cores { length result.core_counts ≡ machine.now.cores }
+    ensures comps { length result.comp_counts ≡ component_count machine.now }
+{
+    Counters::new(rt.alloc(), machine).expect(rt, "memory")
 }

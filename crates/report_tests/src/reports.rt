@@ -1,20 +1,17 @@
 //! Reports of small programs on one core, with texts made by hand. The words are from the tables of
 //! the RISC-V Unprivileged ISA manual.
-ghost use Rattle.std.specs.Prelude.{◌≡◌, ◌+◌, ◌≤◌, ◌^◌, IfOk, ⊤, None, length};
+ghost use Rattle.std.specs.Prelude.{◌≡◌, ◌+◌, ◌≤◌, ◌^◌, ⊤, None, length};
 ghost use Rattle.machine_desc.specs.Machine.{IsMachine};
 
-use crate::machines::machine;
+use crate::machines::{machine, no_counters};
 use bound_core::{BoundCore, Port};
 use elf_load::{Image, load};
 use event_graph::Plain;
 use machine_desc::Machine;
 use report::{text, write_printed};
-use stats::Counters;
-use std::alloc::{AllocError, Global};
 use std::array;
 use std::process::Abort;
-use std::test::Fail;
-use zs_num::{Bytes, Cycle, Entry, NoMemory, Outcome, Request};
+use zs_num::{Bytes, Cycle, Entry, Outcome, Request};
 
 /// The ELF header, and the header of one segment that may be executed: the 28 bytes of the file
 /// from 120 on are at 0x10000.
@@ -87,86 +84,124 @@ impl Port for WrittenBytes {
 }
 
 /// Puts a word at the end of a file.
-fn push_word(file: &mut Vec<u8>, word: u32) -> Result<(), AllocError> {
+fn push_word(rt: &impl Abort, file: &mut Vec<u8>, word: u32) {
     file.extend_from_slice(&word.to_le_bytes())
+        .expect(rt, "memory");
 }
 
 /// A file of these headers and words.
-fn file_of(alloc: Global, headers: &[u8], words: &[u32]) -> Result<Vec<u8>, AllocError> {
-    let mut file = Vec::from_slice(alloc, headers)?;
+fn file_of(rt: &(impl Abort + AllocGlobal), headers: &[u8], words: &[u32]) -> Vec<u8> {
+    let mut file = Vec::from_slice(rt.alloc(), headers).expect(rt, "memory");
     for word in words {
-        push_word(&mut file, *word)?;
+        push_word(rt, &mut file, *word);
     }
-    Ok(file)
+    file
 }
 
 /// The image of a program of these words in a memory of `size` bytes from `base` on.
-fn loaded(alloc: Global, words: &[u32; 7], base: u64, size: u64) -> Result<Image, Fail>
+fn loaded(rt: &(impl Abort + AllocGlobal), words: &[u32], base: u64, size: u64) -> Image
     requires { base + size ≤ 2 ^ 48 }
-    ensures base { IfOk result (λ image. image.base ≡ base) }
-    ensures size { IfOk result (λ image. image.size ≡ size) }
+    ensures base { result.base ≡ base }
+    ensures size { result.size ≡ size }
 {
-    let file = file_of(alloc, &HEADERS, words)?;
-    Ok(load(alloc, &file, base, size)?)
+    load(rt.alloc(), &file_of(rt, &HEADERS, words), base, size).expect(rt, "an image")
 }
 
 /// The image of a program of these words in the machine's memory.
-fn image(alloc: Global, machine: &Machine, words: &[u32; 7]) -> Result<Image, Fail>
+fn image(rt: &(impl Abort + AllocGlobal), machine: &Machine, words: &[u32]) -> Image
     requires { IsMachine machine.now }
-    ensures base { IfOk result (λ image. image.base ≡ machine.now.memory.base) }
-    ensures size { IfOk result (λ image. image.size ≡ machine.now.memory.size) }
+    ensures base { result.base ≡ machine.now.memory.base }
+    ensures size { result.size ≡ machine.now.memory.size }
 {
-    loaded(alloc, words, machine.memory.base, machine.memory.size)
+    loaded(rt, words, machine.memory.base, machine.memory.size)
 }
 
-/// A core after these words and an interval of so many cycles, at most 1,000.
-fn ran(alloc: Global, machine: &Machine, words: &[u32; 7], end: Cycle) -> Result<BoundCore, Fail>
+/// Core 0 of a machine before its first instruction, with room for what it writes in 1,000 cycles.
+fn first_core(rt: &(impl Abort + AllocGlobal), machine: &Machine, image: &Image) -> BoundCore
+    requires { IsMachine machine.now }
+    ensures number { result.number ≡ 0 }
+    ensures clock { result.timed.clock ≡ 0 }
+    ensures base { result.timed.core.memory.base ≡ machine.now.memory.base }
+    ensures size { result.timed.core.memory.size ≡ machine.now.memory.size }
+    ensures room { 1258 ≤ result.spare }
+{
+    let mut core = BoundCore::new(rt.alloc(), machine, image, 0).expect(rt, "memory");
+    core.reserve(1000).expect(rt, "memory");
+    core
+}
+
+/// Runs core 0 of a machine for an interval of so many cycles, at most 1,000.
+fn run(core: &mut BoundCore, machine: &Machine, image: &Image, end: Cycle)
     requires machine { IsMachine machine.now }
     requires end { end ≤ 1000 }
+    requires number { core.old.number ≡ 0 }
+    requires clock { core.old.timed.clock ≡ 0 }
+    requires base { core.old.timed.core.memory.base ≡ machine.now.memory.base }
+    requires size { core.old.timed.core.memory.size ≡ machine.now.memory.size }
+    requires room { 1258 ≤ core.old.spare }
 {
-    let image = image(alloc, machine, words)?;
-    let mut core = BoundCore::new(alloc, machine, &image, 0)?;
-    core.reserve(1000)?;
     let mut port = WrittenBytes {
         base: machine.memory.base,
         size: machine.memory.size,
         next: 0,
     };
-    core.run_one(&image, &Plain::of(machine), end, &mut port);
-    Ok(core)
+    core.run_one(image, &Plain::of(machine), end, &mut port);
+}
+
+/// Core 0 of a machine after these words and an interval of so many cycles, at most 1,000.
+fn ran(rt: &(impl Abort + AllocGlobal), machine: &Machine, words: &[u32], end: Cycle) -> BoundCore
+    requires machine { IsMachine machine.now }
+    requires end { end ≤ 1000 }
+{
+    let image = image(rt, machine, words);
+    let mut core = first_core(rt, machine, &image);
+    run(&mut core, machine, &image, end);
+    core
+}
+
+/// The report of a machine of which these are the cores. Nothing is counted.
+fn report_of(
+    rt: &(impl Abort + AllocGlobal),
+    machine: &Machine,
+    cores: &[BoundCore],
+    intervals: u32,
+    brief: bool,
+) -> Bytes
+    requires machine { IsMachine machine.now }
+    requires cores { length cores.now ≡ machine.now.cores }
+{
+    let counters = no_counters(rt, machine);
+    text(rt.alloc(), machine, &counters, cores, intervals, brief).expect(rt, "memory")
 }
 
 /// The report of a machine with one core, which ran these words for an interval of so many cycles,
 /// at most 1,000. Nothing is counted.
-fn report(alloc: Global, words: &[u32; 7], end: Cycle, brief: bool) -> Result<Bytes, Fail>
+fn report(rt: &(impl Abort + AllocGlobal), words: &[u32], end: Cycle, brief: bool) -> Bytes
     requires { end ≤ 1000 }
 {
-    let machine = machine(alloc, 1, 1, 1)?;
-    let core = ran(alloc, &machine, words, end)?;
-    let counters = Counters::new(alloc, &machine)?;
-    let cores = array::from_ref(&core);
-    Ok(text(alloc, &machine, &counters, cores, 1, brief)?)
+    let machine = machine(rt, 1, 1, 1);
+    let core = ran(rt, &machine, words, end);
+    report_of(rt, &machine, array::from_ref(&core), 1, brief)
 }
 
 /// Checks the report after so many cycles, at most 1,000.
 fn is_reported(
     rt: &(impl Abort + AllocGlobal),
-    words: &[u32; 7],
+    words: &[u32],
     end: Cycle,
     brief: bool,
     wanted: &str,
-) -> Result<(), Fail>
+)
     requires { end ≤ 1000 }
 {
-    let found = report(rt.alloc(), words, end, brief)?;
-    assert_eq!(rt; found.as_slice(), wanted.as_bytes());
-    Ok(())
+    let found = report(rt, words, end, brief);
+    assert!(rt; found.as_slice() == wanted.as_bytes());
 }
 
 #[test]
-fn three_instructions_exit_with_seven(rt: HostRuntime) -> Result<(), Fail> {
-    is_reported(&rt, &SEVEN, 1000, false, EXITED)?;
-    is_reported(&rt, &SEVEN, 1000, true, SUMMARY)
+fn three_instructions_exit_with_seven(rt: HostRuntime) {
+    is_reported(&rt, &SEVEN, 1000, false, EXITED);
+    is_reported(&rt, &SEVEN, 1000, true, SUMMARY);
 }
 
 const EXITED: &str =
@@ -176,8 +211,8 @@ const SUMMARY: &str =
     "zsim report 1\ncores 1\nintervals 1\ninstructions 3\ncycles 3\naccesses 0\nevents 0\n";
 
 #[test]
-fn a_console_is_printed_byte_by_byte(rt: HostRuntime) -> Result<(), Fail> {
-    is_reported(&rt, &WRITE, 1000, false, PRINTED)
+fn a_console_is_printed_byte_by_byte(rt: HostRuntime) {
+    is_reported(&rt, &WRITE, 1000, false, PRINTED);
 }
 
 /// Five instructions come before the bytes, and two behind them; each of these takes a cycle.
@@ -185,27 +220,34 @@ const PRINTED: &str =
     "zsim report 1\ncores 1\nintervals 1\ninstructions 7\ncycles 15\naccesses 0\nevents 0\ncore 0 instructions 7 cycles 15 delay 0 loads 0 stores 0 atomics 0 hits 0 upgrades 0 l2hits 0 misses 0 halt exit 8\ncore 0 console 8 \"~ \\x00\\x22\\x5c\\x7f\\xffA\"\nbank 0 events 0 waited 0 free 0\ncontroller 0 events 0 waited 0 free 0\n";
 
 #[test]
-fn a_core_that_has_not_halted_runs(rt: HostRuntime) -> Result<(), Fail> {
-    is_reported(&rt, &SEVEN, 2, false, RUNNING)
+fn a_core_that_has_not_halted_runs(rt: HostRuntime) {
+    is_reported(&rt, &SEVEN, 2, false, RUNNING);
 }
 
 const RUNNING: &str =
     "zsim report 1\ncores 1\nintervals 1\ninstructions 2\ncycles 2\naccesses 0\nevents 0\ncore 0 instructions 2 cycles 2 delay 0 loads 0 stores 0 atomics 0 hits 0 upgrades 0 l2hits 0 misses 0 halt running\ncore 0 console 0 \"\"\nbank 0 events 0 waited 0 free 0\ncontroller 0 events 0 waited 0 free 0\n";
 
+/// The text of a report.
+fn text_of<'a>(rt: &impl Abort, report: &'a [u8]) -> &'a str {
+    str::from_utf8(report).expect(rt, "a text")
+}
+
 /// Checks that a part of the report of a program is as wanted.
-fn has_part(rt: &(impl Abort + AllocGlobal), words: &[u32; 7], wanted: &str) -> Result<(), Fail> {
-    let found = report(rt.alloc(), words, 1000, false)?;
-    let found = str::from_utf8(found.as_slice())?;
-    assert!(rt; found.contains(wanted));
-    Ok(())
+fn has_part(rt: &(impl Abort + AllocGlobal), words: &[u32], wanted: &str) {
+    let found = report(rt, words, 1000, false);
+    assert!(rt; text_of(rt, found.as_slice()).contains(wanted));
+}
+
+/// Checks how it is told that each of these programs halted.
+fn have_parts(rt: &(impl Abort + AllocGlobal), rows: &[([u32; 7], &str)]) {
+    for (words, halt) in rows {
+        has_part(rt, words, *halt);
+    }
 }
 
 #[test]
-fn each_halt_is_told(rt: HostRuntime) -> Result<(), Fail> {
-    for &(words, halt) in &HALTS {
-        has_part(&rt, &words, halt)?;
-    }
-    Ok(())
+fn each_halt_is_told(rt: HostRuntime) {
+    have_parts(&rt, &HALTS);
 }
 
 /// Programs, and how it is told that they halted.
@@ -246,46 +288,58 @@ static HALTS: [([u32; 7], &str); 8] = [
     ([0x0010_0073, 0, 0, 0, 0, 0, 0], " halt break\n"),
 ];
 
+/// How so many bytes 0 are printed.
+fn printed_zeros(rt: &(impl Abort + AllocGlobal), count: usize) -> String {
+    let zeros = vec![in rt.alloc(); 0u8; count].expect(rt, "memory");
+    let mut text = String::new(rt.alloc());
+    write_printed(&mut text, &zeros).expect(rt, "memory");
+    text
+}
+
+/// Checks how a text begins and ends.
+fn begins_and_ends(rt: &impl Abort, text: &str, start: &str, end: &str) {
+    assert!(rt; text.starts_with(start));
+    assert!(rt; text.ends_with(end));
+}
+
+/// Checks the text of so many bytes 0, each of four characters.
+fn are_zeros(rt: &impl Abort, text: &str, count: usize) {
+    assert!(rt; Some(text.len()) == count.checked_mul(4));
+    begins_and_ends(rt, text, "\\x00\\x00", "\\x00");
+}
+
 /// The bytes of a console of 1 MiB, of which no byte prints as itself.
 #[test]
-fn a_long_console_is_printed_whole(rt: HostRuntime) -> Result<(), Fail> {
-    let console = vec![in rt.alloc(); 0u8; 1 << 20]?;
-    let mut text = String::new(rt.alloc());
-    write_printed(&mut text, &console)?;
-    assert_eq!(rt; text.len(), 4 * (1 << 20));
-    assert!(rt; text.as_str().starts_with("\\x00\\x00"));
-    assert!(rt; text.as_str().ends_with("\\x00"));
-    Ok(())
+fn a_long_console_is_printed_whole(rt: HostRuntime) {
+    are_zeros(&rt, printed_zeros(&rt, 1 << 20).as_str(), 1 << 20);
 }
 
 /// The cores of a machine before their first instruction.
-fn cores_of(alloc: Global, machine: &Machine, image: &Image) -> Result<Vec<BoundCore>, Fail>
+fn cores_of(rt: &(impl Abort + AllocGlobal), machine: &Machine, image: &Image) -> Vec<BoundCore>
     requires { IsMachine machine.now }
 {
-    let mut cores = Vec::new(alloc);
+    let mut cores = Vec::new(rt.alloc());
     for number in 0..machine.cores {
-        cores.push(BoundCore::new(alloc, machine, image, number)?)?;
+        let core = BoundCore::new(rt.alloc(), machine, image, number).expect(rt, "memory");
+        cores.push(core).expect(rt, "memory");
     }
-    Ok(cores)
+    cores
 }
 
-/// The report of a machine of which these are the cores, after as many intervals as there can be.
-/// Nothing is counted.
-fn report_of(alloc: Global, machine: &Machine, cores: &[BoundCore]) -> Result<Bytes, NoMemory>
-    requires machine { IsMachine machine.now }
-    requires cores { length cores.now ≡ machine.now.cores }
+/// The report of a machine of these cores after as many intervals as there can be.
+fn longest_report(rt: &(impl Abort + AllocGlobal), machine: &Machine, cores: &[BoundCore]) -> Bytes
+    requires { IsMachine machine.now }
 {
-    let counters = Counters::new(alloc, machine)?;
-    text(alloc, machine, &counters, cores, machine.intervals, false)
+    assert!(rt; cores.len() == usize::from(machine.cores));
+    report_of(rt, machine, cores, machine.intervals, false)
 }
 
-/// The report of the greatest machine before its cores' first instruction.
-fn greatest_report(rt: &(impl Abort + AllocGlobal)) -> Result<Bytes, Fail> {
-    let machine = machine(rt.alloc(), 64, 64, 16)?;
-    let image = image(rt.alloc(), &machine, &SEVEN)?;
-    let cores = cores_of(rt.alloc(), &machine, &image)?;
-    assert!(rt; cores.len() == usize::from(machine.cores));
-    Ok(report_of(rt.alloc(), &machine, &cores)?)
+/// The report of a machine that runs `SEVEN`, before its cores' first instruction.
+fn first_report(rt: &(impl Abort + AllocGlobal), machine: &Machine) -> Bytes
+    requires { IsMachine machine.now }
+{
+    let cores = cores_of(rt, machine, &image(rt, machine, &SEVEN));
+    longest_report(rt, machine, &cores)
 }
 
 /// How many lines a text has.
@@ -296,19 +350,17 @@ fn line_count(text: &str) -> usize {
 /// Checks the lines of a report: how many they are, how they begin and end, and a part of them.
 fn has_lines(rt: &impl Abort, report: &str, count: usize, parts: &[&str; 3]) {
     let &[start, part, end] = parts;
-    assert_eq!(rt; line_count(report), count);
-    assert!(rt; report.starts_with(start));
+    assert!(rt; line_count(report) == count);
     assert!(rt; report.contains(part));
-    assert!(rt; report.ends_with(end));
+    begins_and_ends(rt, report, start, end);
 }
 
 /// Seven lines, two of each core, and one of each component.
 #[test]
-fn the_report_of_the_greatest_machine_is_whole(rt: HostRuntime) -> Result<(), Fail> {
-    let whole = greatest_report(&rt)?;
-    let report = str::from_utf8(whole.as_slice())?;
-    has_lines(&rt, report, 7 + 2 * 64 + 64 + 16, &GREATEST_PARTS);
-    Ok(())
+fn the_report_of_the_greatest_machine_is_whole(rt: HostRuntime) {
+    let report = first_report(&rt, &machine(&rt, 64, 64, 16));
+    let text = text_of(&rt, report.as_slice());
+    has_lines(&rt, text, 7 + 2 * 64 + 64 + 16, &GREATEST_PARTS);
 }
 
 static GREATEST_PARTS: [&str; 3] = [

@@ -34,24 +34,24 @@ counted_once none sums m bank controller before fresh c is w =
     counts_more sums m.cores before [] c w (is ∙ sym (none m before fresh)) two
 
 pub add-requires-clause-fits : goal.add-requires-clause-fits
-add-requires-clause-fits c =
+add-requires-clause-fits g c =
     let m : Machine = c.args.machine.now in
-    let before = c.in_ok-_before.ensures in
-    let one : WovenInterval = c.in_ok-one.one in
+    let before = c.first_comps-before.ensures in
+    let one : WovenInterval = c.first-one.result in
     let once = counted_once c.nothing_is_counted_first.ensures c.counters_are_sums.ensures m c.requires.banks c.requires.controllers
-    c.in_ok-_before._before before c.in_ok-counters.counters c.in_ok-counters.ensures one in
+    c.first_comps-before.result before c.first_counters-counters.result c.first_counters-counters.ensures one in
     subst CountsFit (sym once)
     (c.sums_fit.ensures m.cores one.comps (interval one ∷ []) (omega (arith, one.few_entries)) (omega (arith, one.few_events)) (omega arith)
     (All-cons IsBounded (interval one) [] (bounded one) (All-nil IsBounded)))
 
 pub add-requires-2-clause-fits : goal.add-requires-2-clause-fits
-add-requires-2-clause-fits c =
+add-requires-2-clause-fits g c =
     let m : Machine = c.args.machine.now in
-    let before = c.in_ok-_before.ensures in
-    let one : WovenInterval = c.in_ok-one.one in
-    let two : WovenInterval = c.in_ok-two.two in
+    let before = c.first_comps-before.ensures in
+    let one : WovenInterval = c.first-one.result in
+    let two : WovenInterval = c.second-two.result in
     let once = counted_once c.nothing_is_counted_first.ensures c.counters_are_sums.ensures m c.requires.banks c.requires.controllers
-    c.in_ok-_before._before before c.in_ok-counters.counters c.in_ok-counters.ensures one in
+    c.first_comps-before.result before c.first_counters-counters.result c.first_counters-counters.ensures one in
     let twice = counts_more c.counters_are_sums.ensures m.cores one.comps (interval one ∷ []) c.add.new.counters two (c.add.ensures.added ∙ once) one.comp_count in
     subst CountsFit (sym twice)
     (c.sums_fit.ensures m.cores two.comps (interval one ∷ interval two ∷ []) (omega (arith, one.few_entries, two.few_entries)) (omega (arith, one.few_events, two.few_events)) (omega arith)
