@@ -1,6 +1,7 @@
 -- Division of signed numbers, as two's complement keeps it.
 use Rattle.std.proofs.Common.{◌≡◌, ◌≢◌, ℕ, zero, suc, ◌+◌, ◌-◌, ◌/◌, ◌^◌, ◌<◌, ◌≤◌, ℤ, pos, negsuc, neg_ℤ, ◌≤ℤ◌, refl, sym, ap, ◌∙◌, arith, FitsSigned, unsigned_abs, int_div, int_rem, cond, eqb, ◌&&◌, inl, inr}
-use Rattle.std.specs.Int.{w32, w64, cast_signed}
+use Rattle.std.specs.Int.{Width, w8, w16, w32, w64, w128, cast_signed}
+use mir.Val.{bits, hbits}
 use Rattle.std.proofs.lemmas.Bool.Decides.{nat_tests}
 use Rattle.std.proofs.Math.Facts.{sfits_widen, sfits_to_z, Fits-of_lt}
 use Rattle.std.proofs.lemmas.Bool.{cases_eq}
@@ -78,6 +79,42 @@ divides a b p q nonzero fits =
     let remainder_read : cast_signed w64 (signed_remainder w64 a b) ≡ int_rem x y = ap (cast_signed w64) remainder_is ∙ read_back (int_rem x y) remainder_fits in
     exact x y _ _ quotient_read remainder_read positive
 
+-- ---- wrapped quotients
+
+-- the quotient that overflows, and its remainder
+most_over_minus_one : (w : Width) → (signed_quotient w (2 ^ hbits w) (2 ^ bits w - 1) ≡ residue w (int_div (cast_signed w (2 ^ hbits w)) (cast_signed w (2 ^ bits w - 1))))
+    × (signed_remainder w (2 ^ hbits w) (2 ^ bits w - 1) ≡ residue w (int_rem (cast_signed w (2 ^ hbits w)) (cast_signed w (2 ^ bits w - 1))))
+most_over_minus_one w8 = (refl, refl)
+most_over_minus_one w16 = (refl, refl)
+most_over_minus_one w32 = (refl, refl)
+most_over_minus_one w64 = (refl, refl)
+most_over_minus_one w128 = (refl, refl)
+
+-- the wrapped quotient is the one that overflow states
+pub wrapped_quotient : (w : Width) (x y : ℕ) → y ≢ 0 → signed_quotient w x y ≡ residue w (int_div (cast_signed w x) (cast_signed w y))
+wrapped_quotient w x y h =
+    let z = residue w (int_div (cast_signed w x) (cast_signed w y)) in
+    let other : ¬ IsOverflow w x y → signed_quotient w x y ≡ z = last_branch x y (2 ^ hbits w) (2 ^ bits w - 1) (2 ^ bits w - 1) x z h in
+    elim (cases_eq x (2 ^ hbits w)) [
+      | inl e ↦ elim (cases_eq y (2 ^ bits w - 1)) [
+        | inl f ↦ rw (e, f) (most_over_minus_one w).0
+        | inr g ↦ other (λ o. g o.1)
+      ]
+      | inr g ↦ other (λ o. g o.0)
+    ]
+
+pub wrapped_remainder : (w : Width) (x y : ℕ) → y ≢ 0 → signed_remainder w x y ≡ residue w (int_rem (cast_signed w x) (cast_signed w y))
+wrapped_remainder w x y h =
+    let z = residue w (int_rem (cast_signed w x) (cast_signed w y)) in
+    let other : ¬ IsOverflow w x y → signed_remainder w x y ≡ z = last_branch x y (2 ^ hbits w) (2 ^ bits w - 1) x 0 z h in
+    elim (cases_eq x (2 ^ hbits w)) [
+      | inl e ↦ elim (cases_eq y (2 ^ bits w - 1)) [
+        | inl f ↦ rw (e, f) (most_over_minus_one w).1
+        | inr g ↦ other (λ o. g o.1)
+      ]
+      | inr g ↦ other (λ o. g o.0)
+    ]
+
 -- ---- words
 
 -- a word reads the same once it is extended
@@ -93,31 +130,6 @@ extended_zero y q h = grind (arith, ints)
 extended_least : (x : ℕ) → x < 2 ^ 32 → sign_extended x ≢ 2 ^ 63
 extended_least x p = grind (arith, ints)
 
--- the wrapped quotient of two words is the one that overflow states
-quotient_of_words : (x y : ℕ) → y ≢ 0 → signed_quotient w32 x y ≡ residue w32 (int_div (cast_signed w32 x) (cast_signed w32 y))
-quotient_of_words x y h =
-    let z = residue w32 (int_div (cast_signed w32 x) (cast_signed w32 y)) in
-    let other : ¬ IsOverflow w32 x y → signed_quotient w32 x y ≡ z = last_branch x y (2 ^ 31) (2 ^ 32 - 1) (2 ^ 32 - 1) x z h in
-    elim (cases_eq x (2 ^ 31)) [
-      | inl e ↦ elim (cases_eq y (2 ^ 32 - 1)) [
-        | inl f ↦ rw (e, f) refl
-        | inr g ↦ other (λ o. g o.1)
-      ]
-      | inr g ↦ other (λ o. g o.0)
-    ]
-
-remainder_of_words : (x y : ℕ) → y ≢ 0 → signed_remainder w32 x y ≡ residue w32 (int_rem (cast_signed w32 x) (cast_signed w32 y))
-remainder_of_words x y h =
-    let z = residue w32 (int_rem (cast_signed w32 x) (cast_signed w32 y)) in
-    let other : ¬ IsOverflow w32 x y → signed_remainder w32 x y ≡ z = last_branch x y (2 ^ 31) (2 ^ 32 - 1) x 0 z h in
-    elim (cases_eq x (2 ^ 31)) [
-      | inl e ↦ elim (cases_eq y (2 ^ 32 - 1)) [
-        | inl f ↦ rw (e, f) refl
-        | inr g ↦ other (λ o. g o.1)
-      ]
-      | inr g ↦ other (λ o. g o.0)
-    ]
-
 -- words divide as the numbers that extend them
 pub word_quotient : (x y : ℕ) → x < 2 ^ 32 → y < 2 ^ 32 → signed_quotient w32 x y ≡ low_word (signed_quotient w64 (sign_extended x) (sign_extended y))
 word_quotient x y p q =
@@ -127,7 +139,7 @@ word_quotient x y p q =
           let z = residue w64 (int_div (cast_signed w64 (sign_extended x)) (cast_signed w64 (sign_extended y))) in
           let whole : signed_quotient w64 (sign_extended x) (sign_extended y) ≡ z =
           last_branch (sign_extended x) (sign_extended y) (2 ^ 63) (2 ^ 64 - 1) (2 ^ 64 - 1) (sign_extended x) z (extended_zero y q h) (λ o. extended_least x p o.0) in
-          quotient_of_words x y h ∙ sym (ap low_word whole ∙ rw (word_read x p, word_read y q) (low_word-residue (int_div (cast_signed w32 x) (cast_signed w32 y))))
+          wrapped_quotient w32 x y h ∙ sym (ap low_word whole ∙ rw (word_read x p, word_read y q) (low_word-residue (int_div (cast_signed w32 x) (cast_signed w32 y))))
     ]
 
 pub word_remainder : (x y : ℕ) → x < 2 ^ 32 → y < 2 ^ 32 → signed_remainder w32 x y ≡ low_word (signed_remainder w64 (sign_extended x) (sign_extended y))
@@ -138,5 +150,5 @@ word_remainder x y p q =
           let z = residue w64 (int_rem (cast_signed w64 (sign_extended x)) (cast_signed w64 (sign_extended y))) in
           let whole : signed_remainder w64 (sign_extended x) (sign_extended y) ≡ z =
           last_branch (sign_extended x) (sign_extended y) (2 ^ 63) (2 ^ 64 - 1) (sign_extended x) 0 z (extended_zero y q h) (λ o. extended_least x p o.0) in
-          remainder_of_words x y h ∙ sym (ap low_word whole ∙ rw (word_read x p, word_read y q) (low_word-residue (int_rem (cast_signed w32 x) (cast_signed w32 y))))
+          wrapped_remainder w32 x y h ∙ sym (ap low_word whole ∙ rw (word_read x p, word_read y q) (low_word-residue (int_rem (cast_signed w32 x) (cast_signed w32 y))))
     ]

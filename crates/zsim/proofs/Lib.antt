@@ -1,6 +1,7 @@
 pub mod Endings
 pub mod FilesSoFar
 pub mod Numbers
+pub mod OutputsDone
 pub mod Pieces
 pub mod PlainWords
 pub mod Repeating

@@ -1,7 +1,40 @@
-use Rattle.std.proofs.Common.{rules}
-use Rattle.schedule_file.specs.ScheduleFile.{header_bytes}
+use Rattle.std.proofs.Common.{◌≡◌, ◌<◌, ◌^◌, ◌++◌, ℕ, List, All, Some, length, get_or, take, sym, ◌∙◌, ap, subst, arith, rules}
+use Rattle.std.specs.Prelude.{slice_get}
+use Rattle.std.specs.List.{flat_map}
+use Rattle.std.proofs.lemmas.List.{append-nil, take_all}
+use Rattle.std.proofs.lemmas.Option.{get_or_from_slice_get, slice_get_within}
+use Rattle.schedule_file.specs.ScheduleFile.{header_bytes, list_bytes, schedule_file_of}
 use Rattle.schedule_file.proofs.Lists.{written_on}
 use Rattle.schedule_file.proofs.writer.write.Goals as goal
 
 pub loop-k-preserved : goal.loop-k-preserved
 loop-k-preserved c = written_on (header_bytes c.args.s.now) _ _ c.args.s.now.lists c.loop-k.k c.list.result.now c.loop-k.invariant (search rules) (search rules)
+
+pub put_list-requires-clause-bytes : goal.put_list-requires-clause-bytes
+put_list-requires-clause-bytes c =
+    let lists = c.args.s.now.lists in
+    let turns : List ℕ = c.list.result.now in
+    let cores = c.args.s.now.cores in
+    let there : slice_get lists c.loop-k.k ≡ Some turns = c.list.ensures in
+    let is : get_or lists c.loop-k.k turns ≡ turns = get_or_from_slice_get lists c.loop-k.k turns turns there in
+    let known : All (λ (core : ℕ). core < cores) turns =
+    subst (All (λ (core : ℕ). core < cores)) is (c.intervals-k-end.ensures.turns.known c.loop-k.k turns (slice_get_within lists c.loop-k.k turns there))
+    in
+    λ k d below. omega (arith, known k d below, c.requires)
+
+pub put_list-requires-clause-count : goal.put_list-requires-clause-count
+put_list-requires-clause-count c =
+    let lists = c.args.s.now.lists in
+    let turns : List ℕ = c.list.result.now in
+    let there : slice_get lists c.loop-k.k ≡ Some turns = c.list.ensures in
+    let is : get_or lists c.loop-k.k turns ≡ turns = get_or_from_slice_get lists c.loop-k.k turns turns there in
+    subst (λ (ns : List ℕ). length ns < 2 ^ 32) is (c.intervals-k-end.ensures.turns.short c.loop-k.k turns (slice_get_within lists c.loop-k.k turns there))
+
+pub loop-k-init : goal.loop-k-init
+loop-k-init c = c.in_ok-out.ensures ∙ sym (append-nil (header_bytes c.args.s.now))
+
+pub returns : goal.returns
+returns c =
+    let lists = c.args.s.now.lists in
+    let all : take c.loop-k.k lists ≡ lists = take_all c.loop-k.k lists (omega (arith, c.loop-k-test.false, c.intervals-k-end.ensures.value)) in
+    c.of.ensures ∙ c.loop-k.invariant ∙ ap (λ (ls : List (List ℕ)). header_bytes c.args.s.now ++ flat_map list_bytes ls) all

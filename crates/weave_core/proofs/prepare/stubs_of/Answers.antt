@@ -1,13 +1,14 @@
 -- A crossing more.
-use Rattle.std.proofs.Common.{ℕ, ◌+◌, ◌<◌, ◌≤◌, ◌≡◌, ◌∷◌, ◌++◌, [], false, Vec, Global, List, length, set, get_or, Some, slice_get, sym, ap, ◌∙◌, subst, arith}
+use Rattle.std.proofs.Common.{ℕ, ◌+◌, ◌<◌, ◌≤◌, ◌≡◌, ◌∷◌, ◌++◌, [], false, Vec, Global, List, length, set, get_or, None, Some, slice_get, sym, ap, ◌∙◌, subst, arith}
 use Rattle.std.proofs.lemmas.Option.{get_or_from_slice_get, slice_get-get_or}
+use Rattle.event_graph.specs.declared.event.Event.{Event}
 use Rattle.domain_map.specs.declared.crossing.Crossing.{Crossing}
 use Rattle.weave_core.specs.declared.incoming.Stub.{Stub}
 use Rattle.weave_core.specs.Beginning.{AddsWaits, AreStubsUpto}
 use Rattle.weave_core.specs.DomainMachine.{is_exact}
 use Rattle.weave_core.proofs.Lists.{get_below, get_there}
 use Rattle.weave_core.proofs.Looked.{unknown_few}
-use Rattle.weave_core.proofs.Stubbing.{adds_next, stubs_next, stubs_skip}
+use Rattle.weave_core.proofs.Stubbing.{adds_next, adds_none, stubs_next, stubs_skip}
 use Rattle.weave_core.proofs.prepare.stubs_of.Goals.{then-crossing-domain+in_ok-push, else-crossing-domain}
 use Rattle.weave_core.proofs.prepare.stubs_of.Goals as goal
 
@@ -58,3 +59,32 @@ loop-number-preserved c =
                 (subst (λ (xs : List Stub). AddsWaits c.args.waits.now c.loop-number.waits xs) (sym stubs) c.loop-number.invariant.waits);
           }
     ]
+
+no_stubs : (events here : List Event) (crossings : List Crossing) (domain : ℕ) → AreStubsUpto events here crossings domain [] 0
+no_stubs events here crossings domain = record {
+  few = omega arith;
+  each = λ place s at. absurd (let none : None ≡ Some s = at in cc);
+  covers = λ number x below there own. absurd (omega (arith, below));
+  rising = λ i j s t less at after. absurd (let none : None ≡ Some s = at in cc);
+}
+
+pub loop-number-init : goal.loop-number-init
+loop-number-init c =
+    let none = c.new-stubs.ensures.items in
+    record {
+      stubs = subst (λ (xs : List Stub). AreStubsUpto c.args.events.now c.args.here.now c.args.crossings.now c.args.domain xs 0) (sym none) (no_stubs c.args.events.now c.args.here.now c.args.crossings.now c.args.domain);
+      waits = subst (AddsWaits c.args.waits.now c.args.waits.now) (sym none) (adds_none c.args.waits.now);
+    }
+
+pub stub_of-stub-requires-clause-crossed : goal.stub_of-stub-requires-clause-crossed
+stub_of-stub-requires-clause-crossed c =
+    let x = get_or c.args.crossings.now c.loop-number.number no_crossing in
+    c.requires.crossed.each c.loop-number.number x (slice_get-get_or c.args.crossings.now c.loop-number.number no_crossing c.loop-number-test.true) c.if-crossing-domain.true
+
+pub returns-clause-stubs : goal.returns-clause-stubs
+returns-clause-stubs c =
+    let all : c.loop-number.number ≡ length c.args.crossings.now = omega (arith, c.loop-number-test.false, c.loop-number.auto.number-end) in
+    subst (AreStubsUpto c.args.events.now c.args.here.now c.args.crossings.now c.args.domain c.loop-number.stubs.items) all c.loop-number.invariant.stubs
+
+pub returns-clause-waits : goal.returns-clause-waits
+returns-clause-waits c = c.loop-number.invariant.waits
