@@ -164,7 +164,8 @@ impl Tested {
         self.has_last(rt, earlier.unwrap_or(0));
     }
 
-    /// The letters of line 0x440 for core 0 and core 1, and whether it is dirty in the shared cache.
+    /// The letters of line 0x440 for core 0 and core 1, and whether it is dirty in the shared
+    /// cache.
     fn line(&self) -> ((Letter, Letter), Option<bool>) {
         let letters = (self.shard.letter(0, 0x440), self.shard.letter(1, 0x440));
         (letters, self.shard.l2_dirty(0x440))
@@ -252,8 +253,8 @@ static STAMPED: [Stamped; 5] = [
 /// Addresses, and the bytes there at the beginning.
 static FIRST_BYTES: [(u64, u8); 3] = [(0x10000, 0x73), (0x10001, 0), (0x10ffff, 0)];
 
-/// A new shard, which is alone, has the number 0 and gave no stamp. It answers the first steps; then
-/// it has the bytes, and then it answers the later steps.
+/// A new shard, which is alone, has the number 0 and gave no stamp. It answers the first steps;
+/// then it has the bytes, and then it answers the later steps.
 fn plays<R: Abort>(
     rt: &R,
     alloc: Global,

@@ -1,5 +1,5 @@
-//! Tests of accesses by several threads: two cores share the shards of a table, in one thread and in
-//! two, and the first interval of small programs by several workers.
+//! Tests of accesses by several threads: two cores share the shards of a table, in one thread and
+//! in two, and the first interval of small programs by several workers.
 #![tactic(auto)]
 
 #[cfg(test)]

@@ -21,7 +21,8 @@ fn are_of_cores(events: &[Event], cores: u16) -> bool
 }
 
 /// The delays of so many cores, from the weave of a graph on these servers, or `None` where memory
-/// runs out or the conditions of either are not seen to hold. `times` gains the times of the events.
+/// runs out or the conditions of either are not seen to hold. `times` gains the times of the
+/// events.
 fn delayed(
     alloc: Global,
     graph: &Graph,

@@ -121,7 +121,8 @@ fn graph_on(alloc: Global, count: u32, servers: &[Server]) -> Option<Graph> {
     graph_of(misses(alloc, count, 1)?, servers)
 }
 
-/// Writes how long each way of weaving a graph in sixteen domains takes. Answers whether all wove it.
+/// Writes how long each way of weaving a graph in sixteen domains takes. Answers whether all wove
+/// it.
 fn time_graph<T: Threads + Sync>(
     rt: &HostRuntime,
     threads: &T,

@@ -63,8 +63,8 @@ pub(crate) fn on_one_list(alloc: Global, graph: &Graph, servers: &[Server]) -> O
     outcome_of(alloc, fired.as_slice(), comps.as_slice())
 }
 
-/// Whether two lists have the same cycles, in whatever order. The first is sorted then. `None` where
-/// memory runs out.
+/// Whether two lists have the same cycles, in whatever order. The first is sorted then. `None`
+/// where memory runs out.
 fn are_same(some: &mut Vec<Cycle>, others: &[Cycle], alloc: Global) -> Option<bool> {
     let mut others = Vec::from_slice(alloc, others).ok()?;
     Some(some.sort().is_ok() && others.sort().is_ok() && some.as_slice() == others.as_slice())

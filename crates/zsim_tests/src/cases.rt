@@ -4,15 +4,15 @@
 //! - `words WORDS`: the words of a call, where A holds the executable that exits with seven.
 //! - `example NAME`: `run plain NAME`, over the files beside this one.
 //! - `files WORDS`: the words of a call over these files.
-//! - `describe NAME`: a machine description among them. Its numbers of cores, banks, controllers and
-//!   domains are written.
+//! - `describe NAME`: a machine description among them. Its numbers of cores, banks, controllers
+//!   and domains are written.
 //! - `exe CONTENTS`: `run plain A`, where A holds these (`contents.rt`); `code ..`: the same of
 //!   instructions.
 //! - `spoil NUMBERS`: the same of the executable that exits with seven, with other bytes.
 //! - `description CONTENTS`: `run m A`, where m holds these, and A the executable that exits with
 //!   seven.
-//! - `machine CHANGES` or `machine CHANGES : CODE`: the same, where m holds the built-in machine with
-//!   changes, and A these instructions, if there are any.
+//! - `machine CHANGES` or `machine CHANGES : CODE`: the same, where m holds the built-in machine
+//!   with changes, and A these instructions, if there are any.
 //!
 //! Others stand on those before them (`scene.rt`):
 //!
@@ -20,13 +20,14 @@
 //!   fail.
 //! - `hold NAME CONTENTS`: what the name holds from here on.
 //! - `show NAME`: the bytes that it holds.
-//! - `out MOST N..`, `err MOST N..`: standard output or standard error of the next call takes at most
-//!   so many bytes a put, and the puts with these numbers fail.
+//! - `out MOST N..`, `err MOST N..`: standard output or standard error of the next call takes at
+//!   most so many bytes a put, and the puts with these numbers fail.
 //! - `call WORDS`: the words of a call over what the names hold.
 //! - `race WORDS`: the same, but only what no order of accesses changes is written.
-//! - `count WORDS`: the same, and who passed the gate; `owners WORDS`: and whether the workers of their
-//!   domains fired the events, where two workers have two domains.
-//! - `meet WORDS`: a call in which two cores, and then two domains, wait for each other at the gate.
+//! - `count WORDS`: the same, and who passed the gate; `owners WORDS`: and whether the workers of
+//!   their domains fired the events, where two workers have two domains.
+//! - `meet WORDS`: a call in which two cores, and then two domains, wait for each other at the
+//!   gate.
 //! - `sure WORDS`: a call over files and streams that never fail.
 //! - `again WORDS`: a call, and whether it answers what the last one did.
 //! - `find TEXT`: how many lines of the last answer end with this text.
@@ -44,8 +45,8 @@ use std::sync::Wait;
 use std::thread::Threads;
 use zs_host::Files;
 
-/// Writes what all cases of the file `cases` answer, in their order. `None` where memory runs out for
-/// a call or a line is no case, which then stands behind the answers of those before it.
+/// Writes what all cases of the file `cases` answer, in their order. `None` where memory runs out
+/// for a call or a line is no case, which then stands behind the answers of those before it.
 pub fn answer_all<F: Files>(
     rt: &(impl Threads + Wait + Sync),
     alloc: Global,

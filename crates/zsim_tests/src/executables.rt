@@ -14,7 +14,8 @@ const FRONT: [u8; 96] = [
     0x00, 0x00, 0x01, 0x00, 0x00, 0x00, 0x00, 0x00, 0x00, 0x00, 0x01, 0x00, 0x00, 0x00, 0x00, 0x00,
 ];
 
-/// Puts an executable of these words, each in hexadecimal digits: 120 bytes, and four for each word.
+/// Puts an executable of these words, each in hexadecimal digits: 120 bytes, and four for each
+/// word.
 pub fn put_executable(code: &str, file: &mut Vec<u8>) -> Option<()> {
     file.extend_from_slice(&FRONT[..64]).ok()?;
     put_header(file, size_of(code))?;

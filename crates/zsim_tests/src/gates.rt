@@ -26,8 +26,8 @@ impl Gate for CaseGate<'_> {
     }
 }
 
-/// A gate that counts accesses, by worker 0, by the others, and of core 3; and events: all, those of
-/// domain 1, and those that one of two workers fires whose domain it is.
+/// A gate that counts accesses, by worker 0, by the others, and of core 3; and events: all, those
+/// of domain 1, and those that one of two workers fires whose domain it is.
 #[derive(Drop)]
 pub struct CountingGate {
     by_first: AtomicU64,
@@ -87,8 +87,9 @@ impl CountingGate {
         Some(())
     }
 
-    /// Writes whether there were several intervals, and several events in the second of two domains,
-    /// and whether all events were fired by the workers of their domains, of which there were two.
+    /// Writes whether there were several intervals, and several events in the second of two
+    /// domains, and whether all events were fired by the workers of their domains, of which there
+    /// were two.
     pub fn write_owners(&self, called: &Called, page: &mut Page) {
         page.text("several intervals ");
         page.truth(called.ended.kept.schedule.intervals() > 1);

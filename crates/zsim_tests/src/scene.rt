@@ -44,8 +44,8 @@ impl Scene {
     }
 
     /// Does what a line says that stands on those before it, and writes what it has to write. The
-    /// files beside this one are in `beside`. `None` where memory runs out for a call or the line is
-    /// none of these.
+    /// files beside this one are in `beside`. `None` where memory runs out for a call or the line
+    /// is none of these.
     pub fn play<F: Files>(
         &mut self,
         rt: &(impl Threads + Wait + Sync),
