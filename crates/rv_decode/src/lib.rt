@@ -9,7 +9,7 @@ mod inst;
 pub mod laws;
 mod name;
 mod names;
-mod opcodes;
+pub mod opcodes;
 
 pub use decoder::decode;
 pub use fields::bits;
