@@ -68,12 +68,13 @@ fn logs_are_merged_by_stamp_and_then_by_core(rt: HostRuntime) -> Result<(), Fail
 }
 
 /// Loads of cores 0 and 1, with stamps.
-fn loads(alloc: Global, rows: &[(u16, Stamp)]) -> Result<Entries, NoMemory>
+fn loads(rt: &(impl Abort + AllocGlobal), rows: &[(u16, Stamp)]) -> Result<Entries, NoMemory>
     ensures { IfOk result (All (λ e. e.core < 2)) }
 {
-    let mut list = Vec::new(alloc);
+    let mut list = Vec::new(rt.alloc());
     for &(core, stamp) in rows {
-        list.push(load(core % 2, stamp))?;
+        assert!(rt; core < 2);
+        list.push(load(core, stamp))?;
     }
     Ok(Entries::of(list))
 }
@@ -87,7 +88,7 @@ fn add(
     requires { schedule.old.cores ≡ 2 }
     ensures { schedule.new.cores ≡ 2 }
 {
-    let entries = loads(rt.alloc(), rows)?;
+    let entries = loads(rt, rows)?;
     assert!(rt; entries.as_slice().len() == rows.len() && rows.len() < 1000);
     assert!(rt; schedule.intervals() < 1000);
     schedule.add(rt.alloc(), &entries)

@@ -4,8 +4,8 @@ use cache_set::{Letter, Set, Way};
 use std::process::Abort;
 use std::test::Fail;
 
-/// What is asked of a set, with the line and the mark where it takes them. It answers nothing where
-/// it is touched or changed.
+/// What is asked of a set, with the line and the mark where it takes them. Where a line is touched
+/// or changed, the answer is what a look then finds.
 #[derive(Clone, Copy)]
 enum Act {
     Put(u64, u8),
@@ -29,12 +29,12 @@ fn answer(rt: &impl Abort, set: &mut Set, act: Act) -> Option<Marked> {
         Touch(line) => {
             assert!(rt; set.look(line).is_some());
             set.touch(line);
-            None
+            marked(line, set.look(line))
         }
         Change(line, mark) => {
             assert!(rt; set.look(line).is_some());
             set.change(line, mark);
-            None
+            marked(line, set.look(line))
         }
         Look(line) => marked(line, set.look(line)),
         TakeOut(line) => marked(line, set.take_out(line)),
@@ -71,7 +71,7 @@ static FULL: [(Act, Option<Marked>); 9] = [
     (Put(7, 1), None),
     (LastIfFull, None),
     (Put(8, 2), None),
-    (Touch(7), None),
+    (Touch(7), Some((7, 1))),
     (LastIfFull, Some((8, 2))),
     (Put(9, 3), Some((8, 2))),
     (Look(7), Some((7, 1))),
@@ -87,7 +87,7 @@ fn the_least_recently_used_line_leaves_a_full_set(rt: HostRuntime) -> Result<(),
 static CHANGED: [(Act, Option<Marked>); 8] = [
     (Put(7, 1), None),
     (Put(8, 2), None),
-    (Change(7, 4), None),
+    (Change(7, 4), Some((7, 4))),
     (LastIfFull, Some((7, 4))),
     (TakeOut(8), Some((8, 2))),
     (TakeOut(8), None),

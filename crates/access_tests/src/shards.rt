@@ -223,9 +223,10 @@ static SHARED: [Step; 5] = [
     (1, Store(0x11000, 5), UPGRADE, 0, (I, M), DIRTY),
 ];
 
-static PAIR: [Step; 3] = [
+static PAIR: [Step; 4] = [
     (0, Reserve(0x11000), MISS, 0, (E, I), CLEAN),
     (0, StoreIf(0x11000, 9, true), HIT, 0, (M, I), CLEAN),
+    (0, Load(0x11000), HIT, 9, (M, I), CLEAN),
     (0, StoreIf(0x11000, 9, false), HIT, 1, (M, I), CLEAN),
 ];
 
