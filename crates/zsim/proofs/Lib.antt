@@ -1,5 +1,6 @@
 pub mod Endings
 pub mod FilesSoFar
+pub mod MatchedCommands
 pub mod Numbers
 pub mod OutputsDone
 pub mod Pieces

@@ -1,31 +1,17 @@
--- The command of what `clap` matches.
-use Rattle.std.proofs.Common.{◌≡◌, List, Option, Some, None, ◌∙◌, ap, sym, rules}
-use Rattle.std.specs.Prelude.{map, option_and_then, option_map, string_bytes}
-use Rattle.clap.specs.Words.{App, Row, found_of, rows_of}
-use Rattle.zsim.specs.CommandLine.{Command, command_by, replay_of}
-use Rattle.zsim.specs.Options.{matched_by, replay_options}
+use Rattle.std.proofs.Common.{ap, ◌∙◌, rules}
+use Rattle.std.specs.Prelude.{map, string_bytes}
+use Rattle.clap.specs.Words.{found_of, rows_of}
+use Rattle.zsim.specs.CommandLine.{command_by, replay_of}
+use Rattle.zsim.specs.Options.{replay_options}
+use Rattle.zsim.proofs.MatchedCommands.{none_matched, some_matched}
 use Rattle.zsim.proofs.command_line.command_after_replay.Goals as goal
 
-command_of_rows : Option (List Row) → Option Command
-command_of_rows found = option_and_then (λ rows. command_by rows (replay_of rows)) found
-
 pub returns-in-Some : goal.returns-in-Some
-unfolding command_of_rows
 returns-in-Some c =
-    let words = map string_bytes c.args.words.now in
-    let rows : List Row = rows_of (found_of c.in-Some.matches) in
-    let is : c.in_ok-matches.field-0 ≡ Some c.in-Some.matches = search rules in
-    let matched : Some rows ≡ matched_by replay_options words =
-    ap (option_map (λ m. rows_of (found_of m))) (sym is) ∙ c.in_ok-matches.ensures ∙ ap (λ (options : App). matched_by options words) c.in_ok-replay_options.ensures.options
-    in
-    c.command_by.ensures ∙ ap (command_by rows) c.replay_of.ensures ∙ ap command_of_rows matched
+    some_matched (λ m. rows_of (found_of m)) replay_options replay_of (map string_bytes c.args.words.now) _ c.in_ok-matches.field-0 c.in-Some.matches _
+    c.in_ok-replay_options.ensures.options c.in_ok-matches.ensures (search rules) (c.command_by.ensures ∙ ap (command_by _) c.replay_of.ensures)
 
 pub returns-in-None : goal.returns-in-None
-unfolding command_of_rows
 returns-in-None c =
-    let words = map string_bytes c.args.words.now in
-    let is : c.in_ok-matches.field-0 ≡ None = search rules in
-    let matched : None ≡ matched_by replay_options words =
-    ap (option_map (λ m. rows_of (found_of m))) (sym is) ∙ c.in_ok-matches.ensures ∙ ap (λ (options : App). matched_by options words) c.in_ok-replay_options.ensures.options
-    in
-    ap command_of_rows matched
+    none_matched (λ m. rows_of (found_of m)) replay_options replay_of (map string_bytes c.args.words.now) _ c.in_ok-matches.field-0
+    c.in_ok-replay_options.ensures.options c.in_ok-matches.ensures (search rules)
