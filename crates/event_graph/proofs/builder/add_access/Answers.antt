@@ -1,7 +1,11 @@
-use Rattle.std.proofs.Common.{◌≡◌, ◌+◌, ◌<◌, vec_len, length, arith, sym, ap, ◌∙◌, length-append, None, refl, ◌∷◌, []}
+use Rattle.std.proofs.Common.{◌≡◌, ◌+◌, ◌<◌, ◌≤◌, ℕ, List, ◌++◌, map, vec_len, length, arith, sym, ap, ◌∙◌, length-append, None, refl, ◌∷◌, []}
+use Rattle.std.specs.List.{enumerate_from}
 use Rattle.std.specs.Option.{option_map}
+use Rattle.std.proofs.lemmas.List.{append-nil, take_all}
 use Rattle.std.proofs.lemmas.Option.{slice_get_read, get_or_from_slice_get}
+use Rattle.event_graph.specs.declared.piece.Piece.{Piece}
 use Rattle.event_graph.specs.Critical.{last_critical}
+use Rattle.event_graph.specs.EventGraph.{event_at}
 use Rattle.event_graph.specs.NextEvent.{critical_of}
 use Rattle.event_graph.proofs.AccessSteps.{place_done}
 use Rattle.event_graph.proofs.builder.add_access.Goals as goal
@@ -28,3 +32,36 @@ loop-place-preserved g c =
       c.in_ok-push_event.ensures.told,
       omega (arith, c.in_ok-push_event.ensures.cores),
     )
+
+pub event_of-event-requires-clause-number : goal.event_of-event-requires-clause-number
+event_of-event-requires-clause-number g c = omega (arith, c.requires.few, c.count-count.ensures, c.loop-place-test.true, c.len-base.ensures)
+
+pub event_of-event-requires-clause-cycles : goal.event_of-event-requires-clause-cycles
+event_of-event-requires-clause-cycles g c =
+    let x = c.args.x.now in
+    let entry = c.args.entry.now in
+    let ends = (g.met.X.Expand.ends_with_access x entry).each c.loop-place.place c.piece-piece.result c.piece-piece.ensures in
+    let small = g.met.X.Expand.time_small x entry in
+    omega (arith, ends, small, c.requires.start)
+
+pub event_of-event-requires-clause-first : goal.event_of-event-requires-clause-first
+event_of-event-requires-clause-first g c i is =
+    let earlier = (g.met.X.Expand.parents_come_before c.args.x.now c.args.entry.now).first c.loop-place.place c.piece-piece.result i c.piece-piece.ensures is in
+    omega (arith, earlier, c.deref.ensures.len, c.loop-place.invariant.1, c.len-base.ensures)
+
+pub event_of-event-requires-clause-second : goal.event_of-event-requires-clause-second
+event_of-event-requires-clause-second g c i is =
+    let earlier = (g.met.X.Expand.parents_come_before c.args.x.now c.args.entry.now).second c.loop-place.place c.piece-piece.result i c.piece-piece.ensures is in
+    omega (arith, earlier, c.deref.ensures.len, c.loop-place.invariant.1, c.len-base.ensures)
+
+pub loop-place-init : goal.loop-place-init
+loop-place-init g c = (sym (append-nil c.args.events.now.items), omega arith, c.requires.told, refl)
+
+pub returns-clause-added : goal.returns-clause-added
+returns-clause-added g c =
+    let before = c.args.events.now.items in
+    let entry = c.args.entry.now in
+    let pieces : List Piece = g.X.Expand.pieces c.args.x.now entry in
+    let whole : length pieces ≤ c.loop-place.place = omega (arith, c.count-count.ensures, c.loop-place-test.false) in
+    c.loop-place.invariant.0
+    ∙ ap (λ (ps : List Piece). before ++ map (λ (at : ℕ × Piece). event_at before entry pieces at.0 at.1) (enumerate_from 0 ps)) (take_all c.loop-place.place pieces whole)

@@ -1,4 +1,10 @@
-use Rattle.std.proofs.Common.{take}
+use Rattle.std.proofs.Common.{◌≡◌, ◌+◌, ◌<◌, ◌≤◌, ◌++◌, [], ℕ, List, length, get_or, take, sym, ◌∙◌, ap, arith}
+use Rattle.std.proofs.lemmas.List.{take_all}
+use Rattle.std.proofs.lemmas.List.Sums.{fold_more}
+use Rattle.zs_num.specs.declared.entry.Entry.{Entry}
+use Rattle.event_graph.specs.declared.event.Event.{Event}
+use Rattle.event_graph.specs.declared.piece.Piece.{Piece}
+use Rattle.event_graph.specs.EventGraph.{access_events, all_events}
 use Rattle.event_graph.proofs.AllEvents.{all_numbered, few_at}
 use Rattle.event_graph.proofs.builder.build.Goals as goal
 
@@ -13,3 +19,30 @@ of-requires g c =
     let pieces = g.X.Expand.pieces c.args.x.now in
     rw c.loop-entry.invariant.2
     (all_numbered pieces (λ e. g.met.X.Expand.parents_come_before c.args.x.now e) (take c.loop-entry.entry-index c.args.entries.now))
+
+pub loop-entry-init : goal.loop-entry-init
+loop-entry-init g c = (
+  omega (arith, c.loop-core.invariant.0, c.loop-core-test.false),
+  rw c.in_ok-events.ensures.items (record { at = λ core below. c.loop-core.invariant.1 core below }),
+  c.in_ok-events.ensures.items,
+)
+
+one_access_more : (pieces : Entry → List Piece) (entries items : List Entry) (i : ℕ) (d : Entry) (seen : List Event)
+    → items ≡ entries → i < length items → seen ≡ all_events pieces (take i entries)
+    → seen ++ access_events seen (get_or items i d) (pieces (get_or items i d)) ≡ all_events pieces (take (i + 1) entries)
+one_access_more pieces entries items i d seen same below is = rw (is, same) (sym (fold_more (λ (before : List Event) (e : Entry). before ++ access_events before e (pieces e)) [] entries i d (rw same at below)))
+
+pub loop-entry-preserved : goal.loop-entry-preserved
+loop-entry-preserved g c =
+    let pieces = g.X.Expand.pieces c.args.x.now in (
+      c.in_ok-add_access.ensures.cores ∙ c.loop-entry.invariant.0,
+      c.in_ok-add_access.ensures.told,
+      c.in_ok-add_access.ensures.added
+          ∙ one_access_more pieces c.args.entries.now _ c.loop-entry.entry-index _ _ c.as_slice-entry-items.ensures c.loop-entry-test.true c.loop-entry.invariant.2,
+    )
+
+pub returns : goal.returns
+returns g c =
+    let pieces = g.X.Expand.pieces c.args.x.now in
+    let whole : length c.args.entries.now ≤ c.loop-entry.entry-index = omega (arith, ap length c.as_slice-entry-items.ensures, c.loop-entry-test.false) in
+    c.of.ensures ∙ c.loop-entry.invariant.2 ∙ ap (all_events pieces) (take_all c.loop-entry.entry-index c.args.entries.now whole)

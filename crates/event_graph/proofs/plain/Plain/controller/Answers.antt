@@ -1,0 +1,5 @@
+use Rattle.std.proofs.Common.{refl}
+use Rattle.event_graph.proofs.plain.Plain.controller.Goals as goal
+
+pub returns : goal.returns
+returns c = rw (c.remainder-number.ensures, c.from.ensures, c.from-2.ensures, c.bank.ensures) refl

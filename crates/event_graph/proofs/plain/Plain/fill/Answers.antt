@@ -1,0 +1,5 @@
+use Rattle.std.proofs.Common.{refl}
+use Rattle.event_graph.proofs.plain.Plain.fill.Goals as goal
+
+pub returns-then-dirty : goal.returns-then-dirty
+returns-then-dirty c = rw (c.bank.ensures, c.from.ensures, c.from-2.ensures, c.memory_time.ensures, c.from-3.ensures, c.if-dirty.true) refl
