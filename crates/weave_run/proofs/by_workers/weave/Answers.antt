@@ -1,7 +1,20 @@
 -- Each crossing's parent is an event.
+use Rattle.std.proofs.Common.{length, sym, ◌∙◌, ap}
 use Rattle.weave_run.proofs.Wovens.{parents_in}
 use Rattle.weave_run.proofs.by_workers.weave.Goals as goal
 
 pub prepare-requires-clause-there : goal.prepare-requires-clause-there
 prepare-requires-clause-there g c =
     parents_in g.C.Component.serves g.C.Component.floor g.C.Component.stepped g.C.Component.greatest c.keeping.ensures c.args.g.now c.args.p.now c.args.comps (record { partitioned = c.requires.partitioned; small = c.requires.small })
+
+pub run-requires-clause-can : goal.run-requires-clause-can
+run-requires-clause-can g c κs within = rw (c.of.ensures, c.of-2.ensures, c.of-3.ensures) (record { partitioned = c.requires.partitioned; small = c.requires.small })
+
+pub run-requires-clause-prepared : goal.run-requires-clause-prepared
+run-requires-clause-prepared g c κs within = c.in_ok-prepared.ensures.prepared
+
+pub run-requires-clause-events : goal.run-requires-clause-events
+run-requires-clause-events g c κs within = ap length (c.events.ensures.events ∙ sym c.of.ensures)
+
+pub returns-clause-woven : goal.returns-clause-woven
+returns-clause-woven g c = rw (← c.of.ensures, ← c.of-3.ensures) c.run.ensures

@@ -1,7 +1,7 @@
 -- The next domain has run.
 use Rattle.std.proofs.Common.{length, ap, arith}
 use Rattle.domain_map.specs.Domains.{Partition}
-use Rattle.weave_run.proofs.Rounding.{all_ran, one_ran}
+use Rattle.weave_run.proofs.Rounding.{all_ran, none_ran, one_ran}
 use Rattle.weave_run.proofs.rounds.run_here.Goals as goal
 
 pub loop-number-preserved : goal.loop-number-preserved
@@ -16,3 +16,6 @@ returns g c =
     let parts = ap (λ (p : Partition). length p.events) c.requires.parts in
     all_ran g.C.Component.serves g.C.Component.floor g.C.Component.stepped g.C.Component.greatest c.keeping.ensures c.args.plan.now c.requires.can c.args.domains.now c.loop-number.domains c.loop-number.number
     c.loop-number.invariant (omega (arith, count, end, parts))
+
+pub loop-number-init : goal.loop-number-init
+loop-number-init g c = none_ran g.C.Component.stepped c.args.plan.now c.args.domains.now c.requires.met

@@ -1,5 +1,5 @@
 -- The next domain takes the first list that is left.
-use Rattle.std.proofs.Common.{◌≡◌, ◌<◌, ◌+◌, List, ◌∷◌, ◌++◌, Vec, length, map, subst, sym, ◌∙◌, ap, arith}
+use Rattle.std.proofs.Common.{◌≡◌, ◌<◌, ◌+◌, ℕ, List, ◌∷◌, ◌++◌, Vec, length, map, subst, sym, ◌∙◌, ap, ap₂, arith}
 use Rattle.std.proofs.lemmas.List.{length-map}
 use Rattle.std.specs.List.{remove}
 use Rattle.std.specs.declared.alloc.Global.{Global}
@@ -7,7 +7,7 @@ use Rattle.weave_core.specs.DomainCalls.{DomainValue, at_first, comps_in}
 use Rattle.weave_run.specs.Dealing.{AreDealt, items_of}
 use Rattle.weave_run.specs.Setup.{AreBegun, begun}
 use Rattle.weave_run.proofs.Gatherings.{first_and_rest}
-use Rattle.weave_run.proofs.Preparings.{first_left, one_begun, put_count, rest_length, still_dealt}
+use Rattle.weave_run.proofs.Preparings.{first_left, none_begun, one_begun, put_count, rest_length, still_dealt}
 use Rattle.weave_run.proofs.setup.prepare_all.Goals as goal
 
 pub prepare-requires-clause-components : goal.prepare-requires-clause-components
@@ -64,3 +64,35 @@ loop-number-preserved g c =
       count = (let less = rest_length c.loop-number.rooms.items some in let rest = ap length c.remove-own.ensures.items in let m = i.count in omega (arith, less, rest, m));
       room = (let r = i.room in let k = c.push_reserved.ensures.capacity in omega (arith, r, k));
     }
+
+pub loop-number-init : goal.loop-number-init
+loop-number-init g c = record {
+  begun = rw c.requires.domains.0 (none_begun c.args.g.now c.args.p.now c.args.plan.now.comps.value);
+  dealt = rw c.requires.domains.0 c.requires.dealt;
+  count = omega (arith, c.requires.count);
+  room = c.requires.domains.1;
+}
+
+pub put_back-requires-clause-room : goal.put_back-requires-clause-room
+put_back-requires-clause-room g c =
+    omega (arith, c.loop-number.invariant.begun.count_is, c.loop-number.invariant.count, c.requires.lists.1, c.remove-own.ensures.len, c.loop-number.rooms.ok, c.remove-own.new.self.ok)
+
+pub returns-in-Err-clause-back : goal.returns-in-Err-clause-back
+returns-in-Err-clause-back g c =
+    let i = c.loop-number.invariant in
+    let some : 0 < length c.loop-number.rooms.items = omega (arith, c.loop-number-test.true, c.domains-number-end.ensures.count, i.count) in
+    let domains : List (List g.row.C.Denot) = map (λ (v : DomainValue g.row.C.Denot). v.comps) c.loop-number.domains.items in
+    let rooms_are : c.loop-number.rooms.items ≡ c.remove-own.result ∷ c.remove-own.new.self.items =
+    first_and_rest c.loop-number.rooms.items c.remove-own.result some
+    ∙ ap₂ (λ (x : Vec g.row.C.Denot Global) (xs : List (Vec g.row.C.Denot Global)). x ∷ xs) (sym c.remove-own.ensures.value) (sym c.remove-own.ensures.items) in
+    subst (AreDealt c.args.p.now.places c.args.plan.now.comps.value)
+    (ap (λ (vs : List (Vec g.row.C.Denot Global)). domains ++ items_of vs) rooms_are
+    ∙ ap (λ (own : List g.row.C.Denot). domains ++ own ∷ items_of c.remove-own.new.self.items) (sym (c.in-Err.ensures.back ∙ c.of.ensures))
+    ∙ sym c.put_back.ensures)
+    i.dealt
+
+pub returns-clause-begun : goal.returns-clause-begun
+returns-clause-begun g c =
+    let all : c.loop-number.number ≡ length c.args.p.now.events =
+    omega (arith, c.loop-number-test.false, c.loop-number.auto.number-end, c.domains-number-end.ensures.count) in
+    subst (λ (n : ℕ). AreBegun c.args.g.now c.args.p.now c.args.plan.now.comps.value n c.loop-number.domains.items) all c.loop-number.invariant.begun
