@@ -88,3 +88,18 @@ returns-clause-stubs c =
 
 pub returns-clause-waits : goal.returns-clause-waits
 returns-clause-waits c = c.loop-number.invariant.waits
+
+pub bounds-waits-stub : goal.bounds-waits-stub
+bounds-waits-stub c =
+    let made = c.stub_of-stub.ensures in
+    omega (arith, get_below c.args.here.now c.stub_of-stub.result.child made.child.event made.child.there, c.requires.waits.size, c.loop-number.invariant.waits.size)
+
+pub offset_bounds-waits-stub : goal.offset_bounds-waits-stub
+offset_bounds-waits-stub c =
+    let made = c.stub_of-stub.ensures in
+    omega (arith, get_below c.args.here.now c.stub_of-stub.result.child made.child.event made.child.there, c.requires.few)
+
+pub overflow_cast-waits : goal.overflow_cast-waits
+overflow_cast-waits c =
+    let made = c.stub_of-stub.ensures in
+    omega (arith, get_below c.args.here.now c.stub_of-stub.result.child made.child.event made.child.there, c.requires.few)
