@@ -1,7 +1,7 @@
 -- The first step says the finishes, and each split makes one seat more.
-use Rattle.std.proofs.Common.{◌≡◌, ◌+◌, arith, rules, ◌∙◌, ap, sym, subst}
+use Rattle.std.proofs.Common.{◌≡◌, ◌+◌, true, refl, arith, rules, ◌∙◌, ap, sym, subst}
 use Rattle.crossing.specs.Inside.{seat_value}
-use Rattle.crossing.specs.Rule.{with_one_more}
+use Rattle.crossing.specs.Rule.{fresh, with_one_more}
 use Rattle.crossing.specs.Seats.{AreSeats, new_seat}
 use Rattle.crossing.proofs.Calls.{can_say, can_split, one_more, seat_made}
 use Rattle.crossing.proofs.make.seated.Goals as goal
@@ -29,3 +29,16 @@ loop-domain-preserved g c =
           (one_more _ _ _ _ c.loop-domain.seats.items (seat_value seat.table_id seat.me.0) c.loop-domain.invariant.seats
           (subst (λ t. seat_value seat.table_id seat.me.0 ≡ new_seat t g.F.Finishes.finishes g.F.Finishes.sources c.loop-domain.domain) table made));
     }
+
+pub loop-domain-init : goal.loop-domain-init
+loop-domain-init g c = record {
+  table = c.load.ensures.0 ∙ c.requires.table;
+  next = c.load.ensures.2 ∙ ap (λ m. (fresh g.F.Finishes.finishes g.F.Finishes.sources true 0, m.1)) c.requires.untold;
+  room = c.requires.room;
+  seats = rw c.requires.empty (record { count = refl; each = λ domain below. absurd (omega (arith, below)) });
+}
+
+pub returns : goal.returns
+returns g c =
+    let all : c.loop-domain.domain ≡ c.args.domains = omega (arith, c.loop-domain-test.false, c.loop-domain.auto) in
+    subst (λ n. AreSeats c.args.words.now.shared.table_id g.F.Finishes.finishes g.F.Finishes.sources n c.loop-domain.seats.items) all c.loop-domain.invariant.seats
