@@ -1,0 +1,5 @@
+use Rattle.std.proofs.Common.{arith}
+use Rattle.gen_prog.proofs.generator.data.Goals as goal
+
+pub returns : goal.returns
+returns c = grind arith
