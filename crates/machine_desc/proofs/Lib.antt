@@ -2,5 +2,6 @@ pub mod Accepted
 pub mod Documents
 pub mod Least
 pub mod Naturals
+pub mod Passed
 pub mod PlainText
 pub mod Valid
