@@ -1,3 +1,4 @@
+pub mod Appended
 pub mod Fields
 pub mod Written
 pub mod Table
