@@ -1,7 +1,7 @@
-use Rattle.std.proofs.Common.{◌≡◌, arith, ℕ, ◌+◌, ◌*◌, ◌++◌, take, drop, List, refl, ap, ◌∙◌}
+use Rattle.std.proofs.Common.{◌≡◌, arith, ℕ, ◌+◌, ◌-◌, ◌*◌, ◌/◌, ◌++◌, take, drop, List, refl, ap, ◌∙◌}
 use Rattle.std.proofs.lemmas.List.FromFn.{length-map-range_with_len}
 use Rattle.elf_load.specs.MemoryImage.{byte_at, bytes_from}
-use Rattle.shard.proofs.FirstBytes.{line_more}
+use Rattle.shard.proofs.FirstBytes.{line_is_below, line_more}
 use Rattle.shard.proofs.filling.fill_lines.Goals as goal
 
 pub loop-i-preserved : goal.loop-i-preserved
@@ -21,3 +21,27 @@ loop-i-preserved c =
           (length-map-range_with_len (byte_at segments) (64 * ((c.args.first + i) * c.args.shards + c.args.number)) 64) refl (omega (arith, c.loop-i.invariant.size));
       size = c.fill.ensures.size ∙ c.loop-i.invariant.size;
     }
+
+pub overflow_add-line : goal.overflow_add-line
+overflow_add-line c = omega arith
+
+pub overflow_mul-line : goal.overflow_mul-line
+overflow_mul-line c =
+    let memory = c.args.image.now in
+    let below = line_is_below (c.args.first + c.loop-i.i) ((memory.base + memory.size - 1) / 64) c.args.shards (omega arith) in
+    omega arith
+
+pub overflow_add-line-in-loop-i : goal.overflow_add-line-in-loop-i
+overflow_add-line-in-loop-i c =
+    let memory = c.args.image.now in
+    let below = line_is_below (c.args.first + c.loop-i.i) ((memory.base + memory.size - 1) / 64) c.args.shards (omega arith) in
+    omega arith
+
+pub overflow_mul-line-in-loop-i : goal.overflow_mul-line-in-loop-i
+overflow_mul-line-in-loop-i c =
+    let memory = c.args.image.now in
+    let below = line_is_below (c.args.first + c.loop-i.i) ((memory.base + memory.size - 1) / 64) c.args.shards (omega arith) in
+    omega arith
+
+pub overflow_mul-i : goal.overflow_mul-i
+overflow_mul-i c = omega arith

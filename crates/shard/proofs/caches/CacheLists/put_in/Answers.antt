@@ -1,9 +1,10 @@
 -- The core's cache has the line at the front, and its directory the core.
-use Rattle.std.proofs.Common.{◌≡◌, ℕ, Bool, true, cond, Option, None, sym, subst, ◌∙◌}
+use Rattle.std.proofs.Common.{◌≡◌, ℕ, Bool, true, cond, Option, None, sym, subst, ◌∙◌, arith}
+use Rattle.std.proofs.lemmas.List.{length-map}
 use Rattle.std.specs.Prelude.{IsSome, nat_eq}
 use Rattle.cache_set.specs.declared.letter.Letter.{Letter}
 use Rattle.cache_set.specs.Ways.{filled, last_of_full}
-use Rattle.shard.specs.CacheLayout.{ChangesLetter, CoreLines, TellsLetter, copies_of, letter_without, own_letter}
+use Rattle.shard.specs.CacheLayout.{ChangesLetter, CoreLines, SharedLines, TellsLetter, copies_of, letter_without, own_letter}
 use Rattle.shard.specs.Lines.{in_set_of}
 use Rattle.shard.proofs.AllCaches.{both_are, both_view, core_is, dirty_is, letter_is, no_other, own_victim_is, some_other_not, told_new}
 use Rattle.shard.proofs.caches.CacheLists.put_in.Goals as goal
@@ -37,3 +38,13 @@ returns c =
     let s = c.self.inside in
     let has = some_other_not s.shards s.l1_ways s.l2_ways s.l1.items s.l2.items c.self.invariant c.args.line c.place-place.result c.index_mut-set.result.now (rw (← c.self.view_is) at c.place-place.ensures.place) (rw (← c.self.view_is) at c.place-place.ensures.within) c.index_mut-set.ensures.value c.args.core c.grant-alone.result c.grant-alone.ensures.alone in
     rw (← c.self.view_is, c.from.ensures, has, ← c.new_letter.ensures) (both_view s.shards s.l1_ways s.l2_ways s.l1.items s.l2.items c.self.invariant c.args.core c.index_mut-cache.result.now (rw (← c.self.view_is) at c.requires.core) (rw c.from.ensures at c.index_mut-cache.ensures.value) c.put.new.self c.args.line (filled s.l1_ways c.args.line c.new_letter.result) (filled_as c.put.new.self c.index_mut-cache.result.now c.args.line s.l1_ways c.new_letter.result (core_is s.shards s.l1_ways s.l2_ways s.l1.items s.l2.items c.self.invariant c.args.core c.index_mut-cache.result.now (rw (← c.self.view_is) at c.requires.core) (rw c.from.ensures at c.index_mut-cache.ensures.value)).same_ways c.put.ensures.after) c.place-place.result c.index_mut-set.result.now c.grant-alone.new.self (rw (← c.self.view_is) at c.place-place.ensures.place) (rw (← c.self.view_is) at c.place-place.ensures.within) c.index_mut-set.ensures.value c.grant-alone.ensures.rest)
+
+pub index_mut-set-requires : goal.index_mut-set-requires
+index_mut-set-requires c =
+    let within = rw (← c.self.view_is) at c.place-place.ensures.within in
+    omega (arith, within, length-map c.self.inside.l2.items (λ (s : SharedLines). s.list))
+
+pub index_mut-cache-requires : goal.index_mut-cache-requires
+index_mut-cache-requires c =
+    let known = rw (← c.self.view_is) at c.requires.core in
+    omega (arith, known, length-map c.self.inside.l1.items (λ (one : CoreLines). one.sets))
