@@ -1,5 +1,5 @@
 -- The shards of a new table.
-use Rattle.std.proofs.Common.{◌≡◌, ℕ, zero, suc, ◌+◌, ◌<◌, Bool, false, List, [], ◌∷◌, ◌++◌, map, length, get_or, set, take, drop, refl, sym, ap, subst, ◌∙◌, arith, inl, inr}
+use Rattle.std.proofs.Common.{◌≡◌, ℕ, zero, suc, ◌+◌, ◌<◌, Bool, false, List, [], ◌∷◌, ◌++◌, map, length, get_or, set, take, drop, refl, sym, ap, subst, ◌∙◌, append_assoc, arith, inl, inr}
 use Rattle.std.specs.Prelude.{slice_get, Some, None}
 use mathlib.Core.Option.{some, some-injective, some-ne-none}
 use lib.ListN.{get_elem?}
@@ -38,6 +38,15 @@ are_new base (x ∷ shards) numbers (suc number) shard at =
 pub resumed_again : (shards : List ShardState) → resumed_all (restarted_shards shards) (map (λ shard. shard.last) shards) ≡ shards
 resumed_again [] = refl
 resumed_again (shard ∷ shards) = ap (λ xs. shard ∷ xs) (resumed_again shards)
+
+-- one shard more
+pub resumed_more : (back shards : List ShardState) (stamps : List ℕ) (shard : ShardState) (stamp : ℕ) → length stamps ≡ length shards → 0 < length shards
+    → shard ≡ get_or shards 0 shard → stamp ≡ get_or stamps 0 stamp
+    → (back ++ resumed shard stamp ∷ []) ++ resumed_all (drop 1 shards) (drop 1 stamps) ≡ back ++ resumed_all shards stamps
+resumed_more back [] stamps shard stamp same more is stamped = absurd (omega (arith, more))
+resumed_more back (x ∷ shards) [] shard stamp same more is stamped = absurd (omega (arith, same))
+resumed_more back (x ∷ shards) (n ∷ stamps) shard stamp same more is stamped =
+    rw (is, stamped) (append_assoc back (resumed x n ∷ []) (resumed_all shards stamps))
 
 -- ---- the slots of a closed table
 

@@ -1,5 +1,6 @@
-use Rattle.std.proofs.Common.{◌≡◌, ℕ, suc, ◌+◌, ◌-◌, ◌<◌, List, [], length, Some, get_or, slice_index_or, drop, sym, ◌∙◌, ap, subst, arith, rules}
+use Rattle.std.proofs.Common.{◌≡◌, ℕ, suc, ◌+◌, ◌-◌, ◌<◌, List, [], length, Some, slice_index_or, drop, sym, ◌∙◌, ap, subst, arith, rules}
 use Rattle.std.specs.Prelude.{slice_get}
+use Rattle.std.proofs.lemmas.List.{length-replicate}
 use Rattle.std.proofs.lemmas.Option.{slice_get-get_or}
 use Rattle.access_log.specs.Logs.{LogState}
 use Rattle.shard_table.specs.Access.{SeatState}
@@ -48,13 +49,13 @@ pub loop-core-preserved : goal.loop-core-preserved
 loop-core-preserved c =
     let t = table_state_of c.args.bench.now.table_id c.args.bench.now.key in
     let before = c.loop-core.invariant in
-    let below : c.loop-core.core < c.args.cores = search rules in
+    let below : c.loop-core.core < c.args.cores = omega (arith, c.loop-core-test.true) in
     record {
       seats = subst (AreSeatsUpTo t (c.loop-core.core + 1)) (sym c.push_reserved-in-loop-core.ensures.items)
           (next_hired t c.loop-core.core c.loop-core.seats.items c.index_mut.result.now c.next-seat.new.self c.next-seat.result before.seats (search rules) c.next-seat.ensures.first c.next-seat.ensures.next);
       logs = c.remove-in-loop-core.ensures.items ∙ (ap (λ (ls : List LogState). drop 1 ls) before.logs ∙ fewer_logs c.args.cores c.loop-core.core c.args.bench.now.key.room below);
-      room = search rules;
-      within = search rules;
+      room = omega (arith, before.room, c.push_reserved-in-loop-core.ensures.capacity);
+      within = omega (arith, c.loop-core-test.true);
     }
 
 pub returns : goal.returns
@@ -62,3 +63,21 @@ returns c =
     let t = table_state_of c.args.bench.now.table_id c.args.bench.now.key in
     let all : c.loop-core.core ≡ c.args.bench.now.key.cores = omega (arith, c.loop-core-test.false, c.loop-core.invariant.within, c.requires.key.1) in
     all_seats t c.loop-core.core c.loop-core.seats.items c.loop-core.invariant.seats all
+
+pub next-seat-requires-clause-table : goal.next-seat-requires-clause-table
+unfolding first
+next-seat-requires-clause-table c = (c.loop-core.invariant.seats.new 0 (first c) (here c)).0.table
+
+pub next-seat-requires-clause-words : goal.next-seat-requires-clause-words
+next-seat-requires-clause-words c = c.requires.words
+
+pub remove-requires-in-loop-core : goal.remove-requires-in-loop-core
+remove-requires-in-loop-core c =
+    let many = ap length c.loop-core.invariant.logs ∙ length-replicate (c.args.cores - c.loop-core.core) _ in
+    omega (arith, many, c.loop-core-test.true)
+
+pub push_reserved-requires-in-loop-core : goal.push_reserved-requires-in-loop-core
+push_reserved-requires-in-loop-core c = omega (arith, c.loop-core.invariant.room, c.loop-core.invariant.seats.count, c.loop-core-test.true)
+
+pub index_mut-requires : goal.index_mut-requires
+index_mut-requires c = omega (arith, c.loop-core.invariant.seats.count, c.loop-core.invariant.seats.some)

@@ -1,6 +1,6 @@
 use Rattle.std.proofs.Common.{rules, ℕ, List, ◌++◌, ◌∷◌, [], Bool, false, get_or, sym, ◌∙◌, ap, arith}
 use Rattle.std.specs.Mem.Slots.{slots_filled, slots_items}
-use Rattle.std.proofs.lemmas.List.{get_or-set_other}
+use Rattle.std.proofs.lemmas.List.{get_or-set_other, take_all}
 use Rattle.shard.specs.Served.{ShardState}
 use Rattle.shard_table.proofs.Making.{emptied, one_taken}
 use Rattle.shard_table.proofs.table.taken_out.Goals as goal
@@ -24,3 +24,6 @@ loop-number-preserved c =
           ap (λ (bs : List Bool). get_or bs k false) others.1
           ∙ (get_or-set_other filled n k false false (λ same. absurd (omega (arith, same, above))) ∙ before.full k (omega (arith, above)) below);
     }
+
+pub returns : goal.returns
+returns c = c.loop-number.invariant.items ∙ take_all c.loop-number.number _ (omega (arith, c.loop-number-test.false))

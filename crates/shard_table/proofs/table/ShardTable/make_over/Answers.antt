@@ -1,5 +1,6 @@
-use Rattle.std.proofs.Common.{rules, ◌≡◌, ◌*◌, ◌+◌, ◌<◌, ℕ, List, ◌++◌, drop, take, length, map, replicate, sym, ◌∙◌, ap, subst, arith}
+use Rattle.std.proofs.Common.{◌≡◌, ◌*◌, ◌+◌, ◌<◌, ℕ, List, ◌++◌, drop, take, length, map, replicate, sym, ◌∙◌, ap, subst, arith}
 use Rattle.std.specs.Prelude.{slice_get, Some}
+use Rattle.std.proofs.lemmas.List.{length-map}
 use Rattle.atomic_table.specs.Table.{opening}
 use Rattle.shard.specs.Served.{ShardState}
 use Rattle.shard_table.specs.Access.{restarted_shards}
@@ -35,14 +36,14 @@ opens values homes words shards cores room some new is home word =
 pub new-requires-2 : goal.new-requires-2
 new-requires-2 c =
     let shards : List ShardState = c.args.shards.items in
-    let homes = whole c.args.shards.len shards c.deref_mut.result.now c.restart_all.new.shards (search rules) c.deref_mut.ensures.value c.restart_all.ensures in
+    let homes = whole c.args.shards.len shards c.deref_mut.result.now c.restart_all.new.shards (omega arith) c.deref_mut.ensures.value c.restart_all.ensures in
     opens c.of.result.value.items _ c.deref-2.result.now shards c.args.cores c.args.room c.requires.cores (new_at shards c.requires.numbers)
     (ap (λ v. v.items) c.of.ensures ∙ homes) homes (c.deref-2.ensures.value ∙ (c.in-Ok.ensures.words ∙ ap (λ (xs : List ShardState). replicate (16 * length xs) 0) c.deref.ensures.value))
 
 pub seats-seats-requires-clause-key : goal.seats-seats-requires-clause-key
 seats-seats-requires-clause-key c =
     let shards : List ShardState = c.args.shards.items in
-    let homes = whole c.args.shards.len shards c.deref_mut.result.now c.restart_all.new.shards (search rules) c.deref_mut.ensures.value c.restart_all.ensures in
+    let homes = whole c.args.shards.len shards c.deref_mut.result.now c.restart_all.new.shards (omega arith) c.deref_mut.ensures.value c.restart_all.ensures in
     let key = c.in-Ok-new.ensures.ok.5 in
     let items : c.in-Ok-new.words.shared.key.shards.value.items ≡ restarted_shards shards = ap (λ k. k.shards.value.items) key ∙ (ap (λ v. v.items) c.of.ensures ∙ homes) in
     (subst AreNew (sym items) (new_at shards c.requires.numbers), ap (λ k. k.cores) key, c.requires.cores)
@@ -50,7 +51,21 @@ seats-seats-requires-clause-key c =
 pub returns-clause-err : goal.returns-clause-err
 returns-clause-err c =
     let shards : List ShardState = c.args.shards.items in
-    let homes = whole c.args.shards.len shards c.deref_mut.result.now c.restart_all.new.shards (search rules) c.deref_mut.ensures.value c.restart_all.ensures in
+    let homes = whole c.args.shards.len shards c.deref_mut.result.now c.restart_all.new.shards (omega arith) c.deref_mut.ensures.value c.restart_all.ensures in
     let slots = c.in-Err.ensures.err in
     c.resume_all.ensures ∙ (ap (λ (p : List ShardState × List ℕ). resumed_all p.0 p.1) (λ i. ((slots ∙ homes) i, (c.in-Ok.ensures.stamps ∙ ap (map (λ (x : ShardState). x.last)) c.deref.ensures.value) i))
     ∙ resumed_again shards)
+
+pub resume_all-requires-clause-stamps : goal.resume_all-requires-clause-stamps
+resume_all-requires-clause-stamps c =
+    let shards : List ShardState = c.args.shards.items in
+    let homes = whole c.args.shards.len shards c.deref_mut.result.now c.restart_all.new.shards (omega arith) c.deref_mut.ensures.value c.restart_all.ensures in
+    let stamps = c.in-Ok.ensures.stamps ∙ ap (map (λ (x : ShardState). x.last)) c.deref.ensures.value in
+    ap length stamps ∙ (length-map shards (λ (x : ShardState). x.last) ∙ sym (ap length (c.in-Err.ensures.err ∙ homes) ∙ restarted_length shards))
+
+pub resume_all-requires-clause-room : goal.resume_all-requires-clause-room
+resume_all-requires-clause-room c =
+    let shards : List ShardState = c.args.shards.items in
+    let homes = whole c.args.shards.len shards c.deref_mut.result.now c.restart_all.new.shards (omega arith) c.deref_mut.ensures.value c.restart_all.ensures in
+    let refused = ap length (c.in-Err.ensures.err ∙ homes) ∙ restarted_length shards in
+    (c.in-Ok.ensures.shards.0, omega (arith, refused, c.in-Ok.ensures.shards.1, ap length c.deref.ensures.value))

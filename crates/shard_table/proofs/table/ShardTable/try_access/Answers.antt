@@ -1,4 +1,4 @@
-use Rattle.std.proofs.Common.{rules, ◌≡◌, ℕ, ◌<◌, List, [], ◌∷◌, ◌++◌, length, refl, sym, ◌∙◌, ap, subst}
+use Rattle.std.proofs.Common.{rules, ◌≡◌, ℕ, ◌<◌, List, [], ◌∷◌, ◌++◌, length, refl, sym, ◌∙◌, ap, subst, arith}
 use Rattle.zs_num.specs.declared.entry.Entry.{Entry}
 use Rattle.access_log.specs.Logs.{LogState}
 use Rattle.shard.specs.Served.{ShardState, shard_after}
@@ -99,3 +99,17 @@ pub returns-clause-found : goal.returns-clause-found
 returns-clause-found c =
     let t = c.take-found.ensures.taken.0 c.if-found-ne0.false in
     ap (λ m. m.0.found) (gave c t) ∙ ap (λ (x : SeatState). x.knows.found) c.seat.view_is
+
+pub returns-then-found-ne0-clause-held : goal.returns-then-found-ne0-clause-held
+returns-then-found-ne0-clause-held c =
+    let refused = c.take-found.ensures.taken.1 c.if-found-ne0.true in
+    let word = ap (λ m. m.0.found.word) refused.0 in
+    rw (← c.seat.view_is) (record {
+      entries = refl;
+      notes = search rules;
+      other = λ same. refused.1 (omega (arith, same, c.if-found-ne0.true));
+      known = omega (arith, refused.2, c.if-found-ne0.true);
+      shard = search rules;
+      word = omega (arith, word, c.if-found-ne0.true);
+      count = search rules;
+    })
