@@ -9,3 +9,6 @@ returns-in-Sc-clause-reply c =
 pub returns-in-Sc-clause-after : goal.returns-in-Sc-clause-after
 returns-in-Sc-clause-after c =
     c.store_conditional.ensures.after c.in-Sc.paired ∙ ap (memory_after c.args.self.now c.args.core) (sym c.in-Sc.is)
+
+pub returns-in-Amo-clause-reply : goal.returns-in-Amo-clause-reply
+returns-in-Amo-clause-reply c = c.number-old.ensures ∙ ap (memory_reply c.args.self.now c.args.core) (sym c.in-Amo.is)
