@@ -1,5 +1,7 @@
 -- The lists that were read, before those that the rest of the file gives.
-use Rattle.std.proofs.Common.{◌≡◌, ℕ, suc, ◌+◌, List, [], ◌∷◌, ◌++◌, length, take, Some, slice_get, unwrap_or, Result, Ok, Err, refl, ap, sym, ◌∙◌, append_assoc, append-nil, add-one, length-append, zero, arith}
+use Rattle.std.proofs.Common.{◌≡◌, ℕ, suc, ◌+◌, ◌<◌, List, [], ◌∷◌, ◌++◌, length, take, get_or, Some, slice_get, unwrap_or, Result, Ok, Err, refl, ap, sym, ◌∙◌, append_assoc, append-nil, add-one, length-append, zero, arith}
+use Rattle.std.proofs.lemmas.Bool.{eq-eqb}
+use Rattle.std.proofs.lemmas.List.{take_more}
 use Rattle.std.proofs.lemmas.Option.{none-some}
 use Rattle.std.proofs.lemmas.Grind.{flat_map-append}
 use Rattle.std.specs.List.{flat_map}
@@ -59,3 +61,19 @@ written_on header out after lists k turns so_far is put =
   where
     flat_map-snoc : (xs : List (List ℕ)) (x : List ℕ) → flat_map list_bytes (xs ++ x ∷ []) ≡ flat_map list_bytes xs ++ list_bytes x
     flat_map-snoc xs x = flat_map-append list_bytes xs (x ∷ []) ∙ ap (λ bytes. flat_map list_bytes xs ++ bytes) (append-nil (list_bytes x))
+
+-- after the last list, at the end of the file
+pub read_all : (cores : ℕ) (bytes : List ℕ) (whole : Result (List (List ℕ)) BadSchedule) (done : List (List ℕ)) (left interval at : ℕ)
+    → whole ≡ behind done (lists_from cores bytes left interval at) → left ≡ 0 → at ≡ length bytes → whole ≡ Ok done
+read_all cores bytes whole done left interval at so_far none end =
+    so_far ∙ rw (none, eq-eqb at (length bytes) end) (ap Ok (append-nil done))
+
+-- ---- one turn more was written
+
+pub put_on : (start number turns old new : List ℕ) (i d : ℕ) → old ≡ start ++ (number ++ take i turns) → i < length turns → new ≡ old ++ get_or turns i d ∷ []
+    → new ≡ start ++ (number ++ take (i + 1) turns)
+put_on start number turns old new i d so_far below pushed =
+    let turn : List ℕ = get_or turns i d ∷ [] in
+    pushed ∙ (ap (λ ns. ns ++ turn) so_far
+    ∙ (append_assoc start (number ++ take i turns) turn
+    ∙ ap (λ ns. start ++ ns) (append_assoc number (take i turns) turn ∙ ap (λ ns. number ++ ns) (sym (take_more turns i d below)))))
