@@ -9,7 +9,7 @@ use Rattle.shard_table.specs.Access.{AreNewSeats, SeatState, TableState}
 use Rattle.bound_core.specs.ShardPort.{AreShardsOf, IsShardAt}
 use Rattle.bound_core.specs.ShardWorld.{restarted}
 use Rattle.bound_core.specs.TimedCore.{NumberedCore, TimedCore, timed_of}
-use Rattle.bound_phase.specs.Bounds.{AreSeated, CanBound, HasConsoleRoom, IsAtStart}
+use Rattle.bound_phase.specs.Bounds.{HaveNewSeats, CanBound, HasConsoleRoom, IsBeforeInterval}
 use Rattle.bound_phase.proofs.Ending.{all_here, made_at}
 use Rattle.bound_phase.proofs.Whole.{agreed_at}
 
@@ -18,7 +18,7 @@ pub written_back : {X : Type 0} (n : ℕ) (new old : List X) → length new ≡ 
 written_back n new old is = ap (λ (k : ℕ). take k (new ++ drop (length new) old)) (sym is) ∙ take-append_seam new (drop (length new) old)
 
 -- room on the console is nothing of a core's state
-moved : (m : Machine) (end : ℕ) (x c : NumberedCore) → c.timed ≡ x.timed → IsAtStart m end x → IsAtStart m end c
+moved : (m : Machine) (end : ℕ) (x c : NumberedCore) → c.timed ≡ x.timed → IsBeforeInterval m end x → IsBeforeInterval m end c
 moved m end x c same start = record {
   idle = ap (λ (t : TimedCore). t.core.instruction) same ∙ start.idle;
   base = ap (λ (t : TimedCore). t.core.memory.base) same ∙ start.base;
@@ -44,14 +44,14 @@ shards_restarted cores base size shards are = record {
 
 pub seated : (m : Machine) (end : ℕ) (t : TableState) (first cores : List NumberedCore) (shards : List ShardState) (seats : List SeatState) → CanBound m end first shards
     → length cores ≡ length first → timed_of cores ≡ timed_of first → map (λ c. c.number) cores ≡ map (λ c. c.number) first → All (HasConsoleRoom (m.interval + 258)) cores
-    → t.cores ≡ m.cores → t.shards ≡ map restarted shards → t.room ≡ m.interval + 258 → AreNewSeats t seats → AreSeated m end t cores seats
+    → t.cores ≡ m.cores → t.shards ≡ map restarted shards → t.room ≡ m.interval + 258 → AreNewSeats t seats → HaveNewSeats m end t cores seats
 seated m end t first cores shards seats can size timed numbers room cores_are shards_are room_is new = record {
   count = size ∙ (can.count ∙ sym cores_are);
   cores_are = cores_are;
   ready = λ number c at.
       let x = agreed_at (λ (y : NumberedCore). y.timed) first cores number c timed at in
       let y = agreed_at (λ (z : NumberedCore). z.number) first cores number c numbers at in (
-        moved m end x.0 c x.2 (all_here (IsAtStart m end) first number x.0 can.at_start x.1),
+        moved m end x.0 c x.2 (all_here (IsBeforeInterval m end) first number x.0 can.at_start x.1),
         all_here (HasConsoleRoom (m.interval + 258)) cores number c room at,
         y.2 ∙ can.numbers number y.0 y.1,
       );

@@ -6,14 +6,14 @@ use Rattle.machine_desc.specs.declared.machine.Machine.{Machine}
 use Rattle.shard_table.specs.Access.{SeatState, TableState}
 use Rattle.bound_core.specs.TimedCore.{NumberedCore}
 use Rattle.bound_phase.specs.declared.crew.Crew.{Crew}
-use Rattle.bound_phase.specs.Bounds.{AreSeated}
+use Rattle.bound_phase.specs.Bounds.{HaveNewSeats}
 use Rattle.bound_phase.specs.Crew.{CanWork}
 use Rattle.bound_phase.specs.Member.{CanRun}
 use Rattle.bound_phase.specs.Shares.{AreInOrder, HaveShares, mates, share_of}
 use Rattle.bound_phase.proofs.Shares.{few_share, is_of, mates_length}
 use Rattle.bound_phase.proofs.Whole.{all_reversed, at_below, can_all, in_order}
 
-module _ (m : Machine) (end : ℕ) (t : TableState) (cores : List NumberedCore) (seats : List SeatState) (small : end ≤ 2 ^ 60) (seated : AreSeated m end t cores seats) where
+module _ (m : Machine) (end : ℕ) (t : TableState) (cores : List NumberedCore) (seats : List SeatState) (small : end ≤ 2 ^ 60) (seated : HaveNewSeats m end t cores seats) where
   pub as_many_seats : length seats ≡ length cores
   as_many_seats = seated.seats_new.0 ∙ sym seated.count
 

@@ -13,7 +13,7 @@ use Rattle.bound_core.specs.ShardPort.{AreShardsOf}
 use Rattle.bound_core.specs.TimedCore.{NumberedCore}
 use Rattle.bound_phase.specs.declared.crew.Crew.{Crew}
 use Rattle.bound_phase.specs.declared.member.Member.{Member}
-use Rattle.bound_phase.specs.Bounds.{HasConsoleRoom, IsAtStart}
+use Rattle.bound_phase.specs.Bounds.{HasConsoleRoom, IsBeforeInterval}
 use Rattle.bound_phase.specs.Crew.{HasWorked, HaveRun}
 use Rattle.bound_phase.specs.Member.{CanRun, HasRun}
 use Rattle.bound_phase.specs.Shares.{AreInOrder, HaveShares, HaveSizes, SharesHaveRun, mates, share_of, size_of_share}
@@ -48,7 +48,7 @@ module _ (m : Machine) (end : ℕ) (t : TableState) (shards : AreShardsOf t.core
 
   -- a core that can run, but for its seat
   abbrev Ready : NumberedCore → ℕ → Type 0
-  Ready c number = IsAtStart m end c × HasConsoleRoom (m.interval + 258) c × (c.number ≡ number) × (number < t.cores)
+  Ready c number = IsBeforeInterval m end c × HasConsoleRoom (m.interval + 258) c × (c.number ≡ number) × (number < t.cores)
 
   pub can_all : (base : ℕ) (cores : List NumberedCore) (seats : List SeatState) → ((i : ℕ) (c : NumberedCore) → slice_get cores i ≡ Some c → Ready c (base + i))
       → ((i : ℕ) (s : SeatState) → slice_get seats i ≡ Some s → IsSeatOf t s × (s.core ≡ base + i) × (s.entries ≡ [])) → All Can (mates cores seats)
@@ -58,7 +58,7 @@ module _ (m : Machine) (end : ℕ) (t : TableState) (shards : AreShardsOf t.core
       let shift : (k : ℕ) → base + suc k ≡ (base + 1) + k = λ k. omega arith in
       let one = ready 0 c refl in
       let seat = new 0 s refl in
-      let start : IsAtStart m end c = one.0 in
+      let start : IsBeforeInterval m end c = one.0 in
       let spare : m.interval + 258 ≤ c.spare = one.1 in
       All-cons Can (record { core = c; seat = s }) (mates cores seats) (record {
         of_table = seat.0;

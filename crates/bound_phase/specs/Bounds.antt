@@ -15,7 +15,7 @@ use Rattle.bound_core.specs.Turn.{IsOver}
 
 -- A core of this machine between two instructions. Unless it has halted, the interval that ends at `end` is one of the
 -- machine's length at most from its clock.
-pub record IsAtStart (m : Machine) (end : ℕ) (c : NumberedCore) : Type 0 where
+pub record IsBeforeInterval (m : Machine) (end : ℕ) (c : NumberedCore) : Type 0 where
   pub idle : c.timed.core.instruction ≡ None
   pub base : c.timed.core.memory.base ≡ m.memory.base
   pub size : c.timed.core.memory.size ≡ m.memory.size
@@ -26,7 +26,7 @@ pub record IsAtStart (m : Machine) (end : ℕ) (c : NumberedCore) : Type 0 where
 pub record CanBound (m : Machine) (end : ℕ) (cores : List NumberedCore) (shards : List ShardState) : Type 0 where
   pub count : length cores ≡ m.cores
   pub numbers : (number : ℕ) (c : NumberedCore) → slice_get cores number ≡ Some c → c.number ≡ number
-  pub at_start : All (IsAtStart m end) cores
+  pub at_start : All (IsBeforeInterval m end) cores
   pub shards_are : AreShardsOf m.cores shards m.memory.base m.memory.size
   pub banks : length shards ≡ m.l2.banks
 
@@ -55,10 +55,10 @@ abbrev pub HasConsoleRoom : ℕ → NumberedCore → Type 0
 HasConsoleRoom room c = room ≤ c.spare
 
 -- the cores have room for what they write, and new seats at a table of the machine's shards
-pub record AreSeated (m : Machine) (end : ℕ) (t : TableState) (cores : List NumberedCore) (seats : List SeatState) : Type 0 where
+pub record HaveNewSeats (m : Machine) (end : ℕ) (t : TableState) (cores : List NumberedCore) (seats : List SeatState) : Type 0 where
   pub count : length cores ≡ t.cores
   pub cores_are : t.cores ≡ m.cores
-  pub ready : (number : ℕ) (c : NumberedCore) → slice_get cores number ≡ Some c → IsAtStart m end c × HasConsoleRoom (m.interval + 258) c × (c.number ≡ number)
+  pub ready : (number : ℕ) (c : NumberedCore) → slice_get cores number ≡ Some c → IsBeforeInterval m end c × HasConsoleRoom (m.interval + 258) c × (c.number ≡ number)
   pub seats_new : AreNewSeats t seats
   pub shards : AreShardsOf t.cores t.shards m.memory.base m.memory.size
   pub room : t.room ≡ m.interval + 258

@@ -1,7 +1,7 @@
 //! The bound phase of an interval.
 ghost use Rattle.std.specs.Prelude.{◌≡◌, ◌<◌, ◌≤◌, ◌+◌, ◌^◌, ◌*◌, [], All, length, map, vec_capacity, IfOk, IfErr, OnOk};
 ghost use Rattle.machine_desc.specs.Machine.{IsMachine};
-ghost use Rattle.bound_phase.specs.Bounds.{AreSeated, CanBound, HasConsoleRoom, HaveEnded, IsBound};
+ghost use Rattle.bound_phase.specs.Bounds.{HaveNewSeats, CanBound, HasConsoleRoom, HaveEnded, IsBound};
 ghost use Rattle.bound_phase.specs.Shares.{AreEmpty, HaveReturned, mates};
 
 use crate::crew::{Crew, work_all};
@@ -190,7 +190,7 @@ fn run_crews<R: Threads + Wait + Sync, G: Gate, P: Program + Sync, X: Expand + S
 )
     requires machine { IsMachine machine.now }
     requires end { end ≤ 2 ^ 60 }
-    requires hired { AreSeated machine.now end table.now cores.items seats.items }
+    requires hired { HaveNewSeats machine.now end table.now cores.items seats.items }
     requires crews { (0 < length crews.old) × (length crews.old ≤ 64) × All (AreEmpty machine.now.cores) crews.old }
     requires back { (back.old.items ≡ []) × (machine.now.cores ≤ vec_capacity back.old) }
     requires seats_back { (seats_back.old.items ≡ []) × (machine.now.cores ≤ vec_capacity seats_back.old) }

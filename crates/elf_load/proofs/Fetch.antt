@@ -3,7 +3,7 @@ use Rattle.std.proofs.Common.{◌≡◌, ℕ, zero, suc, ◌+◌, ◌<◌, ◌�
 use Rattle.std.specs.List.{list_any}
 use Rattle.std.proofs.lemmas.Bool.{and_parts, leb-true, lt-ltb, not-true, both_ways, cond-false, cond-true, false_from_ne_true}
 use Rattle.elf_load.specs.declared.segment.Segment.{Segment}
-use Rattle.elf_load.specs.MemoryImage.{covers, word_in, fetched, do_overlap, are_apart}
+use Rattle.elf_load.specs.MemoryImage.{covers, word_in, fetched_word, do_overlap, are_apart}
 use Rattle.elf_load.proofs.Lists.{passed_over}
 
 -- two segments that have four bytes overlap
@@ -17,7 +17,7 @@ covers-overlap s t pc h k =
     lt-ltb _ _ (omega arith)
 
 -- the segment at a place has the word, so it is the one that is fetched
-fetched-at : (ss : List Segment) (pc k : ℕ) (d : Segment) → are_apart ss ≡ true → k < length ss → ((get_or ss k d).exec && covers (get_or ss k d) pc 4) ≡ true → fetched ss pc ≡ Some (word_in (get_or ss k d) pc)
+fetched-at : (ss : List Segment) (pc k : ℕ) (d : Segment) → are_apart ss ≡ true → k < length ss → ((get_or ss k d).exec && covers (get_or ss k d) pc 4) ≡ true → fetched_word ss pc ≡ Some (word_in (get_or ss k d) pc)
 fetched-at [] pc k d a l h = absurd (omega arith)
 fetched-at (s ∷ ss) pc zero d a l h = cond-true _ _ _ h
 fetched-at (s ∷ ss) pc (suc k) d a l h =
@@ -29,7 +29,7 @@ fetched-at (s ∷ ss) pc (suc k) d a l h =
     false_from_ne_true _ (λ e. both_ways _ never (covers-overlap s (get_or ss k d) pc (and_parts _ _ e).1 (and_parts _ _ h).1)) in
     cond-false _ _ _ miss ∙ fetched-at ss pc k d apart.1 below h
 
-pub fetched_near : (ss : List Segment) (pc k : ℕ) (s : Segment) → are_apart ss ≡ true → k < length ss → s ≡ get_or ss k s → (s.exec && covers s pc 4) ≡ true → fetched ss pc ≡ Some (word_in s pc)
+pub fetched_near : (ss : List Segment) (pc k : ℕ) (s : Segment) → are_apart ss ≡ true → k < length ss → s ≡ get_or ss k s → (s.exec && covers s pc 4) ≡ true → fetched_word ss pc ≡ Some (word_in s pc)
 fetched_near ss pc k s a l e h =
     let hit = subst (λ t. (t.exec && covers t pc 4) ≡ true) e h in
     fetched-at ss pc k s a l hit ∙ ap (λ t. Some (word_in t pc)) (sym e)

@@ -6,7 +6,7 @@ use Rattle.elf_load.specs.declared.header.Header.{Header}
 use Rattle.elf_load.specs.declared.header.ProgramHeader.{ProgramHeader}
 use Rattle.elf_load.specs.Checks.{is_loaded, is_past_file, is_past_memory, overlaps, is_entered, first_pair}
 use Rattle.elf_load.specs.Image.{segment_of, segments_of, image_in}
-use Rattle.elf_load.specs.MemoryImage.{IsSoundImage, is_within, is_placed, do_overlap, are_apart, covers, fetched}
+use Rattle.elf_load.specs.MemoryImage.{IsSoundImage, is_within, is_placed, do_overlap, are_apart, covers, fetched_word}
 use Rattle.elf_load.proofs.Lists.{position-None, option_or-None, option_map-None}
 use Rattle.elf_load.proofs.Refusals.{Passes}
 
@@ -80,7 +80,7 @@ enters file entry p h =
     let front = and_parts _ _ parts.0 in
     (front.0, and_from _ _ front.1 parts.1)
 
-some_enters : (file : List ℕ) (entry : ℕ) (ps : List ProgramHeader) → list_any (is_entered entry) ps ≡ true → IsSome (fetched (segments_of file ps) entry)
+some_enters : (file : List ℕ) (entry : ℕ) (ps : List ProgramHeader) → list_any (is_entered entry) ps ≡ true → IsSome (fetched_word (segments_of file ps) entry)
 some_enters file entry [] h = cc
 some_enters file entry (p ∷ ps) h =
     elim (or_cases _ _ h) [

@@ -2,7 +2,7 @@
 use Rattle.std.specs.Prelude.{◌≡◌, ℕ, ◌+◌, ◌≤◌, ◌<◌, ◌⊎◌, Bool, true, false, List, length, get_or}
 
 -- x lies among `count` numbers from `start` on
-pub record IsAmong (start count x : ℕ) : Type 0 where
+pub record LiesIn (start count x : ℕ) : Type 0 where
   pub begins : start ≤ x
   pub ends : x < start + count
 

@@ -30,10 +30,10 @@ abbrev pub word_in : Segment → ℕ → ℕ
 word_in segment pc = little_from (pc - segment.vaddr) 4 segment.bytes
 
 -- the word that is fetched at pc: None where its four bytes are not in one executable segment
-abbrev pub fetched : List Segment → ℕ → Option ℕ
-fetched [] pc = None
-fetched (segment ∷ segments) pc =
-    if segment.exec && covers segment pc 4 then Some (word_in segment pc) else fetched segments pc
+abbrev pub fetched_word : List Segment → ℕ → Option ℕ
+fetched_word [] pc = None
+fetched_word (segment ∷ segments) pc =
+    if segment.exec && covers segment pc 4 then Some (word_in segment pc) else fetched_word segments pc
 
 -- the byte at an address: 0 outside the segments and past the bytes that the file has of a segment
 abbrev pub byte_at : List Segment → ℕ → ℕ
@@ -68,4 +68,4 @@ pub record IsSoundImage (image : MemoryImage) : Type 0 where
   pub placed : IsTrue (list_all (is_placed image.base image.size) image.segments)
   pub apart : IsTrue (are_apart image.segments)
   pub aligned : image.entry % 4 ≡ 0
-  pub entered : IsSome (fetched image.segments image.entry)
+  pub entered : IsSome (fetched_word image.segments image.entry)

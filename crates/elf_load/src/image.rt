@@ -1,7 +1,7 @@
 //! What memory holds when an executable was loaded.
 ghost use Rattle.std.specs.Prelude.{◌≡◌, ◌≤◌, ◌<◌, ◌+◌, ◌&&◌, ℕ, length, slice_index, IsTrue};
 ghost use Rattle.elf_load.specs.Copying.{byte_over};
-ghost use Rattle.elf_load.specs.MemoryImage.{byte_at, bytes_from, covers, fetched, word_in, IsSoundImage};
+ghost use Rattle.elf_load.specs.MemoryImage.{byte_at, bytes_from, covers, fetched_word, word_in, IsSoundImage};
 
 use crate::Segment;
 use crate::range::is_within;
@@ -112,7 +112,7 @@ impl Image {
 
     /// The word at an address, or None where its four bytes are not in one executable segment.
     pub fn word(&self, pc: u64) -> Option<u32>
-        ensures { result ≡ fetched self.now.segments pc }
+        ensures { result ≡ fetched_word self.now.segments pc }
     {
         for segment in &self.segments {
             if has_word(segment, pc) {
@@ -125,7 +125,7 @@ impl Image {
     /// The word at an address, as `word` gives it. `near` is the place of the segment that answered
     /// last, or any other number, and is looked at first.
     pub fn word_near(&self, near: &mut usize, pc: u64) -> Option<u32>
-        ensures { result ≡ fetched self.now.segments pc }
+        ensures { result ≡ fetched_word self.now.segments pc }
     {
         if let Some(segment) = self.segments.get(*near) {
             if has_word(segment, pc) {

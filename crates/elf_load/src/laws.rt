@@ -3,15 +3,15 @@
 ghost use Rattle.std.specs.Prelude.{◌≡◌, ◌↔◌, ◌+◌, ◌^◌, ◌≤◌, ℕ, true, List, Ok, Some};
 ghost use Rattle.elf_load.specs.Checks.{overlap_refusal, overlaps};
 ghost use Rattle.elf_load.specs.Image.{image_of};
-ghost use Rattle.elf_load.specs.Meaning.{IsAmong, IsLeastPair};
+ghost use Rattle.elf_load.specs.Meaning.{LiesIn, IsLeastPair};
 ghost use Rattle.elf_load.specs.MemoryImage.{do_meet, IsSoundImage, MemoryImage};
 ghost use Rattle.elf_load.specs.declared.bad_elf.BadElf.TheVariants as bad;
 ghost use Rattle.elf_load.specs.declared.header.ProgramHeader.{ProgramHeader};
 
 /// Two ranges meet exactly where they have a number in common.
-pub fn ranges()
+pub fn meeting_ranges()
     ensures { (first count second others : ℕ) → (do_meet first count second others ≡ true)
-        ↔ ((x : ℕ) × IsAmong first count x × IsAmong second others x) }
+        ↔ ((x : ℕ) × LiesIn first count x × LiesIn second others x) }
 {}
 
 /// The segments that a refusal names are the least pair that have an address in common.

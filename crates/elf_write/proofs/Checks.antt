@@ -9,7 +9,7 @@ use Rattle.elf_load.specs.declared.header.ProgramHeader.{ProgramHeader}
 use Rattle.elf_load.specs.declared.segment.Segment.{Segment}
 use Rattle.elf_load.specs.Checks.{is_loaded, is_executable, is_dynamic, is_past_file, is_past_memory, overlaps, is_entered, first_pair, file_refusal, memory_refusal, overlap_refusal, segment_refusal}
 use Rattle.elf_load.specs.Image.{segment_of, segments_of}
-use Rattle.elf_load.specs.MemoryImage.{is_placed, do_overlap, are_apart, covers, fetched}
+use Rattle.elf_load.specs.MemoryImage.{is_placed, do_overlap, are_apart, covers, fetched_word}
 use Rattle.elf_write.specs.File.{contents, permissions}
 use Rattle.elf_write.proofs.Written.{written_program_header}
 use Rattle.elf_write.proofs.Table.{place_of, written_table}
@@ -76,7 +76,7 @@ no_pair_overlaps (segment ∷ segments) offset i h =
     let later = no_pair_overlaps segments (offset + length segment.bytes) (i + 1) parts.1 in
     rw (none, later) refl
 
-enters : (segments : List Segment) (offset entry base size : ℕ) → list_all (is_placed base size) segments ≡ true → IsSome (fetched segments entry) → list_any (is_entered entry) (written_table segments offset) ≡ true
+enters : (segments : List Segment) (offset entry base size : ℕ) → list_all (is_placed base size) segments ≡ true → IsSome (fetched_word segments entry) → list_any (is_entered entry) (written_table segments offset) ≡ true
 unfolding is_entered
 enters [] offset entry base size placed h = cc
 enters (segment ∷ segments) offset entry base size placed h =
@@ -93,7 +93,7 @@ no_refusal : (ps : List ProgramHeader) (entry len base size : ℕ) → list_any 
 unfolding segment_refusal file_refusal memory_refusal overlap_refusal
 no_refusal ps entry len base size dynamic file memory apart aligned entered = rw (dynamic, file, memory, apart, aligned, entered) refl
 
-pub segment_refusal-written : (segments : List Segment) (offset entry len base size : ℕ) → offset + length (contents segments) ≤ len → list_all (is_placed base size) segments ≡ true → are_apart segments ≡ true → entry % 4 ≡ 0 → IsSome (fetched segments entry) → segment_refusal (written_table segments offset) entry len base size ≡ None
+pub segment_refusal-written : (segments : List Segment) (offset entry len base size : ℕ) → offset + length (contents segments) ≤ len → list_all (is_placed base size) segments ≡ true → are_apart segments ≡ true → entry % 4 ≡ 0 → IsSome (fetched_word segments entry) → segment_refusal (written_table segments offset) entry len base size ≡ None
 segment_refusal-written segments offset entry len base size fits placed apart aligned entered =
     let ps = written_table segments offset in
     no_refusal ps entry len base size (none_dynamic segments offset)

@@ -7,7 +7,7 @@ use Rattle.elf_load.specs.declared.segment.Segment.{Segment}
 use Rattle.elf_load.specs.Checks.{has_table, header_refusal, segment_refusal}
 use Rattle.elf_load.specs.Header.{header_of, program_headers}
 use Rattle.elf_load.specs.Image.{image_of, image_in, elf_refusal, segments_of}
-use Rattle.elf_load.specs.MemoryImage.{MemoryImage, IsSoundImage, is_placed, fetched, covers}
+use Rattle.elf_load.specs.MemoryImage.{MemoryImage, IsSoundImage, is_placed, fetched_word, covers}
 use Rattle.elf_load.specs.declared.header.Header.{Header}
 use Rattle.elf_load.specs.declared.header.ProgramHeader.{ProgramHeader}
 use Rattle.elf_write.specs.File.{fields_bytes, header_fields, table_bytes, contents, executable_of}
@@ -25,7 +25,7 @@ unfolding header_refusal
 header_refusal-written entry count len few fits = rw (has_table-written entry count len few fits) refl
 
 -- the entry is the address of an instruction in memory
-entry_fits : (segments : List Segment) (entry base size : ℕ) → base + size ≤ 2 ^ 48 → list_all (is_placed base size) segments ≡ true → IsSome (fetched segments entry) → entry < 2 ^ 64
+entry_fits : (segments : List Segment) (entry base size : ℕ) → base + size ≤ 2 ^ 48 → list_all (is_placed base size) segments ≡ true → IsSome (fetched_word segments entry) → entry < 2 ^ 64
 entry_fits [] entry base size reach placed h = cc
 entry_fits (segment ∷ segments) entry base size reach placed h =
     let parts = and_parts _ _ placed in

@@ -8,7 +8,7 @@ use Rattle.machine_desc.specs.declared.machine.Controllers.{Controllers}
 use Rattle.zs_num.specs.declared.entry.Entry.{Entry}
 use Rattle.zs_num.specs.declared.entry.Outcome.{Outcome}
 use Rattle.zs_num.specs.declared.entry.Outcome.TheVariants.{Hit, Upgrade, L2 as FoundInL2, Miss}
-use Rattle.event_graph.specs.Timing.{pieces_by, pieces_of, bank_component, controller_of}
+use Rattle.event_graph.specs.Timing.{pieces_by, pieces_of, bank_component, controller_component}
 
 module _ (l1 : L1) (l2 : L2) (controllers : Controllers) where
   few_by : (bank controller : ℕ) (o : Outcome) → length (pieces_by l1 l2 controllers bank controller o) ≤ 4
@@ -19,7 +19,7 @@ module _ (l1 : L1) (l2 : L2) (controllers : Controllers) where
   few_by bank controller (Miss true) = omega arith
 
   few_of : (e : Entry) → length (pieces_of l1 l2 controllers e) ≤ 4
-  few_of e = few_by (bank_component l2 e) (controller_of l2 controllers e) e.outcome
+  few_of e = few_by (bank_component l2 e) (controller_component l2 controllers e) e.outcome
 
   pub plain_few : (entries : List Entry) → sum_by (λ e. length (pieces_of l1 l2 controllers e)) entries ≤ 4 * length entries
   plain_few entries =

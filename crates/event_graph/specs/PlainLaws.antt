@@ -11,7 +11,7 @@ use Rattle.zs_num.specs.declared.entry.Outcome.{Outcome}
 use Rattle.zs_num.specs.declared.entry.Outcome.TheVariants.{Hit, Upgrade, L2 as FoundInL2, Miss}
 use Rattle.event_graph.specs.declared.piece.Piece.{Piece}
 use Rattle.event_graph.specs.Expansion.{ParentsComeBefore, OnlyFirstStartsAlone, ParentsFinishBefore, EndsAt, AreTold}
-use Rattle.event_graph.specs.Timing.{time_by, pieces_by, pieces_of, bank_component, controller_of, look_up, read, write, fill, is_bank, is_controller, floor_told}
+use Rattle.event_graph.specs.Timing.{time_by, pieces_by, pieces_of, bank_component, controller_component, look_up, read, write, fill, is_bank, is_controller, floor_told}
 
 module _ (l1 : L1) (l2 : L2) (controllers : Controllers) (ok1 : IsL1 l2.banks l1) (ok2 : IsL2 l2) (ok : IsControllers controllers) where
   pub plain_time_at_least_one : (o : Outcome) → 1 ≤ time_by l1 l2 controllers o
@@ -195,12 +195,12 @@ module _ (l2 : L2) (controllers : Controllers) (ok2 : IsL2 l2) (ok : IsControlle
   bank_is_there : is_bank l2 (bank_component l2 e) ≡ true
   bank_is_there = lt-ltb _ _ (omega (arith, ok2.banks.0))
 
-  controller_is_there : is_controller l2 controllers (controller_of l2 controllers e) ≡ true
+  controller_is_there : is_controller l2 controllers (controller_component l2 controllers e) ≡ true
   controller_is_there =
-      let from : l2.banks ≤ controller_of l2 controllers e = omega arith in
-      let below : controller_of l2 controllers e < l2.banks + controllers.count = omega (arith, ok.count.0) in
+      let from : l2.banks ≤ controller_component l2 controllers e = omega arith in
+      let below : controller_component l2 controllers e < l2.banks + controllers.count = omega (arith, ok.count.0) in
       and_from _ _ (le-leb _ _ from) (lt-ltb _ _ below)
 
 pub plain_floors_told : (l1 : L1) (l2 : L2) (controllers : Controllers) → IsL2 l2 → IsControllers controllers → (e : Entry) → AreTold (floor_told l2 controllers) (pieces_of l1 l2 controllers e)
 plain_floors_told l1 l2 controllers ok2 ok e =
-    told_by l1 l2 controllers (bank_component l2 e) (controller_of l2 controllers e) (bank_is_there l2 controllers ok2 ok e) (controller_is_there l2 controllers ok2 ok e) e.outcome
+    told_by l1 l2 controllers (bank_component l2 e) (controller_component l2 controllers e) (bank_is_there l2 controllers ok2 ok e) (controller_is_there l2 controllers ok2 ok e) e.outcome

@@ -31,8 +31,8 @@ time_by l1 l2 controllers (Miss dirty) = l1.latency + l2.latency + memory_time c
 abbrev pub bank_component : L2 → Entry → ℕ
 bank_component l2 e = bank_of l2.banks e.request
 
-abbrev pub controller_of : L2 → Controllers → Entry → ℕ
-controller_of l2 controllers e = l2.banks + bank_component l2 e % controllers.count
+abbrev pub controller_component : L2 → Controllers → Entry → ℕ
+controller_component l2 controllers e = l2.banks + bank_component l2 e % controllers.count
 
 -- the events: a look-up; on a miss a read, and beside it a write where a line is written back; and
 -- then a fill, which waits for both
@@ -85,7 +85,7 @@ module _ (l1 : L1) (l2 : L2) (controllers : Controllers) (bank controller : ℕ)
   pieces_by (Miss true) = look_up false ∷ read ∷ write ∷ fill true ∷ []
 
 abbrev pub pieces_of : L1 → L2 → Controllers → Entry → List Piece
-pieces_of l1 l2 controllers e = pieces_by l1 l2 controllers (bank_component l2 e) (controller_of l2 controllers e) e.outcome
+pieces_of l1 l2 controllers e = pieces_by l1 l2 controllers (bank_component l2 e) (controller_component l2 controllers e) e.outcome
 
 -- whether a component is a bank, or a controller
 abbrev pub is_bank : L2 → (component : ℕ) → Bool

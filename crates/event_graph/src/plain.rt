@@ -21,7 +21,7 @@ pub struct Plain {
 impl Plain {
     ghost use Rattle.std.specs.Prelude.{◌≡◌, ◌<◌};
     ghost use Rattle.machine_desc.specs.Machine.{IsMachine};
-    ghost use Rattle.event_graph.specs.Timing.{bank_component, controller_of, memory_time, look_up, read, write, fill};
+    ghost use Rattle.event_graph.specs.Timing.{bank_component, controller_component, memory_time, look_up, read, write, fill};
 
     /// The expansion of this machine.
     pub fn of(m: &Machine) -> Plain
@@ -46,14 +46,14 @@ impl Plain {
 
     /// The controller behind the bank of an access.
     fn controller(&self, e: &Entry) -> u16
-        ensures { result ≡ controller_of self.now.l2 self.now.controllers e.now }
+        ensures { result ≡ controller_component self.now.l2 self.now.controllers e.now }
     {
         let number = remainder(u64::from(self.bank(e)), u64::from(self.controllers.count));
         self.l2.banks + number as u16
     }
 
     fn look_up(&self, e: &Entry, others: bool) -> Piece
-        ensures { result ≡ look_up self.now.l1 self.now.l2 self.now.controllers (bank_component self.now.l2 e.now) (controller_of self.now.l2 self.now.controllers e.now) others }
+        ensures { result ≡ look_up self.now.l1 self.now.l2 self.now.controllers (bank_component self.now.l2 e.now) (controller_component self.now.l2 self.now.controllers e.now) others }
     {
         let latency = u64::from(self.l2.latency);
         Piece {
@@ -71,7 +71,7 @@ impl Plain {
     }
 
     fn read(&self, e: &Entry) -> Piece
-        ensures { result ≡ read self.now.l1 self.now.l2 self.now.controllers (bank_component self.now.l2 e.now) (controller_of self.now.l2 self.now.controllers e.now) }
+        ensures { result ≡ read self.now.l1 self.now.l2 self.now.controllers (bank_component self.now.l2 e.now) (controller_component self.now.l2 self.now.controllers e.now) }
     {
         Piece {
             component: self.controller(e),
@@ -84,7 +84,7 @@ impl Plain {
     }
 
     fn write(&self, e: &Entry) -> Piece
-        ensures { result ≡ write self.now.l1 self.now.l2 self.now.controllers (bank_component self.now.l2 e.now) (controller_of self.now.l2 self.now.controllers e.now) }
+        ensures { result ≡ write self.now.l1 self.now.l2 self.now.controllers (bank_component self.now.l2 e.now) (controller_component self.now.l2 self.now.controllers e.now) }
     {
         Piece {
             component: self.controller(e),
@@ -108,7 +108,7 @@ impl Plain {
     }
 
     fn fill(&self, e: &Entry, dirty: bool) -> Piece
-        ensures { result ≡ fill self.now.l1 self.now.l2 self.now.controllers (bank_component self.now.l2 e.now) (controller_of self.now.l2 self.now.controllers e.now) dirty }
+        ensures { result ≡ fill self.now.l1 self.now.l2 self.now.controllers (bank_component self.now.l2 e.now) (controller_component self.now.l2 self.now.controllers e.now) dirty }
     {
         Piece {
             component: self.bank(e),
@@ -126,7 +126,7 @@ impl Plain {
 impl Expand for Plain {
     ghost use Rattle.event_graph.specs.Timing.{pieces_of, time_by, floor_told};
     ghost use Rattle.event_graph.specs.PlainLaws.{plain_time_at_least_one, plain_time_small, plain_parents_come_before, plain_only_first_starts_alone, plain_parents_finish_before, plain_ends_with_access, plain_floors_told};
-    ghost use Rattle.event_graph.specs.Timing.{bank_component, controller_of};
+    ghost use Rattle.event_graph.specs.Timing.{bank_component, controller_component};
 
     ghost pieces = { λ x e. pieces_of x.l1 x.l2 x.controllers e };
 
@@ -176,13 +176,13 @@ impl Expand for Plain {
 
     ghost time_small = { λ x e. plain_time_small x.l1 x.l2 x.controllers x.l1_in_range x.l2_in_range x.controllers_in_range e.outcome };
 
-    ghost parents_come_before = { λ x e. plain_parents_come_before x.l1 x.l2 x.controllers (bank_component x.l2 e) (controller_of x.l2 x.controllers e) e.outcome };
+    ghost parents_come_before = { λ x e. plain_parents_come_before x.l1 x.l2 x.controllers (bank_component x.l2 e) (controller_component x.l2 x.controllers e) e.outcome };
 
-    ghost only_first_starts_alone = { λ x e. plain_only_first_starts_alone x.l1 x.l2 x.controllers (bank_component x.l2 e) (controller_of x.l2 x.controllers e) e.outcome };
+    ghost only_first_starts_alone = { λ x e. plain_only_first_starts_alone x.l1 x.l2 x.controllers (bank_component x.l2 e) (controller_component x.l2 x.controllers e) e.outcome };
 
-    ghost parents_finish_before = { λ x e. plain_parents_finish_before x.l1 x.l2 x.controllers (bank_component x.l2 e) (controller_of x.l2 x.controllers e) e.outcome };
+    ghost parents_finish_before = { λ x e. plain_parents_finish_before x.l1 x.l2 x.controllers (bank_component x.l2 e) (controller_component x.l2 x.controllers e) e.outcome };
 
-    ghost ends_with_access = { λ x e. plain_ends_with_access x.l1 x.l2 x.controllers (bank_component x.l2 e) (controller_of x.l2 x.controllers e) e.outcome };
+    ghost ends_with_access = { λ x e. plain_ends_with_access x.l1 x.l2 x.controllers (bank_component x.l2 e) (controller_component x.l2 x.controllers e) e.outcome };
 
     ghost floors_told = { λ x e. plain_floors_told x.l1 x.l2 x.controllers x.l2_in_range x.controllers_in_range e };
 }

@@ -17,7 +17,7 @@ use Rattle.bound_core.specs.Turn.{IsOver}
 use Rattle.bound_core.proofs.Lists.{map_again}
 use Rattle.bound_core.proofs.ShardPorts.{own_memory, shards_restarted}
 use Rattle.bound_core.proofs.ShardsStay.{shards_after}
-use Rattle.bound_phase.specs.Bounds.{CanBound, HaveEnded, IsAtStart, IsBound}
+use Rattle.bound_phase.specs.Bounds.{CanBound, HaveEnded, IsBeforeInterval, IsBound}
 use Rattle.bound_phase.proofs.Ending.{all_at}
 use Rattle.bound_phase.proofs.Whole.{agreed_at}
 use Rattle.replay.specs.declared.simulation.Simulation.{Simulation}
@@ -39,7 +39,7 @@ module _ (machine : Machine) (end : ℕ) (p : Simulation) (room : HasRoomForInte
   memory_is : (base_in was ≡ machine.memory.base) × (size_in was ≡ machine.memory.size)
   memory_is = own_memory machine.cores machine.memory.base machine.memory.size was were
 
-  starts_at : (c : NumberedCore) → CanRunInterval machine end (base_in was) (size_in was) c.timed → IsAtStart machine end c
+  starts_at : (c : NumberedCore) → CanRunInterval machine end (base_in was) (size_in was) c.timed → IsBeforeInterval machine end c
   starts_at c ready = record {
     idle = ready.idle;
     base = ready.base_is ∙ memory_is.0;
@@ -52,7 +52,7 @@ module _ (machine : Machine) (end : ℕ) (p : Simulation) (room : HasRoomForInte
   can_bound = record {
     count = room.count;
     numbers = room.numbered;
-    at_start = all_at (IsAtStart machine end) p.cores.items (λ i c here. starts_at c (room.ready i c here));
+    at_start = all_at (IsBeforeInterval machine end) p.cores.items (λ i c here. starts_at c (room.ready i c here));
     shards_are = room.shards;
     banks = room.banks;
   }

@@ -12,7 +12,7 @@ use Rattle.event_graph.specs.OneListWeave.{comps_after, fired_of, woven}
 use Rattle.replay.specs.declared.simulation.Simulation.{Simulation}
 use Rattle.replay.specs.IntervalWeave.{AreEventsOf}
 use Rattle.replay.specs.ReferenceRun.{RunState}
-use Rattle.replay.specs.Simulation.{GoesOn, HasFired, IsBoundPhase}
+use Rattle.replay.specs.Simulation.{HasNextInterval, HasFired, IsBoundPhase}
 
 -- the bound phase leaves the components as they were, so it is one for other components too
 pub other_comps : (machine : Machine) (image : MemoryImage) (end : ℕ) (before : Simulation) (turns : List ℕ) (p : Simulation) (entries : List Entry) (comps : List Comp)
@@ -35,7 +35,7 @@ other_comps machine image end before turns p entries comps b = record {
 
 -- the events of the bound phase's accesses have fired
 pub has_fired : (machine : Machine) (image : MemoryImage) (end : ℕ) (s : RunState) (turns : List ℕ) (before p : Simulation) (entries : List Entry) (graph : List Event) (fired : List Fired) (after : List Comp)
-    → GoesOn machine end s before → IsBoundPhase machine image end before turns p entries → p.comps ≡ before.comps → p.counters ≡ before.counters
+    → HasNextInterval machine end s before → IsBoundPhase machine image end before turns p entries → p.comps ≡ before.comps → p.counters ≡ before.counters
     → AreComponents machine before.comps → AreEventsOf machine p.comps entries graph → fired ≡ map fired_of (woven comp_step graph p.comps) → after ≡ comps_after comp_step graph p.comps
     → HasFired machine image s turns (record p { comps = after }) entries graph fired
 has_fired machine image end s turns before p entries graph fired after goes bounded same counters are events fired_are after_are = record {

@@ -19,7 +19,7 @@ use Rattle.bound_core.specs.TimedCore.{TimedCore, asks, first_core, ran_to}
 use Rattle.access_log.specs.RecordedOrder.{recorded_order}
 use Rattle.bound_phase.proofs.RecordedOrder.{length_recorded}
 use Rattle.replay.specs.Laws.{FitsRun}
-use Rattle.replay.specs.ReferenceRun.{Illegal, RunState, after_interval, after_intervals, after_weave, begun_interval, continued, end_of, first_state, has_ended, next_place, reference_run, results_at, results_of, time_of, woven_after, woven_interval}
+use Rattle.replay.specs.ReferenceRun.{Illegal, RunState, after_interval, after_intervals, after_weave, begun_interval, continued, end_of, first_state, has_ended, next_place, reference_run, results_at, run_results, time_of, woven_after, woven_interval}
 use Rattle.replay.specs.Results.{Results}
 use Rattle.replay.proofs.Cores.{delayed_many}
 use Rattle.replay.proofs.NextInterval.{goes_on}
@@ -173,7 +173,7 @@ results_from : (machine : Machine) (o : Result RunState Illegal) (results : Resu
 results_from machine (Err illegal) results e = cc
 results_from machine (Ok t) results e = (t, refl, e)
 
-results_where : (machine : Machine) (t : RunState) (results : Results) (test : Bool) → (if test then Ok (results_of machine t) else Err (next_place t)) ≡ Ok results → results ≡ results_of machine t
+results_where : (machine : Machine) (t : RunState) (results : Results) (test : Bool) → (if test then Ok (run_results machine t) else Err (next_place t)) ≡ Ok results → results ≡ run_results machine t
 results_where machine t results false e = cc
 results_where machine t results true e = cc
 

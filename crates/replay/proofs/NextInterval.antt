@@ -42,7 +42,7 @@ use Rattle.replay.specs.Limits.{access_limit, cycle_limit}
 use Rattle.replay.specs.declared.simulation.Simulation.{Simulation}
 use Rattle.replay.specs.Port.{LoggedPortState}
 use Rattle.replay.specs.ReferenceRun.{RunState, access_room, after_interval, after_weave, all_delayed, at_limit, begun_interval, end_of, first_state, has_ended, have_halted, recorded_turns, time_of, world_of, woven_after, woven_interval}
-use Rattle.replay.specs.Simulation.{AreNumbered, CanRunInterval, GoesOn, HasRoomForInterval, IsBoundPhase, IsCounted, LeadsTo, StandsFor, begun_shards, cores_of}
+use Rattle.replay.specs.Simulation.{AreNumbered, CanRunInterval, HasNextInterval, HasRoomForInterval, IsBoundPhase, IsCounted, LeadsTo, StandsFor, begun_shards, cores_of}
 use Rattle.bound_core.proofs.ShardPorts.{shards_restarted}
 use Rattle.bound_core.proofs.ShardsStay.{shards_after, whatever_stamps}
 use Rattle.replay.proofs.Cores.{delayed_many, delayed_over, delayed_same, each_timed}
@@ -111,7 +111,7 @@ unfolding counts_of
 counted_comps cores comps intervals =
     length-map (enumerate_from 0 comps) (λ at. comp_total intervals at.0 at.1) ∙ length-enumerate_from 0 comps
 
-module _ (machine : Machine) (end : ℕ) (s : RunState) (p : Simulation) (g : GoesOn machine end s p) where
+module _ (machine : Machine) (end : ℕ) (s : RunState) (p : Simulation) (g : HasNextInterval machine end s p) where
   abbrev shards : List ShardState
   shards = map restarted p.port.world.shards
 
@@ -162,7 +162,7 @@ module _ (machine : Machine) (end : ℕ) (s : RunState) (p : Simulation) (g : Go
       }
 
 -- an interval that was run, and what it adds to the sums
-module _ (machine : Machine) (ok : IsMachine machine) (end : ℕ) (s : RunState) (p : Simulation) (g : GoesOn machine end s p)
+module _ (machine : Machine) (ok : IsMachine machine) (end : ℕ) (s : RunState) (p : Simulation) (g : HasNextInterval machine end s p)
     (i : Interval) (was_run : WasRun i) (few_events : length i.events ≤ 4 * length i.entries) (few : length i.entries ≤ access_room machine) where
   more_accesses : total_accesses (s.intervals ++ i ∷ []) ≡ total_accesses s.intervals + length i.entries
   more_accesses = sum_by_push (λ (j : Interval). length j.entries) s.intervals i
@@ -232,7 +232,7 @@ err_alike place (Ok t) related = absurd related
 err_alike place (Err other) related = ap Err related
 
 -- the bound phase of the next interval, over the shards and on the machine
-module _ (machine : Machine) (image : MemoryImage) (end : ℕ) (s : RunState) (p : Simulation) (g : GoesOn machine end s p) (turns : List ℕ) where
+module _ (machine : Machine) (image : MemoryImage) (end : ℕ) (s : RunState) (p : Simulation) (g : HasNextInterval machine end s p) (turns : List ℕ) where
   abbrev before : List ShardState
   before = map restarted p.port.world.shards
 
@@ -272,7 +272,7 @@ module _ (machine : Machine) (image : MemoryImage) (end : ℕ) (s : RunState) (p
   legal law u is = ok_alike u machine_phase (subst (λ (o : Result (BoundState ShardWorld) ℕ). EndAlike StandForMachine o machine_phase) is (alike law))
 
 -- after its bound phase, the weave and the feedback, the run is an interval further
-module _ (machine : Machine) (ok : IsMachine machine) (image : MemoryImage) (end : ℕ) (s : RunState) (p q : Simulation) (g : GoesOn machine end s p)
+module _ (machine : Machine) (ok : IsMachine machine) (image : MemoryImage) (end : ℕ) (s : RunState) (p q : Simulation) (g : HasNextInterval machine end s p)
     (turns : List ℕ) (entries : List Entry) (b : IsBoundPhase machine image end p turns q entries) (laws : Laws (time_of machine) image end)
     (i : Interval) (is : i ≡ woven_interval machine s.comps entries) (same : i.entries ≡ entries) (was_run : WasRun i) (few_events : length i.events ≤ 4 * length i.entries)
     (are : AreComponents machine (comps_after comp_step i.events s.comps)) where

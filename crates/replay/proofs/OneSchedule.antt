@@ -23,7 +23,7 @@ use Rattle.bound_core.specs.TimedCore.{TimedCore, core_after_access, after_instr
 use Rattle.bound_core.proofs.Accesses.{left_answered}
 use Rattle.bound_core.proofs.Instructions.{cycle_at_most, late_stops, ran_stays}
 use Rattle.access_log.specs.RecordedOrder.{recorded_order}
-use Rattle.replay.specs.ReferenceRun.{Illegal, IsRunOf, RunState, after_interval, after_intervals, after_weave, all_delayed, begun_interval, continued, end_of, first_state, has_ended, next_place, reference_run, results_at, results_of, time_of, world_of, woven_after, woven_interval}
+use Rattle.replay.specs.ReferenceRun.{Illegal, IsRunOf, RunState, after_interval, after_intervals, after_weave, all_delayed, begun_interval, continued, end_of, first_state, has_ended, next_place, reference_run, results_at, run_results, time_of, world_of, woven_after, woven_interval}
 use Rattle.replay.specs.Results.{Results}
 use Rattle.replay.proofs.NextInterval.{goes_on}
 
@@ -261,11 +261,11 @@ pub schedule_there : (machine : Machine) (image : MemoryImage) → IsMachine mac
 schedule_there machine image is one comps fresh =
     let run = rest_of_run machine image is machine.intervals (first_state machine image comps) (first_one machine image comps one) (omega arith) in (
       run.lists,
-      results_of machine run.last,
+      run_results machine run.last,
       record {
         comps = comps;
         fresh = fresh;
-        gives = ap (continued (results_at machine)) run.reached ∙ ap (λ (ended : Bool). if ended then Ok (results_of machine run.last) else Err (next_place run.last)) run.ends;
+        gives = ap (continued (results_at machine)) run.reached ∙ ap (λ (ended : Bool). if ended then Ok (run_results machine run.last) else Err (next_place run.last)) run.ends;
       },
     )
 
@@ -343,7 +343,7 @@ module _ (machine : Machine) (image : MemoryImage) where
   whole : (o : Result RunState Illegal) (results : Results) → continued (results_at machine) o ≡ Ok results → (last : RunState) × (o ≡ Ok last) × (has_ended machine last ≡ true)
   whole (Err illegal) results e = cc
   whole (Ok last) results e =
-      (last, refl, ended (has_ended machine last) (results_of machine last) results (next_place last) e)
+      (last, refl, ended (has_ended machine last) (run_results machine last) results (next_place last) e)
 
   -- the run has no other legal schedule
   pub schedule_is_one : (comps : List Comp) (lists others : List (List ℕ)) (results other_results : Results) → machine.cores ≡ 1

@@ -4,14 +4,14 @@ use Rattle.machine_desc.specs.declared.machine.Machine.{Machine}
 use Rattle.stats.specs.Counts.{Counts}
 use Rattle.replay.specs.declared.simulation.Simulation.{Simulation}
 use Rattle.replay.specs.Simulation.{StandsFor, cores_of}
-use Rattle.replay.specs.ReferenceRun.{RunState, have_halted, results_of}
+use Rattle.replay.specs.ReferenceRun.{RunState, have_halted, run_results}
 use Rattle.replay.specs.Results.{HasCounts, Results}
 use Rattle.replay.proofs.NextInterval.{counts_come}
 use Rattle.replay.proofs.RunSoFar.{accesses_are}
 
 module _ (machine : Machine) (s : RunState) (p : Simulation) (come : StandsFor machine s p) where
   pub results_are : (halted : Bool) → halted ≡ have_halted (cores_of p) → (k : ℕ) → length s.intervals ≡ k
-      → (let r : Results = record { cores = cores_of p; counts = p.counters; intervals = k; limit = not halted } in r) ≡ results_of machine s
+      → (let r : Results = record { cores = cores_of p; counts = p.counters; intervals = k; limit = not halted } in r) ≡ run_results machine s
   results_are halted is k length_is =
       let count : k ≡ length s.intervals = sym length_is in
       rw (is, count, come.counters, sym come.cores) refl

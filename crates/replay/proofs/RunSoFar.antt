@@ -8,8 +8,8 @@ use Rattle.component.specs.Components.{AreFresh}
 use Rattle.stats.specs.Counts.{Counts, Interval, counts_of, total_accesses}
 use Rattle.replay.specs.declared.simulation.Simulation.{Simulation}
 use Rattle.bound_core.specs.TimedCore.{TimedCore}
-use Rattle.replay.specs.Simulation.{GoesOn, LeadsTo, StandsFor, cores_of}
-use Rattle.replay.specs.ReferenceRun.{RunState, after_interval, after_intervals, first_state, has_ended, has_ended_at, IsKeptInOrder, continued, recorded_turns, reference_run, results_at, results_of, Illegal, next_place}
+use Rattle.replay.specs.Simulation.{HasNextInterval, LeadsTo, StandsFor, cores_of}
+use Rattle.replay.specs.ReferenceRun.{RunState, after_interval, after_intervals, first_state, has_ended, has_ended_at, IsKeptInOrder, continued, recorded_turns, reference_run, results_at, run_results, Illegal, next_place}
 use Rattle.replay.proofs.NextInterval.{goes_on}
 
 -- the code has come to where the run is after the intervals of this schedule
@@ -40,7 +40,7 @@ same_ending machine s p come k as_long =
 
 -- the run goes on with an interval that ends then
 pub goes_to : (machine : Machine) (s : RunState) (p : Simulation) → StandsFor machine s p → (k end : ℕ) → length s.intervals ≡ k → end ≡ (k + 1) * machine.interval
-    → has_ended_at machine k p.counters.accesses (cores_of p) p.comps ≡ false → GoesOn machine end s p
+    → has_ended_at machine k p.counters.accesses (cores_of p) p.comps ≡ false → HasNextInterval machine end s p
 goes_to machine s p come k end as_long ends on = record {
   come = come;
   on = sym (same_ending machine s p come k as_long) ∙ on;
@@ -103,9 +103,9 @@ further_in_order machine image lists p q h turns on leads same = record {
 
 -- what the run gives where it ends
 pub ends_with : (machine : Machine) (image : MemoryImage) (lists : List (List ℕ)) (p : Simulation) (h : HasRun machine image lists p) → has_ended machine h.state ≡ true
-    → reference_run machine image h.comps lists ≡ Ok (results_of machine h.state)
+    → reference_run machine image h.comps lists ≡ Ok (run_results machine h.state)
 ends_with machine image lists p h ends =
-    ap (continued (results_at machine)) h.reached ∙ ap (λ (ended : Bool). if ended then Ok (results_of machine h.state) else Err (next_place h.state)) ends
+    ap (continued (results_at machine)) h.reached ∙ ap (λ (ended : Bool). if ended then Ok (run_results machine h.state) else Err (next_place h.state)) ends
 
 -- ---- a schedule that is not legal
 
@@ -113,7 +113,7 @@ ends_with machine image lists p h ends =
 pub ends_too_soon : (machine : Machine) (image : MemoryImage) (lists : List (List ℕ)) (p : Simulation) (h : HasRun machine image lists p) → has_ended machine h.state ≡ false
     → reference_run machine image h.comps lists ≡ Err (next_place h.state)
 ends_too_soon machine image lists p h on =
-    ap (continued (results_at machine)) h.reached ∙ ap (λ (ended : Bool). if ended then Ok (results_of machine h.state) else Err (next_place h.state)) on
+    ap (continued (results_at machine)) h.reached ∙ ap (λ (ended : Bool). if ended then Ok (run_results machine h.state) else Err (next_place h.state)) on
 
 -- the run has ended, and it goes on
 pub goes_too_far : (machine : Machine) (image : MemoryImage) (lists : List (List ℕ)) (turns : List ℕ) (rest : List (List ℕ)) (p : Simulation) (h : HasRun machine image lists p) → has_ended machine h.state ≡ true
@@ -150,7 +150,7 @@ nothing_run machine image lists none comps fresh = record {
 
 -- a run that goes on, and what the code needs of it
 module _ (machine : Machine) (image : MemoryImage) (lists : List (List ℕ)) (p : Simulation) (h : HasRun machine image lists p) (k end : ℕ) (count : length lists ≡ k) (ends : end ≡ k * machine.interval) where
-  pub goes : has_ended_at machine k p.counters.accesses (cores_of p) p.comps ≡ false → GoesOn machine (end + machine.interval) h.state p
+  pub goes : has_ended_at machine k p.counters.accesses (cores_of p) p.comps ≡ false → HasNextInterval machine (end + machine.interval) h.state p
   goes on = goes_to machine h.state p h.come k (end + machine.interval) (h.as_long ∙ count) (omega (arith, ends)) on
 
   pub below_limit : (on : has_ended_at machine k p.counters.accesses (cores_of p) p.comps ≡ false) → k ≤ machine.intervals → k < machine.intervals

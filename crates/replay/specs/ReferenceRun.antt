@@ -143,8 +143,8 @@ first_state machine image comps = let world = first_world machine image in recor
 }
 
 -- what the run gives where it ends
-abbrev pub results_of : Machine → RunState → Results
-results_of machine s = record {
+abbrev pub run_results : Machine → RunState → Results
+run_results machine s = record {
   cores = s.cores;
   counts = counts_of machine.cores s.comps s.intervals;
   intervals = length s.intervals;
@@ -153,7 +153,7 @@ results_of machine s = record {
 
 -- what the run gives that has ended, or the place that is missing where it goes on
 abbrev pub results_at : Machine → RunState → Result Results Illegal
-results_at machine s = if has_ended machine s then Ok (results_of machine s) else Err (next_place s)
+results_at machine s = if has_ended machine s then Ok (run_results machine s) else Err (next_place s)
 
 -- The run of an image under a schedule, from these components, or the first place of the schedule that is not legal for
 -- it: of a list that is not legal for its interval, or where there are not as many lists as intervals.

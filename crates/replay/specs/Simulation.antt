@@ -71,7 +71,7 @@ abbrev pub IsAtStart : Machine → MemoryImage → Simulation → Type 0
 IsAtStart machine image p = (comps : List Comp) × AreFresh machine comps × StandsFor machine (first_state machine image comps) p
 
 -- the run goes on with an interval that ends then
-pub record GoesOn (machine : Machine) (end : ℕ) (s : RunState) (p : Simulation) : Type 0 where
+pub record HasNextInterval (machine : Machine) (end : ℕ) (s : RunState) (p : Simulation) : Type 0 where
   pub come : StandsFor machine s p
   pub on : has_ended machine s ≡ false
   pub ends : end ≡ end_of machine s
@@ -165,7 +165,7 @@ pub record IsBoundPhase (machine : Machine) (image : MemoryImage) (end : ℕ) (b
 pub record HasBound (machine : Machine) (image : MemoryImage) (s : RunState) (turns : List ℕ) (p : Simulation) (entries : List Entry) : Type 0 where
   pub end : ℕ
   pub before : Simulation
-  pub goes_on : GoesOn machine end s before
+  pub goes_on : HasNextInterval machine end s before
   pub bounded : IsBoundPhase machine image end before turns p entries
   pub comps : p.comps ≡ before.comps
   pub counters : p.counters ≡ before.counters
@@ -175,7 +175,7 @@ pub record HasBound (machine : Machine) (image : MemoryImage) (s : RunState) (tu
 pub record HasFired (machine : Machine) (image : MemoryImage) (s : RunState) (turns : List ℕ) (p : Simulation) (entries : List Entry) (graph : List Event) (fired : List Fired) : Type 0 where
   pub end : ℕ
   pub before : Simulation
-  pub goes_on : GoesOn machine end s before
+  pub goes_on : HasNextInterval machine end s before
   pub bounded : IsBoundPhase machine image end before turns p entries
   pub woven : HaveFired machine before.comps entries graph fired p.comps
   pub counters : p.counters ≡ before.counters

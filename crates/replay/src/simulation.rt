@@ -11,10 +11,10 @@ ghost use Rattle.bound_core.specs.ReferenceMachine.{bound_phase};
 ghost use Rattle.bound_core.specs.ShardPort.{base_of, room_of, size_of};
 ghost use Rattle.bound_core.specs.ShardWorld.{restarted, shards_serve};
 ghost use Rattle.bound_core.specs.TimedCore.{NumberedCore, first_core, timed_of};
-ghost use Rattle.replay.specs.ReferenceRun.{RunState, access_room, after_interval, all_delayed, at_limit, has_ended_at, have_halted, results_of, time_of};
+ghost use Rattle.replay.specs.ReferenceRun.{RunState, access_room, after_interval, all_delayed, at_limit, has_ended_at, have_halted, run_results, time_of};
 ghost use Rattle.replay.specs.Limits.{cycle_limit};
 ghost use Rattle.replay.specs.Replay.{IfIllegal};
-ghost use Rattle.replay.specs.Simulation.{AreNumbered, CanRunInterval, GoesOn, HasBound, HasFired, HasRoomForInterval, HasRunThroughPort, HaveRunThroughPort, IsAtStart, IsBoundPhase, LeadsTo, StandsFor, cores_of, phase_of};
+ghost use Rattle.replay.specs.Simulation.{AreNumbered, CanRunInterval, HasNextInterval, HasBound, HasFired, HasRoomForInterval, HasRunThroughPort, HaveRunThroughPort, IsAtStart, IsBoundPhase, LeadsTo, StandsFor, cores_of, phase_of};
 ghost use Rattle.replay.specs.Turns.{HaveTurned};
 ghost use Rattle.replay.specs.IntervalWeave.{IsPlainOf};
 
@@ -123,8 +123,8 @@ impl Simulation {
         requires end { end ≤ 2 ^ 34 }
         requires workers { (1 ≤ workers) × (workers ≤ 64) }
         requires room { HasRoomForInterval machine.now end self }
-        requires goes_on { (s : RunState) × GoesOn machine.now end s self }
-        ensures leads { IfOk result (λ r. (s : RunState) → GoesOn machine.now end s self → (leads : LeadsTo machine.now program.now s (map (λ e. e.core) r.1) r.0) × (leads.entries ≡ r.1)) }
+        requires goes_on { (s : RunState) × HasNextInterval machine.now end s self }
+        ensures leads { IfOk result (λ r. (s : RunState) → HasNextInterval machine.now end s self → (leads : LeadsTo machine.now program.now s (map (λ e. e.core) r.1) r.0) × (leads.entries ≡ r.1)) }
         ensures cores { IfOk result (λ r. All (λ e. e.core < machine.now.cores) r.1) }
         ensures few { IfOk result (λ r. length r.1 < 2 ^ 32) }
     {
@@ -158,9 +158,9 @@ impl Simulation {
         requires known { All (λ number. number < machine.now.cores) turns.now }
         requires few { length turns.now < 2 ^ 32 }
         requires room { HasRoomForInterval machine.now end self.old }
-        requires goes_on { (s : RunState) × GoesOn machine.now end s self.old }
-        ensures leads { OnOk result ((s : RunState) → GoesOn machine.now end s self.old → LeadsTo machine.now program.now s turns.now self.new) }
-        ensures illegal { IfErr result (λ fail. IfIllegal fail (λ at. (at.interval ≡ k) × ((s : RunState) → GoesOn machine.now end s self.old → after_interval machine.now program.now s turns.now ≡ Err (record { interval = length s.intervals; place = at.place })))) }
+        requires goes_on { (s : RunState) × HasNextInterval machine.now end s self.old }
+        ensures leads { OnOk result ((s : RunState) → HasNextInterval machine.now end s self.old → LeadsTo machine.now program.now s turns.now self.new) }
+        ensures illegal { IfErr result (λ fail. IfIllegal fail (λ at. (at.interval ≡ k) × ((s : RunState) → HasNextInterval machine.now end s self.old → after_interval machine.now program.now s turns.now ≡ Err (record { interval = length s.intervals; place = at.place })))) }
     {
         bound_core::laws::shards_do_as_the_machine();
         let entries = self.bound_under(alloc, machine, program, plain, end, k, turns, list)?;
@@ -401,7 +401,7 @@ impl Simulation {
 
     /// What the run gives where it ends before interval k.
     pub fn results(self, k: u32) -> Final
-        ensures results { (machine : Machine) (s : RunState) → StandsFor machine s self → length s.intervals ≡ k → result ≡ results_of machine s }
+        ensures results { (machine : Machine) (s : RunState) → StandsFor machine s self → length s.intervals ≡ k → result ≡ run_results machine s }
         ensures cores { result.cores ≡ cores_of self }
         ensures counts { result.counts ≡ self.counters }
     {

@@ -1,7 +1,7 @@
 -- Every core that is reached is sound, and what it asks for is paired right.
 use Rattle.std.proofs.Common.{◌≡◌, ◌<◌, ◌≤◌, ◌+◌, ◌^◌, ℕ, List, length, arith, Option, Some, None, refl, ap, subst, ◌∙◌}
 use Rattle.std.specs.Prelude.{IfSome}
-use Rattle.elf_load.specs.MemoryImage.{MemoryImage, fetched}
+use Rattle.elf_load.specs.MemoryImage.{MemoryImage, fetched_word}
 use Rattle.zs_num.specs.declared.request.Request.{Request}
 use Rattle.rv_decode.specs.declared.inst.Inst.{Inst}
 use Rattle.rv_decode.specs.InstructionTable.{decoded}
@@ -34,7 +34,7 @@ module _ (ranges : (word : ℕ) (i : Inst) → decoded word ≡ Some i → (i.rd
 
   fetched-registers : (image : MemoryImage) (pc : ℕ) → HasRegisters (fetched_at image pc)
   unfolding fetched_at
-  fetched-registers image pc = of_word-registers (fetched image.segments pc)
+  fetched-registers image pc = of_word-registers (fetched_word image.segments pc)
 
   after_fetch-keeps : (found : Fetched) (core : CoreState) → HasRegisters found → IsSoundCore core → Keeps core (after_fetch found core)
   after_fetch-keeps Outside core here s = halts-keeps (Fetch core.pc) core s

@@ -1,6 +1,6 @@
 //! A program whose words are decoded once.
 ghost use Rattle.std.specs.Prelude.{◌≡◌, ◌+◌, ◌*◌, ◌^◌, ◌≤◌, All, IfOk, IfSome};
-ghost use Rattle.rv_core.specs.Fetch.{fetched_at, HasRegisters, IsKnown};
+ghost use Rattle.rv_core.specs.Fetch.{fetched_at, HasRegisters, IsDecodedWord};
 
 use crate::{Fetched, Program};
 use elf_load::{Image, Segment};
@@ -56,13 +56,13 @@ pub struct DecodedProgram<'a> {
 impl<'a> Model for DecodedProgram<'a> {
     ghost use Rattle.std.specs.Prelude.{All};
     ghost use Rattle.elf_load.specs.MemoryImage.{MemoryImage};
-    ghost use Rattle.rv_core.specs.Fetch.{IsKnown};
+    ghost use Rattle.rv_core.specs.Fetch.{IsDecodedWord};
 
     ghost Value = { MemoryImage };
 
     ghost view = { λ p. p.image.now };
 
-    ghost invariant = { λ p. All (IsKnown p.image.now) p.words.items };
+    ghost invariant = { λ p. All (IsDecodedWord p.image.now) p.words.items };
 }
 
 impl<'a> DecodedProgram<'a> {

@@ -10,7 +10,7 @@ use Rattle.rv_decode.proofs.TableLemmas.{row_from_decoded}
 use Rattle.std.proofs.lemmas.Int.{ints}
 use Rattle.rv_decode.specs.InstructionWord.{bits_of, signed}
 use Rattle.rv_decode.specs.InstructionTable.{Row, table, decoded, by_row, instruction}
-use Rattle.rv_decode.specs.Ranges.{AreRegisters, FitsFormat, IsWithin, IsInRange}
+use Rattle.rv_decode.specs.Ranges.{AreRegisters, FitsFormat, IsMultipleWithin, FitsItsFormat}
 use Rattle.rv_decode.specs.NamedRows.{format_of, value_of, row_named}
 use Rattle.rv_decode.specs.declared.format.Format.{Format}
 use Rattle.rv_decode.specs.declared.format.Format.TheVariants.{U, J, I, B, S, R, Shift, WordShift, Atomic, LoadReserved, Whole}
@@ -20,43 +20,43 @@ use Rattle.rv_decode.specs.declared.name.Name.{Name}
 negative : (n k m : ℕ) → n + suc m ≡ k → pos n -ℤ pos k ≡ negsuc m
 negative n k m e = omega (arith, ints)
 
-twelve_by : (n : ℕ) (b : Bool) → (b ≡ true → n < 2048) → (b ≡ false → 2048 ≤ n) → n < 4096 → IsWithin (neg_ℤ (pos 2048)) (pos 2047) 1 (cond b (pos n) (pos n -ℤ pos 4096))
+twelve_by : (n : ℕ) (b : Bool) → (b ≡ true → n < 2048) → (b ≡ false → 2048 ≤ n) → n < 4096 → IsMultipleWithin (neg_ℤ (pos 2048)) (pos 2047) 1 (cond b (pos n) (pos n -ℤ pos 4096))
 twelve_by n true below above h = let small = below refl in (omega (arith, ints), omega (arith, ints), omega arith)
 twelve_by n false below above h =
     let large : 2048 ≤ n = above refl in
     rw (negative n 4096 (4095 - n) (omega arith)) (omega (arith, ints), omega (arith, ints), omega arith)
 
-twelve : (n : ℕ) → n < 4096 → IsWithin (neg_ℤ (pos 2048)) (pos 2047) 1 (signed 12 n)
+twelve : (n : ℕ) → n < 4096 → IsMultipleWithin (neg_ℤ (pos 2048)) (pos 2047) 1 (signed 12 n)
 twelve n = twelve_by n (nat_lt n 2048) (ltb-true n 2048) (ltb-false n 2048)
 
-thirteen_by : (n : ℕ) (b : Bool) → (b ≡ true → n < 4096) → (b ≡ false → 4096 ≤ n) → n < 8192 → n % 2 ≡ 0 → IsWithin (neg_ℤ (pos 4096)) (pos 4094) 2 (cond b (pos n) (pos n -ℤ pos 8192))
+thirteen_by : (n : ℕ) (b : Bool) → (b ≡ true → n < 4096) → (b ≡ false → 4096 ≤ n) → n < 8192 → n % 2 ≡ 0 → IsMultipleWithin (neg_ℤ (pos 4096)) (pos 4094) 2 (cond b (pos n) (pos n -ℤ pos 8192))
 thirteen_by n true below above h e = let small = below refl in (omega (arith, ints), omega (arith, ints), omega arith)
 thirteen_by n false below above h e =
     let large : 4096 ≤ n = above refl in
     rw (negative n 8192 (8191 - n) (omega arith)) (omega (arith, ints), omega (arith, ints), omega arith)
 
-thirteen : (n : ℕ) → n < 8192 → n % 2 ≡ 0 → IsWithin (neg_ℤ (pos 4096)) (pos 4094) 2 (signed 13 n)
+thirteen : (n : ℕ) → n < 8192 → n % 2 ≡ 0 → IsMultipleWithin (neg_ℤ (pos 4096)) (pos 4094) 2 (signed 13 n)
 thirteen n = thirteen_by n (nat_lt n 4096) (ltb-true n 4096) (ltb-false n 4096)
 
-twenty_one_by : (n : ℕ) (b : Bool) → (b ≡ true → n < 1048576) → (b ≡ false → 1048576 ≤ n) → n < 2097152 → n % 2 ≡ 0 → IsWithin (neg_ℤ (pos 1048576)) (pos 1048574) 2 (cond b (pos n) (pos n -ℤ pos 2097152))
+twenty_one_by : (n : ℕ) (b : Bool) → (b ≡ true → n < 1048576) → (b ≡ false → 1048576 ≤ n) → n < 2097152 → n % 2 ≡ 0 → IsMultipleWithin (neg_ℤ (pos 1048576)) (pos 1048574) 2 (cond b (pos n) (pos n -ℤ pos 2097152))
 twenty_one_by n true below above h e = let small = below refl in (omega (arith, ints), omega (arith, ints), omega arith)
 twenty_one_by n false below above h e =
     let large : 1048576 ≤ n = above refl in
     rw (negative n 2097152 (2097151 - n) (omega arith)) (omega (arith, ints), omega (arith, ints), omega arith)
 
-twenty_one : (n : ℕ) → n < 2097152 → n % 2 ≡ 0 → IsWithin (neg_ℤ (pos 1048576)) (pos 1048574) 2 (signed 21 n)
+twenty_one : (n : ℕ) → n < 2097152 → n % 2 ≡ 0 → IsMultipleWithin (neg_ℤ (pos 1048576)) (pos 1048574) 2 (signed 21 n)
 twenty_one n = twenty_one_by n (nat_lt n 1048576) (ltb-true n 1048576) (ltb-false n 1048576)
 
-thirty_two_by : (n : ℕ) (b : Bool) → (b ≡ true → n < 2147483648) → (b ≡ false → 2147483648 ≤ n) → n < 4294967296 → n % 4096 ≡ 0 → IsWithin (neg_ℤ (pos 2147483648)) (pos 2147479552) 4096 (cond b (pos n) (pos n -ℤ pos 4294967296))
+thirty_two_by : (n : ℕ) (b : Bool) → (b ≡ true → n < 2147483648) → (b ≡ false → 2147483648 ≤ n) → n < 4294967296 → n % 4096 ≡ 0 → IsMultipleWithin (neg_ℤ (pos 2147483648)) (pos 2147479552) 4096 (cond b (pos n) (pos n -ℤ pos 4294967296))
 thirty_two_by n true below above h e = let small = below refl in (omega (arith, ints), omega (arith, ints), omega arith)
 thirty_two_by n false below above h e =
     let large : 2147483648 ≤ n = above refl in
     rw (negative n 4294967296 (4294967295 - n) (omega arith)) (omega (arith, ints), omega (arith, ints), omega arith)
 
-thirty_two : (n : ℕ) → n < 4294967296 → n % 4096 ≡ 0 → IsWithin (neg_ℤ (pos 2147483648)) (pos 2147479552) 4096 (signed 32 n)
+thirty_two : (n : ℕ) → n < 4294967296 → n % 4096 ≡ 0 → IsMultipleWithin (neg_ℤ (pos 2147483648)) (pos 2147479552) 4096 (signed 32 n)
 thirty_two n = thirty_two_by n (nat_lt n 2147483648) (ltb-true n 2147483648) (ltb-false n 2147483648)
 
-amount : (bound n : ℕ) → n < suc bound → IsWithin (pos 0) (pos bound) 1 (pos n)
+amount : (bound n : ℕ) → n < suc bound → IsMultipleWithin (pos 0) (pos bound) 1 (pos n)
 amount bound n h = (omega (arith, ints), omega (arith, ints), omega arith)
 
 abbrev s_bits : ℕ → ℕ
@@ -140,9 +140,9 @@ instruction-name LoadReserved name word = refl
 instruction-name Whole name word = refl
 
 -- the instruction that a word is, by its row, is in the ranges of its name's format
-pub in_range_by_row : (word : ℕ) (i : Inst) → IsByRow word i → IsInRange i
+pub in_range_by_row : (word : ℕ) (i : Inst) → IsByRow word i → FitsItsFormat i
 in_range_by_row word i is =
-    subst IsInRange (sym is.fields)
+    subst FitsItsFormat (sym is.fields)
     (subst (λ f. FitsFormat f (by_row is.row word))
     (sym (format_of_listed is.row is.listed) ∙ ap format_of (sym (instruction-name is.row.format is.row.name word)))
     (fits_instruction is.row.format is.row.name word))
@@ -165,13 +165,13 @@ pub instruction_by_row : (word : ℕ) (o : Option Inst) → o ≡ decoded word �
 instruction_by_row word (Some i) e = row_from_decoded word i (sym e)
 instruction_by_row word None e = tt
 
-pub in_range : (word : ℕ) (i : Inst) → decoded word ≡ Some i → IsInRange i
+pub in_range : (word : ℕ) (i : Inst) → decoded word ≡ Some i → FitsItsFormat i
 in_range word i e = in_range_by_row word i (row_from_decoded word i e)
 
 pub registers : (word : ℕ) (i : Inst) → decoded word ≡ Some i → (i.rd < 32) × (i.rs1 < 32) × (i.rs2 < 32)
 registers word i e = registers_by_format (format_of i.name) i (in_range word i e).0
 
-pub instruction_in_range : (word : ℕ) (o : Option Inst) → o ≡ decoded word → IfSome o IsInRange
+pub instruction_in_range : (word : ℕ) (o : Option Inst) → o ≡ decoded word → IfSome o FitsItsFormat
 instruction_in_range word (Some i) e = in_range word i (sym e)
 instruction_in_range word None e = tt
 

@@ -5,7 +5,7 @@ ghost use Rattle.rv_decode.specs.InstructionTable as spec;
 ghost use Rattle.rv_decode.specs.InstructionTable.{Row, table, matches, by_row, decoded};
 ghost use Rattle.rv_decode.specs.Opcodes as opcode;
 ghost use Rattle.rv_decode.specs.Matching.{IsByRow, NoRowMatches};
-ghost use Rattle.rv_decode.specs.Ranges.{IsInRange};
+ghost use Rattle.rv_decode.specs.Ranges.{FitsItsFormat};
 
 use crate::fields::{bits, funct3, funct7, opcode, rs2};
 use crate::formats::instruction;
@@ -25,7 +25,7 @@ pub fn decode(word: u32) -> Option<Inst>
 
     // Each field is in its range.
     ensures registers { IfSome result (λ i. (i.rd < 32) × (i.rs1 < 32) × (i.rs2 < 32)) }
-    ensures ranges { IfSome result IsInRange }
+    ensures ranges { IfSome result FitsItsFormat }
 {
     by_opcode(word)
 }

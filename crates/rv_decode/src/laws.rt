@@ -4,7 +4,7 @@ ghost use Rattle.rv_decode.specs.InstructionTable.{Row, table, matches, by_row, 
 ghost use Rattle.rv_decode.specs.InstructionWord.{bits_of, ones};
 ghost use Rattle.rv_decode.specs.Matching.{OneRowMatches, NoRowMatches, IsByRow};
 ghost use Rattle.rv_decode.specs.NamedRows.{format_of, value_of};
-ghost use Rattle.rv_decode.specs.Ranges.{IsInRange};
+ghost use Rattle.rv_decode.specs.Ranges.{FitsItsFormat};
 ghost use Rattle.rv_decode.specs.declared.name.Name.{Name};
 ghost use Rattle.rv_decode.specs.declared.format.Format.{Format};
 ghost use Rattle.rv_decode.specs.declared.inst.Inst.{Inst};
@@ -28,7 +28,7 @@ pub fn rows()
 pub fn ranges()
     ensures registers { (word : ℕ) (i : Inst) → decoded word ≡ Some i
         → (i.rd < 32) × (i.rs1 < 32) × (i.rs2 < 32) }
-    ensures formats { (word : ℕ) (i : Inst) → decoded word ≡ Some i → IsInRange i }
+    ensures formats { (word : ℕ) (i : Inst) → decoded word ≡ Some i → FitsItsFormat i }
 {}
 
 /// Each name is the name of one row, whose value and format are the name's, and the instruction by

@@ -6,7 +6,7 @@ use Rattle.std.proofs.lemmas.List.Sums.{AllPass-from_list_all}
 use Rattle.std.proofs.lemmas.Nat.{and_le_r}
 use Rattle.rv_decode.specs.InstructionTable.{Row, table, decoded, by_row, instruction}
 use Rattle.rv_decode.specs.NamedRows.{value_of, format_of}
-use Rattle.rv_decode.specs.Ranges.{FitsFormat, IsInRange}
+use Rattle.rv_decode.specs.Ranges.{FitsFormat, FitsItsFormat}
 use Rattle.rv_decode.specs.declared.format.Format.{Format}
 use Rattle.rv_decode.specs.declared.format.Format.TheVariants.{U, J, I, B, S, R, Shift, WordShift, Atomic, LoadReserved, Whole}
 use Rattle.rv_decode.specs.declared.inst.Inst.{Inst}
@@ -66,14 +66,14 @@ module _ (laws : TableLaws) (masks : MaskLaws) where
   at_row : (i : Inst) (row : Row) → Contains table row → row.name ≡ i.name → (format_of i.name ≡ row.format) × (value_of i.name ≡ row.value)
   at_row i row c n = (ap format_of (sym n) ∙ (laws.listed row c).1, ap value_of (sym n) ∙ (laws.listed row c).0)
 
-  pub encoded_decodes : (i : Inst) → IsInRange i → decoded (encoded i) ≡ Some i
+  pub encoded_decodes : (i : Inst) → FitsItsFormat i → decoded (encoded i) ≡ Some i
   encoded_decodes i h =
       let it = laws.each i.name in
       let at = at_row i it.0 it.1 it.2 in
       ap₂ (λ f v. decoded (word_of f v i)) at.0 at.1
       ∙ decodes_by_row i it.0 it.1 it.2 (subst (λ f. FitsFormat f i) at.0 h)
 
-  pub encoded_below : (i : Inst) → IsInRange i → encoded i < 2 ^ 32
+  pub encoded_below : (i : Inst) → FitsItsFormat i → encoded i < 2 ^ 32
   encoded_below i h =
       let it = laws.each i.name in
       let at = at_row i it.0 it.1 it.2 in

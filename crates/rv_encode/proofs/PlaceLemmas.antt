@@ -4,7 +4,7 @@ use Rattle.std.proofs.Common.{◌≡◌, ℕ, ◌+◌, ◌-◌, ◌*◌, ◌%◌
 use Rattle.std.proofs.lemmas.Int.{ints}
 use Rattle.std.proofs.lemmas.Nat.{and_mask}
 use Rattle.rv_decode.specs.InstructionWord.{bits_of, ones, signed}
-use Rattle.rv_decode.specs.Ranges.{IsWithin}
+use Rattle.rv_decode.specs.Ranges.{IsMultipleWithin}
 use Rattle.rv_encode.specs.Encoding.{unsigned}
 use Rattle.rv_encode.proofs.TableLaws.{MaskLaws}
 
@@ -44,7 +44,7 @@ under_all x h = and_mask x 32 ∙ omega arith
 twelve_signed : (n : ℕ) (b : Bool) → nat_lt n 2048 ≡ b → signed 12 n ≡ cond b (pos n) (pos n -ℤ pos 4096)
 twelve_signed n b e = ap (λ t. cond t (pos n) (pos n -ℤ pos 4096)) e
 
-pub twelve : (z : ℤ) → IsWithin (neg_ℤ (pos 2048)) (pos 2047) 1 z → (unsigned 12 z < 4096) × (unsigned 12 z % 1 ≡ 0) × (signed 12 (unsigned 12 z) ≡ z)
+pub twelve : (z : ℤ) → IsMultipleWithin (neg_ℤ (pos 2048)) (pos 2047) 1 z → (unsigned 12 z < 4096) × (unsigned 12 z % 1 ≡ 0) × (signed 12 (unsigned 12 z) ≡ z)
 twelve (pos n) h = let small : n < 2048 = omega (arith, ints) in (omega arith, omega (arith, h.2), twelve_signed n true (lt-ltb _ _ small))
 twelve (negsuc n) h =
     let small : suc n ≤ 2048 = omega (arith, ints) in
@@ -54,7 +54,7 @@ twelve (negsuc n) h =
 thirteen_signed : (n : ℕ) (b : Bool) → nat_lt n 4096 ≡ b → signed 13 n ≡ cond b (pos n) (pos n -ℤ pos 8192)
 thirteen_signed n b e = ap (λ t. cond t (pos n) (pos n -ℤ pos 8192)) e
 
-pub thirteen : (z : ℤ) → IsWithin (neg_ℤ (pos 4096)) (pos 4094) 2 z → (unsigned 13 z < 8192) × (unsigned 13 z % 2 ≡ 0) × (signed 13 (unsigned 13 z) ≡ z)
+pub thirteen : (z : ℤ) → IsMultipleWithin (neg_ℤ (pos 4096)) (pos 4094) 2 z → (unsigned 13 z < 8192) × (unsigned 13 z % 2 ≡ 0) × (signed 13 (unsigned 13 z) ≡ z)
 thirteen (pos n) h = let small : n < 4096 = omega (arith, ints) in (omega arith, omega (arith, h.2), thirteen_signed n true (lt-ltb _ _ small))
 thirteen (negsuc n) h =
     let small : suc n ≤ 4096 = omega (arith, ints) in
@@ -64,7 +64,7 @@ thirteen (negsuc n) h =
 twenty_one_signed : (n : ℕ) (b : Bool) → nat_lt n 1048576 ≡ b → signed 21 n ≡ cond b (pos n) (pos n -ℤ pos 2097152)
 twenty_one_signed n b e = ap (λ t. cond t (pos n) (pos n -ℤ pos 2097152)) e
 
-pub twenty_one : (z : ℤ) → IsWithin (neg_ℤ (pos 1048576)) (pos 1048574) 2 z → (unsigned 21 z < 2097152) × (unsigned 21 z % 2 ≡ 0) × (signed 21 (unsigned 21 z) ≡ z)
+pub twenty_one : (z : ℤ) → IsMultipleWithin (neg_ℤ (pos 1048576)) (pos 1048574) 2 z → (unsigned 21 z < 2097152) × (unsigned 21 z % 2 ≡ 0) × (signed 21 (unsigned 21 z) ≡ z)
 twenty_one (pos n) h = let small : n < 1048576 = omega (arith, ints) in (omega arith, omega (arith, h.2), twenty_one_signed n true (lt-ltb _ _ small))
 twenty_one (negsuc n) h =
     let small : suc n ≤ 1048576 = omega (arith, ints) in
@@ -74,7 +74,7 @@ twenty_one (negsuc n) h =
 thirty_two_signed : (n : ℕ) (b : Bool) → nat_lt n 2147483648 ≡ b → signed 32 n ≡ cond b (pos n) (pos n -ℤ pos 4294967296)
 thirty_two_signed n b e = ap (λ t. cond t (pos n) (pos n -ℤ pos 4294967296)) e
 
-pub thirty_two : (z : ℤ) → IsWithin (neg_ℤ (pos 2147483648)) (pos 2147479552) 4096 z → (unsigned 32 z < 4294967296) × (unsigned 32 z % 4096 ≡ 0) × (signed 32 (unsigned 32 z) ≡ z)
+pub thirty_two : (z : ℤ) → IsMultipleWithin (neg_ℤ (pos 2147483648)) (pos 2147479552) 4096 z → (unsigned 32 z < 4294967296) × (unsigned 32 z % 4096 ≡ 0) × (signed 32 (unsigned 32 z) ≡ z)
 thirty_two (pos n) h = let small : n < 2147483648 = omega (arith, ints) in (omega arith, omega (arith, h.2), thirty_two_signed n true (lt-ltb _ _ small))
 thirty_two (negsuc n) h =
     let small : suc n ≤ 2147483648 = omega (arith, ints) in
@@ -114,6 +114,6 @@ read_thirty_two_by n false large h = let high : 2147483648 ≤ n = large refl in
 pub read_thirty_two : (n : ℕ) → n < 4294967296 → unsigned 32 (signed 32 n) ≡ n
 read_thirty_two n h = read_thirty_two_by n (nat_lt n 2147483648) (ltb-false n 2147483648) h
 
-pub amount : (width bound : ℕ) (z : ℤ) → IsWithin (pos 0) (pos bound) 1 z → (unsigned width z < suc bound) × (pos (unsigned width z) ≡ z)
+pub amount : (width bound : ℕ) (z : ℤ) → IsMultipleWithin (pos 0) (pos bound) 1 z → (unsigned width z < suc bound) × (pos (unsigned width z) ≡ z)
 amount width bound (pos n) h = (omega (arith, ints), refl)
 amount width bound (negsuc n) h = absurd (omega (arith, ints))

@@ -1,7 +1,7 @@
 //! The encoder: the bits of the instruction's row, and the fields.
 ghost use Rattle.std.specs.Prelude.{◌≡◌, ℕ, ◌^◌, ◌<◌, Some};
 ghost use Rattle.rv_decode.specs.InstructionTable.{decoded};
-ghost use Rattle.rv_decode.specs.Ranges.{IsInRange, AreRegisters};
+ghost use Rattle.rv_decode.specs.Ranges.{FitsItsFormat, AreRegisters};
 ghost use Rattle.rv_decode.specs.NamedRows.{value_of, format_of};
 ghost use Rattle.rv_encode.specs.Encoding.{registers_of};
 
@@ -11,7 +11,7 @@ use rv_decode::{Format, Inst, Name, laws};
 
 /// The word of an instruction: the one that decodes to it.
 pub fn encode(i: Inst) -> u32
-    requires { IsInRange i }
+    requires { FitsItsFormat i }
     ensures decodes { decoded result ≡ Some i }
     ensures only { (word : ℕ) → word < 2 ^ 32 → decoded word ≡ Some i → result ≡ word }
 {

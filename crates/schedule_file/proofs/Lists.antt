@@ -6,7 +6,7 @@ use Rattle.std.proofs.lemmas.Option.{none-some}
 use Rattle.std.proofs.lemmas.Grind.{flat_map-append}
 use Rattle.std.specs.List.{flat_map}
 use Rattle.schedule_file.specs.declared.bad_schedule.BadSchedule.{BadSchedule}
-use Rattle.schedule_file.specs.ScheduleFile.{list_bytes, lists_from, then_read, turns_at}
+use Rattle.schedule_file.specs.ScheduleFile.{list_bytes, lists_from, then_read, turns_from}
 
 abbrev pub behind : List (List ℕ) → Result (List (List ℕ)) BadSchedule → Result (List (List ℕ)) BadSchedule
 behind done (Ok rest) = Ok (done ++ rest)
@@ -22,7 +22,7 @@ behind_more done turns (Ok rest) = ap Ok (sym (append_assoc done (turns ∷ []) 
 behind_more done turns (Err wrong) = refl
 
 -- one more list was read
-pub read_more : (cores : ℕ) (bytes : List ℕ) (done : List (List ℕ)) (count interval at : ℕ) (turns : List ℕ) → turns_at cores bytes interval at ≡ Ok turns
+pub read_more : (cores : ℕ) (bytes : List ℕ) (done : List (List ℕ)) (count interval at : ℕ) (turns : List ℕ) → turns_from cores bytes interval at ≡ Ok turns
     → behind done (lists_from cores bytes (suc count) interval at) ≡ behind (done ++ turns ∷ []) (lists_from cores bytes count (interval + 1) (at + (4 + length turns)))
 read_more cores bytes done count interval at turns is = rw is (behind_more done turns (lists_from cores bytes count (interval + 1) (at + (4 + length turns))))
 
@@ -33,7 +33,7 @@ read_none cores bytes count left done none all = rw none (rw all (behind_none (l
 
 -- after one list more, where `left` are to come
 pub read_on : (cores : ℕ) (bytes : List ℕ) (whole : Result (List (List ℕ)) BadSchedule) (done after : List (List ℕ)) (count left interval at at_after : ℕ) (turns : List ℕ)
-    → whole ≡ behind done (lists_from cores bytes count interval at) → count ≡ suc left → turns_at cores bytes interval at ≡ Ok turns → after ≡ done ++ turns ∷ []
+    → whole ≡ behind done (lists_from cores bytes count interval at) → count ≡ suc left → turns_from cores bytes interval at ≡ Ok turns → after ≡ done ++ turns ∷ []
     → at_after ≡ at + (4 + length turns) → whole ≡ behind after (lists_from cores bytes left (interval + 1) at_after)
 read_on cores bytes whole done after count left interval at at_after turns so_far more is pushed goes_on =
     so_far ∙ (ap (λ n. behind done (lists_from cores bytes n interval at)) more

@@ -13,7 +13,7 @@ use Rattle.byteorder.specs.Numbers.{little_from-cons, little_from-lt}
 use Rattle.access_log.specs.Schedule.{AreTurns, ScheduleState}
 use Rattle.schedule_file.specs.declared.bad_schedule.BadSchedule.{BadSchedule}
 use Rattle.schedule_file.specs.declared.bad_schedule.BadSchedule.TheVariants as bad
-use Rattle.schedule_file.specs.ScheduleFile.{count_of, field_at, header_bytes, known_turns, list_bytes, lists_from, magic, read_number, schedule_file_of, schedule_of, then_read, turns_at}
+use Rattle.schedule_file.specs.ScheduleFile.{count_of, field_at, header_bytes, known_turns, list_bytes, lists_from, magic, read_number, schedule_file_of, schedule_of, then_read, turns_from}
 
 -- ---- numbers
 
@@ -111,8 +111,8 @@ record IsList (cores : ℕ) (bytes : List ℕ) (at : ℕ) (turns : List ℕ) : T
   pub known : All (λ core. core < cores) turns
   pub short : length turns < 2 ^ 32
 
-turns_read : (cores : ℕ) (bytes : List ℕ) (interval at : ℕ) (turns : List ℕ) → All (λ byte. byte < 256) bytes → turns_at cores bytes interval at ≡ Ok turns → IsList cores bytes at turns
-unfolding turns_at
+turns_read : (cores : ℕ) (bytes : List ℕ) (interval at : ℕ) (turns : List ℕ) → All (λ byte. byte < 256) bytes → turns_from cores bytes interval at ≡ Ok turns → IsList cores bytes at turns
+unfolding turns_from
 turns_read cores bytes interval at turns low is =
     let counted = first_read (read_number bytes at) (λ count. then_read (field_at bytes (at + 4) count) (λ list. known_turns interval (position (nat_le cores) list) list)) turns is in
     let listed = first_read (field_at bytes (at + 4) counted.0) (λ list. known_turns interval (position (nat_le cores) list) list) turns counted.2 in
@@ -151,7 +151,7 @@ lists_read cores bytes zero interval at lists low is =
       short = All-nil (λ turns. length turns < 2 ^ 32);
     })
 lists_read cores bytes (suc count) interval at lists low is =
-    let first = first_read (turns_at cores bytes interval at) (λ turns. then_read (lists_from cores bytes count (interval + 1) (at + (4 + length turns))) (λ rest. Ok (turns ∷ rest))) lists is in
+    let first = first_read (turns_from cores bytes interval at) (λ turns. then_read (lists_from cores bytes count (interval + 1) (at + (4 + length turns))) (λ rest. Ok (turns ∷ rest))) lists is in
     let turns = first.0 in
     let others = first_read (lists_from cores bytes count (interval + 1) (at + (4 + length turns))) (λ rest. Ok (turns ∷ rest)) lists first.2 in
     let rest = others.0 in

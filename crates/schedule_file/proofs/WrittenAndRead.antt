@@ -8,7 +8,7 @@ use Rattle.std.specs.List.{flat_map, position_or_len}
 use Rattle.byteorder.specs.Endian.{little_bytes, little_number}
 use Rattle.byteorder.specs.Numbers.{length-bytes_low_first, little_number-reads_back}
 use Rattle.access_log.specs.Schedule.{AreTurns, ScheduleState}
-use Rattle.schedule_file.specs.ScheduleFile.{count_of, field_at, header_bytes, known_turns, list_bytes, lists_from, magic, read_number, schedule_file_of, schedule_of, then_read, turns_at}
+use Rattle.schedule_file.specs.ScheduleFile.{count_of, field_at, header_bytes, known_turns, list_bytes, lists_from, magic, read_number, schedule_file_of, schedule_of, then_read, turns_from}
 
 -- a field, and then the rest
 pub record IsAhead (bytes : List ℕ) (at : ℕ) (field rest : List ℕ) : Type 0 where
@@ -51,8 +51,8 @@ none_is cores turns known =
     rw all (rw (le-ltb (length turns) (length turns) (omega arith)) refl)
 
 turns_are : (cores : ℕ) (bytes : List ℕ) (interval at : ℕ) (turns rest : List ℕ) → All (λ core. core < cores) turns → length turns < 2 ^ 32
-    → IsAhead bytes at (list_bytes turns) rest → turns_at cores bytes interval at ≡ Ok turns
-unfolding turns_at
+    → IsAhead bytes at (list_bytes turns) rest → turns_from cores bytes interval at ≡ Ok turns
+unfolding turns_from
 turns_are cores bytes interval at turns rest known short is =
     let count = little_bytes 4 (length turns) in
     let ahead : IsAhead bytes at count (turns ++ rest) = record { place = is.place; ahead = is.ahead ∙ append_assoc count turns rest } in

@@ -47,8 +47,8 @@ known_turns interval None turns = Ok turns
 known_turns interval (Some place) turns = Err (bad.Core interval place)
 
 -- the list of an interval, which begins at a place
-unfoldable pub turns_at : (cores : ℕ) → (bytes : List ℕ) → (interval at : ℕ) → Result (List ℕ) BadSchedule
-turns_at cores bytes interval at =
+unfoldable pub turns_from : (cores : ℕ) → (bytes : List ℕ) → (interval at : ℕ) → Result (List ℕ) BadSchedule
+turns_from cores bytes interval at =
     then_read (read_number bytes at) (λ count.
     then_read (field_at bytes (at + 4) count) (λ turns. known_turns interval (position (nat_le cores) turns) turns))
 
@@ -56,7 +56,7 @@ turns_at cores bytes interval at =
 abbrev pub lists_from : (cores : ℕ) → (bytes : List ℕ) → (count interval at : ℕ) → Result (List (List ℕ)) BadSchedule
 lists_from cores bytes zero interval at = if at == length bytes then Ok [] else Err (bad.After at)
 lists_from cores bytes (suc count) interval at =
-    then_read (turns_at cores bytes interval at) (λ turns.
+    then_read (turns_from cores bytes interval at) (λ turns.
     then_read (lists_from cores bytes count (interval + 1) (at + (4 + length turns))) (λ lists. Ok (turns ∷ lists)))
 
 -- how many intervals the header tells, of a file for so many cores

@@ -1,7 +1,7 @@
 //! Reads a schedule from front to back.
 ghost use Rattle.std.specs.Prelude.{◌≡◌, ◌≤◌, ◌<◌, ◌+◌, ◌^◌, All, length, take, drop, vec_len, nat_le, IfOk, IfErr, IfSome, Ok, Err, None};
 ghost use Rattle.std.specs.List.{position};
-ghost use Rattle.schedule_file.specs.ScheduleFile.{field_at, read_number, schedule_of, turns_at, count_of, AnswersAs};
+ghost use Rattle.schedule_file.specs.ScheduleFile.{field_at, read_number, schedule_of, turns_from, count_of, AnswersAs};
 
 use crate::{BadSchedule, MAGIC, ScheduleReadFail, VERSION};
 use access_log::Schedule;
@@ -54,7 +54,7 @@ fn intervals(bytes: &[u8], cores: u16) -> Result<u32, BadSchedule>
 }
 
 /// The list of an interval, which begins at this byte.
-#[tactic(auto, unfolding(crate::specs::ScheduleFile::turns_at))]
+#[tactic(auto, unfolding(crate::specs::ScheduleFile::turns_from))]
 fn turns(
     alloc: Global,
     bytes: &[u8],
@@ -66,7 +66,7 @@ fn turns(
     ensures known { IfOk result (λ v. All (λ core. core < cores) v.items) }
     ensures within { IfOk result (λ v. at + (4 + vec_len v) ≤ length bytes.now) }
     ensures short { IfOk result (λ v. vec_len v < 2 ^ 32) }
-    ensures turns { AnswersAs (λ v. v.items) result (turns_at cores bytes.now interval at) }
+    ensures turns { AnswersAs (λ v. v.items) result (turns_from cores bytes.now interval at) }
 {
     let count = number(bytes, at)? as usize;
     let list = field(bytes, at + 4, count)?;

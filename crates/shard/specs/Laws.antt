@@ -13,7 +13,7 @@ use Rattle.zs_num.specs.declared.entry.Outcome.TheVariants.{Hit}
 use Rattle.cache_set.specs.declared.letter.Letter.TheVariants.{I}
 use Rattle.shard.specs.Coherence.{Caches, allows, caches_after, caches_after_all, dirty_at, empty_caches, is_alone, is_valid, is_write, letter_at, outcome_of, outcomes_of}
 use Rattle.shard.specs.Marks.{AreReservedRight, MarkedMemory, marked_after, marked_reply, pairings_after}
-use Rattle.shard.specs.Served.{CanServe, HasCore, ShardState, met_by, shard_after, shard_reply}
+use Rattle.shard.specs.Served.{CanServe, KnowsCore, ShardState, met_by, shard_after, shard_reply}
 use Rattle.shard.specs.StandsFor.{AreAnswered, AreCoherent, HaveRoomForLines, HaveSets, KeepsLine, StandFor, accesses_of, flat_for, new_caches, new_memory, new_shards}
 
 -- ---- what an access leaves of a shard
@@ -29,7 +29,7 @@ abbrev pub StillServes : Type 0
 StillServes = (shard : ShardState) (entry : Entry) (request : Request) → CanServe shard request → CanServe (shard_after shard entry) request
 
 abbrev pub CoresStay : Type 0
-CoresStay = (shard : ShardState) (entry : Entry) (core : ℕ) → HasCore shard core → HasCore (shard_after shard entry) core
+CoresStay = (shard : ShardState) (entry : Entry) (core : ℕ) → KnowsCore shard core → KnowsCore (shard_after shard entry) core
 
 -- ---- the caches of a machine
 

@@ -39,8 +39,8 @@ unfoldable pub CanServe : ShardState → Request → Type 0
 CanServe shard request = IsServable shard.base shard.size request × (bank_of_line shard.caches.shards (line_of request) ≡ shard.number)
 
 -- a core that the shard knows
-abbrev pub HasCore : ShardState → (core : ℕ) → Type 0
-HasCore shard core = core < length shard.marks
+abbrev pub KnowsCore : ShardState → (core : ℕ) → Type 0
+KnowsCore shard core = core < length shard.marks
 
 unfoldable pub shard_reply : ShardState → Entry → ℕ
 shard_reply shard entry =

@@ -3,7 +3,7 @@ ghost use Rattle.std.specs.Prelude.{◌≡◌, ◌+◌, ◌-◌, ◌*◌, ◌%�
 ghost use Rattle.machine_desc.specs.Machine.{IsMachine};
 ghost use Rattle.shard.specs.Coherence.{dirty_at, letter_at};
 ghost use Rattle.zs_num.specs.Request.{line_at, bank_of_line};
-ghost use Rattle.shard.specs.Served.{new_shard, place_of, resumed, shard_after, CanServe, HasCore, IsServedBy};
+ghost use Rattle.shard.specs.Served.{new_shard, place_of, resumed, shard_after, CanServe, KnowsCore, IsServedBy};
 
 use crate::caches::CacheLists;
 use crate::filling::first_bytes;
@@ -101,7 +101,7 @@ impl Shard {
     #[tactic(auto, unfolding(crate::specs::Served::CanServe, crate::specs::Served::shard_reply, crate::specs::Served::met_by, crate::specs::Served::shard_after))]
     #[inline(always)]
     pub fn serve(&mut self, core: u16, start: Cycle, last: Stamp, request: Request) -> Entry
-        requires core { HasCore self.old core }
+        requires core { KnowsCore self.old core }
         requires can { CanServe self.old request }
         requires own_stamp { self.old.last < 2 ^ 62 - 1 }
         requires stamp { last < 2 ^ 62 - 1 }

@@ -9,7 +9,7 @@ use Rattle.zs_num.specs.declared.entry.Entry.{Entry}
 use Rattle.zs_num.specs.declared.request.Request.{Request}
 use Rattle.access_log.specs.History.{bank_of_entry, latest_of, of_bank, of_core, of_number}
 use Rattle.shard.specs.Laws.{CoresStay, LastIsStamp, StillServes}
-use Rattle.shard.specs.Served.{AreServedBy, CanServe, HasCore, ShardState, met_by, shard_after, shard_reply}
+use Rattle.shard.specs.Served.{AreServedBy, CanServe, KnowsCore, ShardState, met_by, shard_after, shard_reply}
 use Rattle.shard_table.specs.declared.view.ShardAccesses.{ShardAccesses}
 use Rattle.shard_table.specs.Lives.{IsPrefix, after_all}
 use Rattle.shard_table.specs.Rule.{AreTrueNotes}
@@ -172,6 +172,6 @@ pub still_serves : StillServes → (shard : ShardState) (entries : List Entry) (
 still_serves law shard [] request can = can
 still_serves law shard (x ∷ entries) request can = still_serves law (shard_after shard x) entries request (law shard x request can)
 
-pub cores_stay : CoresStay → (shard : ShardState) (entries : List Entry) (core : ℕ) → HasCore shard core → HasCore (after_all shard entries) core
+pub cores_stay : CoresStay → (shard : ShardState) (entries : List Entry) (core : ℕ) → KnowsCore shard core → KnowsCore (after_all shard entries) core
 cores_stay law shard [] core has = has
 cores_stay law shard (x ∷ entries) core has = cores_stay law (shard_after shard x) entries core (law shard x core has)

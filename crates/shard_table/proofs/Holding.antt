@@ -11,7 +11,7 @@ use Rattle.zs_num.specs.Request.{bank_of}
 use Rattle.access_log.specs.History.{bank_of_entry, latest_of, of_bank}
 use Rattle.access_log.specs.Logs.{LogState}
 use Rattle.shard.specs.Laws.{CoresStay, StillServes}
-use Rattle.shard.specs.Served.{CanServe, HasCore, IsServedBy, ShardState, met_by, shard_after, shard_reply}
+use Rattle.shard.specs.Served.{CanServe, KnowsCore, IsServedBy, ShardState, met_by, shard_after, shard_reply}
 use Rattle.shard_table.specs.declared.view.View.{View}
 use Rattle.shard_table.specs.declared.view.CoreAccesses.{CoreAccesses}
 use Rattle.shard_table.specs.declared.view.ShardAccesses.{ShardAccesses}
@@ -58,9 +58,9 @@ module _ (table : TableId) (v : View) (held : List (ℕ × ShardState)) (log : L
     few : v.cores * v.room < 2 ^ 62 - 1
     few = few_stamps v.cores v.room seat.few_cores seat.small_room
 
-    pub can : CoresStay → StillServes → HasCore shard core × CanServe shard request × (shard.last < 2 ^ 62 - 1)
+    pub can : CoresStay → StillServes → KnowsCore shard core × CanServe shard request × (shard.last < 2 ^ 62 - 1)
     can cores serves = (
-      subst (λ (x : ShardState). HasCore x core) (sym lives) (cores_stay cores ask.0 list core ask.2),
+      subst (λ (x : ShardState). KnowsCore x core) (sym lives) (cores_stay cores ask.0 list core ask.2),
       subst (λ (x : ShardState). CanServe x request) (sym lives) (still_serves serves ask.0 list request ask.3),
       (let low = ready.low in let is = ready.last in let most = few in omega (arith, low, is, most)),
     )

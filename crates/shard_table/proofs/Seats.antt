@@ -7,7 +7,7 @@ use Rattle.atomic_table.proofs.Lists.{at_set, set_else, set_here}
 use Rattle.zs_num.specs.declared.entry.Entry.{Entry}
 use Rattle.shard_table.specs.declared.view.View.{View}
 use Rattle.shard_table.specs.declared.view.CoreAccesses.{CoreAccesses}
-use Rattle.shard_table.specs.Rule.{AreApart, AreBelowMade, Has}
+use Rattle.shard_table.specs.Rule.{HaveOwnCores, AreBelowMade, Has}
 
 -- ---- the cores of a seat
 
@@ -70,7 +70,7 @@ module _ (views : List View) (id : ℕ) (v w : View) (at : get_elem? views id �
           | inr old ↦ (u, old.1, has)
         ]
 
-    pub apart_stays : AreApart views → AreApart (slice_set views id w)
+    pub apart_stays : HaveOwnCores views → HaveOwnCores (slice_set views id w)
     apart_stays apart = λ place other core u x here there has too.
         let one = had place u here core has in
         let two = had other x there core too in

@@ -6,7 +6,7 @@ use Rattle.zs_num.specs.declared.request.Request.{Request}
 use Rattle.zs_num.specs.Request.{bank_of}
 use Rattle.access_log.specs.History.{AreStamped, of_bank, of_core}
 use Rattle.access_log.specs.RecordedOrder.{no_stamps}
-use Rattle.shard.specs.Served.{AreServedBy, CanServe, HasCore, ShardState, shard_after}
+use Rattle.shard.specs.Served.{AreServedBy, CanServe, KnowsCore, ShardState, shard_after}
 
 -- the shard after them
 abbrev pub after_all : ShardState → List Entry → ShardState
@@ -19,7 +19,7 @@ IsPrefix list whole = (rest : List Entry) × (whole ≡ list ++ rest)
 -- what a core can ask of these shards
 abbrev pub MayAsk : List ShardState → (core : ℕ) → Request → Type 0
 MayAsk shards core request =
-    (shard : ShardState) × (slice_get shards (bank_of (length shards) request) ≡ Some shard) × HasCore shard core × CanServe shard request
+    (shard : ShardState) × (slice_get shards (bank_of (length shards) request) ≡ Some shard) × KnowsCore shard core × CanServe shard request
 
 -- shards in order of their numbers, before the first access
 abbrev pub AreNew : List ShardState → Type 0

@@ -28,8 +28,8 @@ AreDistinct [] = Unit {0}
 AreDistinct (part ∷ parts) = (Has part.core parts → ⊥) × AreDistinct parts
 
 -- no two seats have the same core
-abbrev pub AreApart : List View → Type 0
-AreApart views = (place other core : ℕ) (v w : View) → get_elem? views place ≡ some v → get_elem? views other ≡ some w
+abbrev pub HaveOwnCores : List View → Type 0
+HaveOwnCores views = (place other core : ℕ) (v w : View) → get_elem? views place ≡ some v → get_elem? views other ≡ some w
     → Has core v.parts → Has core w.parts → place ≡ other
 
 -- the first seat knows that no core has a seat or accesses from the number of seats made on
@@ -67,5 +67,5 @@ module _ (shards : List ShardState) (cores room : ℕ) where
     pub busy : (number : ℕ) → number < length shards → 0 < slice_index s.words (word_index number)
         → (place : ℕ) × (v : View) × (served : ShardAccesses) × (get_elem? s.views place ≡ some v) × (v.hold ≡ Some served) × (served.shard ≡ number)
     pub seats : (place : ℕ) (v : View) → get_elem? s.views place ≡ some v → IsTrueOfHistory history s.words v
-    pub apart : AreApart s.views
+    pub apart : HaveOwnCores s.views
     pub fresh : AreBelowMade history s.views

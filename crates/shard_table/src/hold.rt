@@ -1,7 +1,7 @@
 //! A hold of a shard: the shard is taken, serves an access, and is given back.
 ghost use Rattle.std.specs.Prelude.{◌≡◌, ◌≢◌, ℕ, ◌+◌, ◌*◌, ◌-◌, ◌<◌, ◌≤◌, ◌^◌, [], ◌∷◌, length, Some, None, IfOk, IfErr, OnOk, IsOk};
 ghost use Rattle.zs_num.specs.Request.{bank_of};
-ghost use Rattle.shard.specs.Served.{CanServe, HasCore, IsServedBy, ShardState, shard_after};
+ghost use Rattle.shard.specs.Served.{CanServe, KnowsCore, IsServedBy, ShardState, shard_after};
 ghost use Rattle.shard_table.specs.declared.view.CoreAccesses.{CoreAccesses};
 ghost use Rattle.shard_table.specs.declared.view.ShardAccesses.{ShardAccesses};
 ghost use Rattle.shard_table.specs.Access.{IsAccess, IsHeld, IsSameSeat, IsSeatOf};
@@ -130,7 +130,7 @@ fn serve(
     request: Request,
 ) -> Entry
     requires table { place.old.table_id ≡ bench.now.table_id }
-    requires hand { (x : ShardState) × (place.old.me.1 ≡ (shard, x) ∷ []) × HasCore x core × CanServe x request × (x.last < 2 ^ 62 - 1) }
+    requires hand { (x : ShardState) × (place.old.me.1 ≡ (shard, x) ∷ []) × KnowsCore x core × CanServe x request × (x.last < 2 ^ 62 - 1) }
     requires stamp { last < 2 ^ 62 - 1 }
     ensures table { (place.new.table_id ≡ place.old.table_id) × (place.new.id ≡ place.old.id) }
     ensures served { (x : ShardState) → place.old.me.1 ≡ (shard, x) ∷ []

@@ -13,7 +13,7 @@ use Rattle.component.specs.ComponentStep.{free_of}
 use Rattle.stats.specs.declared.counts.CoreCount.{CoreCount}
 use Rattle.stats.specs.declared.counts.CompCount.{CompCount}
 use Rattle.stats.specs.Counted.{core_plus, entry_count, delay_count, no_core_count, comp_plus, event_count, no_comp_count}
-use Rattle.stats.specs.Counts.{Interval, Counts, CoreFits, CompFits, CountsFit, added, core_after, comp_in, comp_after}
+use Rattle.stats.specs.Counts.{Interval, Counts, CoreFits, CompFits, CountsFit, added, core_count_after, comp_count_in, comp_count_after}
 use Rattle.stats.specs.Passes.{with_accesses, with_delay, with_events, with_free}
 use Rattle.stats.proofs.Plus.{core_plus-assoc, core_plus-none, comp_plus-assoc, comp_plus-none, plus-fold}
 
@@ -41,7 +41,7 @@ module _ (i : Interval) where
   abbrev comp_next : CompCount → (n : ℕ) → CompCount
   comp_next c n = with_events c n (zip i.events i.fired)
 
-  core_is : (c : CoreCount) (n : ℕ) → core_next c n ≡ core_after i n c
+  core_is : (c : CoreCount) (n : ℕ) → core_next c n ≡ core_count_after i n c
   unfolding with_accesses
   core_is c n =
       let own : List Entry = filter (λ e. e.core == n) i.entries in
@@ -50,7 +50,7 @@ module _ (i : Interval) where
       ∙ ap (λ (x : CoreCount). fold core_plus x (map entry_count own)) (sym (core_plus-none c delay))
       ∙ sym (plus-fold core_plus core_plus-assoc c (core_plus no_core_count delay) (map entry_count own))
 
-  counted_in : (c : CompCount) (n : ℕ) → comp_next c n ≡ comp_plus c (comp_in i n)
+  counted_in : (c : CompCount) (n : ℕ) → comp_next c n ≡ comp_plus c (comp_count_in i n)
   unfolding with_events
   counted_in c n =
       let own : List (Event × Fired) = filter (λ x. x.0.component == n) (zip i.events i.fired) in
@@ -58,7 +58,7 @@ module _ (i : Interval) where
       ∙ ap (λ (x : CompCount). fold comp_plus x (map event_count own)) (sym (comp_plus-none c))
       ∙ sym (plus-fold comp_plus comp_plus-assoc c no_comp_count (map event_count own))
 
-  comp_is : (c : CompCount) (n : ℕ) (after : Comp) → with_free (comp_next c n) (free_of after) ≡ comp_after i n c after
+  comp_is : (c : CompCount) (n : ℕ) (after : Comp) → with_free (comp_next c n) (free_of after) ≡ comp_count_after i n c after
   comp_is c n after = ap (λ (x : CompCount). with_free x (free_of after)) (counted_in c n)
 
   -- each sum fits where the sums do
@@ -66,7 +66,7 @@ module _ (i : Interval) where
       → (n : ℕ) (d : CoreCount) → n < length first.core_counts → CoreFits (core_next (get_or first.core_counts n d) n)
   unfolding added
   core_fits first comps fits n d below =
-      let f : ℕ × CoreCount → CoreCount = λ at'. core_after i at'.0 at'.1 in
+      let f : ℕ × CoreCount → CoreCount = λ at'. core_count_after i at'.0 at'.1 in
       let there : n < length (map f (enumerate_from 0 first.core_counts)) = omega (arith, length_numbered f first.core_counts) in
       subst CoreFits (at_number f first.core_counts n d d below ∙ sym (core_is (get_or first.core_counts n d) n)) (fits.core_counts n d there)
 
@@ -74,25 +74,25 @@ module _ (i : Interval) where
       → (n : ℕ) (d : CompCount) → n < length first.comp_counts → CompFits (comp_next (get_or first.comp_counts n d) n)
   unfolding added
   comp_fits first comps same fits n d below =
-      let f : ℕ × (CompCount × Comp) → CompCount = λ at'. comp_after i at'.0 at'.1.0 at'.1.1 in
+      let f : ℕ × (CompCount × Comp) → CompCount = λ at'. comp_count_after i at'.0 at'.1.0 at'.1.1 in
       let inside : n < length comps = omega arith in
       let c : Comp = one_of comps n inside in
       let within : n < length (zip first.comp_counts comps) = omega (arith, length-zip first.comp_counts comps) in
       let there : n < length (map f (enumerate_from 0 (zip first.comp_counts comps))) = omega (arith, length_numbered f (zip first.comp_counts comps)) in
-      let all : CompFits (comp_after i n (get_or first.comp_counts n d) (get_or comps n c)) =
+      let all : CompFits (comp_count_after i n (get_or first.comp_counts n d) (get_or comps n c)) =
       subst CompFits
       (at_number f (zip first.comp_counts comps) n (d, c) d within ∙ ap (λ (x : CompCount × Comp). f (n, x)) (get_or-zip first.comp_counts comps n (d, c) below inside))
       (fits.comp_counts n d there)
       in
-      let sums : CompFits (comp_plus (get_or first.comp_counts n d) (comp_in i n)) = record { events = all.events; waited = all.waited } in
+      let sums : CompFits (comp_plus (get_or first.comp_counts n d) (comp_count_in i n)) = record { events = all.events; waited = all.waited } in
       subst CompFits (sym (counted_in (get_or first.comp_counts n d) n)) sums
 
   -- the counts of all
   cores_added : (first now : List CoreCount) → length now ≡ length first
       → ((n : ℕ) (d : CoreCount) → n < length first → get_or now n d ≡ core_next (get_or first n d) n)
-      → now ≡ map (λ at'. core_after i at'.0 at'.1) (enumerate_from 0 first)
+      → now ≡ map (λ at'. core_count_after i at'.0 at'.1) (enumerate_from 0 first)
   cores_added first now long each =
-      let f : ℕ × CoreCount → CoreCount = λ at'. core_after i at'.0 at'.1 in
+      let f : ℕ × CoreCount → CoreCount = λ at'. core_count_after i at'.0 at'.1 in
       same_lists now (map f (enumerate_from 0 first)) (long ∙ sym (length_numbered f first))
       (λ n d below.
       let there : n < length first = omega arith in
@@ -100,9 +100,9 @@ module _ (i : Interval) where
 
   comps_added : (first now : List CompCount) (comps : List Comp) → length now ≡ length first → length comps ≡ length first
       → ((n : ℕ) (d : CompCount) (c : Comp) → n < length first → get_or now n d ≡ with_free (comp_next (get_or first n d) n) (free_of (get_or comps n c)))
-      → now ≡ map (λ at'. comp_after i at'.0 at'.1.0 at'.1.1) (enumerate_from 0 (zip first comps))
+      → now ≡ map (λ at'. comp_count_after i at'.0 at'.1.0 at'.1.1) (enumerate_from 0 (zip first comps))
   comps_added first now comps long same each =
-      let f : ℕ × (CompCount × Comp) → CompCount = λ at'. comp_after i at'.0 at'.1.0 at'.1.1 in
+      let f : ℕ × (CompCount × Comp) → CompCount = λ at'. comp_count_after i at'.0 at'.1.0 at'.1.1 in
       let paired : length (zip first comps) ≡ length first = omega (arith, length-zip first comps) in
       same_lists now (map f (enumerate_from 0 (zip first comps))) (long ∙ sym paired ∙ sym (length_numbered f (zip first comps)))
       (λ n d below.
@@ -122,7 +122,7 @@ module _ (i : Interval) where
       → (let all : Counts = record { core_counts = cores; comp_counts = counts; accesses = first.accesses + length i.entries; events = first.events + length i.events } in all) ≡ added first i comps
   unfolding added
   counts_added first cores counts comps long each as_long same each_comp =
-      let cores_are : cores ≡ map (λ at'. core_after i at'.0 at'.1) (enumerate_from 0 first.core_counts) = cores_added first.core_counts cores long each in
-      let counts_are : counts ≡ map (λ at'. comp_after i at'.0 at'.1.0 at'.1.1) (enumerate_from 0 (zip first.comp_counts comps)) = comps_added first.comp_counts counts comps as_long same each_comp in
+      let cores_are : cores ≡ map (λ at'. core_count_after i at'.0 at'.1) (enumerate_from 0 first.core_counts) = cores_added first.core_counts cores long each in
+      let counts_are : counts ≡ map (λ at'. comp_count_after i at'.0 at'.1.0 at'.1.1) (enumerate_from 0 (zip first.comp_counts comps)) = comps_added first.comp_counts counts comps as_long same each_comp in
       ap (λ (xs : List CoreCount). let all : Counts = record { core_counts = xs; comp_counts = counts; accesses = first.accesses + length i.entries; events = first.events + length i.events } in all) cores_are
-      ∙ ap (λ (xs : List CompCount). let all : Counts = record { core_counts = map (λ at'. core_after i at'.0 at'.1) (enumerate_from 0 first.core_counts); comp_counts = xs; accesses = first.accesses + length i.entries; events = first.events + length i.events } in all) counts_are
+      ∙ ap (λ (xs : List CompCount). let all : Counts = record { core_counts = map (λ at'. core_count_after i at'.0 at'.1) (enumerate_from 0 first.core_counts); comp_counts = xs; accesses = first.accesses + length i.entries; events = first.events + length i.events } in all) counts_are

@@ -11,7 +11,7 @@ use Rattle.component.specs.Components.{AreFresh}
 use Rattle.stats.specs.declared.counts.CoreCount.{CoreCount}
 use Rattle.stats.specs.declared.counts.CompCount.{CompCount}
 use Rattle.stats.specs.Counted.{core_plus, comp_plus, no_core_count, no_comp_count}
-use Rattle.stats.specs.Counts.{Interval, Counts, added, counts_of, core_in, core_total, core_after, comp_in, comp_total, comp_after, no_counts}
+use Rattle.stats.specs.Counts.{Interval, Counts, added, counts_of, core_count_in, core_total, core_count_after, comp_count_in, comp_total, comp_count_after, no_counts}
 use Rattle.stats.proofs.Plus.{same_comp}
 
 -- the counts of these
@@ -25,25 +25,25 @@ same_counts a b cores comps accesses events =
     same
 
 module _ (intervals : List Interval) (i : Interval) where
-  core_more : (n : ℕ) → core_after i n (core_total intervals n) ≡ core_total (intervals ++ i ∷ []) n
+  core_more : (n : ℕ) → core_count_after i n (core_total intervals n) ≡ core_total (intervals ++ i ∷ []) n
   core_more n =
-      let of : Interval → CoreCount = λ x. core_in x n in
+      let of : Interval → CoreCount = λ x. core_count_in x n in
       sym (ap (fold core_plus no_core_count) (map-append of intervals (i ∷ [])) ∙ fold_push core_plus no_core_count (map of intervals) (of i))
 
-  comp_more : (n : ℕ) (before after : Comp) → comp_after i n (comp_total intervals n before) after ≡ comp_total (intervals ++ i ∷ []) n after
+  comp_more : (n : ℕ) (before after : Comp) → comp_count_after i n (comp_total intervals n before) after ≡ comp_total (intervals ++ i ∷ []) n after
   comp_more n before after =
-      let of : Interval → CompCount = λ x. comp_in x n in
+      let of : Interval → CompCount = λ x. comp_count_in x n in
       let sums = ap (fold comp_plus no_comp_count) (map-append of intervals (i ∷ [])) ∙ fold_push comp_plus no_comp_count (map of intervals) (of i) in
       sym (ap (λ (c : CompCount). let with_free : CompCount = record c { free = free_of after } in with_free) sums)
 
   -- all cores from number a on, and all components
-  cores_more : (a n : ℕ) → map (λ at'. core_after i at'.0 at'.1) (enumerate_from a (map (core_total intervals) (range_with_len a n)))
+  cores_more : (a n : ℕ) → map (λ at'. core_count_after i at'.0 at'.1) (enumerate_from a (map (core_total intervals) (range_with_len a n)))
       ≡ map (core_total (intervals ++ i ∷ [])) (range_with_len a n)
   cores_more a zero = refl
   cores_more a (suc n) = let one = core_more a in let rest = cores_more (a + 1) n in cc
 
   comps_more : (a : ℕ) (before after : List Comp) → length before ≡ length after
-      → map (λ at'. comp_after i at'.0 at'.1.0 at'.1.1) (enumerate_from a (zip (map (λ at'. comp_total intervals at'.0 at'.1) (enumerate_from a before)) after))
+      → map (λ at'. comp_count_after i at'.0 at'.1.0 at'.1.1) (enumerate_from a (zip (map (λ at'. comp_total intervals at'.0 at'.1) (enumerate_from a before)) after))
       ≡ map (λ at'. comp_total (intervals ++ i ∷ []) at'.0 at'.1) (enumerate_from a after)
   comps_more a [] [] same = refl
   comps_more a [] (y ∷ ys) same = absurd (omega arith)

@@ -15,7 +15,7 @@ use Rattle.event_graph.specs.Timely.{AreTimely, IsTimely}
 use Rattle.stats.specs.declared.counts.CoreCount.{CoreCount}
 use Rattle.stats.specs.declared.counts.CompCount.{CompCount}
 use Rattle.stats.specs.Counted.{core_plus, entry_count, delay_count, no_core_count, comp_plus, event_count, no_comp_count, wait_of, one_if}
-use Rattle.stats.specs.Counts.{Interval, CoreFits, CompFits, CountsFit, counts_of, core_in, core_total, comp_in, comp_total}
+use Rattle.stats.specs.Counts.{Interval, CoreFits, CompFits, CountsFit, counts_of, core_count_in, core_total, comp_count_in, comp_total}
 
 -- what is asked of each interval
 abbrev pub IsBounded : Interval → Type 0
@@ -120,7 +120,7 @@ filtered : {X : Type 0} (p : X → Bool) (xs : List X) → length (filter p xs) 
 filtered p xs = omega (arith, length-filter p xs, count_by-le-length p xs)
 
 -- what is counted of a core in an interval
-core_in_within : (i : Interval) (n : ℕ) → IsBounded i → IsCoreWithin (length i.entries) (2 ^ 62) (core_in i n)
+core_in_within : (i : Interval) (n : ℕ) → IsBounded i → IsCoreWithin (length i.entries) (2 ^ 62) (core_count_in i n)
 core_in_within i n bounded =
     let own : List Entry = filter (λ e. e.core == n) i.entries in
     let delay : CoreCount = delay_count (slice_index i.delays n) in
@@ -129,12 +129,12 @@ core_in_within i n bounded =
 
 -- after these intervals
 core_sum_within : (k a n d m : ℕ) (c : CoreCount) (intervals : List Interval) → All IsBounded intervals → IsCoreWithin a d c
-    → a + sum_by (λ i. length i.entries) intervals ≤ n → d + 2 ^ 62 * length intervals ≤ m → IsCoreWithin n m (fold core_plus c (map (λ i. core_in i k) intervals))
+    → a + sum_by (λ i. length i.entries) intervals ≤ n → d + 2 ^ 62 * length intervals ≤ m → IsCoreWithin n m (fold core_plus c (map (λ i. core_count_in i k) intervals))
 core_sum_within k a n d m c [] bounded within few short = core_weaker a n d m c within (omega arith) (omega arith)
 core_sum_within k a n d m c (i ∷ is) bounded within few short =
     let entries : Interval → ℕ = λ x. length x.entries in
-    let one = core_together a (entries i) (a + entries i) d (2 ^ 62) (d + 2 ^ 62) c (core_in i k) within (core_in_within i k (All-head IsBounded i is bounded)) (omega arith) (omega arith) in
-    core_sum_within k (a + entries i) n (d + 2 ^ 62) m (core_plus c (core_in i k)) is (All-tail IsBounded i is bounded) one
+    let one = core_together a (entries i) (a + entries i) d (2 ^ 62) (d + 2 ^ 62) c (core_count_in i k) within (core_in_within i k (All-head IsBounded i is bounded)) (omega arith) (omega arith) in
+    core_sum_within k (a + entries i) n (d + 2 ^ 62) m (core_plus c (core_count_in i k)) is (All-tail IsBounded i is bounded) one
     (omega (arith, sum_by-cons entries i is)) (omega arith)
 
 -- a count of no more events, each of which waited for 2^62 cycles at most
@@ -170,7 +170,7 @@ are_short i timely = λ k d below.
     let is : IsTimely e f = timely.each k e f (slice_get-get_or i.events k d.0 here) (slice_get-get_or i.fired k d.1 there) in
     subst IsShort (sym (get_or-zip i.events i.fired k d here there)) (omega (arith, is.small))
 
-comp_in_within : (i : Interval) (n : ℕ) → IsBounded i → IsCompWithin (length i.events) (comp_in i n)
+comp_in_within : (i : Interval) (n : ℕ) → IsBounded i → IsCompWithin (length i.events) (comp_count_in i n)
 comp_in_within i n bounded =
     let p : Event × Fired → Bool = λ x. x.0.component == n in
     let own : List (Event × Fired) = filter p (zip i.events i.fired) in
@@ -179,12 +179,12 @@ comp_in_within i n bounded =
     (omega (arith, filtered p (zip i.events i.fired), length-zip i.events i.fired))
 
 comp_sum_within : (k a n : ℕ) (c : CompCount) (intervals : List Interval) → All IsBounded intervals → IsCompWithin a c
-    → a + sum_by (λ i. length i.events) intervals ≤ n → IsCompWithin n (fold comp_plus c (map (λ i. comp_in i k) intervals))
+    → a + sum_by (λ i. length i.events) intervals ≤ n → IsCompWithin n (fold comp_plus c (map (λ i. comp_count_in i k) intervals))
 comp_sum_within k a n c [] bounded within few = comp_weaker a n c within (omega arith)
 comp_sum_within k a n c (i ∷ is) bounded within few =
     let events : Interval → ℕ = λ x. length x.events in
-    let one = comp_together a (events i) (a + events i) c (comp_in i k) within (comp_in_within i k (All-head IsBounded i is bounded)) (omega arith) in
-    comp_sum_within k (a + events i) n (comp_plus c (comp_in i k)) is (All-tail IsBounded i is bounded) one (omega (arith, sum_by-cons events i is))
+    let one = comp_together a (events i) (a + events i) c (comp_count_in i k) within (comp_in_within i k (All-head IsBounded i is bounded)) (omega arith) in
+    comp_sum_within k (a + events i) n (comp_plus c (comp_count_in i k)) is (All-tail IsBounded i is bounded) one (omega (arith, sum_by-cons events i is))
 
 module _ (intervals : List Interval) (accesses : sum_by (λ i. length i.entries) intervals < 2 ^ 64) (events : sum_by (λ i. length i.events) intervals ≤ 2 ^ 60)
     (short : length intervals ≤ 2 ^ 60) (bounded : All IsBounded intervals) where

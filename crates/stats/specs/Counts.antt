@@ -21,22 +21,22 @@ pub record Interval : Type 0 where
   pub delays : List ℕ
 
 -- what is counted of a core in an interval: its delay and its accesses
-abbrev pub core_in : Interval → (core : ℕ) → CoreCount
-core_in i core =
+abbrev pub core_count_in : Interval → (core : ℕ) → CoreCount
+core_count_in i core =
     core_sum (delay_count (slice_index i.delays core) ∷ map entry_count (filter (λ e. e.core == core) i.entries))
 
 -- what is counted of a component in an interval: its events
-abbrev pub comp_in : Interval → (comp : ℕ) → CompCount
-comp_in i comp = comp_sum (map event_count (filter (λ x. x.0.component == comp) (zip i.events i.fired)))
+abbrev pub comp_count_in : Interval → (comp : ℕ) → CompCount
+comp_count_in i comp = comp_sum (map event_count (filter (λ x. x.0.component == comp) (zip i.events i.fired)))
 
 -- A run.
 
 -- the sums over its intervals; a component's last state tells from when on it is free
 abbrev pub core_total : List Interval → (core : ℕ) → CoreCount
-core_total intervals core = core_sum (map (λ i. core_in i core) intervals)
+core_total intervals core = core_sum (map (λ i. core_count_in i core) intervals)
 
 abbrev pub comp_total : List Interval → (comp : ℕ) → Comp → CompCount
-comp_total intervals comp c = record (comp_sum (map (λ i. comp_in i comp) intervals)) { free = free_of c }
+comp_total intervals comp c = record (comp_sum (map (λ i. comp_count_in i comp) intervals)) { free = free_of c }
 
 -- the accesses and the events of all intervals
 abbrev pub total_accesses : List Interval → ℕ
@@ -63,17 +63,17 @@ counts_of cores comps intervals = record {
 
 -- One interval more.
 
-abbrev pub core_after : Interval → (core : ℕ) → CoreCount → CoreCount
-core_after i core c = core_plus c (core_in i core)
+abbrev pub core_count_after : Interval → (core : ℕ) → CoreCount → CoreCount
+core_count_after i core c = core_plus c (core_count_in i core)
 
-abbrev pub comp_after : Interval → (comp : ℕ) → CompCount → Comp → CompCount
-comp_after i comp c after = record (comp_plus c (comp_in i comp)) { free = free_of after }
+abbrev pub comp_count_after : Interval → (comp : ℕ) → CompCount → Comp → CompCount
+comp_count_after i comp c after = record (comp_plus c (comp_count_in i comp)) { free = free_of after }
 
 -- the counts after one more interval, from those before
 unfoldable pub added : Counts → Interval → List Comp → Counts
 added c i comps = record {
-  core_counts = map (λ at. core_after i at.0 at.1) (enumerate_from 0 c.core_counts);
-  comp_counts = map (λ at. comp_after i at.0 at.1.0 at.1.1) (enumerate_from 0 (zip c.comp_counts comps));
+  core_counts = map (λ at. core_count_after i at.0 at.1) (enumerate_from 0 c.core_counts);
+  comp_counts = map (λ at. comp_count_after i at.0 at.1.0 at.1.1) (enumerate_from 0 (zip c.comp_counts comps));
   accesses = c.accesses + length i.entries;
   events = c.events + length i.events;
 }

@@ -6,7 +6,7 @@ use Rattle.elf_load.specs.MemoryImage.{MemoryImage}
 use Rattle.machine_desc.specs.declared.machine.Machine.{Machine}
 use Rattle.rv_core.specs.Step.{initial_core}
 use Rattle.bound_core.specs.TimedCore.{NumberedCore, TimedCore, first_core}
-use Rattle.bound_phase.specs.Bounds.{IsAtStart}
+use Rattle.bound_phase.specs.Bounds.{IsBeforeInterval}
 
 -- what holds of each by its index holds with one more at the end
 pub each_pushed : {X : Type 0} (P : ℕ → X → Type 0) (xs : List X) (x : X) → ((i : ℕ) (y : X) → slice_get xs i ≡ Some y → P i y) → P (length xs) x
@@ -21,7 +21,7 @@ unfolding initial_core
 first_idle m image number = refl
 
 pub starts_first : (m : Machine) (image : MemoryImage) (number : ℕ) (c : NumberedCore) → c.timed ≡ first_core m image number
-    → c.timed.core.memory.base ≡ m.memory.base → c.timed.core.memory.size ≡ m.memory.size → IsAtStart m m.interval c
+    → c.timed.core.memory.base ≡ m.memory.base → c.timed.core.memory.size ≡ m.memory.size → IsBeforeInterval m m.interval c
 starts_first m image number c is base size =
     let clock : c.timed.clock ≡ 0 = ap (λ (t : TimedCore). t.clock) is in
     record {

@@ -4,7 +4,7 @@ ghost use Rattle.machine_desc.specs.Machine.{IsMachine};
 ghost use Rattle.shard.specs.StandsFor.{new_shards};
 ghost use Rattle.bound_core.specs.ShardPort.{AreShardsOf};
 ghost use Rattle.bound_core.specs.TimedCore.{NumberedCore};
-ghost use Rattle.bound_phase.specs.Bounds.{IsAtStart};
+ghost use Rattle.bound_phase.specs.Bounds.{IsBeforeInterval};
 
 use crate::given::{ONE_LOAD, RACE, image_of, machine};
 use bound_core::BoundCore;
@@ -27,7 +27,7 @@ fn first_cores(alloc: Global, machine: &Machine, image: &Image) -> Result<Vec<Bo
     requires { IsMachine machine.now }
     ensures count { IfOk result (λ cores. length cores.items ≡ machine.now.cores) }
     ensures numbers { IfOk result (λ cores. (number : ℕ) (c : NumberedCore) → slice_get cores.items number ≡ Some c → c.number ≡ number) }
-    ensures at_start { IfOk result (λ cores. All (IsAtStart machine.now machine.now.interval) cores.items) }
+    ensures at_start { IfOk result (λ cores. All (IsBeforeInterval machine.now machine.now.interval) cores.items) }
 {
     let mut cores = Vec::new(alloc);
     for number in 0..machine.cores {

@@ -12,7 +12,7 @@ use Rattle.event_graph.specs.OneListWeave.{FiredEvent, find_fired, finish_in, fi
 use Rattle.event_graph.specs.TimingSolution.{after_serving, of_component}
 use Rattle.domain_map.specs.declared.crossing.Crossing.{Crossing}
 use Rattle.domain_map.specs.Domains.{Partition, IsPartition, domain_at, domain_of_event}
-use Rattle.weave_core.specs.DomainMachine.{DomainState, MachineState, cycle_of, effect_of, finish_of_parent, fresh_domain, is_allowed, is_crossing, is_exact, latency_at, latency_of, limit_of, look, may_raise, publish, raise, state_of, word_at}
+use Rattle.weave_core.specs.DomainMachine.{DomainState, MachineState, cycle_of, effect_of, finish_of_parent, fresh_domain, is_allowed, crossing_passes, is_exact, latency_at, latency_of, limit_of, look, may_raise, publish, raise, state_of, word_at}
 use Rattle.weave_core.specs.Soundness.{AreSoundBounds, AreSoundWords, IsSoundFloor, IsSoundWord}
 use Rattle.weave_core.specs.Interleavings.{of_domain}
 use Rattle.weave_core.proofs.Lists.{both, finding_option, test_cases, not_true}
@@ -77,7 +77,7 @@ module _ {C : Type 0} (stepped : C → Kind → ℕ → C × ℕ) (events : List
     domains = λ d. record { fired = (h.domains d).fired; known = (h.domains d).known; floor = (h.domains d).floor };
   }
 
-  given : (s : MachineState C) (number : ℕ) (test : Crossing → Bool) → is_crossing events p stepped number test ≡ true
+  given : (s : MachineState C) (number : ℕ) (test : Crossing → Bool) → crossing_passes events p stepped number test ≡ true
       → (x : Crossing) × ((slice_get p.crossings number ≡ Some x) × (test x ≡ true))
   given s number test h = finding_option (slice_get p.crossings number) test h
 

@@ -171,8 +171,8 @@ module _ (events : List Event) (p : Partition) where
     -- When a step is allowed.
 
     -- the number is that of a crossing that passes
-    abbrev pub is_crossing : (number : ℕ) → (Crossing → Bool) → Bool
-    is_crossing number test = option_map_or test (slice_get p.crossings number) false
+    abbrev pub crossing_passes : (number : ℕ) → (Crossing → Bool) → Bool
+    crossing_passes number test = option_map_or test (slice_get p.crossings number) false
 
     -- the parent of the crossing is unfired, the bound doesn't fall, and the parent can't finish before it
     abbrev pub may_raise : MachineState C → (domain number bound : ℕ) → Crossing → Bool
@@ -189,12 +189,12 @@ module _ (events : List Event) (p : Partition) where
         || (is_exact (word_at s.words number) && is_exact (word_at (state_of s x.target).known number))
 
     abbrev pub is_allowed : MachineState C → Step → Bool
-    is_allowed s (look domain number) = is_crossing number (λ x. x.target == domain)
-    is_allowed s (raise domain number bound) = is_crossing number (may_raise s domain number bound)
+    is_allowed s (look domain number) = crossing_passes number (λ x. x.target == domain)
+    is_allowed s (raise domain number bound) = crossing_passes number (may_raise s domain number bound)
     is_allowed s (fire domain) =
         option_map_or (λ next. is_clear domain (state_of s domain) next.1) (next_in domain (state_of s domain)) false
     is_allowed s (publish domain number) =
-        is_crossing number (λ x. (x.source == domain) && is_fired (state_of s domain).fired x.parent)
+        crossing_passes number (λ x. (x.source == domain) && is_fired (state_of s domain).fired x.parent)
     is_allowed s barrier = every_crossing (is_settled s) && is_some (least_ready_start s)
 
     -- What a step does.

@@ -21,7 +21,7 @@ use Rattle.weave_core.specs.declared.next.Next.{Next}
 use Rattle.weave_core.specs.declared.next.Next.TheVariants.{Blocked, Done, Fire}
 use Rattle.weave_run.specs.Outgoing.{AreOutgoing, IsLastBelow}
 use Rattle.weave_run.specs.Rounds.{CanWeavePlan, Grows, HasFiredNext, HasGoneOn, IsFinish}
-use Rattle.weave_run.specs.Seating.{IsPostSeated, HasFiredThere, HasLooked, HasPublished, HasServed, IsSeat, MayPublish}
+use Rattle.weave_run.specs.Seating.{IsPostSeated, HasFiredThere, HasLooked, HasPublished, HasServed, IsSeatOfPlan, MayPublish}
 use Rattle.weave_run.specs.declared.outgoing.Outgoing.{Outgoing}
 use Rattle.weave_run.specs.declared.plan.Plan.{Plan}
 use Rattle.weave_run.specs.declared.post.Post.{Post}
@@ -45,7 +45,7 @@ module _ {C : Type 0} (stepped : C → Kind → ℕ → C × ℕ) (plan : Plan C
   owner_at : (number : ℕ) (x : Crossing) → slice_get crossings number ≡ Some x → slice_index (sources_of plan.parts.value) number ≡ x.source
   owner_at number x at = index_map (λ (y : Crossing). y.source) crossings number x at
 
-  pub number_there : (table : TableId) (domain : ℕ) (s : SeatValue) → IsSeat stepped plan table domain s → (number : ℕ) (x : Crossing) → slice_get crossings number ≡ Some x → number < length s.sources
+  pub number_there : (table : TableId) (domain : ℕ) (s : SeatValue) → IsSeatOfPlan stepped plan table domain s → (number : ℕ) (x : Crossing) → slice_get crossings number ≡ Some x → number < length s.sources
   number_there table domain s seat number x at =
       let w = slice_get_within crossings number x at in
       let n = ap length seat.sources_are in
@@ -74,7 +74,7 @@ module _ {C : Type 0} (stepped : C → Kind → ℕ → C × ℕ) (plan : Plan C
     others = λ number x at other. h.others number x at (inr other);
   }
 
-  module _ (table : TableId) (old now : SeatValue) (parent link finish : ℕ) (some : link ≡ 0 → ⊥) (seat : IsSeat stepped plan table old.domain old) (may : MayPublish plan old parent) (is_finish : IsFinish stepped plan parent finish)
+  module _ (table : TableId) (old now : SeatValue) (parent link finish : ℕ) (some : link ≡ 0 → ⊥) (seat : IsSeatOfPlan stepped plan table old.domain old) (may : MayPublish plan old parent) (is_finish : IsFinish stepped plan parent finish)
       (h : IsLink crossings parent link) (so_far : IsPublishing old now parent link) where
     abbrev number : ℕ
     number = link - 1
@@ -204,7 +204,7 @@ module _ {C : Type 0} (serves : C → Kind → Bool) (floor : C → Kind → ℕ
         (subst (λ (v : DomainValue C). MayTell v.events v.partition v.domain v.own number (Exact finish)) (sym ok.kept.is)
         (laws.may_tell events partition plan.comps.value can old.domain.domain old.domain.own old.domain.comps number finish ok.kept.keeps (finish_of finish e)))
 
-    same_seat : IsSeat stepped plan table old.domain.domain seat
+    same_seat : IsSeatOfPlan stepped plan table old.domain.domain seat
     same_seat = record {
       crossings_are = ap (λ (s : SeatValue). s.crossings) looked.new_is ∙ ok.seated.seat.crossings_are;
       domain_is = ap (λ (s : SeatValue). s.domain) looked.new_is ∙ ok.seated.seat.domain_is;
@@ -269,7 +269,7 @@ module _ {C : Type 0} (serves : C → Kind → Bool) (floor : C → Kind → ℕ
       unpublished = λ number x at parent. ok.seated.unpublished number x at (from_here number x at parent) (ap (is_fired old.domain.own.fired) parent ∙ unfired);
     }
 
-    pub own_seat : IsSeat stepped plan table old.seat.domain old.seat
+    pub own_seat : IsSeatOfPlan stepped plan table old.seat.domain old.seat
     own_seat = record { crossings_are = ok.seated.seat.crossings_are; domain_is = refl; finishes_are = ok.seated.seat.finishes_are; sources_are = ok.seated.seat.sources_are }
 
     now_fired : (n : ℕ) → is_fired v.own.fired n ≡ false → is_fired old.domain.own.fired n ≡ false

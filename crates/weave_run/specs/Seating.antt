@@ -12,7 +12,7 @@ use Rattle.weave_run.specs.declared.post.Post.{Post}
 use Rattle.weave_run.specs.declared.plan.Plan.{Plan}
 
 -- the seat of a domain at these crossings, which are those of the plan
-pub record IsSeat {C : Type 0} (stepped : C → Kind → ℕ → C × ℕ) (plan : Plan C) (table : TableId) (domain : ℕ) (s : SeatValue) : Type 0 where
+pub record IsSeatOfPlan {C : Type 0} (stepped : C → Kind → ℕ → C × ℕ) (plan : Plan C) (table : TableId) (domain : ℕ) (s : SeatValue) : Type 0 where
   pub crossings_are : s.crossings ≡ table
   pub domain_is : s.domain ≡ domain
   pub finishes_are : s.finishes ≡ finishes_of stepped plan.graph.value plan.parts.value plan.comps.value
@@ -25,7 +25,7 @@ IsUnpublished plan v s =
     → slice_index s.wrote number % 2 ≡ 0
 
 pub record IsSeated {C : Type 0} (stepped : C → Kind → ℕ → C × ℕ) (plan : Plan C) (table : TableId) (v : DomainValue C) (s : SeatValue) : Type 0 where
-  pub seat : IsSeat stepped plan table v.domain s
+  pub seat : IsSeatOfPlan stepped plan table v.domain s
   pub unpublished : IsUnpublished plan v s
 
 -- each domain has its seat

@@ -6,7 +6,7 @@ ghost use Rattle.zs_num.specs.declared.time.Key.{Key};
 ghost use Rattle.weave_core.specs.DomainCalls.{MayFire};
 ghost use Rattle.weave_run.specs.Outgoing.{AreOutgoing};
 ghost use Rattle.weave_run.specs.Rounds.{CanWeavePlan, IsFinish};
-ghost use Rattle.weave_run.specs.Seating.{IsPostSeated, HasFiredThere, HasLooked, HasPublished, HasServed, IsSeat, MayPublish};
+ghost use Rattle.weave_run.specs.Seating.{IsPostSeated, HasFiredThere, HasLooked, HasPublished, HasServed, IsSeatOfPlan, MayPublish};
 
 use crate::outgoing::Outgoing;
 use crate::plan::Plan;
@@ -88,7 +88,7 @@ fn publish_all<C: Component>(
 )
     requires can { CanWeavePlan C.serves C.floor C.stepped C.greatest plan.now }
     requires outgoing { AreOutgoing plan.now.parts.value.crossings (length plan.now.graph.value) outgoing.now }
-    requires seat { IsSeat C.stepped plan.now crossings.now seat.old.domain seat.old }
+    requires seat { IsSeatOfPlan C.stepped plan.now crossings.now seat.old.domain seat.old }
     requires there { fired.number < length plan.now.graph.value }
     requires finish { IsFinish C.stepped plan.now fired.number fired.finish }
     requires may { MayPublish plan.now seat.old fired.number }

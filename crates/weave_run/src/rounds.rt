@@ -195,12 +195,12 @@ fn run_here<C: Component, G: Gate>(
     laws::keeping::<C>();
     for number in 0..p.domains() {
         let worker = number % workers;
-        run_one(domains, plan, p, outgoing, gate, number, worker, steps);
+        run_domain(domains, plan, p, outgoing, gate, number, worker, steps);
     }
 }
 
 /// Runs a domain, and tells the others what it fired.
-fn run_one<C: Component, G: Gate>(
+fn run_domain<C: Component, G: Gate>(
     domains: &mut [Domain<C>],
     plan: &Plan<C>,
     p: &Parts,

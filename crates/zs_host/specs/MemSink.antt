@@ -24,5 +24,5 @@ abbrev pub next_put_fails : MemSink → Bool
 next_put_fails sink = list_any (λ number. number == put_count sink) (failing_puts sink)
 
 -- how many puts failed
-abbrev pub sink_faults : MemSink → ℕ
-sink_faults sink = sink.faults
+abbrev pub sink_fault_count : MemSink → ℕ
+sink_fault_count sink = sink.faults

@@ -5,8 +5,8 @@ use Rattle.zs_host.specs.declared.sure_files.SureFiles.{SureFiles}
 use Rattle.zs_host.specs.declared.sure_sink.SureSink.{SureSink}
 
 -- the bytes that a name holds: none where it was never written
-abbrev pub bytes_at : SureFiles → List ℕ → List ℕ
-bytes_at files name = unwrap_or (get_by_text files.held name) []
+abbrev pub bytes_held : SureFiles → List ℕ → List ℕ
+bytes_held files name = unwrap_or (get_by_text files.held name) []
 
 -- the bytes so far
 abbrev pub bytes_put : SureSink → List ℕ

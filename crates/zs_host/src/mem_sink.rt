@@ -2,7 +2,7 @@
 ghost use Rattle.std.specs.Prelude.{◌≡◌, ◌≤◌, ◌<◌, ◌++◌, [], min, max, true, length, take, IsTrue, IfOk, OnErr, IsErrOf};
 ghost use Rattle.zs_host.specs.Counting.{one_more};
 ghost use Rattle.zs_host.specs.Faults.{SinkFaults};
-ghost use Rattle.zs_host.specs.MemSink.{bytes_taken, most_a_put, failing_puts, put_count, sink_faults, next_put_fails};
+ghost use Rattle.zs_host.specs.MemSink.{bytes_taken, most_a_put, failing_puts, put_count, sink_fault_count, next_put_fails};
 
 use crate::{Sink, SinkFail};
 use std::alloc::Global;
@@ -27,7 +27,7 @@ impl MemSink {
         ensures most { IfOk result (λ s. most_a_put s ≡ max most 1) }
         ensures failing { IfOk result (λ s. failing_puts s ≡ fail.now) }
         ensures puts { IfOk result (λ s. put_count s ≡ 0) }
-        ensures faults { IfOk result (λ s. sink_faults s ≡ 0) }
+        ensures faults { IfOk result (λ s. sink_fault_count s ≡ 0) }
     {
         Ok(MemSink {
             taken: Vec::new(alloc),
@@ -47,7 +47,7 @@ impl MemSink {
 
     /// How many puts failed.
     pub fn fault_count(&self) -> u64
-        ensures { result ≡ sink_faults self.now }
+        ensures { result ≡ sink_fault_count self.now }
     {
         self.faults
     }
@@ -58,7 +58,7 @@ impl Sink for MemSink {
 
     ghost bytes = { λ s. bytes_taken s };
 
-    ghost faults = { λ s. sink_faults s };
+    ghost faults = { λ s. sink_fault_count s };
 
     fn put(&mut self, _alloc: Global, piece: &[u8]) -> Result<usize, SinkFail>
         ensures within { IfOk result (λ n. n ≤ length piece.now) }
@@ -66,10 +66,10 @@ impl Sink for MemSink {
         ensures empty { length piece.now ≡ 0 → result ≡ Ok 0 }
         ensures appended { IfOk result (λ n. bytes_taken self.new ≡ bytes_taken self.old ++ take n piece.now) }
         ensures unchanged { OnErr result (bytes_taken self.new ≡ bytes_taken self.old) }
-        ensures faults { SinkFaults result (sink_faults self.old) (sink_faults self.new) }
+        ensures faults { SinkFaults result (sink_fault_count self.old) (sink_fault_count self.new) }
 
         ensures taken { IfOk result (λ n. n ≡ min (length piece.now) (most_a_put self.old)) }
-        ensures raised { IsErrOf result SinkFail.Failed → sink_faults self.new ≡ one_more (sink_faults self.old) }
+        ensures raised { IsErrOf result SinkFail.Failed → sink_fault_count self.new ≡ one_more (sink_fault_count self.old) }
         ensures fails { IsTrue (next_put_fails self.old) → 0 < length piece.now → IsErrOf result SinkFail.Failed }
         ensures failed { IsErrOf result SinkFail.Failed → IsTrue (next_put_fails self.old) }
         ensures counted { put_count self.new ≡ one_more (put_count self.old) }

@@ -20,7 +20,7 @@ use Rattle.zsim.specs.declared.ended.Status.{Status}
 use Rattle.zsim.specs.declared.ended.Status.TheVariants as status
 use Rattle.zsim.specs.declared.ended.Which.TheVariants as which
 use Rattle.zsim.specs.CommandLine.{Command, exe_file, record_name, replay}
-use Rattle.zsim.specs.Ended.{Gives, HasEnded, IsExeOf, IsMachineText, IsRefusedAt, IsScheduleFile, IsScheduleOf, KeepsAll, KeepsExe, KeepsMachine, KeepsNothing, KeepsText, NothingFailed, Seen, no_intervals, status_at}
+use Rattle.zsim.specs.Ended.{Gives, EndsAs, IsExeOf, IsMachineText, IsRefusedAt, IsScheduleFile, IsScheduleOf, KeepsAll, KeepsExe, KeepsMachine, KeepsNothing, KeepsText, NothingFailed, Seen, no_intervals, status_at}
 use Rattle.zsim.specs.InputLengths.{exe_limit, machine_limit, schedule_limit}
 use Rattle.zsim.specs.Report.{report_of}
 use Rattle.zsim.specs.Seen.{FilesSeen, FailedToWrite, FileFailed, GainedNothing, NoPutFailed, WasCut, WasWritten}
@@ -77,42 +77,42 @@ pub record IsBefore (seen : Seen) (k : Kept) : Type 0 where
 module _ (seen : Seen) (k : Kept) (before : IsBefore seen k) where
   -- the first input
   pub machine_not_taken : (s : Status) → IsNotTaken (λ files. IsMachineText files seen.command.machine) machine_by seen.command.machine s seen.files k.machine
-      → k.exe ≡ [] → k.sched_file ≡ [] → k.schedule ≡ no_intervals 0 → HasEnded seen s k
+      → k.exe ≡ [] → k.sched_file ≡ [] → k.schedule ≡ no_intervals 0 → EndsAs seen s k
   machine_not_taken s (inl (is, none, not_read, same)) exe sched_file schedule =
       let nothing : KeepsNothing k = record { machine = none; exe = exe; sched_file = sched_file; schedule = schedule } in
-      let ended : HasEnded seen status.ReadFault k = record {
+      let ended : EndsAs seen status.ReadFault k = record {
         kept = inl nothing;
         refusals = (inl (nothing, not_read), before.out);
         report = (before.lists, before.nothing);
         files = same;
         complete = λ no _. absurd (no (failed_input seen.files seen.command.machine not_read));
       } in
-      subst (λ (t : Status). HasEnded seen t k) (sym is) ended
+      subst (λ (t : Status). EndsAs seen t k) (sym is) ended
   machine_not_taken s (inr (inl (is, inl none, quiet))) exe sched_file schedule =
       let nothing : KeepsNothing k = record { machine = none; exe = exe; sched_file = sched_file; schedule = schedule } in
-      let ended : HasEnded seen status.NoMemory k = record {
+      let ended : EndsAs seen status.NoMemory k = record {
         kept = inl nothing;
         refusals = record { files = quiet.no_fault; out = before.out };
         report = inl (before.lists, before.nothing);
         files = inl quiet.names;
         complete = λ _ _. inl refl;
       } in
-      subst (λ (t : Status). HasEnded seen t k) (sym is) ended
+      subst (λ (t : Status). EndsAs seen t k) (sym is) ended
   machine_not_taken s (inr (inl (is, inr some, quiet))) exe sched_file schedule =
       let text : KeepsText seen k = record { machine = some; exe = exe; sched_file = sched_file; schedule = schedule } in
-      let ended : HasEnded seen status.NoMemory k = record {
+      let ended : EndsAs seen status.NoMemory k = record {
         kept = inr (inl text);
         refusals = record { files = quiet.no_fault; out = before.out };
         report = inl (before.lists, before.nothing);
         files = inl quiet.names;
         complete = λ _ _. inl refl;
       } in
-      subst (λ (t : Status). HasEnded seen t k) (sym is) ended
+      subst (λ (t : Status). EndsAs seen t k) (sym is) ended
   machine_not_taken s (inr (inr (refused, some, quiet))) exe sched_file schedule =
       let text : KeepsText seen k = record { machine = some; exe = exe; sched_file = sched_file; schedule = schedule } in
       let none : NothingFailed seen = record { files = quiet.no_fault; out = before.out } in
       let setup : (t : Status) → machine_by k.machine ≡ Err t → setup_of seen.command k ≡ Err t = λ t is. rw is refl in
-      machine_refuses (λ (t : Status). machine_by k.machine ≡ Err t → HasEnded seen t k)
+      machine_refuses (λ (t : Status). machine_by k.machine ≡ Err t → EndsAs seen t k)
       (λ is. record {
         kept = text;
         refusals = (setup _ is, none);
@@ -132,42 +132,42 @@ module _ (seen : Seen) (k : Kept) (before : IsBefore seen k) where
   module _ (machine : Machine) (machine_is : machine_by k.machine ≡ Ok machine) (text : IsMachineText seen.files seen.command.machine k.machine) where
     -- the second
     pub exe_not_taken : (s : Status) → IsNotTaken (λ files. IsExeOf files machine seen.command.exe) (image_by machine) (exe_file seen.command.exe) s seen.files k.exe
-        → k.sched_file ≡ [] → k.schedule ≡ no_intervals machine.cores → HasEnded seen s k
+        → k.sched_file ≡ [] → k.schedule ≡ no_intervals machine.cores → EndsAs seen s k
     exe_not_taken s (inl (is, none, not_read, same)) sched_file schedule =
         let keeps : KeepsMachine seen k = record { machine = text; exe = none; sched_file = sched_file; schedule = rw machine_is schedule } in
-        let ended : HasEnded seen status.ReadFault k = record {
+        let ended : EndsAs seen status.ReadFault k = record {
           kept = inr (inl keeps);
           refusals = (inr (inl (keeps, not_read)), before.out);
           report = (before.lists, before.nothing);
           files = same;
           complete = λ no _. absurd (no (failed_input seen.files (exe_file seen.command.exe) not_read));
         } in
-        subst (λ (t : Status). HasEnded seen t k) (sym is) ended
+        subst (λ (t : Status). EndsAs seen t k) (sym is) ended
     exe_not_taken s (inr (inl (is, inl none, quiet))) sched_file schedule =
         let keeps : KeepsMachine seen k = record { machine = text; exe = none; sched_file = sched_file; schedule = rw machine_is schedule } in
-        let ended : HasEnded seen status.NoMemory k = record {
+        let ended : EndsAs seen status.NoMemory k = record {
           kept = inr (inr (inl keeps));
           refusals = record { files = quiet.no_fault; out = before.out };
           report = inl (before.lists, before.nothing);
           files = inl quiet.names;
           complete = λ _ _. inl refl;
         } in
-        subst (λ (t : Status). HasEnded seen t k) (sym is) ended
+        subst (λ (t : Status). EndsAs seen t k) (sym is) ended
     exe_not_taken s (inr (inl (is, inr some, quiet))) sched_file schedule =
         let keeps : KeepsExe seen k = record { machine = text; exe = rw machine_is some; sched_file = sched_file; cores = rw machine_is (ap (λ (l : ScheduleState). l.cores) schedule) } in
-        let ended : HasEnded seen status.NoMemory k = record {
+        let ended : EndsAs seen status.NoMemory k = record {
           kept = inr (inr (inr (inl keeps)));
           refusals = record { files = quiet.no_fault; out = before.out };
           report = inl (before.lists, before.nothing);
           files = inl quiet.names;
           complete = λ _ _. inl refl;
         } in
-        subst (λ (t : Status). HasEnded seen t k) (sym is) ended
+        subst (λ (t : Status). EndsAs seen t k) (sym is) ended
     exe_not_taken s (inr (inr (refused, some, quiet))) sched_file schedule =
         let keeps : KeepsExe seen k = record { machine = text; exe = rw machine_is some; sched_file = sched_file; cores = rw machine_is (ap (λ (l : ScheduleState). l.cores) schedule) } in
         let none : NothingFailed seen = record { files = quiet.no_fault; out = before.out } in
         let setup : (t : Status) → image_by machine k.exe ≡ Err t → setup_of seen.command k ≡ Err t = λ t is. rw (machine_is, is) refl in
-        exe_refuses (λ (t : Status). image_by machine k.exe ≡ Err t → HasEnded seen t k)
+        exe_refuses (λ (t : Status). image_by machine k.exe ≡ Err t → EndsAs seen t k)
         (λ is. record {
           kept = keeps;
           refusals = (setup _ is, none);
@@ -187,43 +187,43 @@ module _ (seen : Seen) (k : Kept) (before : IsBefore seen k) where
     module _ (image : MemoryImage) (image_is : image_by machine k.exe ≡ Ok image) (exe : IsExeOf seen.files machine seen.command.exe k.exe) (cores : k.schedule.cores ≡ machine.cores) where
       -- the third
       pub schedule_not_taken : (name : List ℕ) (s : Status) → seen.command.task ≡ replay name
-          → IsNotTaken (λ files. IsScheduleFile files (replay name)) (schedule_by machine) (Some name) s seen.files k.sched_file → HasEnded seen s k
+          → IsNotTaken (λ files. IsScheduleFile files (replay name)) (schedule_by machine) (Some name) s seen.files k.sched_file → EndsAs seen s k
       schedule_not_taken name s replays (inl (is, none, not_read, same)) =
           let keeps : KeepsExe seen k = record { machine = text; exe = rw machine_is exe; sched_file = none; cores = rw machine_is cores } in
           let loads : IsOk (image_by machine k.exe) = ap is_ok image_is in
-          let ended : HasEnded seen status.ReadFault k = record {
+          let ended : EndsAs seen status.ReadFault k = record {
             kept = inr (inr keeps);
             refusals = (inr (inr (keeps, rw machine_is loads, rw replays not_read)), before.out);
             report = (before.lists, before.nothing);
             files = same;
             complete = λ no _. absurd (no not_read.failed);
           } in
-          subst (λ (t : Status). HasEnded seen t k) (sym is) ended
+          subst (λ (t : Status). EndsAs seen t k) (sym is) ended
       schedule_not_taken name s replays (inr (inl (is, inl none, quiet))) =
           let keeps : KeepsExe seen k = record { machine = text; exe = rw machine_is exe; sched_file = none; cores = rw machine_is cores } in
-          let ended : HasEnded seen status.NoMemory k = record {
+          let ended : EndsAs seen status.NoMemory k = record {
             kept = inr (inr (inr (inl keeps)));
             refusals = record { files = quiet.no_fault; out = before.out };
             report = inl (before.lists, before.nothing);
             files = inl quiet.names;
             complete = λ _ _. inl refl;
           } in
-          subst (λ (t : Status). HasEnded seen t k) (sym is) ended
+          subst (λ (t : Status). EndsAs seen t k) (sym is) ended
       schedule_not_taken name s replays (inr (inl (is, inr some, quiet))) =
           let keeps : KeepsAll seen k = record { machine = text; exe = rw machine_is exe; sched_file = rw replays some; cores = rw machine_is cores } in
-          let ended : HasEnded seen status.NoMemory k = record {
+          let ended : EndsAs seen status.NoMemory k = record {
             kept = inr (inr (inr (inr keeps)));
             refusals = record { files = quiet.no_fault; out = before.out };
             report = inl (before.lists, before.nothing);
             files = inl quiet.names;
             complete = λ _ _. inl refl;
           } in
-          subst (λ (t : Status). HasEnded seen t k) (sym is) ended
+          subst (λ (t : Status). EndsAs seen t k) (sym is) ended
       schedule_not_taken name s replays (inr (inr (refused, some, quiet))) =
           let keeps : KeepsAll seen k = record { machine = text; exe = rw machine_is exe; sched_file = rw replays some; cores = rw machine_is cores } in
           let none : NothingFailed seen = record { files = quiet.no_fault; out = before.out } in
           let setup : (t : Status) → schedule_by machine k.sched_file ≡ Err t → setup_of seen.command k ≡ Err t = λ t is. rw (machine_is, image_is, replays, is) refl in
-          schedule_refuses (λ (t : Status). schedule_by machine k.sched_file ≡ Err t → HasEnded seen t k)
+          schedule_refuses (λ (t : Status). schedule_by machine k.sched_file ≡ Err t → EndsAs seen t k)
           (λ is. record {
             kept = keeps;
             refusals = (setup _ is, none);
@@ -271,7 +271,7 @@ module _ (seen : Seen) (k : Kept) (keeps : KeepsAll seen k) (setup : Setup) (set
 
   -- memory ran out before there was a report
   pub stopped : IsScheduleOf setup k.schedule → IsUntouched seen.files seen.out
-      → HasEnded seen status.NoMemory k
+      → EndsAs seen status.NoMemory k
   stopped schedule untouched = record {
     kept = inr (inr (inr (inr keeps)));
     refusals = record { files = untouched.quiet.no_fault; out = untouched.no_put };
@@ -282,7 +282,7 @@ module _ (seen : Seen) (k : Kept) (keeps : KeepsAll seen k) (setup : Setup) (set
 
   -- the schedule of a replay is not legal
   pub refused_at : (at : Illegal) → setup.given ≡ Some k.schedule → IsIllegalAt setup.machine setup.image k.schedule.lists at → IsUntouched seen.files seen.out
-      → HasEnded seen (status.BadSchedule (fault.Illegal at.interval at.place)) k
+      → EndsAs seen (status.BadSchedule (fault.Illegal at.interval at.place)) k
   refused_at at given illegal untouched =
       let refused : IsRefusedAt seen.command k at = record { setup = setup; is = setup_is; given = given; illegal = illegal } in
       record {
@@ -302,7 +302,7 @@ module _ (seen : Seen) (k : Kept) (keeps : KeepsAll seen k) (setup : Setup) (set
     text = report_of setup.machine seen.command.brief r
 
     -- but memory ran out before there was a report
-    unreported : IsUntouched seen.files seen.out → HasEnded seen status.NoMemory k
+    unreported : IsUntouched seen.files seen.out → EndsAs seen status.NoMemory k
     unreported untouched = record {
       kept = inr (inr (inr (inr keeps)));
       refusals = record { files = untouched.quiet.no_fault; out = untouched.no_put };
@@ -311,11 +311,11 @@ module _ (seen : Seen) (k : Kept) (keeps : KeepsAll seen k) (setup : Setup) (set
       complete = λ _ _. inl refl;
     }
 
-    pub finished : (s : Status) → FinishesAs s r.limit text (option_map (λ n. named_file n (schedule_file_of k.schedule)) (record_name seen.command.task)) seen.files seen.out → HasEnded seen s k
+    pub finished : (s : Status) → FinishesAs s r.limit text (option_map (λ n. named_file n (schedule_file_of k.schedule)) (record_name seen.command.task)) seen.files seen.out → EndsAs seen s k
     finished s (inl (is, whole, no_put, no_file, written)) =
         let record_is = recorded (WasWritten seen.files) _ (schedule_file_of k.schedule) (record_name seen.command.task) written in
-        let by_limit : (limit : Bool) → r.limit ≡ limit → HasEnded seen (status_at limit) k =
-        elim_limit (λ (limit : Bool). r.limit ≡ limit → HasEnded seen (status_at limit) k)
+        let by_limit : (limit : Bool) → r.limit ≡ limit → EndsAs seen (status_at limit) k =
+        elim_limit (λ (limit : Bool). r.limit ≡ limit → EndsAs seen (status_at limit) k)
         (λ ends. record {
           kept = keeps;
           refusals = (sound, record { files = no_file; out = no_put });
@@ -330,25 +330,25 @@ module _ (seen : Seen) (k : Kept) (keeps : KeepsAll seen k) (setup : Setup) (set
           files = record_is;
           complete = λ _ _. inr (rw setup_is (inl ((r, gives, rw ends refl, whole), record_is)));
         }) in
-        subst (λ (t : Status). HasEnded seen t k) (sym is) (by_limit r.limit refl)
+        subst (λ (t : Status). EndsAs seen t k) (sym is) (by_limit r.limit refl)
     finished s (inr (inl (is, part, failed, quiet))) =
-        let ended : HasEnded seen status.WriteFault k = record {
+        let ended : EndsAs seen status.WriteFault k = record {
           kept = keeps;
           refusals = (sound, inl (quiet.no_fault, failed));
           report = inl (failed, (r, gives, part));
           files = inl (failed, quiet.names);
           complete = λ _ no. absurd (no failed);
         } in
-        subst (λ (t : Status). HasEnded seen t k) (sym is) ended
+        subst (λ (t : Status). EndsAs seen t k) (sym is) ended
     finished s (inr (inr (inl (is, part, no_put, quiet)))) =
-        let ended : HasEnded seen status.NoMemory k = record {
+        let ended : EndsAs seen status.NoMemory k = record {
           kept = inr (inr (inr (inr keeps)));
           refusals = record { files = quiet.no_fault; out = no_put };
           report = inr (inr (inr (inl (r, gives, part))));
           files = inl quiet.names;
           complete = λ _ _. inl refl;
         } in
-        subst (λ (t : Status). HasEnded seen t k) (sym is) ended
+        subst (λ (t : Status). EndsAs seen t k) (sym is) ended
     finished s (inr (inr (inr (inl (is, whole, no_put, failed))))) =
         let bytes = schedule_file_of k.schedule in
         let name = record_name seen.command.task in
@@ -356,43 +356,43 @@ module _ (seen : Seen) (k : Kept) (keeps : KeepsAll seen k) (setup : Setup) (set
         let cut = weaker _ (λ n. WasCut seen.files n bytes) name (λ n is. is.1) both in
         let cause = weaker _ (FailedToWrite seen.files) name (λ n is. is.0) both in
         let rose = a_file_failed seen.files name cause in
-        let ended : HasEnded seen status.WriteFault k = record {
+        let ended : EndsAs seen status.WriteFault k = record {
           kept = keeps;
           refusals = (sound, inr (cause, no_put));
           report = inr (rose, (r, gives, whole));
           files = inr (rose, (r, gives, whole), cut);
           complete = λ no _. absurd (no rose);
         } in
-        subst (λ (t : Status). HasEnded seen t k) (sym is) ended
+        subst (λ (t : Status). EndsAs seen t k) (sym is) ended
     finished s (inr (inr (inr (inr (is, whole, no_put, no_file, cut))))) =
         let bytes = schedule_file_of k.schedule in
         let record_cut = record_named (WasCut seen.files) bytes (record_name seen.command.task) cut in
-        let ended : HasEnded seen status.NoMemory k = record {
+        let ended : EndsAs seen status.NoMemory k = record {
           kept = inr (inr (inr (inr keeps)));
           refusals = record { files = no_file; out = no_put };
           report = inr (inr (inr (inr ((r, gives, whole), record_cut))));
           files = inr ((r, gives, whole), record_cut);
           complete = λ _ _. inl refl;
         } in
-        subst (λ (t : Status). HasEnded seen t k) (sym is) ended
+        subst (λ (t : Status). EndsAs seen t k) (sym is) ended
 
   -- a run, and a replay
-  pub ran : (s : Status) → setup.given ≡ None → IsKeptInOrder setup.machine setup.image k.schedule.lists → RunsAs s setup.machine setup.image seen.command.brief (record_name seen.command.task) k.schedule seen.files seen.out → HasEnded seen s k
-  ran s none in_order (inl (is, untouched)) = subst (λ (t : Status). HasEnded seen t k) (sym is) (stopped (rw none in_order) untouched)
-  ran s none in_order (inr (inl (is, (r, run), untouched))) = subst (λ (t : Status). HasEnded seen t k) (sym is) (unreported (rw none in_order) r run untouched)
+  pub ran : (s : Status) → setup.given ≡ None → IsKeptInOrder setup.machine setup.image k.schedule.lists → RunsAs s setup.machine setup.image seen.command.brief (record_name seen.command.task) k.schedule seen.files seen.out → EndsAs seen s k
+  ran s none in_order (inl (is, untouched)) = subst (λ (t : Status). EndsAs seen t k) (sym is) (stopped (rw none in_order) untouched)
+  ran s none in_order (inr (inl (is, (r, run), untouched))) = subst (λ (t : Status). EndsAs seen t k) (sym is) (unreported (rw none in_order) r run untouched)
   ran s none in_order (inr (inr (r, run, finishes))) = finished (rw none in_order) r run s finishes
 
   pub replayed : (s : Status) → setup.given ≡ Some k.schedule → record_name seen.command.task ≡ None
-      → ReplaysAs s setup.machine setup.image seen.command.brief k.schedule seen.files seen.out → HasEnded seen s k
-  replayed s given unnamed (inl (is, untouched)) = subst (λ (t : Status). HasEnded seen t k) (sym is) (stopped (rw given refl) untouched)
-  replayed s given unnamed (inr (inl (at, is, illegal, untouched))) = subst (λ (t : Status). HasEnded seen t k) (sym is) (refused_at at given illegal untouched)
+      → ReplaysAs s setup.machine setup.image seen.command.brief k.schedule seen.files seen.out → EndsAs seen s k
+  replayed s given unnamed (inl (is, untouched)) = subst (λ (t : Status). EndsAs seen t k) (sym is) (stopped (rw given refl) untouched)
+  replayed s given unnamed (inr (inl (at, is, illegal, untouched))) = subst (λ (t : Status). EndsAs seen t k) (sym is) (refused_at at given illegal untouched)
   replayed s given unnamed (inr (inr (r, run, finishes))) = finished (rw given refl) r run s (rw unnamed finishes)
 
 -- the file of a schedule was not taken, or the replay came to this
 pub replayed_file : (seen : Seen) (k : Kept) (machine : Machine) (image : MemoryImage) (name : List ℕ) (s : Status) → IsMachine machine
     → machine_by k.machine ≡ Ok machine → image_by machine k.exe ≡ Ok image
     → IsMachineText seen.files seen.command.machine k.machine → IsExeOf seen.files machine seen.command.exe k.exe
-    → seen.command.task ≡ replay name → ReplaysFile s machine image seen.command.brief name k.schedule k.sched_file seen.files seen.out → HasEnded seen s k
+    → seen.command.task ≡ replay name → ReplaysFile s machine image seen.command.brief name k.schedule k.sched_file seen.files seen.out → EndsAs seen s k
 replayed_file seen k machine image name s valid machine_is image_is text exe is_replay (inl (empty, not, no_put, nothing)) =
     let before : IsBefore seen k = record { lists = ap (λ (l : ScheduleState). l.lists) empty; out = no_put; nothing = nothing } in
     schedule_not_taken seen k before machine machine_is text image image_is exe (ap (λ (l : ScheduleState). l.cores) empty) name s is_replay not

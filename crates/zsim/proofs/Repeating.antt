@@ -21,7 +21,7 @@ use Rattle.zsim.specs.declared.ended.ScheduleFault.TheVariants as fault
 use Rattle.zsim.specs.declared.ended.Status.{Status}
 use Rattle.zsim.specs.declared.ended.Status.TheVariants as status
 use Rattle.zsim.specs.CommandLine.{Command, Task}
-use Rattle.zsim.specs.Ended.{Gives, HasEnded, IsDecided, IsDone, IsScheduleWritten, IsReported, IsScheduleFile, KeepsAll, Seen, status_at}
+use Rattle.zsim.specs.Ended.{Gives, EndsAs, IsDecided, IsReportedOrRefused, IsScheduleWritten, IsReported, IsScheduleFile, KeepsAll, Seen, status_at}
 use Rattle.zsim.specs.Laws.{IsGivenTheRecord, IsRepeated, IsReplayOf, IsReportedWhole}
 use Rattle.zsim.specs.InputLengths.{schedule_limit}
 use Rattle.zsim.specs.Report.{report_of}
@@ -116,39 +116,39 @@ ok_and P (Ok y) x is all = let same : y ≡ x = cc in subst P same all
 
 -- ---- a run that was reported whole
 
-pub reported : (seen : Seen) (s : Status) (k : Kept) → HasEnded seen s k → IsReportedWhole s → IsReported s seen k
+pub reported : (seen : Seen) (s : Status) (k : Kept) → EndsAs seen s k → IsReportedWhole s → IsReported s seen k
 reported seen s k ended (inl ran) =
-    let at : HasEnded seen status.Ran k = subst (λ (t : Status). HasEnded seen t k) ran ended in
+    let at : EndsAs seen status.Ran k = subst (λ (t : Status). EndsAs seen t k) ran ended in
     subst (λ (t : Status). IsReported t seen k) (sym ran) at.report
 reported seen s k ended (inr limited) =
-    let at : HasEnded seen status.Limit k = subst (λ (t : Status). HasEnded seen t k) limited ended in
+    let at : EndsAs seen status.Limit k = subst (λ (t : Status). EndsAs seen t k) limited ended in
     subst (λ (t : Status). IsReported t seen k) (sym limited) at.report
 
-pub keeps_all : (seen : Seen) (s : Status) (k : Kept) → HasEnded seen s k → IsReportedWhole s → KeepsAll seen k
+pub keeps_all : (seen : Seen) (s : Status) (k : Kept) → EndsAs seen s k → IsReportedWhole s → KeepsAll seen k
 keeps_all seen s k ended (inl ran) =
-    let at : HasEnded seen status.Ran k = subst (λ (t : Status). HasEnded seen t k) ran ended in
+    let at : EndsAs seen status.Ran k = subst (λ (t : Status). EndsAs seen t k) ran ended in
     at.kept
 keeps_all seen s k ended (inr limited) =
-    let at : HasEnded seen status.Limit k = subst (λ (t : Status). HasEnded seen t k) limited ended in
+    let at : EndsAs seen status.Limit k = subst (λ (t : Status). EndsAs seen t k) limited ended in
     at.kept
 
-pub recorded : (seen : Seen) (s : Status) (k : Kept) → HasEnded seen s k → IsReportedWhole s → IsScheduleWritten seen k
+pub recorded : (seen : Seen) (s : Status) (k : Kept) → EndsAs seen s k → IsReportedWhole s → IsScheduleWritten seen k
 recorded seen s k ended (inl ran) =
-    let at : HasEnded seen status.Ran k = subst (λ (t : Status). HasEnded seen t k) ran ended in
+    let at : EndsAs seen status.Ran k = subst (λ (t : Status). EndsAs seen t k) ran ended in
     at.files
 recorded seen s k ended (inr limited) =
-    let at : HasEnded seen status.Limit k = subst (λ (t : Status). HasEnded seen t k) limited ended in
+    let at : EndsAs seen status.Limit k = subst (λ (t : Status). EndsAs seen t k) limited ended in
     at.files
 
 -- what was decided, where memory did not run out
-decided : (seen : Seen) (t : Status) (k : Kept) (setup : Setup) → IsDecided t seen k → t ≢ status.NoMemory → setup_of seen.command k ≡ Ok setup → IsDone t seen k
+decided : (seen : Seen) (t : Status) (k : Kept) (setup : Setup) → IsDecided t seen k → t ≢ status.NoMemory → setup_of seen.command k ≡ Ok setup → IsReportedOrRefused t seen k
 decided seen t k setup (inl none) some is = absurd (some none)
 decided seen t k setup (inr all) some is =
-    subst (λ (r : Result Setup Status). MatchResult r (λ setup. IsDone t seen k) (λ refusal. t ≡ refusal)) is all
+    subst (λ (r : Result Setup Status). MatchResult r (λ setup. IsReportedOrRefused t seen k) (λ refusal. t ≡ refusal)) is all
 
 -- ---- a replay of what it kept
 
-module _ (replays : ReplaysGiveTheSame) (fits : LegalSchedulesFit) (read_again : EachScheduleIsReadAgain) (first second : Seen) (s t : Status) (ran replayed : Kept) (ended : HasEnded first s ran) (whole : IsReportedWhole s) (ended_again : HasEnded second t replayed) (again : IsReplayOf first second ran replayed) where
+module _ (replays : ReplaysGiveTheSame) (fits : LegalSchedulesFit) (read_again : EachScheduleIsReadAgain) (first second : Seen) (s t : Status) (ran replayed : Kept) (ended : EndsAs first s ran) (whole : IsReportedWhole s) (ended_again : EndsAs second t replayed) (again : IsReplayOf first second ran replayed) where
   abbrev report : IsReported s first ran
   report = reported first s ran ended whole
 
@@ -217,7 +217,7 @@ module _ (replays : ReplaysGiveTheSame) (fits : LegalSchedulesFit) (read_again :
         let these : schedule ≡ ran.schedule = cc in
         ap (λ (l : ScheduleState). l.lists) (same ∙ these)
 
-    repeats : IsDone t second replayed → IsRepeated first second s t
+    repeats : IsReportedOrRefused t second replayed → IsRepeated first second s t
     repeats (inl done) =
         let now = done.0 in
         let found = now.0 in
@@ -245,23 +245,23 @@ module _ (replays : ReplaysGiveTheSame) (fits : LegalSchedulesFit) (read_again :
   -- ---- a replay of what it wrote
 
   -- the schedule's file was read
-  file_by_limit : (limit : Bool) → HasEnded second (status_at limit) replayed → IsScheduleFile second.files second.command.task replayed.sched_file
+  file_by_limit : (limit : Bool) → EndsAs second (status_at limit) replayed → IsScheduleFile second.files second.command.task replayed.sched_file
   file_by_limit true e = e.kept.sched_file
   file_by_limit false e = e.kept.sched_file
 
   module _ (no_file : ¬ FileFailed second.files) (no_put : ¬ PutFailed second.out) (some : t ≢ status.NoMemory) where
-    file_where_done : IsDone t second replayed → IsScheduleFile second.files second.command.task replayed.sched_file
+    file_where_done : IsReportedOrRefused t second replayed → IsScheduleFile second.files second.command.task replayed.sched_file
     file_where_done (inl done) =
         let now = done.0 in
-        file_by_limit now.0.limit (subst (λ (x : Status). HasEnded second x replayed) now.2 ended_again)
+        file_by_limit now.0.limit (subst (λ (x : Status). EndsAs second x replayed) now.2 ended_again)
     file_where_done (inr (at, is, refused)) =
-        let e : HasEnded second (status.BadSchedule (fault.Illegal at.interval at.place)) replayed = subst (λ (x : Status). HasEnded second x replayed) is ended_again in
+        let e : EndsAs second (status.BadSchedule (fault.Illegal at.interval at.place)) replayed = subst (λ (x : Status). EndsAs second x replayed) is ended_again in
         e.kept.sched_file
 
-    file_where_refused : (refusal : Status) → schedule_by machine replayed.sched_file ≡ Err refusal → HasEnded second refusal replayed
+    file_where_refused : (refusal : Status) → schedule_by machine replayed.sched_file ≡ Err refusal → EndsAs second refusal replayed
         → IsScheduleFile second.files second.command.task replayed.sched_file
     file_where_refused refusal is ended =
-        schedule_refuses (λ (x : Status). HasEnded second x replayed → IsScheduleFile second.files second.command.task replayed.sched_file)
+        schedule_refuses (λ (x : Status). EndsAs second x replayed → IsScheduleFile second.files second.command.task replayed.sched_file)
         (λ e. e.kept.sched_file)
         (λ bad e. e.kept.sched_file)
         machine replayed.sched_file refusal is ended
@@ -275,10 +275,10 @@ module _ (replays : ReplaysGiveTheSame) (fits : LegalSchedulesFit) (read_again :
         let setup_is : setup_of second.command replayed ≡ Err refusal = rw (same_machine, same_image, again.task, is) refl in
         let by : IsDecided t second replayed → t ≡ refusal = λ d. elim d as (λ _. t ≡ refusal) [
           | inl none ↦ absurd (some none)
-          | inr all ↦ subst (λ (r : Result Setup Status). MatchResult r (λ setup. IsDone t second replayed) (λ refusal. t ≡ refusal)) setup_is all
+          | inr all ↦ subst (λ (r : Result Setup Status). MatchResult r (λ setup. IsReportedOrRefused t second replayed) (λ refusal. t ≡ refusal)) setup_is all
         ]
         in
-        file_where_refused refusal is (subst (λ (x : Status). HasEnded second x replayed) (by (ended_again.complete no_file no_put)) ended_again)
+        file_where_refused refusal is (subst (λ (x : Status). EndsAs second x replayed) (by (ended_again.complete no_file no_put)) ended_again)
 
     -- it held what was written
     same_file : (given : IsGivenTheRecord first second again.name) → replayed.sched_file ≡ schedule_file_of ran.schedule

@@ -148,8 +148,8 @@ abbrev pub IsCut : Seen → Kept → Type 0
 IsCut seen kept = (r : Results) × (run : Gives seen.command kept r) × GainedPrefix seen.out (report_of run.setup.machine seen.command.brief r)
 
 -- standard output gained the whole report, but what was to follow failed
-abbrev pub IsWhole : Seen → Kept → Type 0
-IsWhole seen kept = (r : Results) × (run : Gives seen.command kept r) × Gained seen.out (report_of run.setup.machine seen.command.brief r)
+abbrev pub HasWholeReport : Seen → Kept → Type 0
+HasWholeReport seen kept = (r : Results) × (run : Gives seen.command kept r) × Gained seen.out (report_of run.setup.machine seen.command.brief r)
 
 -- the kept schedule was written to the file that the command names for it, if it names one
 abbrev pub IsScheduleWritten : Seen → Kept → Type 0
@@ -205,38 +205,38 @@ Reports status.Ran seen kept = IsReported status.Ran seen kept
 Reports status.Limit seen kept = IsReported status.Limit seen kept
 Reports status.Usage seen kept = ⊥
 Reports status.ReadFault seen kept = IsNotBegun seen kept
-Reports status.WriteFault seen kept = (PutFailed seen.out × IsCut seen kept) ⊎ (FileFailed seen.files × IsWhole seen kept)
+Reports status.WriteFault seen kept = (PutFailed seen.out × IsCut seen kept) ⊎ (FileFailed seen.files × HasWholeReport seen kept)
 Reports (status.BadMachine bad) seen kept = IsNotBegun seen kept
 Reports (status.BadElf bad) seen kept = IsNotBegun seen kept
 Reports (status.BadSchedule (fault.File bad)) seen kept = IsNotBegun seen kept
 Reports (status.BadSchedule (fault.Illegal interval place)) seen kept = GainedNothing seen.out
 Reports (status.TooLong which) seen kept = IsNotBegun seen kept
-Reports status.NoMemory seen kept = IsNotBegun seen kept ⊎ (IsStopped seen.command kept × GainedNothing seen.out) ⊎ IsUnreported seen kept ⊎ IsCut seen kept ⊎ (IsWhole seen kept × IsScheduleCut seen kept)
+Reports status.NoMemory seen kept = IsNotBegun seen kept ⊎ (IsStopped seen.command kept × GainedNothing seen.out) ⊎ IsUnreported seen kept ⊎ IsCut seen kept ⊎ (HasWholeReport seen kept × IsScheduleCut seen kept)
 
 -- Which names changed: none but that of the schedule's file, and this one not before the report was whole.
 abbrev pub WritesSchedule : Status → Seen → Kept → Type 0
 WritesSchedule status.Ran seen kept = IsScheduleWritten seen kept
 WritesSchedule status.Limit seen kept = IsScheduleWritten seen kept
-WritesSchedule status.WriteFault seen kept = (PutFailed seen.out × SameNames seen.files) ⊎ (FileFailed seen.files × IsWhole seen kept × IsScheduleCut seen kept)
-WritesSchedule status.NoMemory seen kept = SameNames seen.files ⊎ (IsWhole seen kept × IsScheduleCut seen kept)
+WritesSchedule status.WriteFault seen kept = (PutFailed seen.out × SameNames seen.files) ⊎ (FileFailed seen.files × HasWholeReport seen kept × IsScheduleCut seen kept)
+WritesSchedule status.NoMemory seen kept = SameNames seen.files ⊎ (HasWholeReport seen kept × IsScheduleCut seen kept)
 WritesSchedule _ seen kept = SameNames seen.files
 
 -- ---- all of it
 
 -- the run of the inputs is reported and recorded, or the schedule of a replay is refused at its first place that is not
 -- legal
-abbrev pub IsDone : Status → Seen → Kept → Type 0
-IsDone s seen kept =
+abbrev pub IsReportedOrRefused : Status → Seen → Kept → Type 0
+IsReportedOrRefused s seen kept =
     (IsReported s seen kept × IsScheduleWritten seen kept)
     ⊎ ((at : Illegal) × (s ≡ status.BadSchedule (fault.Illegal at.interval at.place)) × IsRefusedAt seen.command kept at)
 
 -- Where nothing failed, the inputs decide: what comes of their run, or their refusal, unless memory ran out.
 abbrev pub IsDecided : Status → Seen → Kept → Type 0
-IsDecided s seen kept = (s ≡ status.NoMemory) ⊎ MatchResult (setup_of seen.command kept) (λ setup. IsDone s seen kept) (λ refusal. s ≡ refusal)
+IsDecided s seen kept = (s ≡ status.NoMemory) ⊎ MatchResult (setup_of seen.command kept) (λ setup. IsReportedOrRefused s seen kept) (λ refusal. s ≡ refusal)
 
 -- How a call ended whose words are a command: what its status and what it kept tell. Nothing of it reads standard
 -- error, which has no say in the status.
-pub record HasEnded (seen : Seen) (s : Status) (k : Kept) : Type 0 where
+pub record EndsAs (seen : Seen) (s : Status) (k : Kept) : Type 0 where
   -- what was read is kept
   pub kept : Keeps s seen k
   -- each status has its cause, and each fault its status

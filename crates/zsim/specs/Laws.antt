@@ -7,7 +7,7 @@ use Rattle.zsim.specs.declared.ended.Kept.{Kept}
 use Rattle.zsim.specs.declared.ended.Status.{Status}
 use Rattle.zsim.specs.declared.ended.Status.TheVariants as status
 use Rattle.zsim.specs.CommandLine.{command_of, exe_of, machine_file_of, record_name, replay, run}
-use Rattle.zsim.specs.Ended.{HasEnded, Seen}
+use Rattle.zsim.specs.Ended.{EndsAs, Seen}
 use Rattle.zsim.specs.Seen.{FileFailed, Gained, PutFailed}
 
 -- ---- words
@@ -60,11 +60,11 @@ IsReportedWhole s = (s ≡ status.Ran) ⊎ (s ≡ status.Limit)
 -- A replay under the schedule that a run kept repeats the run, unless a file or a put fails or memory runs out.
 abbrev pub ReplaysRepeatRuns : Type 0
 ReplaysRepeatRuns = (first second : Seen) (s t : Status) (ran replayed : Kept)
-    → HasEnded first s ran → IsReportedWhole s → HasEnded second t replayed → IsReplayOf first second ran replayed → replayed.sched_file ≡ schedule_file_of ran.schedule
+    → EndsAs first s ran → IsReportedWhole s → EndsAs second t replayed → IsReplayOf first second ran replayed → replayed.sched_file ≡ schedule_file_of ran.schedule
     → ¬ FileFailed second.files → ¬ PutFailed second.out → t ≢ status.NoMemory → IsRepeated first second s t
 
 -- And so does a replay of the file that the run wrote.
 abbrev pub RecordsAreReplayed : Type 0
 RecordsAreReplayed = (first second : Seen) (s t : Status) (ran replayed : Kept)
-    → HasEnded first s ran → IsReportedWhole s → HasEnded second t replayed → (replays : IsReplayOf first second ran replayed) → IsGivenTheRecord first second replays.name
+    → EndsAs first s ran → IsReportedWhole s → EndsAs second t replayed → (replays : IsReplayOf first second ran replayed) → IsGivenTheRecord first second replays.name
     → ¬ FileFailed second.files → ¬ PutFailed second.out → t ≢ status.NoMemory → IsRepeated first second s t

@@ -74,13 +74,13 @@ fn elf_line(alloc: Global, bad: BadElf) -> Result<String, AllocError>
     ensures { IfOk result (λ line. string_bytes line ≡ codes "zsim: elf " ++ elf_details bad ++ codes "\n") }
 {
     let mut line = String::from_str(alloc, "zsim: elf ")?;
-    write_details(&mut line, bad)?;
+    write_elf_details(&mut line, bad)?;
     line.push_str("\n")?;
     Ok(line)
 }
 
 /// Writes the number of the check that an executable failed, and what it names.
-fn write_details(line: &mut String, bad: BadElf) -> Result<(), AllocError>
+fn write_elf_details(line: &mut String, bad: BadElf) -> Result<(), AllocError>
     ensures { OnOk result (string_bytes line.new ≡ string_bytes line.old ++ elf_details bad) }
 {
     match bad {

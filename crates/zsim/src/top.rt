@@ -4,7 +4,7 @@ ghost use Rattle.machine_desc.specs.Machine.{IsMachine};
 ghost use Rattle.replay.specs.ReferenceRun.{IsKeptInOrder};
 ghost use Rattle.replay.specs.Results.{Results};
 ghost use Rattle.zsim.specs.CommandLine.{command_of};
-ghost use Rattle.zsim.specs.Ended.{Gives, HasEnded, IsNoCommand, KeepsNothing, Says, no_intervals};
+ghost use Rattle.zsim.specs.Ended.{Gives, EndsAs, IsNoCommand, KeepsNothing, Says, no_intervals};
 ghost use Rattle.zsim.specs.Seen.{files_seen, sink_seen};
 ghost use Rattle.zsim.specs.Setup.{schedule_by};
 ghost use Rattle.zsim.specs.Steps.{ReplaysAs, ReplaysFile, RunGives, RunsAs};
@@ -43,7 +43,7 @@ pub fn zsim<R: Threads + Wait + Sync, F: Files, O: Sink, E: Sink, G: Gate>(
 
     // Where they are a command: what the status and what was kept tell of the files and of standard
     // output.
-    ensures ended { IfSome (command_of (map string_bytes words.now)) (λ command. HasEnded (record { command = command; files = files_seen F.tells F.contents F.faults F.latest files.old files.new; out = sink_seen O.tells O.bytes O.faults out.old out.new }) result.status result.kept) }
+    ensures ended { IfSome (command_of (map string_bytes words.now)) (λ command. EndsAs (record { command = command; files = files_seen F.tells F.contents F.faults F.latest files.old files.new; out = sink_seen O.tells O.bytes O.faults out.old out.new }) result.status result.kept) }
 
     // Standard output is not touched until a run has come to its end.
     ensures untouched { (out.new ≡ out.old) ⊎ IsSomeAnd (command_of (map string_bytes words.now)) (λ command. (r : Results) × Gives command result.kept r) }
@@ -78,7 +78,7 @@ fn carry_out<R: Threads + Wait + Sync, F: Files, O: Sink, G: Gate>(
     kept: &mut Kept,
 ) -> Status
     requires { KeepsNothing kept.old }
-    ensures ended { HasEnded (record { command = command_value command.now; files = files_seen F.tells F.contents F.faults F.latest files.old files.new; out = sink_seen O.tells O.bytes O.faults out.old out.new }) result kept.new }
+    ensures ended { EndsAs (record { command = command_value command.now; files = files_seen F.tells F.contents F.faults F.latest files.old files.new; out = sink_seen O.tells O.bytes O.faults out.old out.new }) result kept.new }
     ensures untouched { (out.new ≡ out.old) ⊎ ((r : Results) × Gives (command_value command.now) kept.new r) }
 {
     let machine = match take_machine(alloc, command.machine, files, &mut kept.machine) {

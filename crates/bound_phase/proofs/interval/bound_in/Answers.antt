@@ -5,7 +5,7 @@ use Rattle.access_log.specs.RecordedOrder.{recorded_order}
 use Rattle.shard_table.specs.Access.{AreAllSeats, AreWhole, SeatState, TableState, entries_of_seats, recorded_entries}
 use Rattle.bound_core.specs.TimedCore.{NumberedCore}
 use Rattle.bound_phase.specs.declared.member.Member.{Member}
-use Rattle.bound_phase.specs.Bounds.{AreSeated, HaveEnded, IsBound}
+use Rattle.bound_phase.specs.Bounds.{HaveNewSeats, HaveEnded, IsBound}
 use Rattle.bound_phase.specs.Shares.{HaveReturned, mates}
 use Rattle.bound_phase.proofs.Ending.{all_seats, few_all, flat_logs, have_ended, is_bound}
 use Rattle.bound_phase.proofs.Seated.{seated, written_back}
@@ -23,7 +23,7 @@ run_crews-requires-clause-hired g c = λ lifetimes inside.
     let now = c.deref_mut.ensures.value in
     let size : length cores ≡ length first = c.new.ensures.count ∙ ap length now in
     let table = c.in-Ok-make_over.ensures.table in
-    subst (λ (xs : List NumberedCore). AreSeated m c.args.end t xs c.in-Ok-make_over.seats.items) (sym (written_back c.args.cores.len cores first (size ∙ search rules)))
+    subst (λ (xs : List NumberedCore). HaveNewSeats m c.args.end t xs c.in-Ok-make_over.seats.items) (sym (written_back c.args.cores.len cores first (size ∙ search rules)))
     (seated m c.args.end t first cores c.args.shards.items c.in-Ok-make_over.seats.items c.requires.can size (c.new.ensures.timed ∙ ap (map (λ (x : NumberedCore). x.timed)) now)
     (c.new.ensures.number ∙ ap (map (λ (x : NumberedCore). x.number)) now) c.in-Ok.ensures.spare table.1 table.0 (search rules) c.in-Ok-make_over.ensures.seats)
 

@@ -3,7 +3,7 @@ use Rattle.std.specs.Prelude.{slice_get}
 use Rattle.std.proofs.lemmas.List.{drop_more, length-take-le, take-append-drop, take_all, take_more}
 use Rattle.std.proofs.lemmas.Option.{get_or_from_slice_get, slice_get_within}
 use Rattle.replay.specs.ReferenceRun.{Illegal, IsIllegalAt, RunState, after_interval, first_state, has_ended, next_place, reference_run}
-use Rattle.replay.specs.Simulation.{GoesOn, LeadsTo}
+use Rattle.replay.specs.Simulation.{HasNextInterval, LeadsTo}
 use Rattle.replay.proofs.NextInterval.{has_room}
 use Rattle.replay.proofs.RunEnds.{counted_results}
 use Rattle.replay.proofs.RunSoFar.{HasRun, accesses_are, below_limit, ends_too_soon, ends_with, further, goes, goes_too_far, same_ending, stops_at}
@@ -159,7 +159,7 @@ returns-in_err-list-clause-gives c =
     in
     let Place : Illegal → Type 0 = λ at.
     (at.interval ≡ k)
-    × ((s : RunState) → GoesOn machine (c.loop-alloc.end + machine.interval) s p → after_interval machine image s turns ≡ Err (record { interval = length s.intervals; place = at.place }))
+    × ((s : RunState) → HasNextInterval machine (c.loop-alloc.end + machine.interval) s p → after_interval machine image s turns ≡ Err (record { interval = length s.intervals; place = at.place }))
     in
     let found : (at : Illegal) → Place at → IsIllegalAt machine image lists at = λ at why.
     let number : length was.run.state.intervals ≡ at.interval = was.run.as_long ∙ long ∙ sym why.0 in

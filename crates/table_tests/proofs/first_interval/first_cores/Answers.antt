@@ -3,7 +3,7 @@ use Rattle.std.specs.Prelude.{Some, slice_get}
 use Rattle.std.proofs.lemmas.List.{length-append}
 use Rattle.std.proofs.lemmas.List.Elements.{All-push}
 use Rattle.bound_core.specs.TimedCore.{NumberedCore}
-use Rattle.bound_phase.specs.Bounds.{IsAtStart}
+use Rattle.bound_phase.specs.Bounds.{IsBeforeInterval}
 use Rattle.table_tests.proofs.FirstCores.{each_pushed, starts_first}
 use Rattle.table_tests.proofs.first_interval.first_cores.Goals as goal
 
@@ -19,6 +19,6 @@ loop-number-preserved c =
       count = omega (arith, ap length items, length-append was (one ∷ []), before.count);
       numbers = subst (λ (cores : List NumberedCore). (number : ℕ) (x : NumberedCore) → slice_get cores number ≡ Some x → x.number ≡ number) (sym items)
           (each_pushed (λ i x. x.number ≡ i) was one before.numbers (made.number ∙ sym before.count));
-      at_start = subst (All (IsAtStart machine machine.interval)) (sym items)
-          (All-push (IsAtStart machine machine.interval) was one before.at_start (starts_first machine c.args.image.now c.loop-number.number one made.timed made.base made.size));
+      at_start = subst (All (IsBeforeInterval machine machine.interval)) (sym items)
+          (All-push (IsBeforeInterval machine machine.interval) was one before.at_start (starts_first machine c.args.image.now c.loop-number.number one made.timed made.base made.size));
     }

@@ -2,12 +2,12 @@
 use Rattle.std.proofs.Common.{◌≡◌, ℕ, length, All}
 use Rattle.std.specs.Prelude.{Some, slice_get}
 use Rattle.bound_core.specs.TimedCore.{NumberedCore}
-use Rattle.bound_phase.specs.Bounds.{IsAtStart}
+use Rattle.bound_phase.specs.Bounds.{IsBeforeInterval}
 use Rattle.table_tests.proofs.first_interval.first_cores.Given as goal
 
 abbrev pub invariant-loop-number : goal.invariant-loop-number
 invariant-loop-number l = record {
   count : length l.cores.items ≡ l.number;
   numbers : (number : ℕ) (c : NumberedCore) → slice_get l.cores.items number ≡ Some c → c.number ≡ number;
-  at_start : All (IsAtStart l.machine l.machine.interval) l.cores.items;
+  at_start : All (IsBeforeInterval l.machine l.machine.interval) l.cores.items;
 }

@@ -6,8 +6,8 @@ use Rattle.weave_run.proofs.rounds.run_here.Goals as goal
 
 pub loop-number-preserved : goal.loop-number-preserved
 loop-number-preserved g c =
-    one_ran g.C.Component.serves g.C.Component.floor g.C.Component.stepped g.C.Component.greatest c.keeping.ensures c.args.plan.now c.requires.can c.args.domains.now c.loop-number.domains c.run_one.new.domains c.loop-number.number
-    c.loop-number.invariant c.run_one.ensures
+    one_ran g.C.Component.serves g.C.Component.floor g.C.Component.stepped g.C.Component.greatest c.keeping.ensures c.args.plan.now c.requires.can c.args.domains.now c.loop-number.domains c.run_domain.new.domains c.loop-number.number
+    c.loop-number.invariant c.run_domain.ensures
 
 pub returns : goal.returns
 returns g c =

@@ -1,6 +1,6 @@
 -- The domain ran as a part of all domains.
 use Rattle.weave_run.proofs.Rounding.{keeps_here, ran_number, run_here}
-use Rattle.weave_run.proofs.rounds.run_one.Goals as goal
+use Rattle.weave_run.proofs.rounds.run_domain.Goals as goal
 
 pub run_alone-requires-clause-kept : goal.run_alone-requires-clause-kept
 run_alone-requires-clause-kept g c κs within =
