@@ -1,14 +1,14 @@
 -- Ports over a bare list of shards.
-use Rattle.std.proofs.Common.{mod-lt, length-set, take, drop, ◌++◌, ◌≡◌, ◌≤◌, ◌<◌, ◌+◌, ℕ, zero, suc, max, List, [], ◌∷◌, length, map, set, get_or, Some, refl, ap, sym, ◌∙◌, subst, arith}
+use Rattle.std.proofs.Common.{mod-lt, length-set, take, drop, ◌++◌, ◌≡◌, ◌≤◌, ◌<◌, ◌+◌, ℕ, zero, suc, max, List, [], ◌∷◌, length, map, get_or, Some, refl, ap, sym, ◌∙◌, subst, arith}
 use Rattle.std.specs.Prelude.{◌%◌, slice_get, slice_index, slice_index_or, slice_set, unwrap_or}
 use Rattle.std.proofs.Math.Seq.{take-append_seam}
 use Rattle.std.proofs.lemmas.Option.{slice_get-get_or}
 use Rattle.std.proofs.lemmas.List.{get_or_default, length-map, map-set}
-use Rattle.zs_num.specs.Request.{IsServable, line_of, bank_of}
+use Rattle.zs_num.specs.Request.{IsServable, line_of}
 use Rattle.zs_num.specs.declared.entry.Entry.{Entry}
 use Rattle.zs_num.specs.declared.request.Request.{Request}
 use Rattle.shard.specs.Served.{CanServe, IsServedBy, ShardState, shard_after}
-use Rattle.bound_core.specs.ShardPort.{AreShardsOf, IsShardAt, IsShardPort, ShardPortState, base_in, base_of, greatest, greatest_stamp, room_of, size_in, size_of}
+use Rattle.bound_core.specs.ShardPort.{AreShardsOf, IsShardAt, IsShardPort, ShardPortState, base_in, base_of, greatest, greatest_stamp, size_in, size_of}
 use Rattle.bound_core.specs.ShardWorld.{ShardWorld, no_shard, number_for, recorded_by_shard, restarted, shard_for, shards_serve}
 use Rattle.bound_core.proofs.HistoryTurn.{recorded_is}
 

@@ -15,7 +15,7 @@ use Rattle.rv_core.specs.Step.{answered}
 use Rattle.rv_core.specs.Pairing as core
 use Rattle.flat_memory.specs.declared.reservation.Reservation.{Reservation}
 use Rattle.flat_memory.specs.FlatMemory as flat
-use Rattle.shard.specs.Coherence.{Caches, outcome_of}
+use Rattle.shard.specs.Coherence.{outcome_of}
 use Rattle.shard.specs.Coherence as caches
 use Rattle.shard.specs.Laws.{MarksAreReservations, ShardsStandForAMachine}
 use Rattle.shard.specs.Marks.{MarkedMemory, marked_after, marked_reply, reserved_after, pairing_of, pairings_after}

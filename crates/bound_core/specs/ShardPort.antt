@@ -1,5 +1,5 @@
 -- What a port over a bare list of shards is seen as.
-use Rattle.std.specs.Prelude.{◌≡◌, ◌≤◌, ◌<◌, ℕ, ◌-◌, ◌^◌, max, List, [], ◌∷◌, length, map, slice_get, slice_index_or, Some}
+use Rattle.std.specs.Prelude.{◌≡◌, ◌<◌, ℕ, ◌-◌, ◌^◌, max, List, [], ◌∷◌, length, map, slice_get, slice_index_or, Some}
 use Rattle.shard.specs.Served.{ShardState}
 use Rattle.bound_core.specs.ShardWorld.{ShardWorld, no_shard}
 

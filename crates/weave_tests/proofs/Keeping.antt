@@ -1,8 +1,8 @@
 -- What a user of a domain keeps, after each call.
-use Rattle.std.proofs.Common.{◌≡◌, ◌<◌, ◌≤◌, ◌+◌, ◌^◌, ℕ, zero, suc, Bool, true, false, max, List, [], ◌∷◌, length, map, set, get_or, Option, Some, None, slice_get, sym, ◌∙◌, ap, subst, refl, inl, inr, arith, length-set, ◌⊎◌}
+use Rattle.std.proofs.Common.{◌≡◌, ◌<◌, ◌≤◌, ◌+◌, ◌^◌, ℕ, zero, suc, true, false, max, List, [], ◌∷◌, length, map, set, Option, Some, slice_get, sym, ◌∙◌, ap, subst, refl, inl, inr, arith, ◌⊎◌}
 use Rattle.std.specs.Prelude.{IfSome, replicate}
 use Rattle.std.proofs.lemmas.Bool.{cases_eq, false≢true}
-use Rattle.std.proofs.lemmas.Option.{same_Some, none-some, get_or_from_slice_get}
+use Rattle.std.proofs.lemmas.Option.{same_Some, none-some}
 use Rattle.zs_num.specs.declared.time.Key.{Key}
 use Rattle.zs_num.specs.declared.time.Word.{Word}
 use Rattle.zs_num.specs.declared.time.Word.TheVariants.{Bound, Exact}
@@ -15,7 +15,7 @@ use Rattle.weave_core.specs.DomainCalls.{CanFire, DomainValue, IsFire, IsNoFall,
 use Rattle.weave_core.specs.DomainMachine.{DomainState, bound_of, cycle_of, is_exact, latency_at, with_floor, word_at}
 use Rattle.weave_core.specs.Layout.{place_in}
 use Rattle.weave_tests.specs.declared.server.Server.{Server}
-use Rattle.weave_tests.specs.KeptOfDomain.{AreCalm, HasTold, KeptOfDomain, Rises, told_after}
+use Rattle.weave_tests.specs.KeptOfDomain.{AreCalm, KeptOfDomain, Rises, told_after}
 
 -- lists with one place set
 

@@ -1,5 +1,5 @@
 -- the shards before this one are restarted, and the others are as they were
-use Rattle.std.proofs.Common.{◌≡◌, ◌<◌, ◌≤◌, ℕ, length, get_or}
+use Rattle.std.proofs.Common.{◌≡◌, ◌<◌, ◌≤◌, ℕ, get_or}
 use Rattle.bound_core.specs.ShardWorld.{no_shard, restarted}
 use Rattle.bound_core.proofs.shard_port.restart_all.Given as goal
 

@@ -1,4 +1,4 @@
-use Rattle.std.proofs.Common.{ap, sym, subst}
+use Rattle.std.proofs.Common.{sym, subst}
 use Rattle.std.specs.Prelude.{IfOk}
 use Rattle.elf_load.specs.MemoryImage.{MemoryImage}
 use Rattle.replay.specs.ReferenceRun.{IsKeptInOrder, IsRunOf}

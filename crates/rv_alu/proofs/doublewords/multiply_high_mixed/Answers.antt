@@ -1,4 +1,4 @@
-use Rattle.std.proofs.Common.{◌≡◌, ◌-◌, ◌^◌, ◌<◌, ◌≤◌, ℤ, pos, ◌*ℤ◌, ap, ◌∙◌, arith, SFits, FitsSigned, to_z, of_z, to_z-of_z}
+use Rattle.std.proofs.Common.{◌≡◌, ◌-◌, ◌^◌, ◌≤◌, ℤ, pos, ◌*ℤ◌, ap, ◌∙◌, arith, FitsSigned, to_z, of_z, to_z-of_z}
 use Rattle.std.specs.Int.{w64, w128, cast_signed}
 use Rattle.std.proofs.lemmas.Int.{fits_signed_mul}
 use Rattle.rv_alu.specs.Operations.{upper_half}

@@ -3,7 +3,7 @@ use Rattle.std.specs.Prelude.{slice_get}
 use Rattle.std.specs.List.{flat_map}
 use Rattle.std.proofs.lemmas.List.{append-nil, take_all}
 use Rattle.std.proofs.lemmas.Option.{get_or_from_slice_get, slice_get_within}
-use Rattle.schedule_file.specs.ScheduleFile.{header_bytes, list_bytes, schedule_file_of}
+use Rattle.schedule_file.specs.ScheduleFile.{header_bytes, list_bytes}
 use Rattle.schedule_file.proofs.Lists.{written_on}
 use Rattle.schedule_file.proofs.writer.write.Goals as goal
 

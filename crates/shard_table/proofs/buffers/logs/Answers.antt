@@ -1,5 +1,5 @@
-use Rattle.std.proofs.Common.{◌≡◌, ◌+◌, ◌++◌, ◌∷◌, [], List, length, ◌∙◌, ap, ap₂, arith}
-use Rattle.std.proofs.lemmas.List.{length-replicate, replicate_more}
+use Rattle.std.proofs.Common.{◌≡◌, ◌+◌, ◌++◌, ◌∷◌, [], List, ◌∙◌, ap, ap₂, arith}
+use Rattle.std.proofs.lemmas.List.{replicate_more}
 use Rattle.access_log.specs.Logs.{LogState}
 use Rattle.shard_table.specs.Buffers.{new_logs}
 use Rattle.shard_table.proofs.buffers.logs.Goals as goal

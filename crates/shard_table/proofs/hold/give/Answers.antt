@@ -4,7 +4,7 @@ use Rattle.atomic_table.specs.Table.{Allows, step}
 use Rattle.zs_num.specs.declared.entry.Entry.{Entry}
 use Rattle.shard.specs.Served.{ShardState}
 use Rattle.shard_table.specs.Rule.{AreHoldsAtTable}
-use Rattle.shard_table.specs.Steps.{gave, gave_at, shard_of_step}
+use Rattle.shard_table.specs.Steps.{gave, gave_at}
 use Rattle.shard_table.proofs.Giving.{gives_back}
 use Rattle.shard_table.proofs.hold.give.Goals as goal
 

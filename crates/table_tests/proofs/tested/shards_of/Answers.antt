@@ -1,5 +1,5 @@
 -- One shard more.
-use Rattle.std.proofs.Common.{◌≡◌, ℕ, ◌+◌, ◌∷◌, [], ◌++◌, List, length, sym, ap, ◌∙◌, subst, arith}
+use Rattle.std.proofs.Common.{ℕ, ◌+◌, length, sym, ap, ◌∙◌, subst}
 use Rattle.std.proofs.lemmas.List.{length_push}
 use Rattle.shard.specs.Served.{ShardState}
 use Rattle.table_tests.specs.Tested.{AreOf, IsOf}

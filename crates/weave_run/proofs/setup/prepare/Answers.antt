@@ -2,7 +2,7 @@
 use Rattle.std.proofs.Common.{◌≡◌, List, Vec, length, sym, ◌∙◌, ap, subst, arith}
 use Rattle.std.specs.declared.alloc.Global.{Global}
 use Rattle.domain_map.specs.Domains.{Partition}
-use Rattle.weave_run.specs.Dealing.{AreDealt, AreEmptyRooms, items_of}
+use Rattle.weave_run.specs.Dealing.{AreEmptyRooms}
 use Rattle.weave_run.proofs.Wovens.{lent}
 use Rattle.weave_run.proofs.setup.prepare.Goals as goal
 

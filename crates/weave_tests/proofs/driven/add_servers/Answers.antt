@@ -1,5 +1,5 @@
 -- A server more is looked at.
-use Rattle.std.proofs.Common.{◌≡◌, ◌<◌, ◌+◌, ◌++◌, ◌∷◌, [], drop, length, get_or, List, Some, slice_get, sym, ◌∙◌, ap, subst, arith}
+use Rattle.std.proofs.Common.{◌≡◌, ◌+◌, ◌++◌, drop, get_or, List, Some, slice_get, sym, subst, arith}
 use Rattle.weave_core.specs.DomainCalls.{comps_in}
 use Rattle.weave_tests.specs.declared.server.Server.{Server}
 use Rattle.weave_tests.proofs.Serving.{next_is_apart, next_is_here, servers_from, there_at}

@@ -1,4 +1,4 @@
-use Rattle.std.proofs.Common.{rules, ◌≡◌, ◌∙◌, List, ap, length, map, subst, sym}
+use Rattle.std.proofs.Common.{rules, ◌≡◌, ◌∙◌, List, ap, length, map}
 use Rattle.std.proofs.lemmas.List.{length-map}
 use Rattle.shard.specs.Served.{ShardState}
 use Rattle.bound_core.specs.ShardWorld.{restarted}

@@ -1,9 +1,9 @@
-use Rattle.std.proofs.Common.{rules, ◌≡◌, ◌<◌, ◌≤◌, ◌+◌, ◌-◌, ◌^◌, ℕ, length, map, refl, sym, ap, ◌∙◌, subst, arith}
+use Rattle.std.proofs.Common.{rules, ◌≡◌, ◌≤◌, ◌+◌, ◌-◌, ℕ, length, sym, ap, ◌∙◌, subst, arith}
 use Rattle.std.specs.Prelude.{slice_index, slice_set}
 use Rattle.zs_num.specs.Request.{IsServable}
 use Rattle.zs_num.specs.declared.entry.Entry.{Entry}
 use Rattle.bound_core.specs.ShardPort.{IsShardAt, IsShardPort, ShardPortState, base_of, greatest_stamp, room_of, size_of}
-use Rattle.bound_core.specs.ShardWorld.{ShardWorld, no_shard, number_for, shard_for, shards_serve}
+use Rattle.bound_core.specs.ShardWorld.{ShardWorld, number_for, shard_for, shards_serve}
 use Rattle.shard.specs.Served.{CanServe, IsServedBy, ShardState, shard_after}
 use Rattle.bound_core.proofs.ShardPorts.{at_most_greatest, can_serve, greatest_after, last_at_most, port_set, served_is, shard_is, shard_there, stamp_is}
 use Rattle.bound_core.proofs.shard_port.ShardPortPort.access.Goals as goal

@@ -1,4 +1,4 @@
-use Rattle.std.proofs.Common.{◌^◌, ◌≤◌, List, All, length, ap, arith, subst, sym, ◌∙◌}
+use Rattle.std.proofs.Common.{◌^◌, ◌≤◌, List, All, length, ap, subst, sym, ◌∙◌}
 use Rattle.component.specs.declared.comp.Comp.{Comp}
 use Rattle.component.specs.ComponentStep.{free_of}
 use Rattle.component.specs.Components.{AreComponents}

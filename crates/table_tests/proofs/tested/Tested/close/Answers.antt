@@ -1,6 +1,6 @@
 -- Both seats are all, and a shard that could be asked can be asked still.
 use Rattle.std.proofs.Common.{◌≡◌, List, [], ◌∷◌, ◌++◌, sym, ◌∙◌, ap, subst}
-use Rattle.shard_table.specs.Access.{AreAllSeats, SeatState, TableState, recorded_entries}
+use Rattle.shard_table.specs.Access.{AreAllSeats, SeatState, TableState}
 use Rattle.table_tests.proofs.Asking.{are_both, closed_serve}
 use Rattle.table_tests.proofs.tested.Tested.close.Goals as goal
 

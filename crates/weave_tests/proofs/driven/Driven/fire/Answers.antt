@@ -1,7 +1,5 @@
 -- The servers are free before 2^61, and so is the start.
-use Rattle.std.proofs.Common.{◌≡◌, ◌+◌, sym, ap, subst, refl, arith, max}
-use Rattle.weave_core.specs.declared.next.Next.{Next}
-use Rattle.weave_core.specs.DomainCalls.{IsAnswer, MayFire}
+use Rattle.std.proofs.Common.{◌+◌, sym, subst, refl, arith}
 use Rattle.weave_tests.specs.KeptOfDomain.{KeptOfDomain}
 use Rattle.weave_tests.proofs.Keeping.{can_fire, keeps_fire}
 use Rattle.weave_tests.proofs.driven.Driven.fire.Goals as goal

@@ -1,6 +1,5 @@
 -- The word may follow the one that is known, and its parent's finish is kept.
 use Rattle.std.proofs.Common.{◌≡◌, ◌<◌, ℕ, List, Option, Some, length, set, get_or, slice_get, sym, ◌∙◌, ap, subst, refl, arith}
-use Rattle.zs_num.specs.declared.time.Word.{Word}
 use Rattle.domain_map.specs.declared.crossing.Crossing.{Crossing}
 use Rattle.weave_core.specs.DomainMachine.{word_at}
 use Rattle.weave_tests.specs.KeptOfDomain.{KeptOfDomain}
