@@ -21,7 +21,7 @@ use Rattle.bound_core.specs.ShardWorld.{restarted}
 use Rattle.bound_core.specs.TimedCore.{NumberedCore, TimedCore, ran_to, timed_of}
 use Rattle.bound_phase.specs.declared.member.Member.{Member}
 use Rattle.bound_core.specs.Turn.{IsOver}
-use Rattle.bound_phase.specs.Bounds.{HaveEnded, IsBound}
+use Rattle.bound_phase.specs.Bounds.{HaveEndedInterval, IsBound}
 use Rattle.bound_phase.specs.Crew.{HaveRun}
 use Rattle.bound_phase.specs.Member.{HasRun}
 use Rattle.bound_phase.specs.Shares.{mates}
@@ -255,7 +255,7 @@ module _ (time : Entry → ℕ) (image : MemoryImage) (end : ℕ) (t : TableStat
     each_entry P each = all_flat P (λ (seat : SeatState). seat.entries) seats_now (all_at (λ (s : SeatState). All P s.entries) seats_now (λ i s at.
         let n = made_at (λ (m : Member). m.seat) now i s at in subst (λ (x : SeatState). All P x.entries) n.2 (each i n.0 n.1)))
 
-    pub have_ended : (m : Machine) → t.cores ≡ m.cores → t.room ≡ m.interval + 258 → HaveEnded m end first (map (λ m. m.core) now) entries
+    pub have_ended : (m : Machine) → t.cores ≡ m.cores → t.room ≡ m.interval + 258 → HaveEndedInterval m end first (map (λ m. m.core) now) entries
     have_ended m cores_are room_is = record {
       over = each_left (IsOver end) (λ i n at. (was i n at).4.over);
       starts = all_recorded (λ (e : Entry). e.start ≤ end + 2 ^ 28) (entries_of_seats seats_now) (each_entry (λ (e : Entry). e.start ≤ end + 2 ^ 28) (λ i n at. (was i n at).4.starts));

@@ -43,7 +43,7 @@ pub record IsBound (time : Entry → ℕ) (image : MemoryImage) (end : ℕ) (cor
 -- Every core has halted or come to the end of the interval. No access starts more than 2^28 cycles behind the end, no
 -- clock is more than 2^28 cycles behind where it began or behind the end, and each core has an access for each cycle
 -- and 258 more at most.
-pub record HaveEnded (m : Machine) (end : ℕ) (cores cores_after : List NumberedCore) (entries : List Entry) : Type 0 where
+pub record HaveEndedInterval (m : Machine) (end : ℕ) (cores cores_after : List NumberedCore) (entries : List Entry) : Type 0 where
   pub over : All (IsOver end) (timed_of cores_after)
   pub starts : All (λ e. e.start ≤ end + 2 ^ 28) entries
   pub few : length entries ≤ m.cores * (m.interval + 258)

@@ -1,7 +1,7 @@
 //! The bound phase of an interval.
 ghost use Rattle.std.specs.Prelude.{◌≡◌, ◌<◌, ◌≤◌, ◌+◌, ◌^◌, ◌*◌, [], All, length, map, vec_capacity, IfOk, IfErr, OnOk};
 ghost use Rattle.machine_desc.specs.Machine.{IsMachine};
-ghost use Rattle.bound_phase.specs.Bounds.{HaveNewSeats, CanBound, HasConsoleRoom, HaveEnded, IsBound};
+ghost use Rattle.bound_phase.specs.Bounds.{HaveNewSeats, CanBound, HasConsoleRoom, HaveEndedInterval, IsBound};
 ghost use Rattle.bound_phase.specs.Shares.{AreEmpty, HaveReturned, mates};
 
 use crate::crew::{Crew, work_all};
@@ -80,7 +80,7 @@ pub fn bound<R: Threads + Wait + Sync, G: Gate, P: Program + Sync, X: Expand + S
     requires end { end ≤ 2 ^ 60 }
     requires workers { (0 < workers) × (workers ≤ 64) }
     ensures bound { IfOk result (λ b. IsBound (X.time x.now) (P.image program.now) end cores.items shards.items b.cores.items b.shards.items b.entries) }
-    ensures ended { IfOk result (λ b. HaveEnded machine.now end cores.items b.cores.items b.entries) }
+    ensures ended { IfOk result (λ b. HaveEndedInterval machine.now end cores.items b.cores.items b.entries) }
     ensures cores { IfErr result (λ back. (map (λ c. c.timed) back.1.cores.items ≡ map (λ c. c.timed) cores.items) × (map (λ c. c.number) back.1.cores.items ≡ map (λ c. c.number) cores.items)) }
     ensures shards { IfErr result (λ back. back.1.shards.items ≡ shards.items) }
     ensures none { IfErr result (λ back. back.1.entries ≡ []) }
@@ -124,7 +124,7 @@ pub fn bound_in<R: Threads + Wait + Sync, G: Gate, P: Program + Sync, X: Expand 
     requires end { end ≤ 2 ^ 60 }
     requires workers { (0 < workers) × (workers ≤ 64) }
     ensures bound { IfOk result (λ b. IsBound (X.time x.now) (P.image program.now) end cores.items shards.items b.cores.items b.shards.items b.entries) }
-    ensures ended { IfOk result (λ b. HaveEnded machine.now end cores.items b.cores.items b.entries) }
+    ensures ended { IfOk result (λ b. HaveEndedInterval machine.now end cores.items b.cores.items b.entries) }
     ensures cores { IfErr result (λ back. (map (λ c. c.timed) back.1.cores.items ≡ map (λ c. c.timed) cores.items) × (map (λ c. c.number) back.1.cores.items ≡ map (λ c. c.number) cores.items)) }
     ensures shards { IfErr result (λ back. back.1.shards.items ≡ shards.items) }
     ensures none { IfErr result (λ back. back.1.entries ≡ []) }

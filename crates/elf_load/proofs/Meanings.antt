@@ -10,20 +10,20 @@ use Rattle.elf_load.specs.Constants.{elf_magic, elfclass64, elfdata2lsb, et_exec
 use Rattle.elf_load.specs.Meaning.{LiesIn}
 use Rattle.elf_load.specs.Header.{header_of, program_headers}
 use Rattle.elf_load.specs.Image.{image_of, image_unless, elf_refusal}
-use Rattle.elf_load.specs.MemoryImage.{MemoryImage, IsSoundImage, is_placed, do_meet, covers}
+use Rattle.elf_load.specs.MemoryImage.{MemoryImage, IsSoundImage, is_placed, ranges_overlap, covers}
 use Rattle.elf_load.proofs.Lists.{option_or-None}
 use Rattle.elf_load.proofs.Refusals.{passes, unless-None}
 use Rattle.elf_load.proofs.Sound.{sound}
 use Rattle.elf_load.proofs.Table.{few_in_table}
 
--- two ranges meet exactly where they have a number in common
-pub do_meet-common : (first count second others : ℕ) → do_meet first count second others ≡ true → (x : ℕ) × LiesIn first count x × LiesIn second others x
-do_meet-common first count second others h =
+-- two ranges overlap exactly where they have a number in common
+pub ranges_overlap-common : (first count second others : ℕ) → ranges_overlap first count second others ≡ true → (x : ℕ) × LiesIn first count x × LiesIn second others x
+ranges_overlap-common first count second others h =
     let order : max first second < min (first + count) (second + others) = ltb-true _ _ h in
     (max first second, record { begins = omega arith; ends = omega arith }, record { begins = omega arith; ends = omega arith })
 
-pub do_meet-from_common : (first count second others x : ℕ) → LiesIn first count x → LiesIn second others x → do_meet first count second others ≡ true
-do_meet-from_common first count second others x a b =
+pub ranges_overlap-from_common : (first count second others x : ℕ) → LiesIn first count x → LiesIn second others x → ranges_overlap first count second others ≡ true
+ranges_overlap-from_common first count second others x a b =
     let a_begins = a.begins in
     let a_ends = a.ends in
     let b_begins = b.begins in

@@ -8,7 +8,7 @@ use Rattle.elf_load.specs.declared.bad_elf.BadElf.{BadElf}
 use Rattle.elf_load.specs.declared.bad_elf.BadElf.TheVariants as bad
 use Rattle.elf_load.specs.declared.header.Header.{Header}
 use Rattle.elf_load.specs.declared.header.ProgramHeader.{ProgramHeader}
-use Rattle.elf_load.specs.MemoryImage.{is_within, do_meet}
+use Rattle.elf_load.specs.MemoryImage.{is_within, ranges_overlap}
 
 -- the refusal, unless the test passes
 abbrev pub refusal_unless : Bool → BadElf → Option BadElf
@@ -58,7 +58,7 @@ is_past_memory base size p = is_loaded p && not (nat_le p.filesz p.memsz && is_w
 
 -- two segments have an address in common
 unfoldable pub overlaps : ProgramHeader → ProgramHeader → Bool
-overlaps p q = is_loaded p && is_loaded q && do_meet p.vaddr p.memsz q.vaddr q.memsz
+overlaps p q = is_loaded p && is_loaded q && ranges_overlap p.vaddr p.memsz q.vaddr q.memsz
 
 -- the four bytes from the entry on lie in an executable segment
 unfoldable pub is_entered : (entry : ℕ) → ProgramHeader → Bool

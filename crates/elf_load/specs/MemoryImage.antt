@@ -18,8 +18,8 @@ is_within start count base size = nat_le base start && nat_le (start + count) (b
 
 -- so many from the first start on and so many from the second start on have an address in common: the later start lies
 -- before the earlier end
-abbrev pub do_meet : (first count second others : ℕ) → Bool
-do_meet first count second others = nat_lt (max first second) (min (first + count) (second + others))
+abbrev pub ranges_overlap : (first count second others : ℕ) → Bool
+ranges_overlap first count second others = nat_lt (max first second) (min (first + count) (second + others))
 
 -- so many bytes from this address on lie in the segment
 abbrev pub covers : Segment → ℕ → ℕ → Bool
@@ -53,7 +53,7 @@ is_placed base size segment =
 
 -- two segments have an address in common
 unfoldable pub do_overlap : Segment → Segment → Bool
-do_overlap first second = do_meet first.vaddr first.memsz second.vaddr second.memsz
+do_overlap first second = ranges_overlap first.vaddr first.memsz second.vaddr second.memsz
 
 -- no two segments have an address in common
 abbrev pub are_apart : List Segment → Bool

@@ -9,7 +9,7 @@ use crate::constants::{
     MOST_HEADERS, PF_X, PROGRAM_HEADER_LEN, PT_DYNAMIC, PT_INTERP, PT_LOAD,
 };
 use crate::header::{Header, ProgramHeader};
-use crate::range::{do_meet, is_within};
+use crate::range::{is_within, ranges_overlap};
 
 /// The first check of the ELF header that fails, in a file of `len` bytes.
 #[tactic(auto, unfolding(crate::specs::Checks::header_refusal))]
@@ -195,7 +195,7 @@ fn is_past_memory(p: &ProgramHeader, base: u64, size: u64) -> bool
 fn overlaps(p: &ProgramHeader, q: &ProgramHeader) -> bool
     ensures { result ≡ overlaps p.now q.now }
 {
-    is_loaded(p) && is_loaded(q) && do_meet(p.vaddr, p.memsz, q.vaddr, q.memsz)
+    is_loaded(p) && is_loaded(q) && ranges_overlap(p.vaddr, p.memsz, q.vaddr, q.memsz)
 }
 
 #[tactic(auto, unfolding(crate::specs::Checks::is_entered))]

@@ -4,13 +4,13 @@ ghost use Rattle.std.specs.Prelude.{◌≡◌, ◌↔◌, ◌+◌, ◌^◌, ◌�
 ghost use Rattle.elf_load.specs.Checks.{overlap_refusal, overlaps};
 ghost use Rattle.elf_load.specs.Image.{image_of};
 ghost use Rattle.elf_load.specs.Meaning.{LiesIn, IsLeastPair};
-ghost use Rattle.elf_load.specs.MemoryImage.{do_meet, IsSoundImage, MemoryImage};
+ghost use Rattle.elf_load.specs.MemoryImage.{ranges_overlap, IsSoundImage, MemoryImage};
 ghost use Rattle.elf_load.specs.declared.bad_elf.BadElf.TheVariants as bad;
 ghost use Rattle.elf_load.specs.declared.header.ProgramHeader.{ProgramHeader};
 
-/// Two ranges meet exactly where they have a number in common.
-pub fn meeting_ranges()
-    ensures { (first count second others : ℕ) → (do_meet first count second others ≡ true)
+/// Two ranges overlap exactly where they have a number in common.
+pub fn overlapping_ranges()
+    ensures { (first count second others : ℕ) → (ranges_overlap first count second others ≡ true)
         ↔ ((x : ℕ) × LiesIn first count x × LiesIn second others x) }
 {}
 

@@ -1,6 +1,6 @@
 //! Ranges of numbers, given by their start and their length, whose ends may pass the type.
 ghost use Rattle.std.specs.Prelude.{◌≡◌, ◌+◌};
-ghost use Rattle.elf_load.specs.MemoryImage.{do_meet, is_within};
+ghost use Rattle.elf_load.specs.MemoryImage.{ranges_overlap, is_within};
 
 /// Whether `count` numbers from `start` on lie among the `size` numbers from `base` on.
 pub fn is_within(start: u64, count: u64, base: u64, size: u64) -> bool
@@ -10,8 +10,8 @@ pub fn is_within(start: u64, count: u64, base: u64, size: u64) -> bool
 }
 
 /// Whether `count` numbers from `first` on and `others` from `second` on have a number in common.
-pub fn do_meet(first: u64, count: u64, second: u64, others: u64) -> bool
-    ensures { result ≡ do_meet first count second others }
+pub fn ranges_overlap(first: u64, count: u64, second: u64, others: u64) -> bool
+    ensures { result ≡ ranges_overlap first count second others }
 {
     if first <= second {
         second - first < count && 0 < others

@@ -2,7 +2,7 @@
 use Rattle.std.proofs.Common.{◌≡◌, ℕ, ◌+◌, ◌%◌, ◌^◌, ◌<◌, ◌≤◌, max, min, nat_le, true, false, length, refl, arith}
 use Rattle.std.proofs.lemmas.Bool.{le-leb, le-ltb, lt-leb}
 use Rattle.std.proofs.Math.Bool.{and-false}
-use Rattle.elf_load.specs.MemoryImage.{IsSoundImage, do_meet, do_overlap, is_placed, is_within}
+use Rattle.elf_load.specs.MemoryImage.{IsSoundImage, ranges_overlap, do_overlap, is_placed, is_within}
 use Rattle.gen_prog.specs.Assembly.{assembled}
 use Rattle.gen_prog.specs.Generated.{data_of, generated_image, instructions}
 
@@ -26,7 +26,7 @@ past start count base size behind =
     rw e (and-false (nat_le base start))
 
 -- ranges one after the other do not meet
-pub apart : (first count second others : ℕ) → first + count ≤ second → do_meet first count second others ≡ false
+pub apart : (first count second others : ℕ) → first + count ≤ second → ranges_overlap first count second others ≡ false
 apart first count second others order = le-ltb (max first second) (min (first + count) (second + others)) (omega arith)
 
 pub sound : (n base : ℕ) → base % 4096 ≡ 0 → base ≤ 2 ^ 40 → IsSoundImage (generated_image n base)
@@ -35,7 +35,7 @@ sound n base page low =
     let first : is_within base 112 base 8192 ≡ true = within base 112 base 8192 (omega arith) (omega arith) in
     let second : is_within (base + 4096) 2112 base 8192 ≡ true = within (base + 4096) 2112 base 8192 (omega arith) (omega arith) in
     let entered : is_within base 4 base 112 ≡ true = within base 4 base 112 (omega arith) (omega arith) in
-    let no_meeting : do_meet base 112 (base + 4096) 2112 ≡ false = apart base 112 (base + 4096) 2112 (omega arith) in
+    let no_meeting : ranges_overlap base 112 (base + 4096) 2112 ≡ false = apart base 112 (base + 4096) 2112 (omega arith) in
     record {
       reach = omega (arith, low);
       few = omega arith;

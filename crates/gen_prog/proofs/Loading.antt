@@ -11,7 +11,7 @@ use Rattle.elf_load.specs.Checks.{file_refusal, has_table, header_refusal, is_dy
 use Rattle.elf_load.specs.Header.{header_of, program_header_at, program_headers}
 use Rattle.elf_load.specs.Image.{elf_refusal, image_in, image_of, image_unless, segment_of, segments_of}
 use Rattle.elf_load.specs.declared.segment.Segment.{Segment}
-use Rattle.elf_load.specs.MemoryImage.{MemoryImage, do_meet, is_within}
+use Rattle.elf_load.specs.MemoryImage.{MemoryImage, ranges_overlap, is_within}
 use Rattle.elf_write.specs.declared.field.Field.{Field}
 use Rattle.elf_write.specs.File.{executable_of, field, fields_bytes, header_fields}
 use Rattle.gen_prog.specs.Assembly.{assembled}
@@ -90,7 +90,7 @@ unfolding segment_refusal file_refusal overlap_refusal is_dynamic is_past_file i
 refusal_is base len size long page =
     let first : nat_lt len 288 ≡ false = le-ltb len 288 (omega (arith, long)) in
     let second : nat_lt len 304 ≡ false = le-ltb len 304 long in
-    let no_meeting : do_meet base 112 (base + 4096) 2112 ≡ false = apart base 112 (base + 4096) 2112 (omega arith) in
+    let no_meeting : ranges_overlap base 112 (base + 4096) 2112 ≡ false = apart base 112 (base + 4096) 2112 (omega arith) in
     let aligned : base % 4 ≡ 0 = omega (arith, page) in
     let entered : is_within base 4 base 112 ≡ true = within base 4 base 112 (omega arith) (omega arith) in
     rw (first, second, no_meeting, aligned, entered) (only_refusal (memory_refusal (table base) base size))

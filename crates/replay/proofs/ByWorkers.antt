@@ -17,7 +17,7 @@ use Rattle.bound_core.specs.Turn.{IsOver}
 use Rattle.bound_core.proofs.Lists.{map_again}
 use Rattle.bound_core.proofs.ShardPorts.{own_memory, shards_restarted}
 use Rattle.bound_core.proofs.ShardsStay.{shards_after}
-use Rattle.bound_phase.specs.Bounds.{CanBound, HaveEnded, IsBeforeInterval, IsBound}
+use Rattle.bound_phase.specs.Bounds.{CanBound, HaveEndedInterval, IsBeforeInterval, IsBound}
 use Rattle.bound_phase.proofs.Ending.{all_at}
 use Rattle.bound_phase.proofs.Whole.{agreed_at}
 use Rattle.replay.specs.declared.simulation.Simulation.{Simulation}
@@ -86,7 +86,7 @@ module _ (machine : Machine) (end : ℕ) (p : Simulation) (room : HasRoomForInte
     early : All (λ c. c.clock ≤ 2 ^ 56) (cores_of p)
     early = all_timed (λ c. c.clock ≤ 2 ^ 56) p.cores.items (λ i c here. (room.ready i c here).clock)
 
-    not_late : HaveEnded machine end p.cores.items cores entries → end ≤ 2 ^ 34 → All (λ c. c.clock ≤ 2 ^ 57) (timed_of cores)
+    not_late : HaveEndedInterval machine end p.cores.items cores entries → end ≤ 2 ^ 34 → All (λ c. c.clock ≤ 2 ^ 57) (timed_of cores)
     not_late ended small = λ k d below.
         let clock = ended.clocks (2 ^ 56) (omega (arith, small)) early k d below in
         omega (arith, clock)
@@ -95,7 +95,7 @@ module _ (machine : Machine) (end : ℕ) (p : Simulation) (room : HasRoomForInte
     known =
         subst (λ (n : ℕ). All (λ (e : Entry). e.core < n) entries) (length-map p.cores.items (λ (c : NumberedCore). c.timed) ∙ room.count) bound.history.known
 
-    pub bounded : HistoriesArePhases (time_of machine) image end → HaveEnded machine end p.cores.items cores entries → end ≤ 2 ^ 34
+    pub bounded : HistoriesArePhases (time_of machine) image end → HaveEndedInterval machine end p.cores.items cores entries → end ≤ 2 ^ 34
         → (q : Simulation) → q.cores.items ≡ cores → q.port.world ≡ begun_world machine.cores (map restarted shards)
         → IsBoundPhase machine image end p (map (λ e. e.core) entries) q entries
     bounded phases ended small q cores_now world = record {

@@ -21,7 +21,7 @@ impl Core {
         ensures free { result ≡ is_free self.new }
     {
         let result = alu(name, self.reg(inst.rs1), inst.imm.cast_unsigned());
-        self.write(inst.rd, result)
+        self.write_register(inst.rd, result)
     }
 
     /// The operation of this name, of rs1 and rs2.
@@ -36,6 +36,6 @@ impl Core {
         ensures free { result ≡ is_free self.new }
     {
         let result = alu(name, self.reg(inst.rs1), self.reg(inst.rs2));
-        self.write(inst.rd, result)
+        self.write_register(inst.rd, result)
     }
 }

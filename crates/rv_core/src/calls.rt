@@ -45,7 +45,7 @@ impl Core {
         match (self.reg(A7), first) {
             (EXIT | EXIT_GROUP, _) => self.stop(Why::Exit(first)),
             (WRITE, STANDARD_OUTPUT | STANDARD_ERROR) => self.write_call(),
-            _ => self.write(A0, ENOSYS),
+            _ => self.write_register(A0, ENOSYS),
         }
     }
 
@@ -59,12 +59,12 @@ impl Core {
         let addr = self.reg(A1);
         let count = self.reg(A2).min(WRITE_MOST);
         if count == 0 {
-            self.write(A0, 0)
+            self.write_register(A0, 0)
         } else if self.has(addr, count) {
             self.begin_write(addr, count);
             false
         } else {
-            self.write(A0, EFAULT)
+            self.write_register(A0, EFAULT)
         }
     }
 }

@@ -48,7 +48,7 @@ impl Core {
         if taken(name, self.reg(inst.rs1), self.reg(inst.rs2)) {
             self.jump_to(0, self.pc().wrapping_add(inst.imm.cast_unsigned()))
         } else {
-            self.write(0, 0)
+            self.write_register(0, 0)
         }
     }
 

@@ -24,8 +24,8 @@ impl Core {
     {
         let immediate = inst.imm.cast_unsigned();
         match inst.name {
-            Name::Lui => self.write(inst.rd, immediate),
-            Name::Auipc => self.write(inst.rd, self.pc().wrapping_add(immediate)),
+            Name::Lui => self.write_register(inst.rd, immediate),
+            Name::Auipc => self.write_register(inst.rd, self.pc().wrapping_add(immediate)),
             Name::Jal => self.jump(inst),
             Name::Jalr => self.jump_by_register(inst),
             Name::Beq => self.branch(Name::Beq, inst),
@@ -58,7 +58,7 @@ impl Core {
             Name::Slliw => self.compute_with_immediate(Name::Slliw, inst),
             Name::Srliw => self.compute_with_immediate(Name::Srliw, inst),
             Name::Sraiw => self.compute_with_immediate(Name::Sraiw, inst),
-            Name::Fence => self.write(0, 0),
+            Name::Fence => self.write_register(0, 0),
             Name::Ecall => self.call(),
             Name::Ebreak => self.stop(Why::Break),
             Name::Add => self.compute(Name::Add, inst),

@@ -109,7 +109,7 @@ impl Core {
 
     /// Writes a register, and answers that the core comes to its next instruction.
     #[inline(always)]
-    pub(crate) fn write(&mut self, rd: u8, value: u64) -> bool
+    pub(crate) fn write_register(&mut self, rd: u8, value: u64) -> bool
         requires free { IsTrue (is_free self.old) }
         requires rd { rd < 32 }
         ensures value { self.new ≡ goes_on self.old rd value }

@@ -33,7 +33,7 @@ impl CacheLists {
     }
 
     /// A line comes into the L2, clean. No core has a copy of the line that leaves for it.
-    pub(super) fn fetch(&mut self, line: u64)
+    pub(super) fn take_into_l2(&mut self, line: u64)
         requires absent { dirty_at self.old line ≡ None }
         requires gone { (victim : ℕ × Bool) → l2_victim self.old line ≡ Some victim
             → (core : ℕ) → letter_at self.old core victim.0 ≡ Letter.I }

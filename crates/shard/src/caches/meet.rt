@@ -143,7 +143,7 @@ impl CacheLists {
         ensures after { self.new ≡ after_at self.old core line write }
     {
         let dirty_victim = self.make_l2_room(core, line);
-        self.fetch(line);
+        self.take_into_l2(line);
         self.bring_in(core, line, write);
         Outcome::Miss { dirty_victim }
     }

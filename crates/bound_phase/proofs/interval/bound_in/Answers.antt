@@ -5,7 +5,7 @@ use Rattle.access_log.specs.RecordedOrder.{recorded_order}
 use Rattle.shard_table.specs.Access.{AreAllSeats, AreWhole, SeatState, TableState, entries_of_seats, recorded_entries}
 use Rattle.bound_core.specs.TimedCore.{NumberedCore}
 use Rattle.bound_phase.specs.declared.member.Member.{Member}
-use Rattle.bound_phase.specs.Bounds.{HaveNewSeats, HaveEnded, IsBound}
+use Rattle.bound_phase.specs.Bounds.{HaveNewSeats, HaveEndedInterval, IsBound}
 use Rattle.bound_phase.specs.Shares.{HaveReturned, mates}
 use Rattle.bound_phase.proofs.Ending.{all_seats, few_all, flat_logs, have_ended, is_bound}
 use Rattle.bound_phase.proofs.Seated.{seated, written_back}
@@ -120,6 +120,6 @@ returns-in-Ok-make_over-clause-ended g c =
     (c.new.ensures.timed ∙ ap (map (λ (x : NumberedCore). x.timed)) now_cores) (c.new.ensures.number ∙ ap (map (λ (x : NumberedCore). x.number)) now_cores) c.requires.can.shards_are.some table.0 all_of_them
     c.rising_lists_stay.ensures c.cores_decide_the_order.ensures m table.1 room in
     let entries : c.merge-entries.result ≡ recorded_entries (map (λ (x : Member). x.seat) back.now) = c.merge-entries.ensures ∙ ap recorded_order (ap entries_of_logs c.deref.ensures.value ∙ flat) in
-    subst (λ (es : List Entry). HaveEnded m c.args.end c.args.cores.items c.run_crews.new.back.items es) (sym entries)
-    (subst (λ (cs : List NumberedCore). HaveEnded m c.args.end c.args.cores.items cs (recorded_entries (map (λ (x : Member). x.seat) back.now)))
+    subst (λ (es : List Entry). HaveEndedInterval m c.args.end c.args.cores.items c.run_crews.new.back.items es) (sym entries)
+    (subst (λ (cs : List NumberedCore). HaveEndedInterval m c.args.end c.args.cores.items cs (recorded_entries (map (λ (x : Member). x.seat) back.now)))
     (sym back.cores_are) it)
