@@ -1,5 +1,5 @@
 -- The others have the line no more, and the core has it alone.
-use Rattle.std.proofs.Common.{true, ap, ◌∙◌, arith}
+use Rattle.std.proofs.Common.{true, ap, ◌∙◌, arith, tests}
 use Rattle.std.specs.Prelude.{IsSome}
 use Rattle.shard.specs.Coherence.{dirty_at, is_valid, looked_up, other_after}
 use Rattle.shard.proofs.Access.{cores_looked, cores_others, l2_others, letters_looked, looked_in_l2}
@@ -23,3 +23,6 @@ own-requires-clause-in_l2 c =
     let there : IsSome (dirty_at c.args.self.now c.args.line) = c.any_other-others.ensures.inclusive c.args.core (ap is_valid c.requires.own) in
     rw (c.drop_others.ensures.after, c.use_line.ensures, l2_others (other_after true) c.args.core c.args.line (looked_up c.args.line c.args.self.now) c.args.line)
     (looked_in_l2 c.args.line c.args.self.now there)
+
+pub returns-clause-outcome : goal.returns-clause-outcome
+returns-clause-outcome c = grind (arith, tests)
