@@ -1,4 +1,4 @@
-//! The accesses of cores to shards, and a log of them.
+//! A port through which cores access the shards, and which logs what they do.
 ghost use Rattle.std.specs.Prelude.{◌≡◌, ◌≤◌, ◌<◌, [], length, map, min, Some, IfOk, OnOk};
 ghost use Rattle.machine_desc.specs.Machine.{IsMachine};
 ghost use Rattle.shard.specs.StandsFor.{new_shards};
@@ -18,8 +18,8 @@ use std::marker::Model;
 use std::mem;
 use zs_num::{Cycle, Entries, Entry, NoMemory, Request};
 
-/// The shards of a machine, and the accesses that they served in an interval, in the order of the
-/// turns.
+/// The shards of a machine, and the accesses that they have served in the interval so far, in the
+/// order of the turns.
 #[derive(Drop)]
 pub struct LoggedPort {
     port: ShardPort,
@@ -36,7 +36,7 @@ impl Model for LoggedPort {
 }
 
 impl LoggedPort {
-    /// The shards of a machine as an executable was loaded into them, without room for an access.
+    /// The shards of a machine into which an executable was loaded, with no room for accesses yet.
     pub fn new(alloc: Global, machine: &Machine, image: &Image) -> Result<Self, NoMemory>
         requires machine { IsMachine machine.now }
         requires base { image.now.base ≡ machine.now.memory.base }
@@ -47,8 +47,8 @@ impl LoggedPort {
         LoggedPort::over(alloc, shards, machine.cores)
     }
 
-    /// A port for so many cores to these shards, before the first access of an interval and without
-    /// room for one.
+    /// A port for so many cores to these shards, before the first access of an interval, with no
+    /// room for accesses yet.
     pub fn over(alloc: Global, shards: Vec<Shard>, cores: u16) -> Result<Self, NoMemory>
         requires some { 0 < cores }
         requires shards { AreShardsOf cores shards.items (base_in shards.items) (size_in shards.items) }
@@ -63,8 +63,8 @@ impl LoggedPort {
         }
     }
 
-    /// Makes it ready for an interval: without an access, and with room for so many in the buffer
-    /// of this list.
+    /// Makes the port ready for an interval: it then has no access, and room for so many, in the
+    /// memory of `list`.
     pub fn begin(&mut self, room: usize, mut list: Vec<Entry>) -> Result<(), NoMemory>
         ensures world { OnOk result (self.new.world ≡ begun_world (length self.old.world.stamps) (map restarted self.old.world.shards)) }
         ensures none { OnOk result (self.new.entries ≡ []) }
@@ -92,7 +92,7 @@ impl LoggedPort {
         self.port.finish()
     }
 
-    /// Hands the accesses out in recorded order, and keeps none.
+    /// Hands out the accesses, in recorded order, and keeps none.
     pub fn take_sorted(&mut self, alloc: Global) -> Entries
         requires { HaveDistinctKeys self.old.entries }
         ensures entries { result ≡ recorded_order self.old.entries }
@@ -126,8 +126,8 @@ impl Port for LoggedPort {
     }
 }
 
-/// The same entry, made of its fields. One that is moved as a whole takes the bytes between its
-/// fields along, in pieces for which the processor waits.
+/// The same entry, made anew of its fields. An entry that is moved as a whole takes along the
+/// unused bytes between its fields, in pieces that the processor waits for.
 #[inline(always)]
 fn anew(entry: &Entry) -> Entry
     ensures { result ≡ entry.now }

@@ -1,4 +1,4 @@
-//! A run between two intervals.
+//! A run between two intervals, and how it is taken through the next one.
 ghost use Rattle.std.specs.Prelude.{◌≡◌, ◌+◌, ◌-◌, ◌*◌, ◌<◌, ◌≤◌, ◌^◌, min, ℕ, List, [], All, Some, Err, IfErr, IfOk, OnOk, is_some, length, map, nat_lt, slice_get};
 ghost use Rattle.std.specs.List.{list_all, list_any, range_with_len};
 ghost use Rattle.machine_desc.specs.declared.machine.Machine.{Machine};
@@ -42,7 +42,7 @@ use zs_host::Gate;
 use zs_num::{Cycle, Entries, Entry, NoMemory};
 
 /// A run between two intervals: its cores in order of their numbers, their port to the shards, its
-/// components and what was counted.
+/// components, and what was counted so far.
 #[derive(Drop)]
 pub struct Simulation {
     cores: Vec<BoundCore>,
@@ -99,11 +99,11 @@ impl Simulation {
             || is_one_late(self.comps.as_slice())
     }
 
-    /// Runs the interval that ends at cycle `end`, at most 2^34: each core to the interval's end,
-    /// and then the weave, both by so many workers, but no more than there are cores and domains.
-    /// `places` has the domain of each component, and `is_worth` says whether several weave by
-    /// their domains, and then whether that was worth it. Answers the run after it and its
-    /// accesses.
+    /// Runs the interval that ends at cycle `end`, which is 2^34 at most: first each core to the
+    /// interval's end, and then the weave. So many workers do both, but no more of them than there
+    /// are cores, and then domains. `places` has the domain of each component. `is_worth` says
+    /// before the call whether several workers weave by domains, and after it whether that was
+    /// worth it. Answers the run after the interval, and the interval's accesses.
     pub fn interval<R: Threads + Wait + Sync, G: Gate>(
         self,
         rt: &R,
@@ -139,8 +139,8 @@ impl Simulation {
         Ok((simulation, entries))
     }
 
-    /// Runs interval k, which ends at cycle `end`, at most 2^34, under a list of turns. Answers the
-    /// buffer of the list, or the first place of the turns that is not legal.
+    /// Runs interval k, which ends at cycle `end`, 2^34 at most, under a list of turns. Answers
+    /// `list`, whose memory the accesses took, or the first place of the turns that is not legal.
     pub fn interval_under(
         &mut self,
         alloc: Global,
@@ -170,7 +170,8 @@ impl Simulation {
         Ok(entries.into_list())
     }
 
-    /// The bound phase of an interval, and its accesses. One worker needs no table of shards.
+    /// The bound phase of an interval. Answers the run after it, and the accesses. One worker needs
+    /// no table of shards.
     fn bound<R: Threads + Wait + Sync, G: Gate>(
         self,
         rt: &R,
@@ -201,8 +202,8 @@ impl Simulation {
         )
     }
 
-    /// The bound phase of an interval, the cores one after the other. Before each access it passes
-    /// the gate as worker 0.
+    /// The bound phase of an interval by one worker, which runs the cores one after the other. As
+    /// worker 0 it passes the gate before each access.
     fn bound_alone<G: Gate>(
         self,
         alloc: Global,
@@ -276,7 +277,8 @@ impl Simulation {
             counters,
         } = self;
         let shards = port.into_shards();
-        // Of another type than that of one worker, whose loop is another.
+        // Wrapped twice, and so of another type than the program of one worker: each of the two
+        // loops over instructions is compiled on its own.
         let program = OwnProgram { program };
         let program = OwnProgram { program: &program };
         match bound_in(
@@ -336,8 +338,8 @@ impl Simulation {
         Ok(self.port.take_sorted(alloc))
     }
 
-    /// The weave of an interval by so many workers, behind its bound phase: fires the events of the
-    /// accesses, and takes them in.
+    /// The weave of an interval, after its bound phase: fires the events of its accesses by so many
+    /// workers, and takes in what came of them.
     fn weave<R: Threads + Sync, G: Gate>(
         &mut self,
         rt: &R,
@@ -365,7 +367,8 @@ impl Simulation {
         Ok(())
     }
 
-    /// Takes in an interval whose events have fired: counts it, and lets the cores wait.
+    /// Takes in an interval whose events have fired: adds to each core's clock what it waited, and
+    /// counts the interval.
     fn take_in(
         &mut self,
         alloc: Global,
@@ -399,7 +402,7 @@ impl Simulation {
         Ok(())
     }
 
-    /// What the run gives where it ends before interval k.
+    /// What the run gives if it ends before interval k.
     pub fn results(self, k: u32) -> Final
         ensures results { (machine : Machine) (s : RunState) → StandsFor machine s self → length s.intervals ≡ k → result ≡ run_results machine s }
         ensures cores { result.cores ≡ cores_of self }
@@ -464,7 +467,7 @@ fn run_cores<G: Gate>(
     Ok(port)
 }
 
-/// Runs the core of this number to the end of the interval. One that has halted stays as it is.
+/// Runs the core of this number to the end of the interval. A core that has halted stays as it is.
 fn run_core<G: Gate>(
     machine: &Machine,
     program: &DecodedProgram<'_>,
@@ -499,7 +502,8 @@ fn run_core<G: Gate>(
     Ok(port)
 }
 
-/// Runs the cores to the end of interval k under a list of turns.
+/// Runs the cores to the end of interval k under a list of turns, or answers the first place of the
+/// list that is not legal.
 fn run_turns(
     machine: &Machine,
     program: &DecodedProgram<'_>,
@@ -531,7 +535,7 @@ fn run_turns(
     }
 }
 
-/// Each core gets room on its console for an interval.
+/// Gives each core room on its console for what it can write in an interval.
 fn reserve_all(machine: &Machine, cores: &mut [BoundCore]) -> Result<(), NoMemory>
     requires { IsMachine machine.now }
     ensures timed { OnOk result (timed_of cores.new ≡ timed_of cores.old) }
@@ -544,7 +548,7 @@ fn reserve_all(machine: &Machine, cores: &mut [BoundCore]) -> Result<(), NoMemor
     Ok(())
 }
 
-/// Each core waits for the cycles of its number.
+/// Adds to the clock of each core the delay that stands at its number.
 fn delay_all(cores: &mut [BoundCore], delays: &[u64])
     requires count { length delays.now ≡ length cores.old }
     requires clocks { All (λ c. c.timed.clock ≤ 2 ^ 57) cores.old }
@@ -557,7 +561,7 @@ fn delay_all(cores: &mut [BoundCore], delays: &[u64])
     }
 }
 
-/// The room for the accesses of all cores in an interval.
+/// How many accesses all cores together can make in an interval, for which room is taken.
 fn access_room(machine: &Machine) -> u64
     requires { IsMachine machine.now }
     ensures value { result ≡ access_room machine.now }
@@ -580,7 +584,7 @@ fn is_one_clock_late(cores: &[BoundCore]) -> bool
     cores.iter().any(|c| c.clock() > CYCLE_LIMIT)
 }
 
-/// Whether a component is busy for too long for another interval.
+/// Whether a component is busy until too late a cycle for another interval.
 fn is_one_late(comps: &[Comp]) -> bool
     ensures { result ≡ list_any (λ c. nat_lt cycle_limit (free_of c)) comps.now }
 {
