@@ -12,7 +12,7 @@ pub struct Parent {
 }
 
 /// A recorded event. Events are numbered from 0 in each interval; a parent has a smaller number.
-/// There are millions of them in an interval, so the small fields lie side by side.
+/// An interval of many cores can have hundreds of thousands, so the small fields lie side by side.
 #[derive(Clone, Copy, PartialEq, Eq)]
 pub struct Event {
     pub number: u32,

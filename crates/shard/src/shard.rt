@@ -97,7 +97,9 @@ impl Shard {
         })
     }
 
-    /// Serves an access of a core, whose own last stamp is `last`, at the core's clock `start`.
+    /// Serves an access at the core's clock `start`, for a core whose latest stamp is `last`. The
+    /// entry's stamp is one more than this and than the shard's own, so both are asked to be small:
+    /// the shard's by `own_stamp`, the core's by `stamp`.
     #[tactic(auto, unfolding(crate::specs::Served::CanServe, crate::specs::Served::shard_reply, crate::specs::Served::met_by, crate::specs::Served::shard_after))]
     #[inline(always)]
     pub fn serve(&mut self, core: u16, start: Cycle, last: Stamp, request: Request) -> Entry

@@ -17,7 +17,8 @@ use std::sync::Wait;
 use std::{hint, thread};
 use zs_num::{Cycle, Entry, Request, Stamp};
 
-/// How far apart the words of two shards are, so that no two are on one line of 128 bytes.
+/// How many words apart the words of two shards are: 128 bytes, so that no two share a pair of
+/// cache lines of the host.
 pub(crate) const APART: usize = 16;
 
 /// How often a word is looked at before other threads are let run: for some microseconds, in which

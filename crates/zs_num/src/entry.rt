@@ -23,7 +23,8 @@ pub enum Outcome {
 pub struct Entry {
     /// The number of the core.
     pub core: u16,
-    /// Its place in the recorded order of the interval, before the number of the core.
+    /// By it, and then by the core, entries stand in recorded order. It is one more than the latest
+    /// stamp of its core and of its bank in the interval.
     pub stamp: Stamp,
     /// The core's clock when the access began.
     pub start: Cycle,
