@@ -247,10 +247,8 @@ def main():
     if unknown:
         parser.error(f"no such program: {unknown[0]}")
 
-    seven = os.path.join(TOP, "examples/seven.elf")
-    built = subprocess.run([os.path.join(TOP, "zsim"), "run", "plain", seven], stdout=subprocess.DEVNULL, check=False)
-    if built.returncode != 0:
-        sys.exit("bench: zsim could not be built")
+    if subprocess.run([os.path.join(TOP, "prove")], check=False).returncode != 0:
+        sys.exit("bench: zsim could not be proved and built, and nothing else is measured")
 
     load = os.getloadavg()[0]
     print(f"{datetime.date.today()}, commit {commit()}, {machine()}, {os.cpu_count()} processors, load {load:.1f}\n")

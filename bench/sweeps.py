@@ -86,10 +86,12 @@ def main():
     parser.add_argument("--rounds", type=int, default=3, metavar="N", help="so many rounds (3)")
     parser.add_argument("--runs", type=int, default=500, metavar="N", help="so many runs in each (500)")
     parser.add_argument("--jobs", type=int, default=4, metavar="N", help="so many at a time (4)")
-    parser.add_argument("--zsim", default=PROGRAM, metavar="PROGRAM", help="the program (that of this checkout, built)")
+    parser.add_argument("--zsim", default=PROGRAM, metavar="PROGRAM", help="the program (this checkout's, proved)")
     parser.add_argument("executables", nargs="*", metavar="EXE", help="what they run (examples/c/sort.elf)")
     words = parser.parse_args()
     executables = words.executables or [str(TOP / "examples/c/sort.elf")]
+    if words.zsim == PROGRAM and subprocess.run([TOP / "prove"], check=False).returncode != 0:
+        sys.exit("sweeps: zsim could not be proved and built, and nothing else is measured")
     print(
         "| Executable | Runs | Alone, seconds | By the tool, seconds | Quotient | Alone, processor seconds"
         " | Tool's own processor seconds |"

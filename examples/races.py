@@ -11,8 +11,8 @@ replay of the recorded schedule writes the bytes that the run wrote. A program w
 nothing of races, so that is a fault too.
 
 As many runs go on beside each other as there are processors. They run the program that the variable ZSIM names, or that
-of this checkout, which is built first if it has to be. Status 0 says that no run had a fault. What a run with a fault
-wrote is kept.
+of this checkout, which is proved and built first if it has to be. Status 0 says that no run had a fault. What a run
+with a fault wrote is kept.
 """
 
 import hashlib
@@ -49,9 +49,8 @@ def program():
     named = os.environ.get("ZSIM")
     if named:
         return shutil.which(named) or sys.exit(f"races: nothing was run: {named} is no program")
-    built = subprocess.run([TOP / "zsim", "run", "plain", HERE / "seven.elf"], stdout=subprocess.DEVNULL, check=False)
-    if built.returncode != 0:
-        sys.exit("races: nothing was run: zsim could not be built")
+    if subprocess.run([TOP / "prove"], check=False).returncode != 0:
+        sys.exit("races: nothing was run: zsim could not be proved and built")
     return TOP / "crates/zsim_main/out/zsim_main"
 
 

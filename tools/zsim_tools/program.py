@@ -18,7 +18,7 @@ def find_zsim(given=None):
     """Returns the file name of the program.
 
     It is the one that is given; or that of the variable ZSIM; or, where this package stands in a checkout of zsim, the
-    checkout's, which is built first if it has to be; or the command `zsim`.
+    checkout's, which is proved and built first if it has to be; or the command `zsim`.
     """
     named = given or os.environ.get("ZSIM")
     if named:
@@ -26,7 +26,7 @@ def find_zsim(given=None):
         if not found:
             raise ToolError(f"cannot run: {named}: {why_not(named)}")
         return os.path.abspath(found)
-    if os.path.isfile(f"{REPOSITORY}/zsim") and os.path.isdir(f"{REPOSITORY}/crates/zsim_main"):
+    if os.path.isfile(f"{REPOSITORY}/prove") and os.path.isdir(f"{REPOSITORY}/crates/zsim_main"):
         return built_here()
     found = shutil.which("zsim")
     if not found:
@@ -40,14 +40,13 @@ def why_not(name):
 
 @cache
 def built_here():
-    """Returns the program of this checkout. The script beside it builds it where it has to, and says so."""
+    """Returns the proved program of this checkout. The script `prove` makes it where it has to, and says so."""
     import subprocess
 
-    script, program = f"{REPOSITORY}/zsim", f"{REPOSITORY}/crates/zsim_main/out/zsim_main"
-    words = [script, "run", "plain", f"{REPOSITORY}/examples/seven.elf"]
-    built = subprocess.run(words, stdin=subprocess.DEVNULL, stdout=subprocess.DEVNULL, check=False)
-    if built.returncode != RAN or not os.path.isfile(program):
-        raise ToolError(f"cannot run: {script}: it could not be built (see above); name another with --zsim")
+    script, program = f"{REPOSITORY}/prove", f"{REPOSITORY}/crates/zsim_main/out/zsim_main"
+    proved = subprocess.run([script], stdin=subprocess.DEVNULL, stdout=subprocess.DEVNULL, check=False)
+    if proved.returncode != 0 or not os.path.isfile(program):
+        raise ToolError(f"cannot run: {program}: {script} could not build it (see above); name another with --zsim")
     return program
 
 
