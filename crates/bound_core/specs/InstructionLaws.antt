@@ -1,7 +1,7 @@
 -- Whole instructions of one core over flat memory, and what they make of each other (RISC-V Unprivileged ISA manual,
 -- "Load and Store Instructions", "Load-Reserved/Store-Conditional Instructions").
-use Rattle.std.specs.Prelude.{◌≡◌, ◌≢◌, ◌⊎◌, ℕ, zero, suc, ◌+◌, ◌-◌, ◌/◌, ◌%◌, ◌<◌, ◌≤◌, ◌==◌, Bool, true, false, ◌&&◌, ◌||◌, if◌then◌else◌, IsTrue, List, [], ◌∷◌, length, slice_index, All, Option, Some, None}
-use Rattle.zs_num.specs.Request.{line_of}
+use Rattle.std.specs.Prelude.{◌≡◌, ◌≢◌, ◌⊎◌, ℕ, zero, suc, ◌+◌, ◌-◌, ◌%◌, ◌<◌, ◌≤◌, ◌==◌, Bool, true, false, ◌&&◌, ◌||◌, if◌then◌else◌, IsTrue, List, [], ◌∷◌, length, slice_index, All, Option, Some, None}
+use Rattle.zs_num.specs.Request.{line_at, line_of}
 use Rattle.zs_num.specs.declared.request.Request.{Request}
 use Rattle.zs_num.specs.declared.request.Request.TheVariants.{Store}
 use Rattle.rv_decode.specs.declared.inst.Inst.{Inst}
@@ -168,7 +168,7 @@ module _ (number : ℕ) (reserve : Inst) (others : List (ℕ × Request)) (store
 
   -- whether one of the others writes to the line
   abbrev pub is_ended : Bool
-  is_ended = is_written (register s.core reserve.rs1 / 64) others reserved.memory
+  is_ended = is_written (line_at (register s.core reserve.rs1)) others reserved.memory
 
   -- Where none of the others writes to the line, rd gets 0, and the lowest bytes of rs2 are stored.
   abbrev pub PairStores : Type 0
@@ -190,5 +190,5 @@ PairAloneStores = (number : ℕ) (reserve store : Inst) (s : CoreInMemory) (widt
 -- And a pair with one store of another core to its line between does not.
 abbrev pub StoreBetweenEndsPair : Type 0
 StoreBetweenEndsPair = (number other addr size value : ℕ) (reserve store : Inst) (s : CoreInMemory) (width : ℕ)
-    → IsPair number reserve ((other, Store addr size value) ∷ []) store s width → addr / 64 ≡ register s.core reserve.rs1 / 64 → store.rd ≢ 0
+    → IsPair number reserve ((other, Store addr size value) ∷ []) store s width → line_at addr ≡ line_at (register s.core reserve.rs1) → store.rd ≢ 0
     → register (after_pair number reserve ((other, Store addr size value) ∷ []) store s).core store.rd ≡ 1

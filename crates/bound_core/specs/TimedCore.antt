@@ -88,6 +88,11 @@ left_of_instruction (Some now) = suc (length now.later)
 unfoldable pub most_accesses : (end : ℕ) → TimedCore → ℕ
 most_accesses end c = if nat_lt c.clock end then end - c.clock + 256 else left_of_instruction c.core.instruction
 
+-- The room for accesses of a core in an interval beside one for each cycle: for the 256 of an instruction that begins in
+-- the last cycle, and for 2 that no core makes.
+abbrev pub beside_cycles : ℕ
+beside_cycles = 258
+
 -- The latest cycle that the clock of a core can come to before the core ends its interval. An access takes 2^20 cycles
 -- at most.
 unfoldable pub latest_clock : (end : ℕ) → TimedCore → ℕ

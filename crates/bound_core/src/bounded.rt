@@ -5,7 +5,7 @@ ghost use Rattle.machine_desc.specs.Machine.{IsMachine};
 ghost use Rattle.rv_core.specs.Sound.{IsSoundCore};
 ghost use Rattle.rv_core.specs.Step.{cost, is_free};
 ghost use Rattle.bound_core.specs.Port.{Gains};
-ghost use Rattle.bound_core.specs.TimedCore.{after_instruction, ahead, asks, core_after_access, delayed, first_core, goes_on_alone, latest_clock, most_accesses, ran_to};
+ghost use Rattle.bound_core.specs.TimedCore.{after_instruction, ahead, asks, beside_cycles, core_after_access, delayed, first_core, goes_on_alone, latest_clock, most_accesses, ran_to};
 ghost use Rattle.bound_core.specs.Turn.{IfTook, IsOver, RunsToEnd, TurnsAs};
 
 use crate::{Port, Turned};
@@ -17,8 +17,8 @@ use std::alloc::Global;
 use std::marker::Model;
 use zs_num::{Cycle, Entry, NoMemory, Request};
 
-/// How many accesses a core can make in an interval beside one for each cycle, and so how many
-/// bytes it can write: an instruction that accesses memory many times may begin in the last cycle.
+/// The room for accesses of a core in an interval beside one for each cycle, and so for bytes that
+/// it writes: `beside_cycles`.
 pub const BESIDE_CYCLES: u64 = 258;
 
 /// A core in time: its state, its clock in cycles, and the bytes that it wrote on its console.
@@ -80,7 +80,7 @@ impl BoundCore {
     /// Makes room on the console for what the core can write in an interval of so many cycles.
     pub fn reserve(&mut self, interval: u64) -> Result<(), NoMemory>
         requires { interval ≤ 10000 }
-        ensures room { OnOk result (interval + 258 ≤ self.new.spare) }
+        ensures room { OnOk result (interval + beside_cycles ≤ self.new.spare) }
         ensures spare { self.old.spare ≤ self.new.spare }
         ensures timed { self.new.timed ≡ self.old.timed }
         ensures number { self.new.number ≡ self.old.number }
@@ -203,8 +203,8 @@ impl BoundCore {
         requires core { Q.core port.old ≡ self.old.number }
         requires base { Q.base port.old ≡ self.old.timed.core.memory.base }
         requires size { Q.size port.old ≡ self.old.timed.core.memory.size }
-        requires room { end - self.old.timed.clock + 258 ≤ Q.room port.old }
-        requires spare { end - self.old.timed.clock + 258 ≤ self.old.spare }
+        requires room { end - self.old.timed.clock + beside_cycles ≤ Q.room port.old }
+        requires spare { end - self.old.timed.clock + beside_cycles ≤ self.old.spare }
         requires clock { self.old.timed.clock ≤ 2 ^ 60 }
         requires end { end ≤ 2 ^ 60 }
         ensures turns { RunsToEnd (X.time x.now) (P.image program.now) end Q.gives Q.told self.old.number port.old port.new self.old.timed self.new.timed }

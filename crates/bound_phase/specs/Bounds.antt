@@ -10,7 +10,7 @@ use Rattle.access_log.specs.RecordedOrder.{recorded_order}
 use Rattle.bound_core.specs.History.{IsHistory, after_history}
 use Rattle.bound_core.specs.ShardPort.{AreShardsOf}
 use Rattle.bound_core.specs.ShardWorld.{restarted}
-use Rattle.bound_core.specs.TimedCore.{NumberedCore, timed_of}
+use Rattle.bound_core.specs.TimedCore.{NumberedCore, beside_cycles, timed_of}
 use Rattle.bound_core.specs.Turn.{IsOver}
 
 -- A core of this machine between two instructions. Unless it has halted, the interval that ends at `end` is one of the
@@ -42,12 +42,12 @@ pub record IsBound (time : Entry → ℕ) (image : MemoryImage) (end : ℕ) (cor
 
 -- Every core has halted or come to the end of the interval. No access starts more than 2^28 cycles behind the end, no
 -- clock is more than 2^28 cycles behind where it began or behind the end, and each core has an access for each cycle
--- and 258 more at most.
+-- and `beside_cycles` more at most.
 pub record HaveEndedInterval (m : Machine) (end : ℕ) (cores cores_after : List NumberedCore) (entries : List Entry) : Type 0 where
   pub over : All (IsOver end) (timed_of cores_after)
   pub starts : All (λ e. e.start ≤ end + 2 ^ 28) entries
-  pub few : length entries ≤ m.cores * (m.interval + 258)
-  pub few_each : (core : ℕ) → core < m.cores → length (of_core core entries) ≤ m.interval + 258
+  pub few : length entries ≤ m.cores * (m.interval + beside_cycles)
+  pub few_each : (core : ℕ) → core < m.cores → length (of_core core entries) ≤ m.interval + beside_cycles
   pub clocks : (most : ℕ) → end ≤ most → All (λ c. c.clock ≤ most) (timed_of cores) → All (λ c. c.clock ≤ most + 2 ^ 28) (timed_of cores_after)
 
 -- there is room for so many bytes on the console
@@ -58,7 +58,7 @@ HasConsoleRoom room c = room ≤ c.spare
 pub record HaveNewSeats (m : Machine) (end : ℕ) (t : TableState) (cores : List NumberedCore) (seats : List SeatState) : Type 0 where
   pub count : length cores ≡ t.cores
   pub cores_are : t.cores ≡ m.cores
-  pub ready : (number : ℕ) (c : NumberedCore) → slice_get cores number ≡ Some c → IsBeforeInterval m end c × HasConsoleRoom (m.interval + 258) c × (c.number ≡ number)
+  pub ready : (number : ℕ) (c : NumberedCore) → slice_get cores number ≡ Some c → IsBeforeInterval m end c × HasConsoleRoom (m.interval + beside_cycles) c × (c.number ≡ number)
   pub seats_new : AreNewSeats t seats
   pub shards : AreShardsOf t.cores t.shards m.memory.base m.memory.size
-  pub room : t.room ≡ m.interval + 258
+  pub room : t.room ≡ m.interval + beside_cycles

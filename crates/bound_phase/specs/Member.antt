@@ -7,7 +7,7 @@ use Rattle.elf_load.specs.MemoryImage.{MemoryImage}
 use Rattle.shard_table.specs.Access.{IsSameSeat, IsSeatOf, TableState}
 use Rattle.bound_core.specs.History.{AreTurnsOf, after_turn}
 use Rattle.bound_core.specs.ShardPort.{AreShardsOf}
-use Rattle.bound_core.specs.TimedCore.{ran_to}
+use Rattle.bound_core.specs.TimedCore.{beside_cycles, ran_to}
 use Rattle.bound_core.specs.Turn.{IsOver}
 use Rattle.bound_phase.specs.declared.member.Member.{Member}
 
@@ -21,8 +21,8 @@ pub record CanRun (t : TableState) (memory : Memory) (end : ℕ) (m : Member) : 
   pub size : m.core.timed.core.memory.size ≡ memory.size
   pub shards : AreShardsOf t.cores t.shards memory.base memory.size
   pub known : m.core.number < t.cores
-  pub room : IsNone m.core.timed.core.halted → end - m.core.timed.clock + 258 ≤ t.room
-  pub spare : IsNone m.core.timed.core.halted → end - m.core.timed.clock + 258 ≤ m.core.spare
+  pub room : IsNone m.core.timed.core.halted → end - m.core.timed.clock + beside_cycles ≤ t.room
+  pub spare : IsNone m.core.timed.core.halted → end - m.core.timed.clock + beside_cycles ≤ m.core.spare
   pub clock : m.core.timed.clock ≤ 2 ^ 60
   pub end_is : end ≤ 2 ^ 60
 

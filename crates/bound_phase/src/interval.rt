@@ -1,6 +1,7 @@
 //! The bound phase of an interval.
 ghost use Rattle.std.specs.Prelude.{◌≡◌, ◌<◌, ◌≤◌, ◌+◌, ◌^◌, ◌*◌, [], All, length, map, vec_capacity, IfOk, IfErr, OnOk};
 ghost use Rattle.machine_desc.specs.Machine.{IsMachine};
+ghost use Rattle.bound_core.specs.TimedCore.{beside_cycles};
 ghost use Rattle.bound_phase.specs.Bounds.{HaveNewSeats, CanBound, HasConsoleRoom, HaveEndedInterval, IsBound};
 ghost use Rattle.bound_phase.specs.Shares.{AreEmpty, HaveReturned, mates};
 
@@ -215,7 +216,7 @@ fn no_entries(alloc: Global, cores: Vec<BoundCore>, shards: Vec<Shard>) -> Bound
 /// The room for the accesses of a core.
 fn room_of(machine: &Machine) -> u32
     requires { IsMachine machine.now }
-    ensures { result ≡ machine.now.interval + 258 }
+    ensures { result ≡ machine.now.interval + beside_cycles }
 {
     (machine.interval + BESIDE_CYCLES) as u32
 }
@@ -242,11 +243,11 @@ impl Buffers {
         ensures count { length cores.new ≡ length cores.old }
         ensures timed { map (λ c. c.timed) cores.new ≡ map (λ c. c.timed) cores.old }
         ensures number { map (λ c. c.number) cores.new ≡ map (λ c. c.number) cores.old }
-        ensures spare { OnOk result (All (HasConsoleRoom (machine.now.interval + 258)) cores.new) }
+        ensures spare { OnOk result (All (HasConsoleRoom (machine.now.interval + beside_cycles)) cores.new) }
         ensures crews { IfOk result (λ m. (0 < length m.crews.items) × (length m.crews.items ≤ 64) × All (AreEmpty machine.now.cores) m.crews.items) }
         ensures back { IfOk result (λ m. (m.back.items ≡ []) × (machine.now.cores ≤ vec_capacity m.back)) }
         ensures seats { IfOk result (λ m. (m.seats_back.items ≡ []) × (machine.now.cores ≤ vec_capacity m.seats_back)) }
-        ensures merger { IfOk result (λ m. m.merger ≡ machine.now.cores * (machine.now.interval + 258)) }
+        ensures merger { IfOk result (λ m. m.merger ≡ machine.now.cores * (machine.now.interval + beside_cycles)) }
     {
         reserve_all(cores, machine.interval)?;
         Ok(Buffers {
@@ -264,7 +265,7 @@ fn reserve_all(cores: &mut [BoundCore], interval: u64) -> Result<(), NoMemory>
     ensures count { length cores.new ≡ length cores.old }
     ensures timed { map (λ c. c.timed) cores.new ≡ map (λ c. c.timed) cores.old }
     ensures number { map (λ c. c.number) cores.new ≡ map (λ c. c.number) cores.old }
-    ensures spare { OnOk result (All (HasConsoleRoom (interval + 258)) cores.new) }
+    ensures spare { OnOk result (All (HasConsoleRoom (interval + beside_cycles)) cores.new) }
 {
     for i in 0..cores.len() {
         cores[i].reserve(interval)?;

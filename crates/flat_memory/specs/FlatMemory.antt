@@ -1,9 +1,10 @@
 -- Memory as one list of bytes, with at most one reservation for each core: what accesses are answered, and what they
 -- leave. Accesses take effect whole and one after the other. Numbers are little-endian (RISC-V Unprivileged ISA manual,
 -- "Load and Store Instructions", "Load-Reserved/Store-Conditional Instructions", "Atomic Memory Operations").
-use Rattle.std.specs.Prelude.{ℕ, ◌+◌, ◌-◌, ◌/◌, ◌==◌, Bool, false, not, ◌&&◌, if◌then◌else◌, List, ◌++◌, map, take, drop, replicate, slice_index_or, slice_set, Option, Some, None}
+use Rattle.std.specs.Prelude.{ℕ, ◌+◌, ◌-◌, ◌==◌, Bool, false, not, ◌&&◌, if◌then◌else◌, List, ◌++◌, map, take, drop, replicate, slice_index_or, slice_set, Option, Some, None}
 use Rattle.std.specs.List.{enumerate_from}
 use Rattle.byteorder.specs.Endian.{little_bytes, little_number}
+use Rattle.zs_num.specs.Request.{line_at}
 use Rattle.zs_num.specs.declared.request.Request.{Request}
 use Rattle.zs_num.specs.declared.request.Request.TheVariants.{Load, Store, Lr, Sc, Amo}
 use Rattle.elf_load.specs.MemoryImage.{MemoryImage, bytes_from}
@@ -43,11 +44,10 @@ is_reservation (Some r) addr width = (r.addr == addr) && (r.width == width)
 unfoldable pub is_reserved : MemoryState → (core addr width : ℕ) → Bool
 is_reserved memory core addr width = is_reservation (slice_index_or memory.reservations core None) addr width
 
--- What a core has still reserved when a core wrote to an address. It ends where another core wrote to its line of 64
--- bytes.
+-- What a core has still reserved when a core wrote to an address. It ends where another core wrote to its line.
 abbrev pub unless_written : (is_writer : Bool) → (addr : ℕ) → Option Reservation → Option Reservation
 unless_written is_writer addr None = None
-unless_written is_writer addr (Some r) = if not is_writer && (r.addr / 64 == addr / 64) then None else Some r
+unless_written is_writer addr (Some r) = if not is_writer && (line_at r.addr == line_at addr) then None else Some r
 
 unfoldable pub after_write : (core addr : ℕ) → List (Option Reservation) → List (Option Reservation)
 after_write core addr reservations = map (λ at. unless_written (at.0 == core) addr at.1) (enumerate_from 0 reservations)

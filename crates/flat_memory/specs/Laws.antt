@@ -1,6 +1,6 @@
 -- What accesses make of each other.
-use Rattle.std.specs.Prelude.{◌≡◌, ◌≢◌, ◌⊎◌, ℕ, ◌+◌, ◌-◌, ◌/◌, ◌%◌, ◌^◌, ◌<◌, ◌≤◌, Bool, true, false, if◌then◌else◌, length, slice_index, slice_index_or, Option, None}
-use Rattle.zs_num.specs.Request.{addr_of}
+use Rattle.std.specs.Prelude.{◌≡◌, ◌≢◌, ◌⊎◌, ℕ, ◌+◌, ◌-◌, ◌%◌, ◌^◌, ◌<◌, ◌≤◌, Bool, true, false, if◌then◌else◌, length, slice_index, slice_index_or, Option, None}
+use Rattle.zs_num.specs.Request.{addr_of, line_at}
 use Rattle.zs_num.specs.declared.request.Request.{Request}
 use Rattle.zs_num.specs.declared.request.Request.TheVariants.{Load, Store, Lr, Sc, Amo}
 use Rattle.flat_memory.specs.declared.reservation.Reservation.{Reservation}
@@ -30,7 +30,7 @@ ConditionalStoresAfterReserved = (memory : MemoryState) (core addr width value :
 -- and not where another core stored to the line between
 abbrev pub ConditionalFailsAfterOthersStore : Type 0
 ConditionalFailsAfterOthersStore = (memory : MemoryState) (core other addr width value place size number : ℕ) (paired : _)
-    → core < length memory.reservations → other ≢ core → place / 64 ≡ addr / 64
+    → core < length memory.reservations → other ≢ core → line_at place ≡ line_at addr
     → memory_reply (memory_after (memory_after memory core (Lr addr width)) other (Store place size number)) core (Sc addr width value paired) ≡ 1
 
 -- what a core has reserved

@@ -8,8 +8,3 @@ access_limit = 2 ^ 26
 -- the latest cycle of a clock or a component at which an interval may begin
 abbrev pub cycle_limit : ℕ
 cycle_limit = 2 ^ 56
-
--- The most accesses of a core in an interval, beyond one a cycle: an instruction that accesses memory many times may
--- begin in the last cycle.
-abbrev pub beside_cycles : ℕ
-beside_cycles = 258

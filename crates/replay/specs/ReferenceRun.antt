@@ -13,9 +13,9 @@ use Rattle.event_graph.specs.OneListWeave.{comps_after, fired_of, woven}
 use Rattle.event_graph.specs.Timing.{pieces_of, time_by}
 use Rattle.feedback.specs.FeedbackDelay.{feedback_delays}
 use Rattle.stats.specs.Counts.{Interval, counts_of, total_accesses}
-use Rattle.replay.specs.Limits.{access_limit, cycle_limit, beside_cycles}
+use Rattle.replay.specs.Limits.{access_limit, cycle_limit}
 use Rattle.bound_core.specs.ReferenceMachine.{BoundState, bound_phase}
-use Rattle.bound_core.specs.TimedCore.{TimedCore, delayed, first_core}
+use Rattle.bound_core.specs.TimedCore.{TimedCore, beside_cycles, delayed, first_core}
 use Rattle.bound_core.specs.MachineWorld.{MachineWorld, first_world, serve}
 use Rattle.flat_memory.specs.FlatMemory.{MemoryState}
 use Rattle.shard.specs.Coherence.{Caches}
@@ -88,8 +88,7 @@ abbrev pub after_interval : Machine → MemoryImage → RunState → List ℕ �
 after_interval machine image s turns =
     woven_after machine s (bound_phase serve (time_of machine) image (end_of machine s) turns (begun_interval machine s))
 
--- The room for the accesses of an interval: for each core one a cycle, and those of an instruction that accesses memory
--- many times and begins in the last cycle.
+-- The room for the accesses of an interval: for each core one a cycle, and those beside.
 abbrev pub access_room : Machine → ℕ
 access_room machine = machine.cores * (machine.interval + beside_cycles)
 

@@ -17,14 +17,13 @@ use Rattle.bound_core.specs.Reaching.{Reaches}
 use Rattle.bound_core.specs.ReferenceMachine.{BoundState, bound_phase}
 use Rattle.bound_core.specs.ShardPort.{AreShardsOf, base_of, room_of, size_of}
 use Rattle.bound_core.specs.ShardWorld.{ShardWorld, begun_world, restarted, shards_serve}
-use Rattle.bound_core.specs.TimedCore.{NumberedCore, TimedCore, timed_of}
+use Rattle.bound_core.specs.TimedCore.{NumberedCore, TimedCore, beside_cycles, timed_of}
 use Rattle.bound_core.specs.Turn.{IsOver}
 use Rattle.access_log.specs.RecordedOrder.{recorded_order}
 use Rattle.stats.specs.Counts.{counts_of, total_accesses, total_events}
 use Rattle.stats.specs.Laws.{WasRun}
 use Rattle.replay.specs.declared.simulation.Simulation.{Simulation}
 use Rattle.replay.specs.IntervalWeave.{HaveFired}
-use Rattle.replay.specs.Limits.{beside_cycles}
 use Rattle.replay.specs.Port.{LoggedPortState}
 use Rattle.replay.specs.ReferenceRun.{RunState, access_room, after_interval, end_of, first_state, has_ended, recorded_turns, time_of, world_of}
 

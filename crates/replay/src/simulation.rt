@@ -10,7 +10,7 @@ ghost use Rattle.bound_core.specs.History.{begun_over_shards};
 ghost use Rattle.bound_core.specs.ReferenceMachine.{bound_phase};
 ghost use Rattle.bound_core.specs.ShardPort.{base_of, room_of, size_of};
 ghost use Rattle.bound_core.specs.ShardWorld.{restarted, shards_serve};
-ghost use Rattle.bound_core.specs.TimedCore.{NumberedCore, first_core, timed_of};
+ghost use Rattle.bound_core.specs.TimedCore.{NumberedCore, beside_cycles, first_core, timed_of};
 ghost use Rattle.replay.specs.ReferenceRun.{RunState, access_room, after_interval, all_delayed, at_limit, has_ended_at, have_halted, run_results, time_of};
 ghost use Rattle.replay.specs.Limits.{cycle_limit};
 ghost use Rattle.replay.specs.Replay.{IfIllegal};
@@ -484,7 +484,7 @@ fn run_core<G: Gate>(
     requires ready { CanRunInterval machine.now end (base_of port.world) (size_of port.world) core.old.timed }
     requires number { core.old.number ≡ number }
     requires known { number < length port.world.stamps }
-    requires room { machine.now.interval + 258 ≤ min (room_of port.world) port.room }
+    requires room { machine.now.interval + beside_cycles ≤ min (room_of port.world) port.room }
     ensures { IfOk result (HasRunThroughPort machine.now program.now end core.old core.new port) }
 {
     if core.halted().is_some() {
@@ -540,7 +540,7 @@ fn reserve_all(machine: &Machine, cores: &mut [BoundCore]) -> Result<(), NoMemor
     requires { IsMachine machine.now }
     ensures timed { OnOk result (timed_of cores.new ≡ timed_of cores.old) }
     ensures numbered { OnOk result (AreNumbered cores.old → AreNumbered cores.new) }
-    ensures spare { OnOk result ((i : ℕ) (c : NumberedCore) → slice_get cores.new i ≡ Some c → machine.now.interval + 258 ≤ c.spare) }
+    ensures spare { OnOk result ((i : ℕ) (c : NumberedCore) → slice_get cores.new i ≡ Some c → machine.now.interval + beside_cycles ≤ c.spare) }
 {
     for number in 0..cores.len() {
         cores[number].reserve(machine.interval)?;

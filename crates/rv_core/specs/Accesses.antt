@@ -1,7 +1,7 @@
 -- The accesses of an instruction: which bytes each one reads or writes, and what number their replies make. Memory is
 -- little-endian (RISC-V Unprivileged ISA manual, "Load and Store Instructions").
 use Rattle.std.specs.Prelude.{ℕ, zero, suc, ◌+◌, ◌-◌, ◌*◌, ◌/◌, ◌%◌, ◌^◌, nat_le, nat_lt, Bool, ◌&&◌, if◌then◌else◌, List, [], ◌∷◌}
-use Rattle.zs_num.specs.Request.{width_of, IsServable}
+use Rattle.zs_num.specs.Request.{line_bytes, width_of, IsServable}
 use Rattle.zs_num.specs.declared.request.Request.{Request}
 use Rattle.zs_num.specs.declared.request.Request.TheVariants.{Load, Store}
 use Rattle.rv_core.specs.declared.memory_range.MemoryRange.{MemoryRange}
@@ -19,13 +19,13 @@ high_bytes width number = number / 2 ^ (8 * width)
 abbrev pub is_in_memory : MemoryRange → (addr width : ℕ) → Bool
 is_in_memory memory addr width = nat_le memory.base addr && nat_le (addr + width) (memory.base + memory.size)
 
--- so many bytes from an address on lie in one line of 64 bytes
+-- so many bytes from an address on lie in one line
 abbrev pub is_in_line : (addr width : ℕ) → Bool
-is_in_line addr width = nat_le (addr % 64 + width) 64
+is_in_line addr width = nat_le (addr % line_bytes + width) line_bytes
 
 -- how many bytes there are from an address on to the end of its line
 abbrev pub left_in_line : (addr : ℕ) → ℕ
-left_in_line addr = 64 - addr % 64
+left_in_line addr = line_bytes - addr % line_bytes
 
 -- A load of so many bytes is one access, or two where it crosses a line, the lower line first.
 unfoldable pub load_requests : (addr width : ℕ) → List Request

@@ -1,6 +1,6 @@
 //! Load-reserved, store-conditional and atomic read-modify-writes.
 ghost use Rattle.std.specs.Prelude.{◌≡◌, ◌<◌, ◌≤◌, ◌+◌, ◌%◌, ◌==◌, ◌⊎◌, IsTrue, [], ◌∷◌};
-ghost use Rattle.zs_num.specs.Request.{addr_of, width_of};
+ghost use Rattle.zs_num.specs.Request.{addr_of, line_bytes, width_of};
 ghost use Rattle.rv_core.specs.Effect.{atomic, load_reserved, store_conditional, updates};
 ghost use Rattle.rv_core.specs.Pairing.{IsPairedRight};
 ghost use Rattle.rv_core.specs.CoreState.{ToRegister};
@@ -100,7 +100,7 @@ fn number_to(rd: u8, width: u8, signed: bool) -> Destination
 fn is_aligned(addr: u64, width: u8) -> bool
     requires { (width ≡ 4) ⊎ (width ≡ 8) }
     ensures value { result ≡ (addr % width == 0) }
-    ensures in_line { IsTrue result → addr % 64 + width ≤ 64 }
+    ensures in_line { IsTrue result → addr % line_bytes + width ≤ line_bytes }
 {
     if width == 4 {
         addr % 4 == 0

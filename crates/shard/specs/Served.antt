@@ -2,7 +2,7 @@
 -- list of entries is at once the list of requests, of replies and of stamps.
 use Rattle.std.specs.Prelude.{◌≡◌, ℕ, ◌+◌, ◌-◌, ◌*◌, ◌/◌, ◌%◌, ◌<◌, List, [], ◌∷◌, length, max, replicate, Option, None}
 use Rattle.std.specs.List.{flat_map, range_with_len}
-use Rattle.zs_num.specs.Request.{addr_of, line_of, IsServable, line_at, bank_of_line}
+use Rattle.zs_num.specs.Request.{addr_of, line_bytes, line_of, IsServable, line_at, bank_of_line}
 use Rattle.zs_num.specs.declared.entry.Entry.{Entry}
 use Rattle.zs_num.specs.declared.entry.Outcome.{Outcome}
 use Rattle.zs_num.specs.declared.request.Request.{Request}
@@ -32,7 +32,7 @@ lines_below shards base = line_at base / shards
 
 -- where a byte of the shard stands among its bytes
 abbrev pub place_of : (shards base addr : ℕ) → ℕ
-place_of shards base addr = 64 * (line_at addr / shards - lines_below shards base) + addr % 64
+place_of shards base addr = line_bytes * (line_at addr / shards - lines_below shards base) + addr % line_bytes
 
 -- what a shard can be asked: an access to a line of its own that memory can serve
 unfoldable pub CanServe : ShardState → Request → Type 0
@@ -87,7 +87,7 @@ lines_kept shards base size = line_at (base + size - 1) / shards - lines_below s
 -- the bytes of a shard's lines
 unfoldable pub first_bytes : (shards number : ℕ) → MemoryImage → List ℕ
 first_bytes shards number image =
-    flat_map (λ line. bytes_from image.segments (64 * (line * shards + number)) 64)
+    flat_map (λ line. bytes_from image.segments (line_bytes * (line * shards + number)) line_bytes)
     (range_with_len (lines_below shards image.base) (lines_kept shards image.base image.size))
 
 abbrev pub new_shard : Machine → (number : ℕ) → MemoryImage → ShardState

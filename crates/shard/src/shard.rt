@@ -2,7 +2,7 @@
 ghost use Rattle.std.specs.Prelude.{◌≡◌, ◌+◌, ◌-◌, ◌*◌, ◌%◌, ◌^◌, ◌<◌, ◌≤◌, length, slice_index, IfOk};
 ghost use Rattle.machine_desc.specs.Machine.{IsMachine};
 ghost use Rattle.shard.specs.Coherence.{dirty_at, letter_at};
-ghost use Rattle.zs_num.specs.Request.{line_at, bank_of_line};
+ghost use Rattle.zs_num.specs.Request.{line_at, line_bytes, bank_of_line};
 ghost use Rattle.shard.specs.Served.{new_shard, place_of, resumed, shard_after, CanServe, KnowsCore, IsServedBy};
 
 use crate::caches::CacheLists;
@@ -188,7 +188,7 @@ impl Shard {
         requires begins { self.now.base ≤ addr }
         requires ends { addr < self.now.base + self.now.size }
         ensures place { result ≡ place_of self.now.caches.shards self.now.base addr }
-        ensures within { result + 64 ≤ length self.now.bytes + addr % 64 }
+        ensures within { result + line_bytes ≤ length self.now.bytes + addr % line_bytes }
     {
         (LINE * (quotient(addr / LINE, self.count) - self.below) + addr % LINE) as usize
     }

@@ -51,12 +51,12 @@ IsAligned (Lr addr width) = IsNaturallyAligned addr width
 IsAligned (Sc addr width value paired) = IsNaturallyAligned addr width
 IsAligned (Amo op addr width value) = IsNaturallyAligned addr width
 
--- What a memory of so many bytes from a base on can be asked: an access of 1 to 8 of its bytes, all in one line of 64
--- bytes, and aligned if it is atomic.
+-- What a memory of so many bytes from a base on can be asked: an access of 1 to 8 of its bytes, all in one line, and
+-- aligned if it is atomic.
 pub record IsServable (base size : ℕ) (request : Request) : Type 0 where
   pub some : 1 ≤ width_of request
   pub few : width_of request ≤ 8
   pub begins : base ≤ addr_of request
   pub ends : addr_of request + width_of request ≤ base + size
-  pub in_line : addr_of request % 64 + width_of request ≤ 64
+  pub in_line : addr_of request % line_bytes + width_of request ≤ line_bytes
   pub aligned : IsAligned request
