@@ -4,7 +4,8 @@ use Rattle.std.proofs.lemmas.Bool.{and_parts, cases_Bool}
 use Rattle.zs_num.specs.declared.request.Request.{Request}
 use Rattle.elf_load.specs.MemoryImage.{MemoryImage}
 use Rattle.rv_core.specs.CoreState.{CoreState, InProgress}
-use Rattle.rv_core.specs.Pairing.{IsPairedRight, pairing_after}
+use Rattle.zs_num.specs.PairedRight.{IsPairedRight}
+use Rattle.zs_num.specs.Pairing.{pairing_after}
 use Rattle.rv_core.specs.Sound.{IsSoundCore}
 use Rattle.rv_core.specs.Step.{advanced, answered, executed, is_free}
 use Rattle.bound_core.specs.TimedCore.{TimedCore, after_instruction, after_instructions, goes_on_alone, next_request, ran_to}

@@ -5,6 +5,7 @@ use Rattle.std.specs.List.{range_with_len}
 use Rattle.std.proofs.lemmas.List.{get_or-map, length-map, length-replicate}
 use Rattle.std.proofs.lemmas.List.Elements.{All-map}
 use Rattle.std.proofs.lemmas.List.FromFn.{length-map-range_with_len}
+use Rattle.zs_num.specs.declared.pairing.Pairing.{Pairing}
 use Rattle.elf_load.specs.MemoryImage.{MemoryImage, byte_at}
 use Rattle.machine_desc.specs.Machine.{IsMachine}
 use Rattle.machine_desc.specs.declared.machine.Machine.{Machine}
@@ -12,12 +13,11 @@ use Rattle.rv_core.specs.CoreState.{CoreState}
 use Rattle.rv_core.specs.Laws.{IsReached, starts}
 use Rattle.rv_core.specs.Sound.{IsSoundCore}
 use Rattle.rv_core.specs.Step.{initial_core}
-use Rattle.flat_memory.specs.declared.reservation.Reservation.{Reservation}
 use Rattle.shard.specs.Laws.{NewShardsStand}
 use Rattle.shard.specs.Served.{ShardState, new_shard}
 use Rattle.shard.specs.StandsFor.{flat_for, new_memory, new_shards}
 use Rattle.access_log.specs.RecordedOrder.{no_stamps}
-use Rattle.bound_core.specs.MachineOfShards.{IsCoreOf, StandForMachine, paired_bytes, pairings_of}
+use Rattle.bound_core.specs.MachineOfShards.{IsCoreOf, StandForMachine, pairings_of}
 use Rattle.bound_core.specs.MachineWorld.{MachineWorld, first_world}
 use Rattle.bound_core.specs.ShardWorld.{ShardWorld, begun_world, restarted}
 use Rattle.bound_core.specs.TimedCore.{TimedCore, first_core}
@@ -26,13 +26,13 @@ use Rattle.bound_core.proofs.Restarted.{no_last, stand_again}
 -- ---- the next interval
 
 -- the pairings of the cores' own states
-pairings_from : (cores : List TimedCore) → pairings_of cores ≡ map (λ (core : CoreState). paired_bytes core.pairing) (map (λ (c : TimedCore). c.core) cores)
+pairings_from : (cores : List TimedCore) → pairings_of cores ≡ map (λ (core : CoreState). core.pairing) (map (λ (c : TimedCore). c.core) cores)
 pairings_from [] = refl
-pairings_from (c ∷ cores) = ap (λ (ps : List (Option Reservation)). paired_bytes c.core.pairing ∷ ps) (pairings_from cores)
+pairings_from (c ∷ cores) = ap (λ (ps : List (Option Pairing)). c.core.pairing ∷ ps) (pairings_from cores)
 
 module _ (cores later : List TimedCore) (same : map (λ c. c.core) later ≡ map (λ c. c.core) cores) where
   same_pairings : pairings_of later ≡ pairings_of cores
-  same_pairings = pairings_from later ∙ ap (map (λ (core : CoreState). paired_bytes core.pairing)) same ∙ sym (pairings_from cores)
+  same_pairings = pairings_from later ∙ ap (map (λ (core : CoreState). core.pairing)) same ∙ sym (pairings_from cores)
 
   same_many : length later ≡ length cores
   same_many = sym (length-map later (λ (c : TimedCore). c.core)) ∙ ap length same ∙ length-map cores (λ (c : TimedCore). c.core)
@@ -73,7 +73,7 @@ module _ (machine : Machine) (image : MemoryImage) where
   first_cores : (a n : ℕ) → pairings_of (map (first_core machine image) (range_with_len a n)) ≡ replicate n None
   unfolding initial_core
   first_cores a zero = refl
-  first_cores a (suc n) = ap (λ (ps : List (Option Reservation)). None ∷ ps) (first_cores (a + 1) n)
+  first_cores a (suc n) = ap (λ (ps : List (Option Pairing)). None ∷ ps) (first_cores (a + 1) n)
 
   first_stamps : (a n : ℕ) → replicate n 0 ≡ map (λ (s : ShardState). s.last) (map (λ number. new_shard machine number image) (range_with_len a n))
   first_stamps a zero = refl

@@ -13,6 +13,7 @@ pub mod MachineRuns
 pub mod NewShards
 pub mod Numbered
 pub mod OwnTurns
+pub mod PairedPhases
 pub mod Pairings
 pub mod Pairs
 pub mod Phase

@@ -15,7 +15,7 @@ use Rattle.rv_core.specs.Accesses.{is_in_line, is_in_memory, low_bytes, reply_to
 use Rattle.rv_core.specs.CoreState.{CoreState}
 use Rattle.rv_core.specs.Effect.{ended, goes_on, received, register, to_register}
 use Rattle.rv_core.specs.Laws.{bytes_of, bytes_stored}
-use Rattle.rv_core.specs.Pairing.{is_paired, pairing_after}
+use Rattle.zs_num.specs.Pairing.{is_paired, pairing_after}
 use Rattle.bound_core.specs.InstructionLaws.{CoreInMemory, IsLoadReserved, IsPair, IsStoreConditional, PairAloneStores, PairStores, StoreBetweenEndsPair, WriteBetweenEndsPair, memory_after_all, after_all_requests, after_executing, after_pair, between, is_ended, is_written, reserved, sc_w, sc_d}
 use Rattle.bound_core.proofs.Lists.{all_head, all_tail}
 use Rattle.bound_core.proofs.LoadsStores.{low-bytes_count}

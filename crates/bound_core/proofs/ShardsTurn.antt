@@ -4,25 +4,26 @@ use Rattle.std.specs.Prelude.{slice_get, slice_index, slice_set}
 use Rattle.std.proofs.lemmas.List.{length-map, length-set, map-set}
 use Rattle.std.proofs.lemmas.List.Elements.{All-cons, All-head, All-map, All-nil, All-set, All-tail, All-weaker}
 use Rattle.std.proofs.lemmas.Option.{get_or_from_slice_get, slice_get_within}
+use Rattle.zs_num.specs.PairedRight.{IsPairedRight, pairing_of, pairings_after}
 use Rattle.zs_num.specs.Request.{IsServable, bank_of}
 use Rattle.zs_num.specs.declared.entry.Entry.{Entry}
 use Rattle.zs_num.specs.declared.entry.Outcome.{Outcome}
+use Rattle.zs_num.specs.declared.pairing.Pairing.{Pairing}
 use Rattle.zs_num.specs.declared.request.Request.{Request}
 use Rattle.elf_load.specs.MemoryImage.{MemoryImage}
 use Rattle.rv_core.specs.CoreState.{CoreState, InProgress}
 use Rattle.rv_core.specs.Sound.{IsSoundCore}
 use Rattle.rv_core.specs.Step.{answered}
-use Rattle.rv_core.specs.Pairing as core
 use Rattle.flat_memory.specs.declared.reservation.Reservation.{Reservation}
 use Rattle.flat_memory.specs.FlatMemory as flat
 use Rattle.shard.specs.Coherence.{outcome_of}
 use Rattle.shard.specs.Coherence as caches
 use Rattle.shard.specs.Laws.{MarksAreReservations, ShardsStandForAMachine}
-use Rattle.shard.specs.Marks.{MarkedMemory, marked_after, marked_reply, reserved_after, pairing_of, pairings_after}
+use Rattle.shard.specs.Marks.{MarkedMemory, marked_after, marked_reply}
 use Rattle.shard.specs.Served.{ShardState, met_by, shard_after, shard_reply}
 use Rattle.shard.specs.StandsFor.{StandFor, flat_for}
 use Rattle.access_log.specs.RecordedOrder.{next_stamp}
-use Rattle.bound_core.specs.MachineOfShards.{IsCoreOf, StandForMachine, paired_bytes, pairings_of}
+use Rattle.bound_core.specs.MachineOfShards.{IsCoreOf, StandForMachine, pairings_of}
 use Rattle.bound_core.specs.MachineWorld as machine
 use Rattle.bound_core.specs.MachineWorld.{MachineWorld, bank_for}
 use Rattle.bound_core.specs.ReferenceMachine.{BoundState, bound_from}
@@ -33,22 +34,15 @@ use Rattle.bound_core.proofs.CoreKept.{CoreLaws, StaysSound, ran_stays_sound, wa
 use Rattle.bound_core.proofs.Histories.{after_last, is_there}
 use Rattle.bound_core.proofs.HistoryTurn.{last_at}
 use Rattle.bound_core.proofs.Lists.{get_set}
-use Rattle.bound_core.proofs.Pairings.{bytes_after, pairing_at, right_as}
+use Rattle.bound_core.proofs.Pairings.{core_after, turn_pairings, turn_right, turn_sound}
 use Rattle.bound_core.proofs.Correspondence.{KeptByTurns, same_phases}
 use Rattle.bound_core.proofs.ShardKept.{marks_kept, recorded_outcome, recorded_reply, size_kept}
-
-core_after : (time : Entry → ℕ) (e : Entry) (c : TimedCore) → (core_after_access time e c).core ≡ answered e.reply c.core
-unfolding core_after_access
-core_after time e c = refl
 
 same_head : {A : Type 0} (x y : A) (xs ys : List A) → x ∷ xs ≡ y ∷ ys → x ≡ y
 same_head x y xs ys same = cc
 
 -- of a core that waits for an access of a sound instruction
 module _ (laws : CoreLaws) (c : CoreState) (sound : IsSoundCore c) (now : InProgress) (is : c.instruction ≡ Some now) where
-  pub waits_right : core.IsPairedRight c.pairing now.next
-  waits_right = laws.paired_right c now sound is
-
   pub waits_served : IsServable c.memory.base c.memory.size now.next
   waits_served = let served = sound.served in (rw is at served).0
 
@@ -111,11 +105,8 @@ module _ (laws : CoreLaws) (step : ShardsStandForAMachine) (marks_law : MarksAre
       × StandFor (slice_set w.shards shard.number (shard_after shard e)) (marked_after r.memory number request) (caches.caches_after m.caches number request)
   stepped = step w.shards r.memory m.caches shard e r.stand there.1 servable core_in_caches
 
-  abbrev pub pairings : List (Option Reservation)
+  abbrev pub pairings : List (Option Pairing)
   pairings = pairings_of cores
-
-  pairing_here : pairing_of pairings number ≡ paired_bytes c.core.pairing
-  pairing_here = pairing_at cores number c here
 
   all_marks : (shards : List ShardState) (n : ℕ) → All (λ x. length x.marks ≡ n) shards → All (λ marks. length marks ≡ n) (map (λ x. x.marks) shards)
   all_marks shards n all = All-map (λ (marks : List (Option Reservation)). length marks ≡ n) (λ (x : ShardState). x.marks) shards all
@@ -123,7 +114,7 @@ module _ (laws : CoreLaws) (step : ShardsStandForAMachine) (marks_law : MarksAre
   marked : (marked_reply r.memory number request ≡ flat.memory_reply (flat_for r.memory pairings) number request)
       × (flat_for (marked_after r.memory number request) (pairings_after pairings number request) ≡ flat.memory_after (flat_for r.memory pairings) number request)
   marked =
-      let paired : length pairings ≡ length cores = length-map cores (λ (x : TimedCore). paired_bytes x.core.pairing) in
+      let paired : length pairings ≡ length cores = length-map cores (λ (x : TimedCore). x.core.pairing) in
       let lists : length r.memory.marks ≡ length w.shards = ap length r.stand.marks ∙ length-map w.shards (λ (x : ShardState). x.marks) in
       let each : All (λ marks. length marks ≡ length pairings) r.memory.marks =
       subst (λ (n : ℕ). All (λ (marks : List (Option Reservation)). length marks ≡ n) r.memory.marks) (sym paired)
@@ -133,9 +124,8 @@ module _ (laws : CoreLaws) (step : ShardsStandForAMachine) (marks_law : MarksAre
       let one : All (λ (access : ℕ × Request). access.0 < length pairings) ((number, request) ∷ []) =
       All-cons (λ (access : ℕ × Request). access.0 < length pairings) (number, request) [] in_pairings (All-nil (λ (access : ℕ × Request). access.0 < length pairings))
       in
-      let own = waits_right laws ran.core stays.sound waiting.0 waiting.1 in
-      let right = right_as c.core.pairing request (subst (core.IsPairedRight c.core.pairing) waiting.2 (subst (λ (p : _). core.IsPairedRight p waiting.0.next) stays.pairing own)) in
-      let ours = marks_law r.memory pairings ((number, request) ∷ []) (omega (arith, lists, r.some)) each one (rw pairing_here right, tt) in
+      let right : IsPairedRight (pairing_of pairings number) request = turn_right laws image end cores number c here is_core.sound request asked in
+      let ours = marks_law r.memory pairings ((number, request) ∷ []) (omega (arith, lists, r.some)) each one (right, tt) in
       (same_head (marked_reply r.memory number request) (flat.memory_reply (flat_for r.memory pairings) number request) [] [] ours.0, ours.1)
 
   replied : flat.memory_reply m.memory number request ≡ e.reply
@@ -207,19 +197,8 @@ module _ (laws : CoreLaws) (step : ShardsStandForAMachine) (marks_law : MarksAre
   stand_after : StandFor w_after.shards marked_left m_after.caches
   stand_after = subst (λ (n : ℕ). StandFor (slice_set w.shards n (shard_after shard e)) marked_left m_after.caches) own_number stepped.2
 
-  pairing_left : paired_bytes c_after.core.pairing ≡ reserved_after (pairing_of pairings number) request
-  pairing_left =
-      ap (λ (core : CoreState). paired_bytes core.pairing) (core_after time e ran)
-      ∙ ap paired_bytes (laws.answered_pairing e.reply ran.core waiting.0 stays.sound waiting.1)
-      ∙ ap (λ (x : Request). paired_bytes (core.pairing_after ran.core.pairing x)) waiting.2
-      ∙ bytes_after ran.core.pairing request
-      ∙ ap (λ (x : _). reserved_after (paired_bytes x) request) stays.pairing
-      ∙ ap (λ (x : Option Reservation). reserved_after x request) (sym pairing_here)
-
   pairings_left : pairings_after pairings number request ≡ pairings_of cores_after
-  pairings_left =
-      ap (λ (x : Option Reservation). slice_set pairings number x) (sym pairing_left)
-      ∙ sym (map-set (λ (x : TimedCore). paired_bytes x.core.pairing) cores number c_after)
+  pairings_left = turn_pairings laws image end cores number c here is_core.sound request asked time e
 
   flat_after : m_after.memory ≡ flat_for marked_left (pairings_of cores_after)
   flat_after =
@@ -235,7 +214,7 @@ module _ (laws : CoreLaws) (step : ShardsStandForAMachine) (marks_law : MarksAre
       let is : c_after.core ≡ answered e.reply ran.core = core_after time e ran in
       let memory = ap (λ (core : CoreState). core.memory) is ∙ laws.answered_memory e.reply ran.core stays.sound ∙ stays.memory in
       record {
-        sound = subst IsSoundCore (sym is) (laws.answered_sound e.reply ran.core stays.sound);
+        sound = turn_sound laws image end cores number c here is_core.sound request asked time e;
         base_is = ap (λ (x : _). x.base) memory ∙ is_core.base_is;
         size_is = ap (λ (x : _). x.size) memory ∙ is_core.size_is;
       }

@@ -10,7 +10,7 @@ use Rattle.flat_memory.specs.FlatMemory.{MemoryState, memory_after, memory_reply
 use Rattle.rv_core.specs.Accesses.{is_in_memory, reply_to}
 use Rattle.rv_core.specs.CoreState.{CoreState, Ending, InProgress}
 use Rattle.rv_core.specs.Effect.{accesses, atomic, effect, ended, goes_on, goes_through, goes_to, load_reserved, loads, register, store_conditional, stores, with_register}
-use Rattle.rv_core.specs.Pairing.{pairing_after}
+use Rattle.zs_num.specs.Pairing.{pairing_after}
 use Rattle.rv_core.specs.Step.{answered, is_free, replies_with}
 use Rattle.bound_core.specs.InstructionLaws.{IsLoad, lb, lh, lw, ld, lbu, lhu, lwu, IsLoadReserved, lr_w, lr_d, IsStore, sb, sh, sw, sd, IsStoreConditional, sc_w, sc_d, after_all_requests}
 

@@ -5,6 +5,7 @@ pub mod Intervals
 pub mod Laws
 pub mod MachineOfShards
 pub mod MachineWorld
+pub mod PairedPhases
 pub mod Port
 pub mod Reaching
 pub mod ReferenceMachine

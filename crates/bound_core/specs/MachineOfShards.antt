@@ -1,11 +1,10 @@
 -- When cores and shards with marks stand for the machine of one thread: one flat memory with a reservation for each
 -- core, and one list for each set of the caches.
-use Rattle.std.specs.Prelude.{◌≡◌, ℕ, ◌<◌, List, [], length, map, All, Option, Some, None, Ok}
+use Rattle.std.specs.Prelude.{◌≡◌, ℕ, ◌<◌, List, [], length, map, All, Option, Ok}
 use Rattle.zs_num.specs.declared.entry.Entry.{Entry}
 use Rattle.elf_load.specs.MemoryImage.{MemoryImage}
-use Rattle.rv_core.specs.declared.pairing.Pairing.{Pairing}
+use Rattle.zs_num.specs.declared.pairing.Pairing.{Pairing}
 use Rattle.rv_core.specs.Sound.{IsSoundCore}
-use Rattle.flat_memory.specs.declared.reservation.Reservation.{Reservation}
 use Rattle.shard.specs.Marks.{MarkedMemory}
 use Rattle.shard.specs.Served.{ShardState}
 use Rattle.shard.specs.StandsFor.{StandFor, flat_for}
@@ -19,13 +18,9 @@ use Rattle.bound_core.specs.ShardWorld.{ShardWorld, begun_world}
 use Rattle.bound_core.specs.Correspondence.{AreRelated, EndAlike}
 use Rattle.bound_core.specs.TimedCore.{TimedCore}
 
--- the bytes of a core's pairing, as they can be reserved
-abbrev pub paired_bytes : Option Pairing → Option Reservation
-paired_bytes None = None
-paired_bytes (Some pairing) = Some (record { addr = pairing.addr; width = pairing.width })
-
-abbrev pub pairings_of : List TimedCore → List (Option Reservation)
-pairings_of cores = map (λ c. paired_bytes c.core.pairing) cores
+-- the pairings of cores, in the cores' order
+abbrev pub pairings_of : List TimedCore → List (Option Pairing)
+pairings_of cores = map (λ c. c.core.pairing) cores
 
 -- the core is sound, and its memory is this
 pub record IsCoreOf (base size : ℕ) (c : TimedCore) : Type 0 where

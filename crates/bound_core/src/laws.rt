@@ -7,6 +7,7 @@ ghost use Rattle.bound_core.specs.HistoryLaws.{HistoriesArePhases, PhasesAreHist
 ghost use Rattle.bound_core.specs.Intervals.{FirstIntervalBegins, NextIntervalBegins};
 ghost use Rattle.bound_core.specs.Laws.{AccessesAreFew, EndsWhereAllAreOver, LocalInstructionsAreAlone, TurnIsScheduled, TurnsAreScheduled};
 ghost use Rattle.bound_core.specs.MachineOfShards.{HistoriesAreRunsOfTheMachine, ShardsDoAsTheMachine};
+ghost use Rattle.bound_core.specs.PairedPhases.{HistoriesArePaired, PhasesArePaired};
 ghost use Rattle.bound_core.specs.Reaching.{BeginsAtItself, GoesOnByATurn, GoesOnByLocalInstructions, GoesOnToTheEnd, IsThePhaseAtTheEnd};
 ghost use Rattle.rv_decode.specs.declared.inst.Inst.{Inst};
 ghost use Rattle.bound_core.specs.InstructionLaws.{CoreInMemory, InstructionsAreSteps, LoadsAreWhole, OtherBytesStay, PairAloneStores, PairStores, StoreBetweenEndsPair, StoredIsLoaded, StoresAreWhole, WriteBetweenEndsPair};
@@ -160,6 +161,18 @@ pub fn histories_are_runs_of_the_machine()
     recorded_order_is_a_history();
     histories_are_phases();
     shards_do_as_the_machine();
+}
+
+/// In whatever order cores access memory, each store-conditional says rightly whether it is paired:
+/// whether its core's latest load-reserved was of the same bytes, and no store-conditional of the
+/// core came since.
+pub fn accesses_are_paired_right()
+    ensures phases { (time : Entry → ℕ) (image : MemoryImage) (end : ℕ) → PhasesArePaired time image end }
+    ensures histories { (time : Entry → ℕ) (image : MemoryImage) (end : ℕ) → HistoriesArePaired time image end }
+{
+    rv_core::laws::cores_stay_sound();
+    rv_core::laws::accesses_are_paired_right();
+    histories_are_phases();
 }
 
 /// The cores and the new shards of a machine stand for its first world, and cores and shards that

@@ -2,10 +2,10 @@
 use Rattle.std.proofs.Common.{◌≡◌, ◌<◌, ◌≤◌, ◌+◌, ◌-◌, ℕ, zero, suc, [], ◌∷◌, length, Option, Some, arith, lit≤, refl, sym, ap}
 use Rattle.zs_num.specs.declared.request.Request.TheVariants.{Load}
 use Rattle.rv_core.specs.declared.memory_range.MemoryRange.{MemoryRange}
-use Rattle.rv_core.specs.declared.pairing.Pairing.{Pairing}
+use Rattle.zs_num.specs.declared.pairing.Pairing.{Pairing}
 use Rattle.rv_core.specs.Accesses.{byte_loads, AreServableIn, IsServableIn}
 use Rattle.rv_core.specs.CoreState.{CoreState, ToConsole}
-use Rattle.rv_core.specs.Pairing.{ArePairedRight}
+use Rattle.zs_num.specs.PairedRight.{ArePairedRight}
 use Rattle.rv_core.specs.Sound.{IsSoundCore}
 
 -- a byte of memory is in a line

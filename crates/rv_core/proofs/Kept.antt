@@ -10,7 +10,7 @@ use Rattle.rv_decode.specs.declared.inst.Inst.{Inst}
 use Rattle.rv_decode.specs.declared.name.Name.{Name}
 use Rattle.rv_decode.specs.declared.name.Name.TheVariants as name
 use Rattle.rv_core.specs.declared.memory_range.MemoryRange.{MemoryRange}
-use Rattle.rv_core.specs.declared.pairing.Pairing.{Pairing}
+use Rattle.zs_num.specs.declared.pairing.Pairing.{Pairing}
 use Rattle.rv_core.specs.declared.progress.Destination.{Destination}
 use Rattle.rv_core.specs.declared.progress.Reply.{Reply}
 use Rattle.rv_core.specs.declared.why.Why.{Why}
@@ -18,7 +18,7 @@ use Rattle.rv_core.specs.declared.why.Why.TheVariants.{Exit}
 use Rattle.rv_core.specs.Accesses.{byte_loads, is_in_line, is_in_memory, load_requests, store_requests, AreServableIn}
 use Rattle.rv_core.specs.CoreState.{CoreState, Ending, ToRegister, ToConsole, ToNothing}
 use Rattle.rv_core.specs.Effect.{accesses, address, atomic, branches, calls, effect, ended, following, goes_through, goes_to, halts, jumps, loads, register, relative, stores, with_register, writes}
-use Rattle.rv_core.specs.Pairing.{ArePairedRight, IsPairedRight}
+use Rattle.zs_num.specs.PairedRight.{ArePairedRight, IsPairedRight}
 use Rattle.rv_core.specs.Sound.{EndsInRegister, IsSoundCore}
 use Rattle.rv_core.proofs.ByteLoads.{loads_length, loads_paired, loads_served}
 

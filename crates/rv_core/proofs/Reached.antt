@@ -13,7 +13,8 @@ use Rattle.rv_core.specs.Accesses.{reply_to, AreServableIn}
 use Rattle.rv_core.specs.CoreState.{CoreState, InProgress}
 use Rattle.rv_core.specs.Fetch.{fetched_at, of_decoded, of_word, HasRegisters}
 use Rattle.rv_core.specs.Laws.{Asks, none, advancing, answering, IsReached, starts, advances, is_answered}
-use Rattle.rv_core.specs.Pairing.{pairing_after, pairing_after_all, ArePairedRight, IsPairedRight}
+use Rattle.zs_num.specs.PairedRight.{pairing_after_all, ArePairedRight, IsPairedRight}
+use Rattle.zs_num.specs.Pairing.{pairing_after}
 use Rattle.rv_core.specs.Sound.{left_of, EndsInRegister, IsSoundCore}
 use Rattle.rv_core.specs.Step.{advanced, after_fetch, after_reply, answered, executed, initial_core, is_free, replies_with}
 use Rattle.rv_core.proofs.Kept.{cond-keeps, effect-keeps, goes_through-keeps, halts-keeps, Keeps}

@@ -2,7 +2,7 @@
 use Rattle.std.specs.Prelude.{ℕ, List, Option}
 use Rattle.zs_num.specs.declared.request.Request.{Request}
 use Rattle.rv_core.specs.declared.memory_range.MemoryRange.{MemoryRange}
-use Rattle.rv_core.specs.declared.pairing.Pairing.{Pairing}
+use Rattle.zs_num.specs.declared.pairing.Pairing.{Pairing}
 use Rattle.rv_core.specs.declared.progress.Destination.{Destination}
 use Rattle.rv_core.specs.declared.progress.Reply.{Reply}
 use Rattle.rv_core.specs.declared.why.Why.{Why}

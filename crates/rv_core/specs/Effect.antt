@@ -18,7 +18,7 @@ use Rattle.rv_core.specs.declared.why.Why.{Why}
 use Rattle.rv_core.specs.declared.why.Why.TheVariants.{Exit, Misaligned, AtomicAlign, Access, Break}
 use Rattle.rv_core.specs.Accesses.{byte_loads, is_in_memory, joined, load_requests, low_bytes, sign_extended_bytes, store_requests}
 use Rattle.rv_core.specs.CoreState.{CoreState, Ending, ToRegister, ToConsole, ToNothing}
-use Rattle.rv_core.specs.Pairing.{is_paired}
+use Rattle.zs_num.specs.Pairing.{is_paired}
 
 -- ---- registers, pc and halts
 

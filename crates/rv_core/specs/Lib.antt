@@ -1,5 +1,4 @@
 pub mod CoreState
-pub mod Pairing
 pub mod Accesses
 pub mod Fetch
 pub mod Effect

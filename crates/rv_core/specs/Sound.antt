@@ -6,7 +6,7 @@ use Rattle.rv_core.specs.declared.ask.Ask.TheVariants.{Local, Access, Halted}
 use Rattle.rv_core.specs.declared.memory_range.MemoryRange.{MemoryRange}
 use Rattle.rv_core.specs.Accesses.{AreServableIn, IsServableIn}
 use Rattle.rv_core.specs.CoreState.{CoreState, Ending, ToRegister, ToConsole, ToNothing, InProgress}
-use Rattle.rv_core.specs.Pairing.{ArePairedRight}
+use Rattle.zs_num.specs.PairedRight.{ArePairedRight}
 
 -- the accesses that are left of an instruction in progress
 abbrev pub left_of : InProgress → List Request

@@ -13,7 +13,7 @@ use Rattle.rv_core.specs.Accesses.{reply_to}
 use Rattle.rv_core.specs.CoreState.{CoreState, Ending, ToRegister, ToConsole, ToNothing, InProgress}
 use Rattle.rv_core.specs.Effect.{effect, goes_through, halts}
 use Rattle.rv_core.specs.Fetch.{fetched_at}
-use Rattle.rv_core.specs.Pairing.{pairing_after}
+use Rattle.zs_num.specs.Pairing.{pairing_after}
 
 -- the registers at the start: sp is x2, the core's number is in a0 (x10) and the number of cores in a1 (x11)
 abbrev pub start_registers : (number cores sp : ℕ) → List ℕ

@@ -1,8 +1,8 @@
 //! Load-reserved, store-conditional and atomic read-modify-writes.
 ghost use Rattle.std.specs.Prelude.{◌≡◌, ◌<◌, ◌≤◌, ◌+◌, ◌%◌, ◌==◌, ◌⊎◌, IsTrue, [], ◌∷◌};
+ghost use Rattle.zs_num.specs.PairedRight.{IsPairedRight};
 ghost use Rattle.zs_num.specs.Request.{addr_of, line_bytes, width_of};
 ghost use Rattle.rv_core.specs.Effect.{atomic, load_reserved, store_conditional, updates};
-ghost use Rattle.rv_core.specs.Pairing.{IsPairedRight};
 ghost use Rattle.rv_core.specs.CoreState.{ToRegister};
 ghost use Rattle.rv_core.specs.Step.{is_free};
 

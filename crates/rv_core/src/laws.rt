@@ -3,12 +3,13 @@
 ghost use Rattle.std.specs.Prelude.{◌≡◌, ◌<◌, ℕ, List, All, Some, length};
 ghost use Rattle.std.specs.List.{flat_map};
 ghost use Rattle.elf_load.specs.MemoryImage.{MemoryImage};
+ghost use Rattle.zs_num.specs.PairedRight.{pairing_after_all, ArePairedRight, IsPairedRight};
+ghost use Rattle.zs_num.specs.Pairing.{pairing_after};
 ghost use Rattle.zs_num.specs.declared.request.Request.{Request};
 ghost use Rattle.rv_core.specs.Accesses.{joined, load_requests, store_requests};
 ghost use Rattle.rv_core.specs.CoreState.{CoreState, InProgress};
 ghost use Rattle.rv_core.specs.Effect.{register};
 ghost use Rattle.rv_core.specs.Laws.{addresses, addresses_of, bytes_of, bytes_stored, number_of_bytes, replies_loaded, Asks, IsReached};
-ghost use Rattle.rv_core.specs.Pairing.{pairing_after, pairing_after_all, ArePairedRight, IsPairedRight};
 ghost use Rattle.rv_core.specs.Sound.{IsSoundCore};
 ghost use Rattle.rv_core.specs.Step.{advanced, answered};
 

@@ -1,16 +1,8 @@
-//! Which load-reserved a store-conditional is paired with.
+//! A core's pairing: what its next store-conditional says, and what an access leaves.
 ghost use Rattle.std.specs.Prelude.{◌≡◌};
-ghost use Rattle.rv_core.specs.Pairing.{is_paired, pairing_after};
+ghost use Rattle.zs_num.specs.Pairing.{is_paired, pairing_after};
 
-use zs_num::Request;
-
-/// The address and the width of a core's latest load-reserved.
-#[derive(Clone, Copy)]
-pub struct Pairing {
-    pub addr: u64,
-    /// In bytes, 4 or 8.
-    pub width: u8,
-}
+use zs_num::{Pairing, Request};
 
 /// Whether a store-conditional of this address and width is paired.
 pub fn is_paired(pairing: Option<Pairing>, addr: u64, width: u8) -> bool

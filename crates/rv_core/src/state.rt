@@ -1,23 +1,24 @@
 //! The state of a core.
 ghost use Rattle.std.specs.Prelude.{◌≡◌, ◌+◌, ◌<◌, ◌≤◌, ◌^◌, ◌++◌, [], ◌∷◌, None, IsTrue, IsSome, IfSome, option_map, is_some, option_to_list};
+ghost use Rattle.zs_num.specs.PairedRight.{ArePairedRight, IsPairedRight};
+ghost use Rattle.zs_num.specs.Pairing.{is_paired};
 ghost use Rattle.zs_num.specs.Request.{width_of};
 ghost use Rattle.rv_core.specs.Accesses.{byte_loads, is_in_memory, IsServableIn};
 ghost use Rattle.rv_core.specs.CoreState.{ToConsole};
 ghost use Rattle.rv_core.specs.Effect.{ended, goes_on, goes_through, goes_to, halts, register};
 ghost use Rattle.rv_core.specs.Fetch.{fetched_at, HasRegisters};
-ghost use Rattle.rv_core.specs.Pairing.{is_paired, ArePairedRight, IsPairedRight};
 ghost use Rattle.rv_core.specs.Progress.{ending_of, IsNarrow};
 ghost use Rattle.rv_core.specs.Sound.{EndsInRegister, IsSoundCore};
 ghost use Rattle.rv_core.specs.Step.{answered, console_byte, initial_core, is_free, replies_with};
 
 use crate::memory_range::MemoryRange;
-use crate::pairing::{Pairing, is_paired, pair};
+use crate::pairing::{is_paired, pair};
 use crate::progress::{Destination, Progress, Reply};
 use crate::replies::{received, reply_to};
 use crate::{Fetched, Program, Why};
 use rv_decode::Inst;
 use std::marker::Model;
-use zs_num::Request;
+use zs_num::{Pairing, Request};
 
 /// The register a0.
 pub(crate) const A0: u8 = 10;

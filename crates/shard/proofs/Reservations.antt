@@ -5,19 +5,29 @@ use Rattle.std.proofs.lemmas.Bool.{eqb-true, eq-eqb, ne_eqb, cases_eq, and_parts
 use Rattle.std.proofs.lemmas.List.{get_or-map, get_or-set_same, get_or-set_other, length-set}
 use Rattle.std.proofs.lemmas.List.Elements.{All-set, All-head, All-tail}
 use Rattle.std.proofs.lemmas.List.FromFn.{get_or-enumerate_from, length-enumerate_from, get_or-map-range_with_len}
+use Rattle.zs_num.specs.PairedRight.{AreAllPairedRight, IsPairedRight, pairing_of, pairings_after, pairings_after_all}
+use Rattle.zs_num.specs.Pairing.{is_paired, pairing_after}
 use Rattle.zs_num.specs.Request.{addr_of, line_at, bank_of_line}
+use Rattle.zs_num.specs.declared.pairing.Pairing.{Pairing}
 use Rattle.zs_num.specs.declared.request.Request.{Request}
 use Rattle.zs_num.specs.declared.request.Request.TheVariants.{Load, Store, Lr, Sc, Amo}
 use Rattle.rv_alu.specs.Atomic.{new_number}
 use Rattle.flat_memory.specs.declared.reservation.Reservation.{Reservation}
 use Rattle.flat_memory.specs.FlatMemory as flat
-use Rattle.shard.specs.Marks.{MarkedMemory, IsReservedRight, AreReservedRight, bytes_after, does_store, marked_after, marked_reply, marks_after, marks_for, reserved_after, pairing_of, pairings_after, reply_from, shard_number}
-use Rattle.shard.specs.Laws.{marked_replies, marked_after_all, flat_replies, flat_after_all, pairings_after_all}
+use Rattle.shard.specs.Marks.{MarkedMemory, bytes_after, does_store, marked_after, marked_reply, marks_after, marks_for, reply_from, shard_number}
+use Rattle.shard.specs.Laws.{marked_replies, marked_after_all, flat_replies, flat_after_all}
 use Rattle.shard.specs.StandsFor.{flat_for, mark_at, reserved_by}
 use Rattle.shard.proofs.Kept.{length-marks_after}
 
 abbrev Reserved : Type 0
 Reserved = Option Reservation
+
+abbrev Paired : Type 0
+Paired = Option Pairing
+
+-- the bytes of a pairing, as they can be reserved
+abbrev bytes_of : Pairing → Reservation
+bytes_of p = record { addr = p.addr; width = p.width }
 
 -- ---- lists of what a function gives at each number
 module _ {X : Type 0} where
@@ -114,21 +124,21 @@ module _ (m : MarkedMemory) (cores : ℕ) (are : AreMarks m cores) (core : ℕ) 
   mark_before k addr e = rw e refl
 
   -- a core whose mark in the shard stays has reserved what it had
-  pub reserved_stays : (k : ℕ) → get_or (marks_after (marks_for m request) core request) k None ≡ get_or (marks_for m request) k None → (p : Reserved) → reserved_by (marked_after m core request) k p ≡ reserved_by m k p
+  pub reserved_stays : (k : ℕ) → get_or (marks_after (marks_for m request) core request) k None ≡ get_or (marks_for m request) k None → (p : Paired) → reserved_by (marked_after m core request) k p ≡ reserved_by m k p
   reserved_stays k h None = refl
   reserved_stays k h (Some q) =
-      elim (cases_eq (bank_of_line (length m.marks) (line_at q.addr)) (shard_number m request)) as (λ _. kept_if (flat.is_reservation (mark_at (marked_after m core request) k q.addr) q.addr q.width) q ≡ kept_if (flat.is_reservation (mark_at m k q.addr) q.addr q.width) q) [
+      elim (cases_eq (bank_of_line (length m.marks) (line_at q.addr)) (shard_number m request)) as (λ _. kept_if (flat.is_reservation (mark_at (marked_after m core request) k q.addr) q.addr q.width) (bytes_of q) ≡ kept_if (flat.is_reservation (mark_at m k q.addr) q.addr q.width) (bytes_of q)) [
         | inl e ↦ rw (mark_here k q.addr e, h, mark_before k q.addr e) refl
         | inr e ↦ rw (mark_there k q.addr e) refl
       ]
 
   -- what a core has reserved where the shard was written to
-  pub reserved_written : (k : ℕ) → get_or (marks_after (marks_for m request) core request) k None ≡ flat.unless_written (eqb k core) (addr_of request) (get_or (marks_for m request) k None) → (p : Reserved) → reserved_by (marked_after m core request) k p ≡ flat.unless_written (eqb k core) (addr_of request) (reserved_by m k p)
+  pub reserved_written : (k : ℕ) → get_or (marks_after (marks_for m request) core request) k None ≡ flat.unless_written (eqb k core) (addr_of request) (get_or (marks_for m request) k None) → (p : Paired) → reserved_by (marked_after m core request) k p ≡ flat.unless_written (eqb k core) (addr_of request) (reserved_by m k p)
   reserved_written k h None = refl
   reserved_written k h (Some q) =
-      elim (cases_eq (bank_of_line (length m.marks) (line_at q.addr)) (shard_number m request)) as (λ _. kept_if (flat.is_reservation (mark_at (marked_after m core request) k q.addr) q.addr q.width) q ≡ flat.unless_written (eqb k core) (addr_of request) (kept_if (flat.is_reservation (mark_at m k q.addr) q.addr q.width) q)) [
-        | inl e ↦ rw (mark_here k q.addr e, h, mark_before k q.addr e) (mark_written (eqb k core) (addr_of request) (get_or (marks_for m request) k None) q)
-        | inr e ↦ rw (mark_there k q.addr e) (sym (apart_stays (eqb k core) (addr_of request) q (flat.is_reservation (mark_at m k q.addr) q.addr q.width) (λ l. e (ap (λ (x : ℕ). x % length m.marks) l))))
+      elim (cases_eq (bank_of_line (length m.marks) (line_at q.addr)) (shard_number m request)) as (λ _. kept_if (flat.is_reservation (mark_at (marked_after m core request) k q.addr) q.addr q.width) (bytes_of q) ≡ flat.unless_written (eqb k core) (addr_of request) (kept_if (flat.is_reservation (mark_at m k q.addr) q.addr q.width) (bytes_of q))) [
+        | inl e ↦ rw (mark_here k q.addr e, h, mark_before k q.addr e) (mark_written (eqb k core) (addr_of request) (get_or (marks_for m request) k None) (bytes_of q))
+        | inr e ↦ rw (mark_there k q.addr e) (sym (apart_stays (eqb k core) (addr_of request) (bytes_of q) (flat.is_reservation (mark_at m k q.addr) q.addr q.width) (λ l. e (ap (λ (x : ℕ). x % length m.marks) l))))
       ]
 
 -- ---- the marks of one shard after a write
@@ -141,10 +151,10 @@ written_at core addr marks k l =
     get_or-map (λ (at : ℕ × Reserved). flat.unless_written (eqb at.0 core) addr at.1) (enumerate_from 0 marks) k (0, None) None (omega (arith, enumerated)) ∙ rw (at, zero_k) refl
 
 -- ---- flat memory
-abbrev all_of : MarkedMemory → (pairings : List Reserved) → List Reserved
+abbrev all_of : MarkedMemory → (pairings : List Paired) → List Reserved
 all_of m pairings = map (λ k. reserved_by m k (pairing_of pairings k)) (range_with_len 0 (length pairings))
 
-flat_at : (m : MarkedMemory) (pairings : List Reserved) (k : ℕ) → k < length pairings → get_or (all_of m pairings) k None ≡ reserved_by m k (pairing_of pairings k)
+flat_at : (m : MarkedMemory) (pairings : List Paired) (k : ℕ) → k < length pairings → get_or (all_of m pairings) k None ≡ reserved_by m k (pairing_of pairings k)
 flat_at m pairings k l = get_or-map-range_with_len (λ k. reserved_by m k (pairing_of pairings k)) 0 (length pairings) k k None l (omega arith)
 
 flat_written : (f : ℕ → Reserved) (core addr n : ℕ) → flat.after_write core addr (map f (range_with_len 0 n)) ≡ map (λ k. flat.unless_written (eqb k core) addr (f k)) (range_with_len 0 n)
@@ -155,12 +165,12 @@ flat_written f core addr n =
 flat_set : (f : ℕ → Reserved) (v : Reserved) (core n : ℕ) → core < n → set (map f (range_with_len 0 n)) core v ≡ map (λ k. cond (eqb k core) v (f k)) (range_with_len 0 n)
 flat_set f v core n l = one_set f v core 0 n core (omega arith) l
 
-module _ (m : MarkedMemory) (pairings : List Reserved) (are : AreMarks m (length pairings)) (core : ℕ) (within : core < length pairings) where
+module _ (m : MarkedMemory) (pairings : List Paired) (are : AreMarks m (length pairings)) (core : ℕ) (within : core < length pairings) where
   abbrev R : ℕ → Reserved
   R k = reserved_by m k (pairing_of pairings k)
 
   -- the pairings after an access, of which this is the core's own
-  paired_at : (v : Reserved) (k : ℕ) → pairing_of (set pairings core v) k ≡ cond (eqb k core) v (pairing_of pairings k)
+  paired_at : (v : Paired) (k : ℕ) → pairing_of (set pairings core v) k ≡ cond (eqb k core) v (pairing_of pairings k)
   paired_at v k =
       elim (cases_eq k core) as (λ _. get_or (set pairings core v) k None ≡ cond (eqb k core) v (get_or pairings k None)) [
         | inl e ↦ rw (eq-eqb k core e, e) (get_or-set_same pairings core v None within)
@@ -175,7 +185,7 @@ module _ (m : MarkedMemory) (pairings : List Reserved) (are : AreMarks m (length
       ]
 
   -- the reservations after an access, from those of each core
-  from_each : (request : Request) (v : Reserved) (g : ℕ → Reserved) → ((k : ℕ) → k < length pairings → reserved_by (marked_after m core request) k (cond (eqb k core) v (pairing_of pairings k)) ≡ g k)
+  from_each : (request : Request) (v : Paired) (g : ℕ → Reserved) → ((k : ℕ) → k < length pairings → reserved_by (marked_after m core request) k (cond (eqb k core) v (pairing_of pairings k)) ≡ g k)
       → all_of (marked_after m core request) (set pairings core v) ≡ map g (range_with_len 0 (length pairings))
   from_each request v g h =
       rw (length-set pairings core v)
@@ -218,9 +228,10 @@ module _ (m : MarkedMemory) (pairings : List Reserved) (are : AreMarks m (length
   after_lr : (addr width : ℕ) → all_of (marked_after m core (Lr addr width)) (set pairings core (Some (record { addr = addr; width = width }))) ≡ set (all_of m pairings) core (Some (record { addr = addr; width = width }))
   unfolding marks_after
   after_lr addr width =
+      let p : Pairing = record { addr = addr; width = width } in
       let q : Reservation = record { addr = addr; width = width } in
-      from_each (Lr addr width) (Some q) (λ k. cond (eqb k core) (Some q) (R k))
-      (λ k l. elim (cases_eq k core) as (λ _. reserved_by (marked_after m core (Lr addr width)) k (cond (eqb k core) (Some q) (pairing_of pairings k)) ≡ cond (eqb k core) (Some q) (R k)) [
+      from_each (Lr addr width) (Some p) (λ k. cond (eqb k core) (Some q) (R k))
+      (λ k l. elim (cases_eq k core) as (λ _. reserved_by (marked_after m core (Lr addr width)) k (cond (eqb k core) (Some p) (pairing_of pairings k)) ≡ cond (eqb k core) (Some q) (R k)) [
         | inl e ↦ rw (eq-eqb k core e, e) (own_reserved addr width)
         | inr e ↦ rw (ne_eqb k core e) (reserved_stays m (length pairings) are core (Lr addr width) k (get_or-set_other (marks_for m (Lr addr width)) core k (Some q) None e) (pairing_of pairings k))
       ])
@@ -274,22 +285,22 @@ module _ (m : MarkedMemory) (pairings : List Reserved) (are : AreMarks m (length
     never_alike q h true = h
     never_alike q h false = refl
 
-    alike : (q : Reservation) (b : Bool) → flat.is_reservation (Some q) addr width ≡ b → paired ≡ b → does_store (marks_for m sc) core addr width paired ≡ flat.is_reservation (reserved_by m core (Some q)) addr width
-    alike q false is h = rw h (sym (never_alike q is (flat.is_reservation (mark_at m core q.addr) q.addr q.width)))
+    alike : (q : Pairing) (b : Bool) → is_paired (Some q) addr width ≡ b → paired ≡ b → does_store (marks_for m sc) core addr width paired ≡ flat.is_reservation (reserved_by m core (Some q)) addr width
+    alike q false is h = rw h (sym (never_alike (bytes_of q) is (flat.is_reservation (mark_at m core q.addr) q.addr q.width)))
     alike q true is h =
         let both = and_parts (eqb q.addr addr) (eqb q.width width) is in
         let a : q.addr ≡ addr = eqb-true q.addr addr both.0 in
         let w : q.width ≡ width = eqb-true q.width width both.1 in
         let here : mark_at m core q.addr ≡ get_or (marks_for m sc) core None = ap (λ (x : ℕ). mark_at m core x) a in
-        rw h (kept_alike q a w (get_or (marks_for m sc) core None) ∙ ap (λ (x : Reserved). flat.is_reservation (kept_if (flat.is_reservation x q.addr q.width) q) addr width) (sym here))
+        rw h (kept_alike (bytes_of q) a w (get_or (marks_for m sc) core None) ∙ ap (λ (x : Reserved). flat.is_reservation (kept_if (flat.is_reservation x q.addr q.width) (bytes_of q)) addr width) (sym here))
 
     -- it stores exactly where the core has reserved the bytes
-    stores_alike : (p : Reserved) → pairing_of pairings core ≡ p → paired ≡ flat.is_reservation p addr width → does_store (marks_for m sc) core addr width paired ≡ flat.is_reservation (reserved_by m core p) addr width
+    stores_alike : (p : Paired) → pairing_of pairings core ≡ p → paired ≡ is_paired p addr width → does_store (marks_for m sc) core addr width paired ≡ flat.is_reservation (reserved_by m core p) addr width
     stores_alike None e h = rw h refl
-    stores_alike (Some q) e h = alike q (flat.is_reservation (Some q) addr width) refl h
+    stores_alike (Some q) e h = alike q (is_paired (Some q) addr width) refl h
 
   -- ---- one access
-  step_reply : (request : Request) → IsReservedRight (pairing_of pairings core) request → marked_reply m core request ≡ flat.memory_reply (flat_for m pairings) core request
+  step_reply : (request : Request) → IsPairedRight (pairing_of pairings core) request → marked_reply m core request ≡ flat.memory_reply (flat_for m pairings) core request
   unfolding reply_from flat.is_reserved
   step_reply (Load addr width) h = refl
   step_reply (Store addr width value) h = refl
@@ -304,7 +315,7 @@ module _ (m : MarkedMemory) (pairings : List Reserved) (are : AreMarks m (length
   sc_state addr width value paired true e = rw (e, after_sc addr width value paired true e) refl
   sc_state addr width value paired false e = rw (e, after_sc addr width value paired false e) refl
 
-  pub step_after : (request : Request) → IsReservedRight (pairing_of pairings core) request → flat_for (marked_after m core request) (pairings_after pairings core request) ≡ flat.memory_after (flat_for m pairings) core request
+  pub step_after : (request : Request) → IsPairedRight (pairing_of pairings core) request → flat_for (marked_after m core request) (pairings_after pairings core request) ≡ flat.memory_after (flat_for m pairings) core request
   unfolding bytes_after flat.written flat.is_reserved
   step_after (Load addr width) h = state_from m.bytes _ _ (after_load addr width)
   step_after (Store addr width value) h = state_from (flat.with_number m.bytes (addr - m.base) width value) _ _ (after_store addr width value)
@@ -316,7 +327,7 @@ module _ (m : MarkedMemory) (pairings : List Reserved) (are : AreMarks m (length
   step_after (Amo op addr width value) h = state_from (flat.with_number m.bytes (addr - m.base) width (new_number op width (flat.number_in m.bytes (addr - m.base) width) value)) _ _ (after_amo op addr width value)
 
 -- ---- lists of accesses
-all_steps : (accesses : List (ℕ × Request)) (m : MarkedMemory) (pairings : List Reserved) → AreMarks m (length pairings) → All (λ access. access.0 < length pairings) accesses → AreReservedRight pairings accesses
+all_steps : (accesses : List (ℕ × Request)) (m : MarkedMemory) (pairings : List Paired) → AreMarks m (length pairings) → All (λ access. access.0 < length pairings) accesses → AreAllPairedRight pairings accesses
     → (marked_replies m accesses ≡ flat_replies (flat_for m pairings) accesses)
     × (flat_for (marked_after_all m accesses) (pairings_after_all pairings accesses) ≡ flat_after_all (flat_for m pairings) accesses)
 all_steps [] m pairings are cores right = (refl, refl)
@@ -325,7 +336,7 @@ all_steps (access ∷ accesses) m pairings are cores right =
     let within : access.0 < length pairings = All-head P access accesses cores in
     let reply = step_reply m pairings are access.0 within access.1 right.0 in
     let state = step_after m pairings are access.0 within access.1 right.0 in
-    let longer : length (pairings_after pairings access.0 access.1) ≡ length pairings = length-set pairings access.0 (reserved_after (pairing_of pairings access.0) access.1) in
+    let longer : length (pairings_after pairings access.0 access.1) ≡ length pairings = length-set pairings access.0 (pairing_after (pairing_of pairings access.0) access.1) in
     let rest = all_steps accesses (marked_after m access.0 access.1) (pairings_after pairings access.0 access.1)
     (subst (λ (n : ℕ). AreMarks (marked_after m access.0 access.1) n) (sym longer) (marks_stay m (length pairings) are access.0 access.1))
     (subst (λ (n : ℕ). All (λ (a : ℕ × Request). a.0 < n) accesses) (sym longer) (All-tail P access accesses cores))
@@ -334,9 +345,9 @@ all_steps (access ∷ accesses) m pairings are cores right =
     let states : flat_after_all (flat_for (marked_after m access.0 access.1) (pairings_after pairings access.0 access.1)) accesses ≡ flat_after_all (flat.memory_after (flat_for m pairings) access.0 access.1) accesses = ap (λ (memory : flat.MemoryState). flat_after_all memory accesses) state in
     (rw (reply, rest.0 ∙ replies) refl, rest.1 ∙ states)
 
-pub marks_are_reservations : (memory : MarkedMemory) (pairings : List Reserved) (accesses : List (ℕ × Request))
+pub marks_are_reservations : (memory : MarkedMemory) (pairings : List Paired) (accesses : List (ℕ × Request))
     → 0 < length memory.marks → All (λ marks. length marks ≡ length pairings) memory.marks → All (λ access. access.0 < length pairings) accesses
-    → AreReservedRight pairings accesses
+    → AreAllPairedRight pairings accesses
     → (marked_replies memory accesses ≡ flat_replies (flat_for memory pairings) accesses)
     × (flat_for (marked_after_all memory accesses) (pairings_after_all pairings accesses) ≡ flat_after_all (flat_for memory pairings) accesses)
 marks_are_reservations memory pairings accesses some each cores right =

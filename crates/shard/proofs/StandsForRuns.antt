@@ -9,6 +9,7 @@ use Rattle.std.proofs.lemmas.List.Elements.{All-head, All-map, All-tail}
 use Rattle.std.proofs.lemmas.Option.{slice_get-get_or, slice_get_within}
 use Rattle.zs_num.specs.Request.{IsServable, line_of}
 use Rattle.zs_num.specs.declared.entry.Entry.{Entry}
+use Rattle.zs_num.specs.declared.pairing.Pairing.{Pairing}
 use Rattle.zs_num.specs.declared.request.Request.{Request}
 use Rattle.flat_memory.specs.declared.reservation.Reservation.{Reservation}
 use Rattle.flat_memory.specs.FlatMemory as flat
@@ -94,7 +95,7 @@ new_shards_are_one_machine m image entries left is cores can right answered =
     let memory : MarkedMemory = new_memory m image in
     let accesses : List (ℕ × Request) = accesses_of entries in
     let many : length (new_caches m).l1 ≡ m.cores = length-replicate m.cores (replicate m.l1.sets []) in
-    let paired : length (replicate {A = Option Reservation} m.cores None) ≡ m.cores = length-replicate m.cores None in
+    let paired : length (replicate {A = Option Pairing} m.cores None) ≡ m.cores = length-replicate m.cores None in
     let long : length memory.bytes ≡ image.size = length-map-range_with_len (byte_at image.segments) image.base image.size in
     let one = entries_are_of_one_machine (new_shards m image) memory (new_caches m) (replicate m.cores None) entries left start.0 (paired ∙ sym many)
     (subst (λ (n : ℕ). All (λ (x : Entry). x.core < n) entries) (sym many) cores)

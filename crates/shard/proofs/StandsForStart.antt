@@ -14,8 +14,9 @@ use Rattle.machine_desc.specs.declared.machine.Machine.{Machine}
 use Rattle.flat_memory.specs.declared.reservation.Reservation.{Reservation}
 use Rattle.flat_memory.specs.FlatMemory as flat
 use Rattle.shard.specs.Laws.{NewShardsStand}
+use Rattle.zs_num.specs.PairedRight.{pairing_of}
 use Rattle.zs_num.specs.Request.{line_at}
-use Rattle.shard.specs.Marks.{pairing_of}
+use Rattle.zs_num.specs.declared.pairing.Pairing.{Pairing}
 use Rattle.shard.specs.Served.{ShardState, first_bytes, lines_below, lines_kept, new_shard, place_of}
 use Rattle.shard.specs.StandsFor.{StandFor, flat_for, new_caches, new_memory, new_shards, reserved_by}
 use Rattle.shard.proofs.CoherentLists.{empty_at}
@@ -163,15 +164,15 @@ module _ (m : Machine) (image : MemoryImage) (is : IsMachine m) where
   no_pairing core =
       elim (cases_lt core m.cores) as (λ _. pairing_of (replicate m.cores None) core ≡ None) [
         | inl l ↦ get_or-replicate m.cores core None None l
-        | inr l ↦ get_or_past (replicate m.cores None) core None (omega (arith, length-replicate {A = Option Reservation} m.cores None))
+        | inr l ↦ get_or_past (replicate m.cores None) core None (omega (arith, length-replicate {A = Option Pairing} m.cores None))
       ]
 
   loaded_flat : flat_for (new_memory m image) (replicate m.cores None) ≡ flat.loaded image m.cores
   loaded_flat =
       let each : (core : ℕ) → reserved_by (new_memory m image) core (pairing_of (replicate m.cores None) core) ≡ None = λ core. rw (no_pairing core) refl in
-      let long : length (replicate {A = Option Reservation} m.cores None) ≡ m.cores = length-replicate m.cores None in
+      let long : length (replicate {A = Option Pairing} m.cores None) ≡ m.cores = length-replicate m.cores None in
       ap (λ (r : List (Option Reservation)). record { base = image.base; bytes = bytes_from image.segments image.base image.size; reservations = r })
-      (mapped_each (λ core. reserved_by (new_memory m image) core (pairing_of (replicate m.cores None) core)) None each 0 (length (replicate {A = Option Reservation} m.cores None)) ∙ ap (λ (k : ℕ). replicate k None) long)
+      (mapped_each (λ core. reserved_by (new_memory m image) core (pairing_of (replicate m.cores None) core)) None each 0 (length (replicate {A = Option Pairing} m.cores None)) ∙ ap (λ (k : ℕ). replicate k None) long)
 
 pub new_shards_stand : NewShardsStand
 new_shards_stand m image is = (new_stand m image is, loaded_flat m image is)

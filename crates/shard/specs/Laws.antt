@@ -1,18 +1,19 @@
 -- Laws of the definitions.
 use Rattle.std.specs.Prelude.{◌≡◌, ◌≢◌, ℕ, ◌%◌, ◌^◌, ◌<◌, ◌≤◌, ◌==◌, ◌↔◌, Bool, true, false, List, [], ◌∷◌, ◌++◌, All, length, map, replicate, slice_set, Option, None, IsSome, IsTrue}
+use Rattle.zs_num.specs.PairedRight.{AreAllPairedRight, pairings_after_all}
 use Rattle.zs_num.specs.Request.{IsServable, line_of, line_at}
 use Rattle.zs_num.specs.declared.entry.Entry.{Entry}
+use Rattle.zs_num.specs.declared.pairing.Pairing.{Pairing}
 use Rattle.zs_num.specs.declared.request.Request.{Request}
 use Rattle.zs_num.specs.declared.request.Request.TheVariants.{Load, Store, Lr, Sc, Amo}
 use Rattle.elf_load.specs.MemoryImage.{MemoryImage}
 use Rattle.machine_desc.specs.Machine.{IsMachine}
 use Rattle.machine_desc.specs.declared.machine.Machine.{Machine}
-use Rattle.flat_memory.specs.declared.reservation.Reservation.{Reservation}
 use Rattle.flat_memory.specs.FlatMemory as flat
 use Rattle.zs_num.specs.declared.entry.Outcome.TheVariants.{Hit}
 use Rattle.cache_set.specs.declared.letter.Letter.TheVariants.{I}
 use Rattle.shard.specs.Coherence.{Caches, allows, caches_after, caches_after_all, dirty_at, empty_caches, is_alone, is_valid, is_write, letter_at, outcome_of, outcomes_of}
-use Rattle.shard.specs.Marks.{AreReservedRight, MarkedMemory, marked_after, marked_reply, pairings_after}
+use Rattle.shard.specs.Marks.{MarkedMemory, marked_after, marked_reply}
 use Rattle.shard.specs.Served.{CanServe, KnowsCore, ShardState, met_by, shard_after, shard_reply}
 use Rattle.shard.specs.StandsFor.{AreAnswered, AreCoherent, HaveRoomForLines, HaveSets, KeepsLine, StandFor, accesses_of, flat_for, new_caches, new_memory, new_shards}
 
@@ -84,16 +85,12 @@ abbrev pub flat_after_all : flat.MemoryState → List (ℕ × Request) → flat.
 flat_after_all memory [] = memory
 flat_after_all memory (access ∷ accesses) = flat_after_all (flat.memory_after memory access.0 access.1) accesses
 
-abbrev pub pairings_after_all : (pairings : List (Option Reservation)) → List (ℕ × Request) → List (Option Reservation)
-pairings_after_all pairings [] = pairings
-pairings_after_all pairings (access ∷ accesses) = pairings_after_all (pairings_after pairings access.0 access.1) accesses
-
 -- Marks in each shard are as good as one reservation for each core: over every list of accesses that is paired right,
 -- they give the replies and leave the memory that flat memory gives and leaves.
 abbrev pub MarksAreReservations : Type 0
-MarksAreReservations = (memory : MarkedMemory) (pairings : List (Option Reservation)) (accesses : List (ℕ × Request))
+MarksAreReservations = (memory : MarkedMemory) (pairings : List (Option Pairing)) (accesses : List (ℕ × Request))
     → 0 < length memory.marks → All (λ marks. length marks ≡ length pairings) memory.marks → All (λ access. access.0 < length pairings) accesses
-    → AreReservedRight pairings accesses
+    → AreAllPairedRight pairings accesses
     → (marked_replies memory accesses ≡ flat_replies (flat_for memory pairings) accesses)
     × (flat_for (marked_after_all memory accesses) (pairings_after_all pairings accesses) ≡ flat_after_all (flat_for memory pairings) accesses)
 
@@ -117,9 +114,9 @@ NewShardsStand = (m : Machine) (image : MemoryImage) → IsMachine m
 -- What shards answer to accesses that are paired right are the replies of one flat memory and the outcomes of the
 -- caches of one machine, and the shards that are left stand for what these leave.
 abbrev pub EntriesAreOfOneMachine : Type 0
-EntriesAreOfOneMachine = (shards : List ShardState) (memory : MarkedMemory) (c : Caches) (pairings : List (Option Reservation)) (entries : List Entry) (left : List ShardState)
+EntriesAreOfOneMachine = (shards : List ShardState) (memory : MarkedMemory) (c : Caches) (pairings : List (Option Pairing)) (entries : List Entry) (left : List ShardState)
     → StandFor shards memory c → length pairings ≡ length c.l1 → All (λ entry. entry.core < length c.l1) entries → All (λ entry. IsServable memory.base (length memory.bytes) entry.request) entries
-    → AreReservedRight pairings (accesses_of entries) → AreAnswered shards entries left
+    → AreAllPairedRight pairings (accesses_of entries) → AreAnswered shards entries left
     → (map (λ entry. entry.reply) entries ≡ flat_replies (flat_for memory pairings) (accesses_of entries))
     × (map (λ entry. entry.outcome) entries ≡ outcomes_of c (accesses_of entries))
     × StandFor left (marked_after_all memory (accesses_of entries)) (caches_after_all c (accesses_of entries))
@@ -129,7 +126,7 @@ EntriesAreOfOneMachine = (shards : List ShardState) (memory : MarkedMemory) (c :
 abbrev pub NewShardsAreOneMachine : Type 0
 NewShardsAreOneMachine = (m : Machine) (image : MemoryImage) (entries : List Entry) (left : List ShardState) → IsMachine m
     → All (λ entry. entry.core < m.cores) entries → All (λ entry. IsServable image.base image.size entry.request) entries
-    → AreReservedRight (replicate m.cores None) (accesses_of entries) → AreAnswered (new_shards m image) entries left
+    → AreAllPairedRight (replicate m.cores None) (accesses_of entries) → AreAnswered (new_shards m image) entries left
     → (map (λ entry. entry.reply) entries ≡ flat_replies (flat.loaded image m.cores) (accesses_of entries))
     × (map (λ entry. entry.outcome) entries ≡ outcomes_of (new_caches m) (accesses_of entries))
 

@@ -1,7 +1,6 @@
 -- Memory whose reservations are kept by the shards. A shard keeps a mark for each core: the bytes of the core's latest
--- load-reserved there, unless that has ended there since. A store-conditional says by itself whether the core's latest
--- load-reserved anywhere was of the same bytes, with no store-conditional since: then the two are paired.
-use Rattle.std.specs.Prelude.{◌≡◌, ℕ, ◌-◌, Bool, ◌&&◌, if◌then◌else◌, List, [], ◌∷◌, length, slice_index_or, slice_set, Option, Some, None}
+-- load-reserved there, unless that has ended there since. A store-conditional says by itself whether it is paired.
+use Rattle.std.specs.Prelude.{ℕ, ◌-◌, Bool, ◌&&◌, if◌then◌else◌, List, [], length, slice_index_or, slice_set, Option, Some, None}
 use Rattle.zs_num.specs.Request.{addr_of, bank_of}
 use Rattle.zs_num.specs.declared.request.Request.{Request}
 use Rattle.zs_num.specs.declared.request.Request.TheVariants.{Load, Store, Lr, Sc, Amo}
@@ -68,32 +67,3 @@ marked_after memory core request = record memory {
   bytes = bytes_after memory.bytes (addr_of request - memory.base) (marks_for memory request) core request;
   marks = slice_set memory.marks (shard_number memory request) (marks_after (marks_for memory request) core request);
 }
-
--- ---- pairings, by core: the bytes of its latest load-reserved, unless it made a store-conditional since
-
-abbrev pub pairing_of : (pairings : List (Option Reservation)) → (core : ℕ) → Option Reservation
-pairing_of pairings core = slice_index_or pairings core None
-
-abbrev pub reserved_after : Option Reservation → Request → Option Reservation
-reserved_after pairing (Load addr width) = pairing
-reserved_after pairing (Store addr width value) = pairing
-reserved_after pairing (Lr addr width) = Some (record { addr = addr; width = width })
-reserved_after pairing (Sc addr width value paired) = None
-reserved_after pairing (Amo op addr width value) = pairing
-
-abbrev pub pairings_after : (pairings : List (Option Reservation)) → (core : ℕ) → Request → List (Option Reservation)
-pairings_after pairings core request = slice_set pairings core (reserved_after (pairing_of pairings core) request)
-
--- a store-conditional says of its core's pairing whether it is of the same bytes
-abbrev pub IsReservedRight : Option Reservation → Request → Type 0
-IsReservedRight pairing (Load addr width) = Unit {0}
-IsReservedRight pairing (Store addr width value) = Unit {0}
-IsReservedRight pairing (Lr addr width) = Unit {0}
-IsReservedRight pairing (Sc addr width value paired) = paired ≡ is_reservation pairing addr width
-IsReservedRight pairing (Amo op addr width value) = Unit {0}
-
--- each access of a list does, of the pairings that those before it leave
-abbrev pub AreReservedRight : (pairings : List (Option Reservation)) → List (ℕ × Request) → Type 0
-AreReservedRight pairings [] = Unit {0}
-AreReservedRight pairings (access ∷ accesses) =
-    IsReservedRight (pairing_of pairings access.0) access.1 × AreReservedRight (pairings_after pairings access.0 access.1) accesses

@@ -2,8 +2,10 @@
 use Rattle.std.specs.Prelude.{◌≡◌, ◌≢◌, ℕ, ◌+◌, ◌-◌, ◌*◌, ◌<◌, ◌≤◌, if◌then◌else◌, IsTrue, IsSome, List, [], ◌∷◌, length, map, replicate, nat_eq, slice_index_or, slice_get, slice_set, Option, Some, None}
 use Rattle.std.specs.List.{All, IsDistinct, range_with_len}
 use Rattle.std.specs.Map.{keys_of}
+use Rattle.zs_num.specs.PairedRight.{pairing_of}
 use Rattle.zs_num.specs.Request.{line_of, line_at, bank_of_line}
 use Rattle.zs_num.specs.declared.entry.Entry.{Entry}
+use Rattle.zs_num.specs.declared.pairing.Pairing.{Pairing}
 use Rattle.zs_num.specs.declared.request.Request.{Request}
 use Rattle.elf_load.specs.MemoryImage.{MemoryImage, bytes_from}
 use Rattle.machine_desc.specs.declared.machine.Machine.{Machine}
@@ -12,7 +14,7 @@ use Rattle.flat_memory.specs.declared.reservation.Reservation.{Reservation}
 use Rattle.flat_memory.specs.FlatMemory.{MemoryState, is_reservation}
 use Rattle.shard.specs.Coherence.{Caches, dirty_at, empty_caches, is_alone, is_valid, letter_at}
 use Rattle.shard.specs.Lines.{set_number, set_of}
-use Rattle.shard.specs.Marks.{MarkedMemory, pairing_of}
+use Rattle.shard.specs.Marks.{MarkedMemory}
 use Rattle.shard.specs.Served.{ShardState, met_by, new_shard, place_of, shard_after, shard_reply}
 
 -- ---- caches that accesses can leave
@@ -117,13 +119,15 @@ abbrev pub mark_at : MarkedMemory → (core addr : ℕ) → Option Reservation
 mark_at memory core addr = slice_index_or (slice_index_or memory.marks (bank_of_line (length memory.marks) (line_at addr)) []) core None
 
 -- what a core with a pairing has reserved: these bytes, where they are marked in their shard
-abbrev pub reserved_by : MarkedMemory → (core : ℕ) → (pairing : Option Reservation) → Option Reservation
+abbrev pub reserved_by : MarkedMemory → (core : ℕ) → (pairing : Option Pairing) → Option Reservation
 reserved_by memory core None = None
 reserved_by memory core (Some pairing) =
-    if is_reservation (mark_at memory core pairing.addr) pairing.addr pairing.width then Some pairing else None
+    if is_reservation (mark_at memory core pairing.addr) pairing.addr pairing.width
+    then Some (record { addr = pairing.addr; width = pairing.width })
+    else None
 
 -- The flat memory for which the bytes and marks stand, where the cores have these pairings.
-abbrev pub flat_for : MarkedMemory → (pairings : List (Option Reservation)) → MemoryState
+abbrev pub flat_for : MarkedMemory → (pairings : List (Option Pairing)) → MemoryState
 flat_for memory pairings = record {
   base = memory.base;
   bytes = memory.bytes;

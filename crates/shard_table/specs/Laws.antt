@@ -1,13 +1,14 @@
 -- What the accesses of all cores through a table come to: one memory and one machine's caches serve them, one after the
 -- other.
 use Rattle.std.specs.Prelude.{◌≡◌, ◌≢◌, ℕ, ◌%◌, ◌^◌, List, ◌∷◌, ◌++◌, All, length, map, Option, IsTrue}
+use Rattle.zs_num.specs.PairedRight.{AreAllPairedRight, pairings_after_all}
 use Rattle.zs_num.specs.Request.{line_of, line_at}
 use Rattle.zs_num.specs.declared.entry.Entry.{Entry}
+use Rattle.zs_num.specs.declared.pairing.Pairing.{Pairing}
 use Rattle.zs_num.specs.declared.request.Request.TheVariants.{Load, Store}
-use Rattle.flat_memory.specs.declared.reservation.Reservation.{Reservation}
 use Rattle.shard.specs.Coherence.{Caches, caches_after_all, outcomes_of}
-use Rattle.shard.specs.Laws.{flat_after_all, flat_replies, has_written, marked_after_all, marked_replies, pairings_after_all}
-use Rattle.shard.specs.Marks.{AreReservedRight, MarkedMemory}
+use Rattle.shard.specs.Laws.{flat_after_all, flat_replies, has_written, marked_after_all, marked_replies}
+use Rattle.shard.specs.Marks.{MarkedMemory}
 use Rattle.shard.specs.Served.{ShardState}
 use Rattle.shard.specs.StandsFor.{AreAnswered, StandFor, accesses_of, flat_for}
 use Rattle.shard_table.specs.Access.{AreWhole, SeatState, TableState}
@@ -26,7 +27,7 @@ pub record AreOfOneMachine (memory : MarkedMemory) (c : Caches) (entries : List 
   pub stand : StandFor left (marked_after_all memory (accesses_of entries)) (caches_after_all c (accesses_of entries))
   -- The replies are those of flat memory with one reservation for each core, where each store-conditional says rightly
   -- whether it is paired.
-  pub flat : (pairings : List (Option Reservation)) → length pairings ≡ length c.l1 → AreReservedRight pairings (accesses_of entries)
+  pub flat : (pairings : List (Option Pairing)) → length pairings ≡ length c.l1 → AreAllPairedRight pairings (accesses_of entries)
       → (map (λ e. e.reply) entries ≡ flat_replies (flat_for memory pairings) (accesses_of entries))
       × (flat_for (marked_after_all memory (accesses_of entries)) (pairings_after_all pairings (accesses_of entries)) ≡ flat_after_all (flat_for memory pairings) (accesses_of entries))
 

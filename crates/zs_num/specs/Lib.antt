@@ -1,2 +1,4 @@
 pub mod KeyOrder
 pub mod Request
+pub mod Pairing
+pub mod PairedRight
