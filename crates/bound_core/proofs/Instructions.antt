@@ -1,11 +1,14 @@
 -- A core goes on to the end of an interval instruction by instruction.
 use Rattle.std.proofs.Common.{◌≡◌, ◌⊎◌, inl, inr, ℕ, zero, suc, ◌+◌, ◌-◌, ◌*◌, ◌<◌, ◌≤◌, ◌&&◌, nat_lt, Bool, true, false, Option, Some, None, refl, sym, ◌∙◌, ap, arith, rules}
-use Rattle.std.specs.Prelude.{is_none}
+use Rattle.std.specs.Prelude.{is_none, is_some, IsSome}
+use Rattle.std.proofs.lemmas.Bool.{cases_lt}
 use Rattle.elf_load.specs.MemoryImage.{MemoryImage}
 use Rattle.rv_core.specs.declared.why.Why.{Why}
 use Rattle.rv_core.specs.declared.why.Why.TheVariants.{Exit, Illegal, Misaligned, AtomicAlign, Fetch, Access, Break}
+use Rattle.rv_core.specs.CoreState.{InProgress}
 use Rattle.rv_core.specs.Step.{cost, is_free}
-use Rattle.bound_core.specs.TimedCore.{TimedCore, after_instruction, after_instructions, goes_on_alone, ran_to}
+use Rattle.bound_core.specs.TimedCore.{TimedCore, after_instruction, after_instructions, asks, goes_on_alone, next_request, ran_to}
+use Rattle.bound_core.specs.Turn.{IsOver}
 
 -- an instruction costs a cycle, or it halts the core
 costs_or_halts : (halted : Option Why) → (cost halted ≡ 1) ⊎ ((cost halted ≡ 0) × (is_none halted ≡ false))
@@ -125,6 +128,28 @@ ran_stays image end c stops = stays (suc (end - c.clock)) image end c stops
 
 pub ran_again : (image : MemoryImage) (end : ℕ) (c : TimedCore) → ran_to image end (ran_to image end c) ≡ ran_to image end c
 ran_again image end c = ran_stays image end (ran_to image end c) (stopped image end c)
+
+-- ---- what stops a core
+
+-- by what it waits for, and by what halted it
+over_by : (end : ℕ) (c : TimedCore) (halted : Option Why) → c.core.halted ≡ halted → c.core.instruction ≡ None → goes_on_alone end c ≡ false → IsSome c.core.halted ⊎ (end ≤ c.clock)
+over_by end c (Some why) is idle stops = inl (ap is_some is)
+over_by end c None is idle stops =
+    elim (cases_lt c.clock end) [
+      | inl early ↦
+          let free : is_free c.core ≡ true = rw (is, idle) refl in
+          absurd (let held : is_free c.core ≡ false = free_or_late end c stops early in cc)
+      | inr late ↦ inr late
+    ]
+
+stops_by : (end : ℕ) (c : TimedCore) (instruction : Option InProgress) → c.core.instruction ≡ instruction → goes_on_alone end c ≡ false → IsSome (asks c) ⊎ IsOver end c
+stops_by end c (Some now) is stops = inl (ap (λ (i : Option InProgress). is_some (next_request i)) is)
+stops_by end c None is stops = inr (record { idle = is; over = over_by end c c.core.halted refl is stops })
+
+pub local_instructions_end : (image : MemoryImage) (end : ℕ) (c : TimedCore) → IsSome (asks (ran_to image end c)) ⊎ IsOver end (ran_to image end c)
+local_instructions_end image end c =
+    let ran : TimedCore = ran_to image end c in
+    stops_by end ran ran.core.instruction refl (stopped image end c)
 
 -- one instruction brings a core nearer to its stop
 pub nearer : (image : MemoryImage) (end : ℕ) (c : TimedCore) → is_free c.core ≡ true → c.clock < end

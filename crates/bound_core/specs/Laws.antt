@@ -1,11 +1,11 @@
 -- How the turns of a core lie in the bound phase of the machine of one thread.
-use Rattle.std.specs.Prelude.{◌≡◌, ℕ, ◌+◌, ◌-◌, ◌≤◌, List, [], ◌∷◌, ◌++◌, length, map, slice_get, slice_set, Some, All, Ok}
+use Rattle.std.specs.Prelude.{◌≡◌, ◌⊎◌, ℕ, ◌+◌, ◌-◌, ◌≤◌, IsSome, List, [], ◌∷◌, ◌++◌, length, map, slice_get, slice_set, Some, All, Ok}
 use Rattle.zs_num.specs.declared.entry.Entry.{Entry}
 use Rattle.zs_num.specs.declared.request.Request.{Request}
 use Rattle.elf_load.specs.MemoryImage.{MemoryImage}
 use Rattle.rv_core.specs.Sound.{IsSoundCore}
 use Rattle.bound_core.specs.ReferenceMachine.{BoundState, bound_from}
-use Rattle.bound_core.specs.TimedCore.{TimedCore, most_accesses, ran_to}
+use Rattle.bound_core.specs.TimedCore.{TimedCore, asks, most_accesses, ran_to}
 use Rattle.bound_core.specs.Turn.{IsOver, TakesTurn, TurnsToEnd}
 
 -- the core of this number stands there, the world is this one, and there are these entries more
@@ -19,6 +19,11 @@ moved s number core world entries = record {
 -- the core of this number stands there
 abbrev pub with_core : {World : Type 0} → BoundState World → (number : ℕ) → TimedCore → BoundState World
 with_core s number core = record s { cores = slice_set s.cores number core }
+
+-- The local instructions of a core end: it waits for an access then, has halted, or has come to the interval's end
+-- between two instructions.
+abbrev pub LocalInstructionsEnd : Type 0
+LocalInstructionsEnd = (image : MemoryImage) (end : ℕ) (c : TimedCore) → IsSome (asks (ran_to image end c)) ⊎ IsOver end (ran_to image end c)
 
 -- A core whose accesses can all be served has few of them before it ends its interval.
 abbrev pub AccessesAreFew : Type 0

@@ -5,7 +5,7 @@ ghost use Rattle.zs_num.specs.declared.request.Request.{Request};
 ghost use Rattle.elf_load.specs.MemoryImage.{MemoryImage};
 ghost use Rattle.bound_core.specs.HistoryLaws.{HistoriesArePhases, PhasesAreHistories, RecordedOrderIsHistory, TurnsAreTheCoresOwn, TurnsMakeAHistory};
 ghost use Rattle.bound_core.specs.Intervals.{FirstIntervalBegins, NextIntervalBegins};
-ghost use Rattle.bound_core.specs.Laws.{AccessesAreFew, EndsWhereAllAreOver, LocalInstructionsAreAlone, TurnIsScheduled, TurnsAreScheduled};
+ghost use Rattle.bound_core.specs.Laws.{AccessesAreFew, EndsWhereAllAreOver, LocalInstructionsAreAlone, LocalInstructionsEnd, TurnIsScheduled, TurnsAreScheduled};
 ghost use Rattle.bound_core.specs.MachineOfShards.{HistoriesAreRunsOfTheMachine, ShardsDoAsTheMachine};
 ghost use Rattle.bound_core.specs.PairedPhases.{HistoriesArePaired, PhasesArePaired};
 ghost use Rattle.bound_core.specs.Reaching.{BeginsAtItself, GoesOnByATurn, GoesOnByLocalInstructions, GoesOnToTheEnd, IsThePhaseAtTheEnd};
@@ -65,6 +65,12 @@ pub fn a_write_between_ends_a_pair()
     flat_memory::laws::others_end_by_writes();
     rv_core::laws::accesses_are_little_endian();
 }
+
+/// Whatever program a core runs, after its local instructions it waits for an access, has halted, or
+/// has come to the interval's end with no instruction in progress.
+pub fn local_instructions_end()
+    ensures { LocalInstructionsEnd }
+{}
 
 /// A core has at most 256 accesses more than cycles before it ends its interval.
 pub fn accesses_are_few()
