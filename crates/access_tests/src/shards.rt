@@ -2,7 +2,8 @@
 //! numbers of the built-in machine: two sets of one way in each core's own cache, and four of two
 //! ways in the shared one.
 ghost use Rattle.std.specs.Prelude.{◌≡◌, ◌%◌, ◌<◌, ◌≤◌, length, IfOk, IsTrue};
-ghost use Rattle.zs_num.specs.Request.{IsServable, addr_of, bank_of_line, line_at};
+ghost use Rattle.zs_num.specs.Request.{addr_of, bank_of_line, line_at};
+ghost use Rattle.zs_num.specs.Servable.{IsServable};
 
 use crate::checks::is_number;
 use crate::machines::two_cores;

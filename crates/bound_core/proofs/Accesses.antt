@@ -8,7 +8,8 @@ use Rattle.rv_core.specs.CoreState.{CoreState, Ending, ToRegister, ToConsole, To
 use Rattle.rv_core.specs.Effect.{ended, goes_through, goes_to}
 use Rattle.rv_core.specs.Sound.{IsSoundCore}
 use Rattle.rv_core.specs.Step.{after_reply, answered}
-use Rattle.bound_core.specs.TimedCore.{TimedCore, latest_clock, left_of_instruction, most_accesses}
+use Rattle.bound_core.specs.TimedCore.{TimedCore}
+use Rattle.bound_core.specs.IntervalBounds.{latest_clock, left_of_instruction, most_accesses}
 
 -- ---- of an instruction
 

@@ -7,7 +7,8 @@ use Rattle.rv_core.specs.CoreState.{CoreState, InProgress}
 use Rattle.zs_num.specs.PairedRight.{IsPairedRight}
 use Rattle.zs_num.specs.Pairing.{pairing_after}
 use Rattle.rv_core.specs.Sound.{IsSoundCore}
-use Rattle.rv_core.specs.Step.{advanced, answered, executed, is_free}
+use Rattle.rv_core.specs.Step.{answered, executed, is_free}
+use Rattle.rv_core.specs.Asked.{advanced}
 use Rattle.bound_core.specs.TimedCore.{TimedCore, after_instruction, after_instructions, goes_on_alone, next_request, ran_to}
 
 -- the laws of a core

@@ -5,7 +5,8 @@ use Rattle.std.proofs.lemmas.List.{length-map, length-set, map-set}
 use Rattle.std.proofs.lemmas.List.Elements.{All-cons, All-head, All-map, All-nil, All-set, All-tail, All-weaker}
 use Rattle.std.proofs.lemmas.Option.{get_or_from_slice_get, slice_get_within}
 use Rattle.zs_num.specs.PairedRight.{IsPairedRight, pairing_of, pairings_after}
-use Rattle.zs_num.specs.Request.{IsServable, bank_of}
+use Rattle.zs_num.specs.Request.{bank_of}
+use Rattle.zs_num.specs.Servable.{IsServable}
 use Rattle.zs_num.specs.declared.entry.Entry.{Entry}
 use Rattle.zs_num.specs.declared.entry.Outcome.{Outcome}
 use Rattle.zs_num.specs.declared.pairing.Pairing.{Pairing}

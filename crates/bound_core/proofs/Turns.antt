@@ -8,7 +8,8 @@ use Rattle.rv_core.specs.CoreState.{InProgress}
 use Rattle.rv_core.specs.Sound.{IsSoundCore}
 use Rattle.rv_core.specs.Step.{answered}
 use Rattle.bound_core.specs.Port.{Gains}
-use Rattle.bound_core.specs.TimedCore.{TimedCore, asks, core_after_access, latest_clock, left_of_instruction, most_accesses, next_request, ran_to}
+use Rattle.bound_core.specs.TimedCore.{TimedCore, asks, core_after_access, next_request, ran_to}
+use Rattle.bound_core.specs.IntervalBounds.{latest_clock, left_of_instruction, most_accesses}
 use Rattle.bound_core.specs.Turn.{EndsInterval, RunsToEnd, TakesTurn, TurnsToEnd}
 use Rattle.bound_core.proofs.Accesses.{TakesAccess, left_answered, left_few, most_few}
 use Rattle.bound_core.proofs.Lists.{all_and_one, all_none}

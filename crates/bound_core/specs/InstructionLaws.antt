@@ -16,8 +16,10 @@ use Rattle.rv_core.specs.CoreState.{CoreState}
 use Rattle.rv_core.specs.Effect.{address, effect, goes_on, register}
 use Rattle.rv_core.specs.Fetch.{fetched_at}
 use Rattle.rv_core.specs.Sound.{IsSoundCore}
-use Rattle.rv_core.specs.Step.{advanced, answered, is_free}
-use Rattle.bound_core.specs.TimedCore.{left_of_instruction, next_request}
+use Rattle.rv_core.specs.Step.{answered, is_free}
+use Rattle.rv_core.specs.Asked.{advanced}
+use Rattle.bound_core.specs.TimedCore.{next_request}
+use Rattle.bound_core.specs.IntervalBounds.{left_of_instruction}
 
 -- ---- a whole instruction
 

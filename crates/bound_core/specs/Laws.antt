@@ -5,7 +5,8 @@ use Rattle.zs_num.specs.declared.request.Request.{Request}
 use Rattle.elf_load.specs.MemoryImage.{MemoryImage}
 use Rattle.rv_core.specs.Sound.{IsSoundCore}
 use Rattle.bound_core.specs.ReferenceMachine.{BoundState, bound_from}
-use Rattle.bound_core.specs.TimedCore.{TimedCore, asks, most_accesses, ran_to}
+use Rattle.bound_core.specs.TimedCore.{TimedCore, asks, ran_to}
+use Rattle.bound_core.specs.IntervalBounds.{most_accesses}
 use Rattle.bound_core.specs.Turn.{IsOver, TakesTurn, TurnsToEnd}
 
 -- the core of this number stands there, the world is this one, and there are these entries more

@@ -1,10 +1,13 @@
+pub mod Ahead
 pub mod History
 pub mod HistoryLaws
 pub mod InstructionLaws
+pub mod IntervalBounds
 pub mod Intervals
 pub mod Laws
 pub mod MachineOfShards
 pub mod MachineWorld
+pub mod NumberedCores
 pub mod PairedPhases
 pub mod Port
 pub mod Reaching

@@ -7,7 +7,7 @@ use Rattle.elf_load.specs.MemoryImage.{MemoryImage}
 use Rattle.machine_desc.specs.declared.machine.Machine.{Machine}
 use Rattle.flat_memory.specs.FlatMemory.{MemoryState, loaded, memory_after, memory_reply}
 use Rattle.shard.specs.Coherence.{Caches, caches_after, outcome_of}
-use Rattle.shard.specs.StandsFor.{new_caches}
+use Rattle.shard.specs.NewCaches.{new_caches}
 use Rattle.zs_num.specs.Request.{bank_of}
 use Rattle.access_log.specs.RecordedOrder.{Stamps, next_stamp, no_stamps, stamped}
 

@@ -1,5 +1,5 @@
 -- A core in time: its state, its clock, and what it does by itself up to its next access.
-use Rattle.std.specs.Prelude.{ℕ, zero, suc, ◌+◌, ◌-◌, ◌*◌, ◌^◌, max, nat_lt, Bool, ◌&&◌, if◌then◌else◌, List, [], ◌++◌, length, map, option_to_list, Option, Some, None}
+use Rattle.std.specs.Prelude.{ℕ, zero, suc, ◌+◌, ◌-◌, ◌*◌, nat_lt, Bool, ◌&&◌, if◌then◌else◌, List, [], ◌++◌, option_to_list, Option}
 use Rattle.std.specs.Option.{option_map}
 use Rattle.zs_num.specs.declared.entry.Entry.{Entry}
 use Rattle.zs_num.specs.declared.request.Request.{Request}
@@ -38,10 +38,6 @@ after_instruction image c = let next = executed image c.core in record {
   console = c.console;
 }
 
--- the core with so many instructions more on its count, of a cycle each
-abbrev pub ahead : (counted : ℕ) → TimedCore → TimedCore
-ahead counted c = record c { clock = c.clock + counted; instructions = c.instructions + counted }
-
 -- whether the core goes on by itself: it comes to an instruction before the interval ends
 abbrev pub goes_on_alone : (end : ℕ) → TimedCore → Bool
 goes_on_alone end c = is_free c.core && nat_lt c.clock end
@@ -78,33 +74,7 @@ core_after_access time e c = record {
 abbrev pub delayed : (by : ℕ) → TimedCore → TimedCore
 delayed by c = record c { clock = c.clock + by }
 
--- how many accesses are left of the instruction in progress
-abbrev pub left_of_instruction : Option InProgress → ℕ
-left_of_instruction None = 0
-left_of_instruction (Some now) = suc (length now.later)
-
--- The most accesses that a core can have before it ends its interval. An access costs a cycle at least; an instruction
--- that begins before the end may end behind it, and has 256 accesses at most.
-unfoldable pub most_accesses : (end : ℕ) → TimedCore → ℕ
-most_accesses end c = if nat_lt c.clock end then end - c.clock + 256 else left_of_instruction c.core.instruction
-
 -- The room for accesses of a core in an interval beside one for each cycle: for the 256 of an instruction that begins in
 -- the last cycle, and for 2 that no core makes.
 abbrev pub beside_cycles : ℕ
 beside_cycles = 258
-
--- The latest cycle that the clock of a core can come to before the core ends its interval. An access takes 2^20 cycles
--- at most.
-unfoldable pub latest_clock : (end : ℕ) → TimedCore → ℕ
-latest_clock end c = max (c.clock + 2 ^ 20 * left_of_instruction c.core.instruction) (end + 2 ^ 28)
-
--- a core with its number, and the room on its console
-pub record NumberedCore : Type 0 where
-  pub number : ℕ
-  pub timed : TimedCore
-  -- for how many bytes there is room on the console
-  pub spare : ℕ
-
--- cores with their numbers, in time
-abbrev pub timed_of : List NumberedCore → List TimedCore
-timed_of cores = map (λ c. c.timed) cores

@@ -6,7 +6,8 @@ use Rattle.elf_load.specs.MemoryImage.{MemoryImage}
 use Rattle.bound_core.specs.declared.turned.Turned.{Turned}
 use Rattle.bound_core.specs.declared.turned.Turned.TheVariants.{Took, Ended}
 use Rattle.bound_core.specs.Port.{Gains}
-use Rattle.bound_core.specs.TimedCore.{TimedCore, asks, core_after_access, latest_clock, most_accesses, ran_to}
+use Rattle.bound_core.specs.TimedCore.{TimedCore, asks, core_after_access, ran_to}
+use Rattle.bound_core.specs.IntervalBounds.{latest_clock, most_accesses}
 
 -- of the entry of a turn that took one
 abbrev pub IfTook : Turned → (Entry → Type 0) → Type 0

@@ -1,11 +1,13 @@
 //! One core in an interval.
 ghost use Rattle.std.specs.Prelude.{◌≡◌, ◌+◌, ◌-◌, ◌≤◌, ◌<◌, ◌^◌, max, false, ◌∷◌, [], Some, None, IfOk, OnOk, IsTrue, if◌then◌else◌};
-ghost use Rattle.zs_num.specs.Request.{IsServable};
+ghost use Rattle.zs_num.specs.Servable.{IsServable};
 ghost use Rattle.machine_desc.specs.Machine.{IsMachine};
 ghost use Rattle.rv_core.specs.Sound.{IsSoundCore};
 ghost use Rattle.rv_core.specs.Step.{cost, is_free};
 ghost use Rattle.bound_core.specs.Port.{Gains};
-ghost use Rattle.bound_core.specs.TimedCore.{after_instruction, ahead, asks, beside_cycles, core_after_access, delayed, first_core, goes_on_alone, latest_clock, most_accesses, ran_to};
+ghost use Rattle.bound_core.specs.TimedCore.{after_instruction, asks, beside_cycles, core_after_access, delayed, first_core, goes_on_alone, ran_to};
+ghost use Rattle.bound_core.specs.IntervalBounds.{latest_clock, most_accesses};
+ghost use Rattle.bound_core.specs.Ahead.{ahead};
 ghost use Rattle.bound_core.specs.Turn.{IfTook, IsOver, RunsToEnd, TurnsAs};
 
 use crate::{Port, Turned};
@@ -33,7 +35,7 @@ pub struct BoundCore {
 
 impl Model for BoundCore {
     ghost use Rattle.std.specs.Prelude.{◌≤◌, ◌-◌, vec_len, vec_capacity};
-    ghost use Rattle.bound_core.specs.TimedCore.{NumberedCore};
+    ghost use Rattle.bound_core.specs.NumberedCores.{NumberedCore};
 
     ghost Value = { NumberedCore };
 

@@ -2,7 +2,7 @@
 ghost use Rattle.std.specs.Prelude.{◌≡◌, ◌+◌, ◌≤◌, ℕ, List, [], ◌∷◌, Option};
 ghost use Rattle.zs_num.specs.declared.entry.Entry.{Entry};
 ghost use Rattle.zs_num.specs.declared.request.Request.{Request};
-ghost use Rattle.zs_num.specs.Request.{IsServable};
+ghost use Rattle.zs_num.specs.Servable.{IsServable};
 ghost use Rattle.bound_core.specs.Port.{Gains};
 
 use zs_num::{Cycle, Entry, Request};

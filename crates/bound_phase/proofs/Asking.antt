@@ -2,7 +2,8 @@
 use Rattle.std.proofs.Common.{◌≡◌, ◌<◌, ◌%◌, ℕ, zero, suc, List, [], ◌∷◌, length, sym, ◌∙◌, ap, refl, subst, arith, mod-lt}
 use Rattle.std.specs.Prelude.{slice_get, Some}
 use Rattle.zs_num.specs.declared.request.Request.{Request}
-use Rattle.zs_num.specs.Request.{IsServable, line_of, bank_of}
+use Rattle.zs_num.specs.Request.{line_of, bank_of}
+use Rattle.zs_num.specs.Servable.{IsServable}
 use Rattle.shard.specs.Served.{CanServe, ShardState}
 use Rattle.shard_table.specs.Lives.{MayAsk}
 use Rattle.bound_core.specs.ShardPort.{AreShardsOf, IsShardAt}

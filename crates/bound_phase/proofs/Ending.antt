@@ -18,7 +18,8 @@ use Rattle.access_log.specs.RecordedOrder.{no_stamps}
 use Rattle.shard_table.specs.Access.{AreAllSeats, AreNewSeats, AreWhole, IsSeatOf, SeatState, TableState, entries_of_seats, recorded_entries}
 use Rattle.bound_core.specs.History.{AreTurnsOf, IsHistory, after_history, after_turn}
 use Rattle.bound_core.specs.ShardWorld.{restarted}
-use Rattle.bound_core.specs.TimedCore.{NumberedCore, TimedCore, ran_to, timed_of}
+use Rattle.bound_core.specs.TimedCore.{TimedCore, ran_to}
+use Rattle.bound_core.specs.NumberedCores.{NumberedCore, timed_of}
 use Rattle.bound_phase.specs.declared.member.Member.{Member}
 use Rattle.bound_core.specs.Turn.{IsOver}
 use Rattle.bound_phase.specs.Bounds.{HaveEndedInterval, IsBound}

@@ -8,7 +8,7 @@ use Rattle.zs_num.specs.declared.request.Request.{Request}
 use Rattle.elf_load.specs.MemoryImage.{MemoryImage}
 use Rattle.flat_memory.specs.FlatMemory as flat
 use Rattle.shard.specs.Coherence as caches
-use Rattle.shard.specs.Coherence.{outcomes_of}
+use Rattle.shard.specs.Accesses.{caches_after_all, outcomes_of}
 use Rattle.shard.specs.Laws.{flat_after_all, flat_replies}
 use Rattle.shard.specs.Served.{ShardState}
 use Rattle.shard.specs.StandsFor.{accesses_of}
@@ -19,7 +19,8 @@ use Rattle.bound_core.specs.MachineWorld as machine
 use Rattle.bound_core.specs.MachineWorld.{MachineWorld}
 use Rattle.bound_core.specs.ReferenceMachine.{BoundState, access_served, and_then, are_done, at_end, bound_from, bound_phase, legal_at, turn, turn_at}
 use Rattle.bound_core.specs.ShardWorld.{ShardWorld, restarted}
-use Rattle.bound_core.specs.TimedCore.{TimedCore, asks, ran_to, timed_of}
+use Rattle.bound_core.specs.TimedCore.{TimedCore, asks, ran_to}
+use Rattle.bound_core.specs.NumberedCores.{timed_of}
 use Rattle.bound_phase.specs.Laws.{AreOfOneMemory, BoundsAreOfTheMachine, BoundsArePhases, turns_of}
 
 -- ---- what was legal
@@ -94,7 +95,7 @@ module _ (time : Entry → ℕ) (image : MemoryImage) (end : ℕ) where
           replies = λ i. one.1.reply i ∷ replies i;
           outcomes = λ i. one.1.outcome i ∷ outcomes i;
           memory = rest.2.memory ∙ ap (λ (m : flat.MemoryState). flat_after_all m (accesses_of entries)) one.1.memory;
-          caches = rest.2.caches ∙ ap (λ (c : caches.Caches). caches.caches_after_all c (accesses_of entries)) one.1.caches_are;
+          caches = rest.2.caches ∙ ap (λ (c : caches.Caches). caches_after_all c (accesses_of entries)) one.1.caches_are;
         },
       )
 

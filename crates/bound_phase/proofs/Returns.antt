@@ -7,7 +7,7 @@ use Rattle.std.proofs.lemmas.List.Elements.{filter-append}
 use Rattle.zs_num.specs.declared.entry.Entry.{Entry}
 use Rattle.elf_load.specs.MemoryImage.{MemoryImage}
 use Rattle.shard_table.specs.Access.{SeatState, TableState}
-use Rattle.bound_core.specs.TimedCore.{NumberedCore}
+use Rattle.bound_core.specs.NumberedCores.{NumberedCore}
 use Rattle.bound_phase.specs.declared.crew.Crew.{Crew}
 use Rattle.bound_phase.specs.declared.member.Member.{Member}
 use Rattle.bound_phase.specs.Crew.{HaveRun}

@@ -11,7 +11,9 @@ use Rattle.rv_core.specs.declared.why.Why.{Why}
 use Rattle.shard_table.specs.Access.{IsSeatOf, SeatState, TableState}
 use Rattle.bound_core.specs.History.{AreTurnsOf, after_turn}
 use Rattle.bound_core.specs.HistoryLaws.{TurnsAreTheCoresOwn}
-use Rattle.bound_core.specs.TimedCore.{NumberedCore, TimedCore, asks, latest_clock, left_of_instruction, most_accesses, next_request, ran_to}
+use Rattle.bound_core.specs.TimedCore.{TimedCore, asks, next_request, ran_to}
+use Rattle.bound_core.specs.NumberedCores.{NumberedCore}
+use Rattle.bound_core.specs.IntervalBounds.{latest_clock, left_of_instruction, most_accesses}
 use Rattle.bound_core.specs.Port.{Gains}
 use Rattle.bound_core.specs.Turn.{IsOver, RunsToEnd, TurnsToEnd}
 use Rattle.bound_core.proofs.Accesses.{latest_small}

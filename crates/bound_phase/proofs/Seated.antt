@@ -8,7 +8,8 @@ use Rattle.shard.specs.Served.{ShardState}
 use Rattle.shard_table.specs.Access.{AreNewSeats, SeatState, TableState}
 use Rattle.bound_core.specs.ShardPort.{AreShardsOf, IsShardAt}
 use Rattle.bound_core.specs.ShardWorld.{restarted}
-use Rattle.bound_core.specs.TimedCore.{NumberedCore, TimedCore, timed_of}
+use Rattle.bound_core.specs.TimedCore.{TimedCore}
+use Rattle.bound_core.specs.NumberedCores.{NumberedCore, timed_of}
 use Rattle.bound_phase.specs.Bounds.{HaveNewSeats, CanBound, HasConsoleRoom, IsBeforeInterval}
 use Rattle.bound_phase.proofs.Ending.{all_here, made_at}
 use Rattle.bound_phase.proofs.Whole.{agreed_at}

@@ -5,7 +5,7 @@ use Rattle.std.proofs.lemmas.Bool.{cases_eq, eq-eqb, ne_eqb}
 use Rattle.std.proofs.lemmas.List.{append-nil, append_assoc, get_or-set_other, get_or-set_same, length-append, length-reverse, length-set, reverse-append}
 use Rattle.std.proofs.lemmas.List.Elements.{All-get_or}
 use Rattle.shard_table.specs.Access.{SeatState}
-use Rattle.bound_core.specs.TimedCore.{NumberedCore}
+use Rattle.bound_core.specs.NumberedCores.{NumberedCore}
 use Rattle.bound_phase.specs.declared.crew.Crew.{Crew}
 use Rattle.bound_phase.specs.declared.member.Member.{Member}
 use Rattle.bound_phase.specs.Shares.{AreEmpty, HaveShares, mates, share_of}

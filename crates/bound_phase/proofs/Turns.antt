@@ -4,7 +4,7 @@ use Rattle.std.proofs.lemmas.List.{length-reverse}
 use Rattle.std.proofs.lemmas.List.Elements.{All-filter}
 use Rattle.machine_desc.specs.declared.machine.Machine.{Machine}
 use Rattle.shard_table.specs.Access.{SeatState, TableState}
-use Rattle.bound_core.specs.TimedCore.{NumberedCore}
+use Rattle.bound_core.specs.NumberedCores.{NumberedCore}
 use Rattle.bound_phase.specs.declared.crew.Crew.{Crew}
 use Rattle.bound_phase.specs.Bounds.{HaveNewSeats}
 use Rattle.bound_phase.specs.Crew.{CanWork}

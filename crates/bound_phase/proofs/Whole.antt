@@ -10,7 +10,7 @@ use Rattle.machine_desc.specs.declared.machine.Machine.{Machine}
 use Rattle.elf_load.specs.MemoryImage.{MemoryImage}
 use Rattle.shard_table.specs.Access.{IsSeatOf, SeatState, TableState}
 use Rattle.bound_core.specs.ShardPort.{AreShardsOf}
-use Rattle.bound_core.specs.TimedCore.{NumberedCore}
+use Rattle.bound_core.specs.NumberedCores.{NumberedCore}
 use Rattle.bound_phase.specs.declared.crew.Crew.{Crew}
 use Rattle.bound_phase.specs.declared.member.Member.{Member}
 use Rattle.bound_phase.specs.Bounds.{HasConsoleRoom, IsBeforeInterval}

@@ -10,7 +10,8 @@ use Rattle.access_log.specs.RecordedOrder.{recorded_order}
 use Rattle.bound_core.specs.History.{IsHistory, after_history}
 use Rattle.bound_core.specs.ShardPort.{AreShardsOf}
 use Rattle.bound_core.specs.ShardWorld.{restarted}
-use Rattle.bound_core.specs.TimedCore.{NumberedCore, beside_cycles, timed_of}
+use Rattle.bound_core.specs.TimedCore.{beside_cycles}
+use Rattle.bound_core.specs.NumberedCores.{NumberedCore, timed_of}
 use Rattle.bound_core.specs.Turn.{IsOver}
 
 -- A core of this machine between two instructions. Unless it has halted, the interval that ends at `end` is one of the

@@ -3,7 +3,7 @@
 use Rattle.std.specs.Prelude.{◌≡◌, ℕ, List, length, map, Ok}
 use Rattle.zs_num.specs.declared.entry.Entry.{Entry}
 use Rattle.elf_load.specs.MemoryImage.{MemoryImage}
-use Rattle.shard.specs.Coherence.{caches_after_all, outcomes_of}
+use Rattle.shard.specs.Accesses.{caches_after_all, outcomes_of}
 use Rattle.shard.specs.Laws.{flat_after_all, flat_replies}
 use Rattle.shard.specs.Served.{ShardState}
 use Rattle.shard.specs.StandsFor.{accesses_of}
@@ -13,7 +13,8 @@ use Rattle.bound_core.specs.MachineWorld as machine
 use Rattle.bound_core.specs.MachineWorld.{MachineWorld}
 use Rattle.bound_core.specs.ReferenceMachine.{bound_phase}
 use Rattle.bound_core.specs.ShardWorld.{begun_world, restarted, shards_serve}
-use Rattle.bound_core.specs.TimedCore.{NumberedCore, TimedCore, timed_of}
+use Rattle.bound_core.specs.TimedCore.{TimedCore}
+use Rattle.bound_core.specs.NumberedCores.{NumberedCore, timed_of}
 use Rattle.bound_phase.specs.Bounds.{IsBound}
 
 -- who made the accesses

@@ -7,7 +7,8 @@ use Rattle.std.proofs.lemmas.Grind.{get_or_default_zero}
 use Rattle.std.proofs.lemmas.List.{length-take, length-set}
 use Rattle.std.proofs.lemmas.List.Edits.{length-remove}
 use Rattle.std.proofs.lemmas.List.Quantifiers.{position-Some}
-use Rattle.cache_set.specs.Ways.{IsWaySet, kept_of, without, used, filled, changed, last_of_full}
+use Rattle.cache_set.specs.Ways.{kept_of, without, used, filled, changed, last_of_full}
+use Rattle.cache_set.specs.WaySets.{IsWaySet}
 use Rattle.cache_set.specs.Rows.{AreRows}
 use Rattle.cache_set.proofs.Places.{first-position, lookup_at, remove_at, set_at, absent, slice_get-zip, slice_get-zip_past, take-zip, length_zip}
 use Rattle.cache_set.proofs.Sets.{set-without, set-used, set-changed, set-filled}

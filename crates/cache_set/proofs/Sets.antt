@@ -8,7 +8,8 @@ use Rattle.std.proofs.lemmas.Map.{NonePasses, none_passes_from_lookup, keys-set_
 use Rattle.std.proofs.lemmas.Map.Keys.{IsDistinct-head, IsDistinct-tail, IsDistinct-cons}
 use Rattle.std.proofs.lemmas.Bool.{eqb-true}
 use Rattle.std.proofs.lemmas.List.{length-take}
-use Rattle.cache_set.specs.Ways.{IsWaySet, kept_of, without, used, filled, changed}
+use Rattle.cache_set.specs.Ways.{kept_of, without, used, filled, changed}
+use Rattle.cache_set.specs.WaySets.{IsWaySet}
 
 -- no key is this line
 abbrev pub Lacks : ℕ → List ℕ → Type 0

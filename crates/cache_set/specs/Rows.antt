@@ -1,7 +1,7 @@
 -- How a set is laid out: its tags and its marks, each in a list with room for all ways.
 use Rattle.std.specs.Prelude.{◌≡◌, ℕ, ◌≤◌, List, length}
 use Rattle.std.specs.List.{zip}
-use Rattle.cache_set.specs.Ways.{WaySet, IsWaySet}
+use Rattle.cache_set.specs.WaySets.{WaySet, IsWaySet}
 
 -- the set that tags and marks stand for
 abbrev pub rows_view : (ways : ℕ) (tags marks : List ℕ) → WaySet

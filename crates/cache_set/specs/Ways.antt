@@ -1,20 +1,7 @@
 -- The ways of a cache set: lines with what is kept of each, the most recently used first.
-use Rattle.std.specs.Prelude.{ℕ, ◌-◌, ◌≤◌, List, ◌∷◌, length, take, nat_eq, slice_get, Option}
-use Rattle.std.specs.List.{IsDistinct}
-use Rattle.std.specs.Map.{keys_of, lookup, remove_entry, set_value}
+use Rattle.std.specs.Prelude.{ℕ, ◌-◌, List, ◌∷◌, take, nat_eq, slice_get, Option}
+use Rattle.std.specs.Map.{lookup, remove_entry, set_value}
 use Rattle.std.specs.Option.{option_map_or}
-use Rattle.cache_set.specs.declared.set.Way.{Way}
-
--- how many ways a set has, and its lines with their marks
-pub record WaySet : Type 0 where
-  pub ways : ℕ
-  pub list : List (ℕ × ℕ)
-
--- no line stands in a set twice, and it has no more lines than ways
-pub record IsWaySet (set : WaySet) : Type 0 where
-  pub distinct : IsDistinct nat_eq (keys_of set.list)
-  pub within : length set.list ≤ set.ways
-  pub ways : (1 ≤ set.ways) × (set.ways ≤ 32)
 
 module _ {X : Type 0} where
   -- what is kept of a line, where it is there
@@ -40,6 +27,3 @@ module _ {X : Type 0} where
   -- the line in the last place, which is taken where the set is full
   abbrev pub last_of_full : (ways : ℕ) → List (ℕ × X) → Option (ℕ × X)
   last_of_full ways list = slice_get list (ways - 1)
-
-abbrev pub way_of : ℕ × ℕ → Way
-way_of w = record { line = w.0; mark = w.1 }

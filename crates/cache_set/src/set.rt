@@ -1,7 +1,8 @@
 //! One set: its tags in one list, the most recently used first, and their marks beside it.
 ghost use Rattle.std.specs.Prelude.{◌≡◌, ◌+◌, ◌<◌, ◌≤◌, ◌↔◌, [], ◌∷◌, length, nat_eq, vec_len, vec_capacity, slice_index_or, option_map, IfOk, IfSome, IsSome, IsNone};
 ghost use Rattle.std.specs.List.{position, remove};
-ghost use Rattle.cache_set.specs.Ways.{IsWaySet, kept_of, without, used, filled, changed, last_of_full, way_of};
+ghost use Rattle.cache_set.specs.Ways.{kept_of, without, used, filled, changed, last_of_full};
+ghost use Rattle.cache_set.specs.WaySets.{IsWaySet, way_of};
 
 use std::alloc::Global;
 use std::marker::Model;
@@ -27,7 +28,7 @@ pub struct Set {
 
 impl Model for Set {
     ghost use Rattle.std.specs.Prelude.{vec_capacity};
-    ghost use Rattle.cache_set.specs.Ways.{WaySet};
+    ghost use Rattle.cache_set.specs.WaySets.{WaySet};
     ghost use Rattle.cache_set.specs.Rows.{AreRows, rows_view};
 
     ghost Value = { WaySet };

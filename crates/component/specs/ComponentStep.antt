@@ -1,5 +1,5 @@
 -- How a component serves events: one after the other, each not before its start.
-use Rattle.std.specs.Prelude.{◌+◌, ℕ, Bool, true, false, max}
+use Rattle.std.specs.Prelude.{◌+◌, ℕ, max}
 use Rattle.component.specs.declared.kind.Kind.{Kind}
 use Rattle.component.specs.declared.kind.Kind.TheVariants.{Lookup, Remote, Fill, Read, Write}
 use Rattle.component.specs.declared.bank.Bank.{Bank}
@@ -11,14 +11,7 @@ use Rattle.component.specs.declared.comp.Comp.TheVariants.{Bank as ABank, Contro
 abbrev pub served_at : (start free : ℕ) → ℕ
 served_at start free = max start free
 
--- what a bank serves, and the time from the service of an event to its finish
-abbrev pub bank_serves : Bank → Kind → Bool
-bank_serves b Lookup = true
-bank_serves b Remote = true
-bank_serves b Fill = true
-bank_serves b Read = false
-bank_serves b Write = false
-
+-- the time from the service of an event to its finish, and 0 for what a bank does not serve
 abbrev pub bank_latency : Bank → Kind → ℕ
 bank_latency b Lookup = b.lookup
 bank_latency b Remote = b.remote
@@ -31,18 +24,7 @@ abbrev pub bank_step : Bank → Kind → (start : ℕ) → Bank × ℕ
 bank_step b kind start =
     (record b { free = served_at start b.free + b.occupancy }, served_at start b.free + bank_latency b kind)
 
-abbrev pub bank_greatest : Bank → Kind → (start : ℕ) → ℕ
-bank_greatest b kind start =
-    max (served_at start b.free + bank_latency b kind) (served_at start b.free + b.occupancy)
-
 -- the same of a controller
-abbrev pub controller_serves : Controller → Kind → Bool
-controller_serves c Lookup = false
-controller_serves c Remote = false
-controller_serves c Fill = false
-controller_serves c Read = true
-controller_serves c Write = true
-
 abbrev pub controller_latency : Controller → Kind → ℕ
 controller_latency c Lookup = 0
 controller_latency c Remote = 0
@@ -54,26 +36,10 @@ abbrev pub controller_step : Controller → Kind → (start : ℕ) → Controlle
 controller_step c kind start =
     (record c { free = served_at start c.free + c.occupancy }, served_at start c.free + controller_latency c kind)
 
-abbrev pub controller_greatest : Controller → Kind → (start : ℕ) → ℕ
-controller_greatest c kind start =
-    max (served_at start c.free + controller_latency c kind) (served_at start c.free + c.occupancy)
-
 -- a component does what the bank or the controller does that it is
-abbrev pub comp_serves : Comp → Kind → Bool
-comp_serves (ABank b) kind = bank_serves b kind
-comp_serves (AController c) kind = controller_serves c kind
-
-abbrev pub comp_latency : Comp → Kind → ℕ
-comp_latency (ABank b) kind = bank_latency b kind
-comp_latency (AController c) kind = controller_latency c kind
-
 abbrev pub comp_step : Comp → Kind → (start : ℕ) → Comp × ℕ
 comp_step (ABank b) kind start = (ABank (bank_step b kind start).0, (bank_step b kind start).1)
 comp_step (AController c) kind start = (AController (controller_step c kind start).0, (controller_step c kind start).1)
-
-abbrev pub comp_greatest : Comp → Kind → (start : ℕ) → ℕ
-comp_greatest (ABank b) kind start = bank_greatest b kind start
-comp_greatest (AController c) kind start = controller_greatest c kind start
 
 -- the cycle from which on a component can serve the next event
 abbrev pub free_of : Comp → ℕ

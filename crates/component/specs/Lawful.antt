@@ -3,7 +3,8 @@ use Rattle.std.specs.Prelude.{refl}
 use Rattle.std.proofs.Common.{arith}
 use Rattle.component.specs.declared.kind.Kind.TheVariants.{Lookup, Remote, Fill, Read, Write}
 use Rattle.component.specs.declared.comp.Comp.TheVariants.{Bank as ABank, Controller as AController}
-use Rattle.component.specs.ComponentStep.{bank_serves, bank_latency, bank_step, bank_greatest, controller_serves, controller_latency, controller_step, controller_greatest, comp_serves, comp_latency, comp_step, comp_greatest}
+use Rattle.component.specs.ComponentStep.{bank_latency, bank_step, controller_latency, controller_step, comp_step}
+use Rattle.component.specs.Serving.{bank_serves, bank_greatest, controller_serves, controller_greatest, comp_serves, comp_latency, comp_greatest}
 use Rattle.component.specs.ComponentLaws.{FloorAtLeastOne, FloorHolds, ServesStays, FloorStays, FinishWithinGreatest}
 
 pub bank_floor_at_least_one : FloorAtLeastOne bank_serves bank_latency

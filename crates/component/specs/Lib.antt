@@ -4,3 +4,4 @@ pub mod Components
 pub mod Lawful
 pub mod Laws
 pub mod Lending
+pub mod Serving

@@ -1,6 +1,7 @@
 //! How a graph's events are split into domains.
 ghost use Rattle.std.specs.Prelude.{◌≡◌, ◌+◌, ◌<◌, ◌^◌, ◌++◌, [], IfOk, OnOk, IfSome, All, length, vec_len};
-ghost use Rattle.machine_desc.specs.Components.{component_count, component_domains};
+ghost use Rattle.machine_desc.specs.Components.{component_count};
+ghost use Rattle.machine_desc.specs.ComponentDomains.{component_domains};
 ghost use Rattle.machine_desc.specs.Machine.{IsMachine};
 ghost use Rattle.event_graph.specs.Numbered.{IsNumbered};
 ghost use Rattle.domain_map.specs.Domains.{IsPartition, IsSplit, crossing_from, crossings_into, domain_of_event as the_domain_of_event, domain_of_number as the_domain_of_number};

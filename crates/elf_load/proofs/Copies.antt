@@ -6,7 +6,8 @@ use Rattle.std.proofs.lemmas.List.{ext_get_or, get_or-take, get_or-drop, get_or_
 use Rattle.std.proofs.lemmas.List.FromFn.{get_or-map-range_with_len, length-map-range_with_len}
 use Rattle.elf_load.specs.declared.segment.Segment.{Segment}
 use Rattle.elf_load.specs.Copying.{byte_over}
-use Rattle.elf_load.specs.MemoryImage.{is_within, covers, byte_at, bytes_from, is_placed, do_overlap, are_apart}
+use Rattle.elf_load.specs.MemoryImage.{is_within, covers, byte_at, bytes_from}
+use Rattle.elf_load.specs.SoundImage.{is_placed, do_overlap, are_apart}
 use Rattle.elf_load.proofs.Lists.{passed_over}
 
 -- the start and the end of what lies within

@@ -3,7 +3,8 @@ use Rattle.std.proofs.Common.{◌≡◌, ℕ, zero, suc, ◌+◌, ◌<◌, ◌�
 use Rattle.std.specs.List.{list_any}
 use Rattle.std.proofs.lemmas.Bool.{and_parts, leb-true, lt-ltb, not-true, both_ways, cond-false, cond-true, false_from_ne_true}
 use Rattle.elf_load.specs.declared.segment.Segment.{Segment}
-use Rattle.elf_load.specs.MemoryImage.{covers, word_in, fetched_word, do_overlap, are_apart}
+use Rattle.elf_load.specs.MemoryImage.{covers, word_in, fetched_word}
+use Rattle.elf_load.specs.SoundImage.{do_overlap, are_apart}
 use Rattle.elf_load.proofs.Lists.{passed_over}
 
 -- two segments that have four bytes overlap

@@ -10,7 +10,8 @@ use Rattle.elf_load.specs.Constants.{elf_magic, elfclass64, elfdata2lsb, et_exec
 use Rattle.elf_load.specs.Meaning.{LiesIn}
 use Rattle.elf_load.specs.Header.{header_of, program_headers}
 use Rattle.elf_load.specs.Image.{image_of, image_unless, elf_refusal}
-use Rattle.elf_load.specs.MemoryImage.{MemoryImage, IsSoundImage, is_placed, ranges_overlap, covers}
+use Rattle.elf_load.specs.MemoryImage.{MemoryImage, ranges_overlap, covers}
+use Rattle.elf_load.specs.SoundImage.{IsSoundImage, is_placed}
 use Rattle.elf_load.proofs.Lists.{option_or-None}
 use Rattle.elf_load.proofs.Refusals.{passes, unless-None}
 use Rattle.elf_load.proofs.Sound.{sound}

@@ -6,7 +6,8 @@ use Rattle.elf_load.specs.declared.header.Header.{Header}
 use Rattle.elf_load.specs.declared.header.ProgramHeader.{ProgramHeader}
 use Rattle.elf_load.specs.Checks.{is_loaded, is_past_file, is_past_memory, overlaps, is_entered, first_pair}
 use Rattle.elf_load.specs.Image.{segment_of, segments_of, image_in}
-use Rattle.elf_load.specs.MemoryImage.{IsSoundImage, is_within, is_placed, do_overlap, are_apart, covers, fetched_word}
+use Rattle.elf_load.specs.MemoryImage.{is_within, covers, fetched_word}
+use Rattle.elf_load.specs.SoundImage.{IsSoundImage, is_placed, do_overlap, are_apart}
 use Rattle.elf_load.proofs.Lists.{position-None, option_or-None, option_map-None}
 use Rattle.elf_load.proofs.Refusals.{Passes}
 

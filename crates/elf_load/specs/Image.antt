@@ -1,11 +1,9 @@
 -- The image of an executable, or the first check that it fails.
-use Rattle.std.specs.Prelude.{◌≡◌, ℕ, nat_le, List, map, filter, length, take, drop, Option, Some, None, Result, Ok, Err}
+use Rattle.std.specs.Prelude.{ℕ, nat_le, List, map, filter, length, take, drop, Option, Some, None, Result, Ok, Err}
 use Rattle.std.specs.Option.{option_or}
 use Rattle.elf_load.specs.Constants.{header_len}
 use Rattle.elf_load.specs.declared.bad_elf.BadElf.{BadElf}
 use Rattle.elf_load.specs.declared.bad_elf.BadElf.TheVariants as bad
-use Rattle.elf_load.specs.declared.bad_elf.LoadFail.{LoadFail}
-use Rattle.elf_load.specs.declared.bad_elf.LoadFail.TheVariants as fail
 use Rattle.elf_load.specs.declared.header.Header.{Header}
 use Rattle.elf_load.specs.declared.header.ProgramHeader.{ProgramHeader}
 use Rattle.elf_load.specs.declared.segment.Segment.{Segment}
@@ -48,9 +46,3 @@ unfoldable pub image_of : List ℕ → (base size : ℕ) → Result MemoryImage 
 image_of file base size =
     let h = header_of file in
     image_unless (elf_refusal file base size) (image_in file h (program_headers file h) base size)
-
--- the call answers the image or the first check that fails, unless memory runs out
-abbrev pub AnswersImage : Result MemoryImage LoadFail → Result MemoryImage BadElf → Type 0
-AnswersImage (Ok image) read = read ≡ Ok image
-AnswersImage (Err (fail.Bad b)) read = read ≡ Err b
-AnswersImage (Err fail.NoMemory) read = Unit {0}

@@ -1,3 +1,4 @@
+pub mod Answers
 pub mod Constants
 pub mod Header
 pub mod MemoryImage
@@ -5,3 +6,4 @@ pub mod Copying
 pub mod Checks
 pub mod Image
 pub mod Meaning
+pub mod SoundImage

@@ -1,8 +1,7 @@
 -- What memory holds when an executable was loaded.
-use Rattle.std.specs.Prelude.{◌≡◌, ℕ, ◌+◌, ◌-◌, ◌%◌, ◌^◌, ◌≤◌, min, max, nat_lt, nat_le, Bool, true, not, ◌&&◌, if◌then◌else◌, List, [], ◌∷◌, length, map, slice_index, Option, Some, None, IsTrue, IsSome}
-use Rattle.std.specs.List.{list_all, list_any, range_with_len}
+use Rattle.std.specs.Prelude.{ℕ, ◌+◌, ◌-◌, min, max, nat_lt, nat_le, Bool, ◌&&◌, if◌then◌else◌, List, [], ◌∷◌, map, slice_index, Option, Some, None}
+use Rattle.std.specs.List.{range_with_len}
 use Rattle.byteorder.specs.Endian.{little_from}
-use Rattle.elf_load.specs.Constants.{most_headers}
 use Rattle.elf_load.specs.declared.segment.Segment.{Segment}
 
 -- the range of memory, the address of the first instruction, and the segments
@@ -44,28 +43,3 @@ byte_at (segment ∷ segments) addr =
 -- so many bytes of memory from an address on
 abbrev pub bytes_from : List Segment → (addr count : ℕ) → List ℕ
 bytes_from segments addr count = map (byte_at segments) (range_with_len addr count)
-
--- a segment is not empty, has at most as many bytes as it takes of memory, and lies in memory
-unfoldable pub is_placed : (base size : ℕ) → Segment → Bool
-is_placed base size segment =
-    nat_lt 0 segment.memsz && nat_le (length segment.bytes) segment.memsz
-    && is_within segment.vaddr segment.memsz base size
-
--- two segments have an address in common
-unfoldable pub do_overlap : Segment → Segment → Bool
-do_overlap first second = ranges_overlap first.vaddr first.memsz second.vaddr second.memsz
-
--- no two segments have an address in common
-abbrev pub are_apart : List Segment → Bool
-are_apart [] = true
-are_apart (segment ∷ segments) = not (list_any (do_overlap segment) segments) && are_apart segments
-
--- What every image keeps: memory ends at 2^48 at most, there are at most 128 segments, each is placed in memory apart
--- from the others, and the first instruction lies in an executable one.
-pub record IsSoundImage (image : MemoryImage) : Type 0 where
-  pub reach : image.base + image.size ≤ 2 ^ 48
-  pub few : length image.segments ≤ most_headers
-  pub placed : IsTrue (list_all (is_placed image.base image.size) image.segments)
-  pub apart : IsTrue (are_apart image.segments)
-  pub aligned : image.entry % 4 ≡ 0
-  pub entered : IsSome (fetched_word image.segments image.entry)

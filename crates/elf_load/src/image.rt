@@ -1,7 +1,8 @@
 //! What memory holds when an executable was loaded.
 ghost use Rattle.std.specs.Prelude.{◌≡◌, ◌≤◌, ◌<◌, ◌+◌, ◌&&◌, ℕ, length, slice_index, IsTrue};
 ghost use Rattle.elf_load.specs.Copying.{byte_over};
-ghost use Rattle.elf_load.specs.MemoryImage.{byte_at, bytes_from, covers, fetched_word, word_in, IsSoundImage};
+ghost use Rattle.elf_load.specs.MemoryImage.{byte_at, bytes_from, covers, fetched_word, word_in};
+ghost use Rattle.elf_load.specs.SoundImage.{IsSoundImage};
 
 use crate::Segment;
 use crate::range::is_within;
@@ -19,7 +20,8 @@ pub struct Image {
 }
 
 impl Model for Image {
-    ghost use Rattle.elf_load.specs.MemoryImage.{MemoryImage, IsSoundImage};
+    ghost use Rattle.elf_load.specs.MemoryImage.{MemoryImage};
+    ghost use Rattle.elf_load.specs.SoundImage.{IsSoundImage};
 
     ghost Value = { MemoryImage };
 

@@ -4,7 +4,8 @@ ghost use Rattle.std.specs.Prelude.{◌≡◌, ◌↔◌, ◌+◌, ◌^◌, ◌�
 ghost use Rattle.elf_load.specs.Checks.{overlap_refusal, overlaps};
 ghost use Rattle.elf_load.specs.Image.{image_of};
 ghost use Rattle.elf_load.specs.Meaning.{LiesIn, IsLeastPair};
-ghost use Rattle.elf_load.specs.MemoryImage.{ranges_overlap, IsSoundImage, MemoryImage};
+ghost use Rattle.elf_load.specs.MemoryImage.{ranges_overlap, MemoryImage};
+ghost use Rattle.elf_load.specs.SoundImage.{IsSoundImage};
 ghost use Rattle.elf_load.specs.declared.bad_elf.BadElf.TheVariants as bad;
 ghost use Rattle.elf_load.specs.declared.header.ProgramHeader.{ProgramHeader};
 

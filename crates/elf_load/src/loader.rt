@@ -2,7 +2,8 @@
 ghost use Rattle.std.specs.Prelude.{◌≡◌, ◌≤◌, ◌+◌, ◌^◌, length, false, IfOk};
 ghost use Rattle.std.specs.List.{list_any};
 ghost use Rattle.elf_load.specs.Checks.{is_past_file};
-ghost use Rattle.elf_load.specs.Image.{image_of, segment_of, segments_of, AnswersImage};
+ghost use Rattle.elf_load.specs.Image.{image_of, segment_of, segments_of};
+ghost use Rattle.elf_load.specs.Answers.{AnswersImage};
 
 use crate::checks::{header_refusal, is_executable, is_loaded, segment_refusal};
 use crate::constants::HEADER_LEN;

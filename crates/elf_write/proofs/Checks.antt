@@ -9,7 +9,8 @@ use Rattle.elf_load.specs.declared.header.ProgramHeader.{ProgramHeader}
 use Rattle.elf_load.specs.declared.segment.Segment.{Segment}
 use Rattle.elf_load.specs.Checks.{is_loaded, is_executable, is_dynamic, is_past_file, is_past_memory, overlaps, is_entered, first_pair, file_refusal, memory_refusal, overlap_refusal, segment_refusal}
 use Rattle.elf_load.specs.Image.{segment_of, segments_of}
-use Rattle.elf_load.specs.MemoryImage.{is_placed, do_overlap, are_apart, covers, fetched_word}
+use Rattle.elf_load.specs.MemoryImage.{covers, fetched_word}
+use Rattle.elf_load.specs.SoundImage.{is_placed, do_overlap, are_apart}
 use Rattle.elf_write.specs.File.{contents, permissions}
 use Rattle.elf_write.proofs.Written.{written_program_header}
 use Rattle.elf_write.proofs.Table.{place_of, written_table}

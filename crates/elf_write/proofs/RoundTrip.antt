@@ -7,7 +7,8 @@ use Rattle.elf_load.specs.declared.segment.Segment.{Segment}
 use Rattle.elf_load.specs.Checks.{has_table, header_refusal, segment_refusal}
 use Rattle.elf_load.specs.Header.{header_of, program_headers}
 use Rattle.elf_load.specs.Image.{image_of, image_in, elf_refusal, segments_of}
-use Rattle.elf_load.specs.MemoryImage.{MemoryImage, IsSoundImage, is_placed, fetched_word, covers}
+use Rattle.elf_load.specs.MemoryImage.{MemoryImage, fetched_word, covers}
+use Rattle.elf_load.specs.SoundImage.{IsSoundImage, is_placed}
 use Rattle.elf_load.specs.declared.header.Header.{Header}
 use Rattle.elf_load.specs.declared.header.ProgramHeader.{ProgramHeader}
 use Rattle.elf_write.specs.File.{fields_bytes, header_fields, table_bytes, contents, executable_of}

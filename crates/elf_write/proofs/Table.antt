@@ -6,7 +6,7 @@ use Rattle.std.proofs.lemmas.List.{append_assoc}
 use Rattle.elf_load.specs.declared.header.ProgramHeader.{ProgramHeader}
 use Rattle.elf_load.specs.declared.segment.Segment.{Segment}
 use Rattle.elf_load.specs.Header.{program_header_at, headers_from}
-use Rattle.elf_load.specs.MemoryImage.{is_placed}
+use Rattle.elf_load.specs.SoundImage.{is_placed}
 use Rattle.elf_write.specs.File.{fields_bytes, program_header_fields, table_bytes}
 use Rattle.elf_write.proofs.Fields.{length-fields_bytes}
 use Rattle.elf_write.proofs.Written.{Fits, written_program_header, program_header_at-written, program_header_at-past}

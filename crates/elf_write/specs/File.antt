@@ -1,6 +1,6 @@
 -- The file of an image (ELF-64 object file format, "ELF header" and "Program header table"): a table of fields, and
 -- then the bytes of the segments. Numbers are little-endian.
-use Rattle.std.specs.Prelude.{ℕ, ◌+◌, ◌*◌, ◌^◌, nat_lt, nat_le, Bool, ◌&&◌, if◌then◌else◌, List, [], ◌∷◌, ◌++◌, length}
+use Rattle.std.specs.Prelude.{ℕ, ◌+◌, ◌*◌, Bool, if◌then◌else◌, List, [], ◌∷◌, ◌++◌, length}
 use Rattle.std.specs.List.{flat_map}
 use Rattle.byteorder.specs.Endian.{little_bytes}
 use Rattle.elf_load.specs.Constants.{elf_magic, elfclass64, elfdata2lsb, ev_current, et_exec, em_riscv, pt_load, pf_x, pf_w, pf_r, header_len, program_header_len}
@@ -11,10 +11,6 @@ use Rattle.elf_write.specs.declared.field.Field.{Field}
 -- a number in so many bytes
 abbrev pub field : (width value : ℕ) → Field
 field width value = record { width = width; value = value }
-
--- a field has one to eight bytes, and its number fits them
-abbrev pub is_writable : Field → Bool
-is_writable f = nat_le 1 f.width && nat_le f.width 8 && nat_lt f.value (256 ^ f.width)
 
 abbrev pub fields_bytes : List Field → List ℕ
 fields_bytes fields = flat_map (λ f. little_bytes f.width f.value) fields

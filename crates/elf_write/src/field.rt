@@ -2,7 +2,8 @@
 ghost use Rattle.std.specs.Prelude.{◌≡◌, ◌++◌, IsTrue, OnOk};
 ghost use Rattle.std.specs.List.{list_all};
 ghost use Rattle.byteorder.specs.Endian.{little_bytes};
-ghost use Rattle.elf_write.specs.File.{fields_bytes, is_writable};
+ghost use Rattle.elf_write.specs.File.{fields_bytes};
+ghost use Rattle.elf_write.specs.Writable.{is_writable};
 
 use byteorder::{ByteOrder, LittleEndian};
 use zs_num::NoMemory;

@@ -7,7 +7,8 @@ use Rattle.component.specs.declared.kind.Kind.{Kind}
 use Rattle.event_graph.specs.declared.event.Event.{Event}
 use Rattle.event_graph.specs.declared.event.Parent.{Parent}
 use Rattle.event_graph.specs.Numbered.{IsNumbered}
-use Rattle.event_graph.specs.OneListWeave.{AreSmallSteps, IsSmallStep, FiredEvent, Weave, after_firings, after_parent, find_fired, finish_in, finish_or_zero, fire_least, least_ready, start_of, weave}
+use Rattle.event_graph.specs.OneListWeave.{FiredEvent, Weave, after_firings, after_parent, find_fired, finish_in, finish_or_zero, fire_least, least_ready, start_of, weave}
+use Rattle.event_graph.specs.SmallSteps.{AreSmallSteps, IsSmallStep}
 use Rattle.event_graph.specs.Near.{AreNear, IsNear}
 use Rattle.event_graph.specs.Growth.{BeginBy, IsPaced}
 use Rattle.event_graph.proofs.FindFired.{found_in}

@@ -11,7 +11,8 @@ use Rattle.component.specs.declared.bank.Bank.{Bank}
 use Rattle.component.specs.declared.controller.Controller.{Controller}
 use Rattle.component.specs.declared.comp.Comp.{Comp}
 use Rattle.component.specs.declared.comp.Comp.TheVariants.{Bank as ABank, Controller as AController}
-use Rattle.component.specs.ComponentStep.{bank_latency, comp_greatest, comp_serves, comp_step, controller_latency, free_of}
+use Rattle.component.specs.ComponentStep.{bank_latency, comp_step, controller_latency, free_of}
+use Rattle.component.specs.Serving.{comp_greatest, comp_serves}
 use Rattle.component.specs.Components.{AreComponents, IsBankOf, IsControllerOf}
 use Rattle.event_graph.specs.Growth.{BeginBy, IsPaced}
 use Rattle.event_graph.proofs.Lists.{get_within, read_is}

@@ -10,10 +10,11 @@ use Rattle.component.specs.declared.kind.Kind.{Kind}
 use Rattle.component.specs.declared.kind.Kind.TheVariants.{Lookup, Remote, Fill, Read, Write}
 use Rattle.component.specs.declared.comp.Comp.{Comp}
 use Rattle.component.specs.declared.comp.Comp.TheVariants.{Bank as ABank, Controller as AController}
-use Rattle.component.specs.ComponentStep.{comp_serves, comp_latency}
+use Rattle.component.specs.Serving.{comp_serves, comp_latency}
 use Rattle.component.specs.Components.{AreComponents, IsBankOf, IsControllerOf}
 use Rattle.event_graph.specs.Fits.{GraphFits}
-use Rattle.event_graph.specs.Timing.{pieces_of, floor_told, is_bank, is_controller, look_up_time}
+use Rattle.event_graph.specs.Timing.{pieces_of, look_up_time}
+use Rattle.event_graph.specs.Floors.{floor_told, is_bank, is_controller}
 use Rattle.event_graph.specs.PlainLaws.{plain_floors_told}
 use Rattle.event_graph.specs.Told.{ServesWith}
 use Rattle.event_graph.specs.EventGraph.{all_events}

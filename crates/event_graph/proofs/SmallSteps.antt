@@ -5,7 +5,8 @@ use Rattle.std.proofs.lemmas.Bool.{cases_eq, cases_lt}
 use Rattle.component.specs.declared.kind.Kind.{Kind}
 use Rattle.event_graph.specs.declared.event.Event.{Event}
 use Rattle.event_graph.specs.Numbered.{IsNumbered}
-use Rattle.event_graph.specs.OneListWeave.{AreSmallSteps, IsSmallStep, FiredEvent, Weave, after_firings, finish_in, finish_or_zero, find_fired, least_ready, fire_least, start_of, weave}
+use Rattle.event_graph.specs.OneListWeave.{FiredEvent, Weave, after_firings, finish_in, finish_or_zero, find_fired, least_ready, fire_least, start_of, weave}
+use Rattle.event_graph.specs.SmallSteps.{AreSmallSteps, IsSmallStep}
 use Rattle.event_graph.proofs.FindFired.{find_from_in, fired_in, found_in, start_mono}
 use Rattle.event_graph.proofs.Least.{IsLeast, least_some, same_event}
 use Rattle.event_graph.proofs.Lists.{In, in_left, in_push_cases}

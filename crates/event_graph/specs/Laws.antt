@@ -8,14 +8,17 @@ use Rattle.machine_desc.specs.declared.machine.Machine.{Machine}
 use Rattle.machine_desc.specs.Machine.{IsMachine}
 use Rattle.zs_num.specs.declared.entry.Entry.{Entry}
 use Rattle.component.specs.declared.comp.Comp.{Comp}
-use Rattle.component.specs.ComponentStep.{comp_serves, comp_latency, comp_step, comp_greatest, free_of}
+use Rattle.component.specs.ComponentStep.{comp_step, free_of}
+use Rattle.component.specs.Serving.{comp_serves, comp_latency, comp_greatest}
 use Rattle.component.specs.Components.{AreComponents}
 use Rattle.event_graph.specs.declared.event.Event.{Event}
 use Rattle.event_graph.specs.Fits.{GraphFits}
 use Rattle.event_graph.specs.Near.{AreNear}
 use Rattle.event_graph.specs.Numbered.{IsNumbered}
-use Rattle.event_graph.specs.OneListWeave.{AreSmallSteps, comps_after}
-use Rattle.event_graph.specs.Timing.{pieces_of, floor_told}
+use Rattle.event_graph.specs.OneListWeave.{comps_after}
+use Rattle.event_graph.specs.SmallSteps.{AreSmallSteps}
+use Rattle.event_graph.specs.Timing.{pieces_of}
+use Rattle.event_graph.specs.Floors.{floor_told}
 use Rattle.event_graph.specs.Told.{IsTrueOfComponents}
 use Rattle.event_graph.specs.EventGraph.{all_events}
 

@@ -3,6 +3,7 @@ pub mod EventGraph
 pub mod Expansion
 pub mod Firing
 pub mod Fits
+pub mod Floors
 pub mod Growth
 pub mod Laws
 pub mod Near
@@ -10,6 +11,7 @@ pub mod NextEvent
 pub mod Numbered
 pub mod OneListWeave
 pub mod PlainLaws
+pub mod SmallSteps
 pub mod Timely
 pub mod Timing
 pub mod TimingSolution

@@ -1,6 +1,6 @@
 -- The one-list weave: while an event is unfired, of the events whose parents are fired the one with the least (start,
 -- number) fires.
-use Rattle.std.specs.Prelude.{◌≤◌, ◌+◌, ◌^◌, ◌==◌, ◌&&◌, ◌||◌, ℕ, zero, suc, max, Bool, true, not, cond, nat_lt, List, [], ◌∷◌, ◌++◌, map, length, slice_get, slice_set, Option, Some, None, is_some, IfSome}
+use Rattle.std.specs.Prelude.{◌+◌, ◌==◌, ◌&&◌, ◌||◌, ℕ, zero, suc, max, Bool, true, not, cond, nat_lt, List, [], ◌∷◌, ◌++◌, map, length, slice_get, slice_set, Option, Some, None, is_some}
 use Rattle.std.specs.List.{find}
 use Rattle.component.specs.declared.kind.Kind.{Kind}
 use Rattle.event_graph.specs.declared.event.Event.{Event}
@@ -112,15 +112,6 @@ module _ {C : Type 0} (stepped : C → Kind → ℕ → C × ℕ) where
 
   abbrev pub comps_after : List Event → List C → List C
   comps_after events comps = (weave events comps).comps
-
-  -- The greatest sum of each step is at most 2^62.
-
-  abbrev pub IsSmallStep : (C → Kind → ℕ → ℕ) → Weave C → Option (Event × ℕ) → Type 0
-  IsSmallStep greatest w next = IfSome next (λ x. IfSome (slice_get w.comps x.0.component) (λ c. greatest c x.0.kind x.1 ≤ 2 ^ 62))
-
-  abbrev pub AreSmallSteps : (C → Kind → ℕ → ℕ) → List Event → List C → Type 0
-  AreSmallSteps greatest events comps =
-      (firings : ℕ) → IsSmallStep greatest (after_firings events comps firings) (least_ready (after_firings events comps firings).fired events)
 
 -- an event's number, start and finish
 abbrev pub fired_of : FiredEvent → Fired

@@ -11,7 +11,8 @@ use Rattle.zs_num.specs.declared.entry.Outcome.{Outcome}
 use Rattle.zs_num.specs.declared.entry.Outcome.TheVariants.{Hit, Upgrade, L2 as FoundInL2, Miss}
 use Rattle.event_graph.specs.declared.piece.Piece.{Piece}
 use Rattle.event_graph.specs.Expansion.{ParentsComeBefore, OnlyFirstStartsAlone, ParentsFinishBefore, EndsAt, AreTold}
-use Rattle.event_graph.specs.Timing.{time_by, pieces_by, pieces_of, bank_component, controller_component, look_up, read, write, fill, is_bank, is_controller, floor_told}
+use Rattle.event_graph.specs.Timing.{time_by, pieces_by, pieces_of, bank_component, controller_component, look_up, read, write, fill}
+use Rattle.event_graph.specs.Floors.{is_bank, is_controller, floor_told}
 
 module _ (l1 : L1) (l2 : L2) (controllers : Controllers) (ok1 : IsL1 l2.banks l1) (ok2 : IsL2 l2) (ok : IsControllers controllers) where
   pub plain_time_at_least_one : (o : Outcome) → 1 ≤ time_by l1 l2 controllers o

@@ -1,6 +1,5 @@
 -- The time of an access where nothing else runs, and the events that it is made of.
-use Rattle.std.specs.Prelude.{◌+◌, ◌%◌, ℕ, Bool, true, false, ◌&&◌, nat_lt, nat_le, max, if◌then◌else◌, List, [], ◌∷◌, Option, None, Some}
-use Rattle.component.specs.declared.kind.Kind.{Kind}
+use Rattle.std.specs.Prelude.{◌+◌, ◌%◌, ℕ, Bool, true, false, max, if◌then◌else◌, List, [], ◌∷◌, None, Some}
 use Rattle.component.specs.declared.kind.Kind.TheVariants.{Lookup, Remote, Fill, Read, Write}
 use Rattle.machine_desc.specs.declared.machine.L1.{L1}
 use Rattle.machine_desc.specs.declared.machine.L2.{L2}
@@ -86,18 +85,3 @@ module _ (l1 : L1) (l2 : L2) (controllers : Controllers) (bank controller : ℕ)
 
 abbrev pub pieces_of : L1 → L2 → Controllers → Entry → List Piece
 pieces_of l1 l2 controllers e = pieces_by l1 l2 controllers (bank_component l2 e) (controller_component l2 controllers e) e.outcome
-
--- whether a component is a bank, or a controller
-abbrev pub is_bank : L2 → (component : ℕ) → Bool
-is_bank l2 component = nat_lt component l2.banks
-
-abbrev pub is_controller : L2 → Controllers → (component : ℕ) → Bool
-is_controller l2 controllers component = nat_le l2.banks component && nat_lt component (l2.banks + controllers.count)
-
--- the floor with which a component serves a kind, if it is there and serves it
-abbrev pub floor_told : L2 → Controllers → (component : ℕ) → Kind → Option ℕ
-floor_told l2 controllers component Lookup = (if is_bank l2 component then Some (look_up_time l2 false) else None)
-floor_told l2 controllers component Remote = (if is_bank l2 component then Some (look_up_time l2 true) else None)
-floor_told l2 controllers component Fill = (if is_bank l2 component then Some l2.fill else None)
-floor_told l2 controllers component Read = (if is_controller l2 controllers component then Some controllers.read else None)
-floor_told l2 controllers component Write = (if is_controller l2 controllers component then Some controllers.write else None)

@@ -124,7 +124,8 @@ impl Plain {
 }
 
 impl Expand for Plain {
-    ghost use Rattle.event_graph.specs.Timing.{pieces_of, time_by, floor_told};
+    ghost use Rattle.event_graph.specs.Timing.{pieces_of, time_by};
+    ghost use Rattle.event_graph.specs.Floors.{floor_told};
     ghost use Rattle.event_graph.specs.PlainLaws.{plain_time_at_least_one, plain_time_small, plain_parents_come_before, plain_only_first_starts_alone, plain_parents_finish_before, plain_ends_with_access, plain_floors_told};
     ghost use Rattle.event_graph.specs.Timing.{bank_component, controller_component};
 

@@ -2,7 +2,8 @@
 use Rattle.std.proofs.Common.{◌≡◌, ◌+◌, ℕ, zero, suc, List, [], ◌∷◌, length, Some, slice_get, max, map, ap, sym, ◌∙◌, subst, refl, arith}
 use Rattle.std.proofs.lemmas.Option.{same_Some}
 use Rattle.component.specs.declared.bank.Bank.{Bank}
-use Rattle.component.specs.ComponentStep.{bank_latency, bank_serves, bank_step}
+use Rattle.component.specs.ComponentStep.{bank_latency, bank_step}
+use Rattle.component.specs.Serving.{bank_serves}
 use Rattle.event_graph.specs.declared.event.Event.{Event}
 use Rattle.event_graph.specs.Fits.{EventFits, GraphFits}
 use Rattle.event_graph.specs.OneListWeave.{after_firings, finish_in, fire_least, woven}

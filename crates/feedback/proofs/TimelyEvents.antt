@@ -10,7 +10,8 @@ use Rattle.event_graph.specs.declared.fired.Fired.{Fired}
 use Rattle.event_graph.specs.Critical.{last_critical}
 use Rattle.event_graph.specs.Numbered.{IsNumbered}
 use Rattle.event_graph.specs.Timely.{IsTimely, AreTimely}
-use Rattle.feedback.specs.FeedbackDelay.{HaveFinished, fired_finish, delay_of, feedback_delays}
+use Rattle.feedback.specs.FeedbackDelay.{fired_finish, delay_of, feedback_delays}
+use Rattle.feedback.specs.Finished.{HaveFinished}
 
 module _ (events : List Event) (fired : List Fired) (timely : AreTimely events fired) where
   -- the event that was fired as this one

@@ -1,16 +1,10 @@
 -- The feedback of an interval: how much later each core came out of the weave.
-use Rattle.std.specs.Prelude.{◌≡◌, ◌-◌, ◌≤◌, ℕ, List, length, map, Some, slice_get}
+use Rattle.std.specs.Prelude.{◌-◌, ℕ, List, map, slice_get}
 use Rattle.std.specs.List.{range_with_len}
 use Rattle.std.specs.Option.{option_map_or}
 use Rattle.event_graph.specs.declared.event.Event.{Event}
 use Rattle.event_graph.specs.declared.fired.Fired.{Fired}
 use Rattle.event_graph.specs.Critical.{last_critical}
-
--- each event was fired once, in order of number, and none finished before its zero-load finish
-pub record HaveFinished (events : List Event) (fired : List Fired) : Type 0 where
-  pub count : length fired ≡ length events
-  pub number : (i : ℕ) (f : Fired) → slice_get fired i ≡ Some f → f.number ≡ i
-  pub finish : (i : ℕ) (e : Event) (f : Fired) → slice_get events i ≡ Some e → slice_get fired i ≡ Some f → e.min_finish ≤ f.finish
 
 -- the finish that the weave found for the event of this number
 abbrev pub fired_finish : List Fired → (number : ℕ) → ℕ

@@ -4,7 +4,8 @@ use Rattle.event_graph.specs.declared.event.Event.{Event}
 use Rattle.event_graph.specs.declared.fired.Fired.{Fired}
 use Rattle.event_graph.specs.Numbered.{IsNumbered}
 use Rattle.event_graph.specs.Timely.{AreTimely}
-use Rattle.feedback.specs.FeedbackDelay.{HaveFinished, feedback_delays}
+use Rattle.feedback.specs.FeedbackDelay.{feedback_delays}
+use Rattle.feedback.specs.Finished.{HaveFinished}
 
 -- timely events have all that is asked of a weave
 abbrev pub TimelyEventsHaveFinished : Type 0

@@ -1,2 +1,3 @@
 pub mod FeedbackDelay
+pub mod Finished
 pub mod Laws

@@ -1,6 +1,7 @@
 //! How the delays of an interval are found.
 ghost use Rattle.std.specs.Prelude.{◌≡◌, ◌<◌, IfOk, All};
-ghost use Rattle.feedback.specs.FeedbackDelay.{HaveFinished, feedback_delays};
+ghost use Rattle.feedback.specs.FeedbackDelay.{feedback_delays};
+ghost use Rattle.feedback.specs.Finished.{HaveFinished};
 
 use crate::Delays;
 use event_graph::{FiredList, Graph, laws};

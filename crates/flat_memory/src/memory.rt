@@ -1,6 +1,6 @@
 //! Memory as one list of bytes.
 ghost use Rattle.std.specs.Prelude.{◌≡◌, ◌+◌, ◌-◌, ◌≤◌, ◌<◌, length, slice_index, IfOk, IsTrue};
-ghost use Rattle.zs_num.specs.Request.{IsServable};
+ghost use Rattle.zs_num.specs.Servable.{IsServable};
 ghost use Rattle.flat_memory.specs.FlatMemory.{is_reserved as is_reserved_by, loaded, memory_after, memory_number, memory_reply, written};
 
 use crate::numbers;

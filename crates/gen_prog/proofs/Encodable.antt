@@ -6,7 +6,8 @@ use Rattle.std.proofs.lemmas.List.Elements.{All-cons, All-nil}
 use Rattle.rv_decode.specs.InstructionTable.{decoded, table}
 use Rattle.rv_decode.specs.NamedRows.{format_of, row_named, value_of}
 use Rattle.rv_decode.specs.declared.inst.Inst.{Inst}
-use Rattle.gen_prog.specs.Assembly.{encoded, IsEncodable}
+use Rattle.gen_prog.specs.Assembly.{encoded}
+use Rattle.gen_prog.specs.Encodable.{IsEncodable}
 use Rattle.gen_prog.specs.Generated.{instructions, program}
 
 -- whether the word of an instruction has 32 bits

@@ -2,7 +2,8 @@
 use Rattle.std.proofs.Common.{◌≡◌, ℕ, ◌+◌, ◌%◌, ◌^◌, ◌<◌, ◌≤◌, max, min, nat_le, true, false, length, refl, arith}
 use Rattle.std.proofs.lemmas.Bool.{le-leb, le-ltb, lt-leb}
 use Rattle.std.proofs.Math.Bool.{and-false}
-use Rattle.elf_load.specs.MemoryImage.{IsSoundImage, ranges_overlap, do_overlap, is_placed, is_within}
+use Rattle.elf_load.specs.MemoryImage.{ranges_overlap, is_within}
+use Rattle.elf_load.specs.SoundImage.{IsSoundImage, do_overlap, is_placed}
 use Rattle.gen_prog.specs.Assembly.{assembled}
 use Rattle.gen_prog.specs.Generated.{data_of, generated_image, instructions}
 

@@ -15,7 +15,8 @@ use Rattle.elf_load.specs.MemoryImage.{MemoryImage, ranges_overlap, is_within}
 use Rattle.elf_write.specs.declared.field.Field.{Field}
 use Rattle.elf_write.specs.File.{executable_of, field, fields_bytes, header_fields}
 use Rattle.gen_prog.specs.Assembly.{assembled}
-use Rattle.gen_prog.specs.Generated.{data_of, generated_image, instructions, loaded_in}
+use Rattle.gen_prog.specs.Generated.{data_of, generated_image, instructions}
+use Rattle.gen_prog.specs.Loaded.{loaded_in}
 use Rattle.gen_prog.proofs.Image.{apart, past, within}
 
 order : (a b : ℕ) → (a < b) ⊎ (b ≤ a)

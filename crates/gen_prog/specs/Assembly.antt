@@ -1,9 +1,8 @@
 -- Instructions, with their operands in the order of assembly language, and their words (RISC-V Unprivileged ISA manual,
 -- "RISC-V Assembly Programmer's Handbook").
-use Rattle.std.specs.Prelude.{◌≡◌, ◌<◌, ℕ, ◌+◌, ◌*◌, ◌^◌, ℤ, pos, List, Some}
+use Rattle.std.specs.Prelude.{ℕ, ◌+◌, ◌*◌, ◌^◌, ℤ, pos, List}
 use Rattle.std.specs.List.{flat_map}
 use Rattle.byteorder.specs.Endian.{little_bytes}
-use Rattle.rv_decode.specs.InstructionTable.{decoded}
 use Rattle.rv_decode.specs.NamedRows.{format_of, value_of}
 use Rattle.rv_decode.specs.declared.inst.Inst.{Inst}
 use Rattle.rv_decode.specs.declared.name.Name.{Name}
@@ -44,8 +43,3 @@ encoded i = value_of i.name + registers_of i + immediate_of (format_of i.name) i
 -- the words of instructions as bytes, little-endian
 abbrev pub assembled : List Inst → List ℕ
 assembled instructions = flat_map (λ i. little_bytes 4 (encoded i)) instructions
-
--- the word of an instruction is one, and decodes to it
-pub record IsEncodable (i : Inst) : Type 0 where
-  pub small : encoded i < 2 ^ 32
-  pub decodes : decoded (encoded i) ≡ Some i

@@ -1,12 +1,10 @@
 -- The program of a number n. Each core draws a number in each iteration, by shifts and exclusive ors (G. Marsaglia,
 -- "Xorshift RNGs", 2003), and adds to, stores or loads a doubleword of a table at an address that the number gives. In
 -- the end it exits with its own number.
-use Rattle.std.specs.Prelude.{ℕ, ◌+◌, ◌-◌, ◌*◌, ◌%◌, ◌^◌, nat_lt, true, false, if◌then◌else◌, pos, neg_ℤ, List, [], ◌∷◌, ◌++◌, Result, Ok, Err}
+use Rattle.std.specs.Prelude.{ℕ, ◌+◌, ◌-◌, ◌*◌, ◌%◌, ◌^◌, true, false, pos, neg_ℤ, List, [], ◌∷◌, ◌++◌}
 use Rattle.byteorder.specs.Endian.{little_bytes}
 use Rattle.rv_decode.specs.declared.inst.Inst.{Inst}
 use Rattle.rv_decode.specs.declared.name.Name.TheVariants.{Auipc, Ld, Add, Ori, Addi, Slli, Xor, Srli, Andi, Beq, Bne, AmoaddD, Jal, Sd, Ecall}
-use Rattle.elf_load.specs.declared.bad_elf.BadElf.{BadElf}
-use Rattle.elf_load.specs.declared.bad_elf.BadElf.TheVariants as bad
 use Rattle.elf_load.specs.MemoryImage.{MemoryImage}
 use Rattle.gen_prog.specs.Assembly.{assembled, branch_by, jump_by, registers, store_at, upper, with_immediate, without_operands}
 
@@ -78,11 +76,3 @@ generated_image n base = record {
       ∷ record { vaddr = base + 4096; bytes = data_of n; memsz = 2112; exec = false }
       ∷ [];
 }
-
--- What the checks of an executable say of its file where memory has so many bytes from its base on: the image in this
--- memory, or the first segment that does not lie in it.
-unfoldable pub loaded_in : (n base size : ℕ) → Result MemoryImage BadElf
-loaded_in n base size =
-    if nat_lt size 112 then Err (bad.SegmentPastMemory 0)
-    else if nat_lt size 6208 then Err (bad.SegmentPastMemory 1)
-    else Ok (record (generated_image n base) { size = size })

@@ -4,7 +4,8 @@ use Rattle.rv_decode.specs.InstructionTable.{decoded}
 use Rattle.elf_load.specs.Image.{image_of}
 use Rattle.elf_write.specs.File.{executable_of}
 use Rattle.gen_prog.specs.Assembly.{encoded}
-use Rattle.gen_prog.specs.Generated.{generated_image, instructions, loaded_in}
+use Rattle.gen_prog.specs.Generated.{generated_image, instructions}
+use Rattle.gen_prog.specs.Loaded.{loaded_in}
 
 -- each word of a program decodes to its instruction
 abbrev pub WordsDecode : Type 0

@@ -1,3 +1,5 @@
 pub mod Assembly
+pub mod Encodable
 pub mod Generated
 pub mod Laws
+pub mod Loaded

@@ -2,8 +2,10 @@
 ghost use Rattle.std.specs.Prelude.{◌≡◌, ◌≤◌, ℕ, ◌+◌, ◌%◌, ◌^◌, ◌++◌, All, IfOk, OnOk};
 ghost use Rattle.elf_load.specs.Image.{image_of};
 ghost use Rattle.elf_write.specs.File.{executable_of};
-ghost use Rattle.gen_prog.specs.Assembly.{assembled, encoded, IsEncodable};
-ghost use Rattle.gen_prog.specs.Generated.{data_of, generated_image, instructions, loaded_in};
+ghost use Rattle.gen_prog.specs.Assembly.{assembled, encoded};
+ghost use Rattle.gen_prog.specs.Encodable.{IsEncodable};
+ghost use Rattle.gen_prog.specs.Generated.{data_of, generated_image, instructions};
+ghost use Rattle.gen_prog.specs.Loaded.{loaded_in};
 
 use crate::laws;
 use crate::program::{iterations, mask, program};

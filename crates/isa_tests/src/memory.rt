@@ -1,6 +1,6 @@
 //! Accesses of two cores on known numbers, in 4,096 bytes of memory from 0x10000 on.
 ghost use Rattle.std.specs.Prelude.{◌≡◌, ◌<◌, length, IsTrue};
-ghost use Rattle.zs_num.specs.Request.{IsServable};
+ghost use Rattle.zs_num.specs.Servable.{IsServable};
 
 use crate::checks::is_number;
 use crate::executables::{BASE, loaded};

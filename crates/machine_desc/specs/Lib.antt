@@ -1,4 +1,5 @@
 pub mod Answers
+pub mod ComponentDomains
 pub mod Components
 pub mod Description
 pub mod Keys

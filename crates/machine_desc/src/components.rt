@@ -1,6 +1,7 @@
 //! The components of a machine: its banks, and then its memory controllers.
 ghost use Rattle.std.specs.Prelude.{◌≡◌, ◌<◌, slice_get, Some};
-ghost use Rattle.machine_desc.specs.Components.{component_count, component_domains};
+ghost use Rattle.machine_desc.specs.Components.{component_count};
+ghost use Rattle.machine_desc.specs.ComponentDomains.{component_domains};
 ghost use Rattle.machine_desc.specs.Machine.{IsMachine};
 
 use crate::Machine;

@@ -16,7 +16,7 @@ use Rattle.bound_core.specs.History.{IsHistory, after_history, begun_over_shards
 use Rattle.bound_core.specs.HistoryLaws.{HistoriesArePhases, PhasesAreHistories, RecordedOrderIsHistory}
 use Rattle.bound_core.specs.ReferenceMachine.{BoundState, bound_phase}
 use Rattle.bound_core.specs.ShardWorld.{ShardWorld, begun_world, restarted, shards_serve}
-use Rattle.bound_core.specs.TimedCore.{NumberedCore, timed_of}
+use Rattle.bound_core.specs.NumberedCores.{NumberedCore, timed_of}
 use Rattle.bound_core.specs.Turn.{IsOver}
 use Rattle.bound_core.proofs.Reaching.{whole_phase}
 use Rattle.bound_phase.proofs.RecordedOrder.{all_recorded, length_recorded}

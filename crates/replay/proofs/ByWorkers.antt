@@ -12,7 +12,7 @@ use Rattle.bound_core.specs.HistoryLaws.{HistoriesArePhases}
 use Rattle.bound_core.specs.ReferenceMachine.{BoundState}
 use Rattle.bound_core.specs.ShardPort.{AreShardsOf, base_in, size_in}
 use Rattle.bound_core.specs.ShardWorld.{ShardWorld, begun_world, restarted}
-use Rattle.bound_core.specs.TimedCore.{NumberedCore, timed_of}
+use Rattle.bound_core.specs.NumberedCores.{NumberedCore, timed_of}
 use Rattle.bound_core.specs.Turn.{IsOver}
 use Rattle.bound_core.proofs.Lists.{map_again}
 use Rattle.bound_core.proofs.ShardPorts.{own_memory, shards_restarted}

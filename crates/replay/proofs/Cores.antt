@@ -9,7 +9,8 @@ use Rattle.std.proofs.lemmas.List.FromFn.{length-enumerate_from, length-range_wi
 use Rattle.std.proofs.lemmas.List.Folds.{list_all-map}
 use Rattle.std.proofs.lemmas.Option.{get_or_from_slice_get, slice_get-get_or, slice_get-map, slice_get_within}
 use Rattle.rv_core.specs.CoreState.{CoreState}
-use Rattle.bound_core.specs.TimedCore.{NumberedCore, TimedCore, delayed, timed_of}
+use Rattle.bound_core.specs.TimedCore.{TimedCore, delayed}
+use Rattle.bound_core.specs.NumberedCores.{NumberedCore, timed_of}
 use Rattle.bound_core.specs.Turn.{IsOver}
 use Rattle.replay.specs.Limits.{cycle_limit}
 use Rattle.replay.specs.ReferenceRun.{all_delayed}

@@ -5,7 +5,8 @@ use Rattle.zs_num.specs.declared.entry.Entry.{Entry}
 use Rattle.machine_desc.specs.declared.machine.Machine.{Machine}
 use Rattle.machine_desc.specs.Machine.{IsMachine}
 use Rattle.component.specs.declared.comp.Comp.{Comp}
-use Rattle.component.specs.ComponentStep.{comp_greatest, comp_latency, comp_serves, comp_step, free_of}
+use Rattle.component.specs.ComponentStep.{comp_step, free_of}
+use Rattle.component.specs.Serving.{comp_greatest, comp_latency, comp_serves}
 use Rattle.component.specs.Components.{AreComponents}
 use Rattle.event_graph.specs.declared.event.Event.{Event}
 use Rattle.event_graph.specs.declared.fired.Fired.{Fired}
@@ -15,7 +16,8 @@ use Rattle.event_graph.specs.Fits.{GraphFits}
 use Rattle.event_graph.specs.Laws.{MachineStepsStaySmall, PlainAccessesHaveFewEvents, PlainGraphsFit}
 use Rattle.event_graph.specs.Near.{AreNear}
 use Rattle.event_graph.specs.Numbered.{IsNumbered}
-use Rattle.event_graph.specs.OneListWeave.{AreSmallSteps, fired_of, woven}
+use Rattle.event_graph.specs.OneListWeave.{fired_of, woven}
+use Rattle.event_graph.specs.SmallSteps.{AreSmallSteps}
 use Rattle.event_graph.specs.Timing.{pieces_of}
 use Rattle.feedback.specs.FeedbackDelay.{feedback_delays}
 use Rattle.stats.specs.Counts.{Interval}

@@ -18,7 +18,9 @@ use Rattle.component.specs.declared.comp.Comp.{Comp}
 use Rattle.component.specs.ComponentStep.{comp_step, free_of}
 use Rattle.component.specs.Components.{AreComponents, AreFresh}
 use Rattle.event_graph.specs.OneListWeave.{comps_after}
-use Rattle.stats.specs.Counts.{Counts, Interval, added, comp_total, core_total, counts_of, CountsFit, total_accesses, total_events}
+use Rattle.stats.specs.Counts.{Counts, Interval, comp_total, core_total, counts_of, total_accesses, total_events}
+use Rattle.stats.specs.CountsFit.{CountsFit}
+use Rattle.stats.specs.Added.{added}
 use Rattle.stats.specs.Laws.{CountersAreSums, SumsFit, WasRun}
 use Rattle.rv_core.specs.declared.why.Why.{Why}
 use Rattle.rv_core.specs.Step.{initial_core}
@@ -34,7 +36,8 @@ use Rattle.bound_core.specs.ShardPort.{AreShardsOf, base_of, size_of}
 use Rattle.bound_core.specs.ShardWorld as served
 use Rattle.bound_core.specs.ShardWorld.{ShardWorld, begun_world, no_shard, restarted}
 use Rattle.bound_core.specs.Correspondence.{AreRelated, EndAlike}
-use Rattle.bound_core.specs.TimedCore.{NumberedCore, TimedCore, first_core}
+use Rattle.bound_core.specs.TimedCore.{TimedCore, first_core}
+use Rattle.bound_core.specs.NumberedCores.{NumberedCore}
 use Rattle.bound_core.specs.Turn.{IsOver}
 use Rattle.access_log.specs.History.{bank_of_entry, each_after, of_number}
 use Rattle.access_log.specs.RecordedOrder.{no_stamps, recorded_order}

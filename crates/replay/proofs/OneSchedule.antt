@@ -19,7 +19,8 @@ use Rattle.event_graph.specs.Timing.{time_by}
 use Rattle.rv_core.specs.CoreState.{InProgress}
 use Rattle.bound_core.specs.MachineWorld.{MachineWorld, serve}
 use Rattle.bound_core.specs.ReferenceMachine.{BoundState, access_served, bound_from}
-use Rattle.bound_core.specs.TimedCore.{TimedCore, core_after_access, after_instruction, after_instructions, asks, goes_on_alone, first_core, left_of_instruction, next_request, ran_to}
+use Rattle.bound_core.specs.TimedCore.{TimedCore, core_after_access, after_instruction, after_instructions, asks, goes_on_alone, first_core, next_request, ran_to}
+use Rattle.bound_core.specs.IntervalBounds.{left_of_instruction}
 use Rattle.bound_core.proofs.Accesses.{left_answered}
 use Rattle.bound_core.proofs.Instructions.{cycle_at_most, late_stops, ran_stays}
 use Rattle.access_log.specs.RecordedOrder.{recorded_order}

@@ -14,7 +14,9 @@ use Rattle.bound_core.specs.Reaching.{Reaches}
 use Rattle.bound_core.specs.ReferenceMachine.{BoundState}
 use Rattle.bound_core.specs.ShardPort.{base_of, room_of, size_of}
 use Rattle.bound_core.specs.ShardWorld.{ShardWorld, shards_serve}
-use Rattle.bound_core.specs.TimedCore.{NumberedCore, TimedCore, latest_clock, left_of_instruction, most_accesses}
+use Rattle.bound_core.specs.TimedCore.{TimedCore}
+use Rattle.bound_core.specs.NumberedCores.{NumberedCore}
+use Rattle.bound_core.specs.IntervalBounds.{latest_clock, left_of_instruction, most_accesses}
 use Rattle.bound_core.specs.Turn.{IsOver, RunsToEnd, TurnsToEnd}
 use Rattle.bound_core.proofs.Accesses.{clock_within, latest_small}
 use Rattle.bound_core.proofs.Lists.{set_same}

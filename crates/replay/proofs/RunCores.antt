@@ -14,7 +14,8 @@ use Rattle.bound_core.specs.Reaching.{Reaches}
 use Rattle.bound_core.specs.ReferenceMachine.{BoundState}
 use Rattle.bound_core.specs.ShardPort.{base_of, size_of}
 use Rattle.bound_core.specs.ShardWorld.{ShardWorld, shards_serve}
-use Rattle.bound_core.specs.TimedCore.{NumberedCore, TimedCore, timed_of}
+use Rattle.bound_core.specs.TimedCore.{TimedCore}
+use Rattle.bound_core.specs.NumberedCores.{NumberedCore, timed_of}
 use Rattle.bound_core.specs.Turn.{IsOver}
 use Rattle.bound_core.proofs.Lists.{get_set}
 use Rattle.bound_core.proofs.Reaching.{at_itself}

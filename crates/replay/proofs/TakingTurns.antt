@@ -14,7 +14,9 @@ use Rattle.bound_core.specs.Reaching.{Reaches}
 use Rattle.bound_core.specs.ReferenceMachine.{BoundState, are_done, bound_from, bound_phase}
 use Rattle.bound_core.specs.ShardPort.{base_of, room_of, size_of}
 use Rattle.bound_core.specs.ShardWorld.{ShardWorld, shards_serve}
-use Rattle.bound_core.specs.TimedCore.{NumberedCore, TimedCore, asks, goes_on_alone, latest_clock, most_accesses, next_request, ran_to, timed_of}
+use Rattle.bound_core.specs.TimedCore.{TimedCore, asks, goes_on_alone, next_request, ran_to}
+use Rattle.bound_core.specs.NumberedCores.{NumberedCore, timed_of}
+use Rattle.bound_core.specs.IntervalBounds.{latest_clock, most_accesses}
 use Rattle.bound_core.specs.Turn.{IsOver}
 use Rattle.bound_core.proofs.Accesses.{clock_within}
 use Rattle.bound_core.proofs.Instructions.{late_stops, ran_stays}

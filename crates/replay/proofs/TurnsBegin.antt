@@ -12,7 +12,9 @@ use Rattle.machine_desc.specs.declared.machine.Machine.{Machine}
 use Rattle.machine_desc.specs.Machine.{IsMachine}
 use Rattle.bound_core.specs.ShardPort.{base_of, room_of, size_of}
 use Rattle.bound_core.specs.ShardWorld.{shards_serve}
-use Rattle.bound_core.specs.TimedCore.{NumberedCore, TimedCore, latest_clock, most_accesses}
+use Rattle.bound_core.specs.TimedCore.{TimedCore}
+use Rattle.bound_core.specs.NumberedCores.{NumberedCore}
+use Rattle.bound_core.specs.IntervalBounds.{latest_clock, most_accesses}
 use Rattle.bound_core.specs.Turn.{IsOver}
 use Rattle.bound_core.proofs.Reaching.{at_itself}
 use Rattle.replay.specs.Port.{LoggedPortState}

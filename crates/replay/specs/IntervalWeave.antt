@@ -5,7 +5,8 @@ use Rattle.zs_num.specs.declared.entry.Entry.{Entry}
 use Rattle.machine_desc.specs.declared.machine.Machine.{Machine}
 use Rattle.machine_desc.specs.Components.{component_count}
 use Rattle.component.specs.declared.comp.Comp.{Comp}
-use Rattle.component.specs.ComponentStep.{comp_greatest, comp_latency, comp_serves, comp_step}
+use Rattle.component.specs.ComponentStep.{comp_step}
+use Rattle.component.specs.Serving.{comp_greatest, comp_latency, comp_serves}
 use Rattle.component.specs.Components.{AreComponents}
 use Rattle.event_graph.specs.declared.event.Event.{Event}
 use Rattle.event_graph.specs.declared.fired.Fired.{Fired}
@@ -13,7 +14,8 @@ use Rattle.event_graph.specs.declared.plain.Plain.{Plain}
 use Rattle.event_graph.specs.EventGraph.{all_events}
 use Rattle.event_graph.specs.Fits.{GraphFits}
 use Rattle.event_graph.specs.Numbered.{IsNumbered}
-use Rattle.event_graph.specs.OneListWeave.{AreSmallSteps, comps_after, fired_of, woven}
+use Rattle.event_graph.specs.OneListWeave.{comps_after, fired_of, woven}
+use Rattle.event_graph.specs.SmallSteps.{AreSmallSteps}
 use Rattle.event_graph.specs.Timing.{pieces_of}
 use Rattle.event_graph.specs.Timely.{AreTimely}
 use Rattle.stats.specs.Counts.{Interval}

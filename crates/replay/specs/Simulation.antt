@@ -17,7 +17,8 @@ use Rattle.bound_core.specs.Reaching.{Reaches}
 use Rattle.bound_core.specs.ReferenceMachine.{BoundState, bound_phase}
 use Rattle.bound_core.specs.ShardPort.{AreShardsOf, base_of, room_of, size_of}
 use Rattle.bound_core.specs.ShardWorld.{ShardWorld, begun_world, restarted, shards_serve}
-use Rattle.bound_core.specs.TimedCore.{NumberedCore, TimedCore, beside_cycles, timed_of}
+use Rattle.bound_core.specs.TimedCore.{TimedCore, beside_cycles}
+use Rattle.bound_core.specs.NumberedCores.{NumberedCore, timed_of}
 use Rattle.bound_core.specs.Turn.{IsOver}
 use Rattle.access_log.specs.RecordedOrder.{recorded_order}
 use Rattle.stats.specs.Counts.{counts_of, total_accesses, total_events}

@@ -1,10 +1,12 @@
 //! How the events of an interval fire: by one worker on one list, or by several in their domains.
 ghost use Rattle.std.specs.Prelude.{◌≡◌, ◌<◌, ◌≤◌, ◌^◌, IfOk, OnOk, length, map};
 ghost use Rattle.machine_desc.specs.Machine.{IsMachine};
-ghost use Rattle.component.specs.ComponentStep.{comp_greatest, comp_latency, comp_serves, comp_step};
+ghost use Rattle.component.specs.ComponentStep.{comp_step};
+ghost use Rattle.component.specs.Serving.{comp_greatest, comp_latency, comp_serves};
 ghost use Rattle.component.specs.Components.{AreComponents};
 ghost use Rattle.event_graph.specs.Fits.{GraphFits};
-ghost use Rattle.event_graph.specs.OneListWeave.{AreSmallSteps, comps_after, fired_of, woven};
+ghost use Rattle.event_graph.specs.OneListWeave.{comps_after, fired_of, woven};
+ghost use Rattle.event_graph.specs.SmallSteps.{AreSmallSteps};
 
 use crate::list_gate::ListGate;
 use component::{Comp, Comps};

@@ -4,7 +4,7 @@ ghost use Rattle.zs_num.specs.declared.entry.Entry.{Entry};
 ghost use Rattle.bound_core.specs.ReferenceMachine.{BoundState, bound_phase};
 ghost use Rattle.bound_core.specs.ShardWorld.{ShardWorld, shards_serve};
 ghost use Rattle.bound_core.specs.ShardPort.{base_of, room_of, size_of};
-ghost use Rattle.bound_core.specs.TimedCore.{timed_of};
+ghost use Rattle.bound_core.specs.NumberedCores.{timed_of};
 ghost use Rattle.bound_core.specs.Turn.{IsOver};
 ghost use Rattle.replay.specs.Simulation.{phase_of};
 ghost use Rattle.replay.specs.Turns.{HaveTaken, IsOnItsWay, TakesAccess, TakesNone, chosen, time_by_plain};

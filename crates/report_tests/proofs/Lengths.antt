@@ -5,7 +5,8 @@ use Rattle.std.proofs.lemmas.List.{length-map}
 use Rattle.std.proofs.lemmas.List.FromFn.{length-enumerate_from}
 use Rattle.std.proofs.lemmas.Slice.Zip.{length-zip}
 use Rattle.component.specs.declared.comp.Comp.{Comp}
-use Rattle.stats.specs.Counts.{Interval, Counts, added, core_count_after, comp_count_after}
+use Rattle.stats.specs.Counts.{Interval, Counts}
+use Rattle.stats.specs.Added.{added, core_count_after, comp_count_after}
 
 -- a list made of another's elements and their numbers
 length_numbered : {X Y : Type 0} (f : ℕ × X → Y) (xs : List X) → length (map f (enumerate_from 0 xs)) ≡ length xs

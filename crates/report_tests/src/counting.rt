@@ -5,7 +5,8 @@ ghost use Rattle.component.specs.Components.{AreFresh};
 ghost use Rattle.machine_desc.specs.Machine.{IsMachine};
 ghost use Rattle.event_graph.specs.Numbered.{IsNumbered};
 ghost use Rattle.event_graph.specs.Timely.{AreTimely};
-ghost use Rattle.stats.specs.Counts.{CountsFit, added, no_counts};
+ghost use Rattle.stats.specs.CountsFit.{CountsFit};
+ghost use Rattle.stats.specs.Added.{added, no_counts};
 
 use crate::machines::{machine, no_counters};
 use component::{Bank, Comp, Comps, Controller, components};

@@ -1,7 +1,7 @@
 -- What the register-immediate and register-register instructions compute (RISC-V Unprivileged ISA
 -- manual, "Integer Computational Instructions" of RV32I and RV64I, and the "M" extension). The
 -- operands and the result are numbers of 64 bits. An immediate is b, sign-extended.
-use Rattle.std.specs.Prelude.{ℕ, Bool, true, false, nat_lt, if◌then◌else◌, ℤ, pos, ◌*ℤ◌, int_lt, bit_and, bit_or, bit_xor}
+use Rattle.std.specs.Prelude.{ℕ, nat_lt, if◌then◌else◌, ℤ, pos, ◌*ℤ◌, int_lt, bit_and, bit_or, bit_xor}
 use Rattle.std.specs.Int.{w32, w64, cast_signed}
 use Rattle.rv_decode.specs.declared.name.Name.{Name}
 use Rattle.rv_decode.specs.declared.name.Name.TheVariants.{Addi, Slti, Sltiu, Xori, Ori, Andi, Slli, Srli, Srai, Addiw, Slliw, Srliw, Sraiw, Add, Sub, Sll, Slt, Sltu, Xor, Srl, Sra, Or, And, Addw, Subw, Sllw, Srlw, Sraw, Mul, Mulh, Mulhsu, Mulhu, Div, Divu, Rem, Remu, Mulw, Divw, Divuw, Remw, Remuw}
@@ -70,48 +70,3 @@ result_of Remw a b = on_words (signed_remainder w32) a b
 result_of Remuw a b = on_words (remainder w32) a b
 -- no other instruction computes by two operands alone
 result_of _ a b = 0
-
--- the instructions of the opcodes OP-IMM, OP-IMM-32, OP and OP-32
-abbrev pub is_arithmetic : Name → Bool
-is_arithmetic Addi = true
-is_arithmetic Slti = true
-is_arithmetic Sltiu = true
-is_arithmetic Xori = true
-is_arithmetic Ori = true
-is_arithmetic Andi = true
-is_arithmetic Slli = true
-is_arithmetic Srli = true
-is_arithmetic Srai = true
-is_arithmetic Addiw = true
-is_arithmetic Slliw = true
-is_arithmetic Srliw = true
-is_arithmetic Sraiw = true
-is_arithmetic Add = true
-is_arithmetic Sub = true
-is_arithmetic Sll = true
-is_arithmetic Slt = true
-is_arithmetic Sltu = true
-is_arithmetic Xor = true
-is_arithmetic Srl = true
-is_arithmetic Sra = true
-is_arithmetic Or = true
-is_arithmetic And = true
-is_arithmetic Addw = true
-is_arithmetic Subw = true
-is_arithmetic Sllw = true
-is_arithmetic Srlw = true
-is_arithmetic Sraw = true
-is_arithmetic Mul = true
-is_arithmetic Mulh = true
-is_arithmetic Mulhsu = true
-is_arithmetic Mulhu = true
-is_arithmetic Div = true
-is_arithmetic Divu = true
-is_arithmetic Rem = true
-is_arithmetic Remu = true
-is_arithmetic Mulw = true
-is_arithmetic Divw = true
-is_arithmetic Divuw = true
-is_arithmetic Remw = true
-is_arithmetic Remuw = true
-is_arithmetic _ = false

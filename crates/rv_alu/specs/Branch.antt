@@ -1,5 +1,5 @@
 -- When a conditional branch is taken (RISC-V Unprivileged ISA manual, "Conditional Branches").
-use Rattle.std.specs.Prelude.{ℕ, Bool, true, false, not, ◌==◌, nat_lt, nat_le, int_lt, int_le}
+use Rattle.std.specs.Prelude.{ℕ, Bool, false, not, ◌==◌, nat_lt, nat_le, int_lt, int_le}
 use Rattle.std.specs.Int.{w64, cast_signed}
 use Rattle.rv_decode.specs.declared.name.Name.{Name}
 use Rattle.rv_decode.specs.declared.name.Name.TheVariants.{Beq, Bne, Blt, Bge, Bltu, Bgeu}
@@ -12,13 +12,3 @@ is_taken Bge a b = int_le (cast_signed w64 b) (cast_signed w64 a)
 is_taken Bltu a b = nat_lt a b
 is_taken Bgeu a b = nat_le b a
 is_taken _ a b = false
-
--- the instructions of the opcode BRANCH
-abbrev pub is_branch : Name → Bool
-is_branch Beq = true
-is_branch Bne = true
-is_branch Blt = true
-is_branch Bge = true
-is_branch Bltu = true
-is_branch Bgeu = true
-is_branch _ = false

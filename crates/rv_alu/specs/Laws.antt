@@ -2,6 +2,11 @@
 use Rattle.std.specs.Prelude.{◌≡◌, ℕ, ◌-◌, ◌^◌, ◌<◌, ℤ, pos, ◌+ℤ◌, ◌*ℤ◌, ◌≤ℤ◌, unsigned_abs}
 use Rattle.std.specs.Int.{Width}
 use mir.Val.{bits, hbits}
+use Rattle.rv_alu.specs.Operations.{low_word, sign_extended}
+
+-- the low 32 bits of a number of 64, sign-extended
+abbrev pub signed_word : ℕ → ℕ
+signed_word x = sign_extended (low_word x)
 
 -- the dividend is the quotient times the divisor plus the remainder, which is nearer to 0 than the
 -- divisor and has the dividend's sign

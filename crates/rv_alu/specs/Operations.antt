@@ -70,7 +70,3 @@ low_word x = x % 2 ^ 32
 -- a number of 32 bits, sign-extended to 64
 abbrev pub sign_extended : ℕ → ℕ
 sign_extended x = residue w64 (cast_signed w32 x)
-
--- the low 32 bits of a number of 64, sign-extended
-abbrev pub signed_word : ℕ → ℕ
-signed_word x = sign_extended (low_word x)

@@ -1,6 +1,7 @@
 //! The results of the register-immediate and register-register instructions.
 ghost use Rattle.std.specs.Prelude.{◌≡◌, IsTrue};
-ghost use Rattle.rv_alu.specs.Arithmetic.{is_arithmetic, result_of};
+ghost use Rattle.rv_alu.specs.Arithmetic.{result_of};
+ghost use Rattle.rv_alu.specs.Computing.{is_arithmetic};
 
 use crate::{doublewords, words};
 use rv_decode::Name;

@@ -1,6 +1,7 @@
 //! The conditions of the branches.
 ghost use Rattle.std.specs.Prelude.{◌≡◌, IsTrue};
-ghost use Rattle.rv_alu.specs.Branch.{is_branch, is_taken};
+ghost use Rattle.rv_alu.specs.Branch.{is_taken};
+ghost use Rattle.rv_alu.specs.Computing.{is_branch};
 
 use rv_decode::Name;
 

@@ -5,14 +5,15 @@
 ghost use Rattle.std.specs.Prelude.{◌==◌, [], ◌∷◌, ◌≡◌, ◌≢◌, ℕ, ◌+◌, ◌-◌, ◌*◌, ◌%◌, ◌^◌, ◌<◌, ◌≤◌, not, pos, negsuc, ◌*ℤ◌};
 ghost use Rattle.std.specs.Int.{w64};
 ghost use Rattle.std.specs.List.{list_any};
-ghost use Rattle.rv_decode.specs.InstructionWord.{opcode_of};
+ghost use Rattle.rv_decode.specs.Fields.{opcode_of};
 ghost use Rattle.rv_decode.specs.NamedRows.{value_of};
 ghost use Rattle.rv_decode.specs.Opcodes as opcode;
 ghost use Rattle.rv_decode.specs.declared.name.Name.{Name};
-ghost use Rattle.rv_alu.specs.Arithmetic.{is_arithmetic, result_of, signed_64};
-ghost use Rattle.rv_alu.specs.Branch.{is_branch, is_taken};
-ghost use Rattle.rv_alu.specs.Laws.{AreHalves, IsDivision, IsOverflow};
-ghost use Rattle.rv_alu.specs.Operations.{low_word, signed_word};
+ghost use Rattle.rv_alu.specs.Arithmetic.{result_of, signed_64};
+ghost use Rattle.rv_alu.specs.Computing.{is_arithmetic, is_branch};
+ghost use Rattle.rv_alu.specs.Branch.{is_taken};
+ghost use Rattle.rv_alu.specs.Laws.{AreHalves, IsDivision, IsOverflow, signed_word};
+ghost use Rattle.rv_alu.specs.Operations.{low_word};
 
 use rv_decode::Name;
 

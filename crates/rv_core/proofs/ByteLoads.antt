@@ -3,10 +3,10 @@ use Rattle.std.proofs.Common.{◌≡◌, ◌<◌, ◌≤◌, ◌+◌, ◌-◌, �
 use Rattle.zs_num.specs.declared.request.Request.TheVariants.{Load}
 use Rattle.rv_core.specs.declared.memory_range.MemoryRange.{MemoryRange}
 use Rattle.zs_num.specs.declared.pairing.Pairing.{Pairing}
-use Rattle.rv_core.specs.Accesses.{byte_loads, AreServableIn, IsServableIn}
+use Rattle.rv_core.specs.Accesses.{byte_loads}
+use Rattle.rv_core.specs.Sound.{AreServableIn, IsServableIn, IsSoundCore}
 use Rattle.rv_core.specs.CoreState.{CoreState, ToConsole}
 use Rattle.zs_num.specs.PairedRight.{ArePairedRight}
-use Rattle.rv_core.specs.Sound.{IsSoundCore}
 
 -- a byte of memory is in a line
 pub load_served : (memory : MemoryRange) (addr : ℕ) → memory.base ≤ addr → addr + 1 ≤ memory.base + memory.size → IsServableIn memory (Load addr 1)

@@ -4,7 +4,8 @@ use Rattle.std.specs.Prelude.{slice_index, if◌then◌else◌, ◌||◌}
 use Rattle.std.proofs.Math.Nat.{min-le_right}
 use Rattle.std.proofs.lemmas.Bool.{and_parts, eqb-true, leb-false, leb-true}
 use Rattle.std.proofs.lemmas.List.{get_or-set_other, length-set}
-use Rattle.zs_num.specs.Request.{addr_of, width_of, IsAligned, IsNaturallyAligned}
+use Rattle.zs_num.specs.Request.{addr_of, width_of}
+use Rattle.zs_num.specs.Servable.{IsAligned, IsNaturallyAligned}
 use Rattle.zs_num.specs.declared.request.Request.{Request}
 use Rattle.rv_decode.specs.declared.inst.Inst.{Inst}
 use Rattle.rv_decode.specs.declared.name.Name.{Name}
@@ -15,11 +16,11 @@ use Rattle.rv_core.specs.declared.progress.Destination.{Destination}
 use Rattle.rv_core.specs.declared.progress.Reply.{Reply}
 use Rattle.rv_core.specs.declared.why.Why.{Why}
 use Rattle.rv_core.specs.declared.why.Why.TheVariants.{Exit}
-use Rattle.rv_core.specs.Accesses.{byte_loads, is_in_line, is_in_memory, load_requests, store_requests, AreServableIn}
+use Rattle.rv_core.specs.Accesses.{byte_loads, is_in_line, is_in_memory, load_requests, store_requests}
+use Rattle.rv_core.specs.Sound.{AreServableIn, EndsInRegister, IsSoundCore}
 use Rattle.rv_core.specs.CoreState.{CoreState, Ending, ToRegister, ToConsole, ToNothing}
 use Rattle.rv_core.specs.Effect.{accesses, address, atomic, branches, calls, effect, ended, following, goes_through, goes_to, halts, jumps, loads, register, relative, stores, with_register, writes}
 use Rattle.zs_num.specs.PairedRight.{ArePairedRight, IsPairedRight}
-use Rattle.rv_core.specs.Sound.{EndsInRegister, IsSoundCore}
 use Rattle.rv_core.proofs.ByteLoads.{loads_length, loads_paired, loads_served}
 
 -- a core stays sound, and keeps its memory and its pairing

@@ -9,14 +9,16 @@ use Rattle.rv_core.specs.declared.memory_range.MemoryRange.{MemoryRange}
 use Rattle.rv_core.specs.declared.program.Fetched.{Fetched}
 use Rattle.rv_core.specs.declared.program.Fetched.TheVariants.{Outside, NoInstruction, Instruction}
 use Rattle.rv_core.specs.declared.why.Why.TheVariants.{Fetch, Illegal}
-use Rattle.rv_core.specs.Accesses.{reply_to, AreServableIn}
+use Rattle.rv_core.specs.Accesses.{reply_to}
+use Rattle.rv_core.specs.Sound.{AreServableIn, left_of, EndsInRegister, IsSoundCore}
 use Rattle.rv_core.specs.CoreState.{CoreState, InProgress}
-use Rattle.rv_core.specs.Fetch.{fetched_at, of_decoded, of_word, HasRegisters}
+use Rattle.rv_core.specs.Fetch.{fetched_at, of_decoded, of_word}
+use Rattle.rv_core.specs.Decoded.{HasRegisters}
 use Rattle.rv_core.specs.Laws.{Asks, none, advancing, answering, IsReached, starts, advances, is_answered}
 use Rattle.zs_num.specs.PairedRight.{pairing_after_all, ArePairedRight, IsPairedRight}
 use Rattle.zs_num.specs.Pairing.{pairing_after}
-use Rattle.rv_core.specs.Sound.{left_of, EndsInRegister, IsSoundCore}
-use Rattle.rv_core.specs.Step.{advanced, after_fetch, after_reply, answered, executed, initial_core, is_free, replies_with}
+use Rattle.rv_core.specs.Step.{after_fetch, after_reply, answered, executed, initial_core, is_free, replies_with}
+use Rattle.rv_core.specs.Asked.{advanced}
 use Rattle.rv_core.proofs.Kept.{cond-keeps, effect-keeps, goes_through-keeps, halts-keeps, Keeps}
 
 pub initial-sound : (number cores entry sp : ℕ) (memory : MemoryRange) → memory.base + memory.size ≤ 2 ^ 48 → IsSoundCore (initial_core number cores entry sp memory)

@@ -1,7 +1,7 @@
 -- The accesses of an instruction: which bytes each one reads or writes, and what number their replies make. Memory is
 -- little-endian (RISC-V Unprivileged ISA manual, "Load and Store Instructions").
 use Rattle.std.specs.Prelude.{ℕ, zero, suc, ◌+◌, ◌-◌, ◌*◌, ◌/◌, ◌%◌, ◌^◌, nat_le, nat_lt, Bool, ◌&&◌, if◌then◌else◌, List, [], ◌∷◌}
-use Rattle.zs_num.specs.Request.{line_bytes, width_of, IsServable}
+use Rattle.zs_num.specs.Request.{line_bytes, width_of}
 use Rattle.zs_num.specs.declared.request.Request.{Request}
 use Rattle.zs_num.specs.declared.request.Request.TheVariants.{Load, Store}
 use Rattle.rv_core.specs.declared.memory_range.MemoryRange.{MemoryRange}
@@ -62,12 +62,3 @@ joined (reply ∷ replies) = reply.number + 2 ^ (8 * reply.width) * joined repli
 unfoldable pub sign_extended_bytes : (width number : ℕ) → ℕ
 sign_extended_bytes width number =
     if nat_lt number (2 ^ (8 * width - 1)) then number else (number + (2 ^ 64 - 2 ^ (8 * width))) % 2 ^ 64
-
--- an access that memory can serve
-abbrev pub IsServableIn : MemoryRange → Request → Type 0
-IsServableIn memory request = IsServable memory.base memory.size request
-
--- accesses that memory can serve
-abbrev pub AreServableIn : MemoryRange → List Request → Type 0
-AreServableIn memory [] = Unit {0}
-AreServableIn memory (request ∷ requests) = IsServableIn memory request × AreServableIn memory requests

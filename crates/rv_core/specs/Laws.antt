@@ -9,7 +9,8 @@ use Rattle.rv_core.specs.declared.memory_range.MemoryRange.{MemoryRange}
 use Rattle.rv_core.specs.declared.progress.Reply.{Reply}
 use Rattle.rv_core.specs.Accesses.{reply_to}
 use Rattle.rv_core.specs.CoreState.{CoreState, InProgress}
-use Rattle.rv_core.specs.Step.{advanced, answered, initial_core}
+use Rattle.rv_core.specs.Step.{answered, initial_core}
+use Rattle.rv_core.specs.Asked.{advanced}
 
 -- A core came to a state: from the start, by instructions of any program and by replies, whatever they are.
 pub data IsReached : CoreState → Type 0 where

@@ -1,5 +1,7 @@
+pub mod Asked
 pub mod CoreState
 pub mod Accesses
+pub mod Decoded
 pub mod Fetch
 pub mod Effect
 pub mod Step

@@ -1,12 +1,21 @@
 -- What every core keeps.
-use Rattle.std.specs.Prelude.{◌≡◌, ◌+◌, ◌^◌, ◌≤◌, ◌<◌, List, ◌∷◌, length, slice_index, IfSome}
+use Rattle.std.specs.Prelude.{◌≡◌, ◌+◌, ◌^◌, ◌≤◌, ◌<◌, List, ◌∷◌, length, slice_index, IfSome, []}
 use Rattle.zs_num.specs.declared.request.Request.{Request}
 use Rattle.rv_core.specs.declared.ask.Ask.{Ask}
 use Rattle.rv_core.specs.declared.ask.Ask.TheVariants.{Local, Access, Halted}
 use Rattle.rv_core.specs.declared.memory_range.MemoryRange.{MemoryRange}
-use Rattle.rv_core.specs.Accesses.{AreServableIn, IsServableIn}
 use Rattle.rv_core.specs.CoreState.{CoreState, Ending, ToRegister, ToConsole, ToNothing, InProgress}
 use Rattle.zs_num.specs.PairedRight.{ArePairedRight}
+use Rattle.zs_num.specs.Servable.{IsServable}
+
+-- an access that memory can serve
+abbrev pub IsServableIn : MemoryRange → Request → Type 0
+IsServableIn memory request = IsServable memory.base memory.size request
+
+-- accesses that memory can serve
+abbrev pub AreServableIn : MemoryRange → List Request → Type 0
+AreServableIn memory [] = Unit {0}
+AreServableIn memory (request ∷ requests) = IsServableIn memory request × AreServableIn memory requests
 
 -- the accesses that are left of an instruction in progress
 abbrev pub left_of : InProgress → List Request

@@ -1,8 +1,6 @@
--- What a core does when it is asked for its next step, and when an access has its reply.
-use Rattle.std.specs.Prelude.{ℕ, ◌%◌, Bool, ◌&&◌, if◌then◌else◌, List, [], ◌∷◌, ◌++◌, replicate, slice_set, Option, Some, None, is_none}
+-- What a core does at its next instruction, and when an access has its reply.
+use Rattle.std.specs.Prelude.{ℕ, ◌%◌, Bool, ◌&&◌, List, [], ◌∷◌, ◌++◌, replicate, slice_set, Option, Some, None, is_none}
 use Rattle.elf_load.specs.MemoryImage.{MemoryImage}
-use Rattle.rv_core.specs.declared.ask.Ask.{Ask}
-use Rattle.rv_core.specs.declared.ask.Ask.TheVariants as ask
 use Rattle.rv_core.specs.declared.memory_range.MemoryRange.{MemoryRange}
 use Rattle.rv_core.specs.declared.program.Fetched.{Fetched}
 use Rattle.rv_core.specs.declared.program.Fetched.TheVariants.{Outside, NoInstruction, Instruction}
@@ -43,19 +41,6 @@ after_fetch (Instruction inst) core = effect inst.name inst core
 -- the core after its next instruction, or up to the instruction's first access
 abbrev pub executed : MemoryImage → CoreState → CoreState
 executed image core = after_fetch (fetched_at image core.pc) core
-
--- the core when it was asked: an instruction in progress waits for its reply, and a halted core stays as it is
-abbrev pub advanced : MemoryImage → CoreState → CoreState
-advanced image core = if is_free core then executed image core else core
-
--- what a core asks for
-abbrev pub asked_in_progress : (instruction : Option InProgress) → Ask
-asked_in_progress None = ask.Local
-asked_in_progress (Some instruction) = ask.Access instruction.next
-
-abbrev pub asked : (halted : Option Why) → (instruction : Option InProgress) → Ask
-asked None instruction = asked_in_progress instruction
-asked (Some why) instruction = ask.Halted why
 
 -- the replies so far and one more: only those that go to a register are kept
 abbrev pub replies_with : Ending → List Reply → Reply → List Reply

@@ -1,6 +1,6 @@
 //! The instructions that compute: of registers, of immediates, and of the "M" extension.
 ghost use Rattle.std.specs.Prelude.{◌≡◌, ◌<◌, IsTrue};
-ghost use Rattle.rv_alu.specs.Arithmetic.{is_arithmetic};
+ghost use Rattle.rv_alu.specs.Computing.{is_arithmetic};
 ghost use Rattle.rv_core.specs.Effect.{computes, computes_immediate};
 ghost use Rattle.rv_core.specs.Step.{is_free};
 

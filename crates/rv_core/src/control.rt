@@ -1,6 +1,6 @@
 //! The instructions that transfer control: jumps and branches.
 ghost use Rattle.std.specs.Prelude.{◌≡◌, ◌<◌, IsTrue};
-ghost use Rattle.rv_alu.specs.Branch.{is_branch};
+ghost use Rattle.rv_alu.specs.Computing.{is_branch};
 ghost use Rattle.rv_core.specs.Effect.{address, branches, even, jumps, relative};
 ghost use Rattle.rv_core.specs.Step.{is_free};
 

@@ -1,6 +1,7 @@
 //! A program whose words are decoded once.
 ghost use Rattle.std.specs.Prelude.{◌≡◌, ◌+◌, ◌*◌, ◌^◌, ◌≤◌, All, IfOk, IfSome};
-ghost use Rattle.rv_core.specs.Fetch.{fetched_at, HasRegisters, IsDecodedWord};
+ghost use Rattle.rv_core.specs.Fetch.{fetched_at};
+ghost use Rattle.rv_core.specs.Decoded.{HasRegisters, IsDecodedWord};
 
 use crate::{Fetched, Program};
 use elf_load::{Image, Segment};
@@ -56,7 +57,7 @@ pub struct DecodedProgram<'a> {
 impl<'a> Model for DecodedProgram<'a> {
     ghost use Rattle.std.specs.Prelude.{All};
     ghost use Rattle.elf_load.specs.MemoryImage.{MemoryImage};
-    ghost use Rattle.rv_core.specs.Fetch.{IsDecodedWord};
+    ghost use Rattle.rv_core.specs.Decoded.{IsDecodedWord};
 
     ghost Value = { MemoryImage };
 

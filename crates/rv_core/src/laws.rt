@@ -11,7 +11,8 @@ ghost use Rattle.rv_core.specs.CoreState.{CoreState, InProgress};
 ghost use Rattle.rv_core.specs.Effect.{register};
 ghost use Rattle.rv_core.specs.Laws.{addresses, addresses_of, bytes_of, bytes_stored, number_of_bytes, replies_loaded, Asks, IsReached};
 ghost use Rattle.rv_core.specs.Sound.{IsSoundCore};
-ghost use Rattle.rv_core.specs.Step.{advanced, answered};
+ghost use Rattle.rv_core.specs.Step.{answered};
+ghost use Rattle.rv_core.specs.Asked.{advanced};
 
 /// x0 reads as zero for ever ("Programmers' Model for Base Integer ISA"), whatever program runs and
 /// whatever its accesses reply.

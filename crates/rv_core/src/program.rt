@@ -2,7 +2,8 @@
 ghost use Rattle.std.specs.Prelude.{◌≡◌, IfSome};
 ghost use Rattle.elf_load.specs.MemoryImage.{MemoryImage};
 ghost use Rattle.rv_decode.specs.InstructionTable.{decoded};
-ghost use Rattle.rv_core.specs.Fetch.{fetched_at, of_decoded, HasRegisters};
+ghost use Rattle.rv_core.specs.Fetch.{fetched_at, of_decoded};
+ghost use Rattle.rv_core.specs.Decoded.{HasRegisters};
 
 use elf_load::Image;
 use rv_decode::{Inst, decode};

@@ -3,12 +3,13 @@ ghost use Rattle.std.specs.Prelude.{◌≡◌, ◌+◌, ◌<◌, ◌≤◌, ◌^
 ghost use Rattle.zs_num.specs.PairedRight.{ArePairedRight, IsPairedRight};
 ghost use Rattle.zs_num.specs.Pairing.{is_paired};
 ghost use Rattle.zs_num.specs.Request.{width_of};
-ghost use Rattle.rv_core.specs.Accesses.{byte_loads, is_in_memory, IsServableIn};
+ghost use Rattle.rv_core.specs.Accesses.{byte_loads, is_in_memory};
+ghost use Rattle.rv_core.specs.Sound.{IsServableIn, EndsInRegister, IsSoundCore};
 ghost use Rattle.rv_core.specs.CoreState.{ToConsole};
 ghost use Rattle.rv_core.specs.Effect.{ended, goes_on, goes_through, goes_to, halts, register};
-ghost use Rattle.rv_core.specs.Fetch.{fetched_at, HasRegisters};
+ghost use Rattle.rv_core.specs.Fetch.{fetched_at};
+ghost use Rattle.rv_core.specs.Decoded.{HasRegisters};
 ghost use Rattle.rv_core.specs.Progress.{ending_of, IsNarrow};
-ghost use Rattle.rv_core.specs.Sound.{EndsInRegister, IsSoundCore};
 ghost use Rattle.rv_core.specs.Step.{answered, console_byte, initial_core, is_free, replies_with};
 
 use crate::memory_range::MemoryRange;

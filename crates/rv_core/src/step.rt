@@ -1,9 +1,11 @@
 //! A step of a core: its next instruction, up to its first access if it has one.
 ghost use Rattle.std.specs.Prelude.{◌≡◌, ◌<◌, false, IfNone, IfSome, IsTrue, OnSome};
 ghost use Rattle.rv_core.specs.Effect.{effect, goes_on, halts};
-ghost use Rattle.rv_core.specs.Fetch.{fetched_at, HasRegisters};
+ghost use Rattle.rv_core.specs.Fetch.{fetched_at};
+ghost use Rattle.rv_core.specs.Decoded.{HasRegisters};
 ghost use Rattle.rv_core.specs.Sound.{IsServableAsk, IsSoundCore};
-ghost use Rattle.rv_core.specs.Step.{advanced, asked, executed, is_free};
+ghost use Rattle.rv_core.specs.Step.{executed, is_free};
+ghost use Rattle.rv_core.specs.Asked.{advanced, asked};
 
 use crate::{Ask, Core, Fetched, Program, Why};
 use elf_load::Image;

@@ -3,9 +3,11 @@ use Rattle.std.proofs.Common.{◌≡◌, ℕ, ◌+◌, ◌-◌, ◌^◌, ◌<◌
 use Rattle.std.specs.List.{list_all}
 use Rattle.std.specs.Option.{option_or}
 use Rattle.std.proofs.lemmas.List.Folds.{find-append}
-use Rattle.rv_decode.specs.InstructionWord.{bits_of, ones, opcode_of, rd_of, funct3_of, rs1_of, rs2_of, funct7_of}
+use Rattle.rv_decode.specs.InstructionWord.{bits_of, ones, rd_of, rs1_of, rs2_of}
+use Rattle.rv_decode.specs.Fields.{opcode_of, funct3_of, funct7_of}
 use Rattle.rv_decode.specs.Opcodes as opcodes
-use Rattle.rv_decode.specs.InstructionTable.{Family, row_at, matches, named, families, table, decoded, by_row, instruction, upper_rows, jump_rows, register_jump_rows, branch_rows, load_rows, store_rows, immediate_rows, left_shift_rows, right_shift_rows, word_immediate_rows, left_word_shift_rows, right_word_shift_rows, fence_rows, call_rows, operation_rows, alternate_operation_rows, extension_m_rows, word_operation_rows, alternate_word_operation_rows, extension_m_word_rows, word_atomic_rows, doubleword_atomic_rows}
+use Rattle.rv_decode.specs.InstructionTable.{Family, row_at, matches, families, table, decoded, by_row, instruction, upper_rows, jump_rows, register_jump_rows, branch_rows, load_rows, store_rows, immediate_rows, left_shift_rows, right_shift_rows, word_immediate_rows, left_word_shift_rows, right_word_shift_rows, fence_rows, call_rows, operation_rows, alternate_operation_rows, extension_m_rows, word_operation_rows, alternate_word_operation_rows, extension_m_word_rows, word_atomic_rows, doubleword_atomic_rows}
+use Rattle.rv_decode.specs.Names.{named}
 use Rattle.rv_decode.specs.declared.format.Format.{Format}
 use Rattle.rv_decode.specs.declared.format.Format.TheVariants.{U, J, I, B, S, R, Shift, WordShift, Atomic, LoadReserved, Whole}
 use Rattle.rv_decode.specs.declared.name.Name.TheVariants.{Lui, Auipc, Jal, LrW, LrD}

@@ -29,10 +29,6 @@ pub record Family : Type 0 where
   pub format : Format
   pub names : List (ℕ × Name)
 
--- the name with this number
-abbrev pub named : List (ℕ × Name) → ℕ → Option Name
-named names number = option_map (λ entry. entry.1) (find (λ entry. entry.0 == number) names)
-
 -- the row of a family with this number and name
 abbrev pub row_at : Family → ℕ × Name → Row
 row_at family entry = record {

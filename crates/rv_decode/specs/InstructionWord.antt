@@ -10,23 +10,14 @@ bits_of high low word = word / 2 ^ low % 2 ^ (high + 1 - low)
 abbrev pub ones : (high low : ℕ) → ℕ
 ones high low = 2 ^ (high + 1) - 2 ^ low
 
-abbrev pub opcode_of : ℕ → ℕ
-opcode_of word = bits_of 6 0 word
-
 abbrev pub rd_of : ℕ → ℕ
 rd_of word = bits_of 11 7 word
-
-abbrev pub funct3_of : ℕ → ℕ
-funct3_of word = bits_of 14 12 word
 
 abbrev pub rs1_of : ℕ → ℕ
 rs1_of word = bits_of 19 15 word
 
 abbrev pub rs2_of : ℕ → ℕ
 rs2_of word = bits_of 24 20 word
-
-abbrev pub funct7_of : ℕ → ℕ
-funct7_of word = bits_of 31 25 word
 
 -- the number that `width` bits stand for in two's complement
 abbrev pub signed : (width n : ℕ) → ℤ

@@ -1,4 +1,6 @@
+pub mod Fields
 pub mod InstructionWord
+pub mod Names
 pub mod Opcodes
 pub mod InstructionTable
 pub mod Matching

@@ -1,6 +1,7 @@
 //! The decoder: it branches over the fields of a word.
 ghost use Rattle.std.specs.Prelude.{◌≡◌, ◌==◌, ◌<◌, ◌↔◌, if◌then◌else◌, option_map, Contains, IsTrue, IfSome};
-ghost use Rattle.rv_decode.specs.InstructionWord.{opcode_of, rs2_of};
+ghost use Rattle.rv_decode.specs.InstructionWord.{rs2_of};
+ghost use Rattle.rv_decode.specs.Fields.{opcode_of};
 ghost use Rattle.rv_decode.specs.InstructionTable as spec;
 ghost use Rattle.rv_decode.specs.InstructionTable.{Row, table, matches, by_row, decoded};
 ghost use Rattle.rv_decode.specs.Opcodes as opcode;

@@ -1,7 +1,8 @@
 //! The fields of an instruction word and the immediates that it encodes (RISC-V Unprivileged ISA
 //! manual, "Base Instruction Formats" and "Immediate Encoding Variants").
 ghost use Rattle.std.specs.Prelude.{◌≡◌, ◌+◌, ◌-◌, ◌^◌, ◌<◌, ◌≤◌};
-ghost use Rattle.rv_decode.specs.InstructionWord.{bits_of, opcode_of, rd_of, funct3_of, rs1_of, rs2_of, funct7_of, signed};
+ghost use Rattle.rv_decode.specs.InstructionWord.{bits_of, rd_of, rs1_of, rs2_of, signed};
+ghost use Rattle.rv_decode.specs.Fields.{opcode_of, funct3_of, funct7_of};
 ghost use Rattle.rv_decode.specs.InstructionWord as spec;
 
 /// The bits of a word from `high` down to `low`, as a number.

@@ -1,7 +1,8 @@
 //! The names of the instructions of one opcode, by the field in which their rows differ. The groups
 //! are those of the instruction table.
 ghost use Rattle.std.specs.Prelude.{◌≡◌};
-ghost use Rattle.rv_decode.specs.InstructionTable.{named, register_jump_rows, branch_rows, load_rows, store_rows, immediate_rows, left_shift_rows, right_shift_rows, word_immediate_rows, left_word_shift_rows, right_word_shift_rows, fence_rows, call_rows, operation_rows, alternate_operation_rows, extension_m_rows, word_operation_rows, alternate_word_operation_rows, extension_m_word_rows, word_atomic_rows, doubleword_atomic_rows};
+ghost use Rattle.rv_decode.specs.InstructionTable.{register_jump_rows, branch_rows, load_rows, store_rows, immediate_rows, left_shift_rows, right_shift_rows, word_immediate_rows, left_word_shift_rows, right_word_shift_rows, fence_rows, call_rows, operation_rows, alternate_operation_rows, extension_m_rows, word_operation_rows, alternate_word_operation_rows, extension_m_word_rows, word_atomic_rows, doubleword_atomic_rows};
+ghost use Rattle.rv_decode.specs.Names.{named};
 
 use crate::Name;
 

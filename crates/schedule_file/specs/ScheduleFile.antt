@@ -1,13 +1,11 @@
 -- The file of a schedule. Numbers have four bytes, the lowest first.
-use Rattle.std.specs.Prelude.{◌≡◌, ℕ, zero, suc, ◌+◌, ◌==◌, nat_le, if◌then◌else◌, List, [], ◌∷◌, ◌++◌, length, codes, take, drop, Option, Some, None, Result, Ok, Err}
+use Rattle.std.specs.Prelude.{ℕ, zero, suc, ◌+◌, ◌==◌, nat_le, if◌then◌else◌, List, [], ◌∷◌, ◌++◌, length, codes, take, drop, Option, Some, None, Result, Ok, Err}
 use Rattle.std.specs.List.{flat_map, position}
 use Rattle.std.specs.Str.{bytes_eq}
 use Rattle.byteorder.specs.Endian.{little_bytes, little_number}
 use Rattle.access_log.specs.Schedule.{ScheduleState}
 use Rattle.schedule_file.specs.declared.bad_schedule.BadSchedule.{BadSchedule}
 use Rattle.schedule_file.specs.declared.bad_schedule.BadSchedule.TheVariants as bad
-use Rattle.schedule_file.specs.declared.bad_schedule.ScheduleReadFail.{ScheduleReadFail}
-use Rattle.schedule_file.specs.declared.bad_schedule.ScheduleReadFail.TheVariants as fail
 
 abbrev pub magic : List ℕ
 magic = codes "ZSCH"
@@ -73,9 +71,3 @@ unfoldable pub schedule_of : (cores : ℕ) → (bytes : List ℕ) → Result Sch
 schedule_of cores bytes =
     then_read (count_of cores bytes) (λ count.
     then_read (lists_from cores bytes count 0 16) (λ lists. Ok (record { cores = cores; lists = lists })))
-
--- the answer of a call that may also run out of memory, with what its result is seen as
-abbrev pub AnswersAs : {A B : Type 0} → (A → B) → Result A ScheduleReadFail → Result B BadSchedule → Type 0
-AnswersAs seen_as (Ok x) answer = answer ≡ Ok (seen_as x)
-AnswersAs seen_as (Err (fail.Bad wrong)) answer = answer ≡ Err wrong
-AnswersAs seen_as (Err fail.NoMemory) answer = Unit {0}

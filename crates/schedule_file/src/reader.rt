@@ -1,7 +1,8 @@
 //! Reads a schedule from front to back.
 ghost use Rattle.std.specs.Prelude.{◌≡◌, ◌≤◌, ◌<◌, ◌+◌, ◌^◌, All, length, take, drop, vec_len, nat_le, IfOk, IfErr, IfSome, Ok, Err, None};
 ghost use Rattle.std.specs.List.{position};
-ghost use Rattle.schedule_file.specs.ScheduleFile.{field_at, read_number, schedule_of, turns_from, count_of, AnswersAs};
+ghost use Rattle.schedule_file.specs.ScheduleFile.{field_at, read_number, schedule_of, turns_from, count_of};
+ghost use Rattle.schedule_file.specs.Answers.{AnswersAs};
 
 use crate::{BadSchedule, MAGIC, ScheduleReadFail, VERSION};
 use access_log::Schedule;

@@ -11,7 +11,8 @@ use Rattle.zs_num.specs.declared.request.Request.{Request}
 use Rattle.cache_set.specs.declared.letter.Letter.{Letter}
 use Rattle.cache_set.specs.declared.letter.Letter.TheVariants.{M, E, S, I}
 use Rattle.cache_set.specs.Ways.{without, used, filled, changed}
-use Rattle.shard.specs.Coherence.{Caches, caches_after, caches_after_all, empty_caches, is_valid, is_modified, is_write, kept_first, l2_victim, letter_at, letter_in, looked_up, marked_dirty, on_l2, on_others, on_own, other_after, others_changed, outcome_of, own_after, own_victim, recalled, room_made, some_other, taken_in, taken_into_l2, with_letter, written_back}
+use Rattle.shard.specs.Coherence.{Caches, caches_after, empty_caches, is_valid, is_modified, is_write, kept_first, l2_victim, letter_at, letter_in, looked_up, marked_dirty, on_l2, on_others, on_own, other_after, others_changed, outcome_of, own_after, own_victim, recalled, room_made, some_other, taken_in, taken_into_l2, with_letter, written_back}
+use Rattle.shard.specs.Accesses.{caches_after_all}
 use Rattle.shard.specs.Lines.{set_of, in_set_of, set_number}
 use Rattle.shard.proofs.CoherentLists.{mapped_at, numbered_at, set_read}
 use Rattle.shard.proofs.CoherentStand.{AllStand, Stand, empty_stands, none_stand, stand_changed, stand_in_set, stand_take, stand_used, stand_without}

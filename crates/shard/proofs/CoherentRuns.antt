@@ -7,7 +7,8 @@ use Rattle.std.proofs.lemmas.List.Elements.{All-head, All-tail}
 use Rattle.zs_num.specs.declared.request.Request.{Request}
 use Rattle.cache_set.specs.declared.letter.Letter.{Letter}
 use Rattle.cache_set.specs.declared.letter.Letter.TheVariants.{I}
-use Rattle.shard.specs.Coherence.{Caches, caches_after, caches_after_all, empty_caches, is_valid, letter_at}
+use Rattle.shard.specs.Coherence.{Caches, caches_after, empty_caches, is_valid, letter_at}
+use Rattle.shard.specs.Accesses.{caches_after_all}
 use Rattle.shard.specs.StandsFor.{AreCoherent, HaveRoomForLines}
 use Rattle.shard.proofs.Coherent.{coherent_stays}
 use Rattle.shard.proofs.CoherentLists.{empty_at}

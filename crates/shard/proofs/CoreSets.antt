@@ -9,7 +9,8 @@ use Rattle.std.proofs.lemmas.List.Elements.{All-set, All-replicate}
 use Rattle.cache_set.specs.declared.letter.Letter.{Letter}
 use Rattle.cache_set.specs.declared.letter.Letter.TheVariants.{M, E, S, I}
 use Rattle.cache_set.specs.Letters.{mark_of, letter_of}
-use Rattle.cache_set.specs.Ways.{WaySet, IsWaySet, kept_of, without, used, filled, changed, last_of_full, way_of}
+use Rattle.cache_set.specs.Ways.{kept_of, without, used, filled, changed, last_of_full}
+use Rattle.cache_set.specs.WaySets.{WaySet, IsWaySet, way_of}
 use Rattle.cache_set.specs.declared.set.Way.{Way}
 use Rattle.cache_set.proofs.Sets.{set-without, set-used, set-changed, set-filled}
 use Rattle.shard.specs.CacheLayout.{AreCoreSets, HasCopies, IsCoreSet, copies_in, copies_of, core_view, letter_without, own_letter}

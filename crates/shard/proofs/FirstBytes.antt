@@ -9,7 +9,8 @@ use Rattle.std.proofs.lemmas.Nat.{le-div}
 use Rattle.std.proofs.lemmas.List.{append-nil, ext_get_or, get_or-replicate, length-replicate, length-take-le}
 use Rattle.std.proofs.lemmas.List.FromFn.{get_or-map-range_with_len, length-map-range_with_len}
 use Rattle.elf_load.specs.declared.segment.Segment.{Segment}
-use Rattle.elf_load.specs.MemoryImage.{is_within, covers, byte_at, bytes_from, is_placed}
+use Rattle.elf_load.specs.MemoryImage.{is_within, covers, byte_at, bytes_from}
+use Rattle.elf_load.specs.SoundImage.{is_placed}
 
 -- what lies within a range has its start and its end there
 within_parts : (start count base size : ℕ) → is_within start count base size ≡ true → (base ≤ start) × (start + count ≤ base + size)

@@ -16,7 +16,8 @@ use Rattle.cache_set.specs.declared.letter.Letter.{Letter}
 use Rattle.cache_set.specs.declared.letter.Letter.TheVariants.{M, E, S, I}
 use Rattle.cache_set.specs.Ways.{kept_of, without, used, filled, changed}
 use Rattle.cache_set.proofs.Sets.{lacks-absent, lacks-take, distinct-without, lacks-others, length-without, length-without_some}
-use Rattle.shard.specs.Coherence.{Caches, letter_in, letter_at, dirty_at, outcome_by, outcome_of, is_write, is_alone, is_dirty_victim, some_other, is_valid, is_modified, own_after, own_victim, on_l2, on_others, on_own, l2_victim, room_made, written_back, caches_after, caches_after_all, empty_caches, recalled, marked_dirty, taken_into_l2, looked_up, other_after, others_changed, kept_first, taken_in, with_letter}
+use Rattle.shard.specs.Coherence.{Caches, letter_in, letter_at, dirty_at, outcome_by, outcome_of, is_write, is_alone, is_dirty_victim, some_other, is_valid, is_modified, own_after, own_victim, on_l2, on_others, on_own, l2_victim, room_made, written_back, caches_after, empty_caches, recalled, marked_dirty, taken_into_l2, looked_up, other_after, others_changed, kept_first, taken_in, with_letter}
+use Rattle.shard.specs.Accesses.{caches_after_all}
 use Rattle.shard.specs.Lines.{set_of, in_set_of, set_number}
 use Rattle.shard.specs.StandsFor.{IsSet}
 

@@ -11,7 +11,8 @@ use Rattle.std.proofs.lemmas.Map.Keys.{IsDistinct-cons}
 use Rattle.std.proofs.lemmas.Map.Made.{is_some-lookup}
 use Rattle.std.proofs.lemmas.Map.Steps.{length-le_from_keys}
 use Rattle.cache_set.specs.declared.set.Way.{Way}
-use Rattle.cache_set.specs.Ways.{WaySet, IsWaySet, kept_of, used, filled, changed, last_of_full, way_of}
+use Rattle.cache_set.specs.Ways.{kept_of, used, filled, changed, last_of_full}
+use Rattle.cache_set.specs.WaySets.{WaySet, IsWaySet, way_of}
 use Rattle.cache_set.proofs.Sets.{set-used, set-changed, set-filled, lacks-absent}
 use Rattle.mesi_dir.specs.LineMap.{LineMap, Sharing, HasRoomForLine, IsLineMap, KeepsOthers, is_among, nobody, sharing_of}
 use Rattle.shard.specs.CacheLayout.{AreShared, is_dirty_mark, shared_list, sharing_without}

@@ -7,17 +7,20 @@ use Rattle.std.proofs.lemmas.List.FromFn.{length-map-range_with_len}
 use Rattle.elf_load.specs.MemoryImage.{byte_at}
 use Rattle.std.proofs.lemmas.List.Elements.{All-head, All-map, All-tail}
 use Rattle.std.proofs.lemmas.Option.{slice_get-get_or, slice_get_within}
-use Rattle.zs_num.specs.Request.{IsServable, line_of}
+use Rattle.zs_num.specs.Request.{line_of}
+use Rattle.zs_num.specs.Servable.{IsServable}
 use Rattle.zs_num.specs.declared.entry.Entry.{Entry}
 use Rattle.zs_num.specs.declared.pairing.Pairing.{Pairing}
 use Rattle.zs_num.specs.declared.request.Request.{Request}
 use Rattle.flat_memory.specs.declared.reservation.Reservation.{Reservation}
 use Rattle.flat_memory.specs.FlatMemory as flat
-use Rattle.shard.specs.Coherence.{Caches, caches_after, caches_after_all, outcomes_of}
+use Rattle.shard.specs.Coherence.{Caches, caches_after}
+use Rattle.shard.specs.Accesses.{caches_after_all, outcomes_of}
 use Rattle.shard.specs.Laws.{EntriesAreOfOneMachine, NewShardsAreOneMachine, marked_after_all, marked_replies, flat_replies}
 use Rattle.shard.specs.Marks.{MarkedMemory, marked_after}
 use Rattle.shard.specs.Served.{ShardState, shard_after}
-use Rattle.shard.specs.StandsFor.{AreAnswered, StandFor, accesses_of, new_caches, new_memory, new_shards}
+use Rattle.shard.specs.StandsFor.{AreAnswered, StandFor, accesses_of, new_memory, new_shards}
+use Rattle.shard.specs.NewCaches.{new_caches}
 use Rattle.shard.proofs.Coherent.{coherent_stays}
 use Rattle.shard.proofs.Reservations.{marks_are_reservations}
 use Rattle.shard.proofs.StandsForShare.{length-bytes_after}

@@ -1,7 +1,8 @@
 -- A shard's share of memory: accesses to it are answered alike, and it is the share of the memory that they leave.
 use Rattle.std.proofs.Common.{◌≡◌, ◌≢◌, ℕ, ◌+◌, ◌-◌, ◌/◌, ◌%◌, ◌<◌, ◌≤◌, Bool, true, false, cond, List, length, get_or, Option, refl, sym, ap, ◌∙◌, subst, arith, inl, inr}
 use Rattle.std.proofs.lemmas.Bool.{cases_lt}
-use Rattle.zs_num.specs.Request.{addr_of, line_of, IsServable, line_at}
+use Rattle.zs_num.specs.Request.{addr_of, line_of, line_at}
+use Rattle.zs_num.specs.Servable.{IsServable}
 use Rattle.zs_num.specs.declared.request.Request.{Request}
 use Rattle.zs_num.specs.declared.request.Request.TheVariants.{Load, Store, Lr, Sc, Amo}
 use Rattle.rv_alu.specs.Atomic.{new_number}

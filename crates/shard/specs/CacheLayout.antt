@@ -5,7 +5,8 @@ use Rattle.std.specs.List.{All}
 use Rattle.cache_set.specs.declared.letter.Letter.{Letter}
 use Rattle.cache_set.specs.declared.letter.Letter.TheVariants.{I}
 use Rattle.cache_set.specs.Letters.{letter_of}
-use Rattle.cache_set.specs.Ways.{WaySet, IsWaySet, kept_of}
+use Rattle.cache_set.specs.Ways.{kept_of}
+use Rattle.cache_set.specs.WaySets.{WaySet, IsWaySet}
 use Rattle.mesi_dir.specs.LineMap.{LineMap, Sharing, KeepsOthers, is_among, is_sharer, nobody, owner_of, sharing_of}
 use Rattle.shard.specs.Coherence.{Caches, is_alone, is_valid, letter_at, letter_in}
 use Rattle.shard.specs.Lines.{set_of}

@@ -101,11 +101,6 @@ outcome_by true S in_l2 alone has dirty = Upgrade has
 outcome_by true I true alone has dirty = L2 has
 outcome_by true I false alone has dirty = Miss dirty
 
--- A hit needs a letter that allows the access: any to read, M or E to write.
-abbrev pub allows : (write : Bool) → Letter → Bool
-allows true letter = is_alone letter
-allows false letter = is_valid letter
-
 -- the core's letter after the access
 abbrev pub own_after : (write : Bool) → Letter → (has : Bool) → Letter
 own_after true own has = M
@@ -225,13 +220,3 @@ caches_after c core request =
     let outcome = outcome_of c core request in
     let letter = own_after write own (some_other is_valid c core line) in
     on_own own core line letter (on_others outcome write core line (on_l2 outcome line c))
-
--- ---- lists of accesses, each with its core
-
-abbrev pub caches_after_all : Caches → List (ℕ × Request) → Caches
-caches_after_all c [] = c
-caches_after_all c (access ∷ accesses) = caches_after_all (caches_after c access.0 access.1) accesses
-
-abbrev pub outcomes_of : Caches → List (ℕ × Request) → List Outcome
-outcomes_of c [] = []
-outcomes_of c (access ∷ accesses) = outcome_of c access.0 access.1 ∷ outcomes_of (caches_after c access.0 access.1) accesses

@@ -1,7 +1,8 @@
 -- Laws of the definitions.
 use Rattle.std.specs.Prelude.{◌≡◌, ◌≢◌, ℕ, ◌%◌, ◌^◌, ◌<◌, ◌≤◌, ◌==◌, ◌↔◌, Bool, true, false, List, [], ◌∷◌, ◌++◌, All, length, map, replicate, slice_set, Option, None, IsSome, IsTrue}
 use Rattle.zs_num.specs.PairedRight.{AreAllPairedRight, pairings_after_all}
-use Rattle.zs_num.specs.Request.{IsServable, line_of, line_at}
+use Rattle.zs_num.specs.Request.{line_of, line_at}
+use Rattle.zs_num.specs.Servable.{IsServable}
 use Rattle.zs_num.specs.declared.entry.Entry.{Entry}
 use Rattle.zs_num.specs.declared.pairing.Pairing.{Pairing}
 use Rattle.zs_num.specs.declared.request.Request.{Request}
@@ -12,10 +13,13 @@ use Rattle.machine_desc.specs.declared.machine.Machine.{Machine}
 use Rattle.flat_memory.specs.FlatMemory as flat
 use Rattle.zs_num.specs.declared.entry.Outcome.TheVariants.{Hit}
 use Rattle.cache_set.specs.declared.letter.Letter.TheVariants.{I}
-use Rattle.shard.specs.Coherence.{Caches, allows, caches_after, caches_after_all, dirty_at, empty_caches, is_alone, is_valid, is_write, letter_at, outcome_of, outcomes_of}
+use Rattle.shard.specs.Coherence.{Caches, caches_after, dirty_at, empty_caches, is_alone, is_valid, is_write, letter_at, outcome_of}
+use Rattle.shard.specs.Accesses.{caches_after_all, outcomes_of}
+use Rattle.shard.specs.Allowed.{allows}
 use Rattle.shard.specs.Marks.{MarkedMemory, marked_after, marked_reply}
 use Rattle.shard.specs.Served.{CanServe, KnowsCore, ShardState, met_by, shard_after, shard_reply}
-use Rattle.shard.specs.StandsFor.{AreAnswered, AreCoherent, HaveRoomForLines, HaveSets, KeepsLine, StandFor, accesses_of, flat_for, new_caches, new_memory, new_shards}
+use Rattle.shard.specs.StandsFor.{AreAnswered, AreCoherent, HaveRoomForLines, HaveSets, KeepsLine, StandFor, accesses_of, flat_for, new_memory, new_shards}
+use Rattle.shard.specs.NewCaches.{new_caches}
 
 -- ---- what an access leaves of a shard
 

@@ -1,9 +1,12 @@
+pub mod Accesses
+pub mod Allowed
 pub mod CacheLayout
 pub mod CacheSteps
 pub mod Coherence
 pub mod Laws
 pub mod Lines
 pub mod Marks
+pub mod NewCaches
 pub mod Served
 pub mod ShardLayout
 pub mod StandsFor

@@ -2,7 +2,8 @@
 -- list of entries is at once the list of requests, of replies and of stamps.
 use Rattle.std.specs.Prelude.{◌≡◌, ℕ, ◌+◌, ◌-◌, ◌*◌, ◌/◌, ◌%◌, ◌<◌, List, [], ◌∷◌, length, max, replicate, Option, None}
 use Rattle.std.specs.List.{flat_map, range_with_len}
-use Rattle.zs_num.specs.Request.{addr_of, line_bytes, line_of, IsServable, line_at, bank_of_line}
+use Rattle.zs_num.specs.Request.{addr_of, line_bytes, line_of, line_at, bank_of_line}
+use Rattle.zs_num.specs.Servable.{IsServable}
 use Rattle.zs_num.specs.declared.entry.Entry.{Entry}
 use Rattle.zs_num.specs.declared.entry.Outcome.{Outcome}
 use Rattle.zs_num.specs.declared.request.Request.{Request}

@@ -12,7 +12,7 @@ use Rattle.machine_desc.specs.declared.machine.Machine.{Machine}
 use Rattle.cache_set.specs.declared.letter.Letter.TheVariants.{I}
 use Rattle.flat_memory.specs.declared.reservation.Reservation.{Reservation}
 use Rattle.flat_memory.specs.FlatMemory.{MemoryState, is_reservation}
-use Rattle.shard.specs.Coherence.{Caches, dirty_at, empty_caches, is_alone, is_valid, letter_at}
+use Rattle.shard.specs.Coherence.{Caches, dirty_at, is_alone, is_valid, letter_at}
 use Rattle.shard.specs.Lines.{set_number, set_of}
 use Rattle.shard.specs.Marks.{MarkedMemory}
 use Rattle.shard.specs.Served.{ShardState, met_by, new_shard, place_of, shard_after, shard_reply}
@@ -94,10 +94,6 @@ new_memory m image = record {
   bytes = bytes_from image.segments image.base image.size;
   marks = replicate m.l2.banks (replicate m.cores None);
 }
-
--- the caches of the whole machine, empty
-abbrev pub new_caches : Machine → Caches
-new_caches m = empty_caches m.cores 1 m.l1.sets m.l1.ways m.l2.sets m.l2.ways
 
 -- ---- entries
 

@@ -1,6 +1,7 @@
 //! The memory of a shard, without its caches.
 ghost use Rattle.std.specs.Prelude.{◌≡◌, ◌<◌, ◌≤◌, ◌+◌, length, slice_index_or};
-ghost use Rattle.zs_num.specs.Request.{width_of, IsAligned};
+ghost use Rattle.zs_num.specs.Request.{width_of};
+ghost use Rattle.zs_num.specs.Servable.{IsAligned};
 ghost use Rattle.shard.specs.Marks.{bytes_after, does_store, marks_after, reply_from};
 
 use crate::marks::Marks;

@@ -6,10 +6,12 @@ use Rattle.std.proofs.lemmas.Bool.{cases_eq}
 use Rattle.std.proofs.lemmas.List.{append_assoc, length-set}
 use Rattle.std.proofs.lemmas.List.Elements.{All-head, All-tail, All-weaker}
 use Rattle.std.proofs.lemmas.Option.{same_Some, slice_get_within}
-use Rattle.zs_num.specs.Request.{IsServable, line_of, bank_of_line}
+use Rattle.zs_num.specs.Request.{line_of, bank_of_line}
+use Rattle.zs_num.specs.Servable.{IsServable}
 use Rattle.zs_num.specs.declared.entry.Entry.{Entry}
 use Rattle.access_log.specs.History.{bank_of_entry, each_after, of_bank, of_number}
-use Rattle.shard.specs.Coherence.{Caches, caches_after, caches_after_all, outcomes_of}
+use Rattle.shard.specs.Coherence.{Caches, caches_after}
+use Rattle.shard.specs.Accesses.{caches_after_all, outcomes_of}
 use Rattle.shard.specs.Laws.{CoherentStays, EntriesAreOfOneMachine, NumberStays, ReadAfterWrite, ShardsStandForAMachine, marked_after_all, marked_replies}
 use Rattle.shard.specs.Marks.{MarkedMemory, marked_after}
 use Rattle.shard.specs.Served.{AreServedBy, CanServe, ShardState, shard_after}

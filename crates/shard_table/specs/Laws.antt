@@ -6,7 +6,8 @@ use Rattle.zs_num.specs.Request.{line_of, line_at}
 use Rattle.zs_num.specs.declared.entry.Entry.{Entry}
 use Rattle.zs_num.specs.declared.pairing.Pairing.{Pairing}
 use Rattle.zs_num.specs.declared.request.Request.TheVariants.{Load, Store}
-use Rattle.shard.specs.Coherence.{Caches, caches_after_all, outcomes_of}
+use Rattle.shard.specs.Coherence.{Caches}
+use Rattle.shard.specs.Accesses.{caches_after_all, outcomes_of}
 use Rattle.shard.specs.Laws.{flat_after_all, flat_replies, has_written, marked_after_all, marked_replies}
 use Rattle.shard.specs.Marks.{MarkedMemory}
 use Rattle.shard.specs.Served.{ShardState}

@@ -13,7 +13,9 @@ use Rattle.component.specs.ComponentStep.{free_of}
 use Rattle.stats.specs.declared.counts.CoreCount.{CoreCount}
 use Rattle.stats.specs.declared.counts.CompCount.{CompCount}
 use Rattle.stats.specs.Counted.{core_plus, entry_count, delay_count, no_core_count, comp_plus, event_count, no_comp_count}
-use Rattle.stats.specs.Counts.{Interval, Counts, CoreFits, CompFits, CountsFit, added, core_count_after, comp_count_in, comp_count_after}
+use Rattle.stats.specs.Counts.{Interval, Counts, comp_count_in}
+use Rattle.stats.specs.CountsFit.{CoreFits, CompFits, CountsFit}
+use Rattle.stats.specs.Added.{added, core_count_after, comp_count_after}
 use Rattle.stats.specs.Passes.{with_accesses, with_delay, with_events, with_free}
 use Rattle.stats.proofs.Plus.{core_plus-assoc, core_plus-none, comp_plus-assoc, comp_plus-none, plus-fold}
 

@@ -6,7 +6,7 @@ use Rattle.event_graph.specs.declared.event.Event.{Event}
 use Rattle.event_graph.specs.declared.fired.Fired.{Fired}
 use Rattle.stats.specs.declared.counts.CompCount.{CompCount}
 use Rattle.stats.specs.Counted.{event_count}
-use Rattle.stats.specs.Counts.{CompFits}
+use Rattle.stats.specs.CountsFit.{CompFits}
 use Rattle.stats.specs.Passes.{with_event, with_events}
 use Rattle.stats.proofs.Plus.{comp_fewer}
 use Rattle.stats.proofs.Steps.{no_item, item_fits, item_counted, all_counted}

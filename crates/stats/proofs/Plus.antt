@@ -3,7 +3,7 @@ use Rattle.std.proofs.Common.{◌≡◌, ℕ, List, [], ◌∷◌, refl, ap, ◌
 use Rattle.std.specs.List.{fold}
 use Rattle.stats.specs.declared.counts.CoreCount.{CoreCount}
 use Rattle.stats.specs.declared.counts.CompCount.{CompCount}
-use Rattle.stats.specs.Counts.{CoreFits, CompFits}
+use Rattle.stats.specs.CountsFit.{CoreFits, CompFits}
 use Rattle.stats.specs.Counted.{core_plus, no_core_count, comp_plus, no_comp_count}
 
 -- counts of the same numbers are the same

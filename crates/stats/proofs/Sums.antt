@@ -11,7 +11,8 @@ use Rattle.component.specs.Components.{AreFresh}
 use Rattle.stats.specs.declared.counts.CoreCount.{CoreCount}
 use Rattle.stats.specs.declared.counts.CompCount.{CompCount}
 use Rattle.stats.specs.Counted.{core_plus, comp_plus, no_core_count, no_comp_count}
-use Rattle.stats.specs.Counts.{Interval, Counts, added, counts_of, core_count_in, core_total, core_count_after, comp_count_in, comp_total, comp_count_after, no_counts}
+use Rattle.stats.specs.Counts.{Interval, Counts, counts_of, core_count_in, core_total, comp_count_in, comp_total}
+use Rattle.stats.specs.Added.{added, core_count_after, comp_count_after, no_counts}
 use Rattle.stats.proofs.Plus.{same_comp}
 
 -- the counts of these

@@ -15,7 +15,8 @@ use Rattle.event_graph.specs.Timely.{AreTimely, IsTimely}
 use Rattle.stats.specs.declared.counts.CoreCount.{CoreCount}
 use Rattle.stats.specs.declared.counts.CompCount.{CompCount}
 use Rattle.stats.specs.Counted.{core_plus, entry_count, delay_count, no_core_count, comp_plus, event_count, no_comp_count, wait_of, one_if}
-use Rattle.stats.specs.Counts.{Interval, CoreFits, CompFits, CountsFit, counts_of, core_count_in, core_total, comp_count_in, comp_total}
+use Rattle.stats.specs.Counts.{Interval, counts_of, core_count_in, core_total, comp_count_in, comp_total}
+use Rattle.stats.specs.CountsFit.{CoreFits, CompFits, CountsFit}
 
 -- what is asked of each interval
 abbrev pub IsBounded : Interval → Type 0

@@ -5,7 +5,9 @@ use Rattle.machine_desc.specs.declared.machine.Machine.{Machine}
 use Rattle.component.specs.declared.comp.Comp.{Comp}
 use Rattle.component.specs.Components.{AreFresh}
 use Rattle.event_graph.specs.Timely.{AreTimely}
-use Rattle.stats.specs.Counts.{Interval, CountsFit, added, counts_of, no_counts, total_accesses, total_events}
+use Rattle.stats.specs.Counts.{Interval, counts_of, total_accesses, total_events}
+use Rattle.stats.specs.CountsFit.{CountsFit}
+use Rattle.stats.specs.Added.{added, no_counts}
 
 -- to add an interval to the counts of a run gives the counts of the longer run
 abbrev pub CountersAreSums : Type 0

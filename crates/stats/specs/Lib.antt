@@ -1,4 +1,6 @@
+pub mod Added
 pub mod Counted
 pub mod Counts
+pub mod CountsFit
 pub mod Laws
 pub mod Passes

@@ -5,7 +5,7 @@ ghost use Rattle.component.specs.declared.comp.Comp.{Comp};
 ghost use Rattle.component.specs.ComponentStep.{free_of};
 ghost use Rattle.event_graph.specs.Timely.{AreTimely, IsTimely};
 ghost use Rattle.stats.specs.declared.counts.CompCount.{CompCount};
-ghost use Rattle.stats.specs.Counts.{CompFits};
+ghost use Rattle.stats.specs.CountsFit.{CompFits};
 ghost use Rattle.stats.specs.Passes.{with_event, with_events, with_free};
 
 use crate::CompCount;

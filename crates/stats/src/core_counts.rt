@@ -1,7 +1,7 @@
 //! The counts of the cores over an interval.
 ghost use Rattle.std.specs.Prelude.{◌≡◌, ◌<◌, ℕ, All, length, slice_index, slice_index_or};
 ghost use Rattle.stats.specs.declared.counts.CoreCount.{CoreCount};
-ghost use Rattle.stats.specs.Counts.{CoreFits};
+ghost use Rattle.stats.specs.CountsFit.{CoreFits};
 ghost use Rattle.stats.specs.Passes.{with_access, with_accesses, with_delay};
 
 use crate::CoreCount;

@@ -36,7 +36,8 @@ impl Counters {
     ghost use Rattle.std.specs.Prelude.{◌≡◌, ◌<◌, All, IfOk, Some, length, slice_get};
     ghost use Rattle.machine_desc.specs.Machine.{IsMachine};
     ghost use Rattle.event_graph.specs.Timely.{AreTimely};
-    ghost use Rattle.stats.specs.Counts.{CountsFit, added, no_counts};
+    ghost use Rattle.stats.specs.CountsFit.{CountsFit};
+    ghost use Rattle.stats.specs.Added.{added, no_counts};
 
     /// The counters of this machine, all 0.
     pub fn new(alloc: Global, m: &Machine) -> Result<Counters, NoMemory>

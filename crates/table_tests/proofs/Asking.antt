@@ -7,7 +7,8 @@ use Rattle.std.specs.List.{fold}
 use Rattle.std.specs.Option.{option_map}
 use Rattle.machine_desc.specs.declared.machine.Machine.{Machine}
 use Rattle.elf_load.specs.MemoryImage.{MemoryImage}
-use Rattle.zs_num.specs.Request.{IsServable, line_of, bank_of}
+use Rattle.zs_num.specs.Request.{line_of, bank_of}
+use Rattle.zs_num.specs.Servable.{IsServable}
 use Rattle.zs_num.specs.declared.entry.Entry.{Entry}
 use Rattle.zs_num.specs.declared.request.Request.{Request}
 use Rattle.access_log.specs.History.{bank_of_entry, each_after, of_number}

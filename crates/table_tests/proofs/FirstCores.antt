@@ -5,7 +5,8 @@ use Rattle.std.proofs.lemmas.Option.{same_Some}
 use Rattle.elf_load.specs.MemoryImage.{MemoryImage}
 use Rattle.machine_desc.specs.declared.machine.Machine.{Machine}
 use Rattle.rv_core.specs.Step.{initial_core}
-use Rattle.bound_core.specs.TimedCore.{NumberedCore, TimedCore, first_core}
+use Rattle.bound_core.specs.TimedCore.{TimedCore, first_core}
+use Rattle.bound_core.specs.NumberedCores.{NumberedCore}
 use Rattle.bound_phase.specs.Bounds.{IsBeforeInterval}
 
 -- what holds of each by its index holds with one more at the end

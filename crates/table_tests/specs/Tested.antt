@@ -1,6 +1,7 @@
 -- The tables of the tests: two cores, and shards of memory from 0x10000 to 0x110000.
 use Rattle.std.specs.Prelude.{◌≡◌, ◌%◌, ℕ, List, length, Some, slice_get}
-use Rattle.zs_num.specs.Request.{IsServable, line_of}
+use Rattle.zs_num.specs.Request.{line_of}
+use Rattle.zs_num.specs.Servable.{IsServable}
 use Rattle.zs_num.specs.declared.request.Request.{Request}
 use Rattle.shard.specs.Served.{CanServe, ShardState}
 use Rattle.shard_table.specs.Access.{IsSeatOf, SeatState, TableState}

@@ -3,7 +3,7 @@ ghost use Rattle.std.specs.Prelude.{◌≡◌, ◌<◌, ◌≤◌, ℕ, All, IfO
 ghost use Rattle.machine_desc.specs.Machine.{IsMachine};
 ghost use Rattle.shard.specs.StandsFor.{new_shards};
 ghost use Rattle.bound_core.specs.ShardPort.{AreShardsOf};
-ghost use Rattle.bound_core.specs.TimedCore.{NumberedCore};
+ghost use Rattle.bound_core.specs.NumberedCores.{NumberedCore};
 ghost use Rattle.bound_phase.specs.Bounds.{IsBeforeInterval};
 
 use crate::given::{ONE_LOAD, RACE, image_of, machine};

@@ -1,7 +1,7 @@
 //! A table with the seats of its two cores.
 ghost use Rattle.std.specs.Prelude.{◌≡◌, ◌<◌, ◌≤◌, ◌%◌, [], ◌∷◌, length, IfOk};
 ghost use Rattle.machine_desc.specs.Machine.{IsMachine};
-ghost use Rattle.zs_num.specs.Request.{IsServable};
+ghost use Rattle.zs_num.specs.Servable.{IsServable};
 ghost use Rattle.shard_table.specs.Access.{IsSameSeat, IsSeatOf};
 ghost use Rattle.table_tests.specs.Tested.{AreOf, CanBeAsked, IsAt, IsOf, IsTested};
 

@@ -1,6 +1,6 @@
 //! Worked accesses: stamps, replies and logs, and two threads that add to one doubleword.
 ghost use Rattle.std.specs.Prelude.{◌≡◌, ◌<◌, []};
-ghost use Rattle.zs_num.specs.Request.{IsServable};
+ghost use Rattle.zs_num.specs.Servable.{IsServable};
 ghost use Rattle.shard.specs.Served.{CanServe};
 ghost use Rattle.shard_table.specs.Access.{IsSameSeat, IsSeatOf};
 ghost use Rattle.table_tests.specs.Tested.{IsTested};

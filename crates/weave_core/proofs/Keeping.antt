@@ -12,7 +12,8 @@ use Rattle.zs_num.specs.declared.time.Word.TheVariants.{Bound, Exact}
 use Rattle.component.specs.declared.kind.Kind.{Kind}
 use Rattle.event_graph.specs.declared.event.Event.{Event}
 use Rattle.event_graph.specs.declared.fired.Fired.{Fired}
-use Rattle.event_graph.specs.OneListWeave.{IsSmallStep, FiredEvent, after_firings, fire, find_fired, finish_in, finish_or_zero, fired_of, least_ready, fire_least, served, weave, woven}
+use Rattle.event_graph.specs.OneListWeave.{FiredEvent, after_firings, fire, find_fired, finish_in, finish_or_zero, fired_of, least_ready, fire_least, served, weave, woven}
+use Rattle.event_graph.specs.SmallSteps.{IsSmallStep}
 use Rattle.event_graph.specs.Timely.{AreTimely, IsTimely}
 use Rattle.event_graph.specs.TimingSolution.{IsInOrder, IsSolution, after_serving, of_component}
 use Rattle.domain_map.specs.declared.crossing.Crossing.{Crossing}

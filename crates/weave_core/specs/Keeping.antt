@@ -7,7 +7,8 @@ use Rattle.zs_num.specs.declared.time.Word.TheVariants.{Exact}
 use Rattle.component.specs.declared.kind.Kind.{Kind}
 use Rattle.event_graph.specs.declared.event.Event.{Event}
 use Rattle.event_graph.specs.declared.fired.Fired.{Fired}
-use Rattle.event_graph.specs.OneListWeave.{AreSmallSteps, FiredEvent, comps_after, finish_in, fired_of, is_fired, weave, woven}
+use Rattle.event_graph.specs.OneListWeave.{FiredEvent, comps_after, finish_in, fired_of, is_fired, weave, woven}
+use Rattle.event_graph.specs.SmallSteps.{AreSmallSteps}
 use Rattle.event_graph.specs.TimingSolution.{after_serving, of_component}
 use Rattle.domain_map.specs.declared.crossing.Crossing.{Crossing}
 use Rattle.domain_map.specs.Domains.{Partition, domain_of_event}

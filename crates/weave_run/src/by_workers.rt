@@ -1,6 +1,6 @@
 //! The weave of a graph that was split into domains.
 ghost use Rattle.std.specs.Prelude.{◌≡◌, ◌≤◌, ◌<◌, ◌^◌, All, IfErr, IfOk, IsTrue, length};
-ghost use Rattle.event_graph.specs.OneListWeave.{AreSmallSteps};
+ghost use Rattle.event_graph.specs.SmallSteps.{AreSmallSteps};
 ghost use Rattle.weave_core.specs.Interleavings.{IsPartitioned};
 ghost use Rattle.weave_core.specs.Keeping.{HaveAllFired, owns_of};
 ghost use Rattle.weave_run.specs.Rounds.{AllKeep, CanWeavePlan};

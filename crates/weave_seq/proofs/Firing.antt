@@ -10,7 +10,8 @@ use Rattle.event_graph.specs.declared.event.Parent.{Parent}
 use Rattle.event_graph.specs.Firing.{FiredByTheRules, FiresNext}
 use Rattle.event_graph.specs.Fits.{GraphFits}
 use Rattle.event_graph.specs.Numbered.{IsNumbered}
-use Rattle.event_graph.specs.OneListWeave.{AreSmallSteps, IsSmallStep, FiredEvent, after_firings, finish_in, start_of}
+use Rattle.event_graph.specs.OneListWeave.{FiredEvent, after_firings, finish_in, start_of}
+use Rattle.event_graph.specs.SmallSteps.{AreSmallSteps, IsSmallStep}
 use Rattle.event_graph.proofs.Lists.{In, contains_in, get_within, in_push, read_is}
 use Rattle.weave_seq.specs.declared.children.ParentSlot.{ParentSlot}
 use Rattle.weave_seq.specs.declared.children.ParentSlot.TheVariants.{First}

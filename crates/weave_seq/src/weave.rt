@@ -2,7 +2,8 @@
 ghost use Rattle.std.specs.Prelude.{◌≡◌, [], length, map, IfOk, OnErr, OnOk};
 ghost use Rattle.event_graph.specs.Fits.{GraphFits};
 ghost use Rattle.event_graph.specs.Numbered.{IsNumbered};
-ghost use Rattle.event_graph.specs.OneListWeave.{AreSmallSteps, comps_after, finish_in, fired_of, woven};
+ghost use Rattle.event_graph.specs.OneListWeave.{comps_after, finish_in, fired_of, woven};
+ghost use Rattle.event_graph.specs.SmallSteps.{AreSmallSteps};
 ghost use Rattle.weave_seq.specs.Chains.{AreChains, parents_in};
 ghost use Rattle.weave_seq.specs.Known.{known_to_all};
 

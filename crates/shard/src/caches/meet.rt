@@ -1,7 +1,8 @@
 //! How the caches meet an access: each row of the table of the MESI protocol.
 ghost use Rattle.std.specs.Prelude.{◌≡◌, ◌≢◌, ℕ, ◌<◌, ◌||◌, IsSome, IsTrue, None, false, true, length, if◌then◌else◌};
 ghost use Rattle.shard.specs.CacheSteps.{LeavesFree, MakesL2Room, after_at, met_at};
-ghost use Rattle.shard.specs.Coherence.{allows, caches_after, dirty_at, is_alone, is_dirty_victim, is_valid, is_modified, is_write, l2_victim, letter_at, marked_dirty, on_others, outcome_of, room_made, some_core, some_other};
+ghost use Rattle.shard.specs.Coherence.{caches_after, dirty_at, is_alone, is_dirty_victim, is_valid, is_modified, is_write, l2_victim, letter_at, marked_dirty, on_others, outcome_of, room_made, some_core, some_other};
+ghost use Rattle.shard.specs.Allowed.{allows};
 
 use super::CacheLists;
 use cache_set::Letter;

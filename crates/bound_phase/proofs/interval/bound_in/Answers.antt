@@ -3,7 +3,7 @@ use Rattle.zs_num.specs.declared.entry.Entry.{Entry}
 use Rattle.access_log.specs.Logs.{HaveDistinctKeys, LogState, entries_of_logs}
 use Rattle.access_log.specs.RecordedOrder.{recorded_order}
 use Rattle.shard_table.specs.Access.{AreAllSeats, AreWhole, SeatState, TableState, entries_of_seats, recorded_entries}
-use Rattle.bound_core.specs.TimedCore.{NumberedCore}
+use Rattle.bound_core.specs.NumberedCores.{NumberedCore}
 use Rattle.bound_phase.specs.declared.member.Member.{Member}
 use Rattle.bound_phase.specs.Bounds.{HaveNewSeats, HaveEndedInterval, IsBound}
 use Rattle.bound_phase.specs.Shares.{HaveReturned, mates}

@@ -1,7 +1,7 @@
 use Rattle.std.proofs.Common.{rules, ◌<◌, ◌+◌, ℕ, get_or, set, length, sym, ◌∙◌, ap, subst, arith, inl, inr}
 use Rattle.std.proofs.lemmas.Bool.{cases_eq}
 use Rattle.std.proofs.lemmas.List.{get_or-set_other, get_or-set_same, length-set}
-use Rattle.bound_core.specs.TimedCore.{NumberedCore}
+use Rattle.bound_core.specs.NumberedCores.{NumberedCore}
 use Rattle.bound_phase.specs.Bounds.{HasConsoleRoom}
 use Rattle.bound_phase.proofs.Whole.{same_made}
 use Rattle.bound_phase.proofs.interval.reserve_all.Goals as goal

@@ -1,6 +1,6 @@
 use Rattle.std.proofs.Common.{List, get_or, length, arith}
 use Rattle.shard_table.specs.Access.{SeatState}
-use Rattle.bound_core.specs.TimedCore.{NumberedCore}
+use Rattle.bound_core.specs.NumberedCores.{NumberedCore}
 use Rattle.bound_phase.specs.Shares.{mates}
 use Rattle.bound_phase.proofs.Turns.{crew_can, members_count, members_in_order}
 use Rattle.bound_phase.proofs.Whole.{shares_ran, sizes_ran}

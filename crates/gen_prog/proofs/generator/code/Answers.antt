@@ -1,6 +1,6 @@
 use Rattle.std.proofs.Common.{All, List, sym, subst, ap, ◌∙◌}
 use Rattle.rv_decode.specs.declared.inst.Inst.{Inst}
-use Rattle.gen_prog.specs.Assembly.{IsEncodable}
+use Rattle.gen_prog.specs.Encodable.{IsEncodable}
 use Rattle.gen_prog.specs.Generated.{program}
 use Rattle.gen_prog.proofs.Encodable.{encodable}
 use Rattle.gen_prog.proofs.generator.code.Goals as goal

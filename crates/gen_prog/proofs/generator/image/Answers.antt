@@ -1,6 +1,7 @@
 use Rattle.std.proofs.Common.{◌≡◌, List, sym, subst, ap, ◌∙◌, rules}
 use Rattle.elf_load.specs.declared.segment.Segment.{Segment}
-use Rattle.elf_load.specs.MemoryImage.{IsSoundImage, MemoryImage}
+use Rattle.elf_load.specs.MemoryImage.{MemoryImage}
+use Rattle.elf_load.specs.SoundImage.{IsSoundImage}
 use Rattle.gen_prog.specs.Generated.{generated_image}
 use Rattle.gen_prog.proofs.Image.{sound}
 use Rattle.gen_prog.proofs.generator.image.Goals as goal

@@ -1,7 +1,7 @@
 use Rattle.std.proofs.Common.{◌≡◌, ◌+◌, ◌∙◌, List, length, ap, arith, subst, sym}
 use Rattle.std.proofs.lemmas.List.{length-append}
 use Rattle.component.specs.declared.comp.Comp.{Comp}
-use Rattle.component.specs.ComponentStep.{comp_latency, comp_serves}
+use Rattle.component.specs.Serving.{comp_latency, comp_serves}
 use Rattle.event_graph.specs.Fits.{GraphFits}
 use Rattle.replay.proofs.firing.fire_by_domains.Goals as goal
 

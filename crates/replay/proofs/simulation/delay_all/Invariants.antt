@@ -1,6 +1,7 @@
 -- the cores before this one waited, and the others are as they were
 use Rattle.std.proofs.Common.{◌≡◌, ◌<◌, ◌≤◌, ℕ, get_or, slice_index}
-use Rattle.bound_core.specs.TimedCore.{NumberedCore, delayed}
+use Rattle.bound_core.specs.TimedCore.{delayed}
+use Rattle.bound_core.specs.NumberedCores.{NumberedCore}
 use Rattle.replay.proofs.simulation.delay_all.Given as goal
 
 abbrev pub invariant-loop-number : goal.invariant-loop-number

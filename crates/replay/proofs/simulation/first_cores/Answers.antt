@@ -2,7 +2,8 @@ use Rattle.std.proofs.Common.{ℕ, ◌∷◌, [], ◌++◌, List, map, sym, ap, 
 use Rattle.std.specs.List.{range_with_len}
 use Rattle.std.proofs.lemmas.List.{map-append}
 use Rattle.std.proofs.lemmas.List.FromFn.{map-range_with_len_more}
-use Rattle.bound_core.specs.TimedCore.{NumberedCore, TimedCore, first_core, timed_of}
+use Rattle.bound_core.specs.TimedCore.{TimedCore, first_core}
+use Rattle.bound_core.specs.NumberedCores.{NumberedCore, timed_of}
 use Rattle.replay.proofs.Cores.{range_more}
 use Rattle.replay.proofs.simulation.first_cores.Goals as goal
 

@@ -1,7 +1,8 @@
 -- the cores before this one are there
 use Rattle.std.proofs.Common.{◌≡◌, map}
 use Rattle.std.specs.List.{range_with_len}
-use Rattle.bound_core.specs.TimedCore.{first_core, timed_of}
+use Rattle.bound_core.specs.TimedCore.{first_core}
+use Rattle.bound_core.specs.NumberedCores.{timed_of}
 use Rattle.replay.proofs.simulation.first_cores.Given as goal
 
 abbrev pub invariant-loop-number : goal.invariant-loop-number

@@ -1,6 +1,6 @@
 -- the cores before this one have room, and all else is as it was
 use Rattle.std.proofs.Common.{◌≡◌, ◌+◌, ◌<◌, ◌≤◌, ℕ, get_or}
-use Rattle.bound_core.specs.TimedCore.{NumberedCore}
+use Rattle.bound_core.specs.NumberedCores.{NumberedCore}
 use Rattle.replay.proofs.simulation.reserve_all.Given as goal
 
 abbrev pub invariant-loop-number : goal.invariant-loop-number

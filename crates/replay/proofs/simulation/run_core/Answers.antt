@@ -2,7 +2,8 @@ use Rattle.std.proofs.Common.{◌≡◌, ◌≤◌, ◌-◌, ◌+◌, ℕ, min, 
 use Rattle.std.specs.Prelude.{IsSome}
 use Rattle.zs_num.specs.declared.entry.Entry.{Entry}
 use Rattle.bound_core.specs.ShardPort.{room_of}
-use Rattle.bound_core.specs.TimedCore.{TimedCore, latest_clock, most_accesses}
+use Rattle.bound_core.specs.TimedCore.{TimedCore}
+use Rattle.bound_core.specs.IntervalBounds.{latest_clock, most_accesses}
 use Rattle.bound_core.specs.Turn.{RunsToEnd}
 use Rattle.replay.specs.declared.gated_port.GatedPort.{GatedPort}
 use Rattle.replay.specs.Port.{LoggedPortState, gives}

@@ -4,7 +4,7 @@ use Rattle.std.proofs.lemmas.List.{length-set, take_all, take_more}
 use Rattle.std.proofs.lemmas.Option.{slice_get-get_or}
 use Rattle.bound_core.specs.ReferenceMachine.{BoundState}
 use Rattle.bound_core.specs.ShardWorld.{ShardWorld, shards_serve}
-use Rattle.bound_core.specs.TimedCore.{NumberedCore}
+use Rattle.bound_core.specs.NumberedCores.{NumberedCore}
 use Rattle.bound_core.proofs.Reaching.{whole_phase}
 use Rattle.replay.specs.Simulation.{phase_of}
 use Rattle.replay.specs.Turns.{HaveTaken, chosen, time_by_plain}

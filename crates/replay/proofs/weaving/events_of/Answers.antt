@@ -1,5 +1,5 @@
 use Rattle.std.proofs.Common.{◌*◌, ◌^◌, ◌<◌, ◌≤◌, List, length, All, sym, subst}
-use Rattle.component.specs.ComponentStep.{comp_latency, comp_serves}
+use Rattle.component.specs.Serving.{comp_latency, comp_serves}
 use Rattle.event_graph.specs.declared.event.Event.{Event}
 use Rattle.event_graph.specs.Fits.{GraphFits}
 use Rattle.event_graph.specs.Numbered.{IsNumbered}

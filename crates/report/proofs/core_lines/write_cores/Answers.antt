@@ -2,7 +2,7 @@ use Rattle.std.proofs.Common.{◌≡◌, ℕ, suc, ◌+◌, ◌<◌, List, ◌�
 use Rattle.std.specs.Prelude.{slice_get}
 use Rattle.std.specs.List.{zip}
 use Rattle.std.proofs.lemmas.Option.{get_or_from_slice_get}
-use Rattle.bound_core.specs.TimedCore.{NumberedCore}
+use Rattle.bound_core.specs.NumberedCores.{NumberedCore}
 use Rattle.stats.specs.declared.counts.CoreCount.{CoreCount}
 use Rattle.report.specs.ReportText.{core_lines, numbered_lines}
 use Rattle.report.proofs.core_lines.write_cores.Goals as goal

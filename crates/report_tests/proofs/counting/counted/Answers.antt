@@ -5,7 +5,9 @@ use Rattle.machine_desc.specs.declared.machine.Machine.{Machine}
 use Rattle.component.specs.declared.comp.Comp.{Comp}
 use Rattle.component.specs.Components.{AreFresh}
 use Rattle.event_graph.specs.Timely.{AreTimely}
-use Rattle.stats.specs.Counts.{Counts, CountsFit, Interval, added, counts_of, no_counts}
+use Rattle.stats.specs.Counts.{Counts, Interval, counts_of}
+use Rattle.stats.specs.CountsFit.{CountsFit}
+use Rattle.stats.specs.Added.{added, no_counts}
 use Rattle.stats.specs.Laws.{CountersAreSums, NothingIsCountedFirst}
 use Rattle.report_tests.specs.declared.counting.WovenInterval.{WovenInterval}
 use Rattle.report_tests.proofs.counting.counted.Goals as goal

@@ -1,5 +1,6 @@
 use Rattle.std.proofs.Common.{◌≡◌, ◌∙◌, sym, ap, arith}
-use Rattle.rv_decode.specs.InstructionTable.{left_word_shift_rows, named}
+use Rattle.rv_decode.specs.InstructionTable.{left_word_shift_rows}
+use Rattle.rv_decode.specs.Names.{named}
 use Rattle.rv_decode.specs.InstructionWord.{bits_of}
 use Rattle.rv_decode.proofs.DecodedLemmas.{decoded-left_word_shifts}
 use Rattle.rv_decode.proofs.decoder.word_immediate.Goals as goal

@@ -4,7 +4,8 @@ use Rattle.zs_num.specs.Request.{line_of}
 use Rattle.zs_num.specs.declared.entry.Outcome.TheVariants.{Hit, Upgrade, L2, Miss}
 use Rattle.cache_set.specs.declared.letter.Letter.{Letter}
 use Rattle.cache_set.specs.declared.letter.Letter.TheVariants.{M, E, S, I}
-use Rattle.shard.specs.Coherence.{allows, dirty_at, is_alone, is_dirty_victim, is_valid, is_write, l2_victim, letter_at, outcome_by, outcome_of, some_other}
+use Rattle.shard.specs.Coherence.{dirty_at, is_alone, is_dirty_victim, is_valid, is_write, l2_victim, letter_at, outcome_by, outcome_of, some_other}
+use Rattle.shard.specs.Allowed.{allows}
 use Rattle.shard.proofs.laws.hits_are_allowed.Goals as goal
 
 by_table : (write : Bool) (own : Letter) (in_l2 alone has dirty : Bool) → (outcome_by write own in_l2 alone has dirty ≡ Hit) ↔ IsTrue (allows write own)

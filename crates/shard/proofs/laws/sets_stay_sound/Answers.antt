@@ -1,4 +1,5 @@
-use Rattle.shard.specs.Coherence.{Caches, caches_after_all, empty_caches}
+use Rattle.shard.specs.Coherence.{Caches, empty_caches}
+use Rattle.shard.specs.Accesses.{caches_after_all}
 use Rattle.shard.proofs.Fits.{accesses_fit, empty_fit}
 use Rattle.shard.proofs.CoherentSets.{sets_of_fit}
 use Rattle.shard.proofs.CoherentPlaced.{accesses_placed, empty_placed}

@@ -1,6 +1,6 @@
 use Rattle.zs_num.specs.declared.entry.Entry.{Entry}
 use Rattle.stats.specs.Counted.{entry_count}
-use Rattle.stats.specs.Counts.{CoreFits}
+use Rattle.stats.specs.CountsFit.{CoreFits}
 use Rattle.stats.specs.Passes.{with_access, with_accesses}
 use Rattle.stats.proofs.Plus.{core_fewer}
 use Rattle.stats.proofs.Steps.{no_item, item_fits, item_counted}

@@ -2,7 +2,7 @@ use Rattle.std.proofs.Common.{◌≡◌, ℕ, List, ◌∷◌, [], length, All, 
 use Rattle.std.specs.Prelude.{Some, slice_get}
 use Rattle.std.proofs.lemmas.List.{length-append}
 use Rattle.std.proofs.lemmas.List.Elements.{All-push}
-use Rattle.bound_core.specs.TimedCore.{NumberedCore}
+use Rattle.bound_core.specs.NumberedCores.{NumberedCore}
 use Rattle.bound_phase.specs.Bounds.{IsBeforeInterval}
 use Rattle.table_tests.proofs.FirstCores.{each_pushed, starts_first}
 use Rattle.table_tests.proofs.first_interval.first_cores.Goals as goal

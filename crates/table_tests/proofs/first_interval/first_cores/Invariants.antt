@@ -1,7 +1,7 @@
 -- the cores before this one are there
 use Rattle.std.proofs.Common.{◌≡◌, ℕ, length, All}
 use Rattle.std.specs.Prelude.{Some, slice_get}
-use Rattle.bound_core.specs.TimedCore.{NumberedCore}
+use Rattle.bound_core.specs.NumberedCores.{NumberedCore}
 use Rattle.bound_phase.specs.Bounds.{IsBeforeInterval}
 use Rattle.table_tests.proofs.first_interval.first_cores.Given as goal
 

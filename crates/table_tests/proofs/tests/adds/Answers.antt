@@ -1,6 +1,6 @@
 -- The core may ask the shard of the doubleword.
 use Rattle.std.proofs.Common.{arith, rules}
-use Rattle.zs_num.specs.Request.{IsServable}
+use Rattle.zs_num.specs.Servable.{IsServable}
 use Rattle.table_tests.proofs.Asking.{may_ask}
 use Rattle.table_tests.proofs.tests.adds.Goals as goal
 

@@ -1,7 +1,8 @@
 -- The one shard can be asked for the doubleword.
 use Rattle.std.proofs.Common.{◌≡◌, ℕ, ◌<◌, ◌%◌, Some, length, slice_get, rules, ap, sym, ◌∙◌}
 use Rattle.shard.specs.Served.{ShardState}
-use Rattle.zs_num.specs.Request.{IsServable, line_of}
+use Rattle.zs_num.specs.Request.{line_of}
+use Rattle.zs_num.specs.Servable.{IsServable}
 use Rattle.zs_num.specs.declared.request.Request.TheVariants.{Load}
 use Rattle.table_tests.proofs.Asking.{first_there}
 use Rattle.table_tests.proofs.tests.closes.Goals as goal

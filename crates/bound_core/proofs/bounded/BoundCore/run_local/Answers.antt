@@ -1,6 +1,7 @@
 use Rattle.std.proofs.Common.{◌≡◌, ◌<◌, ◌≤◌, ◌+◌, ◌∙◌, ap, sym, arith, true}
 use Rattle.rv_core.specs.Step.{is_free}
-use Rattle.bound_core.specs.TimedCore.{TimedCore, after_instruction, ahead, ran_to}
+use Rattle.bound_core.specs.TimedCore.{TimedCore, after_instruction, ran_to}
+use Rattle.bound_core.specs.Ahead.{ahead}
 use Rattle.bound_core.proofs.Instructions.{cycle_at_most, going, goes_on_by, nearer, same_end}
 use Rattle.bound_core.proofs.bounded.BoundCore.run_local.Goals as goal
 

@@ -1,7 +1,8 @@
 -- what is left to run leads to the same end
 use Rattle.std.proofs.Common.{◌≡◌, ◌≤◌, ◌+◌, ◌-◌, ◌*◌}
 use Rattle.rv_core.specs.Step.{is_free}
-use Rattle.bound_core.specs.TimedCore.{ahead, ran_to}
+use Rattle.bound_core.specs.TimedCore.{ran_to}
+use Rattle.bound_core.specs.Ahead.{ahead}
 use Rattle.bound_core.proofs.Instructions.{going}
 use Rattle.bound_core.proofs.bounded.BoundCore.run_local.Given as goal
 

@@ -1,5 +1,5 @@
 use Rattle.std.proofs.Common.{◌≤◌, ◌+◌, ◌-◌, ◌^◌, ◌∙◌, refl, arith, rules, max}
-use Rattle.bound_core.specs.TimedCore.{latest_clock, most_accesses}
+use Rattle.bound_core.specs.IntervalBounds.{latest_clock, most_accesses}
 use Rattle.bound_core.proofs.Accesses.{clock_within, end_within, latest_small, left_few, most_few}
 use Rattle.bound_core.proofs.Turns.{all_taken, none_taken, one_more}
 use Rattle.bound_core.proofs.bounded.BoundCore.run_one.Goals as goal

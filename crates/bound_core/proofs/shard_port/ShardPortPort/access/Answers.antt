@@ -1,6 +1,6 @@
 use Rattle.std.proofs.Common.{rules, ◌≡◌, ◌≤◌, ◌+◌, ℕ, length, sym, ap, ◌∙◌, subst, arith}
 use Rattle.std.specs.Prelude.{slice_index, slice_set}
-use Rattle.zs_num.specs.Request.{IsServable}
+use Rattle.zs_num.specs.Servable.{IsServable}
 use Rattle.zs_num.specs.declared.entry.Entry.{Entry}
 use Rattle.bound_core.specs.ShardPort.{IsShardAt, IsShardPort, ShardPortState, base_of, greatest_stamp, room_of, size_of}
 use Rattle.bound_core.specs.ShardWorld.{ShardWorld, number_for, shard_for, shards_serve}

@@ -6,7 +6,7 @@ use Rattle.zs_num.specs.declared.entry.Entry.{Entry}
 use Rattle.bound_core.specs.History.{begun_over_shards}
 use Rattle.bound_core.specs.ShardPort.{base_of, room_of, size_of}
 use Rattle.bound_core.specs.ShardWorld.{ShardWorld, begun_world, restarted}
-use Rattle.bound_core.specs.TimedCore.{NumberedCore, timed_of}
+use Rattle.bound_core.specs.NumberedCores.{NumberedCore, timed_of}
 use Rattle.replay.specs.declared.simulation.Simulation.{Simulation}
 use Rattle.replay.specs.ReferenceRun.{access_room, time_of}
 use Rattle.replay.specs.Simulation.{CanRunInterval, HaveRunThroughPort}

@@ -7,9 +7,11 @@ use Rattle.component.specs.ComponentStep.{comp_step}
 use Rattle.component.specs.Components.{AreComponents}
 use Rattle.event_graph.specs.declared.event.Event.{Event}
 use Rattle.event_graph.specs.OneListWeave.{comps_after}
-use Rattle.stats.specs.Counts.{Counts, CountsFit, Interval, added}
+use Rattle.stats.specs.Counts.{Counts, Interval}
+use Rattle.stats.specs.CountsFit.{CountsFit}
+use Rattle.stats.specs.Added.{added}
 use Rattle.stats.specs.Laws.{WasRun}
-use Rattle.bound_core.specs.TimedCore.{NumberedCore, timed_of}
+use Rattle.bound_core.specs.NumberedCores.{NumberedCore, timed_of}
 use Rattle.replay.specs.IntervalWeave.{interval_of}
 use Rattle.replay.specs.ReferenceRun.{all_delayed, time_of, woven_interval}
 use Rattle.replay.specs.Simulation.{AreNumbered, cores_of}

@@ -2,7 +2,9 @@ use Rattle.std.proofs.Common.{◌≡◌, ◌+◌, ◌<◌, ◌^◌, List, length
 use Rattle.std.specs.Vec.{with_items}
 use Rattle.std.proofs.lemmas.List.{with_items_is}
 use Rattle.component.specs.declared.comp.Comp.{Comp}
-use Rattle.stats.specs.Counts.{Counts, CountsFit, Interval, added}
+use Rattle.stats.specs.Counts.{Counts, Interval}
+use Rattle.stats.specs.CountsFit.{CountsFit}
+use Rattle.stats.specs.Added.{added}
 use Rattle.stats.proofs.Added.{core_fits, comp_fits, counts_added}
 use Rattle.stats.proofs.counters.Counters.add.Goals as goal
 
