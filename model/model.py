@@ -722,7 +722,7 @@ class Cases:
         """Returns how the call of a case ends. None where the model does not tell."""
         names = Sure()
         if kind == "call":
-            return self.cut(call_on(rest, self.names))
+            return self.cut(rest)
         if kind == "sure":
             names.held.update(self.names.held)
             return call_on(rest, names)
@@ -739,14 +739,12 @@ class Cases:
             return call_on("run plain A", names)
         return None
 
-    def cut(self, ended):
+    def cut(self, words):
         """Returns how a call ends on the streams that stand ready. Those of the next one take all."""
         cuts, self.cuts = self.cuts, {}
+        ended = call_on(words, self.names, cuts.get("out", [1]))
         if ended is None:
             return None
-        output, fails = taken(ended.output, cuts.get("out", [1]))
-        if fails:
-            ended = Ended(5, "zsim: cannot write\n", output)
         return Ended(ended.status, taken(ended.error, cuts.get("err", [1]))[0], ended.output)
 
 
@@ -773,8 +771,9 @@ def contents_of(text):
     }[kind]()
 
 
-def call_on(text, names):
-    """Returns how a call on words ends. None where that is told by a check of words, executables or descriptions."""
+def call_on(text, names, cut=(1,)):
+    """Returns how a call on words ends whose standard output is cut so. None where that is told by a check of words,
+    executables or descriptions."""
     command, *words = [word for word in text.replace("=", " ").split() if word != "--brief"]
     if command not in ("run", "replay"):
         return None
@@ -794,7 +793,9 @@ def call_on(text, names):
         return Ended(4, f"zsim: cannot {what}\n")
     except Untold:
         return None
-    output = report(run, "--brief" in text.split())
+    output, fails = taken(report(run, "--brief" in text.split()), cut)
+    if fails:
+        return Ended(5, "zsim: cannot write\n", output)
     try:
         if "--record" in options:
             names.write(options["--record"], schedule_file(cores, run.schedule))
