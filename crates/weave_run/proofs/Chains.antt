@@ -25,7 +25,7 @@ module _ {C : Type 0} (stepped : C → Kind → ℕ → C × ℕ) (plan : Plan C
   abbrev crossings : List Crossing
   crossings = plan.parts.value.crossings
 
-  last_of : (parent link : ℕ) → parent < length plan.graph.value → link ≡ get_or o.last.items parent 0 → IsLastBelow crossings (length crossings) parent link
+  pub last_of : (parent link : ℕ) → parent < length plan.graph.value → link ≡ get_or o.last.items parent 0 → IsLastBelow crossings (length crossings) parent link
   last_of parent link l is =
       subst (IsLastBelow crossings (length crossings) parent) (sym is) (out.linked.lasts parent (let n = out.events_are in omega (arith, l, n)))
 

@@ -1,6 +1,6 @@
 -- Which events are among those that fired.
 use Rattle.std.proofs.Common.{◌≡◌, ◌<◌, ℕ, zero, suc, length, slice_get, ◌∙◌, Bool, true, false, cond, eqb, List, [], ◌∷◌, ◌++◌, Some, None, is_some, ap, refl, arith}
-use Rattle.std.proofs.lemmas.Bool.{false≢true}
+use Rattle.std.proofs.lemmas.Bool.{false≢true, ne_eqb}
 use Rattle.std.proofs.lemmas.Option.{same_Some, none-some}
 use Rattle.std.proofs.lemmas.Bool.Decides.{nat_tests}
 use Rattle.event_graph.specs.OneListWeave.{FiredEvent, find_fired, is_fired}
@@ -18,6 +18,14 @@ fired_last [] x n e = ap (λ (t : Bool). is_some (cond t (Some x) None)) (let t 
 fired_last (y ∷ xs) x n e = by_test (eqb y.event.number n) (fired_last xs x n e)
   where
     by_test : (t : Bool) → is_fired (xs ++ x ∷ []) n ≡ true → is_some (cond t (Some y) (find_fired (xs ++ x ∷ []) n)) ≡ true
+    by_test true h = refl
+    by_test false h = h
+
+pub fired_no_other : (xs : List FiredEvent) (x : FiredEvent) (n : ℕ) → (x.event.number ≡ n → ⊥) → is_fired (xs ++ x ∷ []) n ≡ is_fired xs n
+fired_no_other [] x n other = ap (λ (t : Bool). is_some (cond t (Some x) None)) (ne_eqb x.event.number n other)
+fired_no_other (y ∷ xs) x n other = by_test (eqb y.event.number n) (fired_no_other xs x n other)
+  where
+    by_test : (t : Bool) → is_fired (xs ++ x ∷ []) n ≡ is_fired xs n → is_some (cond t (Some y) (find_fired (xs ++ x ∷ []) n)) ≡ is_some (cond t (Some y) (find_fired xs n))
     by_test true h = refl
     by_test false h = h
 

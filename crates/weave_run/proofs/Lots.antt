@@ -166,6 +166,7 @@ module _ {C : Type 0} (stepped : C → Kind → ℕ → C × ℕ) (plan : Plan C
           let r : HasServed stepped plan table p.0 q.0 = h.ran place p.0 q.0 (omega arith) p.1.0 q.1.0 in
           subst (λ (x : DomainValue C). HasRun stepped plan x w) p.1.1 (subst (HasRun stepped plan p.0.domain) q.1.1 r.ran);
     };
+    published = λ place p q at after. (h.ran place p q (omega arith) at after).published;
     seated = record {
       each = λ place q after.
           let p = there_at old.posts.items place (let b = slice_get_within now.posts.items place q after in let n = h.count in omega (arith, b, n)) in

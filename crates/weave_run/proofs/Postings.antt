@@ -1,34 +1,34 @@
 -- What a domain publishes, and what it finds in the words.
-use Rattle.std.proofs.Common.{◌≡◌, ◌+◌, ◌-◌, ◌%◌, ◌<◌, ◌≤◌, ◌^◌, ℕ, zero, suc, Bool, true, false, List, [], ◌∷◌, length, map, set, get_or, slice_index, ◌⊎◌, Some, slice_get, sym, ◌∙◌, ap, subst, refl, inl, inr, arith}
-use Rattle.std.proofs.lemmas.Bool.{false≢true, cases_lt}
-use Rattle.std.proofs.lemmas.List.{append-nil, get_or-set_other, length-map}
+use Rattle.std.proofs.Common.{◌≡◌, ◌+◌, ◌-◌, ◌*◌, ◌%◌, ◌<◌, ◌≤◌, ◌^◌, ℕ, zero, suc, Bool, true, false, List, [], ◌∷◌, length, map, set, get_or, slice_index, ◌⊎◌, Some, slice_get, sym, ◌∙◌, ap, subst, refl, inl, inr, arith, length-set}
+use Rattle.std.proofs.lemmas.Bool.{false≢true, cases_eq, cases_lt}
+use Rattle.std.proofs.lemmas.List.{append-nil, get_or-set_other, get_or-set_same, length-map}
 use Rattle.std.proofs.lemmas.Option.{same_Some, none-some, slice_get_within}
 use Rattle.atomic_table.specs.Seated.{TableId}
 use Rattle.zs_num.specs.declared.time.Key.{Key}
 use Rattle.zs_num.specs.declared.time.Word.{Word}
-use Rattle.zs_num.specs.declared.time.Word.TheVariants.{Exact}
+use Rattle.zs_num.specs.declared.time.Word.TheVariants.{Bound, Exact}
 use Rattle.component.specs.declared.kind.Kind.{Kind}
 use Rattle.event_graph.specs.declared.event.Event.{Event}
 use Rattle.event_graph.specs.declared.fired.Fired.{Fired}
 use Rattle.event_graph.specs.OneListWeave.{FiredEvent, finish_in, is_fired, woven}
 use Rattle.domain_map.specs.declared.crossing.Crossing.{Crossing}
 use Rattle.domain_map.specs.Domains.{Partition, domain_of_event}
-use Rattle.crossing.specs.Seats.{IsTrueOfFinish, Looked, MayWrite, SeatValue, finishes_of, sources_of, with_written}
+use Rattle.crossing.specs.Seats.{IsTrueOfFinish, Looked, MayWrite, SeatValue, finishes_of, kept_number, sources_of, with_written}
 use Rattle.weave_core.specs.DomainCalls.{DomainValue, IsAnswer, MayTell, with_known}
-use Rattle.weave_core.specs.DomainMachine.{DomainState, word_at}
+use Rattle.weave_core.specs.DomainMachine.{DomainState, is_exact, word_at}
 use Rattle.weave_core.specs.Keeping.{IsFinishOf, IsReadyEvent, JoinsDomains, KeepingLaws}
 use Rattle.weave_core.specs.declared.next.Next.{Next}
 use Rattle.weave_core.specs.declared.next.Next.TheVariants.{Blocked, Done, Fire}
 use Rattle.weave_run.specs.Outgoing.{AreOutgoing, IsLastBelow}
 use Rattle.weave_run.specs.Rounds.{CanWeavePlan, Grows, HasFiredNext, HasGoneOn, IsFinish}
-use Rattle.weave_run.specs.Seating.{IsPostSeated, HasFiredThere, HasLooked, HasPublished, HasServed, IsSeatOfPlan, MayPublish}
+use Rattle.weave_run.specs.Seating.{IsInformed, IsPostSeated, HasFiredThere, HasLooked, HasPublished, HasPublishedSince, HasServed, IsSeatOfPlan, MayPublish, after_finding}
 use Rattle.weave_run.specs.declared.outgoing.Outgoing.{Outgoing}
 use Rattle.weave_run.specs.declared.plan.Plan.{Plan}
 use Rattle.weave_run.specs.declared.post.Post.{Post}
-use Rattle.weave_run.proofs.Chains.{IsLink, before_less, before_of, next_link, read_there}
-use Rattle.weave_run.proofs.Firings.{fired_by_more, fired_last}
+use Rattle.weave_run.proofs.Chains.{IsLink, before_less, before_of, last_of, next_link, read_there}
+use Rattle.weave_run.proofs.Firings.{fired_by_more, fired_last, fired_no_other}
 use Rattle.weave_run.proofs.Running.{goes_after, goes_nowhere, same_value}
-use Rattle.weave_run.proofs.Tellings.{grows_nothing, grows_twice, word_told}
+use Rattle.weave_run.proofs.Tellings.{grows_nothing, grows_twice, read_set, stays_exact, word_told}
 
 index_map : {X : Type 0} (f : X → ℕ) (xs : List X) (i : ℕ) (x : X) → slice_get xs i ≡ Some x → slice_index (map f xs) i ≡ f x
 index_map f [] i x h = absurd (none-some x h)
@@ -55,27 +55,56 @@ module _ {C : Type 0} (stepped : C → Kind → ℕ → C × ℕ) (plan : Plan C
   -- ---- publishing
 
   -- the crossings from the link on are published
-  pub record IsPublishing (old now : SeatValue) (parent link : ℕ) : Type 0 where
+  pub record IsPublishing (old now : SeatValue) (parent finish link : ℕ) : Type 0 where
     pub crossings_are : now.crossings ≡ old.crossings
     pub domain_is : now.domain ≡ old.domain
     pub finishes_are : now.finishes ≡ old.finishes
     pub sources_are : now.sources ≡ old.sources
+    pub noted_are : now.noted ≡ old.noted
+    pub looks_are : now.looks ≡ old.looks
+    pub wide : length now.wrote ≡ length old.wrote
+    pub all : (number : ℕ) (x : Crossing) → link ≤ number → slice_get crossings number ≡ Some x → x.parent ≡ parent → slice_index now.wrote number ≡ kept_number (Exact finish)
     pub others : (number : ℕ) (x : Crossing) → slice_get crossings number ≡ Some x → (number < link) ⊎ (x.parent ≡ parent → ⊥) → slice_index now.wrote number ≡ slice_index old.wrote number
 
-  pub none_published : (s : SeatValue) (parent link : ℕ) → IsPublishing s s parent link
-  none_published s parent link = record { crossings_are = refl; domain_is = refl; finishes_are = refl; sources_are = refl; others = λ number x at h. refl }
+  -- before the first
+  pub record IsPublishStart (s : SeatValue) (parent finish link : ℕ) : Type 0 where
+    pub link_is : IsLink crossings parent link
+    pub published : IsPublishing s s parent finish link
 
-  pub all_published : (old now : SeatValue) (parent link : ℕ) → IsPublishing old now parent link → HasPublished plan old now parent
-  all_published old now parent link h = record {
+  pub none_published : (o : Outgoing) → AreOutgoing crossings (length plan.graph.value) o → (s : SeatValue) (parent finish link d : ℕ) → parent < length plan.graph.value → link ≡ get_or o.last.items parent d → IsPublishStart s parent finish link
+  none_published o out s parent finish link d l is =
+      let reads : link ≡ get_or o.last.items parent 0 = is ∙ read_there o.last.items parent d (let n = out.events_are in omega (arith, l, n)) in
+      let b : IsLastBelow crossings (length crossings) parent link = last_of stepped plan o out parent link l reads in
+      record {
+        link_is = record { below = b.below; there = b.there };
+        published = record {
+          crossings_are = refl;
+          domain_is = refl;
+          finishes_are = refl;
+          sources_are = refl;
+          noted_are = refl;
+          looks_are = refl;
+          wide = refl;
+          all = λ number x from at e. absurd (b.none_behind number x from (slice_get_within crossings number x at) at e);
+          others = λ number x at h. refl;
+        };
+      }
+
+  pub all_published : (old now : SeatValue) (parent finish link : ℕ) → link ≤ 0 → IsPublishing old now parent finish link → HasPublished plan old now parent finish
+  all_published old now parent finish link none h = record {
     crossings_are = h.crossings_are;
     domain_is = h.domain_is;
     finishes_are = h.finishes_are;
     sources_are = h.sources_are;
+    noted_are = h.noted_are;
+    looks_are = h.looks_are;
+    wide = h.wide;
+    all = λ number x at e. h.all number x (omega (arith, none)) at e;
     others = λ number x at other. h.others number x at (inr other);
   }
 
-  module _ (table : TableId) (old now : SeatValue) (parent link finish : ℕ) (some : link ≡ 0 → ⊥) (seat : IsSeatOfPlan stepped plan table old.domain old) (may : MayPublish plan old parent) (is_finish : IsFinish stepped plan parent finish)
-      (h : IsLink crossings parent link) (so_far : IsPublishing old now parent link) where
+  module _ (table : TableId) (old now : SeatValue) (parent link finish : ℕ) (some : 0 < link) (seat : IsSeatOfPlan stepped plan table old.domain old) (may : MayPublish plan old parent) (is_finish : IsFinish stepped plan parent finish)
+      (h : IsLink crossings parent link) (so_far : IsPublishing old now parent finish link) where
     abbrev number : ℕ
     number = link - 1
 
@@ -109,14 +138,16 @@ module _ {C : Type 0} (stepped : C → Kind → ℕ → C × ℕ) (plan : Plan C
 
     pub record IsPublishStep (new : SeatValue) (before : ℕ) : Type 0 where
       pub link_is : IsLink crossings parent before
-      pub published : IsPublishing old new parent before
+      pub published : IsPublishing old new parent finish before
       pub less : before < link
 
-    pub publish_step : (o : Outgoing) → AreOutgoing crossings (length plan.graph.value) o → (new : SeatValue) (n before d : ℕ) → new ≡ with_written now (link - 1) n → before ≡ get_or o.before.items (link - 1) d → IsPublishStep new before
-    publish_step o out new n before d new_is is =
+    pub publish_step : (o : Outgoing) → AreOutgoing crossings (length plan.graph.value) o → (new : SeatValue) (before d : ℕ) → new ≡ with_written now (link - 1) (2 * finish + 1) → before ≡ get_or o.before.items (link - 1) d → IsPublishStep new before
+    publish_step o out new before d new_is is =
         let below : link - 1 < length o.before.items = (let w = slice_get_within crossings (link - 1) one at_one in let m = out.crossings_are in omega (arith, w, m)) in
         let reads : before ≡ get_or o.before.items (link - 1) 0 = is ∙ read_there o.before.items (link - 1) d below in
         let last : IsLastBelow crossings (link - 1) parent before = before_of stepped plan o out parent link (link - 1) before h more reads in
+        let written : (m : ℕ) → slice_index new.wrote m ≡ slice_index (set now.wrote (link - 1) (2 * finish + 1)) m = λ m. ap (λ (s : SeatValue). slice_index s.wrote m) new_is in
+        let room : link - 1 < length now.wrote = (let n = may_write.there in let a = so_far.wide in let b = seat.wide in let l = ap length so_far.sources_are in omega (arith, n, a, b, l)) in
         record {
           link_is = next_link stepped plan o out parent link (link - 1) before h more reads;
           less = before_less stepped plan o out parent link (link - 1) before h more reads;
@@ -125,17 +156,30 @@ module _ {C : Type 0} (stepped : C → Kind → ℕ → C × ℕ) (plan : Plan C
             domain_is = ap (λ (s : SeatValue). s.domain) new_is ∙ so_far.domain_is;
             finishes_are = ap (λ (s : SeatValue). s.finishes) new_is ∙ so_far.finishes_are;
             sources_are = ap (λ (s : SeatValue). s.sources) new_is ∙ so_far.sources_are;
+            noted_are = ap (λ (s : SeatValue). s.noted) new_is ∙ so_far.noted_are;
+            looks_are = ap (λ (s : SeatValue). s.looks) new_is ∙ so_far.looks_are;
+            wide = ap (λ (s : SeatValue). length s.wrote) new_is ∙ (length-set now.wrote (link - 1) (2 * finish + 1) ∙ so_far.wide);
+            all = λ m x from at e.
+                elim (cases_eq m (link - 1)) [
+                  | inl same ↦
+                      written m
+                      ∙ (ap (λ (k : ℕ). slice_index (set now.wrote (link - 1) (2 * finish + 1)) k) same ∙ get_or-set_same now.wrote (link - 1) (2 * finish + 1) 0 room)
+                  | inr apart ↦
+                      elim (cases_lt m (link - 1)) [
+                        | inl less ↦ absurd (last.none_behind m x from less at e)
+                        | inr past ↦ written m ∙ (get_or-set_other now.wrote (link - 1) m (2 * finish + 1) 0 apart ∙ so_far.all m x (omega (arith, past, apart, more)) at e)
+                      ]
+                ];
             others = λ m x at other.
-                let written : slice_index new.wrote m ≡ slice_index (set now.wrote (link - 1) n) m = ap (λ (s : SeatValue). slice_index s.wrote m) new_is in
                 elim other [
                   | inl less ↦
                       let apart : m ≡ link - 1 → ⊥ = λ e. (let b = last.below in omega (arith, b, less, e)) in
-                      written ∙ (get_or-set_other now.wrote (link - 1) m n 0 apart ∙ so_far.others m x at (inl (let b = last.below in omega (arith, b, less, more))))
+                      written m ∙ (get_or-set_other now.wrote (link - 1) m (2 * finish + 1) 0 apart ∙ so_far.others m x at (inl (let b = last.below in omega (arith, b, less, more))))
                   | inr differs ↦
                       let apart : m ≡ link - 1 → ⊥ =
                       λ e. differs (ap (λ (z : Crossing). z.parent) (same_Some x one (sym at ∙ (ap (slice_get crossings) e ∙ at_one))) ∙ parent_is)
                       in
-                      written ∙ (get_or-set_other now.wrote (link - 1) m n 0 apart ∙ so_far.others m x at (inr differs))
+                      written m ∙ (get_or-set_other now.wrote (link - 1) m (2 * finish + 1) 0 apart ∙ so_far.others m x at (inr differs))
                 ];
           };
         }
@@ -148,29 +192,90 @@ module _ {C : Type 0} (stepped : C → Kind → ℕ → C × ℕ) (plan : Plan C
     pub can : IsPostSeated stepped plan table now
     pub same : now.domain.domain ≡ first.domain.domain
     pub grows : Grows first.domain.own now.domain.own
+    pub published : HasPublishedSince stepped plan first now
+
+  -- nothing fired, and nothing written
+  nothing_published : (old new : Post C) → new.domain.own.fired ≡ old.domain.own.fired → ((n : ℕ) → slice_index new.seat.wrote n ≡ slice_index old.seat.wrote n) → HasPublishedSince stepped plan old new
+  nothing_published old new fired wrote = record {
+    finishes = λ number finish x at un is f. absurd (false≢true (sym un ∙ (ap (λ (xs : List FiredEvent). is_fired xs x.parent) (sym fired) ∙ is)));
+    others = λ number x at same. wrote number;
+  }
+
+  still : (a b : DomainState) → Grows a b → (n : ℕ) → is_fired a.fired n ≡ true → is_fired b.fired n ≡ true
+  still a b g n h = ap (λ (xs : List FiredEvent). is_fired xs n) g.fired ∙ fired_by_more a.fired g.rest n h
+
+  unfired_before : (a b : DomainState) → Grows a b → (n : ℕ) → is_fired b.fired n ≡ false → is_fired a.fired n ≡ false
+  unfired_before a b g n un = by_test (is_fired a.fired n) refl
+    where
+      by_test : (t : Bool) → is_fired a.fired n ≡ t → is_fired a.fired n ≡ false
+      by_test false e = e
+      by_test true e = absurd (false≢true (sym un ∙ still a b g n e))
+
+  published_twice : (first old new : Post C) → Grows first.domain.own old.domain.own → Grows old.domain.own new.domain.own → HasPublishedSince stepped plan first old → HasPublishedSince stepped plan old new → HasPublishedSince stepped plan first new
+  published_twice first old new g k h p = record {
+    finishes = λ number finish x at un is f. finished number finish x at un is f (is_fired old.domain.own.fired x.parent) refl;
+    others = λ number x at same. unchanged number x at same (is_fired first.domain.own.fired x.parent) refl;
+  }
+    where
+      finished : (number finish : ℕ) (x : Crossing) → slice_get plan.parts.value.crossings number ≡ Some x → is_fired first.domain.own.fired x.parent ≡ false → is_fired new.domain.own.fired x.parent ≡ true → IsFinish stepped plan x.parent finish
+          → (t : Bool) → is_fired old.domain.own.fired x.parent ≡ t → slice_index new.seat.wrote number ≡ kept_number (Exact finish)
+      finished number finish x at un is f true e = p.others number x at (is ∙ sym e) ∙ h.finishes number finish x at un e f
+      finished number finish x at un is f false e = p.finishes number finish x at e is f
+
+      unchanged : (number : ℕ) (x : Crossing) → slice_get plan.parts.value.crossings number ≡ Some x → is_fired new.domain.own.fired x.parent ≡ is_fired first.domain.own.fired x.parent
+          → (t : Bool) → is_fired first.domain.own.fired x.parent ≡ t → slice_index new.seat.wrote number ≡ slice_index first.seat.wrote number
+      unchanged number x at same true e =
+          let mid : is_fired old.domain.own.fired x.parent ≡ true = still first.domain.own old.domain.own g x.parent e in
+          p.others number x at (same ∙ (e ∙ sym mid)) ∙ h.others number x at (mid ∙ sym e)
+      unchanged number x at same false e =
+          let mid : is_fired old.domain.own.fired x.parent ≡ false = unfired_before old.domain.own new.domain.own k x.parent (same ∙ e) in
+          p.others number x at (same ∙ (e ∙ sym mid)) ∙ h.others number x at (mid ∙ sym e)
 
   pub not_served : (post : Post C) → IsPostSeated stepped plan table post → HasServedSo post post
-  not_served post ok = record { can = ok; same = refl; grows = grows_nothing post.domain.own }
+  not_served post ok = record { can = ok; same = refl; grows = grows_nothing post.domain.own; published = nothing_published post post refl (λ n. refl) }
 
   pub served_by_firing : (first old new : Post C) → HasServedSo first old → HasFiredThere stepped plan table old new → HasServedSo first new
-  served_by_firing first old new h f = record {
-    can = f.can;
-    same = f.fired.same ∙ h.same;
-    grows = grows_twice first.domain.own old.domain.own new.domain.own h.grows
-        (record {
-          rest = (record { event = f.fired.event; start = f.fired.start; finish = f.finish.finish }) ∷ [];
-          fired = f.fired.fired;
-          floor = f.fired.floor;
-          words = λ n. inl (ap (λ (ws : List Word). word_at ws n) f.fired.known);
-        });
-  }
+  served_by_firing first old new h f =
+      let grows : Grows old.domain.own new.domain.own = record {
+        rest = (record { event = f.fired.event; start = f.fired.start; finish = f.finish.finish }) ∷ [];
+        fired = f.fired.fired;
+        floor = f.fired.floor;
+        words = λ n. inl (ap (λ (ws : List Word). word_at ws n) f.fired.known);
+      } in
+      record {
+        can = f.can;
+        same = f.fired.same ∙ h.same;
+        grows = grows_twice first.domain.own old.domain.own new.domain.own h.grows grows;
+        published = published_twice first old new h.grows grows h.published f.published;
+      }
 
-  pub served_by_looking : (first old new : Post C) → HasServedSo first old → HasLooked stepped plan table old new → HasServedSo first new
-  served_by_looking first old new h l = record {
-    can = l.can;
-    same = l.same ∙ h.same;
-    grows = grows_twice first.domain.own old.domain.own new.domain.own h.grows l.grows;
-  }
+  -- a domain that found a word of a crossing
+  pub grows_by_finding : (v w : DomainValue C) (number : ℕ) (word : Word) → w ≡ after_finding v number word → Grows v.own w.own
+  grows_by_finding v w n (Bound b) is = subst (λ (u : DomainValue C). Grows v.own u.own) (sym is) (grows_nothing v.own)
+  grows_by_finding v w n (Exact f) is =
+      subst (λ (u : DomainValue C). Grows v.own u.own) (sym is) (record { rest = []; fired = sym (append-nil v.own.fired); floor = refl; words = word_told v.own n f })
+
+  pub same_by_finding : (v w : DomainValue C) (number : ℕ) (word : Word) → w ≡ after_finding v number word → w.domain ≡ v.domain
+  same_by_finding v w n (Bound b) is = ap (λ (u : DomainValue C). u.domain) is
+  same_by_finding v w n (Exact f) is = ap (λ (u : DomainValue C). u.domain) is
+
+  fires_no_event : (v w : DomainValue C) (number : ℕ) (word : Word) → w ≡ after_finding v number word → w.own.fired ≡ v.own.fired
+  fires_no_event v w n (Bound b) is = ap (λ (u : DomainValue C). u.own.fired) is
+  fires_no_event v w n (Exact f) is = ap (λ (u : DomainValue C). u.own.fired) is
+
+  pub grows_by_looking : (old new : Post C) (number : ℕ) (finished : Bool) → HasLooked stepped plan table old new number finished → Grows old.domain.own new.domain.own
+  grows_by_looking old new number finished l = grows_by_finding old.domain new.domain number l.word l.told
+
+  pub served_by_looking : (first old new : Post C) (number : ℕ) (finished : Bool) → HasServedSo first old → HasLooked stepped plan table old new number finished → HasServedSo first new
+  served_by_looking first old new number finished h l =
+      let grows : Grows old.domain.own new.domain.own = grows_by_looking old new number finished l in
+      record {
+        can = l.can;
+        same = same_by_finding old.domain new.domain number l.word l.told ∙ h.same;
+        grows = grows_twice first.domain.own old.domain.own new.domain.own h.grows grows;
+        published = published_twice first old new h.grows grows h.published
+            (nothing_published old new (fires_no_event old.domain new.domain number l.word l.told) (λ n. ap (λ (s : SeatValue). slice_index s.wrote n) l.found.new_is));
+      }
 
 pub blocked_is_no_fire : (number bound : ℕ) (key : Key) → ◌≡◌ {A = Next} (Blocked number bound) (Fire key) → ⊥
 blocked_is_no_fire number bound key e = cc
@@ -210,37 +315,69 @@ module _ {C : Type 0} (serves : C → Kind → Bool) (floor : C → Kind → ℕ
       domain_is = ap (λ (s : SeatValue). s.domain) looked.new_is ∙ ok.seated.seat.domain_is;
       finishes_are = ap (λ (s : SeatValue). s.finishes) looked.new_is ∙ ok.seated.seat.finishes_are;
       sources_are = ap (λ (s : SeatValue). s.sources) looked.new_is ∙ ok.seated.seat.sources_are;
+      wide = ap (λ (s : SeatValue). length s.wrote) looked.new_is ∙ (ok.seated.seat.wide ∙ sym (ap (λ (s : SeatValue). length s.sources) looked.new_is));
     }
+
+    noted_there : (n : ℕ) → ((n ≡ number) × (slice_index seat.noted n ≡ kept_number word)) ⊎ (slice_index seat.noted n ≡ slice_index old.seat.noted n)
+    noted_there n =
+        let is : slice_index seat.noted n ≡ slice_index (set old.seat.noted number (kept_number word)) n = ap (λ (s : SeatValue). slice_index s.noted n) looked.new_is in
+        elim (read_set old.seat.noted number (kept_number word) 0 n) [ inl a ↦ inl (a.0, is ∙ a.1) | inr b ↦ inr (is ∙ b) ]
+
+    -- a domain that knows more, and the finish where the word says it
+    still_informed : (w : DomainValue C) → Grows old.domain.own w.own → (kept_number word % 2 ≡ 1 → is_exact (word_at w.own.known number) ≡ true) → IsInformed w seat
+    still_informed w grows told n odd =
+        elim (noted_there n) [
+          | inl here ↦ subst (λ (m : ℕ). is_exact (word_at w.own.known m) ≡ true) (sym here.0) (told (ap (λ (k : ℕ). k % 2) (sym here.1) ∙ odd))
+          | inr other ↦ stays_exact old.domain.own w.own n (grows.words n) (ok.seated.informed n (ap (λ (k : ℕ). k % 2) (sym other) ∙ odd))
+        ]
 
     wrote_same : (n : ℕ) → slice_index seat.wrote n ≡ slice_index old.seat.wrote n
     wrote_same n = ap (λ (s : SeatValue). slice_index s.wrote n) looked.new_is
 
     pub has_looked : (finish : ℕ) (w : DomainValue C) → word ≡ Exact finish → w ≡ record old.domain { own = with_known old.domain.own number word }
-        → HasLooked stepped plan table old (record { number = old.number; domain = w; seat = seat })
+        → HasLooked stepped plan table old (record { number = old.number; domain = w; seat = seat }) number true
     has_looked finish w e is =
-        let w_is : w ≡ record old.domain { own = with_known old.domain.own number (Exact finish) } = is ∙ ap (λ (z : Word). let v : DomainValue C = record old.domain { own = with_known old.domain.own number z } in v) e in
-        subst (λ (v : DomainValue C). HasLooked stepped plan table old (record { number = old.number; domain = v; seat = seat })) (sym w_is)
+        let told : DomainValue C = record old.domain { own = with_known old.domain.own number (Exact finish) } in
+        let w_is : w ≡ told = is ∙ ap (λ (z : Word). let v : DomainValue C = record old.domain { own = with_known old.domain.own number z } in v) e in
+        let wide : number < length old.domain.own.known = (let l = slice_get_within partition.crossings number x at in let k = ok.kept.keeps.wide in omega (arith, l, k)) in
+        subst (λ (v : DomainValue C). HasLooked stepped plan table old (record { number = old.number; domain = v; seat = seat }) number true) (sym w_is)
         (record {
           can = record {
             kept = record {
-              is = same_value (record old.domain { own = with_known old.domain.own number (Exact finish) }) events partition old.domain.domain (ap (λ (v : DomainValue C). v.events) ok.kept.is) (ap (λ (v : DomainValue C). v.partition) ok.kept.is) refl;
+              is = same_value told events partition old.domain.domain (ap (λ (v : DomainValue C). v.events) ok.kept.is) (ap (λ (v : DomainValue C). v.partition) ok.kept.is) refl;
               keeps = laws.tells events partition plan.comps.value can old.domain.domain old.domain.own old.domain.comps number finish ok.kept.keeps (finish_of finish e);
             };
-            seated = record { seat = same_seat; unpublished = λ n y there source unfired. ap (λ (k : ℕ). k % 2) (wrote_same n) ∙ ok.seated.unpublished n y there source unfired };
+            seated = record {
+              seat = same_seat;
+              unpublished = λ n y there source unfired. ap (λ (k : ℕ). k % 2) (wrote_same n) ∙ ok.seated.unpublished n y there source unfired;
+              informed = still_informed told (grows_by_finding stepped plan table old.domain told number (Exact finish) refl)
+                  (λ odd. ap is_exact (get_or-set_same old.domain.own.known number (Exact finish) (Bound 0) wide));
+            };
           };
-          same = refl;
-          grows = record { rest = []; fired = sym (append-nil old.domain.own.fired); floor = refl; words = word_told old.domain.own number finish };
+          word = word;
+          found = looked;
+          told = ap (after_finding old.domain number) (sym e);
+          answer = ap is_exact (sym e);
         })
 
-    pub has_looked_in_vain : HasLooked stepped plan table old (record { number = old.number; domain = old.domain; seat = seat })
-    has_looked_in_vain = record {
+    pub has_looked_in_vain : (bound : ℕ) → word ≡ Bound bound → HasLooked stepped plan table old (record { number = old.number; domain = old.domain; seat = seat }) number false
+    has_looked_in_vain bound e = record {
       can = record {
         kept = ok.kept;
-        seated = record { seat = same_seat; unpublished = λ n y there source unfired. ap (λ (k : ℕ). k % 2) (wrote_same n) ∙ ok.seated.unpublished n y there source unfired };
+        seated = record {
+          seat = same_seat;
+          unpublished = λ n y there source unfired. ap (λ (k : ℕ). k % 2) (wrote_same n) ∙ ok.seated.unpublished n y there source unfired;
+          informed = still_informed old.domain (grows_nothing old.domain.own) (λ odd. absurd (even bound (ap (λ (w : Word). kept_number w % 2) (sym e) ∙ odd)));
+        };
       };
-      same = refl;
-      grows = grows_nothing old.domain.own;
+      word = word;
+      found = looked;
+      told = ap (after_finding old.domain number) (sym e);
+      answer = ap is_exact (sym e);
     }
+      where
+        even : (b : ℕ) → (2 * b) % 2 ≡ 1 → ⊥
+        even b h = omega (arith, h)
 
   -- ---- firing
 
@@ -270,7 +407,7 @@ module _ {C : Type 0} (serves : C → Kind → Bool) (floor : C → Kind → ℕ
     }
 
     pub own_seat : IsSeatOfPlan stepped plan table old.seat.domain old.seat
-    own_seat = record { crossings_are = ok.seated.seat.crossings_are; domain_is = refl; finishes_are = ok.seated.seat.finishes_are; sources_are = ok.seated.seat.sources_are }
+    own_seat = record { crossings_are = ok.seated.seat.crossings_are; domain_is = refl; finishes_are = ok.seated.seat.finishes_are; sources_are = ok.seated.seat.sources_are; wide = ok.seated.seat.wide }
 
     now_fired : (n : ℕ) → is_fired v.own.fired n ≡ false → is_fired old.domain.own.fired n ≡ false
     now_fired n un = by_test (is_fired old.domain.own.fired n) refl
@@ -279,7 +416,11 @@ module _ {C : Type 0} (serves : C → Kind → Bool) (floor : C → Kind → ℕ
         by_test false e = e
         by_test true e = absurd (false≢true (sym un ∙ (ap (λ (xs : List FiredEvent). is_fired xs n) f.fired ∙ fired_by_more old.domain.own.fired _ n e)))
 
-    pub fired_there : (s : SeatValue) → HasPublished plan old.seat s result.number → HasFiredThere stepped plan table old (record { number = old.number; domain = v; seat = s })
+    fires_other : (n : ℕ) → (n ≡ result.number → ⊥) → is_fired v.own.fired n ≡ is_fired old.domain.own.fired n
+    fires_other n differs =
+        ap (λ (xs : List FiredEvent). is_fired xs n) f.fired ∙ fired_no_other old.domain.own.fired (record { event = f.event; start = f.start; finish = result.finish }) n (λ e. differs (sym e ∙ sym f.number))
+
+    pub fired_there : (s : SeatValue) → HasPublished plan old.seat s result.number result.finish → HasFiredThere stepped plan table old (record { number = old.number; domain = v; seat = s })
     fired_there s p = record {
       can = record {
         kept = f.kept;
@@ -289,7 +430,10 @@ module _ {C : Type 0} (serves : C → Kind → Bool) (floor : C → Kind → ℕ
             domain_is = p.domain_is ∙ (ok.seated.seat.domain_is ∙ sym f.same);
             finishes_are = p.finishes_are ∙ ok.seated.seat.finishes_are;
             sources_are = p.sources_are ∙ ok.seated.seat.sources_are;
+            wide = p.wide ∙ (ok.seated.seat.wide ∙ sym (ap length p.sources_are));
           };
+          informed = λ n odd.
+              ap (λ (ws : List Word). is_exact (word_at ws n)) f.known ∙ ok.seated.informed n (ap (λ (ks : List ℕ). slice_index ks n % 2) (sym p.noted_are) ∙ odd);
           unpublished = λ n x at source un.
               let differs : x.parent ≡ result.number → ⊥ =
               λ e. false≢true
@@ -300,6 +444,20 @@ module _ {C : Type 0} (serves : C → Kind → Bool) (floor : C → Kind → ℕ
       };
       finish = result;
       fired = f;
+      published = record {
+        finishes = λ n finish x at un is has.
+            elim (cases_eq x.parent result.number) [
+              | inl same ↦ p.all n x at same ∙ ap (λ (k : ℕ). kept_number (Exact k)) (f.finish ∙ (ap (finish_in (woven stepped events plan.comps.value)) (sym same) ∙ sym has))
+              | inr differs ↦ absurd (false≢true (sym un ∙ (sym (fires_other x.parent differs) ∙ is)))
+            ];
+        others = λ n x at same.
+            elim (cases_eq x.parent result.number) [
+              | inr differs ↦ p.others n x at differs
+              | inl here ↦
+                  absurd (false≢true (sym (ap (is_fired old.domain.own.fired) here ∙ unfired) ∙ (sym same ∙ (ap (λ (xs : List FiredEvent). is_fired xs x.parent) f.fired
+                  ∙ fired_last old.domain.own.fired (record { event = f.event; start = f.start; finish = result.finish }) x.parent (sym (here ∙ f.number))))))
+            ];
+      };
     }
 
   -- ---- running
@@ -335,12 +493,12 @@ module _ {C : Type 0} (serves : C → Kind → Bool) (floor : C → Kind → ℕ
   }
 
   pub stepped_by_looking : (first old new : Post C) (step : ℕ) (answer : Next) → HasStepped first step old → IsAnswer old.domain.events old.domain.partition old.domain.domain old.domain.own answer → ((key : Key) → answer ≡ Fire key → ⊥)
-      → HasLooked stepped plan table old new → HasStepped first (step + 1) new
-  stepped_by_looking first old new step answer h is not_fire l = record {
-    so_far = served_by_looking stepped plan table first old new h.so_far l;
+      → (number : ℕ) (finished : Bool) → HasLooked stepped plan table old new number finished → HasStepped first (step + 1) new
+  stepped_by_looking first old new step answer h is not_fire number finished l = record {
+    so_far = served_by_looking stepped plan table first old new number finished h.so_far l;
     fresh = λ e. absurd (omega (arith, e));
-    goes = λ some. gone_on_looking first old new step answer h.so_far h.fresh h.goes is not_fire l.grows;
+    goes = λ some. gone_on_looking first old new step answer h.so_far h.fresh h.goes is not_fire (grows_by_looking stepped plan table old new number finished l);
   }
 
   pub has_served : (first now : Post C) → HasServedSo stepped plan table first now → HasGoneOn events partition first.domain.domain first.domain.own now.domain.own → HasServed stepped plan table first now
-  has_served first now h goes = record { ran = record { same = h.same; kept = h.can.kept; grows = h.grows; goes_on = goes }; seated = h.can.seated }
+  has_served first now h goes = record { ran = record { same = h.same; kept = h.can.kept; grows = h.grows; goes_on = goes }; seated = h.can.seated; published = h.published }

@@ -1,7 +1,7 @@
 -- Domains and their seats, which go together.
 use Rattle.std.proofs.Common.{◌≡◌, ◌%◌, ◌<◌, ℕ, zero, suc, Bool, true, false, List, [], ◌∷◌, ◌++◌, All, length, map, set, get_or, slice_index, Option, Some, None, slice_get, sym, ◌∙◌, ap, subst, refl, inl, inr, arith}
 use Rattle.std.proofs.lemmas.Bool.{false≢true, cases_eq}
-use Rattle.std.proofs.lemmas.List.{length_push}
+use Rattle.std.proofs.lemmas.List.{length-map, length_push}
 use Rattle.std.proofs.lemmas.Option.{same_Some, none-some, slice_get-get_or, slice_get-map, slice_get_within}
 use Rattle.std.specs.Option.{option_map}
 use Rattle.std.specs.Prelude.{IfSome}
@@ -13,7 +13,7 @@ use Rattle.weave_core.specs.DomainCalls.{DomainValue}
 use Rattle.weave_core.specs.DomainMachine.{DomainState}
 use Rattle.weave_core.specs.Keeping.{IsKept}
 use Rattle.weave_run.specs.Crews.{AreCrewsSeated, AreFree, IsCrewSeated, domains_of_crew}
-use Rattle.weave_run.specs.Rounds.{AllGrow, AllKeep, own_in, with_floors}
+use Rattle.weave_run.specs.Rounds.{AllGrow, AllKeep, Grows, own_in, with_floors}
 use Rattle.weave_run.specs.Seating.{AreSeated, IsSeated}
 use Rattle.weave_run.specs.Setup.{AreBegun}
 use Rattle.weave_run.specs.Teams.{IsNewTeam, IsTeam}
@@ -24,7 +24,7 @@ use Rattle.weave_run.specs.declared.team.Team.{Team}
 use Rattle.weave_run.proofs.Lots.{earlier_at, last_at}
 use Rattle.weave_run.proofs.Preparings.{snoc_get}
 use Rattle.weave_run.proofs.Rounding.{floored, still_fired}
-use Rattle.weave_run.proofs.Tellings.{get_set_other, get_set_same, own_there, there_at}
+use Rattle.weave_run.proofs.Tellings.{get_set_other, get_set_same, own_there, stays_exact, there_at}
 
 zeros : (xs : List ℕ) (n : ℕ) → slice_index (map (λ (x : ℕ). 0) xs) n ≡ 0
 zeros [] zero = refl
@@ -119,7 +119,7 @@ module _ {C : Type 0} (stepped : C → Kind → ℕ → C × ℕ) (plan : Plan C
   -- ---- from round to round
 
   seated_on : (old new : List (DomainValue C)) (seats : List SeatValue) → AreSeated stepped plan table old seats → length new ≡ length old
-      → ((d : ℕ) (v w : DomainValue C) → slice_get old d ≡ Some v → slice_get new d ≡ Some w → (w.domain ≡ v.domain) × ((n : ℕ) → is_fired v.own.fired n ≡ true → is_fired w.own.fired n ≡ true))
+      → ((d : ℕ) (v w : DomainValue C) → slice_get old d ≡ Some v → slice_get new d ≡ Some w → (w.domain ≡ v.domain) × Grows v.own w.own)
       → AreSeated stepped plan table new seats
   seated_on old new seats h count on = record {
     count = h.count ∙ sym count;
@@ -133,8 +133,10 @@ module _ {C : Type 0} (stepped : C → Kind → ℕ → C × ℕ) (plan : Plan C
             domain_is = i.seat.domain_is ∙ sym o.0;
             finishes_are = i.seat.finishes_are;
             sources_are = i.seat.sources_are;
+            wide = i.seat.wide;
           };
-          unpublished = λ n x crossing source unfired. i.unpublished n x crossing (source ∙ o.0) (before v.0 w x.parent o.1 unfired);
+          unpublished = λ n x crossing source unfired. i.unpublished n x crossing (source ∙ o.0) (before v.0 w x.parent (λ n fired. still_fired v.0.own w.own n o.1 fired) unfired);
+          informed = λ n odd. stays_exact v.0.own w.own n (o.1.words n) (i.informed n odd);
         };
   }
     where
@@ -152,9 +154,7 @@ module _ {C : Type 0} (stepped : C → Kind → ℕ → C × ℕ) (plan : Plan C
       let a : IsKept stepped plan.graph.value plan.parts.value plan.comps.value d v = k.each d v at in
       let b : IsKept stepped plan.graph.value plan.parts.value plan.comps.value d w = m.each d w there in (
         ap (λ (x : DomainValue C). x.domain) b.is ∙ sym (ap (λ (x : DomainValue C). x.domain) a.is),
-        (λ n fired.
-            ap (λ (o : DomainState). is_fired o.fired n) (sym (own_there new d w there))
-            ∙ still_fired (own_in old d) (own_in new d) n (grow.each d) (ap (λ (o : DomainState). is_fired o.fired n) (own_there old d v at) ∙ fired)),
+        subst (λ (o : DomainState). Grows o w.own) (own_there old d v at) (subst (Grows (own_in old d)) (own_there new d w there) (grow.each d)),
       ))
 
   pub seated_higher : (floor : ℕ) (vs : List (DomainValue C)) (seats : List SeatValue) → AreSeated stepped plan table vs seats → AreSeated stepped plan table (with_floors floor vs) seats
@@ -163,7 +163,7 @@ module _ {C : Type 0} (stepped : C → Kind → ℕ → C × ℕ) (plan : Plan C
     each = λ d u s at there.
         let v = floored floor vs d u at in
         let i : IsSeated stepped plan table v.0 s = h.each d v.0 s v.1.0 there in
-        subst (λ (w : DomainValue C). IsSeated stepped plan table w s) (sym v.1.1) (record { seat = i.seat; unpublished = i.unpublished });
+        subst (λ (w : DomainValue C). IsSeated stepped plan table w s) (sym v.1.1) (record { seat = i.seat; unpublished = i.unpublished; informed = i.informed });
   }
     where
       floors_count : (floor : ℕ) (vs : List (DomainValue C)) → length (with_floors floor vs) ≡ length vs
@@ -181,8 +181,9 @@ module _ {C : Type 0} (stepped : C → Kind → ℕ → C × ℕ) (plan : Plan C
         let number : v.domain ≡ d = ap (λ (w : DomainValue C). w.domain) (begun.each d v at) in
         subst (IsSeated stepped plan table v) s_is
         (record {
-          seat = record { crossings_are = refl; domain_is = sym number; finishes_are = refl; sources_are = refl };
+          seat = record { crossings_are = refl; domain_is = sym number; finishes_are = refl; sources_are = refl; wide = length-map (sources_of plan.parts.value) (λ (x : ℕ). 0) };
           unpublished = λ n x crossing source unfired. ap (λ (k : ℕ). k % 2) (zeros (sources_of plan.parts.value) n);
+          informed = λ n odd. absurd (let z = zeros (sources_of plan.parts.value) n in omega (arith, z, odd));
         });
   }
 

@@ -5,7 +5,7 @@ use Rattle.atomic_table.specs.Seated.{TableId}
 use Rattle.component.specs.declared.kind.Kind.{Kind}
 use Rattle.weave_core.specs.DomainCalls.{DomainValue}
 use Rattle.weave_run.specs.Rounds.{HaveRun}
-use Rattle.weave_run.specs.Seating.{IsPostSeated, IsSeated}
+use Rattle.weave_run.specs.Seating.{HasPublishedSince, IsPostSeated, IsSeated}
 use Rattle.weave_run.specs.declared.crew.Crew.{Crew}
 use Rattle.weave_run.specs.declared.post.Post.{Post}
 use Rattle.weave_run.specs.declared.plan.Plan.{Plan}
@@ -49,8 +49,9 @@ pub record IsCrewSeated {C : Type 0} (stepped : C → Kind → ℕ → C × ℕ)
 pub record AreCrewsSeated {C : Type 0} (stepped : C → Kind → ℕ → C × ℕ) (plan : Plan C) (table : TableId) (crews : List (Crew C)) : Type 0 where
   pub each : (worker : ℕ) (crew : Crew C) → slice_get crews worker ≡ Some crew → IsCrewSeated stepped plan table crew
 
--- they have run
+-- they have run, and published what they fired
 pub record HasWorked {C : Type 0} (stepped : C → Kind → ℕ → C × ℕ) (plan : Plan C) (table : TableId) (old new : Crew C) : Type 0 where
   pub ran : HaveRun stepped plan (domains_of_crew old) (domains_of_crew new)
+  pub published : (place : ℕ) (was is : Post C) → slice_get old.posts.items place ≡ Some was → slice_get new.posts.items place ≡ Some is → HasPublishedSince stepped plan was is
   pub seated : IsCrewSeated stepped plan table new
   pub room : vec_capacity new.posts ≡ vec_capacity old.posts

@@ -1,13 +1,16 @@
 -- Domains with their seats at the crossings.
-use Rattle.std.specs.Prelude.{◌≡◌, ◌%◌, ℕ, false, List, length, Some, slice_get, slice_index}
+use Rattle.std.specs.Prelude.{◌≡◌, ◌%◌, ℕ, Bool, true, false, List, length, Some, slice_get, slice_index}
 use Rattle.atomic_table.specs.Seated.{TableId}
+use Rattle.zs_num.specs.declared.time.Word.{Word}
+use Rattle.zs_num.specs.declared.time.Word.TheVariants.{Bound, Exact}
 use Rattle.component.specs.declared.kind.Kind.{Kind}
 use Rattle.event_graph.specs.declared.fired.Fired.{Fired}
 use Rattle.event_graph.specs.OneListWeave.{is_fired}
 use Rattle.domain_map.specs.declared.crossing.Crossing.{Crossing}
-use Rattle.crossing.specs.Seats.{SeatValue, finishes_of, sources_of}
-use Rattle.weave_core.specs.DomainCalls.{DomainValue}
-use Rattle.weave_run.specs.Rounds.{Grows, HasFiredNext, HasRun, KeepsToWeave}
+use Rattle.crossing.specs.Seats.{Looked, SeatValue, finishes_of, kept_number, sources_of}
+use Rattle.weave_core.specs.DomainCalls.{DomainValue, with_known}
+use Rattle.weave_core.specs.DomainMachine.{is_exact, word_at}
+use Rattle.weave_run.specs.Rounds.{HasFiredNext, HasRun, IsFinish, KeepsToWeave}
 use Rattle.weave_run.specs.declared.post.Post.{Post}
 use Rattle.weave_run.specs.declared.plan.Plan.{Plan}
 
@@ -17,6 +20,7 @@ pub record IsSeatOfPlan {C : Type 0} (stepped : C → Kind → ℕ → C × ℕ)
   pub domain_is : s.domain ≡ domain
   pub finishes_are : s.finishes ≡ finishes_of stepped plan.graph.value plan.parts.value plan.comps.value
   pub sources_are : s.sources ≡ sources_of plan.parts.value
+  pub wide : length s.wrote ≡ length s.sources
 
 -- it has published nothing of an event that the domain hasn't fired
 abbrev pub IsUnpublished : {C : Type 0} → Plan C → DomainValue C → SeatValue → Type 0
@@ -24,9 +28,14 @@ IsUnpublished plan v s =
     (number : ℕ) (x : Crossing) → slice_get plan.parts.value.crossings number ≡ Some x → x.source ≡ v.domain → is_fired v.own.fired x.parent ≡ false
     → slice_index s.wrote number % 2 ≡ 0
 
+-- the domain knows each finish that it found
+abbrev pub IsInformed : {C : Type 0} → DomainValue C → SeatValue → Type 0
+IsInformed v s = (number : ℕ) → slice_index s.noted number % 2 ≡ 1 → is_exact (word_at v.own.known number) ≡ true
+
 pub record IsSeated {C : Type 0} (stepped : C → Kind → ℕ → C × ℕ) (plan : Plan C) (table : TableId) (v : DomainValue C) (s : SeatValue) : Type 0 where
   pub seat : IsSeatOfPlan stepped plan table v.domain s
   pub unpublished : IsUnpublished plan v s
+  pub informed : IsInformed v s
 
 -- each domain has its seat
 pub record AreSeated {C : Type 0} (stepped : C → Kind → ℕ → C × ℕ) (plan : Plan C) (table : TableId) (vs : List (DomainValue C)) (seats : List SeatValue) : Type 0 where
@@ -38,29 +47,50 @@ pub record IsPostSeated {C : Type 0} (stepped : C → Kind → ℕ → C × ℕ)
   pub kept : KeepsToWeave stepped plan post.domain
   pub seated : IsSeated stepped plan table post.domain post.seat
 
+-- Of what the domain has fired since, the seat has written each finish to the words of all crossings out of the event. To
+-- no other word has it written.
+pub record HasPublishedSince {C : Type 0} (stepped : C → Kind → ℕ → C × ℕ) (plan : Plan C) (old new : Post C) : Type 0 where
+  pub finishes : (number finish : ℕ) (x : Crossing) → slice_get plan.parts.value.crossings number ≡ Some x → is_fired old.domain.own.fired x.parent ≡ false → is_fired new.domain.own.fired x.parent ≡ true
+      → IsFinish stepped plan x.parent finish → slice_index new.seat.wrote number ≡ kept_number (Exact finish)
+  pub others : (number : ℕ) (x : Crossing) → slice_get plan.parts.value.crossings number ≡ Some x → is_fired new.domain.own.fired x.parent ≡ is_fired old.domain.own.fired x.parent
+      → slice_index new.seat.wrote number ≡ slice_index old.seat.wrote number
+
 -- after its next event fired, and its finish was published
 pub record HasFiredThere {C : Type 0} (stepped : C → Kind → ℕ → C × ℕ) (plan : Plan C) (table : TableId) (old new : Post C) : Type 0 where
   pub can : IsPostSeated stepped plan table new
   pub finish : Fired
   pub fired : HasFiredNext stepped plan old.domain new.domain finish
+  pub published : HasPublishedSince stepped plan old new
 
--- after it looked at a word
-pub record HasLooked {C : Type 0} (stepped : C → Kind → ℕ → C × ℕ) (plan : Plan C) (table : TableId) (old new : Post C) : Type 0 where
+-- A domain after its seat found this word of a crossing: it is told a finish, and no bound.
+abbrev pub after_finding : {C : Type 0} → DomainValue C → (number : ℕ) → Word → DomainValue C
+after_finding v number (Bound b) = v
+after_finding v number (Exact f) = record v { own = with_known v.own number (Exact f) }
+
+-- after it looked at the word of a crossing, and whether that said the finish
+pub record HasLooked {C : Type 0} (stepped : C → Kind → ℕ → C × ℕ) (plan : Plan C) (table : TableId) (old new : Post C) (number : ℕ) (finished : Bool) : Type 0 where
   pub can : IsPostSeated stepped plan table new
-  pub same : new.domain.domain ≡ old.domain.domain
-  pub grows : Grows old.domain.own new.domain.own
+  pub word : Word
+  pub found : Looked old.seat new.seat number word
+  pub told : new.domain ≡ after_finding old.domain number word
+  pub answer : finished ≡ is_exact word
 
 -- after it ran
 pub record HasServed {C : Type 0} (stepped : C → Kind → ℕ → C × ℕ) (plan : Plan C) (table : TableId) (old new : Post C) : Type 0 where
   pub ran : HasRun stepped plan old.domain new.domain
   pub seated : IsSeated stepped plan table new.domain new.seat
+  pub published : HasPublishedSince stepped plan old new
 
--- the crossings out of an event are published: nothing else was written
-pub record HasPublished {C : Type 0} (plan : Plan C) (old new : SeatValue) (parent : ℕ) : Type 0 where
+-- the crossings out of an event say its finish: nothing else was written
+pub record HasPublished {C : Type 0} (plan : Plan C) (old new : SeatValue) (parent finish : ℕ) : Type 0 where
   pub crossings_are : new.crossings ≡ old.crossings
   pub domain_is : new.domain ≡ old.domain
   pub finishes_are : new.finishes ≡ old.finishes
   pub sources_are : new.sources ≡ old.sources
+  pub noted_are : new.noted ≡ old.noted
+  pub looks_are : new.looks ≡ old.looks
+  pub wide : length new.wrote ≡ length old.wrote
+  pub all : (number : ℕ) (x : Crossing) → slice_get plan.parts.value.crossings number ≡ Some x → x.parent ≡ parent → slice_index new.wrote number ≡ kept_number (Exact finish)
   pub others : (number : ℕ) (x : Crossing) → slice_get plan.parts.value.crossings number ≡ Some x → (x.parent ≡ parent → ⊥) → slice_index new.wrote number ≡ slice_index old.wrote number
 
 -- the event is the domain's, and none of its crossings is published

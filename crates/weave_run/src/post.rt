@@ -92,11 +92,11 @@ fn publish_all<C: Component>(
     requires there { fired.number < length plan.now.graph.value }
     requires finish { IsFinish C.stepped plan.now fired.number fired.finish }
     requires may { MayPublish plan.now seat.old fired.number }
-    ensures { HasPublished plan.now seat.old seat.new fired.number }
+    ensures { HasPublished plan.now seat.old seat.new fired.number fired.finish }
 {
     laws::keeping::<C>();
     let mut link = outgoing.last[fired.number as usize];
-    while link != 0 {
+    while link > 0 {
         crossings.publish(seat, link - 1, fired.finish);
         link = outgoing.before[(link - 1) as usize];
     }
@@ -113,7 +113,7 @@ fn look_again<C: Component>(
     requires can { CanWeavePlan C.serves C.floor C.stepped C.greatest plan.now }
     requires post { IsPostSeated C.stepped plan.now crossings.now post.old }
     requires into { (x : Crossing) × (slice_get plan.now.parts.value.crossings crossing ≡ Some x) × (x.target ≡ post.old.domain.domain) }
-    ensures { HasLooked C.stepped plan.now crossings.now post.old post.new }
+    ensures { HasLooked C.stepped plan.now crossings.now post.old post.new crossing result }
 {
     laws::keeping::<C>();
     let word = crossings.look(&mut post.seat, crossing);

@@ -1,6 +1,6 @@
 -- It stops where the next event may not fire.
 use Rattle.std.proofs.Common.{◌+◌, sym, ◌∙◌, subst}
-use Rattle.weave_run.proofs.Postings.{HasStepped, blocked_is_no_fire, done_is_no_fire, gone_on_looking, has_served, served_by_looking, stepped_by_firing, stepped_by_looking}
+use Rattle.weave_run.proofs.Postings.{HasStepped, blocked_is_no_fire, done_is_no_fire, gone_on_looking, grows_by_looking, has_served, served_by_looking, stepped_by_firing, stepped_by_looking}
 use Rattle.weave_run.proofs.Tellings.{grows_nothing}
 use Rattle.weave_run.proofs.post.run_beside_others.Goals.{in-Fire, in-Blocked+else-not-look_again}
 use Rattle.weave_run.proofs.post.run_beside_others.Goals as goal
@@ -9,9 +9,10 @@ pub returns-then-not-look_again : goal.returns-then-not-look_again
 returns-then-not-look_again g c =
     let i = c.loop-step.invariant in
     has_served g.C.Component.serves g.C.Component.floor g.C.Component.stepped g.C.Component.greatest c.keeping.ensures c.args.plan.now c.requires.can c.args.crossings.now c.args.post.now c.look_again.new.post
-    (served_by_looking g.C.Component.stepped c.args.plan.now c.args.crossings.now c.args.post.now c.loop-step.post c.look_again.new.post i.so_far c.look_again.ensures)
+    (served_by_looking g.C.Component.stepped c.args.plan.now c.args.crossings.now c.args.post.now c.loop-step.post c.look_again.new.post c.in-Blocked.crossing c.look_again.result i.so_far c.look_again.ensures)
     (gone_on_looking g.C.Component.serves g.C.Component.floor g.C.Component.stepped g.C.Component.greatest c.keeping.ensures c.args.plan.now c.requires.can c.args.crossings.now c.args.post.now c.loop-step.post c.look_again.new.post
-    c.loop-step._step c.next.result i.so_far i.fresh i.goes c.next.ensures (λ key e. blocked_is_no_fire c.in-Blocked.crossing c.in-Blocked.bound key (sym c.in-Blocked.is ∙ e)) c.look_again.ensures.grows)
+    c.loop-step._step c.next.result i.so_far i.fresh i.goes c.next.ensures (λ key e. blocked_is_no_fire c.in-Blocked.crossing c.in-Blocked.bound key (sym c.in-Blocked.is ∙ e))
+    (grows_by_looking g.C.Component.stepped c.args.plan.now c.args.crossings.now c.loop-step.post c.look_again.new.post c.in-Blocked.crossing c.look_again.result c.look_again.ensures))
 
 pub returns-in-Done : goal.returns-in-Done
 returns-in-Done g c =
@@ -35,7 +36,7 @@ loop-step-preserved g c =
       | in-Blocked+else-not-look_again w ↦
           subst (HasStepped g.C.Component.serves g.C.Component.floor g.C.Component.stepped g.C.Component.greatest c.keeping.ensures c.args.plan.now c.requires.can c.args.crossings.now c.args.post.now (c.loop-step._step + 1)) (sym w.post-is)
           (stepped_by_looking g.C.Component.serves g.C.Component.floor g.C.Component.stepped g.C.Component.greatest c.keeping.ensures c.args.plan.now c.requires.can c.args.crossings.now c.args.post.now c.loop-step.post w.look_again.new.post
-          c.loop-step._step c.next.result h c.next.ensures (λ key e. blocked_is_no_fire w.in-Blocked.crossing w.in-Blocked.bound key (sym w.in-Blocked.is ∙ e)) w.look_again.ensures)
+          c.loop-step._step c.next.result h c.next.ensures (λ key e. blocked_is_no_fire w.in-Blocked.crossing w.in-Blocked.bound key (sym w.in-Blocked.is ∙ e)) w.in-Blocked.crossing w.look_again.result w.look_again.ensures)
     ]
     in
     record { so_far = after.so_far; fresh = after.fresh; goes = after.goes }
