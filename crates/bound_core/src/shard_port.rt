@@ -6,7 +6,7 @@ ghost use Rattle.bound_core.specs.ShardWorld.{begun_world, restarted, shards_ser
 use crate::Port;
 use division::remainder;
 use shard::Shard;
-use std::alloc::Global;
+use std::alloc::{AllocError, Global};
 use std::marker::Model;
 use zs_num::{Cycle, Entry, NoMemory, Request, Stamp};
 
@@ -54,7 +54,7 @@ impl ShardPort {
                 port.restart();
                 Ok(port)
             }
-            Err(_) => Err((NoMemory, shards)),
+            Err(AllocError) => Err((NoMemory, shards)),
         }
     }
 

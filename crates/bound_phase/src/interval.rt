@@ -135,8 +135,9 @@ pub fn bound_in<R: Threads + Wait + Sync, G: Gate, P: Program + Sync, X: Expand 
     access_log::laws::cores_decide_the_order();
     let list = left.take_list(alloc);
     let earlier = left.take_logs(alloc);
-    let Ok(memory) = Buffers::new(alloc, machine, &mut cores, workers, list) else {
-        return Err((NoMemory, no_entries(alloc, cores, shards)));
+    let memory = match Buffers::new(alloc, machine, &mut cores, workers, list) {
+        Ok(memory) => memory,
+        Err(error) => return Err((error, no_entries(alloc, cores, shards))),
     };
     let Buffers {
         mut crews,
@@ -169,7 +170,7 @@ pub fn bound_in<R: Threads + Wait + Sync, G: Gate, P: Program + Sync, X: Expand 
                 entries,
             })
         }
-        Err((_, shards)) => Err((NoMemory, no_entries(alloc, cores, shards))),
+        Err((error, shards)) => Err((error, no_entries(alloc, cores, shards))),
     }
 }
 

@@ -84,8 +84,9 @@ impl ShardTable {
         ensures seats { IfOk result (λ made. AreNewSeats made.0 made.1.items) }
         ensures err { IfErr result (λ back. back.1.items ≡ shards.items) }
     {
-        let Ok(memory) = Buffers::new(alloc, &shards, cores, room, earlier) else {
-            return Err((NoMemory, shards));
+        let memory = match Buffers::new(alloc, &shards, cores, room, earlier) {
+            Ok(memory) => memory,
+            Err(error) => return Err((error, shards)),
         };
         let Buffers {
             words,

@@ -17,12 +17,10 @@ pub(crate) struct Outgoing {
 impl Outgoing {
     /// The crossings out of so many events.
     pub(crate) fn of(alloc: Global, events: usize, crossings: &[Crossing]) -> Result<Self, NoMemory>
+        requires few { length crossings.now < 2 ^ 31 }
         requires there { All (λ x. x.parent < events) crossings.now }
         ensures { IfOk result (λ o. AreOutgoing crossings.now events o) }
     {
-        if crossings.len() >= u32::MAX as usize {
-            return Err(NoMemory);
-        }
         let mut last = vec![in alloc; 0; events]?;
         let mut before = vec![in alloc; 0; crossings.len()]?;
         link(crossings, last.as_mut_slice(), before.as_mut_slice());

@@ -102,6 +102,7 @@ fn take_room<C: Component>(
     requires parts { p.now ≡ plan.now.parts.value }
     requires comps { comps.now ≡ plan.now.comps.value }
     requires partitioned { IsPartitioned C.serves C.floor g.now p.now comps.now }
+    requires fits { FitsDomain g.now p.now }
     requires workers { workers ≤ 64 }
     requires there { All (λ x. x.parent < length g.now) p.now.crossings }
     ensures { IfOk result (λ room. HasRoom C.stepped plan.now room) }

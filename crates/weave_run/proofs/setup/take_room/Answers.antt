@@ -3,6 +3,9 @@ use Rattle.std.proofs.Common.{◌≡◌, length, ◌∙◌, ap, arith}
 use Rattle.domain_map.specs.Domains.{Partition}
 use Rattle.weave_run.proofs.setup.take_room.Goals as goal
 
+pub of-requires-clause-few : goal.of-requires-clause-few
+of-requires-clause-few g c = omega (arith, ap length c.crossings.ensures, c.requires.fits.few_crossings)
+
 pub returns : goal.returns
 returns g c =
     let parts = c.args.plan.now.parts.value in

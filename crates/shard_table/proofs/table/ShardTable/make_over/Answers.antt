@@ -52,7 +52,7 @@ pub returns-clause-err : goal.returns-clause-err
 returns-clause-err c =
     let shards : List ShardState = c.args.shards.items in
     let homes = whole c.args.shards.len shards c.deref_mut.result.now c.restart_all.new.shards (omega arith) c.deref_mut.ensures.value c.restart_all.ensures in
-    let slots = c.in-Err.ensures.err in
+    let slots = c.in-Err-new.ensures.err in
     c.resume_all.ensures ∙ (ap (λ (p : List ShardState × List ℕ). resumed_all p.0 p.1) (λ i. ((slots ∙ homes) i, (c.in-Ok.ensures.stamps ∙ ap (map (λ (x : ShardState). x.last)) c.deref.ensures.value) i))
     ∙ resumed_again shards)
 
@@ -61,11 +61,11 @@ resume_all-requires-clause-stamps c =
     let shards : List ShardState = c.args.shards.items in
     let homes = whole c.args.shards.len shards c.deref_mut.result.now c.restart_all.new.shards (omega arith) c.deref_mut.ensures.value c.restart_all.ensures in
     let stamps = c.in-Ok.ensures.stamps ∙ ap (map (λ (x : ShardState). x.last)) c.deref.ensures.value in
-    ap length stamps ∙ (length-map shards (λ (x : ShardState). x.last) ∙ sym (ap length (c.in-Err.ensures.err ∙ homes) ∙ restarted_length shards))
+    ap length stamps ∙ (length-map shards (λ (x : ShardState). x.last) ∙ sym (ap length (c.in-Err-new.ensures.err ∙ homes) ∙ restarted_length shards))
 
 pub resume_all-requires-clause-room : goal.resume_all-requires-clause-room
 resume_all-requires-clause-room c =
     let shards : List ShardState = c.args.shards.items in
     let homes = whole c.args.shards.len shards c.deref_mut.result.now c.restart_all.new.shards (omega arith) c.deref_mut.ensures.value c.restart_all.ensures in
-    let refused = ap length (c.in-Err.ensures.err ∙ homes) ∙ restarted_length shards in
+    let refused = ap length (c.in-Err-new.ensures.err ∙ homes) ∙ restarted_length shards in
     (c.in-Ok.ensures.shards.0, omega (arith, refused, c.in-Ok.ensures.shards.1, ap length c.deref.ensures.value))
