@@ -4,3 +4,4 @@ pub mod Counts
 pub mod CountsFit
 pub mod Laws
 pub mod Passes
+pub mod TookTheirTime

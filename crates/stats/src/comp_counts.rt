@@ -3,9 +3,9 @@ ghost use Rattle.std.specs.Prelude.{◌≡◌, ◌<◌, ℕ, All, length, slice_
 ghost use Rattle.std.specs.List.{zip};
 ghost use Rattle.component.specs.declared.comp.Comp.{Comp};
 ghost use Rattle.component.specs.ComponentStep.{free_of};
-ghost use Rattle.event_graph.specs.Timely.{AreTimely, IsTimely};
 ghost use Rattle.stats.specs.declared.counts.CompCount.{CompCount};
 ghost use Rattle.stats.specs.CountsFit.{CompFits};
+ghost use Rattle.stats.specs.TookTheirTime.{TookItsTime, TookTheirTime};
 ghost use Rattle.stats.specs.Passes.{with_event, with_events, with_free};
 
 use crate::CompCount;
@@ -14,7 +14,7 @@ use event_graph::{Event, Fired};
 
 /// Counts an event of the component, and how much longer it took than at zero load.
 fn count_event(count: &mut CompCount, event: &Event, fired: &Fired)
-    requires timely { IsTimely event.now fired.now }
+    requires took { TookItsTime event.now fired.now }
     requires fits { CompFits (with_event count.old (event.now, fired.now)) }
     ensures { count.new ≡ with_event count.old (event.now, fired.now) }
 {
@@ -27,7 +27,7 @@ fn count_event(count: &mut CompCount, event: &Event, fired: &Fired)
 /// Counts each event at its component.
 fn count_events(counts: &mut [CompCount], events: &[Event], fired: &[Fired])
     requires components { All (λ e. e.component < length counts.old) events.now }
-    requires timely { AreTimely events.now fired.now }
+    requires took { TookTheirTime events.now fired.now }
     requires fits { (n : ℕ) (d : CompCount) → n < length counts.old
         → CompFits (with_events (slice_index_or counts.old n d) n (zip events.now fired.now)) }
     ensures { (n : ℕ) (d : CompCount) → n < length counts.old → slice_index_or counts.new n d
@@ -58,7 +58,7 @@ pub(crate) fn add_to_comp_counts(
     comps: &[Comp],
 )
     requires components { All (λ e. e.component < length counts.old) events.now }
-    requires timely { AreTimely events.now fired.now }
+    requires took { TookTheirTime events.now fired.now }
     requires comps { length comps.now ≡ length counts.old }
     requires fits { (n : ℕ) (d : CompCount) → n < length counts.old
         → CompFits (with_events (slice_index_or counts.old n d) n (zip events.now fired.now)) }

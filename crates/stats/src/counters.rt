@@ -35,9 +35,9 @@ impl Model for Counters {
 impl Counters {
     ghost use Rattle.std.specs.Prelude.{◌≡◌, ◌<◌, All, IfOk, Some, length, slice_get};
     ghost use Rattle.machine_desc.specs.Machine.{IsMachine};
-    ghost use Rattle.event_graph.specs.Timely.{AreTimely};
     ghost use Rattle.stats.specs.CountsFit.{CountsFit};
     ghost use Rattle.stats.specs.Added.{added, no_counts};
+    ghost use Rattle.stats.specs.TookTheirTime.{TookTheirTime};
 
     /// The counters of this machine, all 0.
     pub fn new(alloc: Global, m: &Machine) -> Result<Counters, NoMemory>
@@ -66,7 +66,7 @@ impl Counters {
         requires components { All (λ e. e.component < length self.old.comp_counts) g.now }
         requires delays { length d.now ≡ length self.old.core_counts }
         requires comps { length comps.now ≡ length self.old.comp_counts }
-        requires timely { AreTimely g.now fired.now }
+        requires took { TookTheirTime g.now fired.now }
         requires fits { CountsFit (added self.old
             (record { entries = entries.now; events = g.now; fired = fired.now; delays = d.now })
             comps.now) }

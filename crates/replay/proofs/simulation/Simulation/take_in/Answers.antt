@@ -62,10 +62,11 @@ add-requires-clause-comps c =
     in
     stay.count ∙ sym c.requires.comp_counts
 
-pub add-requires-clause-timely : goal.add-requires-clause-timely
-add-requires-clause-timely c =
+pub add-requires-clause-took : goal.add-requires-clause-took
+add-requires-clause-took c =
     let h = c.requires.fired.3 in
-    (c.in_ok-woven.ensures h.before.comps c.args.entries.now c.args.self.now.comps h.woven).timely
+    let timely = (c.in_ok-woven.ensures h.before.comps c.args.entries.now c.args.self.now.comps h.woven).timely in
+    record { count = timely.count; each = λ i e f at there. (timely.each i e f at there).time }
 
 pub add-requires-clause-fits : goal.add-requires-clause-fits
 add-requires-clause-fits c =
