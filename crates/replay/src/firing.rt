@@ -1,5 +1,5 @@
 //! How the events of an interval fire: by one worker on one list, or by several in their domains.
-ghost use Rattle.std.specs.Prelude.{◌≡◌, ◌<◌, ◌≤◌, ◌^◌, IfOk, OnOk, length, map};
+ghost use Rattle.std.specs.Prelude.{◌≡◌, ◌<◌, ◌≤◌, ◌^◌, IfOk, OnErr, OnOk, length, map};
 ghost use Rattle.machine_desc.specs.Machine.{IsMachine};
 ghost use Rattle.component.specs.ComponentStep.{comp_step};
 ghost use Rattle.component.specs.Serving.{comp_greatest, comp_latency, comp_serves};
@@ -27,7 +27,7 @@ const WORTH_OF_DOMAINS: u64 = 256;
 /// Fires all events by so many workers, who pass the gate before each, and moves the components on:
 /// several fire them by their domains where that is worth it, and then say whether it was.
 /// Otherwise they fire on one list. Answers when the events fired. `places` has the domain of each
-/// component. Where memory runs out, the components are there, and none has moved.
+/// component.
 pub fn fire_all<R: Threads + Sync, G: Gate>(
     rt: &R,
     alloc: Global,
@@ -47,6 +47,7 @@ pub fn fire_all<R: Threads + Sync, G: Gate>(
     requires workers { (1 ≤ workers) × (workers ≤ 64) }
     ensures fired { IfOk result (λ fired. fired ≡ map fired_of (woven comp_step graph.now comps.old)) }
     ensures comps { OnOk result (comps.new ≡ comps_after comp_step graph.now comps.old) }
+    ensures unchanged { OnErr result (comps.new ≡ comps.old) }
 {
     if workers > 1 && *is_worth {
         return fire_by_domains(rt, alloc, machine, graph, comps, workers, gate, is_worth);
@@ -74,6 +75,7 @@ fn fire_by_domains<R: Threads + Sync, G: Gate>(
     requires workers { (1 ≤ workers) × (workers ≤ 64) }
     ensures fired { IfOk result (λ fired. fired ≡ map fired_of (woven comp_step graph.now comps.old)) }
     ensures comps { OnOk result (comps.new ≡ comps_after comp_step graph.now comps.old) }
+    ensures unchanged { OnErr result (comps.new ≡ comps.old) }
 {
     event_graph::laws::fitting_events_are_there::<Comp>();
     // Its events are numbered in order, as the type keeps.
