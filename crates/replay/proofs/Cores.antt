@@ -3,11 +3,11 @@ use Rattle.std.proofs.Common.{◌≡◌, ℕ, zero, suc, ◌+◌, ◌<◌, ◌�
 use Rattle.std.specs.Prelude.{is_some, slice_get}
 use Rattle.std.specs.List.{enumerate_from, list_all, list_any, range_with_len}
 use Rattle.std.specs.Option.{option_map}
-use Rattle.std.proofs.lemmas.List.{get_or-map, length-map}
+use Rattle.std.proofs.lemmas.List.{ext_get_or, get_or-map, length-map}
 use Rattle.std.proofs.lemmas.List.Elements.{All-cons, All-head, All-nil, All-tail}
 use Rattle.std.proofs.lemmas.List.FromFn.{length-enumerate_from, length-range_with_len}
 use Rattle.std.proofs.lemmas.List.Folds.{list_all-map}
-use Rattle.std.proofs.lemmas.Option.{get_or_from_slice_get, slice_get-get_or, slice_get-map, slice_get_within}
+use Rattle.std.proofs.lemmas.Option.{get_or_from_slice_get, slice_get-get_or, slice_get-map, slice_get_cases, slice_get_within}
 use Rattle.rv_core.specs.CoreState.{CoreState}
 use Rattle.bound_core.specs.TimedCore.{TimedCore, delayed}
 use Rattle.bound_core.specs.NumberedCores.{NumberedCore, timed_of}
@@ -143,6 +143,20 @@ numbered_from n cores in_order = λ i c here.
     let below : i < n = omega (arith, slice_get_within cores i c here, many) in
     let there : slice_get (range_with_len 0 n) i ≡ Some c.number = ap (λ (ns : List ℕ). slice_get ns i) (sym in_order) ∙ get_mapped (λ (x : NumberedCore). x.number) cores i c here in
     omega (arith, get_or_from_slice_get (range_with_len 0 n) i c.number 0 there, in_range 0 n i below)
+
+-- and the other way round
+pub numbers_are : (n : ℕ) (cores : List NumberedCore) → length cores ≡ n → AreNumbered cores → map (λ c. c.number) cores ≡ range_with_len 0 n
+numbers_are n cores many numbered =
+    let numbers : List ℕ = map (λ (x : NumberedCore). x.number) cores in
+    let as_many : length numbers ≡ n = length-map cores (λ (x : NumberedCore). x.number) ∙ many in
+    ext_get_or 0 numbers (range_with_len 0 n) (as_many ∙ sym (length-range_with_len 0 n)) (λ i below.
+    let within : i < n = omega (arith, below, as_many) in
+    elim (slice_get_cases cores i).1 [
+      | inl at ↦
+          let own : get_or numbers i 0 ≡ at.0.number = get_or_from_slice_get numbers i at.0.number 0 (get_mapped (λ (x : NumberedCore). x.number) cores i at.0 at.2) in
+          omega (arith, own, numbered i at.0 at.2, in_range 0 n i within)
+      | inr past ↦ absurd (omega (arith, past.0, many, within))
+    ])
 
 one_longer : (from n next : ℕ) → from + n ≡ next → range_with_len from (suc n) ≡ range_with_len from n ++ next ∷ []
 one_longer from zero next is = let same : from ≡ next = omega (arith, is) in ap (λ (k : ℕ). k ∷ []) same

@@ -145,6 +145,7 @@ first_state machine image comps = let world = first_world machine image in recor
 abbrev pub run_results : Machine → RunState → Results
 run_results machine s = record {
   cores = s.cores;
+  numbers = range_with_len 0 machine.cores;
   counts = counts_of machine.cores s.comps s.intervals;
   intervals = length s.intervals;
   limit = not (have_halted s.cores);

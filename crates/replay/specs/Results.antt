@@ -9,6 +9,8 @@ use Rattle.replay.specs.Limits.{access_limit}
 pub record Results : Type 0 where
   -- the cores at its end, in order of their numbers
   pub cores : List TimedCore
+  -- what numbers they have
+  pub numbers : List ℕ
   -- what was counted in all intervals
   pub counts : Counts
   -- how many intervals were run

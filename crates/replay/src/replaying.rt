@@ -1,5 +1,6 @@
 //! The run of an executable under a schedule that is handed in.
 ghost use Rattle.std.specs.Prelude.{◌≡◌, IfOk};
+ghost use Rattle.std.specs.List.{range_with_len};
 ghost use Rattle.machine_desc.specs.Machine.{IsMachine};
 ghost use Rattle.replay.specs.Replay.{Replays};
 ghost use Rattle.replay.specs.Results.{HasCounts};
@@ -28,6 +29,7 @@ pub fn replay(
     requires cores { schedule.now.cores ≡ machine.now.cores }
     ensures gives { Replays machine.now image.now schedule.now.lists result }
     ensures counted { IfOk result (HasCounts machine.now) }
+    ensures numbered { IfOk result (λ r. r.numbers ≡ range_with_len 0 machine.now.cores) }
 {
     let program = DecodedProgram::of(alloc, image)?;
     let simulation = Simulation::new(alloc, machine, image)?;
@@ -47,6 +49,7 @@ fn replay_on(
     requires cores { schedule.now.cores ≡ machine.now.cores }
     ensures gives { Replays machine.now program.now schedule.now.lists result }
     ensures counted { IfOk result (HasCounts machine.now) }
+    ensures numbered { IfOk result (λ r. r.numbers ≡ range_with_len 0 machine.now.cores) }
 {
     let plain = Plain::of(machine);
     let mut list = Vec::new(alloc);

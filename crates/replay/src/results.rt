@@ -22,5 +22,5 @@ impl Model for Final {
 
     ghost Value = { Results };
 
-    ghost view = { λ r. record { cores = map (λ c. c.timed) r.cores.items; counts = r.counters; intervals = r.intervals; limit = r.limit } };
+    ghost view = { λ r. record { cores = map (λ c. c.timed) r.cores.items; numbers = map (λ c. c.number) r.cores.items; counts = r.counters; intervals = r.intervals; limit = r.limit } };
 }

@@ -1,5 +1,6 @@
 //! The run of an executable: intervals until every core halted, or until a limit.
 ghost use Rattle.std.specs.Prelude.{◌≡◌, ◌≤◌, [], IfOk};
+ghost use Rattle.std.specs.List.{range_with_len};
 ghost use Rattle.machine_desc.specs.Machine.{IsMachine};
 ghost use Rattle.replay.specs.ReferenceRun.{IsKeptInOrder, IsRunOf};
 ghost use Rattle.replay.specs.Results.{HasCounts};
@@ -48,6 +49,7 @@ pub fn run<R: Threads + Wait + Sync, G: Gate>(
     requires cores_known { schedule.old.cores ≡ machine.now.cores }
     ensures ok { IfOk result (IsRunOf machine.now image.now schedule.new.lists) }
     ensures counted { IfOk result (HasCounts machine.now) }
+    ensures numbered { IfOk result (λ r. r.numbers ≡ range_with_len 0 machine.now.cores) }
     ensures in_order { IsKeptInOrder machine.now image.now schedule.new.lists }
     ensures cores { schedule.new.cores ≡ schedule.old.cores }
 {
@@ -80,6 +82,7 @@ fn run_on<R: Threads + Wait + Sync, G: Gate>(
     requires cores_known { schedule.old.cores ≡ machine.now.cores }
     ensures ok { IfOk result (IsRunOf machine.now program.now schedule.new.lists) }
     ensures counted { IfOk result (HasCounts machine.now) }
+    ensures numbered { IfOk result (λ r. r.numbers ≡ range_with_len 0 machine.now.cores) }
     ensures in_order { IsKeptInOrder machine.now program.now schedule.new.lists }
     ensures cores { schedule.new.cores ≡ schedule.old.cores }
 {

@@ -407,6 +407,7 @@ impl Simulation {
     pub fn results(self, k: u32) -> Final
         ensures results { (machine : Machine) (s : RunState) → StandsFor machine s self → length s.intervals ≡ k → result ≡ run_results machine s }
         ensures cores { result.cores ≡ cores_of self }
+        ensures numbers { result.numbers ≡ map (λ c. c.number) self.cores.items }
         ensures counts { result.counts ≡ self.counters }
     {
         let limit = !self.has_halted();

@@ -5,7 +5,7 @@ use Rattle.std.proofs.lemmas.Option.{get_or_from_slice_get, slice_get_within}
 use Rattle.replay.specs.ReferenceRun.{Illegal, IsIllegalAt, RunState, after_interval, first_state, has_ended, next_place, reference_run}
 use Rattle.replay.specs.Simulation.{HasNextInterval, LeadsTo}
 use Rattle.replay.proofs.NextInterval.{has_room}
-use Rattle.replay.proofs.RunEnds.{counted_results}
+use Rattle.replay.proofs.RunEnds.{counted_results, numbered_results}
 use Rattle.replay.proofs.RunSoFar.{HasRun, accesses_are, below_limit, ends_too_soon, ends_with, further, goes, goes_too_far, same_ending, stops_at}
 use Rattle.replay.proofs.HandedOn.{of_place, replay_failed}
 use Rattle.replay.proofs.replaying.replay_on.Goals as goal
@@ -55,6 +55,11 @@ pub returns-clause-counted : goal.returns-clause-counted
 returns-clause-counted c =
     let h = c.loop-alloc.invariant.run in
     counted_results c.args.machine.now h.state c.loop-alloc.simulation h.come c.results.result c.results.ensures.cores c.results.ensures.counts
+
+pub returns-clause-numbered : goal.returns-clause-numbered
+returns-clause-numbered c =
+    let h = c.loop-alloc.invariant.run in
+    numbered_results c.args.machine.now h.state c.loop-alloc.simulation h.come c.results.result c.results.ensures.numbers
 
 pub interval_under-requires-clause-known : goal.interval_under-requires-clause-known
 interval_under-requires-clause-known c =

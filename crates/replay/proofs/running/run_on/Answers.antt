@@ -5,7 +5,7 @@ use Rattle.access_log.specs.Schedule.{ScheduleState}
 use Rattle.replay.specs.ReferenceRun.{IsKeptInOrder, after_intervals, first_state, has_ended}
 use Rattle.replay.specs.Simulation.{LeadsTo}
 use Rattle.replay.proofs.NextInterval.{has_room}
-use Rattle.replay.proofs.RunEnds.{counted_results}
+use Rattle.replay.proofs.RunEnds.{counted_results, numbered_results}
 use Rattle.replay.proofs.RunSoFar.{HasRunInOrder, accesses_are, below_limit, ends_with, further_in_order, goes, kept_in_order, same_ending}
 use Rattle.replay.proofs.running.run_on.Goals as goal
 
@@ -61,6 +61,11 @@ pub returns-clause-counted : goal.returns-clause-counted
 returns-clause-counted g c =
     let h = c.loop-alloc.invariant.ran.run in
     counted_results c.args.machine.now h.state c.loop-alloc.simulation h.come c.results.result c.results.ensures.cores c.results.ensures.counts
+
+pub returns-clause-numbered : goal.returns-clause-numbered
+returns-clause-numbered g c =
+    let h = c.loop-alloc.invariant.ran.run in
+    numbered_results c.args.machine.now h.state c.loop-alloc.simulation h.come c.results.result c.results.ensures.numbers
 
 pub interval-requires-clause-room : goal.interval-requires-clause-room
 interval-requires-clause-room g c κs within =
