@@ -63,7 +63,7 @@ fn shards_of(alloc: Global, machine: &Machine, image: &Image) -> Result<Vec<Shar
 
 /// The first interval of eight words on a machine. No clause says how it ends: the tests look at
 /// the end itself.
-fn first_interval<R: Threads + Wait + Sync, G: Gate>(
+pub(crate) fn first_interval<R: Threads + Wait + Sync, G: Gate>(
     rt: &R,
     alloc: Global,
     machine: &Machine,

@@ -1,9 +1,13 @@
 //! Tests of accesses by several threads: two cores share the shards of a table, in one thread and
-//! in two, and the first interval of small programs by several workers.
+//! in two, and the first interval of small programs by several workers, also past gates.
 #![tactic(auto)]
 
 #[cfg(test)]
+mod at_the_gate;
+#[cfg(test)]
 mod first_interval;
+#[cfg(test)]
+mod gates;
 #[cfg(test)]
 mod given;
 #[cfg(test)]

@@ -3,6 +3,7 @@
 //! weave. `time N` prints how long each way takes to weave N events.
 #![tactic(auto)]
 
+mod at_the_gate;
 mod by_domains;
 mod by_workers;
 mod delayed;
@@ -16,6 +17,7 @@ mod regular;
 mod scripts;
 mod server;
 mod times;
+mod watched;
 mod ways;
 mod worked;
 
@@ -62,6 +64,7 @@ fn put_cases<T: Threads + Sync>(threads: &T, alloc: Global, page: &mut Page) {
     scripts::run(alloc, page);
     worked::run(threads, alloc, page);
     worked::run_at_a_gate(threads, alloc, page);
+    at_the_gate::run(threads, alloc, page);
     delayed::run(alloc, page);
     regular::run(threads, alloc, page);
     random::run(threads, alloc, page);
