@@ -3,7 +3,8 @@ use std::alloc::{AllocError, AllocFailed};
 use std::error::Error;
 use std::fmt;
 
-/// There is no memory left. It is the one answer that no clause ties to a cause.
+/// Memory was refused, or something is too large to be numbered, as more crossings than 2^32 - 1. It
+/// is the one answer that no clause ties to a cause.
 #[derive(Clone, Copy, Debug)]
 pub struct NoMemory;
 
