@@ -761,6 +761,9 @@ def contents_of(text):
     if kind == "repeat":
         byte, count = rest.split()
         return bytes([int(byte, 16)]) * int(count)
+    if kind == "long":
+        count, code = rest.split(" ", 1)
+        return words_of("00000013 " * int(count) + code)
     return {
         "machine": lambda: changed(rest).encode(),
         "code": lambda: words_of(rest),

@@ -1,5 +1,5 @@
 //! What a name holds, as a line says it.
-use crate::executables::{put_executable, put_overlapping, put_spoiled};
+use crate::executables::{put_executable, put_long, put_overlapping, put_spoiled};
 use crate::machines::{put_changed, put_long_key};
 use crate::words::put_bytes;
 use std::alloc::Global;
@@ -9,8 +9,9 @@ use zs_host::Files;
 pub const MOST: usize = 1 << 20;
 
 /// Puts contents: the built-in machine with changes, or an unknown key of so many letters in front
-/// of it; the executable of instructions, one whose last two segments overlap, or one with other
-/// bytes; a text; bytes; a byte and how often it stands there; or a file beside this one.
+/// of it; the executable of instructions, of these behind so many that do nothing, one whose last
+/// two segments overlap, or one with other bytes; a text; bytes; a byte and how often it stands
+/// there; or a file beside this one.
 pub fn put_contents<F: Files>(
     alloc: Global,
     kind: &str,
@@ -22,6 +23,7 @@ pub fn put_contents<F: Files>(
         "machine" => put_changed(rest, bytes),
         "key" => put_long_key(rest.parse::<usize>().ok()?, bytes),
         "code" => put_executable(rest, bytes),
+        "long" => put_long(rest, bytes),
         "overlapping" => put_overlapping(bytes),
         "spoil" => put_spoiled(rest, bytes),
         "text" => bytes.extend_from_slice(rest.as_bytes()).ok(),

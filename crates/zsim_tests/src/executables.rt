@@ -22,6 +22,18 @@ pub fn put_executable(code: &str, file: &mut Vec<u8>) -> Option<()> {
     put_code(code, file)
 }
 
+/// Puts an executable of so many instructions `addi x0, x0, 0`, and behind them these words.
+pub fn put_long(text: &str, file: &mut Vec<u8>) -> Option<()> {
+    let (count, code) = text.split_once(' ')?;
+    let count = count.parse::<u32>().ok()?;
+    file.extend_from_slice(&FRONT[..64]).ok()?;
+    put_header(file, size_of(code).saturating_add(4 * u64::from(count)))?;
+    for _ in 0..count {
+        put_word(0x13, file)?;
+    }
+    put_code(code, file)
+}
+
 /// How many bytes the words take.
 fn size_of(code: &str) -> u64 {
     let mut size = 0u64;
