@@ -36,11 +36,11 @@ impl CoreLog {
     }
 
     /// Adds an entry at the end.
-    pub fn push(&mut self, e: Entry)
+    pub fn push(&mut self, entry: Entry)
         requires { length self.old.entries < self.old.room }
-        ensures { self.new ≡ record self.old { entries = self.old.entries ++ e ∷ [] } }
+        ensures { self.new ≡ record self.old { entries = self.old.entries ++ entry ∷ [] } }
     {
-        self.list.push_reserved(e);
+        self.list.push_reserved(entry);
     }
 
     /// The entries so far.

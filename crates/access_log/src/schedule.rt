@@ -51,12 +51,12 @@ impl Schedule {
         self.lists.len() as u32
     }
 
-    /// The list of interval k.
-    pub fn list(&self, k: u32) -> &[u16]
-        requires { k < length self.now.lists }
-        ensures { slice_get self.now.lists k ≡ Some result.now }
+    /// The list of an interval.
+    pub fn list(&self, interval: u32) -> &[u16]
+        requires { interval < length self.now.lists }
+        ensures { slice_get self.now.lists interval ≡ Some result.now }
     {
-        &self.lists[k as usize]
+        &self.lists[interval as usize]
     }
 
     /// Adds an interval with these turns.

@@ -154,7 +154,7 @@ impl BoundCore {
     pub fn turn<P: Program, X: Expand, Q: Port>(
         &mut self,
         program: &P,
-        x: &X,
+        expansion: &X,
         end: Cycle,
         port: &mut Q,
     ) -> Turned
@@ -165,7 +165,7 @@ impl BoundCore {
         requires spare { 1 ≤ self.old.spare }
         requires clock { self.old.timed.clock ≤ 2 ^ 61 }
         requires end { end ≤ 2 ^ 61 }
-        ensures turn { TurnsAs (X.time x.now) (P.image program.now) end Q.gives port.old port.new self.old.timed self.new.timed result }
+        ensures turn { TurnsAs (X.time expansion.now) (P.image program.now) end Q.gives port.old port.new self.old.timed self.new.timed result }
         ensures over { result ≡ Turned.Ended → IsOver end self.new.timed }
         ensures core { IfTook result (λ e. e.core ≡ self.old.number) }
         ensures start { IfTook result (λ e. e.start ≡ (ran_to (P.image program.now) end self.old.timed).clock) }
@@ -188,7 +188,7 @@ impl BoundCore {
     {
         self.run_local(program, end);
         match self.core.request() {
-            Some(request) => Turned::Took(self.access(x, port, request)),
+            Some(request) => Turned::Took(self.access(expansion, port, request)),
             None => Turned::Ended,
         }
     }
@@ -198,7 +198,7 @@ impl BoundCore {
     pub fn run_one<P: Program, X: Expand, Q: Port>(
         &mut self,
         program: &P,
-        x: &X,
+        expansion: &X,
         end: Cycle,
         port: &mut Q,
     )
@@ -209,7 +209,7 @@ impl BoundCore {
         requires spare { end - self.old.timed.clock + beside_cycles ≤ self.old.spare }
         requires clock { self.old.timed.clock ≤ 2 ^ 60 }
         requires end { end ≤ 2 ^ 60 }
-        ensures turns { RunsToEnd (X.time x.now) (P.image program.now) end Q.gives Q.told self.old.number port.old port.new self.old.timed self.new.timed }
+        ensures turns { RunsToEnd (X.time expansion.now) (P.image program.now) end Q.gives Q.told self.old.number port.old port.new self.old.timed self.new.timed }
         ensures over { IsOver end self.new.timed }
         ensures few { most_accesses end self.old.timed ≤ end - self.old.timed.clock + 256 }
         ensures begun { self.old.timed.clock ≤ self.new.timed.clock }
@@ -224,13 +224,13 @@ impl BoundCore {
         ensures port_room { Q.room port.old ≤ Q.room port.new + most_accesses end self.old.timed }
     {
         self.keeps_sound();
-        while let Turned::Took(_entry) = self.turn(program, x, end, port) {}
+        while let Turned::Took(_entry) = self.turn(program, expansion, end, port) {}
     }
 
     /// Makes the access that the core waits for.
     #[inline(always)]
     #[tactic(auto, unfolding(crate::specs::TimedCore::core_after_access))]
-    fn access<X: Expand, Q: Port>(&mut self, x: &X, port: &mut Q, request: Request) -> Entry
+    fn access<X: Expand, Q: Port>(&mut self, expansion: &X, port: &mut Q, request: Request) -> Entry
         requires asked { asks self.old.timed ≡ Some request }
         requires core { Q.core port.old ≡ self.old.number }
         requires base { Q.base port.old ≡ self.old.timed.core.memory.base }
@@ -240,7 +240,7 @@ impl BoundCore {
         requires clock { self.old.timed.clock ≤ 2 ^ 62 }
         requires servable { IsServable (Q.base port.old) (Q.size port.old) request }
         ensures given { Q.gives port.old self.old.timed.clock request result port.new }
-        ensures left { self.new.timed ≡ core_after_access (X.time x.now) result self.old.timed }
+        ensures left { self.new.timed ≡ core_after_access (X.time expansion.now) result self.old.timed }
         ensures core { result.core ≡ self.old.number }
         ensures start { result.start ≡ self.old.timed.clock }
         ensures request { result.request ≡ request }
@@ -260,7 +260,7 @@ impl BoundCore {
         if let Some(byte) = self.core.answer(entry.reply) {
             self.console.push_reserved(byte);
         }
-        self.clock += x.time(&entry);
+        self.clock += expansion.time(&entry);
         entry
     }
 

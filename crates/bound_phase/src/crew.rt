@@ -28,17 +28,19 @@ fn work<R: Wait, G: Gate, P: Program, X: Expand>(
     gate: &G,
     table: &ShardTable,
     program: &P,
-    x: &X,
+    expansion: &X,
     memory: &Memory,
     end: Cycle,
     worker: u16,
     crew: &mut Crew,
 )
     requires { CanWork table.now memory.now end crew.old }
-    ensures { HasWorked (X.time x.now) (P.image program.now) end table.now crew.old crew.new }
+    ensures { HasWorked (X.time expansion.now) (P.image program.now) end table.now crew.old crew.new }
 {
     while let Some(member) = crew.todo.pop() {
-        let member = run(rt, gate, table, program, x, memory, end, worker, member);
+        let member = run(
+            rt, gate, table, program, expansion, memory, end, worker, member,
+        );
         crew.done.push_reserved(member);
     }
 }
@@ -50,7 +52,7 @@ pub(crate) fn work_all<R: Threads + Wait + Sync, G: Gate, P: Program + Sync, X: 
     gate: &G,
     table: &ShardTable,
     program: &P,
-    x: &X,
+    expansion: &X,
     memory: &Memory,
     end: Cycle,
     crews: &mut [Crew],
@@ -60,7 +62,7 @@ pub(crate) fn work_all<R: Threads + Wait + Sync, G: Gate, P: Program + Sync, X: 
     requires can { (i : ℕ) (d : Crew) → i < length crews.old → CanWork table.now memory.now end (slice_index_or crews.old i d) }
     ensures count { length crews.new ≡ length crews.old }
     ensures worked { (i : ℕ) (d : Crew) → i < length crews.old
-        → HasWorked (X.time x.now) (P.image program.now) end table.now (slice_index_or crews.old i d) (slice_index_or crews.new i d) }
+        → HasWorked (X.time expansion.now) (P.image program.now) end table.now (slice_index_or crews.old i d) (slice_index_or crews.new i d) }
 {
     let threads = crews.len();
     thread::for_each_mut(
@@ -69,14 +71,14 @@ pub(crate) fn work_all<R: Threads + Wait + Sync, G: Gate, P: Program + Sync, X: 
         threads,
         &|worker: usize, crew: &mut Crew|
             requires { IsSync G.row × (worker < 64) × CanWork table.now memory.now end crew.now }
-            ensures { HasWorked (X.time x.entry.now) (P.image program.entry.now) end table.entry.now crew.entry.now crew.exit.now }
+            ensures { HasWorked (X.time expansion.entry.now) (P.image program.entry.now) end table.entry.now crew.entry.now crew.exit.now }
         {
             work(
                 rt,
                 gate,
                 table,
                 program,
-                x,
+                expansion,
                 memory,
                 end,
                 worker as u16,

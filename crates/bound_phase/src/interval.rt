@@ -69,7 +69,7 @@ pub fn bound<R: Threads + Wait + Sync, G: Gate, P: Program + Sync, X: Expand + S
     alloc: Global,
     machine: &Machine,
     program: &P,
-    x: &X,
+    expansion: &X,
     cores: Vec<BoundCore>,
     shards: Vec<Shard>,
     end: Cycle,
@@ -80,7 +80,7 @@ pub fn bound<R: Threads + Wait + Sync, G: Gate, P: Program + Sync, X: Expand + S
     requires can { CanBound machine.now end cores.items shards.items }
     requires end { end ≤ 2 ^ 60 }
     requires workers { (0 < workers) × (workers ≤ 64) }
-    ensures bound { IfOk result (λ b. IsBound (X.time x.now) (P.image program.now) end cores.items shards.items b.cores.items b.shards.items b.entries) }
+    ensures bound { IfOk result (λ b. IsBound (X.time expansion.now) (P.image program.now) end cores.items shards.items b.cores.items b.shards.items b.entries) }
     ensures ended { IfOk result (λ b. HaveEndedInterval machine.now end cores.items b.cores.items b.entries) }
     ensures cores { IfErr result (λ back. (map (λ c. c.timed) back.1.cores.items ≡ map (λ c. c.timed) cores.items) × (map (λ c. c.number) back.1.cores.items ≡ map (λ c. c.number) cores.items)) }
     ensures shards { IfErr result (λ back. back.1.shards.items ≡ shards.items) }
@@ -93,7 +93,7 @@ pub fn bound<R: Threads + Wait + Sync, G: Gate, P: Program + Sync, X: Expand + S
         &mut buffers,
         machine,
         program,
-        x,
+        expansion,
         cores,
         shards,
         end,
@@ -113,7 +113,7 @@ pub fn bound_in<R: Threads + Wait + Sync, G: Gate, P: Program + Sync, X: Expand 
     left: &mut PhaseBuffers,
     machine: &Machine,
     program: &P,
-    x: &X,
+    expansion: &X,
     mut cores: Vec<BoundCore>,
     shards: Vec<Shard>,
     end: Cycle,
@@ -124,7 +124,7 @@ pub fn bound_in<R: Threads + Wait + Sync, G: Gate, P: Program + Sync, X: Expand 
     requires can { CanBound machine.now end cores.items shards.items }
     requires end { end ≤ 2 ^ 60 }
     requires workers { (0 < workers) × (workers ≤ 64) }
-    ensures bound { IfOk result (λ b. IsBound (X.time x.now) (P.image program.now) end cores.items shards.items b.cores.items b.shards.items b.entries) }
+    ensures bound { IfOk result (λ b. IsBound (X.time expansion.now) (P.image program.now) end cores.items shards.items b.cores.items b.shards.items b.entries) }
     ensures ended { IfOk result (λ b. HaveEndedInterval machine.now end cores.items b.cores.items b.entries) }
     ensures cores { IfErr result (λ back. (map (λ c. c.timed) back.1.cores.items ≡ map (λ c. c.timed) cores.items) × (map (λ c. c.number) back.1.cores.items ≡ map (λ c. c.number) cores.items)) }
     ensures shards { IfErr result (λ back. back.1.shards.items ≡ shards.items) }
@@ -152,7 +152,7 @@ pub fn bound_in<R: Threads + Wait + Sync, G: Gate, P: Program + Sync, X: Expand 
                 gate,
                 &table,
                 program,
-                x,
+                expansion,
                 machine,
                 end,
                 cores,
@@ -181,7 +181,7 @@ fn run_crews<R: Threads + Wait + Sync, G: Gate, P: Program + Sync, X: Expand + S
     gate: &G,
     table: &ShardTable,
     program: &P,
-    x: &X,
+    expansion: &X,
     machine: &Machine,
     end: Cycle,
     cores: Vec<BoundCore>,
@@ -196,10 +196,19 @@ fn run_crews<R: Threads + Wait + Sync, G: Gate, P: Program + Sync, X: Expand + S
     requires crews { (0 < length crews.old) × (length crews.old ≤ 64) × All (AreEmpty machine.now.cores) crews.old }
     requires back { (back.old.items ≡ []) × (machine.now.cores ≤ vec_capacity back.old) }
     requires seats_back { (seats_back.old.items ≡ []) × (machine.now.cores ≤ vec_capacity seats_back.old) }
-    ensures { HaveReturned (X.time x.now) (P.image program.now) end table.now (mates cores.items seats.items) back.new.items seats_back.new.items }
+    ensures { HaveReturned (X.time expansion.now) (P.image program.now) end table.now (mates cores.items seats.items) back.new.items seats_back.new.items }
 {
     hire(cores, seats, crews);
-    work_all(rt, gate, table, program, x, &machine.memory, end, crews);
+    work_all(
+        rt,
+        gate,
+        table,
+        program,
+        expansion,
+        &machine.memory,
+        end,
+        crews,
+    );
     let_go(crews, machine.cores, back, seats_back);
 }
 

@@ -25,14 +25,14 @@ pub(crate) fn run<R: Wait, G: Gate, P: Program, X: Expand>(
     gate: &G,
     table: &ShardTable,
     program: &P,
-    x: &X,
+    expansion: &X,
     memory: &Memory,
     end: Cycle,
     worker: u16,
     member: Member,
 ) -> Member
     requires { CanRun table.now memory.now end member }
-    ensures { HasRun (X.time x.now) (P.image program.now) end table.now member result }
+    ensures { HasRun (X.time expansion.now) (P.image program.now) end table.now member result }
 {
     bound_core::laws::turns_are_the_cores_own::<SeatPort<R, G>>();
     let Member { mut core, seat } = member;
@@ -48,7 +48,7 @@ pub(crate) fn run<R: Wait, G: Gate, P: Program, X: Expand>(
         size: memory.size,
         seat,
     };
-    core.run_one(program, x, end, &mut port);
+    core.run_one(program, expansion, end, &mut port);
     let SeatPort { seat, .. } = port;
     Member { core, seat }
 }

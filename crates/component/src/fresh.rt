@@ -10,16 +10,16 @@ use zs_num::NoMemory;
 
 /// The components of a machine in order of their numbers, all free: the banks and then the
 /// controllers.
-pub fn components(alloc: Global, m: &Machine) -> Result<Comps<Comp>, NoMemory>
-    requires { IsMachine m.now }
-    ensures { IfOk result (AreFresh m.now) }
+pub fn components(alloc: Global, machine: &Machine) -> Result<Comps<Comp>, NoMemory>
+    requires { IsMachine machine.now }
+    ensures { IfOk result (AreFresh machine.now) }
 {
     let mut list = Vec::new(alloc);
-    'banks: for _bank in 0..m.l2.banks {
-        list.push(Comp::Bank(fresh_bank(&m.l2)))?;
+    'banks: for _bank in 0..machine.l2.banks {
+        list.push(Comp::Bank(fresh_bank(&machine.l2)))?;
     }
-    'controllers: for _controller in 0..m.controllers.count {
-        list.push(Comp::Controller(fresh_controller(&m.controllers)))?;
+    'controllers: for _controller in 0..machine.controllers.count {
+        list.push(Comp::Controller(fresh_controller(&machine.controllers)))?;
     }
     Ok(Comps::of(list))
 }

@@ -27,43 +27,45 @@ impl Model for Crossings {
 impl Crossings {
     /// Raises the bound in the word of a crossing that the seat's domain owns, while its finish is
     /// not published. Takes no memory and waits for nobody.
-    pub fn raise(&self, seat: &mut DomainSeat, x: u32, bound: Cycle)
+    pub fn raise(&self, seat: &mut DomainSeat, crossing: u32, bound: Cycle)
         requires crossings { seat.old.crossings ≡ self.now }
-        requires may { MayWrite seat.old x }
-        requires rises { slice_index seat.old.wrote x ≤ 2 * bound }
-        requires sound { bound ≤ slice_index seat.old.finishes x }
+        requires may { MayWrite seat.old crossing }
+        requires rises { slice_index seat.old.wrote crossing ≤ 2 * bound }
+        requires sound { bound ≤ slice_index seat.old.finishes crossing }
         requires small { bound ≤ 2 ^ 62 }
-        ensures { seat.new ≡ with_written seat.old x (2 * bound) }
+        ensures { seat.new ≡ with_written seat.old crossing (2 * bound) }
     {
         self.words
             .shared
-            .store::<Write>(&mut seat.place, 16 * x as usize + 16, 2 * bound);
+            .store::<Write>(&mut seat.place, 16 * crossing as usize + 16, 2 * bound);
     }
 
     /// Publishes the finish of the parent of a crossing that the seat's domain owns. Takes no
     /// memory and waits for nobody.
-    pub fn publish(&self, seat: &mut DomainSeat, x: u32, finish: Cycle)
+    pub fn publish(&self, seat: &mut DomainSeat, crossing: u32, finish: Cycle)
         requires crossings { seat.old.crossings ≡ self.now }
-        requires may { MayWrite seat.old x }
-        requires sound { finish ≡ slice_index seat.old.finishes x }
+        requires may { MayWrite seat.old crossing }
+        requires sound { finish ≡ slice_index seat.old.finishes crossing }
         requires small { finish ≤ 2 ^ 62 }
-        ensures { seat.new ≡ with_written seat.old x (2 * finish + 1) }
+        ensures { seat.new ≡ with_written seat.old crossing (2 * finish + 1) }
     {
-        self.words
-            .shared
-            .store::<Write>(&mut seat.place, 16 * x as usize + 16, 2 * finish + 1);
+        self.words.shared.store::<Write>(
+            &mut seat.place,
+            16 * crossing as usize + 16,
+            2 * finish + 1,
+        );
     }
 
     /// What the word of a crossing says now. Takes no memory and waits for nobody.
-    pub fn look(&self, seat: &mut DomainSeat, x: u32) -> Word
+    pub fn look(&self, seat: &mut DomainSeat, crossing: u32) -> Word
         requires crossings { seat.old.crossings ≡ self.now }
-        requires there { x < length seat.old.sources }
-        ensures { Looked seat.old seat.new x result }
+        requires there { crossing < length seat.old.sources }
+        ensures { Looked seat.old seat.new crossing result }
     {
         let number = self
             .words
             .shared
-            .load::<Find>(&mut seat.place, 16 * x as usize + 16);
+            .load::<Find>(&mut seat.place, 16 * crossing as usize + 16);
         if number % 2 == 0 {
             Word::Bound(number / 2)
         } else {

@@ -24,23 +24,23 @@ impl Crossings {
     /// it is computed.
     pub fn make<C: Component>(
         alloc: Global,
-        g: &Graph,
-        p: &Parts,
+        graph: &Graph,
+        parts: &Parts,
         comps: &Comps<C>,
     ) -> Result<(Crossings, Vec<DomainSeat>), NoMemory>
-        requires fits { GraphFits C.serves C.floor g.now comps.now }
-        requires partitions { IsPartition g.now p.now }
-        ensures { IfOk result (λ made. AreSeats made.0 (finishes_of C.stepped g.now p.now comps.now) (sources_of p.now) (length p.now.events) made.1.items) }
+        requires fits { GraphFits C.serves C.floor graph.now comps.now }
+        requires partitions { IsPartition graph.now parts.now }
+        ensures { IfOk result (λ made. AreSeats made.0 (finishes_of C.stepped graph.now parts.now comps.now) (sources_of parts.now) (length parts.now.events) made.1.items) }
     {
-        let count = p.crossings().len();
+        let count = parts.crossings().len();
         if count > u32::MAX as usize {
             return Err(NoMemory);
         }
-        let domains = p.domains();
+        let domains = parts.domains();
         let seats = Vec::with_capacity(alloc, usize::from(domains))?;
         let zeros = vec![in alloc; 0; 16 * count + 1]?;
         let (words, first) = Words::of_words(alloc, &zeros, &(count as u64))?;
-        let seats = seated::<C, Brand>(&words, first, domains, seats, g, p, comps);
+        let seats = seated::<C, Brand>(&words, first, domains, seats, graph, parts, comps);
         Ok((Crossings { words }, seats))
     }
 }

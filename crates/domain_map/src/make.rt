@@ -14,24 +14,29 @@ use std::alloc::Global;
 use zs_num::NoMemory;
 
 /// The events of a graph by the domains of a machine.
-pub fn split(alloc: Global, g: &Graph, m: &Machine) -> Result<Parts, NoMemory>
-    requires machine { IsMachine m.now }
-    requires components { All (λ e. e.component < component_count m.now) g.now }
-    requires few { length g.now < 2 ^ 31 }
-    ensures { IfOk result (IsSplit g.now m.now) }
+pub fn split(alloc: Global, graph: &Graph, machine: &Machine) -> Result<Parts, NoMemory>
+    requires machine { IsMachine machine.now }
+    requires components { All (λ e. e.component < component_count machine.now) graph.now }
+    requires few { length graph.now < 2 ^ 31 }
+    ensures { IfOk result (IsSplit graph.now machine.now) }
 {
-    partition(alloc, g.events(), places_of(alloc, m)?, m.domains.count)
+    partition(
+        alloc,
+        graph.events(),
+        places_of(alloc, machine)?,
+        machine.domains.count,
+    )
 }
 
 /// The domain of each component, by number.
-pub fn places_of(alloc: Global, m: &Machine) -> Result<Vec<u16>, NoMemory>
-    requires { IsMachine m.now }
-    ensures listed { IfOk result (λ places. places.items ≡ component_domains m.now) }
-    ensures count { IfOk result (λ places. length places.items ≡ component_count m.now) }
-    ensures below { IfOk result (λ places. All (λ domain. domain < m.now.domains.count) places.items) }
+pub fn places_of(alloc: Global, machine: &Machine) -> Result<Vec<u16>, NoMemory>
+    requires { IsMachine machine.now }
+    ensures listed { IfOk result (λ places. places.items ≡ component_domains machine.now) }
+    ensures count { IfOk result (λ places. length places.items ≡ component_count machine.now) }
+    ensures below { IfOk result (λ places. All (λ domain. domain < machine.now.domains.count) places.items) }
 {
-    let mut places = Vec::from_slice(alloc, m.domains.banks.as_slice())?;
-    places.extend_from_slice(m.domains.controllers.as_slice())?;
+    let mut places = Vec::from_slice(alloc, machine.domains.banks.as_slice())?;
+    places.extend_from_slice(machine.domains.controllers.as_slice())?;
     Ok(places)
 }
 

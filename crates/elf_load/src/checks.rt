@@ -155,52 +155,55 @@ fn is_entered_by(headers: &[ProgramHeader], entry: u64) -> bool
 }
 
 #[tactic(auto, unfolding(crate::specs::Checks::is_dynamic))]
-fn is_dynamic(p: &ProgramHeader) -> bool
-    ensures { result ≡ is_dynamic p.now }
+fn is_dynamic(header: &ProgramHeader) -> bool
+    ensures { result ≡ is_dynamic header.now }
 {
-    p.type_ == PT_DYNAMIC || p.type_ == PT_INTERP
+    header.type_ == PT_DYNAMIC || header.type_ == PT_INTERP
 }
 
 /// Whether it is for a segment to load that is not empty.
 #[tactic(auto, unfolding(crate::specs::Checks::is_loaded))]
-pub fn is_loaded(p: &ProgramHeader) -> bool
-    ensures { result ≡ is_loaded p.now }
+pub fn is_loaded(header: &ProgramHeader) -> bool
+    ensures { result ≡ is_loaded header.now }
 {
-    p.type_ == PT_LOAD && !(p.filesz == 0 && p.memsz == 0)
+    header.type_ == PT_LOAD && !(header.filesz == 0 && header.memsz == 0)
 }
 
 /// Whether it gives the permission to execute.
 #[tactic(auto, unfolding(crate::specs::Checks::is_executable))]
-pub fn is_executable(p: &ProgramHeader) -> bool
-    ensures { result ≡ is_executable p.now }
+pub fn is_executable(header: &ProgramHeader) -> bool
+    ensures { result ≡ is_executable header.now }
 {
-    p.flags & PF_X != 0
+    header.flags & PF_X != 0
 }
 
 #[tactic(auto, unfolding(crate::specs::Checks::is_past_file))]
-fn is_past_file(p: &ProgramHeader, len: usize) -> bool
-    ensures { result ≡ is_past_file len p.now }
+fn is_past_file(header: &ProgramHeader, len: usize) -> bool
+    ensures { result ≡ is_past_file len header.now }
 {
-    is_loaded(p) && !is_within(p.offset, p.filesz, 0, len as u64)
+    is_loaded(header) && !is_within(header.offset, header.filesz, 0, len as u64)
 }
 
 #[tactic(auto, unfolding(crate::specs::Checks::is_past_memory))]
-fn is_past_memory(p: &ProgramHeader, base: u64, size: u64) -> bool
-    ensures { result ≡ is_past_memory base size p.now }
+fn is_past_memory(header: &ProgramHeader, base: u64, size: u64) -> bool
+    ensures { result ≡ is_past_memory base size header.now }
 {
-    is_loaded(p) && !(p.filesz <= p.memsz && is_within(p.vaddr, p.memsz, base, size))
+    is_loaded(header)
+        && !(header.filesz <= header.memsz && is_within(header.vaddr, header.memsz, base, size))
 }
 
 #[tactic(auto, unfolding(crate::specs::Checks::overlaps))]
-fn overlaps(p: &ProgramHeader, q: &ProgramHeader) -> bool
-    ensures { result ≡ overlaps p.now q.now }
+fn overlaps(header: &ProgramHeader, other: &ProgramHeader) -> bool
+    ensures { result ≡ overlaps header.now other.now }
 {
-    is_loaded(p) && is_loaded(q) && ranges_overlap(p.vaddr, p.memsz, q.vaddr, q.memsz)
+    is_loaded(header)
+        && is_loaded(other)
+        && ranges_overlap(header.vaddr, header.memsz, other.vaddr, other.memsz)
 }
 
 #[tactic(auto, unfolding(crate::specs::Checks::is_entered))]
-fn is_entered(p: &ProgramHeader, entry: u64) -> bool
-    ensures { result ≡ is_entered entry p.now }
+fn is_entered(header: &ProgramHeader, entry: u64) -> bool
+    ensures { result ≡ is_entered entry header.now }
 {
-    is_loaded(p) && is_executable(p) && is_within(entry, 4, p.vaddr, p.memsz)
+    is_loaded(header) && is_executable(header) && is_within(entry, 4, header.vaddr, header.memsz)
 }

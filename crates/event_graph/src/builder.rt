@@ -108,22 +108,22 @@ fn push_event(
 fn add_access<X: Expand>(
     events: &mut Vec<Event>,
     last: &mut Vec<Option<Critical>>,
-    x: &X,
+    expansion: &X,
     entry: &Entry,
 ) -> Result<(), NoMemory>
     requires core { entry.now.core < vec_len last.old }
     requires told { TellsLast last.old.items events.old.items }
     requires start { entry.now.start < 2 ^ 62 }
-    requires few { vec_len events.old + length (X.pieces x.now entry.now) < 2 ^ 32 }
-    ensures added { OnOk result (events.new.items ≡ events.old.items ++ access_events events.old.items entry.now (X.pieces x.now entry.now)) }
+    requires few { vec_len events.old + length (X.pieces expansion.now entry.now) < 2 ^ 32 }
+    ensures added { OnOk result (events.new.items ≡ events.old.items ++ access_events events.old.items entry.now (X.pieces expansion.now entry.now)) }
     ensures told { OnOk result (TellsLast last.new.items events.new.items) }
     ensures cores { vec_len last.new ≡ vec_len last.old }
 {
     let base = events.len() as u32;
     let earlier = last[usize::from(entry.core)];
-    let count = x.count(entry);
+    let count = expansion.count(entry);
     for place in 0..count {
-        let piece = x.piece(entry, place);
+        let piece = expansion.piece(entry, place);
         let spot = Spot {
             base,
             place,
@@ -136,33 +136,36 @@ fn add_access<X: Expand>(
 }
 
 /// How many events the accesses are made of.
-fn count_events<X: Expand>(x: &X, entries: &[Entry]) -> usize
-    requires { sum_by (λ e. length (X.pieces x.now e)) entries.now < 2 ^ 32 }
-    ensures { result ≡ sum_by (λ e. length (X.pieces x.now e)) entries.now }
+fn count_events<X: Expand>(expansion: &X, entries: &[Entry]) -> usize
+    requires { sum_by (λ e. length (X.pieces expansion.now e)) entries.now < 2 ^ 32 }
+    ensures { result ≡ sum_by (λ e. length (X.pieces expansion.now e)) entries.now }
 {
-    entries.iter().map(|e| usize::from(x.count(e))).sum()
+    entries
+        .iter()
+        .map(|e| usize::from(expansion.count(e)))
+        .sum()
 }
 
 /// The events of all accesses of an interval, numbered in the order of the entries and then in the
 /// order of the places. Entries in recorded order give the events of the interval.
 pub fn build<X: Expand>(
     alloc: Global,
-    x: &X,
+    expansion: &X,
     entries: &Entries,
     cores: u16,
 ) -> Result<Graph, NoMemory>
     requires cores { All (λ e. e.core < cores) entries.now }
     requires starts { All (λ e. e.start < 2 ^ 62) entries.now }
-    requires few { sum_by (λ e. length (X.pieces x.now e)) entries.now < 2 ^ 32 }
-    ensures { IfOk result (λ g. g ≡ all_events (X.pieces x.now) entries.now) }
+    requires few { sum_by (λ e. length (X.pieces expansion.now e)) entries.now < 2 ^ 32 }
+    ensures { IfOk result (λ g. g ≡ all_events (X.pieces expansion.now) entries.now) }
 {
     let mut last = Vec::with_capacity(alloc, usize::from(cores))?;
     for _core in 0..cores {
         last.push(None)?;
     }
-    let mut events = Vec::with_capacity(alloc, count_events(x, entries.as_slice()))?;
+    let mut events = Vec::with_capacity(alloc, count_events(expansion, entries.as_slice()))?;
     for entry in entries.as_slice() {
-        add_access(&mut events, &mut last, x, entry)?;
+        add_access(&mut events, &mut last, expansion, entry)?;
     }
     Ok(Graph::of(events))
 }

@@ -21,17 +21,17 @@ pub trait Expand {
     ghost told: { Self → (component : ℕ) → Kind → Option ℕ };
 
     /// How many events an access is made of.
-    fn count(&self, e: &Entry) -> u16
-        ensures { result ≡ length (pieces self.now e.now) };
+    fn count(&self, entry: &Entry) -> u16
+        ensures { result ≡ length (pieces self.now entry.now) };
 
     /// The event at a place of an access.
-    fn piece(&self, e: &Entry, place: u16) -> Piece
-        requires { place < length (pieces self.now e.now) }
-        ensures { slice_get (pieces self.now e.now) place ≡ Some result };
+    fn piece(&self, entry: &Entry, place: u16) -> Piece
+        requires { place < length (pieces self.now entry.now) }
+        ensures { slice_get (pieces self.now entry.now) place ≡ Some result };
 
     /// The time of an access at zero load, in cycles.
-    fn time(&self, e: &Entry) -> u64
-        ensures { result ≡ time self.now e.now };
+    fn time(&self, entry: &Entry) -> u64
+        ensures { result ≡ time self.now entry.now };
 
     /// An access takes a cycle at least, and not long.
     ghost time_at_least_one: { (x : Self) (e : Entry) → 1 ≤ time x e };

@@ -24,40 +24,43 @@ impl Plain {
     ghost use Rattle.event_graph.specs.Timing.{bank_component, controller_component, memory_time, look_up, read, write, fill};
 
     /// The expansion of this machine.
-    pub fn of(m: &Machine) -> Plain
-        requires { IsMachine m.now }
-        ensures l1 { result.l1 ≡ m.now.l1 }
-        ensures l2 { result.l2 ≡ m.now.l2 }
-        ensures controllers { result.controllers ≡ m.now.controllers }
+    pub fn of(machine: &Machine) -> Plain
+        requires { IsMachine machine.now }
+        ensures l1 { result.l1 ≡ machine.now.l1 }
+        ensures l2 { result.l2 ≡ machine.now.l2 }
+        ensures controllers { result.controllers ≡ machine.now.controllers }
     {
         Plain {
-            l1: m.l1,
-            l2: m.l2,
-            controllers: m.controllers,
+            l1: machine.l1,
+            l2: machine.l2,
+            controllers: machine.controllers,
         }
     }
 
     /// The bank that has the line of an access.
-    fn bank(&self, e: &Entry) -> u16
-        ensures { result ≡ bank_component self.now.l2 e.now }
+    fn bank(&self, entry: &Entry) -> u16
+        ensures { result ≡ bank_component self.now.l2 entry.now }
     {
-        remainder(e.request.line(), u64::from(self.l2.banks)) as u16
+        remainder(entry.request.line(), u64::from(self.l2.banks)) as u16
     }
 
     /// The controller behind the bank of an access.
-    fn controller(&self, e: &Entry) -> u16
-        ensures { result ≡ controller_component self.now.l2 self.now.controllers e.now }
+    fn controller(&self, entry: &Entry) -> u16
+        ensures { result ≡ controller_component self.now.l2 self.now.controllers entry.now }
     {
-        let number = remainder(u64::from(self.bank(e)), u64::from(self.controllers.count));
+        let number = remainder(
+            u64::from(self.bank(entry)),
+            u64::from(self.controllers.count),
+        );
         self.l2.banks + number as u16
     }
 
-    fn look_up(&self, e: &Entry, others: bool) -> Piece
-        ensures { result ≡ look_up self.now.l1 self.now.l2 self.now.controllers (bank_component self.now.l2 e.now) (controller_component self.now.l2 self.now.controllers e.now) others }
+    fn look_up(&self, entry: &Entry, others: bool) -> Piece
+        ensures { result ≡ look_up self.now.l1 self.now.l2 self.now.controllers (bank_component self.now.l2 entry.now) (controller_component self.now.l2 self.now.controllers entry.now) others }
     {
         let latency = u64::from(self.l2.latency);
         Piece {
-            component: self.bank(e),
+            component: self.bank(entry),
             kind: if others { Kind::Remote } else { Kind::Lookup },
             offset: u64::from(self.l1.latency),
             time: if others {
@@ -70,11 +73,11 @@ impl Plain {
         }
     }
 
-    fn read(&self, e: &Entry) -> Piece
-        ensures { result ≡ read self.now.l1 self.now.l2 self.now.controllers (bank_component self.now.l2 e.now) (controller_component self.now.l2 self.now.controllers e.now) }
+    fn read(&self, entry: &Entry) -> Piece
+        ensures { result ≡ read self.now.l1 self.now.l2 self.now.controllers (bank_component self.now.l2 entry.now) (controller_component self.now.l2 self.now.controllers entry.now) }
     {
         Piece {
-            component: self.controller(e),
+            component: self.controller(entry),
             kind: Kind::Read,
             offset: u64::from(self.l1.latency) + u64::from(self.l2.latency),
             time: u64::from(self.controllers.read),
@@ -83,11 +86,11 @@ impl Plain {
         }
     }
 
-    fn write(&self, e: &Entry) -> Piece
-        ensures { result ≡ write self.now.l1 self.now.l2 self.now.controllers (bank_component self.now.l2 e.now) (controller_component self.now.l2 self.now.controllers e.now) }
+    fn write(&self, entry: &Entry) -> Piece
+        ensures { result ≡ write self.now.l1 self.now.l2 self.now.controllers (bank_component self.now.l2 entry.now) (controller_component self.now.l2 self.now.controllers entry.now) }
     {
         Piece {
-            component: self.controller(e),
+            component: self.controller(entry),
             kind: Kind::Write,
             offset: u64::from(self.l1.latency) + u64::from(self.l2.latency),
             time: u64::from(self.controllers.write),
@@ -107,11 +110,11 @@ impl Plain {
         }
     }
 
-    fn fill(&self, e: &Entry, dirty: bool) -> Piece
-        ensures { result ≡ fill self.now.l1 self.now.l2 self.now.controllers (bank_component self.now.l2 e.now) (controller_component self.now.l2 self.now.controllers e.now) dirty }
+    fn fill(&self, entry: &Entry, dirty: bool) -> Piece
+        ensures { result ≡ fill self.now.l1 self.now.l2 self.now.controllers (bank_component self.now.l2 entry.now) (controller_component self.now.l2 self.now.controllers entry.now) dirty }
     {
         Piece {
-            component: self.bank(e),
+            component: self.bank(entry),
             kind: Kind::Fill,
             offset: u64::from(self.l1.latency)
                 + u64::from(self.l2.latency)
@@ -135,8 +138,8 @@ impl Expand for Plain {
 
     ghost told = { λ x. floor_told x.l2 x.controllers };
 
-    fn count(&self, e: &Entry) -> u16 {
-        match e.outcome {
+    fn count(&self, entry: &Entry) -> u16 {
+        match entry.outcome {
             Outcome::Hit => 0,
             Outcome::Upgrade { .. } | Outcome::L2 { .. } => 1,
             Outcome::Miss {
@@ -146,26 +149,26 @@ impl Expand for Plain {
         }
     }
 
-    fn piece(&self, e: &Entry, place: u16) -> Piece {
-        match e.outcome {
+    fn piece(&self, entry: &Entry, place: u16) -> Piece {
+        match entry.outcome {
             Outcome::Hit => unreachable!(),
-            Outcome::Upgrade { others } | Outcome::L2 { others } => self.look_up(e, others),
+            Outcome::Upgrade { others } | Outcome::L2 { others } => self.look_up(entry, others),
             Outcome::Miss { dirty_victim } => match place {
-                0 => self.look_up(e, false),
-                1 => self.read(e),
-                2 if dirty_victim => self.write(e),
-                _ => self.fill(e, dirty_victim),
+                0 => self.look_up(entry, false),
+                1 => self.read(entry),
+                2 if dirty_victim => self.write(entry),
+                _ => self.fill(entry, dirty_victim),
             },
         }
     }
 
-    fn time(&self, e: &Entry) -> u64 {
+    fn time(&self, entry: &Entry) -> u64 {
         let hit = u64::from(self.l1.latency);
         let latency = u64::from(self.l2.latency);
-        match e.outcome {
+        match entry.outcome {
             Outcome::Hit => hit,
             Outcome::Upgrade { others } | Outcome::L2 { others } => {
-                hit + self.look_up(e, others).time
+                hit + self.look_up(entry, others).time
             }
             Outcome::Miss { dirty_victim } => {
                 hit + latency + self.memory_time(dirty_victim) + u64::from(self.l2.fill)

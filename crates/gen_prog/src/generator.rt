@@ -26,34 +26,34 @@ const DATA_SIZE: u64 = 2112;
 
 /// The executable of the program of a number, for a memory that begins at `base`: a multiple of
 /// 4096 up to 2^40.
-pub fn generate(alloc: Global, n: u64, base: u64) -> Result<Bytes, NoMemory>
+pub fn generate(alloc: Global, number: u64, base: u64) -> Result<Bytes, NoMemory>
     requires page { base % 4096 ≡ 0 }
     requires low { base ≤ 2 ^ 40 }
-    ensures file { IfOk result (λ bytes. bytes ≡ executable_of (generated_image n base)) }
+    ensures file { IfOk result (λ bytes. bytes ≡ executable_of (generated_image number base)) }
     ensures load { IfOk result (λ bytes. (size : ℕ)
-        → image_of bytes base size ≡ loaded_in n base size) }
+        → image_of bytes base size ≡ loaded_in number base size) }
 {
     laws::programs_load();
-    let image = image(alloc, n, base)?;
+    let image = image(alloc, number, base)?;
     elf_write::write(alloc, &image)
 }
 
 /// The image of the program.
-fn image(alloc: Global, n: u64, base: u64) -> Result<Image, NoMemory>
+fn image(alloc: Global, number: u64, base: u64) -> Result<Image, NoMemory>
     requires page { base % 4096 ≡ 0 }
     requires low { base ≤ 2 ^ 40 }
-    ensures { IfOk result (λ image. image ≡ generated_image n base) }
+    ensures { IfOk result (λ image. image ≡ generated_image number base) }
 {
     let mut segments = Vec::new(alloc);
     segments.push(Segment {
         vaddr: base,
-        bytes: code(alloc, n)?,
+        bytes: code(alloc, number)?,
         memsz: CODE_SIZE,
         exec: true,
     })?;
     segments.push(Segment {
         vaddr: base + 4096,
-        bytes: data(alloc, n)?,
+        bytes: data(alloc, number)?,
         memsz: DATA_SIZE,
         exec: false,
     })?;
@@ -61,11 +61,11 @@ fn image(alloc: Global, n: u64, base: u64) -> Result<Image, NoMemory>
 }
 
 /// The bytes of the instructions.
-fn code(alloc: Global, n: u64) -> Result<Bytes, NoMemory>
-    ensures { IfOk result (λ bytes. bytes ≡ assembled (instructions n)) }
+fn code(alloc: Global, number: u64) -> Result<Bytes, NoMemory>
+    ensures { IfOk result (λ bytes. bytes ≡ assembled (instructions number)) }
 {
     let mut bytes = Vec::new(alloc);
-    assemble(&mut bytes, &program(mask(n)))?;
+    assemble(&mut bytes, &program(mask(number)))?;
     Ok(Bytes::of(bytes))
 }
 
@@ -90,11 +90,11 @@ fn word(instruction: Inst) -> u32
 }
 
 /// The bytes of the data that the program reads.
-fn data(alloc: Global, n: u64) -> Result<Bytes, NoMemory>
-    ensures { IfOk result (λ bytes. bytes ≡ data_of n) }
+fn data(alloc: Global, number: u64) -> Result<Bytes, NoMemory>
+    ensures { IfOk result (λ bytes. bytes ≡ data_of number) }
 {
     let mut bytes = Vec::new(alloc);
-    bytes.extend_from_slice(&n.to_le_bytes())?;
-    bytes.extend_from_slice(&iterations(n).to_le_bytes())?;
+    bytes.extend_from_slice(&number.to_le_bytes())?;
+    bytes.extend_from_slice(&iterations(number).to_le_bytes())?;
     Ok(Bytes::of(bytes))
 }

@@ -8,17 +8,17 @@ use crate::assembly::{
 use rv_decode::{Inst, Name};
 
 /// The offset of the last doubleword of the table, which has 16 to 256 of them.
-pub fn mask(n: u64) -> u16
-    ensures { result ≡ mask n }
+pub fn mask(number: u64) -> u16
+    ensures { result ≡ mask number }
 {
-    8 * ((1 << (4 + n % 5)) - 1)
+    8 * ((1 << (4 + number % 5)) - 1)
 }
 
 /// How many iterations each core makes: 100 to 10,000.
-pub fn iterations(n: u64) -> u64
-    ensures { result ≡ iterations n }
+pub fn iterations(number: u64) -> u64
+    ensures { result ≡ iterations number }
 {
-    100 + n % 9901
+    100 + number % 9901
 }
 
 /// The program, with the offset of the table's last doubleword. At its start a core has its number

@@ -51,18 +51,18 @@ static NUMBERS: [(u64, u32, u64); 5] = [
 ];
 
 /// The program of a number, for a memory from `BASE` on.
-fn generated(rt: &(impl Abort + AllocGlobal), n: u64) -> Bytes {
-    generate(rt.alloc(), n, BASE).expect(rt, "memory")
+fn generated(rt: &(impl Abort + AllocGlobal), number: u64) -> Bytes {
+    generate(rt.alloc(), number, BASE).expect(rt, "memory")
 }
 
 /// The end of the file of the program of a number: its words, of which word 13 has the mask, the
 /// number, and its iterations.
-fn end_of(rt: &(impl Abort + AllocGlobal), n: u64, masked: u32, iterations: u64) -> Vec<u8> {
+fn end_of(rt: &(impl Abort + AllocGlobal), number: u64, masked: u32, iterations: u64) -> Vec<u8> {
     let mut bytes = Vec::new(rt.alloc());
     for (place, &word) in WORDS.iter().enumerate() {
         add_word(rt, &mut bytes, if place == 13 { masked } else { word });
     }
-    add_number(rt, &mut bytes, n);
+    add_number(rt, &mut bytes, number);
     add_number(rt, &mut bytes, iterations);
     bytes
 }

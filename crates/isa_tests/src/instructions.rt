@@ -31,10 +31,10 @@ fn next<P: Program>(core: &mut Core, program: &P) -> Ask {
 }
 
 /// The number in a register.
-fn register(core: &Core, n: u8) -> u64
-    requires { n < 32 }
+fn register(core: &Core, number: u8) -> u64
+    requires { number < 32 }
 {
-    core.reg(n)
+    core.reg(number)
 }
 
 /// Answers the access that the core waits for.
@@ -64,10 +64,10 @@ fn fetch_of(core: &Core) -> Option<u64> {
 }
 
 /// Checks the number in a register, and pc.
-fn is_at(rt: &impl Abort, core: &Core, n: u8, number: u64, pc: u64) {
-    assert!(rt; n < 32);
-    is_number(rt, u64::from(n), register(core, n), number);
-    is_number(rt, u64::from(n), core.pc(), pc);
+fn is_at(rt: &impl Abort, core: &Core, index: u8, number: u64, pc: u64) {
+    assert!(rt; index < 32);
+    is_number(rt, u64::from(index), register(core, index), number);
+    is_number(rt, u64::from(index), core.pc(), pc);
 }
 
 /// What the first instruction that is not local asks for.

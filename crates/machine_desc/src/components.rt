@@ -7,23 +7,23 @@ ghost use Rattle.machine_desc.specs.Machine.{IsMachine};
 use crate::Machine;
 
 /// How many components a machine has: 2 to 80.
-pub fn component_count(m: &Machine) -> u16
-    requires { IsMachine m.now }
-    ensures { result ≡ component_count m.now }
+pub fn component_count(machine: &Machine) -> u16
+    requires { IsMachine machine.now }
+    ensures { result ≡ component_count machine.now }
 {
-    m.l2.banks + m.controllers.count
+    machine.l2.banks + machine.controllers.count
 }
 
 /// The domain of a component, below the number of domains.
-pub fn domain_of(m: &Machine, component: u16) -> u16
-    requires machine { IsMachine m.now }
-    requires there { component < component_count m.now }
-    ensures listed { slice_get (component_domains m.now) component ≡ Some result }
-    ensures below { result < m.now.domains.count }
+pub fn domain_of(machine: &Machine, component: u16) -> u16
+    requires machine { IsMachine machine.now }
+    requires there { component < component_count machine.now }
+    ensures listed { slice_get (component_domains machine.now) component ≡ Some result }
+    ensures below { result < machine.now.domains.count }
 {
-    if component < m.l2.banks {
-        m.domains.banks.as_slice()[component as usize]
+    if component < machine.l2.banks {
+        machine.domains.banks.as_slice()[component as usize]
     } else {
-        m.domains.controllers.as_slice()[(component - m.l2.banks) as usize]
+        machine.domains.controllers.as_slice()[(component - machine.l2.banks) as usize]
     }
 }

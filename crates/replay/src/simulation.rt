@@ -70,13 +70,14 @@ impl Simulation {
         })
     }
 
-    /// Whether the run has ended before interval k: every core has halted, or a limit is reached.
-    pub fn has_ended(&self, machine: &Machine, k: u32) -> bool
+    /// Whether the run has ended before this interval: every core has halted, or a limit is
+    /// reached.
+    pub fn has_ended(&self, machine: &Machine, interval: u32) -> bool
         requires machine { IsMachine machine.now }
         requires accesses { self.now.counters.accesses ≤ 2 ^ 26 }
-        ensures { result ≡ has_ended_at machine.now k self.now.counters.accesses (cores_of self.now) self.now.comps }
+        ensures { result ≡ has_ended_at machine.now interval self.now.counters.accesses (cores_of self.now) self.now.comps }
     {
-        self.has_halted() || self.is_at_limit(machine, k)
+        self.has_halted() || self.is_at_limit(machine, interval)
     }
 
     /// Whether every core has halted.
@@ -87,14 +88,14 @@ impl Simulation {
         have_halted(&self.cores)
     }
 
-    /// Whether a limit is reached before interval k.
+    /// Whether a limit is reached before this interval.
     #[tactic(auto, using(crate::proofs::Cores::late_each), unfolding(crate::specs::ReferenceRun::at_limit))]
-    fn is_at_limit(&self, machine: &Machine, k: u32) -> bool
+    fn is_at_limit(&self, machine: &Machine, interval: u32) -> bool
         requires machine { IsMachine machine.now }
         requires accesses { self.now.counters.accesses ≤ 2 ^ 26 }
-        ensures { result ≡ at_limit machine.now k self.now.counters.accesses (cores_of self.now) self.now.comps }
+        ensures { result ≡ at_limit machine.now interval self.now.counters.accesses (cores_of self.now) self.now.comps }
     {
-        k == machine.intervals
+        interval == machine.intervals
             || self.counters.accesses() + access_room(machine) > ACCESS_LIMIT
             || is_one_clock_late(&self.cores)
             || is_one_late(self.comps.as_slice())
@@ -140,7 +141,7 @@ impl Simulation {
         Ok((simulation, entries))
     }
 
-    /// Runs interval k, which ends at cycle `end`, 2^34 at most, under a list of turns. Answers
+    /// Runs this interval, which ends at cycle `end`, 2^34 at most, under a list of turns. Answers
     /// `list`, whose memory the accesses took, or the first place of the turns that is not legal.
     pub fn interval_under(
         &mut self,
@@ -149,7 +150,7 @@ impl Simulation {
         program: &DecodedProgram<'_>,
         plain: &Plain,
         end: Cycle,
-        k: u32,
+        interval: u32,
         turns: &[u16],
         list: Vec<Entry>,
     ) -> Result<Vec<Entry>, ReplayFail>
@@ -161,10 +162,10 @@ impl Simulation {
         requires room { HasRoomForInterval machine.now end self.old }
         requires goes_on { (s : RunState) × HasNextInterval machine.now end s self.old }
         ensures leads { OnOk result ((s : RunState) → HasNextInterval machine.now end s self.old → LeadsTo machine.now program.now s turns.now self.new) }
-        ensures illegal { IfErr result (λ fail. IfIllegal fail (λ at. (at.interval ≡ k) × ((s : RunState) → HasNextInterval machine.now end s self.old → after_interval machine.now program.now s turns.now ≡ Err (record { interval = length s.intervals; place = at.place })))) }
+        ensures illegal { IfErr result (λ fail. IfIllegal fail (λ at. (at.interval ≡ interval) × ((s : RunState) → HasNextInterval machine.now end s self.old → after_interval machine.now program.now s turns.now ≡ Err (record { interval = length s.intervals; place = at.place })))) }
     {
         bound_core::laws::shards_do_as_the_machine();
-        let entries = self.bound_under(alloc, machine, program, plain, end, k, turns, list)?;
+        let entries = self.bound_under(alloc, machine, program, plain, end, interval, turns, list)?;
         let graph = events_of(alloc, machine, plain, &entries, &self.comps)?;
         let fired = weave_seq(alloc, &graph, &mut self.comps)?;
         self.take_in(alloc, machine, &entries, graph, fired)?;
@@ -299,7 +300,7 @@ impl Simulation {
         }
     }
 
-    /// The bound phase of interval k under a list of turns. Answers its accesses.
+    /// The bound phase of this interval under a list of turns. Answers its accesses.
     fn bound_under(
         &mut self,
         alloc: Global,
@@ -307,7 +308,7 @@ impl Simulation {
         program: &DecodedProgram<'_>,
         plain: &Plain,
         end: Cycle,
-        k: u32,
+        interval: u32,
         turns: &[u16],
         list: Vec<Entry>,
     ) -> Result<Entries, ReplayFail>
@@ -318,7 +319,7 @@ impl Simulation {
         requires few { length turns.now < 2 ^ 32 }
         requires room { HasRoomForInterval machine.now end self.old }
         ensures bounded { IfOk result (IsBoundPhase machine.now program.now end self.old turns.now self.new) }
-        ensures illegal { IfErr result (λ fail. IfIllegal fail (λ at. (at.interval ≡ k) × (bound_phase shards_serve (time_of machine.now) program.now end turns.now (begun_over_shards (cores_of self.old) (map restarted self.old.port.world.shards)) ≡ Err at.place))) }
+        ensures illegal { IfErr result (λ fail. IfIllegal fail (λ at. (at.interval ≡ interval) × (bound_phase shards_serve (time_of machine.now) program.now end turns.now (begun_over_shards (cores_of self.old) (map restarted self.old.port.world.shards)) ≡ Err at.place))) }
         ensures comps { self.new.comps ≡ self.old.comps }
         ensures counters { self.new.counters ≡ self.old.counters }
     {
@@ -331,7 +332,7 @@ impl Simulation {
             program,
             plain,
             end,
-            k,
+            interval,
             turns,
             &mut self.cores,
             &mut self.port,
@@ -403,9 +404,9 @@ impl Simulation {
         Ok(())
     }
 
-    /// What the run gives if it ends before interval k.
-    pub fn results(self, k: u32) -> Final
-        ensures results { (machine : Machine) (s : RunState) → StandsFor machine s self → length s.intervals ≡ k → result ≡ run_results machine s }
+    /// What the run gives if it ends before this interval.
+    pub fn results(self, interval: u32) -> Final
+        ensures results { (machine : Machine) (s : RunState) → StandsFor machine s self → length s.intervals ≡ interval → result ≡ run_results machine s }
         ensures cores { result.cores ≡ cores_of self }
         ensures numbers { result.numbers ≡ map (λ c. c.number) self.cores.items }
         ensures counts { result.counts ≡ self.counters }
@@ -414,7 +415,7 @@ impl Simulation {
         Final {
             cores: self.cores,
             counters: self.counters,
-            intervals: k,
+            intervals: interval,
             limit,
         }
     }
@@ -504,14 +505,14 @@ fn run_core<G: Gate>(
     Ok(port)
 }
 
-/// Runs the cores to the end of interval k under a list of turns, or answers the first place of the
-/// list that is not legal.
+/// Runs the cores to the end of this interval under a list of turns, or answers the first place of
+/// the list that is not legal.
 fn run_turns(
     machine: &Machine,
     program: &DecodedProgram<'_>,
     plain: &Plain,
     end: Cycle,
-    k: u32,
+    interval: u32,
     turns: &[u16],
     cores: &mut [BoundCore],
     port: &mut LoggedPort,
@@ -528,12 +529,12 @@ fn run_turns(
     requires none { port.old.entries ≡ [] }
     requires room { access_room machine.now ≤ min (room_of port.old.world) port.old.room }
     ensures turned { OnOk result (HaveTurned machine.now program.now end turns.now cores.old cores.new port.old port.new) }
-    ensures illegal { IfErr result (λ fail. IfIllegal fail (λ at. (at.interval ≡ k) × (bound_phase shards_serve (time_of machine.now) program.now end turns.now (phase_of cores.old port.old) ≡ Err at.place))) }
+    ensures illegal { IfErr result (λ fail. IfIllegal fail (λ at. (at.interval ≡ interval) × (bound_phase shards_serve (time_of machine.now) program.now end turns.now (phase_of cores.old port.old) ≡ Err at.place))) }
 {
     reserve_all(machine, cores)?;
     match take_turns(program, plain, end, turns, cores, port) {
         Ok(()) => Ok(()),
-        Err(place) => Err(ReplayFail::Illegal { interval: k, place }),
+        Err(place) => Err(ReplayFail::Illegal { interval, place }),
     }
 }
 

@@ -25,14 +25,14 @@ pub fn write_components(
 fn write_component(
     text: &mut String,
     kind: &str,
-    n: usize,
+    number: usize,
     component: &CompCount,
 ) -> Result<(), AllocError>
     ensures { OnOk result (string_bytes text.new ≡ string_bytes text.old
-        ++ component_line kind.now n component.now) }
+        ++ component_line kind.now number component.now) }
 {
     let fields = [
-        (" ", n as u128),
+        (" ", number as u128),
         (" events ", u128::from(component.events)),
         (" waited ", component.waited),
         (" free ", u128::from(component.free)),

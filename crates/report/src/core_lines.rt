@@ -30,30 +30,30 @@ pub fn write_cores(
 
 fn write_core(
     text: &mut String,
-    n: u16,
+    number: u16,
     core: &BoundCore,
     count: &CoreCount,
 ) -> Result<(), AllocError>
     ensures { OnOk result (string_bytes text.new ≡ string_bytes text.old
-        ++ core_lines n (core.now.timed, count.now)) }
+        ++ core_lines number (core.now.timed, count.now)) }
 {
-    write_core_line(text, n, core, count)?;
-    write_console_line(text, n, core.console())
+    write_core_line(text, number, core, count)?;
+    write_console_line(text, number, core.console())
 }
 
 /// Writes what a core did and what was counted of it.
 #[tactic(auto, unfolding(crate::specs::ReportText::core_line))]
 pub fn write_core_line(
     text: &mut String,
-    n: u16,
+    number: u16,
     core: &BoundCore,
     count: &CoreCount,
 ) -> Result<(), AllocError>
     ensures { OnOk result (string_bytes text.new ≡ string_bytes text.old
-        ++ core_line n core.now.timed count.now) }
+        ++ core_line number core.now.timed count.now) }
 {
     let fields = [
-        ("core ", u128::from(n)),
+        ("core ", u128::from(number)),
         (" instructions ", u128::from(core.instructions())),
         (" cycles ", u128::from(core.clock())),
     ];
@@ -100,14 +100,14 @@ pub fn write_halt(text: &mut String, halted: Option<Why>) -> Result<(), AllocErr
 
 /// Writes how many bytes a core wrote on its console, and the bytes.
 #[tactic(auto, unfolding(crate::specs::ReportText::console_line))]
-pub fn write_console_line(text: &mut String, n: u16, console: &[u8]) -> Result<(), AllocError>
+pub fn write_console_line(text: &mut String, number: u16, console: &[u8]) -> Result<(), AllocError>
     ensures { OnOk result (string_bytes text.new ≡ string_bytes text.old
-        ++ console_line n console.now) }
+        ++ console_line number console.now) }
 {
     write_labelled(
         text,
         &[
-            ("core ", u128::from(n)),
+            ("core ", u128::from(number)),
             (" console ", console.len() as u128),
         ],
     )?;

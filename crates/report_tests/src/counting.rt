@@ -206,19 +206,25 @@ fn second(rt: &(impl Abort + AllocGlobal)) -> WovenInterval {
 
 /// Adds an interval to the counters of two cores and two components.
 #[tactic(auto, using(crate::proofs::Lengths::as_many_cores, crate::proofs::Lengths::as_many_comps))]
-fn add(counters: &mut Counters, w: &WovenInterval)
+fn add(counters: &mut Counters, woven: &WovenInterval)
     requires cores { length counters.old.core_counts ≡ 2 }
     requires comps { length counters.old.comp_counts ≡ 2 }
-    requires fits { let w = w.now in CountsFit (added counters.old
-        (record { entries = w.entries; events = w.graph; fired = w.fired; delays = w.delays })
-        w.comps) }
-    ensures added { let w = w.now in counters.new ≡ added counters.old
-        (record { entries = w.entries; events = w.graph; fired = w.fired; delays = w.delays })
-        w.comps }
+    requires fits { let woven = woven.now in CountsFit (added counters.old
+        (record { entries = woven.entries; events = woven.graph; fired = woven.fired; delays = woven.delays })
+        woven.comps) }
+    ensures added { let woven = woven.now in counters.new ≡ added counters.old
+        (record { entries = woven.entries; events = woven.graph; fired = woven.fired; delays = woven.delays })
+        woven.comps }
     ensures cores { length counters.new.core_counts ≡ 2 }
     ensures comps { length counters.new.comp_counts ≡ 2 }
 {
-    counters.add(&w.entries, &w.graph, &w.fired, &w.delays, &w.comps);
+    counters.add(
+        &woven.entries,
+        &woven.graph,
+        &woven.fired,
+        &woven.delays,
+        &woven.comps,
+    );
 }
 
 /// The components of a machine before its first interval.
@@ -270,18 +276,18 @@ struct SizedCounters {
 
 impl SizedCounters {
     /// What was counted of a core.
-    fn core(&self, n: u16) -> Option<CoreCount> {
-        if n < self.cores {
-            Some(self.counters.core(n))
+    fn core(&self, number: u16) -> Option<CoreCount> {
+        if number < self.cores {
+            Some(self.counters.core(number))
         } else {
             None
         }
     }
 
     /// What was counted of a component.
-    fn comp(&self, n: u16) -> Option<CompCount> {
-        if n < self.comps {
-            Some(self.counters.comp(n))
+    fn comp(&self, number: u16) -> Option<CompCount> {
+        if number < self.comps {
+            Some(self.counters.comp(number))
         } else {
             None
         }
@@ -303,13 +309,13 @@ fn of_both(rt: &(impl Abort + AllocGlobal), machine: &Machine) -> SizedCounters
 }
 
 /// Checks what was counted of a core.
-fn has_core(rt: &impl Abort, found: &SizedCounters, n: u16, wanted: &CoreCount) {
-    assert!(rt; found.core(n) == Some(*wanted));
+fn has_core(rt: &impl Abort, found: &SizedCounters, number: u16, wanted: &CoreCount) {
+    assert!(rt; found.core(number) == Some(*wanted));
 }
 
 /// Checks what was counted of a component.
-fn has_comp(rt: &impl Abort, found: &SizedCounters, n: u16, wanted: &CompCount) {
-    assert!(rt; found.comp(n) == Some(*wanted));
+fn has_comp(rt: &impl Abort, found: &SizedCounters, number: u16, wanted: &CompCount) {
+    assert!(rt; found.comp(number) == Some(*wanted));
 }
 
 /// Checks how many accesses and events there were in all.

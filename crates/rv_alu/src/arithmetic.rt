@@ -25,43 +25,43 @@ pub fn is_arithmetic(name: Name) -> bool
     }
 }
 
-/// The number that an arithmetic instruction writes to its destination. `a` is the first source
-/// register; `b` is the second, or the immediate in two's complement (RISC-V Unprivileged ISA
+/// The number that an arithmetic instruction writes to its destination. `first` is the first source
+/// register; `second` is the second, or the immediate in two's complement (RISC-V Unprivileged ISA
 /// manual, "Integer Computational Instructions" and the "M" extension).
 #[tactic(auto, unfolding(crate::specs::Arithmetic::result_of))]
-pub fn alu(name: Name, a: u64, b: u64) -> u64
+pub fn alu(name: Name, first: u64, second: u64) -> u64
     requires { IsTrue (is_arithmetic name) }
-    ensures { result ≡ result_of name a b }
+    ensures { result ≡ result_of name first second }
 {
     match name {
-        Name::Addi | Name::Add => a.wrapping_add(b),
-        Name::Sub => a.wrapping_sub(b),
-        Name::Slti | Name::Slt => u64::from(a.cast_signed() < b.cast_signed()),
-        Name::Sltiu | Name::Sltu => u64::from(a < b),
-        Name::Xori | Name::Xor => a ^ b,
-        Name::Ori | Name::Or => a | b,
-        Name::Andi | Name::And => a & b,
-        Name::Slli | Name::Sll => a << (b % 64),
-        Name::Srli | Name::Srl => a >> (b % 64),
-        Name::Srai | Name::Sra => doublewords::shift_right_signed(a, b),
-        Name::Addiw | Name::Addw => sign_extend(low(a).wrapping_add(low(b))),
-        Name::Subw => sign_extend(low(a).wrapping_sub(low(b))),
-        Name::Slliw | Name::Sllw => sign_extend(low(a) << (low(b) % 32)),
-        Name::Srliw | Name::Srlw => sign_extend(low(a) >> (low(b) % 32)),
-        Name::Sraiw | Name::Sraw => sign_extend(words::shift_right_signed(low(a), low(b))),
-        Name::Mul => a.wrapping_mul(b),
-        Name::Mulh => doublewords::multiply_high(a, b),
-        Name::Mulhsu => doublewords::multiply_high_mixed(a, b),
-        Name::Mulhu => doublewords::multiply_high_unsigned(a, b),
-        Name::Div => doublewords::divide(a, b),
-        Name::Divu => doublewords::divide_unsigned(a, b),
-        Name::Rem => doublewords::remainder(a, b),
-        Name::Remu => doublewords::remainder_unsigned(a, b),
-        Name::Mulw => sign_extend(low(a).wrapping_mul(low(b))),
-        Name::Divw => sign_extend(words::divide(low(a), low(b))),
-        Name::Divuw => sign_extend(words::divide_unsigned(low(a), low(b))),
-        Name::Remw => sign_extend(words::remainder(low(a), low(b))),
-        Name::Remuw => sign_extend(words::remainder_unsigned(low(a), low(b))),
+        Name::Addi | Name::Add => first.wrapping_add(second),
+        Name::Sub => first.wrapping_sub(second),
+        Name::Slti | Name::Slt => u64::from(first.cast_signed() < second.cast_signed()),
+        Name::Sltiu | Name::Sltu => u64::from(first < second),
+        Name::Xori | Name::Xor => first ^ second,
+        Name::Ori | Name::Or => first | second,
+        Name::Andi | Name::And => first & second,
+        Name::Slli | Name::Sll => first << (second % 64),
+        Name::Srli | Name::Srl => first >> (second % 64),
+        Name::Srai | Name::Sra => doublewords::shift_right_signed(first, second),
+        Name::Addiw | Name::Addw => sign_extend(low(first).wrapping_add(low(second))),
+        Name::Subw => sign_extend(low(first).wrapping_sub(low(second))),
+        Name::Slliw | Name::Sllw => sign_extend(low(first) << (low(second) % 32)),
+        Name::Srliw | Name::Srlw => sign_extend(low(first) >> (low(second) % 32)),
+        Name::Sraiw | Name::Sraw => sign_extend(words::shift_right_signed(low(first), low(second))),
+        Name::Mul => first.wrapping_mul(second),
+        Name::Mulh => doublewords::multiply_high(first, second),
+        Name::Mulhsu => doublewords::multiply_high_mixed(first, second),
+        Name::Mulhu => doublewords::multiply_high_unsigned(first, second),
+        Name::Div => doublewords::divide(first, second),
+        Name::Divu => doublewords::divide_unsigned(first, second),
+        Name::Rem => doublewords::remainder(first, second),
+        Name::Remu => doublewords::remainder_unsigned(first, second),
+        Name::Mulw => sign_extend(low(first).wrapping_mul(low(second))),
+        Name::Divw => sign_extend(words::divide(low(first), low(second))),
+        Name::Divuw => sign_extend(words::divide_unsigned(low(first), low(second))),
+        Name::Remw => sign_extend(words::remainder(low(first), low(second))),
+        Name::Remuw => sign_extend(words::remainder_unsigned(low(first), low(second))),
         _ => unreachable!(),
     }
 }

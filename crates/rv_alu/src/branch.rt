@@ -15,20 +15,20 @@ pub fn is_branch(name: Name) -> bool
     }
 }
 
-/// Tells whether a conditional branch is taken, where `a` and `b` are its source registers (RISC-V
+/// Whether a conditional branch is taken, by the numbers in its two source registers (RISC-V
 /// Unprivileged ISA manual, "Conditional Branches").
 #[tactic(auto, unfolding(crate::specs::Branch::is_taken))]
-pub fn taken(name: Name, a: u64, b: u64) -> bool
+pub fn taken(name: Name, first: u64, second: u64) -> bool
     requires { IsTrue (is_branch name) }
-    ensures { result ≡ is_taken name a b }
+    ensures { result ≡ is_taken name first second }
 {
     match name {
-        Name::Beq => a == b,
-        Name::Bne => a != b,
-        Name::Blt => a.cast_signed() < b.cast_signed(),
-        Name::Bge => a.cast_signed() >= b.cast_signed(),
-        Name::Bltu => a < b,
-        Name::Bgeu => a >= b,
+        Name::Beq => first == second,
+        Name::Bne => first != second,
+        Name::Blt => first.cast_signed() < second.cast_signed(),
+        Name::Bge => first.cast_signed() >= second.cast_signed(),
+        Name::Bltu => first < second,
+        Name::Bgeu => first >= second,
         _ => unreachable!(),
     }
 }

@@ -6,11 +6,11 @@ ghost use Rattle.rv_alu.specs.Operations.{shift_right_signed, upper_half, quotie
 
 use zs_num::AmoOp;
 
-/// `a` shifted right by the low six bits of `b`, with copies of the sign.
-pub fn shift_right_signed(a: u64, b: u64) -> u64
-    ensures { result ≡ shift_right_signed w64 a b }
+/// A number shifted right by the low six bits of `places`, with copies of the sign.
+pub fn shift_right_signed(number: u64, places: u64) -> u64
+    ensures { result ≡ shift_right_signed w64 number places }
 {
-    (a.cast_signed() >> (b % 64)).cast_unsigned()
+    (number.cast_signed() >> (places % 64)).cast_unsigned()
 }
 
 /// The upper 64 bits of a product of 128 bits.
@@ -21,62 +21,72 @@ fn upper_half(product: i128) -> u64
 }
 
 /// The upper half of the product of two signed numbers.
-pub fn multiply_high(a: u64, b: u64) -> u64
-    ensures { result ≡ upper_half (cast_signed w64 a *ℤ cast_signed w64 b) }
+pub fn multiply_high(first: u64, second: u64) -> u64
+    ensures { result ≡ upper_half (cast_signed w64 first *ℤ cast_signed w64 second) }
 {
-    upper_half(i128::from(a.cast_signed()) * i128::from(b.cast_signed()))
+    upper_half(i128::from(first.cast_signed()) * i128::from(second.cast_signed()))
 }
 
-/// The upper half of the product of a signed `a` and an unsigned `b`.
-pub fn multiply_high_mixed(a: u64, b: u64) -> u64
-    ensures { result ≡ upper_half (cast_signed w64 a *ℤ pos b) }
+/// The upper half of the product of a signed and an unsigned number.
+pub fn multiply_high_mixed(first: u64, second: u64) -> u64
+    ensures { result ≡ upper_half (cast_signed w64 first *ℤ pos second) }
 {
-    upper_half(i128::from(a.cast_signed()) * i128::from(b))
+    upper_half(i128::from(first.cast_signed()) * i128::from(second))
 }
 
 /// The upper half of the product of two unsigned numbers.
-pub fn multiply_high_unsigned(a: u64, b: u64) -> u64
-    ensures { result ≡ upper_half (pos a *ℤ pos b) }
+pub fn multiply_high_unsigned(first: u64, second: u64) -> u64
+    ensures { result ≡ upper_half (pos first *ℤ pos second) }
 {
-    ((u128::from(a) * u128::from(b)) >> 64) as u64
+    ((u128::from(first) * u128::from(second)) >> 64) as u64
 }
 
 /// The signed quotient, rounded toward zero.
-pub fn divide(a: u64, b: u64) -> u64
-    ensures { result ≡ signed_quotient w64 a b }
+pub fn divide(dividend: u64, divisor: u64) -> u64
+    ensures { result ≡ signed_quotient w64 dividend divisor }
 {
-    if b == 0 {
+    if divisor == 0 {
         return u64::MAX;
     }
-    a.cast_signed()
-        .wrapping_div(b.cast_signed())
+    dividend
+        .cast_signed()
+        .wrapping_div(divisor.cast_signed())
         .cast_unsigned()
 }
 
 /// The unsigned quotient.
-pub fn divide_unsigned(a: u64, b: u64) -> u64
-    ensures { result ≡ quotient w64 a b }
+pub fn divide_unsigned(dividend: u64, divisor: u64) -> u64
+    ensures { result ≡ quotient w64 dividend divisor }
 {
-    if b == 0 { u64::MAX } else { a / b }
+    if divisor == 0 {
+        u64::MAX
+    } else {
+        dividend / divisor
+    }
 }
 
 /// The remainder of `divide`.
-pub fn remainder(a: u64, b: u64) -> u64
-    ensures { result ≡ signed_remainder w64 a b }
+pub fn remainder(dividend: u64, divisor: u64) -> u64
+    ensures { result ≡ signed_remainder w64 dividend divisor }
 {
-    if b == 0 {
-        return a;
+    if divisor == 0 {
+        return dividend;
     }
-    a.cast_signed()
-        .wrapping_rem(b.cast_signed())
+    dividend
+        .cast_signed()
+        .wrapping_rem(divisor.cast_signed())
         .cast_unsigned()
 }
 
 /// The remainder of `divide_unsigned`.
-pub fn remainder_unsigned(a: u64, b: u64) -> u64
-    ensures { result ≡ remainder w64 a b }
+pub fn remainder_unsigned(dividend: u64, divisor: u64) -> u64
+    ensures { result ≡ remainder w64 dividend divisor }
 {
-    if b == 0 { a } else { a % b }
+    if divisor == 0 {
+        dividend
+    } else {
+        dividend % divisor
+    }
 }
 
 /// The new number of an atomic read-modify-write, where `old` was.

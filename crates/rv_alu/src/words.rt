@@ -7,10 +7,10 @@ ghost use Rattle.rv_alu.specs.Operations.{shift_right_signed, quotient, remainde
 use zs_num::AmoOp;
 
 /// The low 32 bits.
-pub fn low(x: u64) -> u32
-    ensures { result ≡ low_word x }
+pub fn low(number: u64) -> u32
+    ensures { result ≡ low_word number }
 {
-    (x % 0x1_0000_0000) as u32
+    (number % 0x1_0000_0000) as u32
 }
 
 /// A word, sign-extended to 64 bits.
@@ -20,49 +20,59 @@ pub fn sign_extend(word: u32) -> u64
     i64::from(word.cast_signed()).cast_unsigned()
 }
 
-/// `a` shifted right by the low five bits of `b`, with copies of the sign.
-pub fn shift_right_signed(a: u32, b: u32) -> u32
-    ensures { result ≡ shift_right_signed w32 a b }
+/// A number shifted right by the low five bits of `places`, with copies of the sign.
+pub fn shift_right_signed(number: u32, places: u32) -> u32
+    ensures { result ≡ shift_right_signed w32 number places }
 {
-    (a.cast_signed() >> (b % 32)).cast_unsigned()
+    (number.cast_signed() >> (places % 32)).cast_unsigned()
 }
 
 /// The signed quotient, rounded toward zero.
-pub fn divide(a: u32, b: u32) -> u32
-    ensures { result ≡ signed_quotient w32 a b }
+pub fn divide(dividend: u32, divisor: u32) -> u32
+    ensures { result ≡ signed_quotient w32 dividend divisor }
 {
-    if b == 0 {
+    if divisor == 0 {
         return u32::MAX;
     }
-    a.cast_signed()
-        .wrapping_div(b.cast_signed())
+    dividend
+        .cast_signed()
+        .wrapping_div(divisor.cast_signed())
         .cast_unsigned()
 }
 
 /// The unsigned quotient.
-pub fn divide_unsigned(a: u32, b: u32) -> u32
-    ensures { result ≡ quotient w32 a b }
+pub fn divide_unsigned(dividend: u32, divisor: u32) -> u32
+    ensures { result ≡ quotient w32 dividend divisor }
 {
-    if b == 0 { u32::MAX } else { a / b }
+    if divisor == 0 {
+        u32::MAX
+    } else {
+        dividend / divisor
+    }
 }
 
 /// The remainder of `divide`.
-pub fn remainder(a: u32, b: u32) -> u32
-    ensures { result ≡ signed_remainder w32 a b }
+pub fn remainder(dividend: u32, divisor: u32) -> u32
+    ensures { result ≡ signed_remainder w32 dividend divisor }
 {
-    if b == 0 {
-        return a;
+    if divisor == 0 {
+        return dividend;
     }
-    a.cast_signed()
-        .wrapping_rem(b.cast_signed())
+    dividend
+        .cast_signed()
+        .wrapping_rem(divisor.cast_signed())
         .cast_unsigned()
 }
 
 /// The remainder of `divide_unsigned`.
-pub fn remainder_unsigned(a: u32, b: u32) -> u32
-    ensures { result ≡ remainder w32 a b }
+pub fn remainder_unsigned(dividend: u32, divisor: u32) -> u32
+    ensures { result ≡ remainder w32 dividend divisor }
 {
-    if b == 0 { a } else { a % b }
+    if divisor == 0 {
+        dividend
+    } else {
+        dividend % divisor
+    }
 }
 
 /// The new word of an atomic read-modify-write, where `old` was.

@@ -74,12 +74,12 @@ impl Core {
 
     /// The number in a register, 0 to 31.
     #[inline(always)]
-    pub fn reg(&self, n: u8) -> u64
-        requires { n < 32 }
-        ensures value { result ≡ register self.now n }
-        ensures zero { n ≡ 0 → result ≡ 0 }
+    pub fn reg(&self, number: u8) -> u64
+        requires { number < 32 }
+        ensures value { result ≡ register self.now number }
+        ensures zero { number ≡ 0 → result ≡ 0 }
     {
-        self.registers[n as usize]
+        self.registers[number as usize]
     }
 
     /// The address of the instruction that comes next or is in progress.

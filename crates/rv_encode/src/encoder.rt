@@ -10,17 +10,17 @@ use crate::rows::ROWS;
 use rv_decode::{Format, Inst, Name, laws};
 
 /// The word of an instruction: the one that decodes to it.
-pub fn encode(i: Inst) -> u32
-    requires { FitsItsFormat i }
-    ensures decodes { decoded result ≡ Some i }
-    ensures only { (word : ℕ) → word < 2 ^ 32 → decoded word ≡ Some i → result ≡ word }
+pub fn encode(inst: Inst) -> u32
+    requires { FitsItsFormat inst }
+    ensures decodes { decoded result ≡ Some inst }
+    ensures only { (word : ℕ) → word < 2 ^ 32 → decoded word ≡ Some inst → result ≡ word }
 {
     // What the table says of its rows, and of words under masks, shows that the word is the one.
     laws::rows();
     laws::names();
     laws::masks();
-    let (value, format) = row(i.name);
-    value + registers(i) + immediate(format, i.imm)
+    let (value, format) = row(inst.name);
+    value + registers(inst) + immediate(format, inst.imm)
 }
 
 /// The value and the format of a name's row.
@@ -32,11 +32,11 @@ fn row(name: Name) -> (u32, Format)
 }
 
 /// The registers at their places.
-fn registers(i: Inst) -> u32
-    requires rd { i.rd < 32 }
-    requires rs1 { i.rs1 < 32 }
-    requires rs2 { i.rs2 < 32 }
-    ensures { result ≡ registers_of i }
+fn registers(inst: Inst) -> u32
+    requires rd { inst.rd < 32 }
+    requires rs1 { inst.rs1 < 32 }
+    requires rs2 { inst.rs2 < 32 }
+    ensures { result ≡ registers_of inst }
 {
-    (u32::from(i.rd) << 7) + (u32::from(i.rs1) << 15) + (u32::from(i.rs2) << 20)
+    (u32::from(inst.rd) << 7) + (u32::from(inst.rs1) << 15) + (u32::from(inst.rs2) << 20)
 }

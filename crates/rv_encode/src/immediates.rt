@@ -6,18 +6,18 @@ ghost use Rattle.rv_decode.specs.Ranges.{IsImmediate};
 
 use rv_decode::{Format, bits};
 
-/// The number that stands for `z` in two's complement of `width` bits.
-fn unsigned(width: u32, z: i64) -> u32
+/// The number that stands for a value in two's complement of `width` bits.
+fn unsigned(width: u32, value: i64) -> u32
     requires some { 0 < width }
     requires within { width ≤ 32 }
-    requires at_least { neg_ℤ (pos (2 ^ width)) ≤ℤ z }
-    requires below { z <ℤ pos (2 ^ width) }
-    ensures { result ≡ spec.unsigned width z }
+    requires at_least { neg_ℤ (pos (2 ^ width)) ≤ℤ value }
+    requires below { value <ℤ pos (2 ^ width) }
+    ensures { result ≡ spec.unsigned width value }
 {
-    if z < 0 {
-        (z + (1i64 << width)) as u32
+    if value < 0 {
+        (value + (1i64 << width)) as u32
     } else {
-        z as u32
+        value as u32
     }
 }
 
@@ -44,19 +44,19 @@ fn jump_offset(offset: u32) -> u32
 }
 
 /// The bits of the immediate of a format, at their places in the word.
-pub fn immediate(format: Format, z: i64) -> u32
-    requires { IsImmediate format z }
-    ensures { result ≡ spec.immediate_of format z }
+pub fn immediate(format: Format, value: i64) -> u32
+    requires { IsImmediate format value }
+    ensures { result ≡ spec.immediate_of format value }
 {
     match format {
-        Format::U => unsigned(32, z),
-        Format::J => jump_offset(unsigned(21, z)),
-        Format::I => unsigned(12, z) << 20,
-        Format::B => branch_offset(unsigned(13, z)),
-        Format::S => store_offset(unsigned(12, z)),
+        Format::U => unsigned(32, value),
+        Format::J => jump_offset(unsigned(21, value)),
+        Format::I => unsigned(12, value) << 20,
+        Format::B => branch_offset(unsigned(13, value)),
+        Format::S => store_offset(unsigned(12, value)),
         Format::R | Format::Whole => 0,
-        Format::Shift => unsigned(6, z) << 20,
-        Format::WordShift => unsigned(5, z) << 20,
-        Format::Atomic | Format::LoadReserved => unsigned(2, z) << 25,
+        Format::Shift => unsigned(6, value) << 20,
+        Format::WordShift => unsigned(5, value) << 20,
+        Format::Atomic | Format::LoadReserved => unsigned(2, value) << 25,
     }
 }

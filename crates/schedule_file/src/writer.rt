@@ -9,26 +9,26 @@ use std::alloc::Global;
 use zs_num::{Bytes, NoMemory};
 
 /// The file of a schedule of at most 64 cores.
-pub fn write(alloc: Global, s: &Schedule) -> Result<Bytes, NoMemory>
-    requires { s.now.cores ≤ 64 }
-    ensures { IfOk result (λ bytes. bytes ≡ schedule_file_of s.now) }
+pub fn write(alloc: Global, schedule: &Schedule) -> Result<Bytes, NoMemory>
+    requires { schedule.now.cores ≤ 64 }
+    ensures { IfOk result (λ bytes. bytes ≡ schedule_file_of schedule.now) }
 {
-    let mut out = header(alloc, s)?;
-    for k in 0..s.intervals() {
-        put_list(&mut out, s.list(k))?;
+    let mut out = header(alloc, schedule)?;
+    for k in 0..schedule.intervals() {
+        put_list(&mut out, schedule.list(k))?;
     }
     Ok(Bytes::of(out))
 }
 
 /// The magic, the version, how many cores there are, and how many intervals.
 #[tactic(auto, unfolding(crate::specs::ScheduleFile::header_bytes))]
-fn header(alloc: Global, s: &Schedule) -> Result<Vec<u8>, NoMemory>
-    ensures { IfOk result (λ out. out.items ≡ header_bytes s.now) }
+fn header(alloc: Global, schedule: &Schedule) -> Result<Vec<u8>, NoMemory>
+    ensures { IfOk result (λ out. out.items ≡ header_bytes schedule.now) }
 {
     let mut out = Vec::from_slice(alloc, &MAGIC)?;
     put_number(&mut out, VERSION)?;
-    put_number(&mut out, u32::from(s.cores()))?;
-    put_number(&mut out, s.intervals())?;
+    put_number(&mut out, u32::from(schedule.cores()))?;
+    put_number(&mut out, schedule.intervals())?;
     Ok(out)
 }
 

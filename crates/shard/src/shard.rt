@@ -63,27 +63,32 @@ impl Model for Shard {
 impl Shard {
     /// The shard of a machine with this number, before the first access: its caches are empty, and
     /// its bytes are those of the executable.
-    pub fn new(alloc: Global, m: &Machine, number: u16, image: &Image) -> Result<Self, NoMemory>
-        requires machine { IsMachine m.now }
-        requires number { number < m.now.l2.banks }
-        requires base { image.now.base ≡ m.now.memory.base }
-        requires size { image.now.size ≡ m.now.memory.size }
-        ensures { IfOk result (λ shard. shard ≡ new_shard m.now number image.now) }
+    pub fn new(
+        alloc: Global,
+        machine: &Machine,
+        number: u16,
+        image: &Image,
+    ) -> Result<Self, NoMemory>
+        requires machine { IsMachine machine.now }
+        requires number { number < machine.now.l2.banks }
+        requires base { image.now.base ≡ machine.now.memory.base }
+        requires size { image.now.size ≡ machine.now.memory.size }
+        ensures { IfOk result (λ shard. shard ≡ new_shard machine.now number image.now) }
     {
-        let banks = u32::from(m.l2.banks);
+        let banks = u32::from(machine.l2.banks);
         let caches = CacheLists::new(
             alloc,
-            m.cores,
-            m.l2.banks,
-            m.l1.sets / banks,
-            m.l1.ways,
-            m.l2.sets / banks,
-            m.l2.ways,
+            machine.cores,
+            machine.l2.banks,
+            machine.l1.sets / banks,
+            machine.l1.ways,
+            machine.l2.sets / banks,
+            machine.l2.ways,
         )?;
-        let count = u64::from(m.l2.banks);
+        let count = u64::from(machine.l2.banks);
         let memory = MarkedBytes {
             bytes: first_bytes(alloc, count, number, image)?,
-            marks: Marks::new(alloc, m.cores)?,
+            marks: Marks::new(alloc, machine.cores)?,
         };
         Ok(Shard {
             last: 0,

@@ -40,13 +40,13 @@ impl Counters {
     ghost use Rattle.stats.specs.TookTheirTime.{TookTheirTime};
 
     /// The counters of this machine, all 0.
-    pub fn new(alloc: Global, m: &Machine) -> Result<Counters, NoMemory>
-        requires { IsMachine m.now }
-        ensures { IfOk result (λ c. c ≡ no_counts m.now) }
+    pub fn new(alloc: Global, machine: &Machine) -> Result<Counters, NoMemory>
+        requires { IsMachine machine.now }
+        ensures { IfOk result (λ c. c ≡ no_counts machine.now) }
     {
         Ok(Counters {
-            core_counts: vec![in alloc; NO_CORE_COUNT; usize::from(m.cores)]?,
-            comp_counts: vec![in alloc; NO_COMP_COUNT; usize::from(component_count(m))]?,
+            core_counts: vec![in alloc; NO_CORE_COUNT; usize::from(machine.cores)]?,
+            comp_counts: vec![in alloc; NO_COMP_COUNT; usize::from(component_count(machine))]?,
             accesses: 0,
             events: 0,
         })
@@ -57,40 +57,40 @@ impl Counters {
     pub fn add(
         &mut self,
         entries: &Entries,
-        g: &Graph,
+        graph: &Graph,
         fired: &FiredList,
-        d: &Delays,
+        delays: &Delays,
         comps: &Comps<Comp>,
     )
         requires cores { All (λ e. e.core < length self.old.core_counts) entries.now }
-        requires components { All (λ e. e.component < length self.old.comp_counts) g.now }
-        requires delays { length d.now ≡ length self.old.core_counts }
+        requires components { All (λ e. e.component < length self.old.comp_counts) graph.now }
+        requires delays { length delays.now ≡ length self.old.core_counts }
         requires comps { length comps.now ≡ length self.old.comp_counts }
-        requires took { TookTheirTime g.now fired.now }
+        requires took { TookTheirTime graph.now fired.now }
         requires fits { CountsFit (added self.old
-            (record { entries = entries.now; events = g.now; fired = fired.now; delays = d.now })
+            (record { entries = entries.now; events = graph.now; fired = fired.now; delays = delays.now })
             comps.now) }
         ensures { self.new ≡ added self.old
-            (record { entries = entries.now; events = g.now; fired = fired.now; delays = d.now })
+            (record { entries = entries.now; events = graph.now; fired = fired.now; delays = delays.now })
             comps.now }
     {
-        add_to_core_counts(&mut self.core_counts, entries.as_slice(), d.as_slice());
+        add_to_core_counts(&mut self.core_counts, entries.as_slice(), delays.as_slice());
         add_to_comp_counts(
             &mut self.comp_counts,
-            g.events(),
+            graph.events(),
             fired.as_slice(),
             comps.as_slice(),
         );
         self.accesses += entries.as_slice().len() as u64;
-        self.events += g.events().len() as u64;
+        self.events += graph.events().len() as u64;
     }
 
     /// What was counted of a core.
-    pub fn core(&self, n: u16) -> CoreCount
-        requires { n < length self.now.core_counts }
-        ensures { slice_get self.now.core_counts n ≡ Some result }
+    pub fn core(&self, number: u16) -> CoreCount
+        requires { number < length self.now.core_counts }
+        ensures { slice_get self.now.core_counts number ≡ Some result }
     {
-        self.core_counts[usize::from(n)]
+        self.core_counts[usize::from(number)]
     }
 
     /// What was counted of the components, in order of their numbers.
@@ -101,11 +101,11 @@ impl Counters {
     }
 
     /// What was counted of a component.
-    pub fn comp(&self, n: u16) -> CompCount
-        requires { n < length self.now.comp_counts }
-        ensures { slice_get self.now.comp_counts n ≡ Some result }
+    pub fn comp(&self, number: u16) -> CompCount
+        requires { number < length self.now.comp_counts }
+        ensures { slice_get self.now.comp_counts number ≡ Some result }
     {
-        self.comp_counts[usize::from(n)]
+        self.comp_counts[usize::from(number)]
     }
 
     /// How many accesses there were.

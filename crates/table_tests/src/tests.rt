@@ -24,12 +24,12 @@ const EVEN: u64 = 0x11000;
 const ODD: u64 = 0x11040;
 
 /// Checks that core 0 loads what it stored, and has the entries of both accesses.
-fn stores_and_loads<R: Abort>(rt: &R, t: &mut Tested) -> Result<(), Fail> {
-    let stored = t.first_asks(rt, store_of(EVEN, 5))?;
-    let loaded = t.first_asks(rt, load_of(EVEN))?;
+fn stores_and_loads<R: Abort>(rt: &R, tested: &mut Tested) -> Result<(), Fail> {
+    let stored = tested.first_asks(rt, store_of(EVEN, 5))?;
+    let loaded = tested.first_asks(rt, load_of(EVEN))?;
     assert_eq!(rt; (stored.reply, loaded.reply), (0, 5));
-    are_entries(rt, t.first.entries(), &[stored, loaded]);
-    are_entries(rt, t.second.entries(), &[]);
+    are_entries(rt, tested.first.entries(), &[stored, loaded]);
+    are_entries(rt, tested.second.entries(), &[]);
     Ok(())
 }
 
@@ -59,11 +59,11 @@ static LATER_STEPS: [(bool, bool, bool, Stamp); 2] = [
 /// Checks the stamp of each row's access.
 fn get_stamps<R: Abort>(
     rt: &R,
-    t: &mut Tested,
+    tested: &mut Tested,
     rows: &[(bool, bool, bool, Stamp)],
 ) -> Result<(), Fail> {
     for &(is_first, stores, is_even, stamp) in rows {
-        let found = stamp_of(rt, t, is_first, request_of(stores, is_even))?;
+        let found = stamp_of(rt, tested, is_first, request_of(stores, is_even))?;
         assert_eq!(rt; found, stamp);
     }
     Ok(())
@@ -72,19 +72,19 @@ fn get_stamps<R: Abort>(
 /// Checks the stamps and the cores of the accesses in recorded order.
 fn is_schedule(
     rt: &(impl Abort + AllocGlobal),
-    t: &Tested,
+    tested: &Tested,
     wanted: &[(Stamp, u16)],
 ) -> Result<(), Fail> {
-    let found = schedule(rt.alloc(), t)?;
+    let found = schedule(rt.alloc(), tested)?;
     assert!(rt; found.as_slice() == wanted);
     Ok(())
 }
 
 /// Checks the stamps of the first steps, their recorded order, and the stamps of the later steps.
-fn pass_each_other(rt: &(impl Abort + AllocGlobal), t: &mut Tested) -> Result<(), Fail> {
-    get_stamps(rt, t, &FIRST_STEPS)?;
-    is_schedule(rt, t, &[(1, 0), (1, 1), (2, 0)])?;
-    get_stamps(rt, t, &LATER_STEPS)
+fn pass_each_other(rt: &(impl Abort + AllocGlobal), tested: &mut Tested) -> Result<(), Fail> {
+    get_stamps(rt, tested, &FIRST_STEPS)?;
+    is_schedule(rt, tested, &[(1, 0), (1, 1), (2, 0)])?;
+    get_stamps(rt, tested, &LATER_STEPS)
 }
 
 #[test]
@@ -107,16 +107,16 @@ fn request_of(stores: bool, is_even: bool) -> Request
 /// The stamp of an access of core 0 or core 1.
 fn stamp_of<R: Abort>(
     rt: &R,
-    t: &mut Tested,
+    tested: &mut Tested,
     is_first: bool,
     request: Request,
 ) -> Result<Stamp, Fail>
     requires { IsServable 65536 1048576 request }
 {
     let entry = if is_first {
-        t.first_asks(rt, request)?
+        tested.first_asks(rt, request)?
     } else {
-        t.second_asks(rt, request)?
+        tested.second_asks(rt, request)?
     };
     Ok(entry.stamp)
 }
@@ -130,10 +130,10 @@ fn push_keys(keys: &mut Vec<(Stamp, u16)>, entries: &[Entry]) -> Result<(), NoMe
 }
 
 /// The stamps and the cores of the accesses in recorded order: by stamps, and at a tie by cores.
-fn schedule(alloc: Global, t: &Tested) -> Result<Vec<(Stamp, u16)>, NoMemory> {
+fn schedule(alloc: Global, tested: &Tested) -> Result<Vec<(Stamp, u16)>, NoMemory> {
     let mut keys = Vec::new(alloc);
-    push_keys(&mut keys, t.first.entries())?;
-    push_keys(&mut keys, t.second.entries())?;
+    push_keys(&mut keys, tested.first.entries())?;
+    push_keys(&mut keys, tested.second.entries())?;
     keys.sort()?;
     Ok(keys)
 }
@@ -152,9 +152,9 @@ fn adds<R: Wait>(rt: &R, table: &ShardTable, mut seat: CoreSeat, banks: u16) -> 
 }
 
 /// Both cores add, each in a thread of its own.
-fn both_add<R: Threads + Wait + Sync>(rt: &R, t: Tested) -> Tested
-    requires { (t.first.entries ≡ []) × (t.second.entries ≡ []) }
-    ensures { result.banks ≡ t.banks }
+fn both_add<R: Threads + Wait + Sync>(rt: &R, tested: Tested) -> Tested
+    requires { (tested.first.entries ≡ []) × (tested.second.entries ≡ []) }
+    ensures { result.banks ≡ tested.banks }
 {
     let Tested {
         table,
@@ -162,7 +162,7 @@ fn both_add<R: Threads + Wait + Sync>(rt: &R, t: Tested) -> Tested
         second,
         banks,
         ..
-    } = t;
+    } = tested;
     let shared = &table;
     let (first, second) = thread::join(
         rt,
@@ -198,18 +198,18 @@ fn push_replies(replies: &mut Vec<u64>, entries: &[Entry]) -> Result<(), NoMemor
 }
 
 /// The replies to both cores, in ascending order.
-fn replies(alloc: Global, t: &Tested) -> Result<Vec<u64>, NoMemory> {
+fn replies(alloc: Global, tested: &Tested) -> Result<Vec<u64>, NoMemory> {
     let mut replies = Vec::new(alloc);
-    push_replies(&mut replies, t.first.entries())?;
-    push_replies(&mut replies, t.second.entries())?;
+    push_replies(&mut replies, tested.first.entries())?;
+    push_replies(&mut replies, tested.second.entries())?;
     replies.sort()?;
     Ok(replies)
 }
 
 /// Checks that the additions found each number below 2,000 once.
-fn find_each_other(rt: &(impl Abort + AllocGlobal), t: &Tested) -> Result<(), Fail> {
+fn find_each_other(rt: &(impl Abort + AllocGlobal), tested: &Tested) -> Result<(), Fail> {
     let mut wanted = 0u64;
-    for &reply in &replies(rt.alloc(), t)? {
+    for &reply in &replies(rt.alloc(), tested)? {
         assert_eq!(rt; reply, wanted);
         wanted = wanted.wrapping_add(1);
     }
@@ -218,10 +218,10 @@ fn find_each_other(rt: &(impl Abort + AllocGlobal), t: &Tested) -> Result<(), Fa
 }
 
 /// Closes a table of one shard, and checks how many entries each core has, and the doubleword.
-fn closes<R: Abort>(rt: &R, alloc: Global, t: Tested) -> Result<(), Fail>
-    requires { t.banks ≡ 1 }
+fn closes<R: Abort>(rt: &R, alloc: Global, tested: Tested) -> Result<(), Fail>
+    requires { tested.banks ≡ 1 }
 {
-    let (shards, logs) = t.close(alloc)?;
+    let (shards, logs) = tested.close(alloc)?;
     assert!(rt; shards.len() == 1 && logs.len() == 2);
     assert!(rt; doubleword(&shards[0]) == [0xd0, 0x07, 0, 0, 0, 0, 0, 0]);
     assert!(rt; logs[0].entries().len() == 1000);

@@ -57,22 +57,22 @@ impl<C: Component> Domain<C> {
     /// out, the components come back.
     pub fn prepare(
         alloc: Global,
-        g: &Graph,
-        p: &Parts,
+        graph: &Graph,
+        parts: &Parts,
         domain: u16,
         comps: Comps<C>,
     ) -> Result<Self, (NoMemory, Comps<C>)>
-        requires domain { domain < length p.now.events }
-        requires partitions { IsPartition g.now p.now }
-        requires fits { FitsDomain g.now p.now }
-        requires components { (all : List C) × IsFitted C.serves C.floor g.now p.now domain comps all }
-        ensures prepared { IfOk result (λ it. it ≡ record { domain = domain; events = g.now; partition = p.now; own = at_first p.now; comps = comps }) }
+        requires domain { domain < length parts.now.events }
+        requires partitions { IsPartition graph.now parts.now }
+        requires fits { FitsDomain graph.now parts.now }
+        requires components { (all : List C) × IsFitted C.serves C.floor graph.now parts.now domain comps all }
+        ensures prepared { IfOk result (λ it. it ≡ record { domain = domain; events = graph.now; partition = parts.now; own = at_first parts.now; comps = comps }) }
         ensures back { IfErr result (λ e. e.1 ≡ comps) }
     {
-        match lay_out(alloc, g, p, domain) {
+        match lay_out(alloc, graph, parts, domain) {
             Ok(layout) => Ok(Domain {
-                graph: Snapshot::of(g),
-                parts: Snapshot::of(p),
+                graph: Snapshot::of(graph),
+                parts: Snapshot::of(parts),
                 domain,
                 here: layout.here,
                 heads: layout.heads,

@@ -225,22 +225,27 @@ pub(crate) struct Layout {
 }
 
 /// Lays a domain of a graph out.
-pub(crate) fn lay_out(alloc: Global, g: &Graph, p: &Parts, domain: u16) -> Result<Layout, NoMemory>
-    requires domain { domain < length p.now.events }
-    requires partitions { IsPartition g.now p.now }
-    requires fits { FitsDomain g.now p.now }
-    ensures { IfOk result (IsLaidOut g.now p.now domain) }
+pub(crate) fn lay_out(
+    alloc: Global,
+    graph: &Graph,
+    parts: &Parts,
+    domain: u16,
+) -> Result<Layout, NoMemory>
+    requires domain { domain < length parts.now.events }
+    requires partitions { IsPartition graph.now parts.now }
+    requires fits { FitsDomain graph.now parts.now }
+    ensures { IfOk result (IsLaidOut graph.now parts.now domain) }
 {
-    let events = g.events();
-    let here = events_of(alloc, events, p.events(domain))?;
+    let events = graph.events();
+    let here = events_of(alloc, events, parts.events(domain))?;
     let Linked {
         heads,
         links,
         mut waits,
     } = link_all(alloc, &here)?;
-    let stubs = stubs_of(alloc, events, &here, p.crossings(), domain, &mut waits)?;
+    let stubs = stubs_of(alloc, events, &here, parts.crossings(), domain, &mut waits)?;
     let starts = starts_of(alloc, &here)?;
-    let spots = spots_of(alloc, p.places(), domain)?;
+    let spots = spots_of(alloc, parts.places(), domain)?;
     let fired = Vec::with_capacity(alloc, here.len())?;
     let waiting = Waiting::begin(alloc, starts, waits)?;
     let incoming = Incoming::begin(alloc, stubs)?;

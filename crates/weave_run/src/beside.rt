@@ -24,13 +24,13 @@ pub(crate) fn run_beside<R: Threads + Sync, C: Component + Send, G: Gate>(
     domains: &mut Vec<Domain<C>>,
     team: &mut Team<C>,
     plan: &Plan<C>,
-    p: &Parts,
+    parts: &Parts,
     outgoing: &Outgoing,
     gate: &G,
     steps: usize,
 )
     requires can { CanWeavePlan C.serves C.floor C.stepped C.greatest plan.now }
-    requires parts { p.now ≡ plan.now.parts.value }
+    requires parts { parts.now ≡ plan.now.parts.value }
     requires outgoing { AreOutgoing plan.now.parts.value.crossings (length plan.now.graph.value) outgoing.now }
     requires met { AreMet C.stepped plan.now domains.old.items }
     requires team { IsTeam C.stepped plan.now domains.old.items team.old }
@@ -39,7 +39,7 @@ pub(crate) fn run_beside<R: Threads + Sync, C: Component + Send, G: Gate>(
     ensures team { IsTeam C.stepped plan.now domains.new.items team.new }
 {
     laws::keeping::<C>();
-    let count = p.domains();
+    let count = parts.domains();
     let before = Snapshot::of(&*domains);
     let crews = team.crews.as_mut_slice();
     let counts = team.counts.as_mut_slice();
@@ -55,7 +55,7 @@ pub(crate) fn run_beside<R: Threads + Sync, C: Component + Send, G: Gate>(
         domains,
         &mut team.seats,
     );
-    tell_each(domains.as_mut_slice(), plan, p, outgoing, counts);
+    tell_each(domains.as_mut_slice(), plan, parts, outgoing, counts);
 }
 
 /// How many events each domain has fired.

@@ -39,39 +39,41 @@ pub struct Woven<C: Component> {
 pub fn weave<R: Threads + Sync, C: Component + Send, G: Gate>(
     rt: &R,
     alloc: Global,
-    g: &Graph,
-    p: &Parts,
+    graph: &Graph,
+    parts: &Parts,
     comps: Comps<C>,
     workers: u16,
     gate: &G,
 ) -> Result<Woven<C>, (NoMemory, Comps<C>)>
     requires workers { (1 ≤ workers) × (workers ≤ 64) }
-    requires partitioned { IsPartitioned C.serves C.floor g.now p.now comps }
-    requires small { AreSmallSteps C.stepped C.greatest g.now comps }
-    ensures woven { IfOk result (λ w. IsWoven C.stepped g.now comps w.fired w.comps w.rounds) }
+    requires partitioned { IsPartitioned C.serves C.floor graph.now parts.now comps }
+    requires small { AreSmallSteps C.stepped C.greatest graph.now comps }
+    ensures woven { IfOk result (λ w. IsWoven C.stepped graph.now comps w.fired w.comps w.rounds) }
     ensures back { IfErr result (λ e. e.1 ≡ comps) }
 {
     laws::keeping::<C>();
-    if !has_numbers(g, p) {
+    if !has_numbers(graph, parts) {
         return Err((NoMemory, comps));
     }
     let plan = Plan {
-        graph: Snapshot::of(g),
-        parts: Snapshot::of(p),
+        graph: Snapshot::of(graph),
+        parts: Snapshot::of(parts),
         comps: Snapshot::of(&comps),
     };
-    let prepared = prepare(alloc, g, p, &plan, comps, workers)?;
-    let events = g.events().len() as u32;
-    Ok(run(rt, prepared, &plan, p, workers, gate, events))
+    let prepared = prepare(alloc, graph, parts, &plan, comps, workers)?;
+    let events = graph.events().len() as u32;
+    Ok(run(rt, prepared, &plan, parts, workers, gate, events))
 }
 
 /// Whether a domain has numbers for all events, crossings and components.
-fn has_numbers(g: &Graph, p: &Parts) -> bool
-    ensures events { IsTrue result → length g.now < 2 ^ 30 }
-    ensures crossings { IsTrue result → length p.now.crossings < 2 ^ 31 }
-    ensures places { IsTrue result → length p.now.places < 2 ^ 16 }
+fn has_numbers(graph: &Graph, parts: &Parts) -> bool
+    ensures events { IsTrue result → length graph.now < 2 ^ 30 }
+    ensures crossings { IsTrue result → length parts.now.crossings < 2 ^ 31 }
+    ensures places { IsTrue result → length parts.now.places < 2 ^ 16 }
 {
-    g.events().len() < 1 << 30 && p.crossings().len() < 1 << 31 && p.places().len() < 1 << 16
+    graph.events().len() < 1 << 30
+        && parts.crossings().len() < 1 << 31
+        && parts.places().len() < 1 << 16
 }
 
 /// Runs all rounds, and takes the times and the components.
@@ -79,13 +81,13 @@ fn run<R: Threads + Sync, C: Component + Send, G: Gate>(
     rt: &R,
     prepared: Prepared<C>,
     plan: &Plan<C>,
-    p: &Parts,
+    parts: &Parts,
     workers: u16,
     gate: &G,
     events: u32,
 ) -> Woven<C>
     requires can { CanWeavePlan C.serves C.floor C.stepped C.greatest plan.now }
-    requires parts { p.now ≡ plan.now.parts.value }
+    requires parts { parts.now ≡ plan.now.parts.value }
     requires prepared { IsPrepared C.stepped plan.now prepared }
     requires workers { 0 < workers }
     requires events { events ≡ length plan.now.graph.value }
@@ -106,7 +108,7 @@ fn run<R: Threads + Sync, C: Component + Send, G: Gate>(
         &mut domains,
         &mut team,
         plan,
-        p,
+        parts,
         &outgoing,
         gate,
         workers,
@@ -117,7 +119,7 @@ fn run<R: Threads + Sync, C: Component + Send, G: Gate>(
     }
     fill_all(times.as_mut_slice(), &domains, plan);
     let mut lists = finish_all(domains, lists);
-    let comps = gather(list, p.places(), lists.as_mut_slice());
+    let comps = gather(list, parts.places(), lists.as_mut_slice());
     Woven {
         fired: FiredList::of(times),
         comps,

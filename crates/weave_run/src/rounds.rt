@@ -31,14 +31,14 @@ pub(crate) fn run_rounds<R: Threads + Sync, C: Component + Send, G: Gate>(
     domains: &mut Vec<Domain<C>>,
     team: &mut Option<Team<C>>,
     plan: &Plan<C>,
-    p: &Parts,
+    parts: &Parts,
     outgoing: &Outgoing,
     gate: &G,
     workers: u16,
     events: u32,
 ) -> u32
     requires can { CanWeavePlan C.serves C.floor C.stepped C.greatest plan.now }
-    requires parts { p.now ≡ plan.now.parts.value }
+    requires parts { parts.now ≡ plan.now.parts.value }
     requires outgoing { AreOutgoing plan.now.parts.value.crossings (length plan.now.graph.value) outgoing.now }
     requires met { AreMet C.stepped plan.now domains.old.items }
     requires low { HaveFloor domains.old.items 0 }
@@ -63,7 +63,7 @@ pub(crate) fn run_rounds<R: Threads + Sync, C: Component + Send, G: Gate>(
         floor = front.max(floor);
         raise_floors(domains, floor);
         run_round(
-            rt, domains, team, plan, p, outgoing, gate, workers, steps, is_worth,
+            rt, domains, team, plan, parts, outgoing, gate, workers, steps, is_worth,
         );
         let before = fired;
         fired = fired_so_far(domains);
@@ -88,7 +88,7 @@ fn run_round<R: Threads + Sync, C: Component + Send, G: Gate>(
     domains: &mut Vec<Domain<C>>,
     team: &mut Option<Team<C>>,
     plan: &Plan<C>,
-    p: &Parts,
+    parts: &Parts,
     outgoing: &Outgoing,
     gate: &G,
     workers: u16,
@@ -96,7 +96,7 @@ fn run_round<R: Threads + Sync, C: Component + Send, G: Gate>(
     is_worth: bool,
 )
     requires can { CanWeavePlan C.serves C.floor C.stepped C.greatest plan.now }
-    requires parts { p.now ≡ plan.now.parts.value }
+    requires parts { parts.now ≡ plan.now.parts.value }
     requires outgoing { AreOutgoing plan.now.parts.value.crossings (length plan.now.graph.value) outgoing.now }
     requires met { AreMet C.stepped plan.now domains.old.items }
     requires some { 0 < steps }
@@ -108,14 +108,14 @@ fn run_round<R: Threads + Sync, C: Component + Send, G: Gate>(
     let beside = is_worth && are_several_ready(domains);
     if let Some(team) = team {
         if beside {
-            run_beside(rt, domains, team, plan, p, outgoing, gate, steps);
+            run_beside(rt, domains, team, plan, parts, outgoing, gate, steps);
             return;
         }
     }
     run_here(
         domains.as_mut_slice(),
         plan,
-        p,
+        parts,
         outgoing,
         gate,
         workers,
@@ -178,14 +178,14 @@ fn raise_floors<C: Component>(domains: &mut Vec<Domain<C>>, floor: Cycle)
 fn run_here<C: Component, G: Gate>(
     domains: &mut [Domain<C>],
     plan: &Plan<C>,
-    p: &Parts,
+    parts: &Parts,
     outgoing: &Outgoing,
     gate: &G,
     workers: u16,
     steps: usize,
 )
     requires can { CanWeavePlan C.serves C.floor C.stepped C.greatest plan.now }
-    requires parts { p.now ≡ plan.now.parts.value }
+    requires parts { parts.now ≡ plan.now.parts.value }
     requires outgoing { AreOutgoing plan.now.parts.value.crossings (length plan.now.graph.value) outgoing.now }
     requires met { AreMet C.stepped plan.now domains.old }
     requires some { 0 < steps }
@@ -193,9 +193,9 @@ fn run_here<C: Component, G: Gate>(
     ensures { HasRunRound C.stepped plan.now domains.old domains.new }
 {
     laws::keeping::<C>();
-    for number in 0..p.domains() {
+    for number in 0..parts.domains() {
         let worker = number % workers;
-        run_domain(domains, plan, p, outgoing, gate, number, worker, steps);
+        run_domain(domains, plan, parts, outgoing, gate, number, worker, steps);
     }
 }
 
@@ -203,7 +203,7 @@ fn run_here<C: Component, G: Gate>(
 fn run_domain<C: Component, G: Gate>(
     domains: &mut [Domain<C>],
     plan: &Plan<C>,
-    p: &Parts,
+    parts: &Parts,
     outgoing: &Outgoing,
     gate: &G,
     number: u16,
@@ -211,7 +211,7 @@ fn run_domain<C: Component, G: Gate>(
     steps: usize,
 )
     requires can { CanWeavePlan C.serves C.floor C.stepped C.greatest plan.now }
-    requires parts { p.now ≡ plan.now.parts.value }
+    requires parts { parts.now ≡ plan.now.parts.value }
     requires outgoing { AreOutgoing plan.now.parts.value.crossings (length plan.now.graph.value) outgoing.now }
     requires met { AreMet C.stepped plan.now domains.old }
     requires there { number < length domains.old }
@@ -221,5 +221,5 @@ fn run_domain<C: Component, G: Gate>(
     let index = usize::from(number);
     let place = domains[index].fired().len();
     run_alone(&mut domains[index], plan, number, worker, gate, steps);
-    tell_from(domains, plan, p, outgoing, number, place);
+    tell_from(domains, plan, parts, outgoing, number, place);
 }

@@ -48,23 +48,23 @@ pub(crate) struct Room<C: Component> {
 /// Takes all memory and lays all domains out. The components come back where it runs out.
 pub(crate) fn prepare<C: Component>(
     alloc: Global,
-    g: &Graph,
-    p: &Parts,
+    graph: &Graph,
+    parts: &Parts,
     plan: &Plan<C>,
     comps: Comps<C>,
     workers: u16,
 ) -> Result<Prepared<C>, (NoMemory, Comps<C>)>
-    requires graph { g.now ≡ plan.now.graph.value }
-    requires parts { p.now ≡ plan.now.parts.value }
+    requires graph { graph.now ≡ plan.now.graph.value }
+    requires parts { parts.now ≡ plan.now.parts.value }
     requires comps { comps ≡ plan.now.comps.value }
-    requires partitioned { IsPartitioned C.serves C.floor g.now p.now comps }
-    requires fits { FitsDomain g.now p.now }
+    requires partitioned { IsPartitioned C.serves C.floor graph.now parts.now comps }
+    requires fits { FitsDomain graph.now parts.now }
     requires workers { workers ≤ 64 }
-    requires there { All (λ x. x.parent < length g.now) p.now.crossings }
+    requires there { All (λ x. x.parent < length graph.now) parts.now.crossings }
     ensures prepared { IfOk result (λ prepared. IsPrepared C.stepped plan.now prepared) }
     ensures back { IfErr result (λ e. e.1 ≡ comps) }
 {
-    let room = match take_room(alloc, g, p, plan, &comps, workers) {
+    let room = match take_room(alloc, graph, parts, plan, &comps, workers) {
         Ok(room) => room,
         Err(error) => return Err((error, comps)),
     };
@@ -76,8 +76,8 @@ pub(crate) fn prepare<C: Component>(
         lists,
         team,
     } = room;
-    let list = deal(comps, p.places(), rooms.as_mut_slice());
-    match prepare_all(alloc, g, p, plan, rooms, domains, lists) {
+    let list = deal(comps, parts.places(), rooms.as_mut_slice());
+    match prepare_all(alloc, graph, parts, plan, rooms, domains, lists) {
         Ok((domains, lists)) => Ok(Prepared {
             domains,
             outgoing,
@@ -86,41 +86,41 @@ pub(crate) fn prepare<C: Component>(
             lists,
             team,
         }),
-        Err(mut lists) => Err((NoMemory, gather(list, p.places(), lists.as_mut_slice()))),
+        Err(mut lists) => Err((NoMemory, gather(list, parts.places(), lists.as_mut_slice()))),
     }
 }
 
 fn take_room<C: Component>(
     alloc: Global,
-    g: &Graph,
-    p: &Parts,
+    graph: &Graph,
+    parts: &Parts,
     plan: &Plan<C>,
     comps: &Comps<C>,
     workers: u16,
 ) -> Result<Room<C>, NoMemory>
-    requires graph { g.now ≡ plan.now.graph.value }
-    requires parts { p.now ≡ plan.now.parts.value }
+    requires graph { graph.now ≡ plan.now.graph.value }
+    requires parts { parts.now ≡ plan.now.parts.value }
     requires comps { comps.now ≡ plan.now.comps.value }
-    requires partitioned { IsPartitioned C.serves C.floor g.now p.now comps.now }
-    requires fits { FitsDomain g.now p.now }
+    requires partitioned { IsPartitioned C.serves C.floor graph.now parts.now comps.now }
+    requires fits { FitsDomain graph.now parts.now }
     requires workers { workers ≤ 64 }
-    requires there { All (λ x. x.parent < length g.now) p.now.crossings }
+    requires there { All (λ x. x.parent < length graph.now) parts.now.crossings }
     ensures { IfOk result (λ room. HasRoom C.stepped plan.now room) }
 {
-    let domains = p.domains();
-    let events = g.events().len();
+    let domains = parts.domains();
+    let events = graph.events().len();
     let nothing = Fired {
         number: 0,
         start: 0,
         finish: 0,
     };
     Ok(Room {
-        rooms: rooms(alloc, p.places().len(), domains)?,
+        rooms: rooms(alloc, parts.places().len(), domains)?,
         domains: Vec::with_capacity(alloc, usize::from(domains))?,
-        outgoing: Outgoing::of(alloc, events, p.crossings())?,
+        outgoing: Outgoing::of(alloc, events, parts.crossings())?,
         times: vec![in alloc; nothing; events]?,
         lists: Vec::with_capacity(alloc, usize::from(domains))?,
-        team: Team::of(alloc, g, p, plan, comps, workers)?,
+        team: Team::of(alloc, graph, parts, plan, comps, workers)?,
     })
 }
 
@@ -128,29 +128,29 @@ fn take_room<C: Component>(
 /// components come back.
 fn prepare_all<C: Component>(
     alloc: Global,
-    g: &Graph,
-    p: &Parts,
+    graph: &Graph,
+    parts: &Parts,
     plan: &Plan<C>,
     mut rooms: Vec<Vec<C>>,
     mut domains: Vec<Domain<C>>,
     lists: Vec<Vec<C>>,
 ) -> Result<(Vec<Domain<C>>, Vec<Vec<C>>), Vec<Vec<C>>>
-    requires graph { g.now ≡ plan.now.graph.value }
-    requires parts { p.now ≡ plan.now.parts.value }
-    requires partitioned { IsPartitioned C.serves C.floor g.now p.now plan.now.comps.value }
-    requires fits { FitsDomain g.now p.now }
-    requires count { length rooms.items ≡ length p.now.events }
-    requires dealt { AreDealt p.now.places plan.now.comps.value (items_of rooms.items) }
-    requires domains { (domains.items ≡ []) × (length p.now.events ≤ vec_capacity domains) }
-    requires lists { (lists.items ≡ []) × (length p.now.events ≤ vec_capacity lists) }
-    ensures begun { IfOk result (λ r. AreBegun g.now p.now plan.now.comps.value (length p.now.events) r.0.items) }
+    requires graph { graph.now ≡ plan.now.graph.value }
+    requires parts { parts.now ≡ plan.now.parts.value }
+    requires partitioned { IsPartitioned C.serves C.floor graph.now parts.now plan.now.comps.value }
+    requires fits { FitsDomain graph.now parts.now }
+    requires count { length rooms.items ≡ length parts.now.events }
+    requires dealt { AreDealt parts.now.places plan.now.comps.value (items_of rooms.items) }
+    requires domains { (domains.items ≡ []) × (length parts.now.events ≤ vec_capacity domains) }
+    requires lists { (lists.items ≡ []) × (length parts.now.events ≤ vec_capacity lists) }
+    ensures begun { IfOk result (λ r. AreBegun graph.now parts.now plan.now.comps.value (length parts.now.events) r.0.items) }
     ensures lists { IfOk result (λ r. r.1 ≡ lists) }
-    ensures count { IfErr result (λ r. length r.items ≡ length p.now.events) }
-    ensures back { IfErr result (λ r. AreDealt p.now.places plan.now.comps.value (items_of r.items)) }
+    ensures count { IfErr result (λ r. length r.items ≡ length parts.now.events) }
+    ensures back { IfErr result (λ r. AreDealt parts.now.places plan.now.comps.value (items_of r.items)) }
 {
-    for number in 0..p.domains() {
+    for number in 0..parts.domains() {
         let own = rooms.remove(0);
-        match Domain::prepare(alloc, g, p, number, Comps::of(own)) {
+        match Domain::prepare(alloc, graph, parts, number, Comps::of(own)) {
             Ok(domain) => domains.push_reserved(domain),
             Err((_, own)) => return Err(put_back(domains, own, rooms, lists)),
         }

@@ -31,27 +31,27 @@ impl<C: Component> Team<C> {
     /// be alone.
     pub(crate) fn of(
         alloc: Global,
-        g: &Graph,
-        p: &Parts,
+        graph: &Graph,
+        parts: &Parts,
         plan: &Plan<C>,
         comps: &Comps<C>,
         workers: u16,
     ) -> Result<Option<Self>, NoMemory>
-        requires graph { g.now ≡ plan.now.graph.value }
-        requires parts { p.now ≡ plan.now.parts.value }
+        requires graph { graph.now ≡ plan.now.graph.value }
+        requires parts { parts.now ≡ plan.now.parts.value }
         requires comps { comps.now ≡ plan.now.comps.value }
-        requires partitioned { IsPartitioned C.serves C.floor g.now p.now comps.now }
+        requires partitioned { IsPartitioned C.serves C.floor graph.now parts.now comps.now }
         requires workers { workers ≤ 64 }
         ensures { IfOk result (λ team. IfSome team (IsNewTeam C.stepped plan.now)) }
     {
-        let domains = p.domains();
+        let domains = parts.domains();
         let workers = workers.min(domains);
         if workers < 2 {
             return Ok(None);
         }
         let crews = crews(alloc, workers, domains)?;
         let counts = vec![in alloc; 0usize; usize::from(domains)]?;
-        let (crossings, seats) = Crossings::make(alloc, g, p, comps)?;
+        let (crossings, seats) = Crossings::make(alloc, graph, parts, comps)?;
         Ok(Some(Team {
             crews,
             crossings,

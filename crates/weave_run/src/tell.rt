@@ -17,19 +17,19 @@ use zs_num::{Cycle, Word};
 fn tell<C: Component>(
     domains: &mut [Domain<C>],
     plan: &Plan<C>,
-    p: &Parts,
+    parts: &Parts,
     crossing: u32,
     finish: Cycle,
 )
     requires can { CanWeavePlan C.serves C.floor C.stepped C.greatest plan.now }
-    requires parts { p.now ≡ plan.now.parts.value }
+    requires parts { parts.now ≡ plan.now.parts.value }
     requires kept { AllKeep C.stepped plan.now domains.old }
-    requires there { crossing < length p.now.crossings }
+    requires there { crossing < length parts.now.crossings }
     requires finish { (x : Crossing) → slice_get plan.now.parts.value.crossings crossing ≡ Some x → IsFinish C.stepped plan.now x.parent finish }
     ensures told { HasToldCrossing C.stepped plan.now domains.old domains.new crossing }
 {
     laws::keeping::<C>();
-    let target = p.crossings()[crossing as usize].target;
+    let target = parts.crossings()[crossing as usize].target;
     domains[usize::from(target)].look(crossing, Word::Exact(finish));
 }
 
@@ -37,12 +37,12 @@ fn tell<C: Component>(
 fn tell_all<C: Component>(
     domains: &mut [Domain<C>],
     plan: &Plan<C>,
-    p: &Parts,
+    parts: &Parts,
     outgoing: &Outgoing,
     fired: Fired,
 )
     requires can { CanWeavePlan C.serves C.floor C.stepped C.greatest plan.now }
-    requires parts { p.now ≡ plan.now.parts.value }
+    requires parts { parts.now ≡ plan.now.parts.value }
     requires outgoing { AreOutgoing plan.now.parts.value.crossings (length plan.now.graph.value) outgoing.now }
     requires kept { AllKeep C.stepped plan.now domains.old }
     requires there { fired.number < length plan.now.graph.value }
@@ -51,7 +51,7 @@ fn tell_all<C: Component>(
 {
     let mut link = outgoing.last[fired.number as usize];
     while link != 0 {
-        tell(domains, plan, p, link - 1, fired.finish);
+        tell(domains, plan, parts, link - 1, fired.finish);
         link = outgoing.before[(link - 1) as usize];
     }
 }
@@ -60,13 +60,13 @@ fn tell_all<C: Component>(
 pub(crate) fn tell_from<C: Component>(
     domains: &mut [Domain<C>],
     plan: &Plan<C>,
-    p: &Parts,
+    parts: &Parts,
     outgoing: &Outgoing,
     source: u16,
     place: usize,
 )
     requires can { CanWeavePlan C.serves C.floor C.stepped C.greatest plan.now }
-    requires parts { p.now ≡ plan.now.parts.value }
+    requires parts { parts.now ≡ plan.now.parts.value }
     requires outgoing { AreOutgoing plan.now.parts.value.crossings (length plan.now.graph.value) outgoing.now }
     requires kept { AllKeep C.stepped plan.now domains.old }
     requires source { source < length domains.old }
@@ -76,7 +76,7 @@ pub(crate) fn tell_from<C: Component>(
     let count = domains[usize::from(source)].fired().len();
     for next in place..count {
         let fired = domains[usize::from(source)].fired()[next];
-        tell_all(domains, plan, p, outgoing, fired);
+        tell_all(domains, plan, parts, outgoing, fired);
     }
 }
 
@@ -84,22 +84,22 @@ pub(crate) fn tell_from<C: Component>(
 pub(crate) fn tell_each<C: Component>(
     domains: &mut [Domain<C>],
     plan: &Plan<C>,
-    p: &Parts,
+    parts: &Parts,
     outgoing: &Outgoing,
     counts: &[usize],
 )
     requires can { CanWeavePlan C.serves C.floor C.stepped C.greatest plan.now }
-    requires parts { p.now ≡ plan.now.parts.value }
+    requires parts { parts.now ≡ plan.now.parts.value }
     requires outgoing { AreOutgoing plan.now.parts.value.crossings (length plan.now.graph.value) outgoing.now }
     requires kept { AllKeep C.stepped plan.now domains.old }
     requires counts { length counts.now ≡ length domains.old }
     ensures { HasToldRests C.stepped plan.now domains.old domains.new counts.now (length domains.old) }
 {
-    for source in 0..p.domains() {
+    for source in 0..parts.domains() {
         tell_from(
             domains,
             plan,
-            p,
+            parts,
             outgoing,
             source,
             counts[usize::from(source)],

@@ -23,50 +23,50 @@ use zs_num::NoMemory;
 /// finishes, in order of number. Where memory runs out, the components are unchanged.
 pub fn weave_seq<C: Component>(
     alloc: Global,
-    g: &Graph,
+    graph: &Graph,
     comps: &mut Comps<C>,
 ) -> Result<FiredList, NoMemory>
-    requires fits { GraphFits C.serves C.floor g.now comps.old }
-    requires small { AreSmallSteps C.stepped C.greatest g.now comps.old }
-    ensures fired { IfOk result (λ fired. fired ≡ map fired_of (woven C.stepped g.now comps.old)) }
-    ensures comps { OnOk result (comps.new ≡ comps_after C.stepped g.now comps.old) }
+    requires fits { GraphFits C.serves C.floor graph.now comps.old }
+    requires small { AreSmallSteps C.stepped C.greatest graph.now comps.old }
+    ensures fired { IfOk result (λ fired. fired ≡ map fired_of (woven C.stepped graph.now comps.old)) }
+    ensures comps { OnOk result (comps.new ≡ comps_after C.stepped graph.now comps.old) }
     ensures unchanged { OnErr result (comps.new ≡ comps.old) }
 {
-    weave_one_list(alloc, g, comps, &Nothing)
+    weave_one_list(alloc, graph, comps, &Nothing)
 }
 
 /// The one-list weave by a worker that passes the gate before each event that it fires, as one of
 /// the event's domain. `places` has the domain of each component.
 pub fn weave_gated<C: Component, G: Gate>(
     alloc: Global,
-    g: &Graph,
+    graph: &Graph,
     comps: &mut Comps<C>,
     places: &[u16],
     gate: &G,
 ) -> Result<FiredList, NoMemory>
-    requires fits { GraphFits C.serves C.floor g.now comps.old }
-    requires small { AreSmallSteps C.stepped C.greatest g.now comps.old }
-    ensures fired { IfOk result (λ fired. fired ≡ map fired_of (woven C.stepped g.now comps.old)) }
-    ensures comps { OnOk result (comps.new ≡ comps_after C.stepped g.now comps.old) }
+    requires fits { GraphFits C.serves C.floor graph.now comps.old }
+    requires small { AreSmallSteps C.stepped C.greatest graph.now comps.old }
+    ensures fired { IfOk result (λ fired. fired ≡ map fired_of (woven C.stepped graph.now comps.old)) }
+    ensures comps { OnOk result (comps.new ≡ comps_after C.stepped graph.now comps.old) }
     ensures unchanged { OnErr result (comps.new ≡ comps.old) }
 {
-    weave_one_list(alloc, g, comps, &Passing { places, gate })
+    weave_one_list(alloc, graph, comps, &Passing { places, gate })
 }
 
 /// The one-list weave, in which something without a meaning is done before each event.
 fn weave_one_list<C: Component, B: Before>(
     alloc: Global,
-    g: &Graph,
+    graph: &Graph,
     comps: &mut Comps<C>,
     before: &B,
 ) -> Result<FiredList, NoMemory>
-    requires fits { GraphFits C.serves C.floor g.now comps.old }
-    requires small { AreSmallSteps C.stepped C.greatest g.now comps.old }
-    ensures fired { IfOk result (λ fired. fired ≡ map fired_of (woven C.stepped g.now comps.old)) }
-    ensures comps { OnOk result (comps.new ≡ comps_after C.stepped g.now comps.old) }
+    requires fits { GraphFits C.serves C.floor graph.now comps.old }
+    requires small { AreSmallSteps C.stepped C.greatest graph.now comps.old }
+    ensures fired { IfOk result (λ fired. fired ≡ map fired_of (woven C.stepped graph.now comps.old)) }
+    ensures comps { OnOk result (comps.new ≡ comps_after C.stepped graph.now comps.old) }
     ensures unchanged { OnErr result (comps.new ≡ comps.old) }
 {
-    let events = g.events();
+    let events = graph.events();
     let Beginning {
         first,
         second,

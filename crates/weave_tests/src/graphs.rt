@@ -125,16 +125,16 @@ pub(crate) fn event(
 
 /// The events of a graph by the domains of a machine, or `None` where there are 2^31 or more, the
 /// machine has no such component, or memory runs out.
-fn divided(alloc: Global, graph: &Graph, m: &Machine) -> Option<Parts>
-    requires { IsMachine m.now }
+fn divided(alloc: Global, graph: &Graph, machine: &Machine) -> Option<Parts>
+    requires { IsMachine machine.now }
     ensures { IfSome result (λ parts. IsPartition graph.now parts) }
 {
     let events = graph.events();
-    let components = component_count(m);
+    let components = component_count(machine);
     if events.len() >= 1 << 31 || !events.iter().all(|event| event.component < components) {
         return None;
     }
-    split(alloc, graph, m).ok()
+    split(alloc, graph, machine).ok()
 }
 
 /// The events of a graph by these domains, or `None` where no machine has such domains or memory

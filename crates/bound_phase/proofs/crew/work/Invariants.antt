@@ -9,7 +9,7 @@ decreases-loop-member g l = goal.left-loop-member g l
 
 abbrev pub invariant-loop-member : goal.invariant-loop-member
 invariant-loop-member g l = record {
-  so_far : RanSoFar (g.X.Expand.time l.fn.x) (g.P.Program.image l.fn.program) l.fn.end l.fn.table l.fn.crew.todo.items l.crew.todo.items l.crew.done.items;
+  so_far : RanSoFar (g.X.Expand.time l.fn.expansion) (g.P.Program.image l.fn.program) l.fn.end l.fn.table l.fn.crew.todo.items l.crew.todo.items l.crew.done.items;
   can : All (CanRun l.fn.table l.fn.memory l.fn.end) l.crew.todo.items;
   room : length l.crew.done.items + length l.crew.todo.items ≤ vec_capacity l.crew.done;
 }

@@ -37,9 +37,9 @@ close-shards-requires g c =
     let table = c.in-Ok-make_over.ensures.table in
     let seats : List SeatState = c.in-Ok-make_over.seats.items in
     let whole = written_back c.args.cores.len cores c.args.cores.items (size ∙ search rules) in
-    let back = subst (λ (xs : List NumberedCore). HaveReturned (g.X.Expand.time c.args.x.now) (g.P.Program.image c.args.program.now) c.args.end t (mates xs seats) c.run_crews.new.back.items c.run_crews.new.seats_back.items) whole c.run_crews.ensures in
+    let back = subst (λ (xs : List NumberedCore). HaveReturned (g.X.Expand.time c.args.expansion.now) (g.P.Program.image c.args.program.now) c.args.end t (mates xs seats) c.run_crews.new.back.items c.run_crews.new.seats_back.items) whole c.run_crews.ensures in
     let count : length cores ≡ t.cores = size ∙ (c.requires.can.count ∙ sym table.1) in
-    subst (AreAllSeats t) (sym back.seats_are) (all_seats (g.X.Expand.time c.args.x.now) (g.P.Program.image c.args.program.now) c.args.end t cores seats back.now back.ran count c.in-Ok-make_over.ensures.seats)
+    subst (AreAllSeats t) (sym back.seats_are) (all_seats (g.X.Expand.time c.args.expansion.now) (g.P.Program.image c.args.program.now) c.args.end t cores seats back.now back.ran count c.in-Ok-make_over.ensures.seats)
 
 pub merge-entries-requires-clause-room : goal.merge-entries-requires-clause-room
 merge-entries-requires-clause-room g c =
@@ -51,10 +51,10 @@ merge-entries-requires-clause-room g c =
     let table = c.in-Ok-make_over.ensures.table in
     let seats : List SeatState = c.in-Ok-make_over.seats.items in
     let whole = written_back c.args.cores.len cores c.args.cores.items (size ∙ search rules) in
-    let back = subst (λ (xs : List NumberedCore). HaveReturned (g.X.Expand.time c.args.x.now) (g.P.Program.image c.args.program.now) c.args.end t (mates xs seats) c.run_crews.new.back.items c.run_crews.new.seats_back.items) whole c.run_crews.ensures in
+    let back = subst (λ (xs : List NumberedCore). HaveReturned (g.X.Expand.time c.args.expansion.now) (g.P.Program.image c.args.program.now) c.args.end t (mates xs seats) c.run_crews.new.back.items c.run_crews.new.seats_back.items) whole c.run_crews.ensures in
     let count : length cores ≡ t.cores = size ∙ (c.requires.can.count ∙ sym table.1) in
     let logs = c.close-shards.ensures.logs ∙ ap (map (λ (s : SeatState). s.entries)) back.seats_are in
-    let few = few_all (g.X.Expand.time c.args.x.now) (g.P.Program.image c.args.program.now) c.args.end t cores seats back.now back.ran count c.in-Ok-make_over.ensures.seats c.close-shards.result.1.items logs in
+    let few = few_all (g.X.Expand.time c.args.expansion.now) (g.P.Program.image c.args.program.now) c.args.end t cores seats back.now back.ran count c.in-Ok-make_over.ensures.seats c.close-shards.result.1.items logs in
     let room : t.room ≡ m.interval + 258 = search rules in
     let product : t.cores * t.room ≡ c.in-Ok.memory.merger = ap (λ (p : ℕ × ℕ). p.0 * p.1) (λ i. (table.1 i, room i)) ∙ sym c.in-Ok.ensures.merger in
     subst (λ (n : ℕ). length (entries_of_logs c.deref.result.now) ≤ n) product (subst (λ (ls : List LogState). length (entries_of_logs ls) ≤ t.cores * t.room) (sym c.deref.ensures.value) few)
@@ -69,10 +69,10 @@ merge-entries-requires-clause-keys g c =
     let table = c.in-Ok-make_over.ensures.table in
     let seats : List SeatState = c.in-Ok-make_over.seats.items in
     let whole = written_back c.args.cores.len cores c.args.cores.items (size ∙ search rules) in
-    let back = subst (λ (xs : List NumberedCore). HaveReturned (g.X.Expand.time c.args.x.now) (g.P.Program.image c.args.program.now) c.args.end t (mates xs seats) c.run_crews.new.back.items c.run_crews.new.seats_back.items) whole c.run_crews.ensures in
+    let back = subst (λ (xs : List NumberedCore). HaveReturned (g.X.Expand.time c.args.expansion.now) (g.P.Program.image c.args.program.now) c.args.end t (mates xs seats) c.run_crews.new.back.items c.run_crews.new.seats_back.items) whole c.run_crews.ensures in
     let count : length cores ≡ t.cores = size ∙ (c.requires.can.count ∙ sym table.1) in
     let logs = c.close-shards.ensures.logs ∙ ap (map (λ (s : SeatState). s.entries)) back.seats_are in
-    let flat = flat_logs (g.X.Expand.time c.args.x.now) (g.P.Program.image c.args.program.now) c.args.end t cores seats back.now back.ran count c.in-Ok-make_over.ensures.seats c.close-shards.result.1.items logs in
+    let flat = flat_logs (g.X.Expand.time c.args.expansion.now) (g.P.Program.image c.args.program.now) c.args.end t cores seats back.now back.ran count c.in-Ok-make_over.ensures.seats c.close-shards.result.1.items logs in
     let rise = c.close-shards.ensures.whole.rise in
     let same : entries_of_logs c.deref.result.now ≡ entries_of_seats c.run_crews.new.seats_back.items = ap entries_of_logs c.deref.ensures.value ∙ (flat ∙ ap entries_of_seats (sym back.seats_are)) in
     subst HaveDistinctKeys (sym same) (c.rising_stamps_are_distinct.ensures (entries_of_seats c.run_crews.new.seats_back.items) rise)
@@ -87,17 +87,17 @@ returns-in-Ok-make_over-clause-bound g c =
     let table = c.in-Ok-make_over.ensures.table in
     let seats : List SeatState = c.in-Ok-make_over.seats.items in
     let whole = written_back c.args.cores.len cores c.args.cores.items (size ∙ search rules) in
-    let back = subst (λ (xs : List NumberedCore). HaveReturned (g.X.Expand.time c.args.x.now) (g.P.Program.image c.args.program.now) c.args.end t (mates xs seats) c.run_crews.new.back.items c.run_crews.new.seats_back.items) whole c.run_crews.ensures in
+    let back = subst (λ (xs : List NumberedCore). HaveReturned (g.X.Expand.time c.args.expansion.now) (g.P.Program.image c.args.program.now) c.args.end t (mates xs seats) c.run_crews.new.back.items c.run_crews.new.seats_back.items) whole c.run_crews.ensures in
     let count : length cores ≡ t.cores = size ∙ (c.requires.can.count ∙ sym table.1) in
     let logs = c.close-shards.ensures.logs ∙ ap (map (λ (s : SeatState). s.entries)) back.seats_are in
-    let flat = flat_logs (g.X.Expand.time c.args.x.now) (g.P.Program.image c.args.program.now) c.args.end t cores seats back.now back.ran count c.in-Ok-make_over.ensures.seats c.close-shards.result.1.items logs in
+    let flat = flat_logs (g.X.Expand.time c.args.expansion.now) (g.P.Program.image c.args.program.now) c.args.end t cores seats back.now back.ran count c.in-Ok-make_over.ensures.seats c.close-shards.result.1.items logs in
     let all_of_them = subst (λ (ss : List SeatState). AreWhole t (recorded_entries ss) ss c.close-shards.result.0.items) back.seats_are c.close-shards.ensures.whole in
-    let it = is_bound (g.X.Expand.time c.args.x.now) (g.P.Program.image c.args.program.now) c.args.end t cores seats back.now back.ran count c.in-Ok-make_over.ensures.seats c.args.cores.items c.args.shards.items c.close-shards.result.0.items
+    let it = is_bound (g.X.Expand.time c.args.expansion.now) (g.P.Program.image c.args.program.now) c.args.end t cores seats back.now back.ran count c.in-Ok-make_over.ensures.seats c.args.cores.items c.args.shards.items c.close-shards.result.0.items
     (c.new.ensures.timed ∙ ap (map (λ (x : NumberedCore). x.timed)) now_cores) (c.new.ensures.number ∙ ap (map (λ (x : NumberedCore). x.number)) now_cores) c.requires.can.shards_are.some table.0 all_of_them
     c.rising_lists_stay.ensures c.cores_decide_the_order.ensures in
     let entries : c.merge-entries.result ≡ recorded_entries (map (λ (x : Member). x.seat) back.now) = c.merge-entries.ensures ∙ ap recorded_order (ap entries_of_logs c.deref.ensures.value ∙ flat) in
-    subst (λ (es : List Entry). IsBound (g.X.Expand.time c.args.x.now) (g.P.Program.image c.args.program.now) c.args.end c.args.cores.items c.args.shards.items c.run_crews.new.back.items c.close-shards.result.0.items es) (sym entries)
-    (subst (λ (cs : List NumberedCore). IsBound (g.X.Expand.time c.args.x.now) (g.P.Program.image c.args.program.now) c.args.end c.args.cores.items c.args.shards.items cs c.close-shards.result.0.items (recorded_entries (map (λ (x : Member). x.seat) back.now)))
+    subst (λ (es : List Entry). IsBound (g.X.Expand.time c.args.expansion.now) (g.P.Program.image c.args.program.now) c.args.end c.args.cores.items c.args.shards.items c.run_crews.new.back.items c.close-shards.result.0.items es) (sym entries)
+    (subst (λ (cs : List NumberedCore). IsBound (g.X.Expand.time c.args.expansion.now) (g.P.Program.image c.args.program.now) c.args.end c.args.cores.items c.args.shards.items cs c.close-shards.result.0.items (recorded_entries (map (λ (x : Member). x.seat) back.now)))
     (sym back.cores_are) it)
 
 pub returns-in-Ok-make_over-clause-ended : goal.returns-in-Ok-make_over-clause-ended
@@ -110,13 +110,13 @@ returns-in-Ok-make_over-clause-ended g c =
     let table = c.in-Ok-make_over.ensures.table in
     let seats : List SeatState = c.in-Ok-make_over.seats.items in
     let whole = written_back c.args.cores.len cores c.args.cores.items (size ∙ search rules) in
-    let back = subst (λ (xs : List NumberedCore). HaveReturned (g.X.Expand.time c.args.x.now) (g.P.Program.image c.args.program.now) c.args.end t (mates xs seats) c.run_crews.new.back.items c.run_crews.new.seats_back.items) whole c.run_crews.ensures in
+    let back = subst (λ (xs : List NumberedCore). HaveReturned (g.X.Expand.time c.args.expansion.now) (g.P.Program.image c.args.program.now) c.args.end t (mates xs seats) c.run_crews.new.back.items c.run_crews.new.seats_back.items) whole c.run_crews.ensures in
     let count : length cores ≡ t.cores = size ∙ (c.requires.can.count ∙ sym table.1) in
     let logs = c.close-shards.ensures.logs ∙ ap (map (λ (s : SeatState). s.entries)) back.seats_are in
-    let flat = flat_logs (g.X.Expand.time c.args.x.now) (g.P.Program.image c.args.program.now) c.args.end t cores seats back.now back.ran count c.in-Ok-make_over.ensures.seats c.close-shards.result.1.items logs in
+    let flat = flat_logs (g.X.Expand.time c.args.expansion.now) (g.P.Program.image c.args.program.now) c.args.end t cores seats back.now back.ran count c.in-Ok-make_over.ensures.seats c.close-shards.result.1.items logs in
     let all_of_them = subst (λ (ss : List SeatState). AreWhole t (recorded_entries ss) ss c.close-shards.result.0.items) back.seats_are c.close-shards.ensures.whole in
     let room : t.room ≡ m.interval + 258 = search rules in
-    let it = have_ended (g.X.Expand.time c.args.x.now) (g.P.Program.image c.args.program.now) c.args.end t cores seats back.now back.ran count c.in-Ok-make_over.ensures.seats c.args.cores.items c.args.shards.items c.close-shards.result.0.items
+    let it = have_ended (g.X.Expand.time c.args.expansion.now) (g.P.Program.image c.args.program.now) c.args.end t cores seats back.now back.ran count c.in-Ok-make_over.ensures.seats c.args.cores.items c.args.shards.items c.close-shards.result.0.items
     (c.new.ensures.timed ∙ ap (map (λ (x : NumberedCore). x.timed)) now_cores) (c.new.ensures.number ∙ ap (map (λ (x : NumberedCore). x.number)) now_cores) c.requires.can.shards_are.some table.0 all_of_them
     c.rising_lists_stay.ensures c.cores_decide_the_order.ensures m table.1 room in
     let entries : c.merge-entries.result ≡ recorded_entries (map (λ (x : Member). x.seat) back.now) = c.merge-entries.ensures ∙ ap recorded_order (ap entries_of_logs c.deref.ensures.value ∙ flat) in

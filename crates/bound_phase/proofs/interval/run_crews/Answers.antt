@@ -19,8 +19,8 @@ let_go-requires-clause-sizes g c =
     let seats : List SeatState = c.args.seats.items in
     let order = members_in_order m c.args.end c.args.table.now cores seats c.requires.end c.requires.hired in
     let count = members_count m c.args.end c.args.table.now cores seats c.requires.end c.requires.hired in
-    sizes_ran (g.X.Expand.time c.args.x.now) (g.P.Program.image c.args.program.now) c.args.end c.args.table.now m.cores (mates cores seats) c.work_all.new.crews order count
-    (shares_ran (g.X.Expand.time c.args.x.now) (g.P.Program.image c.args.program.now) c.args.end c.args.table.now (mates cores seats) c.args.crews.now c.hire.new.crews c.work_all.new.crews
+    sizes_ran (g.X.Expand.time c.args.expansion.now) (g.P.Program.image c.args.program.now) c.args.end c.args.table.now m.cores (mates cores seats) c.work_all.new.crews order count
+    (shares_ran (g.X.Expand.time c.args.expansion.now) (g.P.Program.image c.args.program.now) c.args.end c.args.table.now (mates cores seats) c.args.crews.now c.hire.new.crews c.work_all.new.crews
     c.hire.ensures.count c.work_all.ensures.count c.hire.ensures.shares c.work_all.ensures.worked)
 
 pub returns : goal.returns
@@ -30,6 +30,6 @@ returns g c =
     let seats : List SeatState = c.args.seats.items in
     let order = members_in_order m c.args.end c.args.table.now cores seats c.requires.end c.requires.hired in
     let count = members_count m c.args.end c.args.table.now cores seats c.requires.end c.requires.hired in
-    c.let_go.ensures (g.X.Expand.time c.args.x.now) (g.P.Program.image c.args.program.now) c.args.end c.args.table.now (mates cores seats) order count
-    (shares_ran (g.X.Expand.time c.args.x.now) (g.P.Program.image c.args.program.now) c.args.end c.args.table.now (mates cores seats) c.args.crews.now c.hire.new.crews c.work_all.new.crews
+    c.let_go.ensures (g.X.Expand.time c.args.expansion.now) (g.P.Program.image c.args.program.now) c.args.end c.args.table.now (mates cores seats) order count
+    (shares_ran (g.X.Expand.time c.args.expansion.now) (g.P.Program.image c.args.program.now) c.args.end c.args.table.now (mates cores seats) c.args.crews.now c.hire.new.crews c.work_all.new.crews
     c.hire.ensures.count c.work_all.ensures.count c.hire.ensures.shares c.work_all.ensures.worked)

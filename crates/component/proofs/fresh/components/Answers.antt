@@ -14,12 +14,12 @@ banks-preserved c =
     rw c.in_ok-push.ensures.items (
       omega (arith, length_push was one, c.banks.invariant.0),
       All-push (λ comp. free_of comp ≡ 0) was one c.banks.invariant.1 c.fresh_bank.ensures.free,
-      AllWithin-push (IsBankOf c.args.m.now) was one c.banks.invariant.2 c.fresh_bank.ensures.times,
+      AllWithin-push (IsBankOf c.args.machine.now) was one c.banks.invariant.2 c.fresh_bank.ensures.times,
     )
 
 pub controllers-init : goal.controllers-init
 controllers-init c =
-    let all : length c.banks.list.items ≡ c.args.m.now.l2.banks = omega (arith, c.banks.invariant.0, c.banks-test.false) in (
+    let all : length c.banks.list.items ≡ c.args.machine.now.l2.banks = omega (arith, c.banks.invariant.0, c.banks-test.false) in (
       omega arith,
       c.banks.invariant.1,
       λ k d from below. c.banks.invariant.2 k d from (omega arith),
@@ -39,8 +39,8 @@ controllers-preserved c =
     rw c.in_ok-push-2.ensures.items (
       omega (arith, length_push was one, c.controllers.invariant.0),
       All-push (λ comp. free_of comp ≡ 0) was one c.controllers.invariant.1 c.fresh_controller.ensures.free,
-      before_push (IsBankOf c.args.m.now) was one _ _ (omega (arith, c.controllers.invariant.0)) c.controllers.invariant.2,
-      from_push (IsControllerOf c.args.m.now) was one _ c.controllers.invariant.3 c.fresh_controller.ensures.times,
+      before_push (IsBankOf c.args.machine.now) was one _ _ (omega (arith, c.controllers.invariant.0)) c.controllers.invariant.2,
+      from_push (IsControllerOf c.args.machine.now) was one _ c.controllers.invariant.3 c.fresh_controller.ensures.times,
     )
 
 pub returns : goal.returns

@@ -8,11 +8,11 @@ abbrev pub invariant-banks : goal.invariant-banks
 invariant-banks l =
     (length l.list.items ≡ l._bank)
     × All (λ c. free_of c ≡ 0) l.list.items
-    × AllWithin (IsBankOf l.m) l.list.items 0 (length l.list.items)
+    × AllWithin (IsBankOf l.machine) l.list.items 0 (length l.list.items)
 
 abbrev pub invariant-controllers : goal.invariant-controllers
 invariant-controllers l =
-    (length l.list.items ≡ l.m.l2.banks + l._controller)
+    (length l.list.items ≡ l.machine.l2.banks + l._controller)
     × All (λ c. free_of c ≡ 0) l.list.items
-    × AllWithin (IsBankOf l.m) l.list.items 0 l.m.l2.banks
-    × AllWithin (IsControllerOf l.m) l.list.items l.m.l2.banks (length l.list.items)
+    × AllWithin (IsBankOf l.machine) l.list.items 0 l.machine.l2.banks
+    × AllWithin (IsControllerOf l.machine) l.list.items l.machine.l2.banks (length l.list.items)

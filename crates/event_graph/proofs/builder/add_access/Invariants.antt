@@ -5,7 +5,7 @@ use Rattle.event_graph.proofs.builder.add_access.Given as goal
 
 abbrev pub invariant-loop-place : goal.invariant-loop-place
 invariant-loop-place g l =
-    (l.events.items ≡ l.initial.events.items ++ events_below l.initial.events.items l.entry (g.X.Expand.pieces l.x l.entry) l.place)
+    (l.events.items ≡ l.initial.events.items ++ events_below l.initial.events.items l.entry (g.X.Expand.pieces l.expansion l.entry) l.place)
     × (vec_len l.events ≡ vec_len l.initial.events + l.place)
     × TellsLast l.last.items l.events.items
     × (vec_len l.last ≡ vec_len l.initial.last)

@@ -10,15 +10,15 @@ use Rattle.event_graph.proofs.builder.build.Goals as goal
 
 pub add_access-requires-clause-few : goal.add_access-requires-clause-few
 add_access-requires-clause-few g c =
-    let pieces = g.X.Expand.pieces c.args.x.now in
+    let pieces = g.X.Expand.pieces c.args.expansion.now in
     few_at pieces c.args.entries.now c.as_slice-entry-items.result.now c.loop-entry.entry-index _ c.loop-entry.events.items _ _
     c.as_slice-entry-items.ensures c.loop-entry-test.true c.loop-entry.invariant.2 c.loop-entry.events.ok.0 c.requires.few
 
 pub of-requires : goal.of-requires
 of-requires g c =
-    let pieces = g.X.Expand.pieces c.args.x.now in
+    let pieces = g.X.Expand.pieces c.args.expansion.now in
     rw c.loop-entry.invariant.2
-    (all_numbered pieces (λ e. g.met.X.Expand.parents_come_before c.args.x.now e) (take c.loop-entry.entry-index c.args.entries.now))
+    (all_numbered pieces (λ e. g.met.X.Expand.parents_come_before c.args.expansion.now e) (take c.loop-entry.entry-index c.args.entries.now))
 
 pub loop-entry-init : goal.loop-entry-init
 loop-entry-init g c = (
@@ -34,7 +34,7 @@ one_access_more pieces entries items i d seen same below is = rw (is, same) (sym
 
 pub loop-entry-preserved : goal.loop-entry-preserved
 loop-entry-preserved g c =
-    let pieces = g.X.Expand.pieces c.args.x.now in (
+    let pieces = g.X.Expand.pieces c.args.expansion.now in (
       c.in_ok-add_access.ensures.cores ∙ c.loop-entry.invariant.0,
       c.in_ok-add_access.ensures.told,
       c.in_ok-add_access.ensures.added
@@ -43,6 +43,6 @@ loop-entry-preserved g c =
 
 pub returns : goal.returns
 returns g c =
-    let pieces = g.X.Expand.pieces c.args.x.now in
+    let pieces = g.X.Expand.pieces c.args.expansion.now in
     let whole : length c.args.entries.now ≤ c.loop-entry.entry-index = omega (arith, ap length c.as_slice-entry-items.ensures, c.loop-entry-test.false) in
     c.of.ensures ∙ c.loop-entry.invariant.2 ∙ ap (all_events pieces) (take_all c.loop-entry.entry-index c.args.entries.now whole)

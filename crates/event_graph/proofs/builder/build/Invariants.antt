@@ -11,4 +11,4 @@ abbrev pub invariant-loop-entry : goal.invariant-loop-entry
 invariant-loop-entry g l =
     (vec_len l.last ≡ l.cores)
     × TellsLast l.last.items l.events.items
-    × (l.events.items ≡ all_events (g.X.Expand.pieces l.x) (take l.entry-index l.entries))
+    × (l.events.items ≡ all_events (g.X.Expand.pieces l.expansion) (take l.entry-index l.entries))

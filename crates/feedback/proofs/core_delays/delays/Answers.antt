@@ -16,11 +16,11 @@ loop-i-preserved c =
       | then-awaited w ↦
           let critical = rw events at w.if-awaited.true in
           let there : c.loop-i.i < length c.args.fired.now = omega (arith, c.requires.finished.count, below) in
-          let all = written c.the_last_critical_event_moves_on.ensures c.args.g.now c.args.fired.now c.loop-i.i _ below c.loop-i.list.items c.args.cores _ c.events-event-items.ensures.numbered there c.loop-i.invariant.0 critical c.loop-i.invariant.1 in
+          let all = written c.the_last_critical_event_moves_on.ensures c.args.graph.now c.args.fired.now c.loop-i.i _ below c.loop-i.list.items c.args.cores _ c.events-event-items.ensures.numbered there c.loop-i.invariant.0 critical c.loop-i.invariant.1 in
           rw (w.list-is, w.from-then-awaited.ensures, events, c.as_slice-finishes.ensures) (length-set _ _ _ ∙ c.loop-i.invariant.0, all)
       | else-awaited w ↦
           let critical = rw events at w.if-awaited.false in
-          let same = kept_by_all c.the_last_critical_event_moves_on.ensures c.args.g.now c.args.fired.now c.loop-i.i _ below critical in
+          let same = kept_by_all c.the_last_critical_event_moves_on.ensures c.args.graph.now c.args.fired.now c.loop-i.i _ below critical in
           rw w.list-is (c.loop-i.invariant.0, λ core h. c.loop-i.invariant.1 core h ∙ sym (same core))
     ]
 
@@ -28,7 +28,7 @@ pub returns : goal.returns
 returns c =
     let events = c.events-event-items.ensures.events in
     let past = rw events at c.loop-i-test.false in
-    let g : List Event = c.args.g.now in
+    let g : List Event = c.args.graph.now in
     let fired : List Fired = c.args.fired.now in
     c.of.ensures
     ∙ fill_by_all (delay_of g fired) c.loop-i.list.items c.args.cores 0 c.loop-i.invariant.0

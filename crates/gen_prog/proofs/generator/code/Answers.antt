@@ -6,4 +6,4 @@ use Rattle.gen_prog.proofs.Encodable.{encodable}
 use Rattle.gen_prog.proofs.generator.code.Goals as goal
 
 pub assemble-requires : goal.assemble-requires
-assemble-requires c = subst (λ (is : List Inst). All IsEncodable is) (sym (c.program.ensures ∙ ap program c.mask.ensures)) (encodable c.args.n)
+assemble-requires c = subst (λ (is : List Inst). All IsEncodable is) (sym (c.program.ensures ∙ ap program c.mask.ensures)) (encodable c.args.number)

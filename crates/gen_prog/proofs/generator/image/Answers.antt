@@ -8,16 +8,16 @@ use Rattle.gen_prog.proofs.generator.image.Goals as goal
 use Rattle.gen_prog.proofs.generator.image.Goals.{In_ok-push-2}
 
 -- the segments, and with them the image
-segments : (c : In_ok-push-2) → c.push-2.new.self.items ≡ (generated_image c.args.n c.args.base).segments
+segments : (c : In_ok-push-2) → c.push-2.new.self.items ≡ (generated_image c.args.number c.args.base).segments
 unfolding generated_image
 segments c = search rules
 
-whole : (c : In_ok-push-2) → (let i : MemoryImage = record { base = c.args.base; size = 8192; entry = c.args.base; segments = c.push-2.new.self.items } in i) ≡ generated_image c.args.n c.args.base
+whole : (c : In_ok-push-2) → (let i : MemoryImage = record { base = c.args.base; size = 8192; entry = c.args.base; segments = c.push-2.new.self.items } in i) ≡ generated_image c.args.number c.args.base
 unfolding generated_image
 whole c = ap (λ (s : List Segment). let i : MemoryImage = record { base = c.args.base; size = 8192; entry = c.args.base; segments = s } in i) (segments c)
 
 pub make-requires : goal.make-requires
-make-requires c = subst IsSoundImage (sym (whole c)) (sound c.args.n c.args.base c.requires.page c.requires.low)
+make-requires c = subst IsSoundImage (sym (whole c)) (sound c.args.number c.args.base c.requires.page c.requires.low)
 
 pub returns : goal.returns
 returns c = c.make.ensures ∙ whole (goal.at.returns c).In_ok-push-2

@@ -8,6 +8,6 @@ returns-in-Atomic c = let is = c.in-Atomic.is in grind (arith, ints)
 
 pub returns-in-B : goal.returns-in-B
 returns-in-B c =
-    let same : to_z w64 (of_z w64 c.args.z) ≡ c.args.z = omega (arith, ints) in
-    let given : c.unsigned-in-B.result ≡ unsigned 13 c.args.z = c.unsigned-in-B.ensures ∙ ap (unsigned 13) same in
+    let same : to_z w64 (of_z w64 c.args.value) ≡ c.args.value = omega (arith, ints) in
+    let given : c.unsigned-in-B.result ≡ unsigned 13 c.args.value = c.unsigned-in-B.ensures ∙ ap (unsigned 13) same in
     rw c.in-B.is (rw (← given) (omega arith))

@@ -8,13 +8,13 @@ use Rattle.schedule_file.proofs.Lists.{written_on}
 use Rattle.schedule_file.proofs.writer.write.Goals as goal
 
 pub loop-k-preserved : goal.loop-k-preserved
-loop-k-preserved c = written_on (header_bytes c.args.s.now) _ _ c.args.s.now.lists c.loop-k.k c.list.result.now c.loop-k.invariant (search rules) (search rules)
+loop-k-preserved c = written_on (header_bytes c.args.schedule.now) _ _ c.args.schedule.now.lists c.loop-k.k c.list.result.now c.loop-k.invariant (search rules) (search rules)
 
 pub put_list-requires-clause-bytes : goal.put_list-requires-clause-bytes
 put_list-requires-clause-bytes c =
-    let lists = c.args.s.now.lists in
+    let lists = c.args.schedule.now.lists in
     let turns : List ℕ = c.list.result.now in
-    let cores = c.args.s.now.cores in
+    let cores = c.args.schedule.now.cores in
     let there : slice_get lists c.loop-k.k ≡ Some turns = c.list.ensures in
     let is : get_or lists c.loop-k.k turns ≡ turns = get_or_from_slice_get lists c.loop-k.k turns turns there in
     let known : All (λ (core : ℕ). core < cores) turns =
@@ -24,17 +24,17 @@ put_list-requires-clause-bytes c =
 
 pub put_list-requires-clause-count : goal.put_list-requires-clause-count
 put_list-requires-clause-count c =
-    let lists = c.args.s.now.lists in
+    let lists = c.args.schedule.now.lists in
     let turns : List ℕ = c.list.result.now in
     let there : slice_get lists c.loop-k.k ≡ Some turns = c.list.ensures in
     let is : get_or lists c.loop-k.k turns ≡ turns = get_or_from_slice_get lists c.loop-k.k turns turns there in
     subst (λ (ns : List ℕ). length ns < 2 ^ 32) is (c.intervals-k-end.ensures.turns.short c.loop-k.k turns (slice_get_within lists c.loop-k.k turns there))
 
 pub loop-k-init : goal.loop-k-init
-loop-k-init c = c.in_ok-out.ensures ∙ sym (append-nil (header_bytes c.args.s.now))
+loop-k-init c = c.in_ok-out.ensures ∙ sym (append-nil (header_bytes c.args.schedule.now))
 
 pub returns : goal.returns
 returns c =
-    let lists = c.args.s.now.lists in
+    let lists = c.args.schedule.now.lists in
     let all : take c.loop-k.k lists ≡ lists = take_all c.loop-k.k lists (omega (arith, c.loop-k-test.false, c.intervals-k-end.ensures.value)) in
-    c.of.ensures ∙ c.loop-k.invariant ∙ ap (λ (ls : List (List ℕ)). header_bytes c.args.s.now ++ flat_map list_bytes ls) all
+    c.of.ensures ∙ c.loop-k.invariant ∙ ap (λ (ls : List (List ℕ)). header_bytes c.args.schedule.now ++ flat_map list_bytes ls) all

@@ -5,4 +5,4 @@ use Rattle.schedule_file.specs.ScheduleFile.{header_bytes, list_bytes}
 use Rattle.schedule_file.proofs.writer.write.Given as goal
 
 abbrev pub invariant-loop-k : goal.invariant-loop-k
-invariant-loop-k l = l.out.items ≡ header_bytes l.s ++ flat_map list_bytes (take l.k l.s.lists)
+invariant-loop-k l = l.out.items ≡ header_bytes l.schedule ++ flat_map list_bytes (take l.k l.schedule.lists)

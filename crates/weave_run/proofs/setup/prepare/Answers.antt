@@ -18,7 +18,7 @@ deal-list-requires-clause-rooms g c =
 
 pub deal-list-requires-clause-there : goal.deal-list-requires-clause-there
 deal-list-requires-clause-there g c =
-    let rooms : length c.as_mut_slice.result.now ≡ length c.args.p.now.events =
+    let rooms : length c.as_mut_slice.result.now ≡ length c.args.parts.now.events =
     ap length c.as_mut_slice.ensures.value ∙ c.in-Ok.ensures.rooms.domains_are ∙ ap (λ (p : Partition). length p.events) (sym c.requires.parts) in
     rw (c.places.ensures, rooms) c.requires.partitioned.partitions.there.below
 
@@ -41,7 +41,7 @@ prepare_all-requires-clause-lists g c = rw c.requires.parts c.in-Ok.ensures.list
 
 pub gather-requires-clause-there : goal.gather-requires-clause-there
 gather-requires-clause-there g c =
-    let lists : length c.as_mut_slice-in-Err-prepare_all.result.now ≡ length c.args.p.now.events = ap length c.as_mut_slice-in-Err-prepare_all.ensures.value ∙ c.in-Err-prepare_all.ensures.count in
+    let lists : length c.as_mut_slice-in-Err-prepare_all.result.now ≡ length c.args.parts.now.events = ap length c.as_mut_slice-in-Err-prepare_all.ensures.value ∙ c.in-Err-prepare_all.ensures.count in
     rw (c.places-in-Err-prepare_all.ensures, lists) c.requires.partitioned.partitions.there.below
 
 pub gather-requires-clause-dealing : goal.gather-requires-clause-dealing

@@ -20,7 +20,7 @@ prepare-requires-clause-components g c =
         fits = c.requires.partitioned.fits;
         comps_are = c.of.ensures
             ∙ (ap (λ (v : Vec g.row.C.Denot Global). v.items) c.remove-own.ensures.value
-            ∙ first_left (map (λ (v : DomainValue g.row.C.Denot). v.comps) c.loop-number.domains.items) c.loop-number.rooms.items c.loop-number.number c.remove-own.result c.args.p.now.places c.args.plan.now.comps.value i.dealt
+            ∙ first_left (map (λ (v : DomainValue g.row.C.Denot). v.comps) c.loop-number.domains.items) c.loop-number.rooms.items c.loop-number.number c.remove-own.result c.args.parts.now.places c.args.plan.now.comps.value i.dealt
             (length-map c.loop-number.domains.items (λ (v : DomainValue g.row.C.Denot). v.comps) ∙ i.begun.count_is) some);
       },
     )
@@ -45,21 +45,21 @@ loop-number-preserved g c =
     ∙ (ap (λ (x : Vec g.row.C.Denot Global). x ∷ remove c.loop-number.rooms.items 0) (sym c.remove-own.ensures.value)
     ∙ ap (λ (xs : List (Vec g.row.C.Denot Global)). c.remove-own.result ∷ xs) (sym c.remove-own.ensures.items))
     in
-    let own : c.remove-own.result.items ≡ comps_in c.args.p.now.places c.loop-number.number c.args.plan.now.comps.value =
+    let own : c.remove-own.result.items ≡ comps_in c.args.parts.now.places c.loop-number.number c.args.plan.now.comps.value =
     ap (λ (v : Vec g.row.C.Denot Global). v.items) c.remove-own.ensures.value
-    ∙ first_left (map (λ (v : DomainValue g.row.C.Denot). v.comps) c.loop-number.domains.items) c.loop-number.rooms.items c.loop-number.number c.remove-own.result c.args.p.now.places c.args.plan.now.comps.value i.dealt
+    ∙ first_left (map (λ (v : DomainValue g.row.C.Denot). v.comps) c.loop-number.domains.items) c.loop-number.rooms.items c.loop-number.number c.remove-own.result c.args.parts.now.places c.args.plan.now.comps.value i.dealt
     (length-map c.loop-number.domains.items (λ (v : DomainValue g.row.C.Denot). v.comps) ∙ i.begun.count_is) some
     in
     let prepared = c.in-Ok.ensures.prepared in
-    let domain : c.in-Ok.domain ≡ begun c.args.g.now c.args.p.now c.args.plan.now.comps.value c.loop-number.number =
+    let domain : c.in-Ok.domain ≡ begun c.args.graph.now c.args.parts.now c.args.plan.now.comps.value c.loop-number.number =
     prepared
-    ∙ ap (λ (cs : List g.row.C.Denot). let v : DomainValue g.row.C.Denot = record { domain = c.loop-number.number; events = c.args.g.now; partition = c.args.p.now; own = at_first c.args.p.now; comps = cs } in v) (c.of.ensures ∙ own)
+    ∙ ap (λ (cs : List g.row.C.Denot). let v : DomainValue g.row.C.Denot = record { domain = c.loop-number.number; events = c.args.graph.now; partition = c.args.parts.now; own = at_first c.args.parts.now; comps = cs } in v) (c.of.ensures ∙ own)
     in
     record {
-      begun = subst (AreBegun c.args.g.now c.args.p.now c.args.plan.now.comps.value (c.loop-number.number + 1)) (sym c.push_reserved.ensures.items)
-          (one_begun c.args.g.now c.args.p.now c.args.plan.now.comps.value c.loop-number.number c.loop-number.domains.items c.in-Ok.domain i.begun domain);
-      dealt = subst (λ (vs : List (DomainValue g.row.C.Denot)). AreDealt c.args.p.now.places c.args.plan.now.comps.value (map (λ (v : DomainValue g.row.C.Denot). v.comps) vs ++ items_of c.remove-own.new.self.items)) (sym c.push_reserved.ensures.items)
-          (still_dealt c.args.p.now.places c.args.plan.now.comps.value c.loop-number.domains.items c.in-Ok.domain c.remove-own.result c.loop-number.rooms.items c.remove-own.new.self.items i.dealt rooms_are
+      begun = subst (AreBegun c.args.graph.now c.args.parts.now c.args.plan.now.comps.value (c.loop-number.number + 1)) (sym c.push_reserved.ensures.items)
+          (one_begun c.args.graph.now c.args.parts.now c.args.plan.now.comps.value c.loop-number.number c.loop-number.domains.items c.in-Ok.domain i.begun domain);
+      dealt = subst (λ (vs : List (DomainValue g.row.C.Denot)). AreDealt c.args.parts.now.places c.args.plan.now.comps.value (map (λ (v : DomainValue g.row.C.Denot). v.comps) vs ++ items_of c.remove-own.new.self.items)) (sym c.push_reserved.ensures.items)
+          (still_dealt c.args.parts.now.places c.args.plan.now.comps.value c.loop-number.domains.items c.in-Ok.domain c.remove-own.result c.loop-number.rooms.items c.remove-own.new.self.items i.dealt rooms_are
           (ap (λ (v : DomainValue g.row.C.Denot). v.comps) prepared ∙ c.of.ensures));
       count = (let less = rest_length c.loop-number.rooms.items some in let rest = ap length c.remove-own.ensures.items in let m = i.count in omega (arith, less, rest, m));
       room = (let r = i.room in let k = c.push_reserved.ensures.capacity in omega (arith, r, k));
@@ -67,7 +67,7 @@ loop-number-preserved g c =
 
 pub loop-number-init : goal.loop-number-init
 loop-number-init g c = record {
-  begun = rw c.requires.domains.0 (none_begun c.args.g.now c.args.p.now c.args.plan.now.comps.value);
+  begun = rw c.requires.domains.0 (none_begun c.args.graph.now c.args.parts.now c.args.plan.now.comps.value);
   dealt = rw c.requires.domains.0 c.requires.dealt;
   count = omega (arith, c.requires.count);
   room = c.requires.domains.1;
@@ -85,7 +85,7 @@ returns-in-Err-clause-back g c =
     let rooms_are : c.loop-number.rooms.items ≡ c.remove-own.result ∷ c.remove-own.new.self.items =
     first_and_rest c.loop-number.rooms.items c.remove-own.result some
     ∙ ap₂ (λ (x : Vec g.row.C.Denot Global) (xs : List (Vec g.row.C.Denot Global)). x ∷ xs) (sym c.remove-own.ensures.value) (sym c.remove-own.ensures.items) in
-    subst (AreDealt c.args.p.now.places c.args.plan.now.comps.value)
+    subst (AreDealt c.args.parts.now.places c.args.plan.now.comps.value)
     (ap (λ (vs : List (Vec g.row.C.Denot Global)). domains ++ items_of vs) rooms_are
     ∙ ap (λ (own : List g.row.C.Denot). domains ++ own ∷ items_of c.remove-own.new.self.items) (sym (c.in-Err.ensures.back ∙ c.of.ensures))
     ∙ sym c.put_back.ensures)
@@ -93,6 +93,6 @@ returns-in-Err-clause-back g c =
 
 pub returns-clause-begun : goal.returns-clause-begun
 returns-clause-begun g c =
-    let all : c.loop-number.number ≡ length c.args.p.now.events =
+    let all : c.loop-number.number ≡ length c.args.parts.now.events =
     omega (arith, c.loop-number-test.false, c.loop-number.auto.number-end, c.domains-number-end.ensures.count) in
-    subst (λ (n : ℕ). AreBegun c.args.g.now c.args.p.now c.args.plan.now.comps.value n c.loop-number.domains.items) all c.loop-number.invariant.begun
+    subst (λ (n : ℕ). AreBegun c.args.graph.now c.args.parts.now c.args.plan.now.comps.value n c.loop-number.domains.items) all c.loop-number.invariant.begun

@@ -6,8 +6,8 @@ use Rattle.weave_run.proofs.setup.prepare_all.Given as goal
 
 abbrev pub invariant-loop-number : goal.invariant-loop-number
 invariant-loop-number g l = record {
-  begun : AreBegun l.fn.g l.fn.p l.fn.plan.comps.value l.number l.domains.items;
-  dealt : AreDealt l.fn.p.places l.fn.plan.comps.value (map (λ (v : DomainValue g.row.C.Denot). v.comps) l.domains.items ++ items_of l.rooms.items);
-  count : l.number + length l.rooms.items ≡ length l.fn.p.events;
-  room : length l.fn.p.events ≤ vec_capacity l.domains;
+  begun : AreBegun l.fn.graph l.fn.parts l.fn.plan.comps.value l.number l.domains.items;
+  dealt : AreDealt l.fn.parts.places l.fn.plan.comps.value (map (λ (v : DomainValue g.row.C.Denot). v.comps) l.domains.items ++ items_of l.rooms.items);
+  count : l.number + length l.rooms.items ≡ length l.fn.parts.events;
+  room : length l.fn.parts.events ≤ vec_capacity l.domains;
 }

@@ -7,7 +7,7 @@ use Rattle.bound_core.proofs.bounded.BoundCore.turn.Goals as goal
 
 pub returns-in-Some-clause-fewer : goal.returns-in-Some-clause-fewer
 returns-in-Some-clause-fewer g c =
-    let time = g.X.Expand.time c.args.x.now in
+    let time = g.X.Expand.time c.args.expansion.now in
     let ran = c.run_local.new.self.timed in
     let sound : IsSoundCore ran.core = search rules in
     let asked : asks ran ≡ Some c.in-Some.request = search rules in
@@ -31,7 +31,7 @@ returns-in-Some-clause-few g c =
 
 pub returns-in-Some-clause-latest : goal.returns-in-Some-clause-latest
 returns-in-Some-clause-latest g c =
-    let time = g.X.Expand.time c.args.x.now in
+    let time = g.X.Expand.time c.args.expansion.now in
     let ran = c.run_local.new.self.timed in
     let sound : IsSoundCore ran.core = search rules in
     let asked : asks ran ≡ Some c.in-Some.request = search rules in

@@ -23,10 +23,10 @@ returns-in_err-entries-clause-illegal c =
     let turns = c.args.turns.now in
     let before = c.args.self.now in
     let Found : Illegal → Type 0 = λ at.
-    (at.interval ≡ c.args.k) × (bound_phase shards_serve (time_of machine) image end turns (begun_over_shards (cores_of before) (map restarted before.port.world.shards)) ≡ Err at.place)
+    (at.interval ≡ c.args.interval) × (bound_phase shards_serve (time_of machine) image end turns (begun_over_shards (cores_of before) (map restarted before.port.world.shards)) ≡ Err at.place)
     in
     let Place : Illegal → Type 0 = λ at.
-    (at.interval ≡ c.args.k) × ((s : RunState) → HasNextInterval machine end s before → after_interval machine image s turns ≡ Err (record { interval = length s.intervals; place = at.place }))
+    (at.interval ≡ c.args.interval) × ((s : RunState) → HasNextInterval machine end s before → after_interval machine image s turns ≡ Err (record { interval = length s.intervals; place = at.place }))
     in
     handed_on (λ (why : ReplayFail). IfIllegal why Place) _ c.from_residual.result c.from_residual.ensures.1
     (of_place _ Found Place (λ at found. (found.0, λ s g. not_legal machine image end s before g turns (c.shards_do_as_the_machine.ensures (time_of machine) image end) at.place found.1)) c.in_err-entries.ensures.illegal)
@@ -35,7 +35,7 @@ pub returns-in_err-graph-clause-illegal : goal.returns-in_err-graph-clause-illeg
 returns-in_err-graph-clause-illegal c =
     let machine = c.args.machine.now in
     let Place : Illegal → Type 0 = λ at.
-    (at.interval ≡ c.args.k)
+    (at.interval ≡ c.args.interval)
     × ((s : RunState) → HasNextInterval machine c.args.end s c.args.self.now → after_interval machine c.args.program.now s c.args.turns.now ≡ Err (record { interval = length s.intervals; place = at.place }))
     in
     handed_on (λ (why : ReplayFail). IfIllegal why Place) fail.NoMemory c.from_residual-in_err-graph.result c.from_residual-in_err-graph.ensures.1 tt
@@ -44,7 +44,7 @@ pub returns-in_err-fired-clause-illegal : goal.returns-in_err-fired-clause-illeg
 returns-in_err-fired-clause-illegal c =
     let machine = c.args.machine.now in
     let Place : Illegal → Type 0 = λ at.
-    (at.interval ≡ c.args.k)
+    (at.interval ≡ c.args.interval)
     × ((s : RunState) → HasNextInterval machine c.args.end s c.args.self.now → after_interval machine c.args.program.now s c.args.turns.now ≡ Err (record { interval = length s.intervals; place = at.place }))
     in
     handed_on (λ (why : ReplayFail). IfIllegal why Place) fail.NoMemory c.from_residual-in_err-fired.result c.from_residual-in_err-fired.ensures.1 tt
@@ -53,7 +53,7 @@ pub returns-in_err-take_in-clause-illegal : goal.returns-in_err-take_in-clause-i
 returns-in_err-take_in-clause-illegal c =
     let machine = c.args.machine.now in
     let Place : Illegal → Type 0 = λ at.
-    (at.interval ≡ c.args.k)
+    (at.interval ≡ c.args.interval)
     × ((s : RunState) → HasNextInterval machine c.args.end s c.args.self.now → after_interval machine c.args.program.now s c.args.turns.now ≡ Err (record { interval = length s.intervals; place = at.place }))
     in
     handed_on (λ (why : ReplayFail). IfIllegal why Place) fail.NoMemory c.from_residual-in_err-take_in.result c.from_residual-in_err-take_in.ensures.1 tt

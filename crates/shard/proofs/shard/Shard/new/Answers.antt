@@ -7,7 +7,7 @@ use Rattle.shard.proofs.shard.Shard.new.Goals as goal
 
 pub invariant_of-result : goal.invariant_of-result
 invariant_of-result c =
-    let cores = c.args.m.now.cores in
+    let cores = c.args.machine.now.cores in
     record {
       shards = c.from-count.ensures ∙ sym (ap (λ (d : Caches). d.shards) c.in_ok-caches.ensures);
       some = omega (arith, c.requires.number);

@@ -10,14 +10,14 @@ use Rattle.stats.proofs.counters.Counters.add.Goals as goal
 
 pub add_to_core_counts-requires-clause-fits : goal.add_to_core_counts-requires-clause-fits
 add_to_core_counts-requires-clause-fits c =
-    let i : Interval = record { entries = c.args.entries.now; events = c.args.g.now; fired = c.args.fired.now; delays = c.args.d.now } in
+    let i : Interval = record { entries = c.args.entries.now; events = c.args.graph.now; fired = c.args.fired.now; delays = c.args.delays.now } in
     let first : Counts = record { core_counts = c.self.inside.core_counts.items; comp_counts = c.self.inside.comp_counts.items; accesses = c.self.inside.accesses; events = c.self.inside.events } in
     let fits : CountsFit (added first i c.args.comps.now) = subst (λ (v : Counts). CountsFit (added v i c.args.comps.now)) (sym c.self.view_is) c.requires.fits in
     rw (c.deref_mut.ensures.value, c.as_slice.ensures, c.as_slice-2.ensures) (core_fits i first c.args.comps.now fits)
 
 pub add_to_comp_counts-requires-clause-fits : goal.add_to_comp_counts-requires-clause-fits
 add_to_comp_counts-requires-clause-fits c =
-    let i : Interval = record { entries = c.args.entries.now; events = c.args.g.now; fired = c.args.fired.now; delays = c.args.d.now } in
+    let i : Interval = record { entries = c.args.entries.now; events = c.args.graph.now; fired = c.args.fired.now; delays = c.args.delays.now } in
     let first : Counts = record { core_counts = c.self.inside.core_counts.items; comp_counts = c.self.inside.comp_counts.items; accesses = c.self.inside.accesses; events = c.self.inside.events } in
     let fits : CountsFit (added first i c.args.comps.now) = subst (λ (v : Counts). CountsFit (added v i c.args.comps.now)) (sym c.self.view_is) c.requires.fits in
     let same : length c.args.comps.now ≡ length first.comp_counts = c.requires.comps ∙ ap (λ (v : Counts). length v.comp_counts) (sym c.self.view_is) in
@@ -34,14 +34,14 @@ overflow_add-self c =
 pub overflow_add-self-2 : goal.overflow_add-self-2
 unfolding added
 overflow_add-self-2 c =
-    let fits : c.args.self.now.events + length c.args.g.now < 2 ^ 64 = c.requires.fits.events in
+    let fits : c.args.self.now.events + length c.args.graph.now < 2 ^ 64 = c.requires.fits.events in
     let was : c.self.inside.events ≡ c.args.self.now.events = ap (λ (v : Counts). v.events) c.self.view_is in
-    let seen : length c.events-2.result.now ≡ length c.args.g.now = ap length c.events-2.ensures.events in
+    let seen : length c.events-2.result.now ≡ length c.args.graph.now = ap length c.events-2.ensures.events in
     omega arith
 
 pub returns : goal.returns
 returns c =
-    let i : Interval = record { entries = c.args.entries.now; events = c.args.g.now; fired = c.args.fired.now; delays = c.args.d.now } in
+    let i : Interval = record { entries = c.args.entries.now; events = c.args.graph.now; fired = c.args.fired.now; delays = c.args.delays.now } in
     let first : Counts = record { core_counts = c.self.inside.core_counts.items; comp_counts = c.self.inside.comp_counts.items; accesses = c.self.inside.accesses; events = c.self.inside.events } in
     let comps : List Comp = c.args.comps.now in
     let same : length comps ≡ length first.comp_counts = c.requires.comps ∙ ap (λ (v : Counts). length v.comp_counts) (sym c.self.view_is) in

@@ -9,8 +9,8 @@ invariant_of-result g c =
     let laid = c.in-Ok.ensures in
     let b : IsBegun g.C.Component.serves c.args.domain c.in-Ok.layout c.args.comps c.of.result.value c.of-in-Ok.result.value =
     subst (λ (es : List Event). IsBegun g.C.Component.serves c.args.domain c.in-Ok.layout c.args.comps es c.of-in-Ok.result.value) (sym c.of.ensures)
-    (subst (IsBegun g.C.Component.serves c.args.domain c.in-Ok.layout c.args.comps c.args.g.now) (sym c.of-in-Ok.ensures)
-    (begun g.C.Component.serves g.C.Component.floor c.args.g.now c.args.p.now c.args.domain c.in-Ok.layout c.args.comps c.requires.components.0 laid.numbered c.requires.partitions laid c.requires.components.1))
+    (subst (IsBegun g.C.Component.serves c.args.domain c.in-Ok.layout c.args.comps c.args.graph.now) (sym c.of-in-Ok.ensures)
+    (begun g.C.Component.serves g.C.Component.floor c.args.graph.now c.args.parts.now c.args.domain c.in-Ok.layout c.args.comps c.requires.components.0 laid.numbered c.requires.partitions laid c.requires.components.1))
     in
     record {
       numbered = b.numbered;
