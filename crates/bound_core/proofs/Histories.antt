@@ -13,7 +13,7 @@ use Rattle.bound_core.specs.History.{AreTurnsOf, after_turn}
 use Rattle.bound_core.specs.ReferenceMachine.{BoundState, at_end, bound_from}
 use Rattle.bound_core.specs.ShardWorld.{ShardWorld, shards_serve}
 use Rattle.bound_core.specs.TimedCore.{TimedCore, asks, ran_to}
-use Rattle.bound_core.proofs.HistoryTurn.{IsNext, bank_in, last_at, next, stamps_of, takes_next}
+use Rattle.bound_core.proofs.HistoryTurn.{IsNext, last_at, next, stamps_of, takes_next}
 use Rattle.bound_core.proofs.Numbered.{EachHolds, after_first, after_none, all_hold, first_holds, rest_holds}
 
 pub is_there : {A : Type 0} (xs : List A) (i : ℕ) → i < length xs → (x : A) × (slice_get xs i ≡ Some x)
@@ -59,7 +59,7 @@ module _ (time : Entry → ℕ) (image : MemoryImage) (end : ℕ) where
     same_cores = length-set s.cores e.core (after_turn time image end c e)
 
     same_shards : length then.world.shards ≡ length s.world.shards
-    same_shards = length-set s.world.shards (bank_in s.world e) (shard_after shard e)
+    same_shards = length-set s.world.shards (bank_of_entry (length s.world.shards) e) (shard_after shard e)
 
     pub next_ready : IsReady then
     next_ready = record {
@@ -69,9 +69,9 @@ module _ (time : Entry → ℕ) (image : MemoryImage) (end : ℕ) where
 
     next_stamps : stamps_of then.world ≡ stamped_by (length s.world.shards) (stamps_of s.world) e
     next_stamps =
-        rw (map-set (λ (x : ShardState). x.last) s.world.shards (bank_in s.world e) (shard_after shard e), after_last shard e) refl
+        rw (map-set (λ (x : ShardState). x.last) s.world.shards (bank_of_entry (length s.world.shards) e) (shard_after shard e), after_last shard e) refl
 
-    pub next_left : (entries : List Entry) → e.core < length s.cores → slice_get s.cores e.core ≡ Some c → slice_get s.world.shards (bank_in s.world e) ≡ Some shard
+    pub next_left : (entries : List Entry) → e.core < length s.cores → slice_get s.cores e.core ≡ Some c → slice_get s.world.shards (bank_of_entry (length s.world.shards) e) ≡ Some shard
         → left s (e ∷ entries) ≡ left then entries
     next_left entries within core bank =
         let stamp = is_there s.world.stamps e.core (omega (arith, within, ready.stamps)) in
@@ -84,7 +84,7 @@ module _ (time : Entry → ℕ) (image : MemoryImage) (end : ℕ) where
         ) refl
 
     -- forwards
-    module _ (entries : List Entry) (core : slice_get s.cores e.core ≡ Some c) (bank : slice_get s.world.shards (bank_in s.world e) ≡ Some shard) where
+    module _ (entries : List Entry) (core : slice_get s.cores e.core ≡ Some c) (bank : slice_get s.world.shards (bank_of_entry (length s.world.shards) e) ≡ Some shard) where
       pub first_is_next : Follows s (e ∷ entries) → IsNext time image end s e c shard
       first_is_next f =
           let own = first_holds (AreTurnsOf time image end) (after_turn time image end) core_of_entry s.cores e entries c core f.turns in
@@ -96,7 +96,7 @@ module _ (time : Entry → ℕ) (image : MemoryImage) (end : ℕ) where
             start = own.1;
             reply = given.0;
             outcome = given.1;
-            stamp = f.stamped.0 ∙ ap (λ (n : ℕ). max n (slice_index s.world.stamps e.core) + 1) (last_at s.world.shards (bank_in s.world e) shard bank);
+            stamp = f.stamped.0 ∙ ap (λ (n : ℕ). max n (slice_index s.world.stamps e.core) + 1) (last_at s.world.shards (bank_of_entry (length s.world.shards) e) shard bank);
           }
 
       pub rest_follows : Follows s (e ∷ entries) → Follows then entries
@@ -117,7 +117,7 @@ module _ (time : Entry → ℕ) (image : MemoryImage) (end : ℕ) where
         served = all_hold AreServedBy shard_after (bank_of_entry (length s.world.shards)) s.world.shards e entries shard bank (λ more given. (n.reply, n.outcome, given))
             (subst (λ (k : ℕ). EachHolds AreServedBy (bank_of_entry k) then.world.shards entries) same_shards f.served);
         stamped = (
-          n.stamp ∙ sym (ap (λ (k : ℕ). max k (slice_index s.world.stamps e.core) + 1) (last_at s.world.shards (bank_in s.world e) shard bank)),
+          n.stamp ∙ sym (ap (λ (k : ℕ). max k (slice_index s.world.stamps e.core) + 1) (last_at s.world.shards (bank_of_entry (length s.world.shards) e) shard bank)),
           subst (λ (stamps : Stamps). AreStamped (length s.world.shards) stamps entries) next_stamps
               (subst (λ (k : ℕ). AreStamped k (stamps_of then.world) entries) same_shards f.stamped),
         );
@@ -146,7 +146,7 @@ module _ (time : Entry → ℕ) (image : MemoryImage) (end : ℕ) where
   history_is_phase (e ∷ entries) s place ready f =
       let within : e.core < length s.cores = All-head (λ (x : Entry). x.core < length s.cores) e entries f.known in
       let c = is_there s.cores e.core within in
-      let shard = is_there s.world.shards (bank_in s.world e) (omega (arith, ready.some)) in
+      let shard = is_there s.world.shards (bank_of_entry (length s.world.shards) e) (omega (arith, ready.some)) in
       let n = first_is_next s ready e c.0 shard.0 entries c.1 shard.1 f in
       let turned = takes_next time image end s e c.0 shard.0 n in
       let rest = history_is_phase entries (next time image end s e c.0 shard.0) (place + 1) (next_ready s ready e c.0 shard.0) (rest_follows s ready e c.0 shard.0 entries c.1 shard.1 f) in

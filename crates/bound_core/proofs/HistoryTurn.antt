@@ -17,9 +17,6 @@ use Rattle.bound_core.specs.TimedCore.{TimedCore, asks, ran_to}
 abbrev pub stamps_of : ShardWorld → Stamps
 stamps_of w = record { banks = map (λ shard. shard.last) w.shards; cores = w.stamps }
 
-abbrev pub bank_in : ShardWorld → Entry → ℕ
-bank_in w e = bank_of_entry (length w.shards) e
-
 pub last_at : (shards : List ShardState) (i : ℕ) (shard : ShardState) → slice_get shards i ≡ Some shard → slice_index (map (λ shard. shard.last) shards) i ≡ shard.last
 last_at [] i shard here = cc
 last_at (x ∷ shards) zero shard here = let same : x ≡ shard = cc in ap (λ (s : ShardState). s.last) same
@@ -45,7 +42,7 @@ module _ (time : Entry → ℕ) (image : MemoryImage) (end : ℕ) where
   -- The core and the shard are there, and this is the entry that the shard gives to what the core asks.
   pub record IsNext (s : BoundState ShardWorld) (e : Entry) (c : TimedCore) (shard : ShardState) : Type 0 where
     pub core : slice_get s.cores e.core ≡ Some c
-    pub bank : slice_get s.world.shards (bank_in s.world e) ≡ Some shard
+    pub bank : slice_get s.world.shards (bank_of_entry (length s.world.shards) e) ≡ Some shard
     pub asked : asks (ran_to image end c) ≡ Some e.request
     pub start : e.start ≡ (ran_to image end c).clock
     pub reply : e.reply ≡ shard_reply shard e
@@ -53,7 +50,7 @@ module _ (time : Entry → ℕ) (image : MemoryImage) (end : ℕ) where
     pub stamp : e.stamp ≡ max shard.last (slice_index s.world.stamps e.core) + 1
 
   abbrev pub next_world : ShardWorld → Entry → ShardState → ShardWorld
-  next_world w e shard = record { shards = slice_set w.shards (bank_in w e) (shard_after shard e); stamps = slice_set w.stamps e.core e.stamp }
+  next_world w e shard = record { shards = slice_set w.shards (bank_of_entry (length w.shards) e) (shard_after shard e); stamps = slice_set w.stamps e.core e.stamp }
 
   abbrev pub next : BoundState ShardWorld → Entry → TimedCore → ShardState → BoundState ShardWorld
   next s e c shard = record {
@@ -66,9 +63,9 @@ module _ (time : Entry → ℕ) (image : MemoryImage) (end : ℕ) where
       → shards_serve s.world e.core e.start e.request ≡ (e, next_world s.world e shard)
   unfolding shards_serve
   serves_next s e c shard n =
-      let found : shard_for s.world.shards e.request ≡ shard = get_or_from_slice_get s.world.shards (bank_in s.world e) shard no_shard n.bank in
+      let found : shard_for s.world.shards e.request ≡ shard = get_or_from_slice_get s.world.shards (bank_of_entry (length s.world.shards) e) shard no_shard n.bank in
       let is : recorded_by_shard shard (slice_index s.world.stamps e.core) e.core e.start e.request ≡ e = recorded_is shard (slice_index s.world.stamps e.core) e n.stamp n.reply n.outcome in
-      let with_entry : Entry → Entry × ShardWorld = λ x. (x, record { shards = slice_set s.world.shards (bank_in s.world e) (shard_after shard x); stamps = slice_set s.world.stamps e.core x.stamp }) in
+      let with_entry : Entry → Entry × ShardWorld = λ x. (x, record { shards = slice_set s.world.shards (bank_of_entry (length s.world.shards) e) (shard_after shard x); stamps = slice_set s.world.stamps e.core x.stamp }) in
       rw found (ap with_entry is)
 
   pub takes_next : (s : BoundState ShardWorld) (e : Entry) (c : TimedCore) (shard : ShardState) → IsNext s e c shard

@@ -9,10 +9,11 @@ use Rattle.zs_num.specs.declared.request.Request.{Request}
 use Rattle.elf_load.specs.MemoryImage.{MemoryImage}
 use Rattle.shard.specs.Served.{ShardState, met_by, shard_reply}
 use Rattle.bound_core.specs.ReferenceMachine.{BoundState, are_done, at_end, bound_from, turn}
-use Rattle.bound_core.specs.ShardWorld.{ShardWorld, no_shard, number_for, recorded_by_shard, shard_for, shards_serve}
+use Rattle.bound_core.specs.ShardWorld.{ShardWorld, no_shard, recorded_by_shard, shard_for, shards_serve}
 use Rattle.bound_core.specs.TimedCore.{TimedCore, asks, ran_to}
 use Rattle.bound_core.proofs.Histories.{Follows, IsReady, is_there, left, next_left, next_ready, none_left, whole_follows}
 use Rattle.bound_core.proofs.HistoryTurn.{IsNext, next, takes_next}
+use Rattle.zs_num.specs.Request.{bank_of}
 
 module _ (time : Entry → ℕ) (image : MemoryImage) (end : ℕ) where
   -- what the turn of the core of this number was
@@ -30,10 +31,10 @@ module _ (time : Entry → ℕ) (image : MemoryImage) (end : ℕ) where
     given number c request = recorded_by_shard (shard_for s.world.shards request) (slice_index s.world.stamps number) number (ran_to image end c).clock request
 
     given_next : (number : ℕ) (c : TimedCore) (request : Request) (shard : ShardState) → slice_get s.cores number ≡ Some c → asks (ran_to image end c) ≡ Some request
-        → slice_get s.world.shards (number_for s.world.shards request) ≡ Some shard → IsNext time image end s (given number c request) c shard
+        → slice_get s.world.shards (bank_of (length s.world.shards) request) ≡ Some shard → IsNext time image end s (given number c request) c shard
     unfolding shard_reply met_by
     given_next number c request shard here asked there =
-        let found : shard_for s.world.shards request ≡ shard = get_or_from_slice_get s.world.shards (number_for s.world.shards request) shard no_shard there in
+        let found : shard_for s.world.shards request ≡ shard = get_or_from_slice_get s.world.shards (bank_of (length s.world.shards) request) shard no_shard there in
         record {
           core = here;
           bank = there;
@@ -47,7 +48,7 @@ module _ (time : Entry → ℕ) (image : MemoryImage) (end : ℕ) where
     took_asked : (number : ℕ) (c : TimedCore) (request : Request) (t : BoundState ShardWorld) → slice_get s.cores number ≡ Some c → asks (ran_to image end c) ≡ Some request
         → turn shards_serve time image end s number ≡ Some t → Took s t number
     took_asked number c request t here asked turned =
-        let shard = is_there s.world.shards (number_for s.world.shards request) (omega (arith, ready.some)) in
+        let shard = is_there s.world.shards (bank_of (length s.world.shards) request) (omega (arith, ready.some)) in
         let e : Entry = given number c request in
         let n : IsNext time image end s e c shard.0 = given_next number c request shard.0 here asked shard.1 in
         record {

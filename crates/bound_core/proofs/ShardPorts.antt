@@ -4,13 +4,13 @@ use Rattle.std.specs.Prelude.{◌%◌, slice_get, slice_index, slice_index_or, s
 use Rattle.std.proofs.Math.Seq.{take-append_seam}
 use Rattle.std.proofs.lemmas.Option.{slice_get-get_or}
 use Rattle.std.proofs.lemmas.List.{get_or_default, length-map, map-set}
-use Rattle.zs_num.specs.Request.{line_of}
+use Rattle.zs_num.specs.Request.{line_of, bank_of}
 use Rattle.zs_num.specs.Servable.{IsServable}
 use Rattle.zs_num.specs.declared.entry.Entry.{Entry}
 use Rattle.zs_num.specs.declared.request.Request.{Request}
 use Rattle.shard.specs.Served.{CanServe, IsServedBy, ShardState, shard_after}
 use Rattle.bound_core.specs.ShardPort.{AreShardsOf, IsShardAt, IsShardPort, ShardPortState, base_in, base_of, greatest, greatest_stamp, size_in, size_of}
-use Rattle.bound_core.specs.ShardWorld.{ShardWorld, no_shard, number_for, recorded_by_shard, restarted, shard_for, shards_serve}
+use Rattle.bound_core.specs.ShardWorld.{ShardWorld, no_shard, recorded_by_shard, restarted, shard_for, shards_serve}
 use Rattle.bound_core.proofs.HistoryTurn.{recorded_is}
 
 -- ---- lists
@@ -117,7 +117,7 @@ all_restarted (x ∷ xs) (y ∷ ys) same h =
 
 module _ (w : ShardWorld) (core start : ℕ) (request : Request) where
   abbrev pub n : ℕ
-  n = number_for w.shards request
+  n = bank_of (length w.shards) request
 
   pub shard_there : 0 < length w.shards → slice_get w.shards n ≡ Some (shard_for w.shards request)
   shard_there some = slice_get-get_or w.shards n no_shard (mod-lt (line_of request) some)

@@ -26,10 +26,10 @@ use Rattle.shard.specs.StandsFor.{StandFor, flat_for}
 use Rattle.access_log.specs.RecordedOrder.{next_stamp}
 use Rattle.bound_core.specs.MachineOfShards.{IsCoreOf, StandForMachine, pairings_of}
 use Rattle.bound_core.specs.MachineWorld as machine
-use Rattle.bound_core.specs.MachineWorld.{MachineWorld, bank_for}
+use Rattle.bound_core.specs.MachineWorld.{MachineWorld}
 use Rattle.bound_core.specs.ReferenceMachine.{BoundState, bound_from}
 use Rattle.bound_core.specs.Correspondence.{AreRelated, EndAlike}
-use Rattle.bound_core.specs.ShardWorld.{ShardWorld, no_shard, number_for, recorded_by_shard, shards_serve}
+use Rattle.bound_core.specs.ShardWorld.{ShardWorld, no_shard, recorded_by_shard, shards_serve}
 use Rattle.bound_core.specs.TimedCore.{TimedCore, asks, core_after_access, ran_to}
 use Rattle.bound_core.proofs.CoreKept.{CoreLaws, StaysSound, ran_stays_sound, waits_for}
 use Rattle.bound_core.proofs.Histories.{after_last, is_there}
@@ -76,14 +76,14 @@ module _ (laws : CoreLaws) (step : ShardsStandForAMachine) (marks_law : MarksAre
       (subst (λ (n : ℕ). IsServable n ran.core.memory.size waiting.0.next) based own))
 
   -- its shard
-  pub there : (shard : ShardState) × (slice_get w.shards (number_for w.shards request) ≡ Some shard)
-  there = is_there w.shards (number_for w.shards request) (omega (arith, r.some))
+  pub there : (shard : ShardState) × (slice_get w.shards (bank_of (length w.shards) request) ≡ Some shard)
+  there = is_there w.shards (bank_of (length w.shards) request) (omega (arith, r.some))
 
   abbrev pub shard : ShardState
   shard = there.0
 
   abbrev pub place : ℕ
-  place = number_for w.shards request
+  place = bank_of (length w.shards) request
 
   -- the entry
   abbrev pub e : Entry
@@ -137,12 +137,12 @@ module _ (laws : CoreLaws) (step : ShardsStandForAMachine) (marks_law : MarksAre
   met : outcome_of m.caches number request ≡ e.outcome
   met = sym stepped.1 ∙ recorded_outcome shard (slice_index w.stamps number) number ran.clock request
 
-  same_bank : bank_for m request ≡ place
+  same_bank : bank_of (length m.stamps.banks) request ≡ place
   same_bank = ap (λ (n : ℕ). bank_of n request) (ap length r.banks_stamped ∙ length-map w.shards (λ (x : ShardState). x.last))
 
-  stamped : next_stamp m.stamps (bank_for m request) number ≡ e.stamp
+  stamped : next_stamp m.stamps (bank_of (length m.stamps.banks) request) number ≡ e.stamp
   stamped =
-      let bank : slice_index m.stamps.banks (bank_for m request) ≡ shard.last = ap (slice_index m.stamps.banks) same_bank ∙ ap (λ (banks : List ℕ). slice_index banks place) r.banks_stamped ∙ last_at w.shards place shard there.1 in
+      let bank : slice_index m.stamps.banks (bank_of (length m.stamps.banks) request) ≡ shard.last = ap (slice_index m.stamps.banks) same_bank ∙ ap (λ (banks : List ℕ). slice_index banks place) r.banks_stamped ∙ last_at w.shards place shard there.1 in
       let core : slice_index m.stamps.cores number ≡ slice_index w.stamps number = ap (λ (stamps : List ℕ). slice_index stamps number) r.cores_stamped in
       rw (bank, core) refl
 
@@ -155,7 +155,7 @@ module _ (laws : CoreLaws) (step : ShardsStandForAMachine) (marks_law : MarksAre
   m_after = record {
     memory = flat.memory_after m.memory number request;
     caches = caches.caches_after m.caches number request;
-    stamps = record { banks = slice_set m.stamps.banks (bank_for m request) e.stamp; cores = slice_set m.stamps.cores number e.stamp };
+    stamps = record { banks = slice_set m.stamps.banks (bank_of (length m.stamps.banks) request) e.stamp; cores = slice_set m.stamps.cores number e.stamp };
   }
 
   pub shards_answer : shards_serve w number ran.clock request ≡ (e, w_after)
@@ -179,7 +179,7 @@ module _ (laws : CoreLaws) (step : ShardsStandForAMachine) (marks_law : MarksAre
         record {
           memory = flat.memory_after m.memory number request;
           caches = caches.caches_after m.caches number request;
-          stamps = record { banks = slice_set m.stamps.banks (bank_for m request) x.stamp; cores = slice_set m.stamps.cores number x.stamp };
+          stamps = record { banks = slice_set m.stamps.banks (bank_of (length m.stamps.banks) request) x.stamp; cores = slice_set m.stamps.cores number x.stamp };
         },
       ) in
       ap with_entry machine_entry

@@ -17,15 +17,11 @@ pub record MachineWorld : Type 0 where
   pub caches : Caches
   pub stamps : Stamps
 
--- the bank of a request: there are as many as have a stamp
-abbrev pub bank_for : MachineWorld → Request → ℕ
-bank_for w request = bank_of (length w.stamps.banks) request
-
--- the access of a core that starts then, as it is recorded
+-- the access of a core that starts then, as it is recorded: there are as many banks as have a stamp
 abbrev pub recorded : MachineWorld → (core start : ℕ) → Request → Entry
 recorded w core start request = record {
   core = core;
-  stamp = next_stamp w.stamps (bank_for w request) core;
+  stamp = next_stamp w.stamps (bank_of (length w.stamps.banks) request) core;
   start = start;
   request = request;
   reply = memory_reply w.memory core request;
@@ -39,7 +35,7 @@ serve w core start request = let e = recorded w core start request in (
   record {
     memory = memory_after w.memory core request;
     caches = caches_after w.caches core request;
-    stamps = stamped w.stamps (bank_for w request) core e.stamp;
+    stamps = stamped w.stamps (bank_of (length w.stamps.banks) request) core e.stamp;
   },
 )
 

@@ -25,12 +25,9 @@ restarted shard = record shard { last = 0 }
 abbrev pub no_shard : ShardState
 no_shard = record { number = 0; base = 0; size = 0; caches = empty_caches 0 0 0 0 0 0; bytes = []; marks = []; last = 0 }
 
--- the shard of a request, and its number
-abbrev pub number_for : List ShardState → Request → ℕ
-number_for shards request = bank_of (length shards) request
-
+-- the shard of a request: that of its bank
 abbrev pub shard_for : List ShardState → Request → ShardState
-shard_for shards request = slice_index_or shards (number_for shards request) no_shard
+shard_for shards request = slice_index_or shards (bank_of (length shards) request) no_shard
 
 -- an access that has its stamp and is not served yet
 abbrev pub unserved_entry : (core stamp start : ℕ) → Request → Entry
@@ -46,4 +43,4 @@ unfoldable pub shards_serve : ShardWorld → (core start : ℕ) → Request → 
 shards_serve w core start request =
     let shard = shard_for w.shards request in
     let e = recorded_by_shard shard (slice_index w.stamps core) core start request in
-    (e, record { shards = slice_set w.shards (number_for w.shards request) (shard_after shard e); stamps = slice_set w.stamps core e.stamp })
+    (e, record { shards = slice_set w.shards (bank_of (length w.shards) request) (shard_after shard e); stamps = slice_set w.stamps core e.stamp })

@@ -109,9 +109,9 @@ impl Port for ShardPort {
 
     #[inline(always)]
     fn access(&mut self, start: Cycle, request: Request) -> Entry {
-        let number = remainder(request.line(), self.shards.len() as u64) as usize;
+        let bank = remainder(request.line(), self.shards.len() as u64) as usize;
         let core = usize::from(self.core);
-        let entry = self.shards[number].serve(self.core, start, self.stamps[core], request);
+        let entry = self.shards[bank].serve(self.core, start, self.stamps[core], request);
         self.stamps[core] = entry.stamp;
         entry
     }

@@ -7,14 +7,14 @@ use Rattle.std.proofs.lemmas.List.Elements.{All-set, All-head, All-tail}
 use Rattle.std.proofs.lemmas.List.FromFn.{get_or-enumerate_from, length-enumerate_from, get_or-map-range_with_len}
 use Rattle.zs_num.specs.PairedRight.{AreAllPairedRight, IsPairedRight, pairing_of, pairings_after, pairings_after_all}
 use Rattle.zs_num.specs.Pairing.{is_paired, pairing_after}
-use Rattle.zs_num.specs.Request.{addr_of, line_at, bank_of_line}
+use Rattle.zs_num.specs.Request.{addr_of, line_at, bank_of_line, bank_of}
 use Rattle.zs_num.specs.declared.pairing.Pairing.{Pairing}
 use Rattle.zs_num.specs.declared.request.Request.{Request}
 use Rattle.zs_num.specs.declared.request.Request.TheVariants.{Load, Store, Lr, Sc, Amo}
 use Rattle.rv_alu.specs.Atomic.{new_number}
 use Rattle.flat_memory.specs.declared.reservation.Reservation.{Reservation}
 use Rattle.flat_memory.specs.FlatMemory as flat
-use Rattle.shard.specs.Marks.{MarkedMemory, bytes_after, does_store, marked_after, marked_reply, marks_after, marks_for, reply_from, shard_number}
+use Rattle.shard.specs.Marks.{MarkedMemory, bytes_after, does_store, marked_after, marked_reply, marks_after, marks_for, reply_from}
 use Rattle.shard.specs.Laws.{marked_replies, marked_after_all, flat_replies, flat_after_all}
 use Rattle.shard.specs.StandsFor.{flat_for, mark_at, reserved_by}
 use Rattle.shard.proofs.Kept.{length-marks_after}
@@ -99,35 +99,35 @@ pub record AreMarks (m : MarkedMemory) (cores : ℕ) : Type 0 where
   pub each : All (λ marks. length marks ≡ cores) m.marks
 
 module _ (m : MarkedMemory) (cores : ℕ) (are : AreMarks m cores) (core : ℕ) (request : Request) where
-  shard_within : shard_number m request < length m.marks
+  shard_within : bank_of (length m.marks) request < length m.marks
   shard_within = omega (arith, are.some)
 
   here_length : length (marks_for m request) ≡ cores
-  here_length = are.each (shard_number m request) [] shard_within
+  here_length = are.each (bank_of (length m.marks) request) [] shard_within
 
   pub marks_stay : AreMarks (marked_after m core request) cores
   marks_stay = record {
-    some = omega (arith, are.some, length-set m.marks (shard_number m request) (marks_after (marks_for m request) core request));
-    each = All-set (λ marks. length marks ≡ cores) m.marks (shard_number m request) (marks_after (marks_for m request) core request) (length-marks_after (marks_for m request) core request ∙ here_length) are.each;
+    some = omega (arith, are.some, length-set m.marks (bank_of (length m.marks) request) (marks_after (marks_for m request) core request));
+    each = All-set (λ marks. length marks ≡ cores) m.marks (bank_of (length m.marks) request) (marks_after (marks_for m request) core request) (length-marks_after (marks_for m request) core request ∙ here_length) are.each;
   }
 
   -- the mark in the shard of an address after the access
-  mark_here : (k addr : ℕ) → bank_of_line (length m.marks) (line_at addr) ≡ shard_number m request → mark_at (marked_after m core request) k addr ≡ get_or (marks_after (marks_for m request) core request) k None
+  mark_here : (k addr : ℕ) → bank_of_line (length m.marks) (line_at addr) ≡ bank_of (length m.marks) request → mark_at (marked_after m core request) k addr ≡ get_or (marks_after (marks_for m request) core request) k None
   mark_here k addr e =
-      rw (length-set m.marks (shard_number m request) (marks_after (marks_for m request) core request), e, get_or-set_same m.marks (shard_number m request) (marks_after (marks_for m request) core request) [] shard_within) refl
+      rw (length-set m.marks (bank_of (length m.marks) request) (marks_after (marks_for m request) core request), e, get_or-set_same m.marks (bank_of (length m.marks) request) (marks_after (marks_for m request) core request) [] shard_within) refl
 
-  mark_there : (k addr : ℕ) → (bank_of_line (length m.marks) (line_at addr) ≡ shard_number m request → ⊥) → mark_at (marked_after m core request) k addr ≡ mark_at m k addr
+  mark_there : (k addr : ℕ) → (bank_of_line (length m.marks) (line_at addr) ≡ bank_of (length m.marks) request → ⊥) → mark_at (marked_after m core request) k addr ≡ mark_at m k addr
   mark_there k addr e =
-      rw (length-set m.marks (shard_number m request) (marks_after (marks_for m request) core request), get_or-set_other m.marks (shard_number m request) (bank_of_line (length m.marks) (line_at addr)) (marks_after (marks_for m request) core request) [] e) refl
+      rw (length-set m.marks (bank_of (length m.marks) request) (marks_after (marks_for m request) core request), get_or-set_other m.marks (bank_of (length m.marks) request) (bank_of_line (length m.marks) (line_at addr)) (marks_after (marks_for m request) core request) [] e) refl
 
-  mark_before : (k addr : ℕ) → bank_of_line (length m.marks) (line_at addr) ≡ shard_number m request → mark_at m k addr ≡ get_or (marks_for m request) k None
+  mark_before : (k addr : ℕ) → bank_of_line (length m.marks) (line_at addr) ≡ bank_of (length m.marks) request → mark_at m k addr ≡ get_or (marks_for m request) k None
   mark_before k addr e = rw e refl
 
   -- a core whose mark in the shard stays has reserved what it had
   pub reserved_stays : (k : ℕ) → get_or (marks_after (marks_for m request) core request) k None ≡ get_or (marks_for m request) k None → (p : Paired) → reserved_by (marked_after m core request) k p ≡ reserved_by m k p
   reserved_stays k h None = refl
   reserved_stays k h (Some q) =
-      elim (cases_eq (bank_of_line (length m.marks) (line_at q.addr)) (shard_number m request)) as (λ _. kept_if (flat.is_reservation (mark_at (marked_after m core request) k q.addr) q.addr q.width) (bytes_of q) ≡ kept_if (flat.is_reservation (mark_at m k q.addr) q.addr q.width) (bytes_of q)) [
+      elim (cases_eq (bank_of_line (length m.marks) (line_at q.addr)) (bank_of (length m.marks) request)) as (λ _. kept_if (flat.is_reservation (mark_at (marked_after m core request) k q.addr) q.addr q.width) (bytes_of q) ≡ kept_if (flat.is_reservation (mark_at m k q.addr) q.addr q.width) (bytes_of q)) [
         | inl e ↦ rw (mark_here k q.addr e, h, mark_before k q.addr e) refl
         | inr e ↦ rw (mark_there k q.addr e) refl
       ]
@@ -136,7 +136,7 @@ module _ (m : MarkedMemory) (cores : ℕ) (are : AreMarks m cores) (core : ℕ) 
   pub reserved_written : (k : ℕ) → get_or (marks_after (marks_for m request) core request) k None ≡ flat.unless_written (eqb k core) (addr_of request) (get_or (marks_for m request) k None) → (p : Paired) → reserved_by (marked_after m core request) k p ≡ flat.unless_written (eqb k core) (addr_of request) (reserved_by m k p)
   reserved_written k h None = refl
   reserved_written k h (Some q) =
-      elim (cases_eq (bank_of_line (length m.marks) (line_at q.addr)) (shard_number m request)) as (λ _. kept_if (flat.is_reservation (mark_at (marked_after m core request) k q.addr) q.addr q.width) (bytes_of q) ≡ flat.unless_written (eqb k core) (addr_of request) (kept_if (flat.is_reservation (mark_at m k q.addr) q.addr q.width) (bytes_of q))) [
+      elim (cases_eq (bank_of_line (length m.marks) (line_at q.addr)) (bank_of (length m.marks) request)) as (λ _. kept_if (flat.is_reservation (mark_at (marked_after m core request) k q.addr) q.addr q.width) (bytes_of q) ≡ flat.unless_written (eqb k core) (addr_of request) (kept_if (flat.is_reservation (mark_at m k q.addr) q.addr q.width) (bytes_of q))) [
         | inl e ↦ rw (mark_here k q.addr e, h, mark_before k q.addr e) (mark_written (eqb k core) (addr_of request) (get_or (marks_for m request) k None) (bytes_of q))
         | inr e ↦ rw (mark_there k q.addr e) (sym (apart_stays (eqb k core) (addr_of request) (bytes_of q) (flat.is_reservation (mark_at m k q.addr) q.addr q.width) (λ l. e (ap (λ (x : ℕ). x % length m.marks) l))))
       ]

@@ -1,5 +1,5 @@
 -- Where a line lies. Lines are dealt to the banks in turn, and each bank has a shard; in each shard they are dealt to
--- its sets in turn. So the shard of a line is its number modulo the shards, and with as many sets in each shard the set
+-- its sets in turn. So the bank of a line is its number modulo the banks, and with as many sets in each shard the set
 -- of a line among all sets is its number modulo these.
 use Rattle.std.specs.Prelude.{ℕ, ◌/◌, ◌%◌, List, [], length, slice_index_or, slice_set}
 

@@ -48,13 +48,9 @@ pub record MarkedMemory : Type 0 where
   -- by shard, its marks
   pub marks : List (List (Option Reservation))
 
--- the number of the shard of an access
-abbrev pub shard_number : MarkedMemory → Request → ℕ
-shard_number memory request = bank_of (length memory.marks) request
-
--- the marks of its shard
+-- the marks of the shard of an access
 abbrev pub marks_for : MarkedMemory → Request → List (Option Reservation)
-marks_for memory request = slice_index_or memory.marks (shard_number memory request) []
+marks_for memory request = slice_index_or memory.marks (bank_of (length memory.marks) request) []
 
 -- what an access of a core is answered
 abbrev pub marked_reply : MarkedMemory → (core : ℕ) → Request → ℕ
@@ -65,5 +61,5 @@ marked_reply memory core request =
 abbrev pub marked_after : MarkedMemory → (core : ℕ) → Request → MarkedMemory
 marked_after memory core request = record memory {
   bytes = bytes_after memory.bytes (addr_of request - memory.base) (marks_for memory request) core request;
-  marks = slice_set memory.marks (shard_number memory request) (marks_after (marks_for memory request) core request);
+  marks = slice_set memory.marks (bank_of (length memory.marks) request) (marks_after (marks_for memory request) core request);
 }

@@ -46,8 +46,8 @@ impl ShardTable {
         shard::laws::cores_stay();
         shard::laws::still_serves();
         let bench = &self.words.shared;
-        let shard = self.shard(request);
-        let found = take(bench, &mut seat.place, shard, seat.core);
+        let bank = self.bank(request);
+        let found = take(bench, &mut seat.place, bank, seat.core);
         if found != 0 {
             return Err(Held {
                 holder: (found - 1) as u16,
@@ -56,13 +56,13 @@ impl ShardTable {
         let entry = serve(
             bench,
             &mut seat.place,
-            shard,
+            bank,
             seat.core,
             start,
             seat.last,
             request,
         );
-        give::<Brand>(bench, &mut seat.place, shard, entry);
+        give::<Brand>(bench, &mut seat.place, bank, entry);
         seat.log.push(entry);
         seat.last = entry.stamp;
         Ok(entry)
@@ -94,7 +94,7 @@ impl ShardTable {
 
     /// Lets a while pass: until nobody holds the shard of the request, or else until others ran.
     fn pause(&self, request: Request) {
-        let word = APART * self.shard(request);
+        let word = APART * self.bank(request);
         for _ in 0..LOOKS {
             if self.words.shared.peek(word) == 0 {
                 return;
@@ -105,53 +105,54 @@ impl ShardTable {
     }
 }
 
-/// Takes a shard, and answers 0. Where another core holds it, answers that core's number plus 1.
-fn take(bench: &Bench, place: &mut TableSeat, shard: usize, core: u16) -> u64
+/// Takes the shard of a bank, and answers 0. Where another core holds it, answers that core's
+/// number plus 1.
+fn take(bench: &Bench, place: &mut TableSeat, bank: usize, core: u16) -> u64
     requires table { place.old.table_id ≡ bench.now.table_id }
-    requires word { (16 * shard < bench.now.table_id.words) × (16 * shard < 2 ^ 32) }
-    requires shard { shard < length bench.now.key.shards.value.items }
+    requires word { (16 * bank < bench.now.table_id.words) × (16 * bank < 2 ^ 32) }
+    requires shard { bank < length bench.now.key.shards.value.items }
     requires slots { place.old.me.1 ≡ [] }
     requires hold { place.old.me.0.hold ≡ None }
     requires part { (part : CoreAccesses) × (place.old.me.0.parts ≡ part ∷ []) × (part.core ≡ core) }
     ensures table { (place.new.table_id ≡ place.old.table_id) × (place.new.id ≡ place.old.id) }
-    ensures taken { taken_at shard (core + 1) place.old.me result place.new.me }
+    ensures taken { taken_at bank (core + 1) place.old.me result place.new.me }
 {
     shard::laws::last_is_stamp();
-    bench.compare_exchange::<Take>(place, APART * shard, 0, core as u64 + 1)
+    bench.compare_exchange::<Take>(place, APART * bank, 0, core as u64 + 1)
 }
 
 /// Serves an access by the shard that the seat has in hand.
 fn serve(
     bench: &Bench,
     place: &mut TableSeat,
-    shard: usize,
+    bank: usize,
     core: u16,
     start: Cycle,
     last: Stamp,
     request: Request,
 ) -> Entry
     requires table { place.old.table_id ≡ bench.now.table_id }
-    requires hand { (x : ShardState) × (place.old.me.1 ≡ (shard, x) ∷ []) × KnowsCore x core × CanServe x request × (x.last < 2 ^ 62 - 1) }
+    requires hand { (x : ShardState) × (place.old.me.1 ≡ (bank, x) ∷ []) × KnowsCore x core × CanServe x request × (x.last < 2 ^ 62 - 1) }
     requires stamp { last < 2 ^ 62 - 1 }
     ensures table { (place.new.table_id ≡ place.old.table_id) × (place.new.id ≡ place.old.id) }
-    ensures served { (x : ShardState) → place.old.me.1 ≡ (shard, x) ∷ []
-        → IsServedBy x core start last request result × (place.new.me ≡ (place.old.me.0, (shard, shard_after x result) ∷ [])) }
+    ensures served { (x : ShardState) → place.old.me.1 ≡ (bank, x) ∷ []
+        → IsServedBy x core start last request result × (place.new.me ≡ (place.old.me.0, (bank, shard_after x result) ∷ [])) }
 {
     place
-        .slot_mut(bench, shard)
+        .slot_mut(bench, bank)
         .serve(core, start, last, request)
 }
 
 /// Gives a shard back, after an access.
-fn give<E: Ends>(bench: &Bench, place: &mut TableSeat, shard: usize, entry: Entry)
+fn give<E: Ends>(bench: &Bench, place: &mut TableSeat, bank: usize, entry: Entry)
     requires named { entry ≡ E.entry }
     requires table { place.old.table_id ≡ bench.now.table_id }
-    requires word { (16 * shard < bench.now.table_id.words) × (16 * shard < 2 ^ 32) }
-    requires ends { (part : CoreAccesses) × (served : ShardAccesses) × (x : ShardState) × (place.old.me.0.parts ≡ part ∷ []) × (place.old.me.0.hold ≡ Some served) × (served.shard ≡ shard)
-        × (place.old.me.1 ≡ (shard, x) ∷ []) × IsEntryOf place.old.me.0 shard part served entry x }
+    requires word { (16 * bank < bench.now.table_id.words) × (16 * bank < 2 ^ 32) }
+    requires ends { (part : CoreAccesses) × (served : ShardAccesses) × (x : ShardState) × (place.old.me.0.parts ≡ part ∷ []) × (place.old.me.0.hold ≡ Some served) × (served.shard ≡ bank)
+        × (place.old.me.1 ≡ (bank, x) ∷ []) × IsEntryOf place.old.me.0 bank part served entry x }
     ensures table { (place.new.table_id ≡ place.old.table_id) × (place.new.id ≡ place.old.id) }
-    ensures gave { gave_at entry shard place.old.me place.new.me }
+    ensures gave { gave_at entry bank place.old.me place.new.me }
 {
     access_log::laws::one_more_is_stamped();
-    bench.store::<Give<E>>(place, APART * shard, 0);
+    bench.store::<Give<E>>(place, APART * bank, 0);
 }

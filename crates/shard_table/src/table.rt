@@ -149,9 +149,9 @@ impl ShardTable {
         (taken_out(words.close_with(place), shards), logs)
     }
 
-    /// The number of the shard that has the line of a request: lines go round the shards.
-    pub(crate) fn shard(&self, request: Request) -> usize
-        ensures number { result ≡ bank_of (length self.now.shards) request }
+    /// The bank of a request, which is the number of the shard that has its line.
+    pub(crate) fn bank(&self, request: Request) -> usize
+        ensures bank { result ≡ bank_of (length self.now.shards) request }
         ensures within { result < length self.now.shards }
     {
         remainder(request.line(), self.count) as usize
