@@ -80,7 +80,7 @@ static FULL: [(Act, Option<Marked>); 9] = [
 ];
 
 #[test]
-fn the_least_recently_used_line_leaves_a_full_set(rt: HostRuntime) -> Result<(), Fail> {
+fn the_least_recently_used_line_is_evicted_from_a_full_set(rt: HostRuntime) -> Result<(), Fail> {
     answers(&rt, &FULL)
 }
 

@@ -283,7 +283,7 @@ fn two_lines_of_a_set_of_one_way_take_turns(rt: HostRuntime) -> Result<(), Fail>
 }
 
 #[test]
-fn a_modified_line_that_leaves_is_written_back(rt: HostRuntime) -> Result<(), Fail> {
+fn a_modified_line_that_is_evicted_is_written_back(rt: HostRuntime) -> Result<(), Fail> {
     plays(&rt, rt.alloc(), &MODIFIED, &[], &[])
 }
 

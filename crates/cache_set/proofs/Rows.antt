@@ -7,7 +7,7 @@ use Rattle.std.proofs.lemmas.Grind.{get_or_default_zero}
 use Rattle.std.proofs.lemmas.List.{length-take, length-set}
 use Rattle.std.proofs.lemmas.List.Edits.{length-remove}
 use Rattle.std.proofs.lemmas.List.Quantifiers.{position-Some}
-use Rattle.cache_set.specs.Ways.{kept_of, without, used, filled, changed, last_of_full}
+use Rattle.cache_set.specs.Ways.{kept_of, without, used, filled, changed, victim_of}
 use Rattle.cache_set.specs.WaySets.{IsWaySet}
 use Rattle.cache_set.specs.Rows.{AreRows}
 use Rattle.cache_set.proofs.Places.{first-position, lookup_at, remove_at, set_at, absent, slice_get-zip, slice_get-zip_past, take-zip, length_zip}
@@ -85,12 +85,12 @@ module _ {ways : ℕ} {tags marks : List ℕ} {tag_room mark_room : ℕ} (rows :
   pub length_rows : length (zip tags marks) ≡ length tags
   length_rows = length_zip tags marks rows.together
 
-  pub last_some : (line mark : ℕ) → length tags ≡ ways → line ≡ get_or tags (ways - 1) line → mark ≡ get_or marks (ways - 1) mark → last_of_full ways (zip tags marks) ≡ Some (line, mark)
+  pub last_some : (line mark : ℕ) → length tags ≡ ways → line ≡ get_or tags (ways - 1) line → mark ≡ get_or marks (ways - 1) mark → victim_of ways (zip tags marks) ≡ Some (line, mark)
   last_some line mark full l m =
       let within : ways - 1 < length tags = omega (arith, rows.is_set.ways) in
       slice_get-zip tags marks (ways - 1) rows.together within line mark l m
 
-  pub last_none : length tags ≢ ways → last_of_full ways (zip tags marks) ≡ None
+  pub last_none : length tags ≢ ways → victim_of ways (zip tags marks) ≡ None
   last_none apart = slice_get-zip_past tags marks (ways - 1) (omega (arith, rows.is_set.within, length_rows))
 
 pub rows_empty : (ways r s : ℕ) → 1 ≤ ways → ways ≤ 32 → ways ≤ r → ways ≤ s → AreRows ways [] [] r s

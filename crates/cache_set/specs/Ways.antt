@@ -16,7 +16,7 @@ module _ {X : Type 0} where
   abbrev pub used : (line : ℕ) → List (ℕ × X) → List (ℕ × X)
   used line list = option_map_or (λ kept. (line, kept) ∷ without line list) (kept_of line list) list
 
-  -- a line that is not there comes to the front, and the last one of a full set leaves
+  -- a line that is not there comes to the front, and the last one of a full set is evicted
   abbrev pub filled : (ways line : ℕ) → X → List (ℕ × X) → List (ℕ × X)
   filled ways line kept list = take ways ((line, kept) ∷ list)
 
@@ -24,6 +24,6 @@ module _ {X : Type 0} where
   abbrev pub changed : (line : ℕ) → X → List (ℕ × X) → List (ℕ × X)
   changed line kept list = set_value (nat_eq line) list kept
 
-  -- the line in the last place, which is taken where the set is full
-  abbrev pub last_of_full : (ways : ℕ) → List (ℕ × X) → Option (ℕ × X)
-  last_of_full ways list = slice_get list (ways - 1)
+  -- the victim, which is evicted when the next line comes: the line in the last place, where the set is full
+  abbrev pub victim_of : (ways : ℕ) → List (ℕ × X) → Option (ℕ × X)
+  victim_of ways list = slice_get list (ways - 1)

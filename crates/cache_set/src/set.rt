@@ -1,7 +1,7 @@
 //! One set: its tags in one list, the most recently used first, and their marks beside it.
 ghost use Rattle.std.specs.Prelude.{◌≡◌, ◌+◌, ◌<◌, ◌≤◌, ◌↔◌, [], ◌∷◌, length, nat_eq, vec_len, vec_capacity, slice_index_or, option_map, IfOk, IfSome, IsSome, IsNone};
 ghost use Rattle.std.specs.List.{position, remove};
-ghost use Rattle.cache_set.specs.Ways.{kept_of, without, used, filled, changed, last_of_full};
+ghost use Rattle.cache_set.specs.Ways.{kept_of, without, used, filled, changed, victim_of};
 ghost use Rattle.cache_set.specs.WaySets.{IsWaySet, way_of};
 
 use std::alloc::Global;
@@ -72,11 +72,11 @@ impl Set {
         }
     }
 
-    /// Puts a line that is not there at the front. Of a full set the last line leaves, which is
+    /// Puts a line that is not there at the front. Of a full set the last line is evicted, and is
     /// the answer.
     pub fn put(&mut self, line: u64, mark: u8) -> Option<Way>
         requires { IsNone (kept_of line self.old.list) }
-        ensures victim { result ≡ option_map way_of (last_of_full self.old.ways self.old.list) }
+        ensures victim { result ≡ option_map way_of (victim_of self.old.ways self.old.list) }
         ensures after { self.new ≡ record self.old { list = filled self.old.ways line mark self.old.list } }
     {
         let victim = self.last_if_full();
@@ -107,9 +107,9 @@ impl Set {
         }
     }
 
-    /// The line that leaves when the next one comes: the last one, where the set is full.
+    /// The victim, which is evicted when the next line comes: the last line, where the set is full.
     pub fn last_if_full(&self) -> Option<Way>
-        ensures way { result ≡ option_map way_of (last_of_full self.now.ways self.now.list) }
+        ensures way { result ≡ option_map way_of (victim_of self.now.ways self.now.list) }
         ensures full { IsSome result ↔ (length self.now.list ≡ self.now.ways) }
     {
         let last = self.ways - 1;

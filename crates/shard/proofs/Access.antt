@@ -8,8 +8,8 @@ use Rattle.zs_num.specs.declared.entry.Outcome.TheVariants.{L2}
 use Rattle.cache_set.specs.declared.letter.Letter.{Letter}
 use Rattle.cache_set.specs.declared.letter.Letter.TheVariants.{M, E, S, I}
 use Rattle.cache_set.specs.Ways.{kept_of, without, used, changed}
-use Rattle.shard.specs.CacheSteps.{ChangesOne, DropsAll, DropsOthers, LeavesFree, MakesL2Room, MakesRoom, after_at, copies_at}
-use Rattle.shard.specs.Coherence.{Caches, dirty_at, in_own_set_of, is_alone, is_valid, is_modified, l2_victim, letter_at, looked_up, marked_dirty, on_others, other_after, others_changed, own_after, own_victim, recalled, room_made, some_other, taken_in, taken_into_l2, written_back}
+use Rattle.shard.specs.CacheSteps.{ChangesOne, DropsAll, DropsOthers, LeavesFree, EvictsCopies, EvictsOwn, after_at, copies_at}
+use Rattle.shard.specs.Coherence.{Caches, dirty_at, in_own_set_of, is_alone, is_valid, is_modified, l2_victim, letter_at, looked_up, marked_dirty, on_others, other_after, others_changed, own_after, own_victim, recalled, copies_evicted, some_other, filled_into_l1, filled_into_l2, written_back}
 use Rattle.shard.specs.Lines.{in_set_of, set_number, set_of}
 use Rattle.shard.proofs.Entries.{still_there, used_kept}
 use Rattle.shard.proofs.Others.{fills, has_left}
@@ -24,8 +24,8 @@ pub letters_looked : (v : ℕ) (c : Caches) (core line : ℕ) → letter_at (loo
 unfolding letter_at looked_up
 letters_looked v c core line = refl
 
-pub letters_fetched : (v : ℕ) (c : Caches) (core line : ℕ) → letter_at (taken_into_l2 v c) core line ≡ letter_at c core line
-unfolding letter_at taken_into_l2
+pub letters_fetched : (v : ℕ) (c : Caches) (core line : ℕ) → letter_at (filled_into_l2 v c) core line ≡ letter_at c core line
+unfolding letter_at filled_into_l2
 letters_fetched v c core line = refl
 
 pub cores_marked : (v : ℕ) (c : Caches) → length (marked_dirty v c).l1 ≡ length c.l1
@@ -36,8 +36,8 @@ pub cores_looked : (v : ℕ) (c : Caches) → length (looked_up v c).l1 ≡ leng
 unfolding looked_up
 cores_looked v c = refl
 
-pub cores_fetched : (v : ℕ) (c : Caches) → length (taken_into_l2 v c).l1 ≡ length c.l1
-unfolding taken_into_l2
+pub cores_fetched : (v : ℕ) (c : Caches) → length (filled_into_l2 v c).l1 ≡ length c.l1
+unfolding filled_into_l2
 cores_fetched v c = refl
 
 pub cores_others : (change : Letter → Letter) (core line : ℕ) (c : Caches) → length (others_changed change core line c).l1 ≡ length c.l1
@@ -82,8 +82,8 @@ looked_in_l2 line c there =
     (in_l2_as c.l2 (set_number c.shards line c.l2) (set_number c.shards line c.l2) line (used line) (λ e k. used_kept line (set_of c.shards line c.l2) k) there)
 
 -- ---- room in a core's L1
-pub room_there : (c : Caches) (core line : ℕ) → own_victim c core line ≡ None → letter_at c core line ≡ I → MakesRoom c c core line
-unfolding taken_in
+pub room_there : (c : Caches) (core line : ℕ) → own_victim c core line ≡ None → letter_at c core line ≡ I → EvictsOwn c c core line
+unfolding filled_into_l1
 room_there c core line none absent = record {
   room = none;
   cores = refl;
@@ -110,8 +110,8 @@ module _ (c : Caches) (core line : ℕ) (victim : ℕ × Letter) (known : core <
     (last : without victim.0 (copies_at c core line) ≡ take (c.l1_ways - 1) (copies_at c core line)) (none : letter_at c core line ≡ I) where
   room_with : (lists : List (List (ℕ × Bool))) → written_back (Some victim) c ≡ with_l2 lists c → (IsSome (dirty_at c line) → IsSome (dirty_at (with_l2 lists c) line))
       → ChangesOne (with_l2 lists c) (in_own_set_of core victim.0 (without victim.0) (with_l2 lists c)) core victim.0 I
-      → MakesRoom c (in_own_set_of core victim.0 (without victim.0) (with_l2 lists c)) core line
-  unfolding taken_in
+      → EvictsOwn c (in_own_set_of core victim.0 (without victim.0) (with_l2 lists c)) core line
+  unfolding filled_into_l1
   room_with lists back stays letters = record {
     room = has_left (with_l2 lists c) core line victim known is placed last;
     cores = length-set c.l1 core (in_set_of c.shards victim.0 (without victim.0) (get_or c.l1 core []));
@@ -124,22 +124,22 @@ module _ (c : Caches) (core line : ℕ) (victim : ℕ × Letter) (known : core <
     own_stays true l e = refl
     own_stays false l e = e
 
-  pub room_made_by : (b new : Caches) → b ≡ written_back (Some victim) c → new ≡ in_own_set_of core victim.0 (without victim.0) b → ChangesOne b new core victim.0 I → MakesRoom c new core line
+  pub room_made_by : (b new : Caches) → b ≡ written_back (Some victim) c → new ≡ in_own_set_of core victim.0 (without victim.0) b → ChangesOne b new core victim.0 I → EvictsOwn c new core line
   unfolding marked_dirty
   room_made_by b new back after letters =
-      elim (cases_Bool (is_modified victim.1)) as (λ _. MakesRoom c new core line) [
+      elim (cases_Bool (is_modified victim.1)) as (λ _. EvictsOwn c new core line) [
         | inl t ↦
             let lists : List (List (ℕ × Bool)) = in_set_of c.shards victim.0 (changed victim.0 true) c.l2 in
             let back_is : written_back (Some victim) c ≡ with_l2 lists c = rw t refl in
             let dropped : ChangesOne (with_l2 lists c) (in_own_set_of core victim.0 (without victim.0) (with_l2 lists c)) core victim.0 I
             = subst (λ (x : Caches). ChangesOne x (in_own_set_of core victim.0 (without victim.0) x) core victim.0 I) (back ∙ back_is) (subst (λ (x : Caches). ChangesOne b x core victim.0 I) after letters) in
-            subst (λ (x : Caches). MakesRoom c x core line) (sym (after ∙ ap (in_own_set_of core victim.0 (without victim.0)) (back ∙ back_is)))
+            subst (λ (x : Caches). EvictsOwn c x core line) (sym (after ∙ ap (in_own_set_of core victim.0 (without victim.0)) (back ∙ back_is)))
             (room_with lists back_is (marked_in_l2 victim.0 line c) dropped)
         | inr f ↦
             let back_is : written_back (Some victim) c ≡ with_l2 c.l2 c = rw f refl in
             let dropped : ChangesOne (with_l2 c.l2 c) (in_own_set_of core victim.0 (without victim.0) (with_l2 c.l2 c)) core victim.0 I
             = subst (λ (x : Caches). ChangesOne x (in_own_set_of core victim.0 (without victim.0) x) core victim.0 I) (back ∙ back_is) (subst (λ (x : Caches). ChangesOne b x core victim.0 I) after letters) in
-            subst (λ (x : Caches). MakesRoom c x core line) (sym (after ∙ ap (in_own_set_of core victim.0 (without victim.0)) (back ∙ back_is)))
+            subst (λ (x : Caches). EvictsOwn c x core line) (sym (after ∙ ap (in_own_set_of core victim.0 (without victim.0)) (back ∙ back_is)))
             (room_with c.l2 back_is (λ h. h) dropped)
       ]
 
@@ -219,7 +219,7 @@ victim_recalled : (v : ℕ) (c : Caches) (q : ℕ) → l2_victim (recalled v c) 
 unfolding recalled
 victim_recalled v c q = refl
 
-pub l2_room : (c new : Caches) (line : ℕ) (victim : ℕ × Bool) → l2_victim c line ≡ Some victim → new ≡ recalled victim.0 c → DropsAll c new victim.0 → MakesL2Room c new line
+pub l2_room : (c new : Caches) (line : ℕ) (victim : ℕ × Bool) → l2_victim c line ≡ Some victim → new ≡ recalled victim.0 c → DropsAll c new victim.0 → EvictsCopies c new line
 l2_room c new line victim is after drops = record {
   cores = longer;
   l2 = ap (λ (x : Caches). dirty_at x line) after ∙ dirty_recalled victim.0 c line;
@@ -243,11 +243,11 @@ l2_room c new line victim is after drops = record {
 
 -- ---- the cases of the table in which the core has no copy
 pub after_l2 : (c : Caches) (core line : ℕ) (write : Bool) → letter_at c core line ≡ I → IsSome (dirty_at c line)
-    → taken_in core line (own_after write I (some_other is_valid c core line)) (on_others (L2 false) write core line (looked_up line c)) ≡ after_at c core line write
+    → filled_into_l1 core line (own_after write I (some_other is_valid c core line)) (on_others (L2 false) write core line (looked_up line c)) ≡ after_at c core line write
 after_l2 c core line true is there = rw (is, there) refl
 after_l2 c core line false is there = rw (is, there) refl
 
 pub after_miss : (c : Caches) (core line : ℕ) (write : Bool) → letter_at c core line ≡ I → dirty_at c line ≡ None
-    → taken_in core line (own_after write I (some_other is_valid c core line)) (taken_into_l2 line (room_made (l2_victim c line) c)) ≡ after_at c core line write
+    → filled_into_l1 core line (own_after write I (some_other is_valid c core line)) (filled_into_l2 line (copies_evicted (l2_victim c line) c)) ≡ after_at c core line write
 after_miss c core line true is none = rw (is, none) refl
 after_miss c core line false is none = rw (is, none) refl

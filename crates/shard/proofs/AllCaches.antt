@@ -7,11 +7,11 @@ use Rattle.std.proofs.Math.Seq.{map-set_same}
 use Rattle.std.proofs.lemmas.List.Elements.{All-set, All-replicate}
 use Rattle.cache_set.specs.declared.letter.Letter.{Letter}
 use Rattle.cache_set.specs.declared.letter.Letter.TheVariants.{M, E, S, I}
-use Rattle.cache_set.specs.Ways.{kept_of, used, changed, filled, last_of_full}
+use Rattle.cache_set.specs.Ways.{kept_of, used, changed, filled, victim_of}
 use Rattle.mesi_dir.specs.LineMap.{LineMap, Sharing, HasOther, KeepsOthers, is_among, is_sharer, nobody, owner_of, sharing_of}
 use Rattle.shard.specs.CacheLayout.{AreLists, ChangesLetter, CoreLines, HasCopies, IsCore, IsShared, SharedLines, Tells, TellsLetter, copies_of, is_owner, lists_view, no_lines, own_letter, shared_of, sharing_at, sharing_without}
 use Rattle.shard.specs.CacheSteps.{ChangesOne, HaveCopies}
-use Rattle.shard.specs.Coherence.{Caches, is_alone, is_valid, letter_at, dirty_at, empty_caches, taken_into_l2, in_own_set_of, l2_victim, looked_up, marked_dirty, own_after, own_victim, some_other}
+use Rattle.shard.specs.Coherence.{Caches, is_alone, is_valid, letter_at, dirty_at, empty_caches, filled_into_l2, in_own_set_of, l2_victim, looked_up, marked_dirty, own_after, own_victim, some_other}
 use Rattle.shard.specs.Lines.{in_set_of, set_number, set_of}
 use Rattle.shard.proofs.SomeCores.{some_other_false, some_other_true}
 
@@ -317,21 +317,21 @@ module _ (shards l1_ways l2_ways : ℕ) (l1 : List CoreLines) (l2 : List SharedL
   list_step list = step_shared shards l1_ways l2_ways l1 l2 are line i s (record s { list = list }) at_place is refl refl
 
   -- the line that makes room
-  pub victim_is : l2_victim before line ≡ last_of_full s.ways s.list
+  pub victim_is : l2_victim before line ≡ victim_of s.ways s.list
   victim_is = rw (list_is, set_is.same_ways) refl
 
-  module _ (m : LineMap) (cores : m.cores ≡ s.map.cores) (sharing : (q : ℕ) → sharing_of m q ≡ sharing_without (last_of_full s.ways s.list) q (sharing_of s.map q))
+  module _ (m : LineMap) (cores : m.cores ≡ s.map.cores) (sharing : (q : ℕ) → sharing_of m q ≡ sharing_without (victim_of s.ways s.list) q (sharing_of s.map q))
       (gone : (victim : ℕ × Bool) → l2_victim before line ≡ Some victim → (core : ℕ) → letter_at before core victim.0 ≡ I) where
     abbrev come_set : SharedLines
     come_set = record { ways = s.ways; list = filled s.ways line false s.list; map = m }
 
-    pub come_view : lists_view shards l1_ways l2_ways l1 (set l2 i come_set) ≡ taken_into_l2 line before
-    unfolding taken_into_l2
+    pub come_view : lists_view shards l1_ways l2_ways l1 (set l2 i come_set) ≡ filled_into_l2 line before
+    unfolding filled_into_l2
     come_view = ap with_lists (lists_after come_set (filled l2_ways line false) (ap (λ (n : ℕ). filled n line false s.list) set_is.same_ways))
 
     told : (test : Letter → Bool) (of_sharing : Sharing → ℕ → Bool) → test I ≡ false → ((core : ℕ) → of_sharing nobody core ≡ false)
         → ((core q : ℕ) → of_sharing (sharing_at shards l2 q) core ≡ test (letter_at before core q))
-        → (victim : Option (ℕ × Bool)) → last_of_full s.ways s.list ≡ victim → (core q : ℕ) → (b : Bool)
+        → (victim : Option (ℕ × Bool)) → victim_of s.ways s.list ≡ victim → (core q : ℕ) → (b : Bool)
         → of_sharing (cond b (sharing_without victim q (sharing_at shards l2 q)) (sharing_at shards l2 q)) core ≡ test (letter_at before core q)
     told test of_sharing none nobody_none was victim e core q false = was core q
     told test of_sharing none nobody_none was None e core q true = was core q
@@ -350,11 +350,11 @@ module _ (shards l1_ways l2_ways : ℕ) (l1 : List CoreLines) (l2 : List SharedL
       each_set = All-set (IsShared l2_ways (length l1)) l2 i come_set (record { same_ways = set_is.same_ways; same_cores = cores ∙ set_is.same_cores }) are.each_set;
       tells = record {
         holds = λ core q.
-            rw (sharing_set shards l2 line i s come_set at_place below_sets is (sharing_without (last_of_full s.ways s.list)) sharing q, letter_same shards l1_ways l2_ways l1 l2 (set l2 i come_set) core q)
-            (told is_valid is_among refl (λ c. refl) are.tells.holds (last_of_full s.ways s.list) refl core q (nat_eq (q / shards % length l2) i));
+            rw (sharing_set shards l2 line i s come_set at_place below_sets is (sharing_without (victim_of s.ways s.list)) sharing q, letter_same shards l1_ways l2_ways l1 l2 (set l2 i come_set) core q)
+            (told is_valid is_among refl (λ c. refl) are.tells.holds (victim_of s.ways s.list) refl core q (nat_eq (q / shards % length l2) i));
         owns = λ core q.
-            rw (sharing_set shards l2 line i s come_set at_place below_sets is (sharing_without (last_of_full s.ways s.list)) sharing q, letter_same shards l1_ways l2_ways l1 l2 (set l2 i come_set) core q)
-            (told is_alone (λ x c. is_owner x.owner c) refl (λ c. refl) are.tells.owns (last_of_full s.ways s.list) refl core q (nat_eq (q / shards % length l2) i));
+            rw (sharing_set shards l2 line i s come_set at_place below_sets is (sharing_without (victim_of s.ways s.list)) sharing q, letter_same shards l1_ways l2_ways l1 l2 (set l2 i come_set) core q)
+            (told is_alone (λ x c. is_owner x.owner c) refl (λ c. refl) are.tells.owns (victim_of s.ways s.list) refl core q (nat_eq (q / shards % length l2) i));
       };
     }
 
@@ -371,7 +371,7 @@ module _ (shards l1_ways l2_ways : ℕ) (l1 : List CoreLines) (l2 : List SharedL
   letter_is line = letter_at_core shards l1_ways l2_ways l1 l2 core line old is below_cores core_is.same_shards
 
   -- the line that makes room for another
-  pub own_victim_is : (line : ℕ) → own_victim (lists_view shards l1_ways l2_ways l1 l2) core line ≡ last_of_full old.ways (copies_of old line)
+  pub own_victim_is : (line : ℕ) → own_victim (lists_view shards l1_ways l2_ways l1 l2) core line ≡ victim_of old.ways (copies_of old line)
   own_victim_is line = rw (core_sets shards l1_ways l2_ways l1 l2 core old is below_cores, core_is.same_ways, core_is.same_shards) refl
 
   module _ (new : CoreLines) (line : ℕ) (change : List (ℕ × Letter) → List (ℕ × Letter)) (after : new ≡ record old { sets = in_set_of old.shards line change old.sets }) where

@@ -6,10 +6,10 @@ use Rattle.zs_num.specs.declared.entry.Outcome.TheVariants.{L2, Miss}
 use Rattle.zs_num.specs.declared.request.Request.{Request}
 use Rattle.cache_set.specs.declared.letter.Letter.{Letter}
 use Rattle.cache_set.specs.declared.letter.Letter.TheVariants.{M, E, S, I}
-use Rattle.shard.specs.Coherence.{Caches, caches_after, dirty_at, is_alone, is_dirty_victim, is_valid, is_write, l2_victim, letter_at, on_l2, on_others, on_own, outcome_by, outcome_of, own_after, recalled, room_made, some_other, taken_into_l2}
+use Rattle.shard.specs.Coherence.{Caches, caches_after, dirty_at, is_alone, is_dirty_victim, is_valid, is_write, l2_victim, letter_at, on_l2, on_others, on_own, outcome_by, outcome_of, own_after, recalled, copies_evicted, some_other, filled_into_l2}
 use Rattle.shard.specs.Laws.{CoherentStays}
 use Rattle.shard.specs.StandsFor.{AreCoherent, HaveRoomForLines, HaveSets}
-use Rattle.shard.proofs.CoherentDirty.{dirty_fetched_line, dirty_fetched_room, dirty_fetched_same, dirty_room_made}
+use Rattle.shard.proofs.CoherentDirty.{dirty_fetched_line, dirty_fetched_room, dirty_fetched_same, dirty_copies_evicted}
 use Rattle.shard.proofs.CoherentLetters.{letter_fetched, letter_recalled_other, letter_recalled_same}
 use Rattle.shard.proofs.CoherentPlaced.{Keeps, access_keeps, l2_step, room_keeps}
 use Rattle.shard.proofs.CoherentSets.{fit_of_sets, placed_of_sets, sets_of_fit}
@@ -28,43 +28,43 @@ none_from : (o : Option Bool) → is_some o ≡ false → o ≡ None
 none_from None h = refl
 none_from (Some b) h = absurd cc
 
-made_letter : (victim : Option (ℕ × Bool)) (c : Caches) → HaveSets c → (a l : ℕ) → (letter_at (room_made victim c) a l ≡ letter_at c a l) ⊎ (letter_at (room_made victim c) a l ≡ I)
+made_letter : (victim : Option (ℕ × Bool)) (c : Caches) → HaveSets c → (a l : ℕ) → (letter_at (copies_evicted victim c) a l ≡ letter_at c a l) ⊎ (letter_at (copies_evicted victim c) a l ≡ I)
 made_letter None c h a l = inl refl
 made_letter (Some w) c h a l =
     elim (cases_eq l w.0) as (λ _. (letter_at (recalled w.0 c) a l ≡ letter_at c a l) ⊎ (letter_at (recalled w.0 c) a l ≡ I))
     [ inl e ↦ inr (rw e (letter_recalled_same w.0 c a h)) | inr e ↦ inl (letter_recalled_other w.0 c a l e) ]
 
-made_victim : (victim : Option (ℕ × Bool)) (c : Caches) (line : ℕ) → l2_victim (room_made victim c) line ≡ l2_victim c line
+made_victim : (victim : Option (ℕ × Bool)) (c : Caches) (line : ℕ) → l2_victim (copies_evicted victim c) line ≡ l2_victim c line
 unfolding recalled
 made_victim None c line = refl
 made_victim (Some w) c line = refl
 
 module _ (c : Caches) (core line : ℕ) (h : AreCoherent c) (known : core < length c.l1) (room : HaveRoomForLines c) where
   -- a line that a core still has stays in the L2
-  fetched_lines : (victim : Option (ℕ × Bool)) → l2_victim c line ≡ victim → HaveSets (room_made victim c) → HaveRoomForLines (room_made victim c) → (a l : ℕ) → l ≢ line → is_valid (letter_at (taken_into_l2 line (room_made victim c)) a l) ≡ true → is_some (dirty_at (taken_into_l2 line (room_made victim c)) l) ≡ true
+  fetched_lines : (victim : Option (ℕ × Bool)) → l2_victim c line ≡ victim → HaveSets (copies_evicted victim c) → HaveRoomForLines (copies_evicted victim c) → (a l : ℕ) → l ≢ line → is_valid (letter_at (filled_into_l2 line (copies_evicted victim c)) a l) ≡ true → is_some (dirty_at (filled_into_l2 line (copies_evicted victim c)) l) ≡ true
   fetched_lines None e sets some a l apart held =
       rw (dirty_fetched_room line c room.l2_ways l e apart) (h.inclusive a l (subst (λ (x : Letter). is_valid x ≡ true) (letter_fetched line c a l) held))
   fetched_lines (Some w) e sets some a l apart held =
       let made : Caches = recalled w.0 c in
       let still : is_valid (letter_at made a l) ≡ true = subst (λ (x : Letter). is_valid x ≡ true) (letter_fetched line made a l) held in
-      elim (cases_eq l w.0) as (λ _. is_some (dirty_at (taken_into_l2 line made) l) ≡ true) [
+      elim (cases_eq l w.0) as (λ _. is_some (dirty_at (filled_into_l2 line made) l) ≡ true) [
         | inl same ↦ absurd (lost (letter_at made a l) (subst (λ (x : ℕ). letter_at made a x ≡ I) (sym same) (letter_recalled_same w.0 c a h.sets)) still)
         | inr stays ↦
-            rw (dirty_fetched_line line made some.l2_ways l w sets (made_victim (Some w) c line ∙ e) apart stays, dirty_room_made (Some w) c l)
+            rw (dirty_fetched_line line made some.l2_ways l w sets (made_victim (Some w) c line ∙ e) apart stays, dirty_copies_evicted (Some w) c l)
             (h.inclusive a l (subst (λ (x : Letter). is_valid x ≡ true) (letter_recalled_other w.0 c a l stays) still))
       ]
 
-  missed : (letter : Letter) → is_some (dirty_at c line) ≡ false → IsReady c (taken_into_l2 line (room_made (l2_victim c line) c)) core line letter
+  missed : (letter : Letter) → is_some (dirty_at c line) ≡ false → IsReady c (filled_into_l2 line (copies_evicted (l2_victim c line) c)) core line letter
   missed letter out =
       let victim : Option (ℕ × Bool) = l2_victim c line in
-      let made : Caches = room_made victim c in
-      let d : Caches = taken_into_l2 line made in
+      let made : Caches = copies_evicted victim c in
+      let d : Caches = filled_into_l2 line made in
       let fit : Fits made = room_fits victim c (fit_of_sets c h.sets) in
       let keeps : Keeps c made = room_keeps victim c in
       let sets : HaveSets made = sets_of_fit made fit (keeps.placed (placed_of_sets c h.sets)) in
       let some : HaveRoomForLines made = room_after c made (room_same victim c) keeps room in
       let all : Keeps c d = l2_step (Miss false) line c in
-      let none : dirty_at made line ≡ None = dirty_room_made victim c line ∙ none_from (dirty_at c line) out in
+      let none : dirty_at made line ≡ None = dirty_copies_evicted victim c line ∙ none_from (dirty_at c line) out in
       let letters : (a l : ℕ) → (letter_at d a l ≡ letter_at c a l) ⊎ (letter_at d a l ≡ I)
       = λ a l. subst (λ (x : Letter). (x ≡ letter_at c a l) ⊎ (x ≡ I)) (sym (letter_fetched line made a l)) (made_letter victim c h.sets a l) in
       let gone : (a : ℕ) → letter_at d a line ≡ I
@@ -96,13 +96,13 @@ module _ (c : Caches) (core line : ℕ) (h : AreCoherent c) (known : core < leng
   row_settles S e false in_l2 alone dirty i = hit c core line h known room S (rw e refl) (λ k. absurd cc)
   row_settles I e true true alone dirty i =
       comes c (on_others (L2 (some_other is_valid c core line)) true core line (on_l2 (L2 (some_other is_valid c core line)) line c)) core line M (found c core line h known room true (some_other is_valid c core line) i)
-  row_settles I e true false alone dirty i = comes c (taken_into_l2 line (room_made (l2_victim c line) c)) core line M (missed M i)
+  row_settles I e true false alone dirty i = comes c (filled_into_l2 line (copies_evicted (l2_victim c line) c)) core line M (missed M i)
   row_settles I e false true alone dirty i =
       let has : Bool = some_other is_valid c core line in
       comes c (on_others (L2 alone) false core line (on_l2 (L2 alone) line c)) core line (own_after false I has) (found c core line h known room false alone i)
   row_settles I e false false alone dirty i =
       let has : Bool = some_other is_valid c core line in
-      comes c (taken_into_l2 line (room_made (l2_victim c line) c)) core line (own_after false I has) (missed (own_after false I has) i)
+      comes c (filled_into_l2 line (copies_evicted (l2_victim c line) c)) core line (own_after false I has) (missed (own_after false I has) i)
 
 access_settles : (c : Caches) (core : ℕ) (request : Request) → AreCoherent c → HaveRoomForLines c → core < length c.l1 → Settles c (caches_after c core request) core (line_of request)
 unfolding caches_after outcome_of

@@ -5,7 +5,7 @@ use Rattle.std.proofs.lemmas.Bool.{cases_eq}
 use Rattle.std.proofs.lemmas.List.{get_or-set_same, length-set}
 use Rattle.cache_set.specs.declared.letter.Letter.{Letter}
 use Rattle.cache_set.specs.Ways.{used, filled, changed}
-use Rattle.shard.specs.Coherence.{Caches, dirty_at, is_modified, kept_first, l2_victim, looked_up, marked_dirty, others_changed, own_victim, recalled, room_made, taken_in, taken_into_l2, written_back}
+use Rattle.shard.specs.Coherence.{Caches, dirty_at, is_modified, kept_first, l2_victim, looked_up, marked_dirty, others_changed, own_victim, recalled, copies_evicted, filled_into_l1, filled_into_l2, written_back}
 use Rattle.shard.specs.Lines.{set_of, set_number}
 use Rattle.shard.specs.StandsFor.{HaveSets, IsSet}
 use Rattle.shard.proofs.CoherentLetters.{at_victim, kept_here}
@@ -23,9 +23,9 @@ pub dirty_recalled : (line : ℕ) (c : Caches) (l : ℕ) → dirty_at (recalled 
 unfolding dirty_at recalled
 dirty_recalled line c l = refl
 
-pub dirty_room_made : (victim : Option (ℕ × Bool)) (c : Caches) (l : ℕ) → dirty_at (room_made victim c) l ≡ dirty_at c l
-dirty_room_made None c l = refl
-dirty_room_made (Some victim) c l = dirty_recalled victim.0 c l
+pub dirty_copies_evicted : (victim : Option (ℕ × Bool)) (c : Caches) (l : ℕ) → dirty_at (copies_evicted victim c) l ≡ dirty_at c l
+dirty_copies_evicted None c l = refl
+dirty_copies_evicted (Some victim) c l = dirty_recalled victim.0 c l
 
 pub dirty_others : (change : Letter → Letter) (core line : ℕ) (c : Caches) (l : ℕ) → dirty_at (others_changed change core line c) l ≡ dirty_at c l
 unfolding dirty_at others_changed
@@ -36,8 +36,8 @@ unfolding dirty_at kept_first
 dirty_first core line letter c l = refl
 
 -- a line that comes into an L1 is dirty in the L2 no more than before: only the one that leaves for it can be
-pub dirty_taken : (core line : ℕ) (letter : Letter) (c : Caches) (l : ℕ) → dirty_at (taken_in core line letter c) l ≡ dirty_at (written_back (own_victim c core line) c) l
-unfolding dirty_at taken_in
+pub dirty_taken : (core line : ℕ) (letter : Letter) (c : Caches) (l : ℕ) → dirty_at (filled_into_l1 core line letter c) l ≡ dirty_at (written_back (own_victim c core line) c) l
+unfolding dirty_at filled_into_l1
 dirty_taken core line letter c l = refl
 
 -- ---- a line that is dirty from now on
@@ -76,22 +76,22 @@ module _ (line : ℕ) (c : Caches) (room : 1 ≤ c.l2_ways) where
   abbrev here : List (ℕ × Bool)
   here = set_of c.shards line c.l2
 
-  pub dirty_fetched_same : 1 ≤ length c.l2 → dirty_at (taken_into_l2 line c) line ≡ Some false
-  unfolding dirty_at taken_into_l2
+  pub dirty_fetched_same : 1 ≤ length c.l2 → dirty_at (filled_into_l2 line c) line ≡ Some false
+  unfolding dirty_at filled_into_l2
   dirty_fetched_same some = rw (set_same c.shards line (filled c.l2_ways line false) c.l2 some) (kept_filled_same c.l2_ways line false here room)
 
   -- another line stays unless it leaves
-  pub dirty_fetched_room : (l : ℕ) → l2_victim c line ≡ None → l ≢ line → dirty_at (taken_into_l2 line c) l ≡ dirty_at c l
-  unfolding dirty_at taken_into_l2
+  pub dirty_fetched_room : (l : ℕ) → l2_victim c line ≡ None → l ≢ line → dirty_at (filled_into_l2 line c) l ≡ dirty_at c l
+  unfolding dirty_at filled_into_l2
   dirty_fetched_room l none apart = kept_elsewhere c.shards l line (filled c.l2_ways line false) c.l2 (kept_filled_room c.l2_ways l line false here room none apart)
 
-  pub dirty_fetched_line : (l : ℕ) (victim : ℕ × Bool) → HaveSets c → l2_victim c line ≡ Some victim → l ≢ line → l ≢ victim.0 → dirty_at (taken_into_l2 line c) l ≡ dirty_at c l
-  unfolding dirty_at taken_into_l2
+  pub dirty_fetched_line : (l : ℕ) (victim : ℕ × Bool) → HaveSets c → l2_victim c line ≡ Some victim → l ≢ line → l ≢ victim.0 → dirty_at (filled_into_l2 line c) l ≡ dirty_at c l
+  unfolding dirty_at filled_into_l2
   dirty_fetched_line l victim h is apart stays =
       kept_elsewhere c.shards l line (filled c.l2_ways line false) c.l2 (kept_filled_other c.l2_ways l line false here victim room (l2_set c h line).within is apart stays)
 
-  pub dirty_fetched_victim : (victim : ℕ × Bool) → HaveSets c → 1 ≤ length c.l2 → l2_victim c line ≡ Some victim → victim.0 ≢ line → dirty_at (taken_into_l2 line c) victim.0 ≡ None
-  unfolding dirty_at taken_into_l2
+  pub dirty_fetched_victim : (victim : ℕ × Bool) → HaveSets c → 1 ≤ length c.l2 → l2_victim c line ≡ Some victim → victim.0 ≢ line → dirty_at (filled_into_l2 line c) victim.0 ≡ None
+  unfolding dirty_at filled_into_l2
   dirty_fetched_victim victim h some is apart =
       let k : ℕ = set_number c.shards line c.l2 in
       let placed : set_number c.shards victim.0 c.l2 ≡ k = at_victim (λ (way : ℕ × Bool). set_number c.shards way.0 c.l2 ≡ k) c.l2_ways here victim (h.l2_placed k) is in

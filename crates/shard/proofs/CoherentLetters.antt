@@ -10,8 +10,8 @@ use Rattle.std.proofs.lemmas.List.Elements.{All-nil}
 use Rattle.std.proofs.lemmas.Option.{get_or_from_slice_get, slice_get_within}
 use Rattle.cache_set.specs.declared.letter.Letter.{Letter}
 use Rattle.cache_set.specs.declared.letter.Letter.TheVariants.{M, E, S, I}
-use Rattle.cache_set.specs.Ways.{kept_of, without, filled, last_of_full}
-use Rattle.shard.specs.Coherence.{Caches, in_own_set_of, is_modified, kept_first, letter_at, letter_in, looked_up, marked_dirty, others_changed, own_victim, recalled, taken_in, taken_into_l2, with_letter, written_back}
+use Rattle.cache_set.specs.Ways.{kept_of, without, filled, victim_of}
+use Rattle.shard.specs.Coherence.{Caches, in_own_set_of, is_modified, kept_first, letter_at, letter_in, looked_up, marked_dirty, others_changed, own_victim, recalled, filled_into_l1, filled_into_l2, with_letter, written_back}
 use Rattle.shard.specs.Lines.{set_of, in_set_of, set_number}
 use Rattle.shard.specs.StandsFor.{HaveSets, IsSet}
 use Rattle.shard.proofs.CoherentLines.{kept_changed_other, kept_changed_same, kept_elsewhere, kept_filled_other, kept_filled_room, kept_filled_same, kept_filled_victim, kept_front_other, kept_front_same, kept_without_other, kept_without_same, set_same}
@@ -27,12 +27,12 @@ l1_set c h core line =
     at_or Is sets (set_number c.shards line sets) [] (at_or (All Is) c.l1 core [] h.l1 (All-nil Is)) (set_nil c.l1_ways)
 
 -- what holds of each way of a set holds of the one that leaves
-pub at_victim : {X : Type 0} (P : ℕ × X → Type 0) (ways : ℕ) (s : List (ℕ × X)) (w : ℕ × X) → All P s → last_of_full ways s ≡ Some w → P w
+pub at_victim : {X : Type 0} (P : ℕ × X → Type 0) (ways : ℕ) (s : List (ℕ × X)) (w : ℕ × X) → All P s → victim_of ways s ≡ Some w → P w
 at_victim P ways s w h e = subst P (get_or_from_slice_get s (ways - 1) w w e) (h (ways - 1) w (slice_get_within s (ways - 1) w e))
 
 -- ---- steps on the L2 alone
-pub letter_fetched : (line : ℕ) (c : Caches) (core l : ℕ) → letter_at (taken_into_l2 line c) core l ≡ letter_at c core l
-unfolding letter_at taken_into_l2
+pub letter_fetched : (line : ℕ) (c : Caches) (core l : ℕ) → letter_at (filled_into_l2 line c) core l ≡ letter_at c core l
+unfolding letter_at filled_into_l2
 letter_fetched line c core l = refl
 
 pub letter_looked_up : (line : ℕ) (c : Caches) (core l : ℕ) → letter_at (looked_up line c) core l ≡ letter_at c core l
@@ -197,35 +197,35 @@ module _ (core line : ℕ) (letter : Letter) (c : Caches) (room : 1 ≤ c.l1_way
   abbrev comes_in : List (ℕ × Letter) → List (ℕ × Letter)
   comes_in = filled c.l1_ways line letter
 
-  pub letter_taken_same : core < length c.l1 → 1 ≤ length (get_or c.l1 core []) → letter_at (taken_in core line letter c) core line ≡ letter
-  unfolding taken_in
+  pub letter_taken_same : core < length c.l1 → 1 ≤ length (get_or c.l1 core []) → letter_at (filled_into_l1 core line letter c) core line ≡ letter
+  unfolding filled_into_l1
   letter_taken_same known some =
       let same : back.l1 ≡ c.l1 = back_l1 (own_victim c core line) c in
       own_here core line comes_in back line (subst (λ (l1 : List (List (List (ℕ × Letter)))). core < length l1) (sym same) known) (subst (λ (l1 : List (List (List (ℕ × Letter)))). 1 ≤ length (get_or l1 core [])) (sym same) some) refl
       ∙ ap or_i (kept_filled_same c.l1_ways line letter (set_of back.shards line (get_or back.l1 core [])) room)
 
-  pub letter_taken_core : (other l : ℕ) → other ≢ core → letter_at (taken_in core line letter c) other l ≡ letter_at c other l
-  unfolding taken_in
+  pub letter_taken_core : (other l : ℕ) → other ≢ core → letter_at (filled_into_l1 core line letter c) other l ≡ letter_at c other l
+  unfolding filled_into_l1
   letter_taken_core other l apart =
       own_other_core core line comes_in back other l apart ∙ letter_written_back (own_victim c core line) c other l
 
-  taken_elsewhere : (other l : ℕ) → kept_of l (comes_in copies_of) ≡ kept_of l copies_of → letter_at (taken_in core line letter c) other l ≡ letter_at c other l
-  unfolding taken_in
+  taken_elsewhere : (other l : ℕ) → kept_of l (comes_in copies_of) ≡ kept_of l copies_of → letter_at (filled_into_l1 core line letter c) other l ≡ letter_at c other l
+  unfolding filled_into_l1
   taken_elsewhere other l h =
       own_elsewhere core line comes_in back other l (subst (λ (s : List (ℕ × Letter)). kept_of l (comes_in s) ≡ kept_of l s) (sym (back_copies (own_victim c core line) c core line)) h)
       ∙ letter_written_back (own_victim c core line) c other l
 
   -- another line stays unless it leaves
-  pub letter_taken_room : (other l : ℕ) → own_victim c core line ≡ None → l ≢ line → letter_at (taken_in core line letter c) other l ≡ letter_at c other l
+  pub letter_taken_room : (other l : ℕ) → own_victim c core line ≡ None → l ≢ line → letter_at (filled_into_l1 core line letter c) other l ≡ letter_at c other l
   letter_taken_room other l none apart = taken_elsewhere other l (kept_filled_room c.l1_ways l line letter copies_of room none apart)
 
-  pub letter_taken_line : (other l : ℕ) (victim : ℕ × Letter) → HaveSets c → own_victim c core line ≡ Some victim → l ≢ line → l ≢ victim.0 → letter_at (taken_in core line letter c) other l ≡ letter_at c other l
+  pub letter_taken_line : (other l : ℕ) (victim : ℕ × Letter) → HaveSets c → own_victim c core line ≡ Some victim → l ≢ line → l ≢ victim.0 → letter_at (filled_into_l1 core line letter c) other l ≡ letter_at c other l
   letter_taken_line other l victim h is apart stays =
       taken_elsewhere other l (kept_filled_other c.l1_ways l line letter copies_of victim room (l1_set c h core line).within is apart stays)
 
   pub letter_taken_victim : (victim : ℕ × Letter) → HaveSets c → core < length c.l1 → 1 ≤ length (get_or c.l1 core []) → own_victim c core line ≡ Some victim → victim.0 ≢ line
-      → letter_at (taken_in core line letter c) core victim.0 ≡ I
-  unfolding taken_in
+      → letter_at (filled_into_l1 core line letter c) core victim.0 ≡ I
+  unfolding filled_into_l1
   letter_taken_victim victim h known some is apart =
       let P : List (List (List (ℕ × Letter))) → ℕ → Type 0 = λ l1 shards. (core < length l1) × (1 ≤ length (get_or l1 core [])) × (set_number shards victim.0 (get_or l1 core []) ≡ set_number shards line (get_or l1 core [])) in
       let k : ℕ = set_number c.shards line (get_or c.l1 core []) in

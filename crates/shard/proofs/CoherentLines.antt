@@ -8,7 +8,7 @@ use Rattle.std.proofs.lemmas.Bool.{cases_eq, eq-eqb, ne_eqb}
 use Rattle.std.proofs.lemmas.List.{get_or-set_same, get_or-set_other, length-set}
 use Rattle.std.proofs.lemmas.Map.Keys.{IsDistinct-head, IsDistinct-tail}
 use Rattle.cache_set.proofs.Sets.{Lacks, lacks-others}
-use Rattle.cache_set.specs.Ways.{kept_of, without, used, filled, changed, last_of_full}
+use Rattle.cache_set.specs.Ways.{kept_of, without, used, filled, changed, victim_of}
 use Rattle.shard.specs.Lines.{set_of, in_set_of, set_number}
 use Rattle.shard.proofs.CoherentLists.{set_read}
 
@@ -117,21 +117,21 @@ module _ {X : Type 0} where
       ap (λ (o : Option X). cond (eqb line x.0) (Some x.1) o) (kept_take_other line n s w e (omega arith) h)
 
   -- where no line leaves, the others are kept
-  pub kept_filled_room : (ways line other : ℕ) (v : X) (s : List (ℕ × X)) → 1 ≤ ways → last_of_full ways s ≡ None → line ≢ other → kept_of line (filled ways other v s) ≡ kept_of line s
+  pub kept_filled_room : (ways line other : ℕ) (v : X) (s : List (ℕ × X)) → 1 ≤ ways → victim_of ways s ≡ None → line ≢ other → kept_of line (filled ways other v s) ≡ kept_of line s
   kept_filled_room zero line other v s w none h = absurd (omega arith)
   kept_filled_room (suc n) line other v s w none h =
       let at : slice_get s n ≡ None = subst (λ (k : ℕ). slice_get s k ≡ None) (omega arith) none in
       kept_front_other line other v (take n s) h ∙ ap (λ (es : List (ℕ × X)). kept_of line es) (take_all n s at)
 
   -- and where one leaves, all but that one
-  pub kept_filled_other : (ways line other : ℕ) (v : X) (s : List (ℕ × X)) (victim : ℕ × X) → 1 ≤ ways → length s ≤ ways → last_of_full ways s ≡ Some victim → line ≢ other → line ≢ victim.0
+  pub kept_filled_other : (ways line other : ℕ) (v : X) (s : List (ℕ × X)) (victim : ℕ × X) → 1 ≤ ways → length s ≤ ways → victim_of ways s ≡ Some victim → line ≢ other → line ≢ victim.0
       → kept_of line (filled ways other v s) ≡ kept_of line s
   kept_filled_other zero line other v s victim w l is h k = absurd (omega arith)
   kept_filled_other (suc n) line other v s victim w l is h k =
       let at : slice_get s n ≡ Some victim = subst (λ (k : ℕ). slice_get s k ≡ Some victim) (omega arith) is in
       kept_front_other line other v (take n s) h ∙ kept_take_other line n s victim at l k
 
-  pub kept_filled_victim : (ways other : ℕ) (v : X) (s : List (ℕ × X)) (victim : ℕ × X) → 1 ≤ ways → IsDistinct nat_eq (keys_of s) → last_of_full ways s ≡ Some victim → victim.0 ≢ other
+  pub kept_filled_victim : (ways other : ℕ) (v : X) (s : List (ℕ × X)) (victim : ℕ × X) → 1 ≤ ways → IsDistinct nat_eq (keys_of s) → victim_of ways s ≡ Some victim → victim.0 ≢ other
       → kept_of victim.0 (filled ways other v s) ≡ None
   kept_filled_victim zero other v s victim w d is h = absurd (omega arith)
   kept_filled_victim (suc n) other v s victim w d is h =
@@ -148,7 +148,7 @@ module _ {X : Type 0} where
       let apart : w.0 ≢ x.0 = λ same. lacks_at x.0 n s w (IsDistinct-head nat_eq x.0 (keys_of s) h) e (sym same) in
       rw (ne_eqb w.0 x.0 apart) (kept_at n s w (IsDistinct-tail nat_eq x.0 (keys_of s) h) e)
 
-  pub kept_victim : (ways : ℕ) (s : List (ℕ × X)) (victim : ℕ × X) → IsDistinct nat_eq (keys_of s) → last_of_full ways s ≡ Some victim → kept_of victim.0 s ≡ Some victim.1
+  pub kept_victim : (ways : ℕ) (s : List (ℕ × X)) (victim : ℕ × X) → IsDistinct nat_eq (keys_of s) → victim_of ways s ≡ Some victim → kept_of victim.0 s ≡ Some victim.1
   kept_victim ways s victim h e = kept_at (ways - 1) s victim h e
 
   -- ---- all sets, of which the one of a line changes

@@ -11,7 +11,7 @@ use Rattle.zs_num.specs.declared.request.Request.{Request}
 use Rattle.cache_set.specs.declared.letter.Letter.{Letter}
 use Rattle.cache_set.specs.declared.letter.Letter.TheVariants.{M, E, S, I}
 use Rattle.cache_set.specs.Ways.{without, used, filled, changed}
-use Rattle.shard.specs.Coherence.{Caches, caches_after, empty_caches, is_valid, is_modified, is_write, kept_first, l2_victim, letter_at, letter_in, looked_up, marked_dirty, on_l2, on_others, on_own, other_after, others_changed, outcome_of, own_after, own_victim, recalled, room_made, some_other, taken_in, taken_into_l2, with_letter, written_back}
+use Rattle.shard.specs.Coherence.{Caches, caches_after, empty_caches, is_valid, is_modified, is_write, kept_first, l2_victim, letter_at, letter_in, looked_up, marked_dirty, on_l2, on_others, on_own, other_after, others_changed, outcome_of, own_after, own_victim, recalled, copies_evicted, some_other, filled_into_l1, filled_into_l2, with_letter, written_back}
 use Rattle.shard.specs.Accesses.{caches_after_all}
 use Rattle.shard.specs.Lines.{set_of, in_set_of, set_number}
 use Rattle.shard.proofs.CoherentLists.{mapped_at, numbered_at, set_read}
@@ -89,8 +89,8 @@ marked_keeps : (line : ℕ) (c : Caches) → Keeps c (marked_dirty line c)
 unfolding marked_dirty
 marked_keeps line c = l2_keeps line (changed line true) c (stand_changed c.shards (length c.l2) (line / c.shards % length c.l2) line true (set_of c.shards line c.l2))
 
-fetched_keeps : (line : ℕ) (c : Caches) → Keeps c (taken_into_l2 line c)
-unfolding taken_into_l2
+fetched_keeps : (line : ℕ) (c : Caches) → Keeps c (filled_into_l2 line c)
+unfolding filled_into_l2
 fetched_keeps line c = l2_keeps line (filled c.l2_ways line false) c (λ h. stand_take c.shards (length c.l2) (line / c.shards % length c.l2) c.l2_ways ((line, false) ∷ set_of c.shards line c.l2) (refl, h))
 
 looked_keeps : (line : ℕ) (c : Caches) → Keeps c (looked_up line c)
@@ -154,15 +154,15 @@ back_keeps (Some victim) c =
     elim (is_modified victim.1) as (λ b. Keeps c (cond b (marked_dirty victim.0 c) c))
     [ true ↦ marked_keeps victim.0 c | false ↦ keeps_same c ]
 
-taken_keeps : (core line : ℕ) (letter : Letter) (c : Caches) → Keeps c (taken_in core line letter c)
-unfolding taken_in
+taken_keeps : (core line : ℕ) (letter : Letter) (c : Caches) → Keeps c (filled_into_l1 core line letter c)
+unfolding filled_into_l1
 taken_keeps core line letter c =
     let d : Caches = written_back (own_victim c core line) c in
-    keeps_both c d (taken_in core line letter c) (back_keeps (own_victim c core line) c)
+    keeps_both c d (filled_into_l1 core line letter c) (back_keeps (own_victim c core line) c)
     (own_keeps_sets core line (filled c.l1_ways line letter) d (λ n s is h. stand_take d.shards n (line / d.shards % n) c.l1_ways ((line, letter) ∷ s) (is, h)))
 
 -- ---- one access
-pub room_keeps : (victim : Option (ℕ × Bool)) (c : Caches) → Keeps c (room_made victim c)
+pub room_keeps : (victim : Option (ℕ × Bool)) (c : Caches) → Keeps c (copies_evicted victim c)
 room_keeps None c = keeps_same c
 room_keeps (Some victim) c = recalled_keeps victim.0 c
 
@@ -171,8 +171,8 @@ l2_step Hit line c = keeps_same c
 l2_step (Upgrade others) line c = looked_keeps line c
 l2_step (L2 others) line c = looked_keeps line c
 l2_step (Miss dirty) line c =
-    let made : Caches = room_made (l2_victim c line) c in
-    keeps_both c made (taken_into_l2 line made) (room_keeps (l2_victim c line) c) (fetched_keeps line made)
+    let made : Caches = copies_evicted (l2_victim c line) c in
+    keeps_both c made (filled_into_l2 line made) (room_keeps (l2_victim c line) c) (fetched_keeps line made)
 
 pub dirtied_keeps : (b : Bool) (line : ℕ) (c : Caches) → Keeps c (cond b (marked_dirty line c) c)
 dirtied_keeps true line c = marked_keeps line c

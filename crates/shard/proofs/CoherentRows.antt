@@ -4,7 +4,7 @@ use Rattle.std.proofs.lemmas.Bool.{cases_eq}
 use Rattle.zs_num.specs.declared.entry.Outcome.TheVariants.{Upgrade, L2}
 use Rattle.cache_set.specs.declared.letter.Letter.{Letter}
 use Rattle.cache_set.specs.declared.letter.Letter.TheVariants.{M, E, S, I}
-use Rattle.shard.specs.Coherence.{Caches, dirty_at, is_alone, is_valid, is_modified, kept_first, letter_at, looked_up, marked_dirty, on_l2, on_others, other_after, others_changed, own_after, own_victim, some_other, taken_in}
+use Rattle.shard.specs.Coherence.{Caches, dirty_at, is_alone, is_valid, is_modified, kept_first, letter_at, looked_up, marked_dirty, on_l2, on_others, other_after, others_changed, own_after, own_victim, some_other, filled_into_l1}
 use Rattle.shard.specs.StandsFor.{AreCoherent, HaveRoomForLines, HaveSets}
 use Rattle.shard.proofs.CoherentDirty.{dirty_first, dirty_looked_up, dirty_others, dirty_taken, there_after_back, there_after_marked}
 use Rattle.shard.proofs.CoherentLetters.{letter_first_core, letter_first_line, letter_first_same, letter_looked_up, letter_marked, letter_others_other, letter_others_same, letter_taken_core, letter_taken_line, letter_taken_room, letter_taken_same, letter_taken_victim}
@@ -74,10 +74,10 @@ module _ (c d : Caches) (core line : ℕ) (letter : Letter) (r : IsReady c d cor
   some_set = r.room.l1_sets core r.known
 
   -- a letter for another line stays or is lost
-  kept_as : (a l : ℕ) → l ≢ line → (o : Option (ℕ × Letter)) → own_victim d core line ≡ o → (letter_at (taken_in core line letter d) a l ≡ letter_at d a l) ⊎ (letter_at (taken_in core line letter d) a l ≡ I)
+  kept_as : (a l : ℕ) → l ≢ line → (o : Option (ℕ × Letter)) → own_victim d core line ≡ o → (letter_at (filled_into_l1 core line letter d) a l ≡ letter_at d a l) ⊎ (letter_at (filled_into_l1 core line letter d) a l ≡ I)
   kept_as a l apart None e = inl (letter_taken_room core line letter d r.room.l1_ways a l e apart)
   kept_as a l apart (Some w) e =
-      let T : Caches = taken_in core line letter d in
+      let T : Caches = filled_into_l1 core line letter d in
       elim (cases_eq l w.0) as (λ _. (letter_at T a l ≡ letter_at d a l) ⊎ (letter_at T a l ≡ I)) [
         | inl same ↦ elim (cases_eq a core) as (λ _. (letter_at T a l ≡ letter_at d a l) ⊎ (letter_at T a l ≡ I)) [
           | inl own ↦ inr (rw (own, same) (letter_taken_victim core line letter d r.room.l1_ways w r.sets r.known some_set e (λ k. apart (same ∙ k))))
@@ -86,15 +86,15 @@ module _ (c d : Caches) (core line : ℕ) (letter : Letter) (r : IsReady c d cor
         | inr stays ↦ inl (letter_taken_line core line letter d r.room.l1_ways a l w r.sets e apart stays)
       ]
 
-  kept_or_lost : (a l : ℕ) → l ≢ line → (letter_at (taken_in core line letter d) a l ≡ letter_at d a l) ⊎ (letter_at (taken_in core line letter d) a l ≡ I)
+  kept_or_lost : (a l : ℕ) → l ≢ line → (letter_at (filled_into_l1 core line letter d) a l ≡ letter_at d a l) ⊎ (letter_at (filled_into_l1 core line letter d) a l ≡ I)
   kept_or_lost a l apart = kept_as a l apart (own_victim d core line) refl
 
-  there_after : (l : ℕ) → is_some (dirty_at (taken_in core line letter d) l) ≡ is_some (dirty_at d l)
+  there_after : (l : ℕ) → is_some (dirty_at (filled_into_l1 core line letter d) l) ≡ is_some (dirty_at d l)
   there_after l = rw (dirty_taken core line letter d l) (there_after_back (own_victim d core line) d l)
 
-  pub comes : Settles c (taken_in core line letter d) core line
+  pub comes : Settles c (filled_into_l1 core line letter d) core line
   comes =
-      let T : Caches = taken_in core line letter d in
+      let T : Caches = filled_into_l1 core line letter d in
       let others : (a : ℕ) → a ≢ core → letter_at T a line ≡ letter_at d a line = λ a apart. letter_taken_core core line letter d r.room.l1_ways a line apart in
       record {
         others = λ a l apart. elim (kept_or_lost a l apart) as (λ _. (letter_at T a l ≡ letter_at c a l) ⊎ (letter_at T a l ≡ I)) [

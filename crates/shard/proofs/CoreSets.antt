@@ -9,7 +9,7 @@ use Rattle.std.proofs.lemmas.List.Elements.{All-set, All-replicate}
 use Rattle.cache_set.specs.declared.letter.Letter.{Letter}
 use Rattle.cache_set.specs.declared.letter.Letter.TheVariants.{M, E, S, I}
 use Rattle.cache_set.specs.Letters.{mark_of, letter_of}
-use Rattle.cache_set.specs.Ways.{kept_of, without, used, filled, changed, last_of_full}
+use Rattle.cache_set.specs.Ways.{kept_of, without, used, filled, changed, victim_of}
 use Rattle.cache_set.specs.WaySets.{WaySet, IsWaySet, way_of}
 use Rattle.cache_set.specs.declared.set.Way.{Way}
 use Rattle.cache_set.proofs.Sets.{set-without, set-used, set-changed, set-filled}
@@ -91,7 +91,7 @@ first_edit line letter s is there held = record {
 }
 
 pub filled_edit : (line : ℕ) (letter : Letter) (s : WaySet) → IsWaySet s → kept_of line s.list ≡ None → is_valid letter ≡ true
-    → IsEdit line (last_of_full s.ways s.list) (Some (mark_of letter)) s (record { ways = s.ways; list = filled s.ways line (mark_of letter) s.list })
+    → IsEdit line (victim_of s.ways s.list) (Some (mark_of letter)) s (record { ways = s.ways; list = filled s.ways line (mark_of letter) s.list })
 filled_edit line letter s is absent held = record {
   is_set = set-filled s.ways line (mark_of letter) s.list is absent;
   same_ways = refl;
@@ -259,24 +259,24 @@ module _ (shards ways : ℕ) (sets : List WaySet) (are : AreCoreSets shards ways
         (step (record { ways = old.ways; list = changed line (mark_of letter) (used line old.list) }) (first_edit line letter old old_core.is_set (there held) k) (λ copies. (line, letter_of (mark_of letter)) ∷ without line copies)
         (rw (first_changed line (mark_of letter) old.list (there held), without-as letter_of line old.list) refl))
 
-  last_letters : as_letters (last_of_full old.ways old.list) ≡ last_of_full ways (copies_of (core_view shards ways sets) line)
+  last_letters : as_letters (victim_of old.ways old.list) ≡ victim_of ways (copies_of (core_view shards ways sets) line)
   last_letters = rw (old_copies, ← old_core.same_ways) (sym (last-as letter_of (old.ways - 1) old.list))
 
   pub filled_up : (letter : Letter) → own_letter (core_view shards ways sets) line ≡ I → is_valid letter ≡ true
       → IsStep shards ways sets i line (record { ways = old.ways; list = filled old.ways line (mark_of letter) old.list }) (filled ways line letter)
-      (λ q l. cond (nat_eq line q) letter (letter_without (last_of_full ways (copies_of (core_view shards ways sets) line)) q l))
+      (λ q l. cond (nat_eq line q) letter (letter_without (victim_of ways (copies_of (core_view shards ways sets) line)) q l))
   filled_up letter absent k =
       subst (λ (v : Option (ℕ × Letter)). IsStep shards ways sets i line (record { ways = old.ways; list = filled old.ways line (mark_of letter) old.list }) (filled ways line letter) (λ q l. cond (nat_eq line q) letter (letter_without v q l))) last_letters
-      (subst (λ (x : Letter). IsStep shards ways sets i line (record { ways = old.ways; list = filled old.ways line (mark_of letter) old.list }) (filled ways line x) (λ q l. cond (nat_eq line q) x (letter_without (as_letters (last_of_full old.ways old.list)) q l))) (letter_back letter)
+      (subst (λ (x : Letter). IsStep shards ways sets i line (record { ways = old.ways; list = filled old.ways line (mark_of letter) old.list }) (filled ways line x) (λ q l. cond (nat_eq line q) x (letter_without (as_letters (victim_of old.ways old.list)) q l))) (letter_back letter)
       (step (record { ways = old.ways; list = filled old.ways line (mark_of letter) old.list }) (filled_edit line letter old old_core.is_set (not_there absent) k) (filled ways line (letter_of (mark_of letter)))
       (filled-as letter_of old.ways line (mark_of letter) old.list ∙ ap (λ (n : ℕ). filled n line (letter_of (mark_of letter)) (copies_in old)) old_core.same_ways)))
 
   -- the line that makes room, of this set
-  pub last_placed : (v : ℕ × ℕ) → last_of_full old.ways old.list ≡ Some v → set_number shards v.0 (map copies_in sets) ≡ set_number shards line (map copies_in sets)
+  pub last_placed : (v : ℕ × ℕ) → victim_of old.ways old.list ≡ Some v → set_number shards v.0 (map copies_in sets) ≡ set_number shards line (map copies_in sets)
   last_placed v at =
       rw (length-map sets copies_in) (are.placed i v.0 old inside (subst (λ (s : WaySet). IsSome (kept_of v.0 s.list)) is (last_kept (old.ways - 1) old.list v at)) ∙ place)
 
-  pub last_without : (v : ℕ × ℕ) → last_of_full old.ways old.list ≡ Some v → without v.0 (copies_of (core_view shards ways sets) line) ≡ take (ways - 1) (copies_of (core_view shards ways sets) line)
+  pub last_without : (v : ℕ × ℕ) → victim_of old.ways old.list ≡ Some v → without v.0 (copies_of (core_view shards ways sets) line) ≡ take (ways - 1) (copies_of (core_view shards ways sets) line)
   last_without v at =
       let set_is : IsWaySet old = old_core.is_set in
       let few : length old.list ≤ suc (old.ways - 1) = let h = set_is.within in let k = set_is.ways.0 in omega arith in

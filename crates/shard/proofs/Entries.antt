@@ -9,7 +9,7 @@ use Rattle.std.proofs.lemmas.Bool.{eqb-true, eq-eqb, ne_eqb, cases_eq}
 use Rattle.std.proofs.lemmas.Map.{lookup-remove_entry, lookup-set_value}
 use Rattle.std.proofs.lemmas.Map.Keys.{IsDistinct-head, IsDistinct-tail}
 use Rattle.std.proofs.lemmas.Map.Made.{lookup-map_values}
-use Rattle.cache_set.specs.Ways.{kept_of, without, used, filled, changed, last_of_full}
+use Rattle.cache_set.specs.Ways.{kept_of, without, used, filled, changed, victim_of}
 
 -- what is kept of a line once the line that makes room is gone
 abbrev pub kept_without : {X : Type 0} → (victim : Option (ℕ × X)) → (line : ℕ) → Option X → Option X
@@ -74,7 +74,7 @@ module _ {X : Type 0} where
 
   -- a line that comes to the front of a set where it was not
   pub kept-filled : (ways line q : ℕ) (v : X) (es : List (ℕ × X)) → 1 ≤ ways → IsDistinct nat_eq (keys_of es) → length es ≤ ways
-      → kept_of q (filled ways line v es) ≡ cond (nat_eq line q) (Some v) (kept_without (last_of_full ways es) q (kept_of q es))
+      → kept_of q (filled ways line v es) ≡ cond (nat_eq line q) (Some v) (kept_without (victim_of ways es) q (kept_of q es))
   kept-filled zero line q v es one d l = absurd (omega arith)
   kept-filled (suc w) line q v es one d l =
       let e : suc w - 1 ≡ w = omega arith in

@@ -16,7 +16,7 @@ use Rattle.cache_set.specs.declared.letter.Letter.{Letter}
 use Rattle.cache_set.specs.declared.letter.Letter.TheVariants.{M, E, S, I}
 use Rattle.cache_set.specs.Ways.{kept_of, without, used, filled, changed}
 use Rattle.cache_set.proofs.Sets.{lacks-absent, lacks-take, distinct-without, lacks-others, length-without, length-without_some}
-use Rattle.shard.specs.Coherence.{Caches, letter_in, letter_at, dirty_at, outcome_by, outcome_of, is_write, is_alone, is_dirty_victim, some_other, is_valid, is_modified, own_after, own_victim, on_l2, on_others, on_own, l2_victim, room_made, written_back, caches_after, empty_caches, recalled, marked_dirty, taken_into_l2, looked_up, other_after, others_changed, kept_first, taken_in, with_letter}
+use Rattle.shard.specs.Coherence.{Caches, letter_in, letter_at, dirty_at, outcome_by, outcome_of, is_write, is_alone, is_dirty_victim, some_other, is_valid, is_modified, own_after, own_victim, on_l2, on_others, on_own, l2_victim, copies_evicted, written_back, caches_after, empty_caches, recalled, marked_dirty, filled_into_l2, looked_up, other_after, others_changed, kept_first, filled_into_l1, with_letter}
 use Rattle.shard.specs.Accesses.{caches_after_all}
 use Rattle.shard.specs.Lines.{set_of, in_set_of, set_number}
 use Rattle.shard.specs.StandsFor.{IsSet}
@@ -194,8 +194,8 @@ looked_fits line c f = record {
   l2 = in_set (IsSet c.l2_ways) c.shards line (used line) c.l2 (set_nil c.l2_ways) (set_used c.l2_ways line (set_of c.shards line c.l2)) f.l2;
 }
 
-pub fetched_fits : (line : ℕ) (c : Caches) → dirty_at c line ≡ None → Fits c → Fits (taken_into_l2 line c)
-unfolding taken_into_l2 dirty_at
+pub fetched_fits : (line : ℕ) (c : Caches) → dirty_at c line ≡ None → Fits c → Fits (filled_into_l2 line c)
+unfolding filled_into_l2 dirty_at
 fetched_fits line c none f = record {
   l1 = f.l1;
   l2 = in_set (IsSet c.l2_ways) c.shards line (filled c.l2_ways line false) c.l2 (set_nil c.l2_ways) (λ h. set_filled c.l2_ways line false (set_of c.shards line c.l2) h none) f.l2;
@@ -250,8 +250,8 @@ put_fits ways core line letter d e k i f =
       l2 = f.l2;
     }
 
-taken_fits : (core line : ℕ) (letter : Letter) (c : Caches) → is_valid letter ≡ true → letter_at c core line ≡ I → Fits c → Fits (taken_in core line letter c)
-unfolding taken_in
+taken_fits : (core line : ℕ) (letter : Letter) (c : Caches) → is_valid letter ≡ true → letter_at c core line ≡ I → Fits c → Fits (filled_into_l1 core line letter c)
+unfolding filled_into_l1
 taken_fits core line letter c k i f =
     let back : SameL1 (written_back (own_victim c core line) c) c = back_same_l1 (own_victim c core line) c f in
     put_fits c.l1_ways core line letter (written_back (own_victim c core line) c) back.ways k (back.letters core line ∙ i) back.fits
@@ -307,21 +307,21 @@ held_after false S has = refl
 held_after false I true = refl
 held_after false I false = refl
 
-pub room_fits : (victim : Option (ℕ × Bool)) (c : Caches) → Fits c → Fits (room_made victim c)
+pub room_fits : (victim : Option (ℕ × Bool)) (c : Caches) → Fits c → Fits (copies_evicted victim c)
 room_fits None c f = f
 room_fits (Some victim) c f = recalled_fits victim.0 c f
 
-room_own : (victim : Option (ℕ × Bool)) (core line : ℕ) (c : Caches) → Fits c → letter_at c core line ≡ I → letter_at (room_made victim c) core line ≡ I
+room_own : (victim : Option (ℕ × Bool)) (core line : ℕ) (c : Caches) → Fits c → letter_at c core line ≡ I → letter_at (copies_evicted victim c) core line ≡ I
 room_own None core line c f i = i
 room_own (Some victim) core line c f i = own_recalled core line victim.0 c f i
 
-room_l2 : (victim : Option (ℕ × Bool)) (line : ℕ) (c : Caches) → dirty_at (room_made victim c) line ≡ dirty_at c line
+room_l2 : (victim : Option (ℕ × Bool)) (line : ℕ) (c : Caches) → dirty_at (copies_evicted victim c) line ≡ dirty_at c line
 unfolding dirty_at recalled
 room_l2 None line c = refl
 room_l2 (Some victim) line c = refl
 
-fetched_own : (core line : ℕ) (c : Caches) → letter_at (taken_into_l2 line c) core line ≡ letter_at c core line
-unfolding letter_at taken_into_l2
+fetched_own : (core line : ℕ) (c : Caches) → letter_at (filled_into_l2 line c) core line ≡ letter_at c core line
+unfolding letter_at filled_into_l2
 fetched_own core line c = refl
 
 looked_own : (core line : ℕ) (c : Caches) → letter_at (looked_up line c) core line ≡ letter_at c core line
@@ -342,15 +342,15 @@ none_from None h = refl
 none_from (Some x) h = absurd cc
 
 miss_fits : (core line : ℕ) (letter : Letter) (c : Caches) → is_valid letter ≡ true → letter_at c core line ≡ I → is_some (dirty_at c line) ≡ false → Fits c
-    → Fits (taken_in core line letter (taken_into_l2 line (room_made (l2_victim c line) c)))
+    → Fits (filled_into_l1 core line letter (filled_into_l2 line (copies_evicted (l2_victim c line) c)))
 miss_fits core line letter c k i out f =
-    let made : Caches = room_made (l2_victim c line) c in
+    let made : Caches = copies_evicted (l2_victim c line) c in
     let none : dirty_at made line ≡ None = room_l2 (l2_victim c line) line c ∙ none_from (dirty_at c line) out in
-    taken_fits core line letter (taken_into_l2 line made) k (fetched_own core line made ∙ room_own (l2_victim c line) core line c f i)
+    taken_fits core line letter (filled_into_l2 line made) k (fetched_own core line made ∙ room_own (l2_victim c line) core line c f i)
     (fetched_fits line made none (room_fits (l2_victim c line) c f))
 
 found_fits : (core line : ℕ) (letter : Letter) (write : Bool) (c : Caches) → is_valid letter ≡ true → letter_at c core line ≡ I → Fits c
-    → Fits (taken_in core line letter (others_changed (other_after write) core line (cond (some_other is_modified (looked_up line c) core line) (marked_dirty line (looked_up line c)) (looked_up line c))))
+    → Fits (filled_into_l1 core line letter (others_changed (other_after write) core line (cond (some_other is_modified (looked_up line c) core line) (marked_dirty line (looked_up line c)) (looked_up line c))))
 found_fits core line letter write c k i f =
     let b : Bool = some_other is_modified (looked_up line c) core line in
     let d : Caches = cond b (marked_dirty line (looked_up line c)) (looked_up line c) in

@@ -12,7 +12,7 @@ use Rattle.cache_set.specs.declared.letter.Letter.{Letter}
 use Rattle.cache_set.specs.declared.letter.Letter.TheVariants.{M, E, S, I}
 use Rattle.flat_memory.specs.declared.reservation.Reservation.{Reservation}
 use Rattle.flat_memory.specs.FlatMemory.{after_write}
-use Rattle.shard.specs.Coherence.{Caches, letter_at, outcome_of, is_write, some_other, is_valid, is_modified, own_after, own_victim, on_l2, on_others, on_own, l2_victim, room_made, written_back, caches_after, recalled, marked_dirty, taken_into_l2, looked_up, other_after, others_changed, kept_first, taken_in}
+use Rattle.shard.specs.Coherence.{Caches, letter_at, outcome_of, is_write, some_other, is_valid, is_modified, own_after, own_victim, on_l2, on_others, on_own, l2_victim, copies_evicted, written_back, caches_after, recalled, marked_dirty, filled_into_l2, looked_up, other_after, others_changed, kept_first, filled_into_l1}
 use Rattle.cache_set.specs.Ways.{without}
 use Rattle.shard.specs.Lines.{in_set_of}
 use Rattle.shard.specs.Marks.{marks_after, does_store}
@@ -38,8 +38,8 @@ marked_same : (line : ℕ) (c : Caches) → SameShape (marked_dirty line c) c
 unfolding marked_dirty
 marked_same line c = record { shards = refl; l1_ways = refl; l2_ways = refl; cores = refl }
 
-fetched_same : (line : ℕ) (c : Caches) → SameShape (taken_into_l2 line c) c
-unfolding taken_into_l2
+fetched_same : (line : ℕ) (c : Caches) → SameShape (filled_into_l2 line c) c
+unfolding filled_into_l2
 fetched_same line c = record { shards = refl; l1_ways = refl; l2_ways = refl; cores = refl }
 
 looked_same : (line : ℕ) (c : Caches) → SameShape (looked_up line c) c
@@ -65,13 +65,13 @@ back_same (Some victim) c =
     elim (is_modified victim.1) as (λ b. SameShape (cond b (marked_dirty victim.0 c) c) c)
     [ true ↦ marked_same victim.0 c | false ↦ same c ]
 
-taken_same : (core line : ℕ) (letter : Letter) (c : Caches) → SameShape (taken_in core line letter c) c
-unfolding taken_in
+taken_same : (core line : ℕ) (letter : Letter) (c : Caches) → SameShape (filled_into_l1 core line letter c) c
+unfolding filled_into_l1
 taken_same core line letter c =
     let back : SameShape (written_back (own_victim c core line) c) c = back_same (own_victim c core line) c in
     record { shards = back.shards; l1_ways = back.l1_ways; l2_ways = back.l2_ways; cores = length-set (written_back (own_victim c core line) c).l1 core _ ∙ back.cores }
 
-pub room_same : (victim : Option (ℕ × Bool)) (c : Caches) → SameShape (room_made victim c) c
+pub room_same : (victim : Option (ℕ × Bool)) (c : Caches) → SameShape (copies_evicted victim c) c
 room_same None c = same c
 room_same (Some victim) c = recalled_same victim.0 c
 
@@ -80,8 +80,8 @@ l2_same Hit line c = same c
 l2_same (Upgrade others) line c = looked_same line c
 l2_same (L2 others) line c = looked_same line c
 l2_same (Miss dirty) line c =
-    let made : Caches = room_made (l2_victim c line) c in
-    after_same (taken_into_l2 line made) made c (room_same (l2_victim c line) c) (fetched_same line made)
+    let made : Caches = copies_evicted (l2_victim c line) c in
+    after_same (filled_into_l2 line made) made c (room_same (l2_victim c line) c) (fetched_same line made)
 
 dirtied_same : (b : Bool) (line : ℕ) (c : Caches) → SameShape (cond b (marked_dirty line c) c) c
 dirtied_same true line c = marked_same line c

@@ -9,7 +9,7 @@ use Rattle.std.proofs.lemmas.List.FromFn.{get_or-enumerate_from, length-enumerat
 use Rattle.std.proofs.lemmas.Option.{slice_get_past}
 use Rattle.cache_set.specs.declared.letter.Letter.{Letter}
 use Rattle.cache_set.specs.declared.letter.Letter.TheVariants.{M, E, S, I}
-use Rattle.cache_set.specs.Ways.{kept_of, without, changed, filled, last_of_full}
+use Rattle.cache_set.specs.Ways.{kept_of, without, changed, filled, victim_of}
 use Rattle.shard.specs.CacheLayout.{is_owner}
 use Rattle.shard.specs.CacheSteps.{ChangesOne, DropsAll, DropsOthers, HaveCopies, copies_at}
 use Rattle.shard.specs.Coherence.{Caches, in_own_set_of, is_alone, is_modified, letter_at, letter_in, other_after, others_changed, own_victim, recalled, some_core, with_letter}
@@ -358,7 +358,7 @@ module _ (c : Caches) (line : ℕ) where
   owned (Some owner) only known = sym (some_core_true is_alone c line owner known (sym (only owner) ∙ eq-eqb owner owner refl))
 
 -- ---- a core's own victim
-nothing : (ways : ℕ) → last_of_full {X = Letter} ways [] ≡ None
+nothing : (ways : ℕ) → victim_of {X = Letter} ways [] ≡ None
 nothing ways = slice_get_past [] (ways - 1) (omega arith)
 
 some_is_none : {X : Type 0} → (x : X) → Some x ≡ None → ⊥
@@ -386,7 +386,7 @@ module _ (c : Caches) (core line : ℕ) (victim : ℕ × Letter) (known : core <
   inside =
       elim (cases_lt n (length sets)) as (λ _. n < length sets) [
         | inl l ↦ l
-        | inr l ↦ absurd (some_is_none victim (sym is ∙ (ap (last_of_full c.l1_ways) (get_or_past sets n [] l) ∙ nothing c.l1_ways)))
+        | inr l ↦ absurd (some_is_none victim (sym is ∙ (ap (victim_of c.l1_ways) (get_or_past sets n [] l) ∙ nothing c.l1_ways)))
       ]
 
   new_sets : get_or dropped.l1 core [] ≡ set sets n (take (c.l1_ways - 1) (copies_at c core line))

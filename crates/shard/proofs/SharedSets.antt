@@ -11,7 +11,7 @@ use Rattle.std.proofs.lemmas.Map.Keys.{IsDistinct-cons}
 use Rattle.std.proofs.lemmas.Map.Made.{is_some-lookup}
 use Rattle.std.proofs.lemmas.Map.Steps.{length-le_from_keys}
 use Rattle.cache_set.specs.declared.set.Way.{Way}
-use Rattle.cache_set.specs.Ways.{kept_of, used, filled, changed, last_of_full}
+use Rattle.cache_set.specs.Ways.{kept_of, used, filled, changed, victim_of}
 use Rattle.cache_set.specs.WaySets.{WaySet, IsWaySet, way_of}
 use Rattle.cache_set.proofs.Sets.{set-used, set-changed, set-filled, lacks-absent}
 use Rattle.mesi_dir.specs.LineMap.{LineMap, Sharing, HasRoomForLine, IsLineMap, KeepsOthers, is_among, nobody, sharing_of}
@@ -45,7 +45,7 @@ raw_absent q s h = none_as is_dirty_mark (kept_of q s.list) (sym (kept-as is_dir
 pub dirt_of : (q : ℕ) (s : WaySet) (o : Option ℕ) → kept_of q s.list ≡ o → kept_of q (shared_list s) ≡ option_map is_dirty_mark o
 dirt_of q s o h = kept-as is_dirty_mark q s.list ∙ ap (option_map is_dirty_mark) h
 
-pub last_dirt : (s : WaySet) → last_of_full s.ways (shared_list s) ≡ as_dirt (last_of_full s.ways s.list)
+pub last_dirt : (s : WaySet) → victim_of s.ways (shared_list s) ≡ as_dirt (victim_of s.ways s.list)
 last_dirt s = last-as is_dirty_mark (s.ways - 1) s.list
 
 not_both : (b : Bool) → b ≡ true → b ≡ false → ⊥
@@ -70,7 +70,7 @@ module _ {s : WaySet} {m : LineMap} (are : AreShared s m) where
   }
 
   -- ---- a line comes
-  module _ (line mark : ℕ) (absent : kept_of line s.list ≡ None) (new : LineMap) (sharing : (q : ℕ) → sharing_of new q ≡ sharing_without (as_dirt (last_of_full s.ways s.list)) q (sharing_of m q)) (room : new.room ≡ m.room) where
+  module _ (line mark : ℕ) (absent : kept_of line s.list ≡ None) (new : LineMap) (sharing : (q : ℕ) → sharing_of new q ≡ sharing_without (as_dirt (victim_of s.ways s.list)) q (sharing_of m q)) (room : new.room ≡ m.room) where
     left : (victim : Option (ℕ × ℕ)) (q core : ℕ) → is_among (sharing_without (as_dirt victim) q (sharing_of m q)) core ≡ true → IsSome (kept_without victim q (kept_of q s.list))
     left None q core h = are.within q core h
     left (Some v) q core h =
@@ -83,8 +83,8 @@ module _ {s : WaySet} {m : LineMap} (are : AreShared s m) where
       room = let h = are.room in omega arith;
       within = λ q core h.
           rw (kept-filled s.ways line q mark s.list are.is_set.ways.0 are.is_set.distinct are.is_set.within)
-          (elim (nat_eq line q) as (λ b. IsSome (cond b (Some mark) (kept_without (last_of_full s.ways s.list) q (kept_of q s.list))))
-          [ true ↦ refl | false ↦ left (last_of_full s.ways s.list) q core (sym (ap (λ (x : Sharing). is_among x core) (sharing q)) ∙ h) ]);
+          (elim (nat_eq line q) as (λ b. IsSome (cond b (Some mark) (kept_without (victim_of s.ways s.list) q (kept_of q s.list))))
+          [ true ↦ refl | false ↦ left (victim_of s.ways s.list) q core (sym (ap (λ (x : Sharing). is_among x core) (sharing q)) ∙ h) ]);
     }
 
   -- ---- cores

@@ -10,7 +10,7 @@ use Rattle.zs_num.specs.declared.request.Request.{Request}
 use Rattle.cache_set.specs.declared.letter.Letter.{Letter}
 use Rattle.cache_set.specs.declared.letter.Letter.TheVariants.{M, E, S, I}
 use Rattle.cache_set.specs.Ways.{without, used, filled, changed}
-use Rattle.shard.specs.Coherence.{Caches, caches_after, in_own_set_of, is_valid, is_modified, is_write, kept_first, l2_victim, letter_at, letter_in, looked_up, marked_dirty, on_l2, on_others, on_own, other_after, others_changed, outcome_of, own_after, own_victim, recalled, room_made, some_other, taken_in, taken_into_l2, with_letter, written_back}
+use Rattle.shard.specs.Coherence.{Caches, caches_after, in_own_set_of, is_valid, is_modified, is_write, kept_first, l2_victim, letter_at, letter_in, looked_up, marked_dirty, on_l2, on_others, on_own, other_after, others_changed, outcome_of, own_after, own_victim, recalled, copies_evicted, some_other, filled_into_l1, filled_into_l2, with_letter, written_back}
 use Rattle.shard.specs.Lines.{in_set_of, set_number}
 use Rattle.shard.proofs.CoherentLetters.{at_victim}
 use Rattle.shard.proofs.CoherentLists.{mapped_at, numbered_at, set_read}
@@ -46,8 +46,8 @@ module _ (n number : ℕ) (some : 0 < n) (d : Caches) where
     unfolding looked_up
     looked_apart = l2_changed (used line)
 
-    fetched_apart : Part n number (taken_into_l2 line c) d
-    unfolding taken_into_l2
+    fetched_apart : Part n number (filled_into_l2 line c) d
+    unfolding filled_into_l2
     fetched_apart = l2_changed (filled c.l2_ways line false)
 
     others_apart : (change : Letter → Letter) (core : ℕ) → Part n number (others_changed change core line c) d
@@ -81,7 +81,7 @@ module _ (n number : ℕ) (some : 0 < n) (d : Caches) where
       elim (is_modified w.1) as (λ b. Part n number (cond b (marked_dirty w.0 c) c) d)
       [ true ↦ marked_apart w.0 (h w refl) c p | false ↦ p ]
 
-  room_apart : (c : Caches) → Part n number c d → (victim : Option (ℕ × Bool)) → ((w : ℕ × Bool) → victim ≡ Some w → w.0 % n ≢ number) → Part n number (room_made victim c) d
+  room_apart : (c : Caches) → Part n number c d → (victim : Option (ℕ × Bool)) → ((w : ℕ × Bool) → victim ≡ Some w → w.0 % n ≢ number) → Part n number (copies_evicted victim c) d
   room_apart c p None h = p
   room_apart c p (Some w) h = recalled_apart w.0 (h w refl) c p
 
@@ -106,8 +106,8 @@ module _ (n number : ℕ) (some : 0 < n) (d : Caches) where
         = at_victim (λ (way : ℕ × Letter). way.0 / c.shards % length sets ≡ k) c.l1_ways (get_or sets k []) w (stand_all c.shards (length sets) k (get_or sets k []) ((placed.l1 core).each k)) e in
         other (sym (same_rest n (length (get_or d.l1 core [])) (length sets) some (p.l1 core).many w.0 line (subst (λ (x : ℕ). w.0 / x % length sets ≡ line / x % length sets) (p.whole) at)) ∙ same)
 
-    taken_apart : (c : Caches) → Part n number c d → Placed c → (core : ℕ) (letter : Letter) → Part n number (taken_in core line letter c) d
-    unfolding taken_in
+    taken_apart : (c : Caches) → Part n number c d → Placed c → (core : ℕ) (letter : Letter) → Part n number (filled_into_l1 core line letter c) d
+    unfolding filled_into_l1
     taken_apart c p placed core letter =
         let victim : Option (ℕ × Letter) = own_victim c core line in
         own_apart line other (written_back victim c) (back_apart c p victim (own_victim_other c p placed core)) core (filled c.l1_ways line letter)
@@ -118,7 +118,7 @@ module _ (n number : ℕ) (some : 0 < n) (d : Caches) where
     on_l2_apart c p placed (L2 others) = looked_apart line other c p
     on_l2_apart c p placed (Miss dirty) =
         let victim : Option (ℕ × Bool) = l2_victim c line in
-        fetched_apart line other (room_made victim c) (room_apart c p victim (l2_victim_other c p placed))
+        fetched_apart line other (copies_evicted victim c) (room_apart c p victim (l2_victim_other c p placed))
 
     on_others_apart : (c : Caches) → Part n number c d → (outcome : Outcome) (write : Bool) (core : ℕ) → Part n number (on_others outcome write core line c) d
     on_others_apart c p Hit write core = p

@@ -10,7 +10,7 @@ use Rattle.zs_num.specs.declared.request.Request.{Request}
 use Rattle.cache_set.specs.declared.letter.Letter.{Letter}
 use Rattle.cache_set.specs.declared.letter.Letter.TheVariants.{M, E, S, I}
 use Rattle.cache_set.specs.Ways.{without, used, filled, changed}
-use Rattle.shard.specs.Coherence.{Caches, caches_after, in_own_set_of, is_valid, is_modified, is_write, kept_first, l2_victim, letter_at, letter_in, looked_up, marked_dirty, on_l2, on_others, on_own, other_after, others_changed, outcome_of, own_after, own_victim, recalled, room_made, some_other, taken_in, taken_into_l2, with_letter, written_back}
+use Rattle.shard.specs.Coherence.{Caches, caches_after, in_own_set_of, is_valid, is_modified, is_write, kept_first, l2_victim, letter_at, letter_in, looked_up, marked_dirty, on_l2, on_others, on_own, other_after, others_changed, outcome_of, own_after, own_victim, recalled, copies_evicted, some_other, filled_into_l1, filled_into_l2, with_letter, written_back}
 use Rattle.shard.specs.Lines.{in_set_of}
 use Rattle.shard.proofs.CoherentLists.{both_set, mapped_at, numbered_at}
 use Rattle.shard.proofs.CoherentPlaced.{Keeps, Placed, if_other, l2_step, none_other, others_step}
@@ -46,8 +46,8 @@ module _ (n number : ℕ) (some : 0 < n) where
         l2_part c d (in_set_of c.shards line (used line) c.l2) (in_set_of d.shards line (used line) d.l2) p
         (agree_step n number some c.shards d.shards p.whole p.count c.l2 d.l2 (used line) line is p.l2)
 
-    fetched_part : Part n number (taken_into_l2 line c) (taken_into_l2 line d)
-    unfolding taken_into_l2
+    fetched_part : Part n number (filled_into_l2 line c) (filled_into_l2 line d)
+    unfolding filled_into_l2
     fetched_part =
         l2_part c d (in_set_of c.shards line (filled c.l2_ways line false) c.l2) (in_set_of d.shards line (filled d.l2_ways line false) d.l2) p
         (subst (λ (ways : ℕ). Agree n number (in_set_of c.shards line (filled c.l2_ways line false) c.l2) (in_set_of d.shards line (filled ways line false) d.l2)) (sym p.l2_ways)
@@ -86,7 +86,7 @@ module _ (n number : ℕ) (some : 0 < n) where
       elim (is_modified w.1) as (λ b. Part n number (cond b (marked_dirty w.0 c) c) (cond b (marked_dirty w.0 d) d))
       [ true ↦ marked_part w.0 (h w refl) c d p | false ↦ p ]
 
-  room_part : (c d : Caches) → Part n number c d → (victim : Option (ℕ × Bool)) → ((w : ℕ × Bool) → victim ≡ Some w → w.0 % n ≡ number) → Part n number (room_made victim c) (room_made victim d)
+  room_part : (c d : Caches) → Part n number c d → (victim : Option (ℕ × Bool)) → ((w : ℕ × Bool) → victim ≡ Some w → w.0 % n ≡ number) → Part n number (copies_evicted victim c) (copies_evicted victim d)
   room_part c d p None h = p
   room_part c d p (Some w) h = recalled_part w.0 (h w refl) c d p
 
@@ -95,8 +95,8 @@ module _ (n number : ℕ) (some : 0 < n) where
   dirtied_part line is c d p false = p
 
   module _ (line : ℕ) (is : line % n ≡ number) where
-    taken_part : (c d : Caches) → Part n number c d → Placed c → (core : ℕ) (letter : Letter) → Part n number (taken_in core line letter c) (taken_in core line letter d)
-    unfolding taken_in
+    taken_part : (c d : Caches) → Part n number c d → Placed c → (core : ℕ) (letter : Letter) → Part n number (filled_into_l1 core line letter c) (filled_into_l1 core line letter d)
+    unfolding filled_into_l1
     taken_part c d p placed core letter =
         let victim : Option (ℕ × Letter) = own_victim c core line in
         let back : Part n number (written_back victim c) (written_back victim d) = back_part c d p victim (own_victim_number n number c d p line is some placed core) in
@@ -111,9 +111,9 @@ module _ (n number : ℕ) (some : 0 < n) where
     on_l2_part c d p placed (L2 others) = looked_part line is c d p
     on_l2_part c d p placed (Miss dirty) =
         let victim : Option (ℕ × Bool) = l2_victim c line in
-        let made : Part n number (room_made victim c) (room_made victim d) = room_part c d p victim (l2_victim_number n number c d p line is some placed) in
-        subst (λ (v : Option (ℕ × Bool)). Part n number (taken_into_l2 line (room_made victim c)) (taken_into_l2 line (room_made v d))) (l2_victim_same n number c d p line is)
-        (fetched_part line is (room_made victim c) (room_made victim d) made)
+        let made : Part n number (copies_evicted victim c) (copies_evicted victim d) = room_part c d p victim (l2_victim_number n number c d p line is some placed) in
+        subst (λ (v : Option (ℕ × Bool)). Part n number (filled_into_l2 line (copies_evicted victim c)) (filled_into_l2 line (copies_evicted v d))) (l2_victim_same n number c d p line is)
+        (fetched_part line is (copies_evicted victim c) (copies_evicted victim d) made)
 
     on_others_part : (c d : Caches) → Part n number c d → (outcome : Outcome) (write : Bool) (core : ℕ) → Part n number (on_others outcome write core line c) (on_others outcome write core line d)
     on_others_part c d p Hit write core = p

@@ -54,7 +54,7 @@ HasCopies c = (line : ℕ) → own_letter c line ≡ I → kept_of line (copies_
 abbrev pub ChangesLetter : (old new : CoreLines) (line : ℕ) → Letter → Type 0
 ChangesLetter old new line letter = (other : ℕ) → own_letter new other ≡ (if nat_eq line other then letter else own_letter old other)
 
--- a line's letter once the line that makes room is gone
+-- a line's letter after an eviction
 abbrev pub letter_without : (victim : Option (ℕ × Letter)) → (line : ℕ) → Letter → Letter
 letter_without None line letter = letter
 letter_without (Some victim) line letter = if nat_eq line victim.0 then I else letter
@@ -95,7 +95,7 @@ pub record TellsLetter (old new : LineMap) (core line : ℕ) (letter : Letter) :
   pub owns : (c : ℕ) → is_owner (owner_of new line) c ≡ (if nat_eq core c then is_alone letter else is_owner (owner_of old line) c)
   pub others : KeepsOthers old new line
 
--- who has a line once the line that makes room is gone
+-- who has a line after an eviction
 abbrev pub sharing_without : (victim : Option (ℕ × Bool)) → (line : ℕ) → Sharing → Sharing
 sharing_without None line sharing = sharing
 sharing_without (Some victim) line sharing = if nat_eq line victim.0 then nobody else sharing

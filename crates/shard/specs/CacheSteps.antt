@@ -1,10 +1,10 @@
--- What the steps of an access do to the letters and to the room in the sets: what each step leaves for the next.
+-- What the steps of an access do to the letters, and what they evict: what each step leaves for the next.
 use Rattle.std.specs.Prelude.{◌≡◌, ◌≢◌, ℕ, Bool, true, false, if◌then◌else◌, IsSome, List, [], length, nat_eq, slice_index_or, Some, None, is_some}
 use Rattle.zs_num.specs.declared.entry.Outcome.{Outcome}
 use Rattle.cache_set.specs.declared.letter.Letter.{Letter}
 use Rattle.cache_set.specs.declared.letter.Letter.TheVariants.{I}
 use Rattle.cache_set.specs.Ways.{filled, kept_of}
-use Rattle.shard.specs.Coherence.{Caches, dirty_at, in_own_set_of, is_alone, is_dirty_victim, is_valid, l2_victim, letter_at, on_l2, on_others, on_own, outcome_by, own_after, own_victim, some_other, taken_in}
+use Rattle.shard.specs.Coherence.{Caches, dirty_at, in_own_set_of, is_alone, is_dirty_victim, is_valid, l2_victim, letter_at, on_l2, on_others, on_own, outcome_by, own_after, own_victim, some_other, filled_into_l1}
 use Rattle.shard.specs.Lines.{set_of}
 
 -- a line with the letter I has no copy in its set
@@ -44,14 +44,14 @@ after_at c core line write =
     on_own (letter_at c core line) core line (own_after write (letter_at c core line) (some_other is_valid c core line))
     (on_others (met_at c core line write) write core line (on_l2 (met_at c core line write) line c))
 
--- a core's set of a line has room, and the line comes into it as into the full set
-pub record MakesRoom (old new : Caches) (core line : ℕ) : Type 0 where
+-- a full set of a core has evicted its last line, and the line comes into the set as it would into the full one
+pub record EvictsOwn (old new : Caches) (core line : ℕ) : Type 0 where
   pub room : own_victim new core line ≡ None
   pub cores : length new.l1 ≡ length old.l1
   pub absent : letter_at new core line ≡ I
   pub others : (c : ℕ) → c ≢ core → letter_at new c line ≡ letter_at old c line
   pub in_l2 : IsSome (dirty_at old line) → IsSome (dirty_at new line)
-  pub fills : (letter : Letter) → in_own_set_of core line (filled new.l1_ways line letter) new ≡ taken_in core line letter old
+  pub fills : (letter : Letter) → in_own_set_of core line (filled new.l1_ways line letter) new ≡ filled_into_l1 core line letter old
 
 -- the other cores have letters for a line that leave the core free to take it
 pub record LeavesFree (old new : Caches) (core line : ℕ) (write : Bool) : Type 0 where
@@ -62,8 +62,8 @@ pub record LeavesFree (old new : Caches) (core line : ℕ) (write : Bool) : Type
   pub written : write ≡ true → (c : ℕ) → c ≢ core → letter_at new c line ≡ I
   pub held : write ≡ false → (c : ℕ) → c ≢ core → is_valid (letter_at new c line) ≡ is_valid (letter_at old c line)
 
--- the line that has to leave the L2 for this one has no copy any more
-pub record MakesL2Room (old new : Caches) (line : ℕ) : Type 0 where
+-- the line that is evicted from the L2 for this one has no copy any more
+pub record EvictsCopies (old new : Caches) (line : ℕ) : Type 0 where
   pub cores : length new.l1 ≡ length old.l1
   pub l2 : dirty_at new line ≡ dirty_at old line
   pub gone : (victim : ℕ × Bool) → l2_victim new line ≡ Some victim → (core : ℕ) → letter_at new core victim.0 ≡ I

@@ -1,6 +1,6 @@
 -- What an access does to the caches: the MESI protocol (Papamarcos and Patel 1984), with a cache of its own for each
--- core (L1) and one that all share (L2). The L2 is inclusive: it has each line that an L1 has. The line that was used
--- last longest ago makes room. There is no directory: who has a line is read off the lists.
+-- core (L1) and one that all share (L2). The L2 is inclusive: it has each line that an L1 has. From a full set the line
+-- that was used last longest ago is evicted. There is no directory: who has a line is read off the lists.
 use Rattle.std.specs.Prelude.{ℕ, ◌==◌, Bool, true, false, not, ◌&&◌, ◌||◌, if◌then◌else◌, List, [], ◌∷◌, length, map, replicate, slice_index_or, slice_set, Option, Some, None, is_some, unwrap_or}
 use Rattle.std.specs.List.{enumerate_from, list_any, range_with_len}
 use Rattle.zs_num.specs.Request.{line_of}
@@ -10,7 +10,7 @@ use Rattle.zs_num.specs.declared.request.Request.{Request}
 use Rattle.zs_num.specs.declared.request.Request.TheVariants.{Load, Store, Lr, Sc, Amo}
 use Rattle.cache_set.specs.declared.letter.Letter.{Letter}
 use Rattle.cache_set.specs.declared.letter.Letter.TheVariants.{M, E, S, I}
-use Rattle.cache_set.specs.Ways.{kept_of, without, used, filled, changed, last_of_full}
+use Rattle.cache_set.specs.Ways.{kept_of, without, used, filled, changed, victim_of}
 use Rattle.shard.specs.Lines.{set_of, in_set_of}
 
 -- The lines in each set, the most recently used first. With one shard these are the caches of a whole machine, and else
@@ -88,7 +88,7 @@ is_write (Sc addr width value paired) = true
 is_write (Amo op addr width value) = true
 
 -- How the caches meet an access, by the core's letter and by whether the L2 holds the line. `alone` says that another
--- core has it in M or E, `has` that another core has it, and `dirty` that the line that makes room in the L2 is dirty.
+-- core has it in M or E, `has` that another core has it, and `dirty` that the line that the L2 evicts is dirty.
 abbrev pub outcome_by : (write : Bool) → Letter → (in_l2 alone has dirty : Bool) → Outcome
 outcome_by false M in_l2 alone has dirty = Hit
 outcome_by false E in_l2 alone has dirty = Hit
@@ -119,9 +119,9 @@ other_after false I = I
 
 -- ---- the steps of an access
 
--- the line that has to leave the L2 for this one
+-- the line that is evicted from the L2 for this one
 abbrev pub l2_victim : Caches → (line : ℕ) → Option (ℕ × Bool)
-l2_victim c line = last_of_full c.l2_ways (set_of c.shards line c.l2)
+l2_victim c line = victim_of c.l2_ways (set_of c.shards line c.l2)
 
 -- it is dirty in the L2, or a core has it modified
 abbrev pub is_dirty_victim : Caches → Option (ℕ × Bool) → Bool
@@ -141,14 +141,14 @@ recalled line c = record c { l1 = map (in_set_of c.shards line (without line)) c
 unfoldable pub marked_dirty : (line : ℕ) → Caches → Caches
 marked_dirty line c = record c { l2 = in_set_of c.shards line (changed line true) c.l2 }
 
--- where a line has to leave the L2, every copy of it is removed
-abbrev pub room_made : Option (ℕ × Bool) → Caches → Caches
-room_made None c = c
-room_made (Some victim) c = recalled victim.0 c
+-- a line that is evicted from the L2 is evicted from every L1
+abbrev pub copies_evicted : Option (ℕ × Bool) → Caches → Caches
+copies_evicted None c = c
+copies_evicted (Some victim) c = recalled victim.0 c
 
 -- a line comes into the L2, clean
-unfoldable pub taken_into_l2 : (line : ℕ) → Caches → Caches
-taken_into_l2 line c = record c { l2 = in_set_of c.shards line (filled c.l2_ways line false) c.l2 }
+unfoldable pub filled_into_l2 : (line : ℕ) → Caches → Caches
+filled_into_l2 line c = record c { l2 = in_set_of c.shards line (filled c.l2_ways line false) c.l2 }
 
 -- a line is used in the L2
 unfoldable pub looked_up : (line : ℕ) → Caches → Caches
@@ -159,7 +159,7 @@ abbrev pub on_l2 : Outcome → (line : ℕ) → Caches → Caches
 on_l2 Hit line c = c
 on_l2 (Upgrade others) line c = looked_up line c
 on_l2 (L2 others) line c = looked_up line c
-on_l2 (Miss dirty) line c = taken_into_l2 line (room_made (l2_victim c line) c)
+on_l2 (Miss dirty) line c = filled_into_l2 line (copies_evicted (l2_victim c line) c)
 
 -- a copy with another letter, in its place; with I it leaves
 abbrev pub with_letter : (line : ℕ) → Letter → List (ℕ × Letter) → List (ℕ × Letter)
@@ -191,17 +191,17 @@ in_own_set_of core line change c = record c { l1 = slice_set c.l1 core (in_set_o
 unfoldable pub kept_first : (core line : ℕ) → Letter → Caches → Caches
 kept_first core line letter c = in_own_set_of core line (λ copies. (line, letter) ∷ without line copies) c
 
--- the line that has to leave a core's L1 for this one: where it is modified, it is dirty in the L2 from then on
+-- the line that is evicted from a core's L1 for this one: where it is modified, it is dirty in the L2 from then on
 abbrev pub own_victim : Caches → (core line : ℕ) → Option (ℕ × Letter)
-own_victim c core line = last_of_full c.l1_ways (set_of c.shards line (slice_index_or c.l1 core []))
+own_victim c core line = victim_of c.l1_ways (set_of c.shards line (slice_index_or c.l1 core []))
 
 abbrev pub written_back : Option (ℕ × Letter) → Caches → Caches
 written_back None c = c
 written_back (Some victim) c = if is_modified victim.1 then marked_dirty victim.0 c else c
 
 -- a line comes into a core's L1
-unfoldable pub taken_in : (core line : ℕ) → Letter → Caches → Caches
-taken_in core line letter c =
+unfoldable pub filled_into_l1 : (core line : ℕ) → Letter → Caches → Caches
+filled_into_l1 core line letter c =
     in_own_set_of core line (filled c.l1_ways line letter) (written_back (own_victim c core line) c)
 
 -- what an access does to the core's own L1
@@ -209,7 +209,7 @@ abbrev pub on_own : Letter → (core line : ℕ) → Letter → Caches → Cache
 on_own M core line letter c = kept_first core line letter c
 on_own E core line letter c = kept_first core line letter c
 on_own S core line letter c = kept_first core line letter c
-on_own I core line letter c = taken_in core line letter c
+on_own I core line letter c = filled_into_l1 core line letter c
 
 -- the caches after an access of a core: first the L2, then the other cores' copies, then the core's own
 unfoldable pub caches_after : Caches → (core : ℕ) → Request → Caches

@@ -5,10 +5,10 @@ ghost use Rattle.shard.specs.Lines.{set_number};
 
 mod copies;
 mod core_cache;
+mod eviction;
 mod l2;
 mod meet;
 mod others;
-mod room;
 mod shared_set;
 
 use cache_set::Letter;

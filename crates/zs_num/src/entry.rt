@@ -14,7 +14,7 @@ pub enum Outcome {
     Upgrade { others: bool },
     /// The shared cache had the line. `others`: another core had a copy that had to change.
     L2 { others: bool },
-    /// Memory had the line. `dirty_victim`: the line that made room was written back.
+    /// Memory had the line. `dirty_victim`: the line that the L2 evicted was written back.
     Miss { dirty_victim: bool },
 }
 

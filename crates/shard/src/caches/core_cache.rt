@@ -1,6 +1,6 @@
 //! The cache of one core (L1): its sets, whose marks stand for letters.
 ghost use Rattle.std.specs.Prelude.{◌≡◌, ℕ, ◌<◌, ◌≤◌, ◌∷◌, [], IfOk, IfSome, IsSome, IsTrue, take, ◌-◌, None, length, if◌then◌else◌, nat_eq, replicate};
-ghost use Rattle.cache_set.specs.Ways.{kept_of, without, filled, changed, last_of_full};
+ghost use Rattle.cache_set.specs.Ways.{kept_of, without, filled, changed, victim_of};
 ghost use Rattle.shard.specs.Coherence.{is_valid, letter_in};
 ghost use Rattle.shard.specs.Lines.{in_set_of, set_number};
 ghost use Rattle.shard.specs.CacheLayout.{ChangesLetter, HasCopies, copies_of, letter_without, own_letter};
@@ -56,9 +56,9 @@ impl CoreCache {
         }
     }
 
-    /// The line that has to leave for this one, which is not there.
+    /// The line that is evicted for this one, which is not there.
     pub(crate) fn victim(&self, line: u64) -> Option<(u64, Letter)>
-        ensures victim { result ≡ last_of_full self.now.ways (copies_of self.now line) }
+        ensures victim { result ≡ victim_of self.now.ways (copies_of self.now line) }
         ensures placed { IfSome result (λ v. set_number self.now.shards v.0 self.now.sets ≡ set_number self.now.shards line self.now.sets) }
         ensures last { IfSome result (λ v. without v.0 (copies_of self.now line) ≡ take (self.now.ways - 1) (copies_of self.now line)) }
     {
@@ -83,7 +83,7 @@ impl CoreCache {
         set.change(line, letter.mark());
     }
 
-    /// Puts a line that is not there at the front. Of a full set the last line leaves.
+    /// Puts a line that is not there at the front. Of a full set the last line is evicted.
     pub(crate) fn put(&mut self, line: u64, letter: Letter)
         requires absent { own_letter self.old line ≡ Letter.I }
         requires held { IsTrue (is_valid letter) }
@@ -91,7 +91,7 @@ impl CoreCache {
           sets = in_set_of self.old.shards line (filled self.old.ways line letter) self.old.sets;
         } }
         ensures letters { (other : ℕ) → own_letter self.new other ≡ (if nat_eq line other then letter
-            else letter_without (last_of_full self.old.ways (copies_of self.old line)) other (own_letter self.old other)) }
+            else letter_without (victim_of self.old.ways (copies_of self.old line)) other (own_letter self.old other)) }
         ensures copies { HasCopies self.new }
     {
         let place = self.place(line);

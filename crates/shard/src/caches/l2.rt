@@ -1,6 +1,6 @@
 //! What an access does to the L2.
 ghost use Rattle.std.specs.Prelude.{◌≡◌, ℕ, Bool, IsSome};
-ghost use Rattle.shard.specs.Coherence.{dirty_at, l2_victim, letter_at, looked_up, marked_dirty, taken_into_l2};
+ghost use Rattle.shard.specs.Coherence.{dirty_at, l2_victim, letter_at, looked_up, marked_dirty, filled_into_l2};
 
 use super::CacheLists;
 use cache_set::Letter;
@@ -25,19 +25,19 @@ impl CacheLists {
         set.mark_dirty(line);
     }
 
-    /// The line that has to leave the L2 for this one, and whether it is dirty there.
+    /// The line that is evicted from the L2 for this one, and whether it is dirty there.
     pub(super) fn l2_victim(&self, line: u64) -> Option<(u64, bool)>
         ensures { result ≡ l2_victim self.now line }
     {
         self.l2[self.place(line)].victim()
     }
 
-    /// A line comes into the L2, clean. No core has a copy of the line that leaves for it.
-    pub(super) fn take_into_l2(&mut self, line: u64)
+    /// A line comes into the L2, clean. No core has a copy of the line that is evicted for it.
+    pub(super) fn fill_into_l2(&mut self, line: u64)
         requires absent { dirty_at self.old line ≡ None }
         requires gone { (victim : ℕ × Bool) → l2_victim self.old line ≡ Some victim
             → (core : ℕ) → letter_at self.old core victim.0 ≡ Letter.I }
-        ensures after { self.new ≡ taken_into_l2 line self.old }
+        ensures after { self.new ≡ filled_into_l2 line self.old }
         ensures there { IsSome (dirty_at self.new line) }
     {
         let place = self.place(line);

@@ -1,7 +1,7 @@
 //! How the caches meet an access: each row of the table of the MESI protocol.
 ghost use Rattle.std.specs.Prelude.{◌≡◌, ◌≢◌, ℕ, ◌<◌, ◌||◌, IsSome, IsTrue, None, false, true, length, if◌then◌else◌};
-ghost use Rattle.shard.specs.CacheSteps.{LeavesFree, MakesL2Room, after_at, met_at};
-ghost use Rattle.shard.specs.Coherence.{caches_after, dirty_at, is_alone, is_dirty_victim, is_valid, is_modified, is_write, l2_victim, letter_at, marked_dirty, on_others, outcome_of, room_made, some_core, some_other};
+ghost use Rattle.shard.specs.CacheSteps.{LeavesFree, EvictsCopies, after_at, met_at};
+ghost use Rattle.shard.specs.Coherence.{caches_after, dirty_at, is_alone, is_dirty_victim, is_valid, is_modified, is_write, l2_victim, letter_at, marked_dirty, on_others, outcome_of, copies_evicted, some_core, some_other};
 ghost use Rattle.shard.specs.Allowed.{allows};
 
 use super::CacheLists;
@@ -143,19 +143,19 @@ impl CacheLists {
         ensures outcome { result ≡ met_at self.old core line write }
         ensures after { self.new ≡ after_at self.old core line write }
     {
-        let dirty_victim = self.make_l2_room(core, line);
-        self.take_into_l2(line);
+        let dirty_victim = self.evict_copies(core, line);
+        self.fill_into_l2(line);
         self.bring_in(core, line, write);
         Outcome::Miss { dirty_victim }
     }
 
-    /// Every copy of the line that has to leave the L2 for a core's access is removed. The answer
-    /// is whether that line is dirty.
-    fn make_l2_room(&mut self, core: u16, line: u64) -> bool
+    /// Evicts from every L1 the line that is evicted from the L2 for a core's access. The answer is
+    /// whether that line is dirty.
+    fn evict_copies(&mut self, core: u16, line: u64) -> bool
         requires { core < length self.old.l1 }
         ensures dirty { result ≡ is_dirty_victim self.old (l2_victim self.old line) }
-        ensures after { self.new ≡ room_made (l2_victim self.old line) self.old }
-        ensures room { MakesL2Room self.old self.new line }
+        ensures after { self.new ≡ copies_evicted (l2_victim self.old line) self.old }
+        ensures evicts { EvictsCopies self.old self.new line }
     {
         match self.l2_victim(line) {
             Some((victim, dirty)) => {

@@ -1,6 +1,6 @@
 //! A set of the L2 with its directory.
 ghost use Rattle.std.specs.Prelude.{◌≡◌, ◌≢◌, ℕ, ◌<◌, ◌≤◌, [], IfOk, IsSome, IsTrue, None, if◌then◌else◌, nat_eq, option_map, false, true, ◌↔◌};
-ghost use Rattle.cache_set.specs.Ways.{kept_of, used, filled, changed, last_of_full};
+ghost use Rattle.cache_set.specs.Ways.{kept_of, used, filled, changed, victim_of};
 ghost use Rattle.mesi_dir.specs.LineMap.{HasOther, is_sharer, owner_of, sharing_of};
 ghost use Rattle.shard.specs.CacheLayout.{TellsLetter, is_owner, sharing_without};
 
@@ -69,22 +69,22 @@ impl SharedSet {
         }
     }
 
-    /// The line that leaves when the next one comes, and whether it is dirty.
+    /// The line that is evicted when the next one comes, and whether it is dirty.
     pub(crate) fn victim(&self) -> Option<(u64, bool)>
-        ensures { result ≡ last_of_full self.now.ways self.now.list }
+        ensures { result ≡ victim_of self.now.ways self.now.list }
     {
         let way = self.set.last_if_full()?;
         Some((way.line, way.mark == DIRTY))
     }
 
-    /// Puts a line that is not there at the front, clean. The last line of a full set leaves, and
-    /// no core has it then.
+    /// Puts a line that is not there at the front, clean. The last line of a full set is evicted,
+    /// and no core has it then.
     pub(crate) fn put(&mut self, line: u64)
         requires { kept_of line self.old.list ≡ None }
         ensures rest { self.new ≡ record self.old { list = filled self.old.ways line false self.old.list; map = self.new.map } }
         ensures cores { self.new.map.cores ≡ self.old.map.cores }
         ensures sharing { (other : ℕ) → sharing_of self.new.map other
-            ≡ sharing_without (last_of_full self.old.ways self.old.list) other (sharing_of self.old.map other) }
+            ≡ sharing_without (victim_of self.old.ways self.old.list) other (sharing_of self.old.map other) }
         ensures there { IsSome (kept_of line self.new.list) }
     {
         if let Some(victim) = self.set.put(line, CLEAN) {

@@ -3,7 +3,7 @@ use Rattle.std.proofs.Common.{◌≡◌, ℕ, Bool, true, cond, Option, None, sy
 use Rattle.std.proofs.lemmas.List.{length-map}
 use Rattle.std.specs.Prelude.{IsSome, nat_eq}
 use Rattle.cache_set.specs.declared.letter.Letter.{Letter}
-use Rattle.cache_set.specs.Ways.{filled, last_of_full}
+use Rattle.cache_set.specs.Ways.{filled, victim_of}
 use Rattle.shard.specs.CacheLayout.{ChangesLetter, CoreLines, SharedLines, TellsLetter, copies_of, letter_without, own_letter}
 use Rattle.shard.specs.Lines.{in_set_of}
 use Rattle.shard.proofs.AllCaches.{both_are, both_view, core_is, dirty_is, letter_is, no_other, own_victim_is, some_other_not, told_new}
@@ -22,7 +22,7 @@ put-requires-clause-absent c =
 pub invariant_of-self : goal.invariant_of-self
 invariant_of-self c =
     let s = c.self.inside in
-    let room : last_of_full c.index_mut-cache.result.now.ways (copies_of c.index_mut-cache.result.now c.args.line) ≡ None = sym (own_victim_is s.shards s.l1_ways s.l2_ways s.l1.items s.l2.items c.self.invariant c.args.core c.index_mut-cache.result.now (rw (← c.self.view_is) at c.requires.core) (rw c.from.ensures at c.index_mut-cache.ensures.value) c.args.line) ∙ rw (← c.self.view_is) at c.requires.room in
+    let room : victim_of c.index_mut-cache.result.now.ways (copies_of c.index_mut-cache.result.now c.args.line) ≡ None = sym (own_victim_is s.shards s.l1_ways s.l2_ways s.l1.items s.l2.items c.self.invariant c.args.core c.index_mut-cache.result.now (rw (← c.self.view_is) at c.requires.core) (rw c.from.ensures at c.index_mut-cache.ensures.value) c.args.line) ∙ rw (← c.self.view_is) at c.requires.room in
     let written : c.args.write ≡ true → c.grant-alone.result ≡ true = λ e. c.grant-alone.ensures.alone.1 (no_other s.shards s.l1_ways s.l2_ways s.l1.items s.l2.items c.self.invariant c.args.line c.place-place.result c.index_mut-set.result.now (rw (← c.self.view_is) at c.place-place.ensures.place) (rw (← c.self.view_is) at c.place-place.ensures.within) c.index_mut-set.ensures.value c.args.core ((rw (← c.self.view_is) at c.requires.written) e)) in
     let changes : ChangesLetter c.index_mut-cache.result.now c.put.new.self c.args.line c.new_letter.result
     = subst (λ (v : Option (ℕ × Letter)). (q : ℕ) → own_letter c.put.new.self q ≡ cond (nat_eq c.args.line q) c.new_letter.result (letter_without v q (own_letter c.index_mut-cache.result.now q))) room c.put.ensures.letters in

@@ -1,7 +1,7 @@
 -- The victim is gone, and the set takes the line in as the full one would.
 use Rattle.std.proofs.Common.{sym, arith}
 use Rattle.shard.proofs.Access.{cores_written, room_made_by, room_there}
-use Rattle.shard.proofs.caches.CacheLists.make_room.Goals as goal
+use Rattle.shard.proofs.caches.CacheLists.evict_own.Goals as goal
 
 pub drop_copy-requires : goal.drop_copy-requires
 drop_copy-requires c =

@@ -1,7 +1,7 @@
 -- The line's set has it at the front, and its directory the victim no more.
 use Rattle.std.proofs.Common.{sym, ◌∙◌}
 use Rattle.shard.proofs.AllCaches.{dirty_is, come_step, come_view, there_after}
-use Rattle.shard.proofs.caches.CacheLists.take_into_l2.Goals as goal
+use Rattle.shard.proofs.caches.CacheLists.fill_into_l2.Goals as goal
 
 pub put-requires : goal.put-requires
 put-requires c =
