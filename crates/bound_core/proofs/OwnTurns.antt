@@ -5,11 +5,11 @@ use Rattle.zs_num.specs.declared.entry.Entry.{Entry}
 use Rattle.zs_num.specs.declared.request.Request.{Request}
 use Rattle.elf_load.specs.MemoryImage.{MemoryImage}
 use Rattle.bound_core.specs.History.{AreTurnsOf, after_turn}
-use Rattle.bound_core.specs.HistoryLaws.{TellsWhatWasAsked}
+use Rattle.bound_core.specs.HistoryLaws.{AnswersWhatWasAsked}
 use Rattle.bound_core.specs.TimedCore.{TimedCore, ran_to}
 use Rattle.bound_core.specs.Turn.{TurnsToEnd}
 
-module _ {Port : Type 0} (gives : Port → (start : ℕ) → Request → Entry → Port → Type 0) (tells : TellsWhatWasAsked gives) (time : Entry → ℕ) (image : MemoryImage) (end : ℕ) where
+module _ {Port : Type 0} (gives : Port → (start : ℕ) → Request → Entry → Port → Type 0) (tells : AnswersWhatWasAsked gives) (time : Entry → ℕ) (image : MemoryImage) (end : ℕ) where
   pub own_turns : (entries : List Entry) (port port_after : Port) (before after : TimedCore) → TurnsToEnd time image end gives entries port port_after before after
       → AreTurnsOf time image end before entries × (after ≡ ran_to image end (fold (after_turn time image end) before entries))
   own_turns [] port port_after before after turns = (turns.asked, turns.left)
@@ -17,9 +17,9 @@ module _ {Port : Type 0} (gives : Port → (start : ℕ) → Request → Entry �
       let next = turns.0 in
       let core = turns.1.0 in
       let turn = turns.1.1.0 in
-      let told = tells port next (ran_to image end before).clock turn.request e turn.given in
+      let logged = tells port next (ran_to image end before).clock turn.request e turn.given in
       let rest = own_turns entries next port_after core after turns.1.1.1 in
       let here : AreTurnsOf time image end (after_turn time image end before e) entries = subst (λ (c : TimedCore). AreTurnsOf time image end c entries) turn.left rest.0 in (
-        (turn.asked ∙ ap Some (sym told.0), told.1, here),
+        (turn.asked ∙ ap Some (sym logged.0), logged.1, here),
         rest.1 ∙ ap (λ (c : TimedCore). ran_to image end (fold (after_turn time image end) c entries)) turn.left,
       )

@@ -61,11 +61,11 @@ takes_access time end before ran after request e m =
 
 -- ---- many
 
-pub gains_nothing : (told : Option (List Entry)) → Gains told [] told
+pub gains_nothing : (logged : Option (List Entry)) → Gains logged [] logged
 gains_nothing None = refl
 gains_nothing (Some entries) = rw (append-nil entries) refl
 
-gains_more : (told middle after : Option (List Entry)) (entries more : List Entry) → Gains told entries middle → Gains middle more after → Gains told (entries ++ more) after
+gains_more : (logged middle after : Option (List Entry)) (entries more : List Entry) → Gains logged entries middle → Gains middle more after → Gains logged (entries ++ more) after
 gains_more None middle after entries more one two = let none : middle ≡ None = one in (rw none at two)
 gains_more (Some before) middle after entries more one two =
     let some : middle ≡ Some (before ++ entries) = one in
@@ -83,44 +83,44 @@ module _ {Port : Type 0} (time : Entry → ℕ) (image : MemoryImage) (end : ℕ
   }
 
   -- the turns so far: with those that follow they are the turns of the whole interval
-  pub record HasTaken (told : Port → Option (List Entry)) (number : ℕ) (first port : Port) (before core : TimedCore) : Type 0 where
+  pub record HasTaken (logged : Port → Option (List Entry)) (number : ℕ) (first port : Port) (before core : TimedCore) : Type 0 where
     pub entries : List Entry
     pub path : (rest : List Entry) (last : Port) (after : TimedCore) → TurnsToEnd time image end gives rest port last core after → TurnsToEnd time image end gives (entries ++ rest) first last before after
     pub cores : All (λ e. e.core ≡ number) entries
     pub starts : All (λ e. e.start ≤ latest_clock end before) entries
     pub few : length entries + most_accesses end core ≤ most_accesses end before
-    pub told_is : Gains (told first) entries (told port)
+    pub logged_is : Gains (logged first) entries (logged port)
 
-  pub none_taken : (told : Port → Option (List Entry)) (number : ℕ) (port : Port) (core : TimedCore) → HasTaken told number port port core core
-  none_taken told number port core = record {
+  pub none_taken : (logged : Port → Option (List Entry)) (number : ℕ) (port : Port) (core : TimedCore) → HasTaken logged number port port core core
+  none_taken logged number port core = record {
     entries = [];
     path = λ rest last after turns. turns;
     cores = all_none (λ e. e.core ≡ number);
     starts = all_none (λ e. e.start ≤ latest_clock end core);
     few = omega arith;
-    told_is = gains_nothing (told port);
+    logged_is = gains_nothing (logged port);
   }
 
-  pub one_more : (told : Port → Option (List Entry)) (number : ℕ) (first port next : Port) (before core later : TimedCore) (e : Entry) → HasTaken told number first port before core
-      → TakesTurn time image end gives port next core later e → e.core ≡ number → e.start ≤ latest_clock end before → most_accesses end later < most_accesses end core → Gains (told port) (e ∷ []) (told next)
-      → HasTaken told number first next before later
-  one_more told number first port next before core later e h turn own start fewer gains = record {
+  pub one_more : (logged : Port → Option (List Entry)) (number : ℕ) (first port next : Port) (before core later : TimedCore) (e : Entry) → HasTaken logged number first port before core
+      → TakesTurn time image end gives port next core later e → e.core ≡ number → e.start ≤ latest_clock end before → most_accesses end later < most_accesses end core → Gains (logged port) (e ∷ []) (logged next)
+      → HasTaken logged number first next before later
+  one_more logged number first port next before core later e h turn own start fewer gains = record {
     entries = h.entries ++ e ∷ [];
     path = λ rest last after turns.
         subst (λ all. TurnsToEnd time image end gives all first last before after) (sym (append_assoc h.entries (e ∷ []) rest)) (h.path (e ∷ rest) last after (next, (later, (turn, turns))));
     cores = all_and_one (λ e. e.core ≡ number) h.entries e h.cores own;
     starts = all_and_one (λ e. e.start ≤ latest_clock end before) h.entries e h.starts start;
     few = let longer : length (h.entries ++ e ∷ []) ≡ length h.entries + 1 = length-append h.entries (e ∷ []) in omega (arith, longer, h.few, fewer);
-    told_is = gains_more (told first) (told port) (told next) h.entries (e ∷ []) h.told_is gains;
+    logged_is = gains_more (logged first) (logged port) (logged next) h.entries (e ∷ []) h.logged_is gains;
   }
 
-  pub all_taken : (told : Port → Option (List Entry)) (number : ℕ) (first port last : Port) (before core after : TimedCore) → HasTaken told number first port before core
-      → EndsInterval image end port last core after → RunsToEnd time image end gives told number first last before after
-  all_taken told number first port last before core after h ends = record {
+  pub all_taken : (logged : Port → Option (List Entry)) (number : ℕ) (first port last : Port) (before core after : TimedCore) → HasTaken logged number first port before core
+      → EndsInterval image end port last core after → RunsToEnd time image end gives logged number first last before after
+  all_taken logged number first port last before core after h ends = record {
     entries = h.entries;
     turns = subst (λ all. TurnsToEnd time image end gives all first last before after) (append-nil h.entries) (h.path [] last after ends);
     cores = h.cores;
     starts = h.starts;
     few = omega (arith, h.few);
-    told = subst (λ port. Gains (told first) h.entries (told port)) (sym ends.same) h.told_is;
+    logged = subst (λ port. Gains (logged first) h.entries (logged port)) (sym ends.same) h.logged_is;
   }

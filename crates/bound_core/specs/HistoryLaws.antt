@@ -47,13 +47,13 @@ module _ (time : Entry → ℕ) (image : MemoryImage) (end : ℕ) where
 
 module _ {Port : Type 0} (gives : Port → (start : ℕ) → Request → Entry → Port → Type 0) where
   -- the port's entries say what was asked, and when
-  abbrev pub TellsWhatWasAsked : Type 0
-  TellsWhatWasAsked = (port port_after : Port) (start : ℕ) (request : Request) (e : Entry) → gives port start request e port_after
+  abbrev pub AnswersWhatWasAsked : Type 0
+  AnswersWhatWasAsked = (port port_after : Port) (start : ℕ) (request : Request) (e : Entry) → gives port start request e port_after
       → (e.request ≡ request) × (e.start ≡ start)
 
   -- The turns of a core through a port up to the end of its interval are its own part of a history.
   abbrev pub TurnsAreTheCoresOwn : Type 0
-  TurnsAreTheCoresOwn = TellsWhatWasAsked
+  TurnsAreTheCoresOwn = AnswersWhatWasAsked
       → (time : Entry → ℕ) (image : MemoryImage) (end : ℕ) (port port_after : Port) (before after : TimedCore) (entries : List Entry)
       → TurnsToEnd time image end gives entries port port_after before after
       → AreTurnsOf time image end before entries × (after ≡ ran_to image end (fold (after_turn time image end) before entries))

@@ -46,11 +46,11 @@ module _ {Port : Type 0} (time : Entry → ℕ) (image : MemoryImage) (end : ℕ
       (next : Port) × ((core : TimedCore) × (TakesTurn port next before core e × TurnsToEnd entries next port_after core after))
 
   -- What the core of this number does up to the end of its interval: its turns, and the entries that they took.
-  -- `told_of` are the entries that the port answered so far, where it tells them.
-  pub record RunsToEnd (told_of : Port → Option (List Entry)) (number : ℕ) (port port_after : Port) (before after : TimedCore) : Type 0 where
+  -- `logged_of` are the entries that the port answered so far, where it logs them.
+  pub record RunsToEnd (logged_of : Port → Option (List Entry)) (number : ℕ) (port port_after : Port) (before after : TimedCore) : Type 0 where
     pub entries : List Entry
     pub turns : TurnsToEnd entries port port_after before after
     pub cores : All (λ e. e.core ≡ number) entries
     pub starts : All (λ e. e.start ≤ latest_clock end before) entries
     pub few : length entries ≤ most_accesses end before
-    pub told : Gains (told_of port) entries (told_of port_after)
+    pub logged : Gains (logged_of port) entries (logged_of port_after)

@@ -184,7 +184,7 @@ impl BoundCore {
         ensures port_base { Q.base port.new ≡ Q.base port.old }
         ensures port_size { Q.size port.new ≡ Q.size port.old }
         ensures port_room { Q.room port.old ≤ Q.room port.new + 1 }
-        ensures port_told { IfTook result (λ e. Gains (Q.told port.old) (e ∷ []) (Q.told port.new)) }
+        ensures port_logged { IfTook result (λ e. Gains (Q.logged port.old) (e ∷ []) (Q.logged port.new)) }
     {
         self.run_local(program, end);
         match self.core.request() {
@@ -194,7 +194,7 @@ impl BoundCore {
     }
 
     /// Runs to the end of the interval: turns until Ended. The accesses go through the port, which
-    /// tells their entries where it keeps a list of them.
+    /// logs their entries where it keeps a list of them.
     pub fn run_one<P: Program, X: Expand, Q: Port>(
         &mut self,
         program: &P,
@@ -209,7 +209,7 @@ impl BoundCore {
         requires spare { end - self.old.timed.clock + beside_cycles ≤ self.old.spare }
         requires clock { self.old.timed.clock ≤ 2 ^ 60 }
         requires end { end ≤ 2 ^ 60 }
-        ensures turns { RunsToEnd (X.time expansion.now) (P.image program.now) end Q.gives Q.told self.old.number port.old port.new self.old.timed self.new.timed }
+        ensures turns { RunsToEnd (X.time expansion.now) (P.image program.now) end Q.gives Q.logged self.old.number port.old port.new self.old.timed self.new.timed }
         ensures over { IsOver end self.new.timed }
         ensures few { most_accesses end self.old.timed ≤ end - self.old.timed.clock + 256 }
         ensures begun { self.old.timed.clock ≤ self.new.timed.clock }
@@ -254,7 +254,7 @@ impl BoundCore {
         ensures port_base { Q.base port.new ≡ Q.base port.old }
         ensures port_size { Q.size port.new ≡ Q.size port.old }
         ensures port_room { Q.room port.old ≤ Q.room port.new + 1 }
-        ensures port_told { Gains (Q.told port.old) (result ∷ []) (Q.told port.new) }
+        ensures port_logged { Gains (Q.logged port.old) (result ∷ []) (Q.logged port.new) }
     {
         let entry = port.access(self.clock, request);
         if let Some(byte) = self.core.answer(entry.reply) {

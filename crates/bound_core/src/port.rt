@@ -23,8 +23,8 @@ pub trait Port {
     /// Which entry, and which port after it, may come of a request that starts then.
     ghost gives: { Self → (start : ℕ) → Request → Entry → Self → Type 0 };
 
-    /// The entries that it answered, in order, where it tells them.
-    ghost told: { Self → Option (List Entry) };
+    /// The entries that it answered, in order, where it logs them.
+    ghost logged: { Self → Option (List Entry) };
 
     /// Serves an access that starts then.
     fn access(&mut self, start: Cycle, request: Request) -> Entry
@@ -38,5 +38,5 @@ pub trait Port {
         ensures same_base { base self.new ≡ base self.old }
         ensures same_size { size self.new ≡ size self.old }
         ensures room { room self.old ≤ room self.new + 1 }
-        ensures told { Gains (told self.old) (result ∷ []) (told self.new) };
+        ensures logged { Gains (logged self.old) (result ∷ []) (logged self.new) };
 }

@@ -105,7 +105,7 @@ impl Port for ShardPort {
 
     ghost gives = { λ p start request e q. (e, q.world) ≡ shards_serve p.world p.core start request };
 
-    ghost told = { λ p. None };
+    ghost logged = { λ p. None };
 
     #[inline(always)]
     fn access(&mut self, start: Cycle, request: Request) -> Entry {

@@ -65,7 +65,7 @@ starts_soon end c entries idle starts few = λ k d below.
 
 -- ---- a core that ran
 
-module _ {Port : Type 0} (gives : Port → (start : ℕ) → Request → Entry → Port → Type 0) (told : Port → Option (List Entry)) (table : Port → TableState)
+module _ {Port : Type 0} (gives : Port → (start : ℕ) → Request → Entry → Port → Type 0) (logged : Port → Option (List Entry)) (table : Port → TableState)
     (asked : (p q : Port) (start : ℕ) (request : Request) (e : Entry) → gives p start request e q → (e.request ≡ request) × (e.start ≡ start))
     (kept : (p q : Port) (start : ℕ) (request : Request) (e : Entry) → gives p start request e q → table q ≡ table p)
     (time : Entry → ℕ) (image : MemoryImage) (end : ℕ) where
@@ -74,15 +74,15 @@ module _ {Port : Type 0} (gives : Port → (start : ℕ) → Request → Entry �
   same_table (e ∷ entries) p q c d turns = same_table entries turns.0 q turns.1.0 d turns.1.1.1 ∙ kept p turns.0 _ turns.1.1.0.request e turns.1.1.0.given
 
   -- the seat's list is what the turns took, and these are the core's
-  pub ran : TurnsAreTheCoresOwn gives → (t : TableState) (p q : Port) (seat seat' : SeatState) (c d : NumberedCore) → told p ≡ Some seat.entries → told q ≡ Some seat'.entries
+  pub ran : TurnsAreTheCoresOwn gives → (t : TableState) (p q : Port) (seat seat' : SeatState) (c d : NumberedCore) → logged p ≡ Some seat.entries → logged q ≡ Some seat'.entries
       → IsSeatOf t seat → IsSeatOf (table q) seat' → t ≡ table p → seat'.core ≡ seat.core → d.number ≡ c.number → seat.entries ≡ [] → length seat'.entries ≤ (table q).room
       → c.timed.core.instruction ≡ None → IsOver end d.timed → d.timed.clock ≤ max c.timed.clock end + 2 ^ 28
-      → RunsToEnd time image end gives told c.number p q c.timed d.timed → HasRun time image end t (record { core = c; seat = seat }) (record { core = d; seat = seat' })
-  ran own t p q seat seat' c d told_p told_q of_t of_q table_p core_is number new few idle over clock run =
+      → RunsToEnd time image end gives logged c.number p q c.timed d.timed → HasRun time image end t (record { core = c; seat = seat }) (record { core = d; seat = seat' })
+  ran own t p q seat seat' c d logged_p logged_q of_t of_q table_p core_is number new few idle over clock run =
       let stays : table q ≡ t = same_table run.entries p q c.timed d.timed run.turns ∙ sym table_p in
       let after : IsSeatOf t seat' = subst (λ (x : TableState). IsSeatOf x seat') stays of_q in
-      let gained : told q ≡ Some (seat.entries ++ run.entries) = told_more (told p) (told q) seat.entries run.entries told_p run.told in
-      let list : seat'.entries ≡ run.entries = same_Some seat'.entries (seat.entries ++ run.entries) (sym told_q ∙ gained) ∙ ap (λ (es : List Entry). es ++ run.entries) new in
+      let gained : logged q ≡ Some (seat.entries ++ run.entries) = logged_more (logged p) (logged q) seat.entries run.entries logged_p run.logged in
+      let list : seat'.entries ≡ run.entries = same_Some seat'.entries (seat.entries ++ run.entries) (sym logged_q ∙ gained) ∙ ap (λ (es : List Entry). es ++ run.entries) new in
       let mine = own asked_it time image end p q c.timed d.timed run.entries run.turns in
       record {
         number = number;
@@ -98,6 +98,6 @@ module _ {Port : Type 0} (gives : Port → (start : ℕ) → Request → Entry �
       asked_it : (p q : Port) (start : ℕ) (request : Request) (e : Entry) → gives p start request e q → (e.request ≡ request) × (e.start ≡ start)
       asked_it = asked
 
-      told_more : (before after : Option (List Entry)) (xs es : List Entry) → before ≡ Some xs → Gains before es after → after ≡ Some (xs ++ es)
-      told_more None after xs es is gains = absurd (let none : None ≡ Some xs = is in cc)
-      told_more (Some ys) after xs es is gains = gains ∙ ap (λ (zs : List Entry). Some (zs ++ es)) (same_Some ys xs is)
+      logged_more : (before after : Option (List Entry)) (xs es : List Entry) → before ≡ Some xs → Gains before es after → after ≡ Some (xs ++ es)
+      logged_more None after xs es is gains = absurd (let none : None ≡ Some xs = is in cc)
+      logged_more (Some ys) after xs es is gains = gains ∙ ap (λ (zs : List Entry). Some (zs ++ es)) (same_Some ys xs is)

@@ -39,7 +39,7 @@ impl<'a, R: Wait, G: Gate> Port for SeatPort<'a, R, G> {
 
     ghost gives = { λ p start request e q. (e.request ≡ request) × (e.start ≡ start) × (q.table.now ≡ p.table.now) };
 
-    ghost told = { λ p. Some p.seat.entries };
+    ghost logged = { λ p. Some p.seat.entries };
 
     fn access(&mut self, start: Cycle, request: Request) -> Entry {
         self.gate.pass(

@@ -6,5 +6,5 @@ mod make;
 mod parts;
 
 pub use crossing::Crossing;
-pub use make::{places_of, split};
+pub use make::{component_domains, split};
 pub use parts::Parts;

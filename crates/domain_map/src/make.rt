@@ -23,13 +23,13 @@ pub fn split(alloc: Global, graph: &Graph, machine: &Machine) -> Result<Parts, N
     partition(
         alloc,
         graph.events(),
-        places_of(alloc, machine)?,
+        component_domains(alloc, machine)?,
         machine.domains.count,
     )
 }
 
 /// The domain of each component, by number.
-pub fn places_of(alloc: Global, machine: &Machine) -> Result<Vec<u16>, NoMemory>
+pub fn component_domains(alloc: Global, machine: &Machine) -> Result<Vec<u16>, NoMemory>
     requires { IsMachine machine.now }
     ensures listed { IfOk result (λ places. places.items ≡ component_domains machine.now) }
     ensures count { IfOk result (λ places. length places.items ≡ component_count machine.now) }

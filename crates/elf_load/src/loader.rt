@@ -12,7 +12,7 @@ use crate::{BadElf, Image, LoadFail, Segment};
 use std::alloc::Global;
 use zs_num::{Bytes, NoMemory};
 
-/// Reads an executable for a memory of `size` bytes from `base` on, or tells the first check that
+/// Reads an executable for a memory of `size` bytes from `base` on, or names the first check that
 /// it fails.
 pub fn load(alloc: Global, file: &[u8], base: u64, size: u64) -> Result<Image, LoadFail>
     requires { base + size ≤ 2 ^ 48 }

@@ -163,7 +163,7 @@ module _ (pieces : Entry → List Piece) (law : (e : Entry) → ParentsComeBefor
           let made = of_access before e (pieces e) new.0 ev new.2 in
           let below : par.number < length before + new.0 =
           first_below before e new.0 made.0 par numbered made.1 (sym (ap (λ (w : Event). w.first) made.2) ∙ from) in
-          let spot : i ≡ length before + new.0 = new.1 in
+          let position : i ≡ length before + new.0 = new.1 in
           omega arith
     ];
     second = λ i ev par is from. elim (joined before (access_events before e (pieces e)) i ev is) [
@@ -172,7 +172,7 @@ module _ (pieces : Entry → List Piece) (law : (e : Entry) → ParentsComeBefor
           let made = of_access before e (pieces e) new.0 ev new.2 in
           let below : par.number < length before + new.0 =
           inner_below (length before) e (zero_load_start e made.0) new.0 made.0.second par (λ j from'. (law e).second new.0 made.0 j made.1 from') (sym (ap (λ (w : Event). w.second) made.2) ∙ from) in
-          let spot : i ≡ length before + new.0 = new.1 in
+          let position : i ≡ length before + new.0 = new.1 in
           omega arith
     ];
   }

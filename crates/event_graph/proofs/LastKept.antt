@@ -5,12 +5,12 @@ use Rattle.std.proofs.lemmas.Bool.{cond-true, cond-false, eq-eqb, ne_eqb, and_fr
 use Rattle.event_graph.specs.declared.builder.Critical.{Critical}
 use Rattle.event_graph.specs.declared.event.Event.{Event}
 use Rattle.event_graph.specs.Critical.{is_critical_of, last_critical}
-use Rattle.event_graph.specs.NextEvent.{critical_of, TellsLast}
+use Rattle.event_graph.specs.NextEvent.{critical_of, HasLast}
 use Rattle.event_graph.proofs.CriticalSteps.{last_critical-push}
 
-pub kept_of_pushed : (last : List (Option Critical)) (events : List Event) (e : Event) → e.core < length last → TellsLast last events → e.critical ≡ true
-    → TellsLast (set last e.core (Some (critical_of e))) (events ++ e ∷ [])
-kept_of_pushed last events e there told critical = record {
+pub kept_of_pushed : (last : List (Option Critical)) (events : List Event) (e : Event) → e.core < length last → HasLast last events → e.critical ≡ true
+    → HasLast (set last e.core (Some (critical_of e))) (events ++ e ∷ [])
+kept_of_pushed last events e there kept critical = record {
   at = λ core below.
       elim (cases_eq core e.core) [
         | inl same ↦
@@ -22,7 +22,7 @@ kept_of_pushed last events e there told critical = record {
         | inr other ↦
             let within : core < length last = omega (arith, below, length-set last e.core (Some (critical_of e))) in
             get_or-set_other last e.core core (Some (critical_of e)) None other
-            ∙ told.at core within
+            ∙ kept.at core within
             ∙ sym (ap (option_map critical_of)
             (last_critical-push core events e
             ∙ cond-false (is_critical_of core e) (Some e) (last_critical core events) (and_right _ _ (ne_eqb _ _ (λ h. other (sym h))))))

@@ -21,6 +21,6 @@ mod SmallSteps
 mod Solves
 mod Theorem
 mod Timely
-mod ToldFits
+mod FloorsFit
 mod Turns
 mod Unique

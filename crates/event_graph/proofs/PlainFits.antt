@@ -14,15 +14,15 @@ use Rattle.component.specs.Serving.{comp_serves, comp_latency}
 use Rattle.component.specs.Components.{AreComponents, IsBankOf, IsControllerOf}
 use Rattle.event_graph.specs.Fits.{GraphFits}
 use Rattle.event_graph.specs.Timing.{pieces_of, look_up_time}
-use Rattle.event_graph.specs.Floors.{floor_told, is_bank, is_controller}
-use Rattle.event_graph.specs.PlainLaws.{plain_floors_told}
-use Rattle.event_graph.specs.Told.{ServesWith}
+use Rattle.event_graph.specs.Floors.{plain_floor, is_bank, is_controller}
+use Rattle.event_graph.specs.PlainLaws.{plain_floors_are_times}
+use Rattle.event_graph.specs.FloorsServed.{ServesWith}
 use Rattle.event_graph.specs.EventGraph.{all_events}
-use Rattle.event_graph.proofs.ToldFits.{told_fits}
+use Rattle.event_graph.proofs.FloorsFit.{floors_fit}
 
-told_if : (b : Bool) (x y : ℕ) → (if b then Some x else None) ≡ Some y → (b ≡ true) × (x ≡ y)
-told_if true x y is = (refl, cc)
-told_if false x y is = cc
+floor_if : (b : Bool) (x y : ℕ) → (if b then Some x else None) ≡ Some y → (b ≡ true) × (x ≡ y)
+floor_if true x y is = (refl, cc)
+floor_if false x y is = cc
 
 module _ (m : Machine) (comps : List Comp) (are : AreComponents m comps) where
   stands : (component : ℕ) → component < length comps → (c : Comp) × (slice_get comps component ≡ Some c) × (get_or comps component c ≡ c)
@@ -63,29 +63,29 @@ module _ (m : Machine) (comps : List Comp) (are : AreComponents m comps) where
     record { component = AController c; there = at'; served = refl; floor_is = times.write },
   )
 
-  pub plain_tells : (component : ℕ) (kind : Kind) (floor : ℕ) → floor_told m.l2 m.controllers component kind ≡ Some floor → ServesWith comp_serves comp_latency comps component kind floor
-  plain_tells component Lookup floor is =
-      let told = told_if (is_bank m.l2 component) (look_up_time m.l2 false) floor is in
-      let found = bank_at component told.0 in
-      subst (ServesWith comp_serves comp_latency comps component Lookup) told.1 (of_bank component found.0 found.1 found.2).0
-  plain_tells component Remote floor is =
-      let told = told_if (is_bank m.l2 component) (look_up_time m.l2 true) floor is in
-      let found = bank_at component told.0 in
-      subst (ServesWith comp_serves comp_latency comps component Remote) told.1 (of_bank component found.0 found.1 found.2).1
-  plain_tells component Fill floor is =
-      let told = told_if (is_bank m.l2 component) m.l2.fill floor is in
-      let found = bank_at component told.0 in
-      subst (ServesWith comp_serves comp_latency comps component Fill) told.1 (of_bank component found.0 found.1 found.2).2
-  plain_tells component Read floor is =
-      let told = told_if (is_controller m.l2 m.controllers component) m.controllers.read floor is in
-      let found = controller_at component told.0 in
-      subst (ServesWith comp_serves comp_latency comps component Read) told.1 (of_controller component found.0 found.1 found.2).0
-  plain_tells component Write floor is =
-      let told = told_if (is_controller m.l2 m.controllers component) m.controllers.write floor is in
-      let found = controller_at component told.0 in
-      subst (ServesWith comp_serves comp_latency comps component Write) told.1 (of_controller component found.0 found.1 found.2).1
+  pub plain_floors : (component : ℕ) (kind : Kind) (floor : ℕ) → plain_floor m.l2 m.controllers component kind ≡ Some floor → ServesWith comp_serves comp_latency comps component kind floor
+  plain_floors component Lookup floor is =
+      let floors = floor_if (is_bank m.l2 component) (look_up_time m.l2 false) floor is in
+      let found = bank_at component floors.0 in
+      subst (ServesWith comp_serves comp_latency comps component Lookup) floors.1 (of_bank component found.0 found.1 found.2).0
+  plain_floors component Remote floor is =
+      let floors = floor_if (is_bank m.l2 component) (look_up_time m.l2 true) floor is in
+      let found = bank_at component floors.0 in
+      subst (ServesWith comp_serves comp_latency comps component Remote) floors.1 (of_bank component found.0 found.1 found.2).1
+  plain_floors component Fill floor is =
+      let floors = floor_if (is_bank m.l2 component) m.l2.fill floor is in
+      let found = bank_at component floors.0 in
+      subst (ServesWith comp_serves comp_latency comps component Fill) floors.1 (of_bank component found.0 found.1 found.2).2
+  plain_floors component Read floor is =
+      let floors = floor_if (is_controller m.l2 m.controllers component) m.controllers.read floor is in
+      let found = controller_at component floors.0 in
+      subst (ServesWith comp_serves comp_latency comps component Read) floors.1 (of_controller component found.0 found.1 found.2).0
+  plain_floors component Write floor is =
+      let floors = floor_if (is_controller m.l2 m.controllers component) m.controllers.write floor is in
+      let found = controller_at component floors.0 in
+      subst (ServesWith comp_serves comp_latency comps component Write) floors.1 (of_controller component found.0 found.1 found.2).1
 
   pub plain_fits : IsMachine m → (entries : List Entry) → GraphFits comp_serves comp_latency (all_events (pieces_of m.l1 m.l2 m.controllers) entries) comps
   plain_fits ok entries =
-      told_fits (pieces_of m.l1 m.l2 m.controllers) (floor_told m.l2 m.controllers) (plain_floors_told m.l1 m.l2 m.controllers ok.l2 ok.controllers)
-      comp_serves comp_latency comps plain_tells entries
+      floors_fit (pieces_of m.l1 m.l2 m.controllers) (plain_floor m.l2 m.controllers) (plain_floors_are_times m.l1 m.l2 m.controllers ok.l2 ok.controllers)
+      comp_serves comp_latency comps plain_floors entries

@@ -24,5 +24,5 @@ pub record EndsAt (pieces : List Piece) (time : ℕ) : Type 0 where
   pub each : (k : ℕ) (p : Piece) → slice_get pieces k ≡ Some p → p.offset + p.time ≤ time
 
 -- each event's component serves its kind, with the event's time as floor
-abbrev pub AreTold : (told : ℕ → Kind → Option ℕ) → List Piece → Type 0
-AreTold told pieces = (k : ℕ) (p : Piece) → slice_get pieces k ≡ Some p → told p.component p.kind ≡ Some p.time
+abbrev pub HaveFloors : (floors : ℕ → Kind → Option ℕ) → List Piece → Type 0
+HaveFloors floors pieces = (k : ℕ) (p : Piece) → slice_get pieces k ≡ Some p → floors p.component p.kind ≡ Some p.time

@@ -14,9 +14,9 @@ abbrev pub is_controller : L2 → Controllers → (component : ℕ) → Bool
 is_controller l2 controllers component = nat_le l2.banks component && nat_lt component (l2.banks + controllers.count)
 
 -- the floor with which a component serves a kind, if it is there and serves it
-abbrev pub floor_told : L2 → Controllers → (component : ℕ) → Kind → Option ℕ
-floor_told l2 controllers component Lookup = (if is_bank l2 component then Some (look_up_time l2 false) else None)
-floor_told l2 controllers component Remote = (if is_bank l2 component then Some (look_up_time l2 true) else None)
-floor_told l2 controllers component Fill = (if is_bank l2 component then Some l2.fill else None)
-floor_told l2 controllers component Read = (if is_controller l2 controllers component then Some controllers.read else None)
-floor_told l2 controllers component Write = (if is_controller l2 controllers component then Some controllers.write else None)
+abbrev pub plain_floor : L2 → Controllers → (component : ℕ) → Kind → Option ℕ
+plain_floor l2 controllers component Lookup = (if is_bank l2 component then Some (look_up_time l2 false) else None)
+plain_floor l2 controllers component Remote = (if is_bank l2 component then Some (look_up_time l2 true) else None)
+plain_floor l2 controllers component Fill = (if is_bank l2 component then Some l2.fill else None)
+plain_floor l2 controllers component Read = (if is_controller l2 controllers component then Some controllers.read else None)
+plain_floor l2 controllers component Write = (if is_controller l2 controllers component then Some controllers.write else None)

@@ -18,14 +18,14 @@ use Rattle.event_graph.specs.Numbered.{IsNumbered}
 use Rattle.event_graph.specs.OneListWeave.{comps_after}
 use Rattle.event_graph.specs.SmallSteps.{AreSmallSteps}
 use Rattle.event_graph.specs.Timing.{pieces_of}
-use Rattle.event_graph.specs.Floors.{floor_told}
-use Rattle.event_graph.specs.Told.{IsTrueOfComponents}
+use Rattle.event_graph.specs.Floors.{plain_floor}
+use Rattle.event_graph.specs.FloorsServed.{AreFloorsOf}
 use Rattle.event_graph.specs.EventGraph.{all_events}
 
--- what is told of a machine without a network is true of its components
-abbrev pub PlainTellsComponents : Type 0
-PlainTellsComponents = (m : Machine) (comps : List Comp) → AreComponents m comps
-    → IsTrueOfComponents (floor_told m.l2 m.controllers) comp_serves comp_latency comps
+-- the components of a machine have the floors that it has without a network
+abbrev pub PlainFloorsAreOfComponents : Type 0
+PlainFloorsAreOfComponents = (m : Machine) (comps : List Comp) → AreComponents m comps
+    → AreFloorsOf (plain_floor m.l2 m.controllers) comp_serves comp_latency comps
 
 -- the components of a machine serve all events of its accesses, and each with the event's time at
 -- zero load as its floor

@@ -15,4 +15,4 @@ pub mod SmallSteps
 pub mod Timely
 pub mod Timing
 pub mod TimingSolution
-pub mod Told
+pub mod FloorsServed

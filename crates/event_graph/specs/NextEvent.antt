@@ -15,7 +15,7 @@ abbrev pub critical_of : Event → Critical
 critical_of e = record { number = e.number; finish = e.min_finish }
 
 -- the list has, by core, what is kept of the core's last critical event
-pub record TellsLast (last : List (Option Critical)) (events : List Event) : Type 0 where
+pub record HasLast (last : List (Option Critical)) (events : List Event) : Type 0 where
   pub at : (core : ℕ) → core < length last → slice_index_or last core None ≡ option_map critical_of (last_critical core events)
 
 -- the event of the access at a place, as a parent

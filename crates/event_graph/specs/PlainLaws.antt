@@ -10,9 +10,9 @@ use Rattle.zs_num.specs.declared.entry.Entry.{Entry}
 use Rattle.zs_num.specs.declared.entry.Outcome.{Outcome}
 use Rattle.zs_num.specs.declared.entry.Outcome.TheVariants.{Hit, Upgrade, L2 as FoundInL2, Miss}
 use Rattle.event_graph.specs.declared.piece.Piece.{Piece}
-use Rattle.event_graph.specs.Expansion.{ParentsComeBefore, OnlyFirstStartsAlone, ParentsFinishBefore, EndsAt, AreTold}
+use Rattle.event_graph.specs.Expansion.{ParentsComeBefore, OnlyFirstStartsAlone, ParentsFinishBefore, EndsAt, HaveFloors}
 use Rattle.event_graph.specs.Timing.{time_by, pieces_by, pieces_of, bank_component, controller_component, look_up, read, write, fill}
-use Rattle.event_graph.specs.Floors.{is_bank, is_controller, floor_told}
+use Rattle.event_graph.specs.Floors.{is_bank, is_controller, plain_floor}
 
 module _ (l1 : L1) (l2 : L2) (controllers : Controllers) (ok1 : IsL1 l2.banks l1) (ok2 : IsL2 l2) (ok : IsControllers controllers) where
   pub plain_time_at_least_one : (o : Outcome) → 1 ≤ time_by l1 l2 controllers o
@@ -165,31 +165,31 @@ module _ (l1 : L1) (l2 : L2) (controllers : Controllers) (bank controller : ℕ)
   plain_ends_with_access o = record { last = last_ends o; each = each_ends o }
 
 module _ (l1 : L1) (l2 : L2) (controllers : Controllers) (bank controller : ℕ) (a_bank : is_bank l2 bank ≡ true) (a_controller : is_controller l2 controllers controller ≡ true) where
-  told_at : (q p : Piece) → Some q ≡ Some p → floor_told l2 controllers q.component q.kind ≡ Some q.time → floor_told l2 controllers p.component p.kind ≡ Some p.time
-  told_at q p is told =
-      let P : Piece → Type 0 = λ r. floor_told l2 controllers r.component r.kind ≡ Some r.time in
+  floor_at : (q p : Piece) → Some q ≡ Some p → plain_floor l2 controllers q.component q.kind ≡ Some q.time → plain_floor l2 controllers p.component p.kind ≡ Some p.time
+  floor_at q p is floors =
+      let P : Piece → Type 0 = λ r. plain_floor l2 controllers r.component r.kind ≡ Some r.time in
       let same : q ≡ p = cc in
-      subst P same told
+      subst P same floors
 
-  told_by : (o : Outcome) (k : ℕ) (p : Piece) → slice_get (pieces_by l1 l2 controllers bank controller o) k ≡ Some p → floor_told l2 controllers p.component p.kind ≡ Some p.time
-  told_by Hit k p is = cc
-  told_by (Upgrade true) zero p is = told_at (look_up l1 l2 controllers bank controller true) p is (rw a_bank refl)
-  told_by (Upgrade true) (suc k) p is = cc
-  told_by (Upgrade false) zero p is = told_at (look_up l1 l2 controllers bank controller false) p is (rw a_bank refl)
-  told_by (Upgrade false) (suc k) p is = cc
-  told_by (FoundInL2 true) zero p is = told_at (look_up l1 l2 controllers bank controller true) p is (rw a_bank refl)
-  told_by (FoundInL2 true) (suc k) p is = cc
-  told_by (FoundInL2 false) zero p is = told_at (look_up l1 l2 controllers bank controller false) p is (rw a_bank refl)
-  told_by (FoundInL2 false) (suc k) p is = cc
-  told_by (Miss false) zero p is = told_at (look_up l1 l2 controllers bank controller false) p is (rw a_bank refl)
-  told_by (Miss false) (suc zero) p is = told_at (read l1 l2 controllers bank controller) p is (rw a_controller refl)
-  told_by (Miss false) (suc (suc zero)) p is = told_at (fill l1 l2 controllers bank controller false) p is (rw a_bank refl)
-  told_by (Miss false) (suc (suc (suc k))) p is = cc
-  told_by (Miss true) zero p is = told_at (look_up l1 l2 controllers bank controller false) p is (rw a_bank refl)
-  told_by (Miss true) (suc zero) p is = told_at (read l1 l2 controllers bank controller) p is (rw a_controller refl)
-  told_by (Miss true) (suc (suc zero)) p is = told_at (write l1 l2 controllers bank controller) p is (rw a_controller refl)
-  told_by (Miss true) (suc (suc (suc zero))) p is = told_at (fill l1 l2 controllers bank controller true) p is (rw a_bank refl)
-  told_by (Miss true) (suc (suc (suc (suc k)))) p is = cc
+  floor_by : (o : Outcome) (k : ℕ) (p : Piece) → slice_get (pieces_by l1 l2 controllers bank controller o) k ≡ Some p → plain_floor l2 controllers p.component p.kind ≡ Some p.time
+  floor_by Hit k p is = cc
+  floor_by (Upgrade true) zero p is = floor_at (look_up l1 l2 controllers bank controller true) p is (rw a_bank refl)
+  floor_by (Upgrade true) (suc k) p is = cc
+  floor_by (Upgrade false) zero p is = floor_at (look_up l1 l2 controllers bank controller false) p is (rw a_bank refl)
+  floor_by (Upgrade false) (suc k) p is = cc
+  floor_by (FoundInL2 true) zero p is = floor_at (look_up l1 l2 controllers bank controller true) p is (rw a_bank refl)
+  floor_by (FoundInL2 true) (suc k) p is = cc
+  floor_by (FoundInL2 false) zero p is = floor_at (look_up l1 l2 controllers bank controller false) p is (rw a_bank refl)
+  floor_by (FoundInL2 false) (suc k) p is = cc
+  floor_by (Miss false) zero p is = floor_at (look_up l1 l2 controllers bank controller false) p is (rw a_bank refl)
+  floor_by (Miss false) (suc zero) p is = floor_at (read l1 l2 controllers bank controller) p is (rw a_controller refl)
+  floor_by (Miss false) (suc (suc zero)) p is = floor_at (fill l1 l2 controllers bank controller false) p is (rw a_bank refl)
+  floor_by (Miss false) (suc (suc (suc k))) p is = cc
+  floor_by (Miss true) zero p is = floor_at (look_up l1 l2 controllers bank controller false) p is (rw a_bank refl)
+  floor_by (Miss true) (suc zero) p is = floor_at (read l1 l2 controllers bank controller) p is (rw a_controller refl)
+  floor_by (Miss true) (suc (suc zero)) p is = floor_at (write l1 l2 controllers bank controller) p is (rw a_controller refl)
+  floor_by (Miss true) (suc (suc (suc zero))) p is = floor_at (fill l1 l2 controllers bank controller true) p is (rw a_bank refl)
+  floor_by (Miss true) (suc (suc (suc (suc k)))) p is = cc
 
 -- a bank is a bank, and its controller is a controller
 module _ (l2 : L2) (controllers : Controllers) (ok2 : IsL2 l2) (ok : IsControllers controllers) (e : Entry) where
@@ -202,6 +202,6 @@ module _ (l2 : L2) (controllers : Controllers) (ok2 : IsL2 l2) (ok : IsControlle
       let below : controller_component l2 controllers e < l2.banks + controllers.count = omega (arith, ok.count.0) in
       and_from _ _ (le-leb _ _ from) (lt-ltb _ _ below)
 
-pub plain_floors_told : (l1 : L1) (l2 : L2) (controllers : Controllers) → IsL2 l2 → IsControllers controllers → (e : Entry) → AreTold (floor_told l2 controllers) (pieces_of l1 l2 controllers e)
-plain_floors_told l1 l2 controllers ok2 ok e =
-    told_by l1 l2 controllers (bank_component l2 e) (controller_component l2 controllers e) (bank_is_there l2 controllers ok2 ok e) (controller_is_there l2 controllers ok2 ok e) e.outcome
+pub plain_floors_are_times : (l1 : L1) (l2 : L2) (controllers : Controllers) → IsL2 l2 → IsControllers controllers → (e : Entry) → HaveFloors (plain_floor l2 controllers) (pieces_of l1 l2 controllers e)
+plain_floors_are_times l1 l2 controllers ok2 ok e =
+    floor_by l1 l2 controllers (bank_component l2 e) (controller_component l2 controllers e) (bank_is_there l2 controllers ok2 ok e) (controller_is_there l2 controllers ok2 ok e) e.outcome

@@ -2,7 +2,7 @@
 ghost use Rattle.std.specs.Prelude.{◌≡◌, ◌+◌, ◌<◌, ◌^◌, ◌++◌, ◌∷◌, [], IfOk, OnOk, All, length, vec_len, sum_by};
 ghost use Rattle.std.specs.Option.{ForSome};
 ghost use Rattle.event_graph.specs.EventGraph.{all_events, access_events};
-ghost use Rattle.event_graph.specs.NextEvent.{TellsLast, parent_among, next_event};
+ghost use Rattle.event_graph.specs.NextEvent.{HasLast, parent_among, next_event};
 
 use crate::{Event, Expand, Graph, Parent, Piece};
 use std::alloc::Global;
@@ -36,7 +36,7 @@ fn parent_at(events: &[Event], base: u32, place: Option<u16>, start: Cycle) -> O
 /// Where an event stands: the number of its access's event 0, its place, and whether it is the
 /// last.
 #[derive(Clone, Copy)]
-struct Spot {
+struct Position {
     base: u32,
     place: u16,
     last: bool,
@@ -48,17 +48,17 @@ fn event_of(
     events: &[Event],
     earlier: Option<Critical>,
     entry: &Entry,
-    spot: Spot,
+    position: Position,
     piece: Piece,
 ) -> Event
-    requires number { spot.base + spot.place < 2 ^ 32 }
+    requires number { position.base + position.place < 2 ^ 32 }
     requires cycles { entry.now.start + piece.offset + piece.time < 2 ^ 64 }
-    requires first { ForSome piece.first (λ i. spot.base + i < length events.now) }
-    requires second { ForSome piece.second (λ i. spot.base + i < length events.now) }
-    ensures { result ≡ next_event events.now earlier entry.now spot.base spot.place spot.last piece }
+    requires first { ForSome piece.first (λ i. position.base + i < length events.now) }
+    requires second { ForSome piece.second (λ i. position.base + i < length events.now) }
+    ensures { result ≡ next_event events.now earlier entry.now position.base position.place position.last piece }
 {
     let start = entry.start + piece.offset;
-    let first = if spot.place == 0 {
+    let first = if position.place == 0 {
         match earlier {
             None => None,
             Some(critical) => Some(Parent {
@@ -67,18 +67,18 @@ fn event_of(
             }),
         }
     } else {
-        parent_at(events, spot.base, piece.first, start)
+        parent_at(events, position.base, piece.first, start)
     };
     Event {
-        number: spot.base + u32::from(spot.place),
+        number: position.base + u32::from(position.place),
         core: entry.core,
         component: piece.component,
         kind: piece.kind,
         min_start: start,
         min_finish: start + piece.time,
-        critical: spot.last,
+        critical: position.last,
         first,
-        second: parent_at(events, spot.base, piece.second, start),
+        second: parent_at(events, position.base, piece.second, start),
     }
 }
 
@@ -89,9 +89,9 @@ fn push_event(
     event: Event,
 ) -> Result<(), NoMemory>
     requires core { event.core < vec_len last.old }
-    requires told { TellsLast last.old.items events.old.items }
+    requires last { HasLast last.old.items events.old.items }
     ensures pushed { OnOk result (events.new.items ≡ events.old.items ++ event ∷ []) }
-    ensures told { OnOk result (TellsLast last.new.items events.new.items) }
+    ensures last { OnOk result (HasLast last.new.items events.new.items) }
     ensures cores { vec_len last.new ≡ vec_len last.old }
 {
     events.push(event)?;
@@ -112,11 +112,11 @@ fn add_access<X: Expand>(
     entry: &Entry,
 ) -> Result<(), NoMemory>
     requires core { entry.now.core < vec_len last.old }
-    requires told { TellsLast last.old.items events.old.items }
+    requires last { HasLast last.old.items events.old.items }
     requires start { entry.now.start < 2 ^ 62 }
     requires few { vec_len events.old + length (X.pieces expansion.now entry.now) < 2 ^ 32 }
     ensures added { OnOk result (events.new.items ≡ events.old.items ++ access_events events.old.items entry.now (X.pieces expansion.now entry.now)) }
-    ensures told { OnOk result (TellsLast last.new.items events.new.items) }
+    ensures last { OnOk result (HasLast last.new.items events.new.items) }
     ensures cores { vec_len last.new ≡ vec_len last.old }
 {
     let base = events.len() as u32;
@@ -124,12 +124,12 @@ fn add_access<X: Expand>(
     let count = expansion.count(entry);
     for place in 0..count {
         let piece = expansion.piece(entry, place);
-        let spot = Spot {
+        let position = Position {
             base,
             place,
             last: place + 1 == count,
         };
-        let event = event_of(events, earlier, entry, spot, piece);
+        let event = event_of(events, earlier, entry, position, piece);
         push_event(events, last, event)?;
     }
     Ok(())

@@ -3,7 +3,7 @@ ghost use Rattle.std.specs.Prelude.{◌≡◌, ◌<◌, ◌≤◌, ◌^◌, ℕ,
 ghost use Rattle.component.specs.declared.kind.Kind.{Kind};
 ghost use Rattle.zs_num.specs.declared.entry.Entry.{Entry};
 ghost use Rattle.event_graph.specs.declared.piece.Piece.{Piece};
-ghost use Rattle.event_graph.specs.Expansion.{ParentsComeBefore, OnlyFirstStartsAlone, ParentsFinishBefore, EndsAt, AreTold};
+ghost use Rattle.event_graph.specs.Expansion.{ParentsComeBefore, OnlyFirstStartsAlone, ParentsFinishBefore, EndsAt, HaveFloors};
 
 use crate::Piece;
 use zs_num::Entry;
@@ -18,7 +18,7 @@ pub trait Expand {
 
     /// For each component and kind, the floor with which the component serves the kind, and none
     /// where there is no such component or it doesn't serve the kind.
-    ghost told: { Self → (component : ℕ) → Kind → Option ℕ };
+    ghost floors: { Self → (component : ℕ) → Kind → Option ℕ };
 
     /// How many events an access is made of.
     fn count(&self, entry: &Entry) -> u16
@@ -51,5 +51,5 @@ pub trait Expand {
     ghost ends_with_access: { (x : Self) (e : Entry) → EndsAt (pieces x e) (time x e) };
 
     /// Each event's component is there and serves its kind, with the event's time as its floor.
-    ghost floors_told: { (x : Self) (e : Entry) → AreTold (told x) (pieces x e) };
+    ghost floors_are_times: { (x : Self) (e : Entry) → HaveFloors (floors x) (pieces x e) };
 }

@@ -9,27 +9,27 @@ ghost use Rattle.event_graph.specs.EventGraph.{all_events};
 ghost use Rattle.event_graph.specs.Firing.{FiredByTheRules, FiresNext, IsNext, time_so_far};
 ghost use Rattle.event_graph.specs.Fits.{GraphFits};
 ghost use Rattle.event_graph.specs.Growth.{BeginBy, IsPaced};
-ghost use Rattle.event_graph.specs.Laws.{MachineComponentsStay, MachineStepsStaySmall, PlainAccessesHaveFewEvents, PlainGraphsFit, PlainTellsComponents};
+ghost use Rattle.event_graph.specs.Laws.{MachineComponentsStay, MachineStepsStaySmall, PlainAccessesHaveFewEvents, PlainGraphsFit, PlainFloorsAreOfComponents};
 ghost use Rattle.event_graph.specs.Near.{AreNear};
 ghost use Rattle.event_graph.specs.Numbered.{IsNumbered};
 ghost use Rattle.event_graph.specs.OneListWeave.{FiredEvent, after_firings, finish_in, fired_of, start_of, weave, woven};
 ghost use Rattle.event_graph.specs.SmallSteps.{AreSmallSteps};
 ghost use Rattle.event_graph.specs.Timely.{AreTimely};
 ghost use Rattle.event_graph.specs.TimingSolution.{IsInOrder, IsSolution, ServesInTurn, after_serving, of_component};
-ghost use Rattle.event_graph.specs.Told.{IsTrueOfComponents};
+ghost use Rattle.event_graph.specs.FloorsServed.{AreFloorsOf};
 
 use crate::Expand;
 use component::{Comp, Component};
 
-/// Components of which an expansion tells the truth serve all events of its accesses, and each with
+/// Components that have the floors of an expansion serve all events of its accesses, and each with
 /// the event's time at zero load as its floor.
-pub fn told_graphs_fit<X: Expand, C: Component>()
-    ensures { (x : _) (comps : List _) (entries : List Entry) → IsTrueOfComponents (X.told x) C.serves C.floor comps → GraphFits C.serves C.floor (all_events (X.pieces x) entries) comps }
+pub fn graphs_with_their_floors_fit<X: Expand, C: Component>()
+    ensures { (x : _) (comps : List _) (entries : List Entry) → AreFloorsOf (X.floors x) C.serves C.floor comps → GraphFits C.serves C.floor (all_events (X.pieces x) entries) comps }
 {}
 
-/// What `Plain` tells is true of the components of its machine.
-pub fn plain_tells_components()
-    ensures { PlainTellsComponents }
+/// The components of a machine have the floors of its `Plain`.
+pub fn plain_floors_are_of_components()
+    ensures { PlainFloorsAreOfComponents }
 {}
 
 /// The components of a machine serve all events that `Plain` expands its accesses into.

@@ -128,15 +128,15 @@ impl Plain {
 
 impl Expand for Plain {
     ghost use Rattle.event_graph.specs.Timing.{pieces_of, time_by};
-    ghost use Rattle.event_graph.specs.Floors.{floor_told};
-    ghost use Rattle.event_graph.specs.PlainLaws.{plain_time_at_least_one, plain_time_small, plain_parents_come_before, plain_only_first_starts_alone, plain_parents_finish_before, plain_ends_with_access, plain_floors_told};
+    ghost use Rattle.event_graph.specs.Floors.{plain_floor};
+    ghost use Rattle.event_graph.specs.PlainLaws.{plain_time_at_least_one, plain_time_small, plain_parents_come_before, plain_only_first_starts_alone, plain_parents_finish_before, plain_ends_with_access, plain_floors_are_times};
     ghost use Rattle.event_graph.specs.Timing.{bank_component, controller_component};
 
     ghost pieces = { λ x e. pieces_of x.l1 x.l2 x.controllers e };
 
     ghost time = { λ x e. time_by x.l1 x.l2 x.controllers e.outcome };
 
-    ghost told = { λ x. floor_told x.l2 x.controllers };
+    ghost floors = { λ x. plain_floor x.l2 x.controllers };
 
     fn count(&self, entry: &Entry) -> u16 {
         match entry.outcome {
@@ -188,5 +188,5 @@ impl Expand for Plain {
 
     ghost ends_with_access = { λ x e. plain_ends_with_access x.l1 x.l2 x.controllers (bank_component x.l2 e) (controller_component x.l2 x.controllers e) e.outcome };
 
-    ghost floors_told = { λ x e. plain_floors_told x.l1 x.l2 x.controllers x.l2_in_range x.controllers_in_range e };
+    ghost floors_are_times = { λ x e. plain_floors_are_times x.l1 x.l2 x.controllers x.l2_in_range x.controllers_in_range e };
 }

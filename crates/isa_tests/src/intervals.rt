@@ -84,7 +84,7 @@ impl Port for FlatPort {
 
     ghost gives = { λ p start request e q. (e.reply ≡ memory_reply p.memory p.core request) × (q.memory ≡ memory_after p.memory p.core request) };
 
-    ghost told = { λ p. Some p.entries.items };
+    ghost logged = { λ p. Some p.entries.items };
 
     fn access(&mut self, start: Cycle, request: Request) -> Entry {
         let entry = Entry {

@@ -28,8 +28,8 @@ use Rattle.replay.specs.Simulation.{CanRunInterval, HasRunThroughPort}
 
 -- ---- the port
 
-abbrev pub told : LoggedPortState → Option (List Entry)
-told p = Some p.entries
+abbrev pub logged : LoggedPortState → Option (List Entry)
+logged p = Some p.entries
 
 abbrev pub world : LoggedPortState → ShardWorld
 world p = p.world
@@ -59,7 +59,7 @@ stamps_stay time image end (e ∷ entries) p q before after turns =
 
 -- ---- a port in another one
 
--- `inner` is the port in the other one, which gives what comes of a request and tells the entries.
+-- `inner` is the port in the other one, which gives what comes of a request and logs the entries.
 module _ {Port : Type 0} (outer : Port → (start : ℕ) → Request → Entry → Port → Type 0) (inner : Port → LoggedPortState)
     (given : (p q : Port) (start : ℕ) (request : Request) (e : Entry) → outer p start request e q → gives (inner p) start request e (inner q))
     (time : Entry → ℕ) (image : MemoryImage) (end : ℕ) where
@@ -73,15 +73,15 @@ module _ {Port : Type 0} (outer : Port → (start : ℕ) → Request → Entry �
         (turns.1.0, (record { request = one.request; asked = one.asked; given = given p next _ one.request e one.given; left = one.left }, inner_turns entries next q turns.1.0 after turns.1.1.1)),
       )
 
-  pub inner_run : (number : ℕ) (p q : Port) (before after : TimedCore) → RunsToEnd time image end outer (λ x. told (inner x)) number p q before after
-      → RunsToEnd time image end gives told number (inner p) (inner q) before after
+  pub inner_run : (number : ℕ) (p q : Port) (before after : TimedCore) → RunsToEnd time image end outer (λ x. logged (inner x)) number p q before after
+      → RunsToEnd time image end gives logged number (inner p) (inner q) before after
   inner_run number p q before after run = record {
     entries = run.entries;
     turns = inner_turns run.entries p q before after run.turns;
     cores = run.cores;
     starts = run.starts;
     few = run.few;
-    told = run.told;
+    logged = run.logged;
   }
 
 -- the times of the expansion are those of the machine
@@ -144,7 +144,7 @@ module _ (machine : Machine) (image : MemoryImage) (end : ℕ) (core : NumberedC
   }
 
   pub ran_to_end : end ≤ 2 ^ 34 → core.timed.core.halted ≡ None → (chosen last : LoggedPortState) (after : NumberedCore) → chosen.world ≡ port.world → chosen.entries ≡ port.entries → chosen.room ≡ port.room
-      → RunsToEnd (time_of machine) image end gives told core.number chosen last core.timed after.timed
+      → RunsToEnd (time_of machine) image end gives logged core.number chosen last core.timed after.timed
       → IsOver end after.timed → latest_clock end after.timed ≤ latest_clock end core.timed → after.number ≡ core.number
       → most_accesses end core.timed ≤ end - core.timed.clock + 256
       → base_of last.world ≡ base_of chosen.world → size_of last.world ≡ size_of chosen.world

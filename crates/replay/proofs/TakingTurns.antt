@@ -86,7 +86,7 @@ module _ (time : Entry → ℕ) (image : MemoryImage) (end most : ℕ) (first : 
     near = elim way.few [ inl over ↦ absurd (not_both (asks (ran_to image end core.timed)) t.turn.request (over_asks image end core.timed over) t.turn.asked) | inr few ↦ few ]
 
     gained : port_after.entries ≡ port.entries ++ e ∷ []
-    gained = t.told ∙ ap (λ (entries : List Entry). entries ++ e ∷ []) entries_are
+    gained = t.logged ∙ ap (λ (entries : List Entry). entries ++ e ∷ []) entries_are
 
     base : base_of port_after.world ≡ base_of port.world
     base = t.base ∙ ap base_of world_is

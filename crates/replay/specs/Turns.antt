@@ -60,7 +60,7 @@ pub record TakesAccess (time : Entry → ℕ) (image : MemoryImage) (end : ℕ) 
   pub base : base_of port_after.world ≡ base_of port.world
   pub size : size_of port_after.world ≡ size_of port.world
   pub room : min (room_of port.world) port.room ≤ min (room_of port_after.world) port_after.room + 1
-  pub told : port_after.entries ≡ port.entries ++ e ∷ []
+  pub logged : port_after.entries ≡ port.entries ++ e ∷ []
 
 -- and one that takes none
 pub record TakesNone (image : MemoryImage) (end : ℕ) (port port_after : LoggedPortState) (core after : NumberedCore) : Type 0 where

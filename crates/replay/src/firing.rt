@@ -37,7 +37,7 @@ pub fn fire_all<R: Threads + Sync, G: Gate>(
     workers: u16,
     gate: &G,
     places: &[u16],
-    is_worth: &mut bool,
+    domains_are_worth: &mut bool,
 ) -> Result<FiredList, NoMemory>
     requires machine { IsMachine machine.now }
     requires components { AreComponents machine.now comps.old }
@@ -49,8 +49,17 @@ pub fn fire_all<R: Threads + Sync, G: Gate>(
     ensures comps { OnOk result (comps.new ≡ comps_after comp_step graph.now comps.old) }
     ensures unchanged { OnErr result (comps.new ≡ comps.old) }
 {
-    if workers > 1 && *is_worth {
-        return fire_by_domains(rt, alloc, machine, graph, comps, workers, gate, is_worth);
+    if workers > 1 && *domains_are_worth {
+        return fire_by_domains(
+            rt,
+            alloc,
+            machine,
+            graph,
+            comps,
+            workers,
+            gate,
+            domains_are_worth,
+        );
     }
     weave_gated(alloc, graph, comps, places, &ListGate { gate, workers })
 }
@@ -65,7 +74,7 @@ fn fire_by_domains<R: Threads + Sync, G: Gate>(
     comps: &mut Comps<Comp>,
     workers: u16,
     gate: &G,
-    is_worth: &mut bool,
+    domains_are_worth: &mut bool,
 ) -> Result<FiredList, NoMemory>
     requires machine { IsMachine machine.now }
     requires components { AreComponents machine.now comps.old }
@@ -84,7 +93,8 @@ fn fire_by_domains<R: Threads + Sync, G: Gate>(
     let own = mem::replace(comps, Comps::of(Vec::new(alloc)));
     match weave(rt, alloc, graph, &parts, own, workers, gate) {
         Ok(woven) => {
-            *is_worth = graph.events().len() as u64 >= WORTH_OF_DOMAINS * u64::from(woven.rounds);
+            *domains_are_worth = graph.events().len() as u64
+                >= WORTH_OF_DOMAINS * u64::from(woven.rounds);
             *comps = woven.comps;
             Ok(woven.fired)
         }

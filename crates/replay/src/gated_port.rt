@@ -30,7 +30,7 @@ impl<'a, G: Gate> Port for GatedPort<'a, G> {
 
     ghost gives = { λ p start request e q. gives p.port start request e q.port };
 
-    ghost told = { λ p. Some p.port.entries };
+    ghost logged = { λ p. Some p.port.entries };
 
     #[inline(always)]
     fn access(&mut self, start: Cycle, request: Request) -> Entry {

@@ -116,7 +116,7 @@ impl Port for LoggedPort {
 
     ghost gives = { gives };
 
-    ghost told = { λ p. Some p.entries };
+    ghost logged = { λ p. Some p.entries };
 
     #[inline(always)]
     fn access(&mut self, start: Cycle, request: Request) -> Entry {

@@ -11,7 +11,7 @@ use crate::simulation::Simulation;
 use access_log::Schedule;
 use bound_phase::PhaseBuffers;
 use component::laws::fresh_components_are_there;
-use domain_map::places_of;
+use domain_map::component_domains;
 use elf_load::Image;
 use event_graph::Plain;
 use machine_desc::Machine;
@@ -54,7 +54,7 @@ pub fn run<R: Threads + Wait + Sync, G: Gate>(
     ensures cores { schedule.new.cores ≡ schedule.old.cores }
 {
     fresh_components_are_there();
-    let places = places_of(alloc, machine)?;
+    let places = component_domains(alloc, machine)?;
     let program = DecodedProgram::of(alloc, image)?;
     let simulation = Simulation::new(alloc, machine, image)?;
     let workers = workers.clamp(1, 64);
@@ -88,11 +88,11 @@ fn run_on<R: Threads + Wait + Sync, G: Gate>(
 {
     let plain = Plain::of(machine);
     let mut buffers = PhaseBuffers::new(alloc);
-    let mut is_worth = true;
+    let mut domains_are_worth = true;
     let mut k = 0;
     let mut end = 0;
     while !simulation.has_ended(machine, k) {
-        is_worth = is_worth || k % TRIED == 0;
+        domains_are_worth = domains_are_worth || k % TRIED == 0;
         k += 1;
         end += machine.interval;
         let (next, entries) = simulation.interval(
@@ -105,7 +105,7 @@ fn run_on<R: Threads + Wait + Sync, G: Gate>(
             workers,
             gate,
             places,
-            &mut is_worth,
+            &mut domains_are_worth,
             &mut buffers,
         )?;
         simulation = next;

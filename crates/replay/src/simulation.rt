@@ -103,8 +103,8 @@ impl Simulation {
 
     /// Runs the interval that ends at cycle `end`, which is 2^34 at most: first each core to the
     /// interval's end, and then the weave. So many workers do both, but no more of them than there
-    /// are cores, and then domains. `places` has the domain of each component. `is_worth` says
-    /// before the call whether several workers weave by domains, and after it whether that was
+    /// are cores, and then domains. `places` has the domain of each component. `domains_are_worth`
+    /// says before the call whether several workers weave by domains, and after it whether that was
     /// worth it. Answers the run after the interval, and the interval's accesses.
     pub fn interval<R: Threads + Wait + Sync, G: Gate>(
         self,
@@ -117,7 +117,7 @@ impl Simulation {
         workers: u16,
         gate: &G,
         places: &[u16],
-        is_worth: &mut bool,
+        domains_are_worth: &mut bool,
         memory: &mut PhaseBuffers,
     ) -> Result<(Self, Entries), NoMemory>
         requires machine { IsMachine machine.now }
@@ -136,7 +136,15 @@ impl Simulation {
         )?;
         let weavers = workers.min(machine.domains.count);
         simulation.weave(
-            rt, alloc, machine, plain, &entries, weavers, gate, places, is_worth,
+            rt,
+            alloc,
+            machine,
+            plain,
+            &entries,
+            weavers,
+            gate,
+            places,
+            domains_are_worth,
         )?;
         Ok((simulation, entries))
     }
@@ -352,7 +360,7 @@ impl Simulation {
         workers: u16,
         gate: &G,
         places: &[u16],
-        is_worth: &mut bool,
+        domains_are_worth: &mut bool,
     ) -> Result<(), NoMemory>
         requires machine { IsMachine machine.now }
         requires plain { IsPlainOf machine.now plain.now }
@@ -363,7 +371,15 @@ impl Simulation {
         let graph = events_of(alloc, machine, plain, entries, &self.comps)?;
         let comps = &mut self.comps;
         let fired = fire_all(
-            rt, alloc, machine, &graph, comps, workers, gate, places, is_worth,
+            rt,
+            alloc,
+            machine,
+            &graph,
+            comps,
+            workers,
+            gate,
+            places,
+            domains_are_worth,
         )?;
         self.take_in(alloc, machine, entries, graph, fired)?;
         Ok(())

@@ -53,11 +53,11 @@ some_byte x xs e = elim (cases_Bool (is_printable x)) [
 abbrev IsByte : ℕ → Type 0
 IsByte b = b < 256
 
-pub told_apart : (first second : List ℕ) → All IsByte first → All IsByte second → printed first ≡ printed second → first ≡ second
-told_apart [] [] a b e = refl
-told_apart [] (y ∷ ys) a b e = absurd (some_byte y (printed ys) e)
-told_apart (x ∷ xs) [] a b e = absurd (some_byte x (printed xs) (sym e))
-told_apart (x ∷ xs) (y ∷ ys) a b e =
+pub printed_apart : (first second : List ℕ) → All IsByte first → All IsByte second → printed first ≡ printed second → first ≡ second
+printed_apart [] [] a b e = refl
+printed_apart [] (y ∷ ys) a b e = absurd (some_byte y (printed ys) e)
+printed_apart (x ∷ xs) [] a b e = absurd (some_byte x (printed xs) (sym e))
+printed_apart (x ∷ xs) (y ∷ ys) a b e =
     let parts = byte_is x y (printed xs) (printed ys) (All-head IsByte x xs a) (All-head IsByte y ys b) e in
-    let rest = told_apart xs ys (All-tail IsByte x xs a) (All-tail IsByte y ys b) parts.1 in
+    let rest = printed_apart xs ys (All-tail IsByte x xs a) (All-tail IsByte y ys b) parts.1 in
     rw (parts.0, rest) refl

@@ -3,5 +3,5 @@ use Rattle.std.specs.Prelude.{◌≡◌, ◌<◌, ℕ, List, All}
 use Rattle.report.specs.ReportText.{printed}
 
 -- different consoles are printed differently
-abbrev pub ConsolesAreToldApart : Type 0
-ConsolesAreToldApart = (first second : List ℕ) → All (λ b. b < 256) first → All (λ b. b < 256) second → printed first ≡ printed second → first ≡ second
+abbrev pub ConsolesArePrintedApart : Type 0
+ConsolesArePrintedApart = (first second : List ℕ) → All (λ b. b < 256) first → All (λ b. b < 256) second → printed first ≡ printed second → first ≡ second

@@ -7,7 +7,7 @@ use crate::{doublewords, words};
 use rv_decode::Name;
 use words::{low, sign_extend};
 
-/// Tells whether `alu` computes the instruction: it has opcode OP-IMM, OP-IMM-32, OP or OP-32.
+/// Whether `alu` computes the instruction: it has opcode OP-IMM, OP-IMM-32, OP or OP-32.
 pub fn is_arithmetic(name: Name) -> bool
     ensures { result ≡ is_arithmetic name }
 {

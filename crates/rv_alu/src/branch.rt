@@ -5,7 +5,7 @@ ghost use Rattle.rv_alu.specs.Computing.{is_branch};
 
 use rv_decode::Name;
 
-/// Tells whether the instruction is a conditional branch.
+/// Whether the instruction is a conditional branch.
 pub fn is_branch(name: Name) -> bool
     ensures { result ≡ is_branch name }
 {

@@ -57,7 +57,7 @@ lists_from cores bytes (suc count) interval at =
     then_read (turns_from cores bytes interval at) (λ turns.
     then_read (lists_from cores bytes count (interval + 1) (at + (4 + length turns))) (λ lists. Ok (turns ∷ lists)))
 
--- how many intervals the header tells, of a file for so many cores
+-- how many intervals the header names, of a file for so many cores
 unfoldable pub count_of : (cores : ℕ) → (bytes : List ℕ) → Result ℕ BadSchedule
 count_of cores bytes =
     then_read (field_at bytes 0 4) (λ found_magic. if bytes_eq found_magic magic then

@@ -34,7 +34,7 @@ pub fn read(alloc: Global, bytes: &[u8], cores: u16) -> Result<Schedule, Schedul
     }
 }
 
-/// How many intervals the header tells, of a schedule for so many cores.
+/// How many intervals the header names, of a schedule for so many cores.
 #[tactic(auto, unfolding(crate::specs::ScheduleFile::count_of))]
 fn intervals(bytes: &[u8], cores: u16) -> Result<u32, BadSchedule>
     ensures value { result ≡ count_of cores bytes.now }

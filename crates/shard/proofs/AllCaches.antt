@@ -9,31 +9,31 @@ use Rattle.cache_set.specs.declared.letter.Letter.{Letter}
 use Rattle.cache_set.specs.declared.letter.Letter.TheVariants.{M, E, S, I}
 use Rattle.cache_set.specs.Ways.{kept_of, used, changed, filled, victim_of}
 use Rattle.mesi_dir.specs.LineMap.{LineMap, Sharing, HasOther, KeepsOthers, is_among, is_sharer, nobody, owner_of, sharing_of}
-use Rattle.shard.specs.CacheLayout.{AreLists, ChangesLetter, CoreLines, HasCopies, IsCore, IsShared, SharedLines, Tells, TellsLetter, copies_of, is_owner, lists_view, no_lines, own_letter, shared_of, sharing_at, sharing_without}
+use Rattle.shard.specs.CacheLayout.{AreLists, ChangesLetter, CoreLines, HasCopies, IsCore, IsShared, SharedLines, SaysLetters, SetsLetter, copies_of, is_owner, lists_view, no_lines, own_letter, shared_of, sharing_at, sharing_without}
 use Rattle.shard.specs.CacheSteps.{ChangesOne, HaveCopies}
 use Rattle.shard.specs.Coherence.{Caches, is_alone, is_valid, letter_at, dirty_at, empty_caches, filled_into_l2, in_own_set_of, l2_victim, looked_up, marked_dirty, own_after, own_victim, some_other}
 use Rattle.shard.specs.Lines.{in_set_of, set_number, set_of}
 use Rattle.shard.proofs.SomeCores.{some_other_false, some_other_true}
 
 -- ---- letters and sharing, as functions
-module _ {letters new_letters : (core line : ℕ) → Letter} {sharing new_sharing : (line : ℕ) → Sharing} (tells : Tells letters sharing) where
+module _ {letters new_letters : (core line : ℕ) → Letter} {sharing new_sharing : (line : ℕ) → Sharing} (says : SaysLetters letters sharing) where
   -- one core's letter for one line is another, in both
-  pub tells_letter : (core line : ℕ) (letter : Letter)
+  pub says_letter : (core line : ℕ) (letter : Letter)
       → ((c q : ℕ) → new_letters c q ≡ cond (nat_eq core c) (cond (nat_eq line q) letter (letters c q)) (letters c q))
       → ((q : ℕ) → q ≢ line → new_sharing q ≡ sharing q)
       → ((c : ℕ) → is_among (new_sharing line) c ≡ cond (nat_eq core c) (is_valid letter) (is_among (sharing line) c))
       → ((c : ℕ) → is_owner (new_sharing line).owner c ≡ cond (nat_eq core c) (is_alone letter) (is_owner (sharing line).owner c))
-      → Tells new_letters new_sharing
-  tells_letter core line letter now others holds owns = record {
+      → SaysLetters new_letters new_sharing
+  says_letter core line letter now others holds owns = record {
     holds = λ c q.
         elim (cases_eq q line) as (λ _. is_among (new_sharing q) c ≡ is_valid (new_letters c q)) [
-          | inl e ↦ rw (now c q, e, eq-eqb line line refl) (holds c ∙ by_core is_valid (nat_eq core c) (letters c line) (is_among (sharing line) c) (tells.holds c line))
-          | inr e ↦ rw (now c q, others q e, ne_eqb line q (λ k. e (sym k))) (tells.holds c q ∙ same is_valid (nat_eq core c) (letters c q))
+          | inl e ↦ rw (now c q, e, eq-eqb line line refl) (holds c ∙ by_core is_valid (nat_eq core c) (letters c line) (is_among (sharing line) c) (says.holds c line))
+          | inr e ↦ rw (now c q, others q e, ne_eqb line q (λ k. e (sym k))) (says.holds c q ∙ same is_valid (nat_eq core c) (letters c q))
         ];
     owns = λ c q.
         elim (cases_eq q line) as (λ _. is_owner (new_sharing q).owner c ≡ is_alone (new_letters c q)) [
-          | inl e ↦ rw (now c q, e, eq-eqb line line refl) (owns c ∙ by_core is_alone (nat_eq core c) (letters c line) (is_owner (sharing line).owner c) (tells.owns c line))
-          | inr e ↦ rw (now c q, others q e, ne_eqb line q (λ k. e (sym k))) (tells.owns c q ∙ same is_alone (nat_eq core c) (letters c q))
+          | inl e ↦ rw (now c q, e, eq-eqb line line refl) (owns c ∙ by_core is_alone (nat_eq core c) (letters c line) (is_owner (sharing line).owner c) (says.owns c line))
+          | inr e ↦ rw (now c q, others q e, ne_eqb line q (λ k. e (sym k))) (says.owns c q ∙ same is_alone (nat_eq core c) (letters c q))
         ];
   } where
     by_core : (test : Letter → Bool) (b : Bool) (l : Letter) (x : Bool) → x ≡ test l → cond b (test letter) x ≡ test (cond b letter l)
@@ -44,10 +44,10 @@ module _ {letters new_letters : (core line : ℕ) → Letter} {sharing new_shari
     same test true l = refl
     same test false l = refl
 
-  pub tells_same : ((c q : ℕ) → is_valid (new_letters c q) ≡ is_valid (letters c q)) → ((c q : ℕ) → is_alone (new_letters c q) ≡ is_alone (letters c q)) → ((q : ℕ) → new_sharing q ≡ sharing q) → Tells new_letters new_sharing
-  tells_same held alone same = record {
-    holds = λ c q. rw (same q, held c q) (tells.holds c q);
-    owns = λ c q. rw (same q, alone c q) (tells.owns c q);
+  pub says_same : ((c q : ℕ) → is_valid (new_letters c q) ≡ is_valid (letters c q)) → ((c q : ℕ) → is_alone (new_letters c q) ≡ is_alone (letters c q)) → ((q : ℕ) → new_sharing q ≡ sharing q) → SaysLetters new_letters new_sharing
+  says_same held alone same = record {
+    holds = λ c q. rw (same q, held c q) (says.holds c q);
+    owns = λ c q. rw (same q, alone c q) (says.owns c q);
   }
 
 -- ---- all lists
@@ -142,9 +142,9 @@ module _ (shards l1_ways l2_ways : ℕ) (l1 : List CoreLines) (l2 : List SharedL
   -- a core's letter for a line, in its copies and in the line's directory
   pub step_both : (core line i : ℕ) (letter : Letter) (old new : CoreLines) (s t : SharedLines)
       → old ≡ get_or l1 core old → core < length l1 → IsCore shards l1_ways new → ChangesLetter old new line letter
-      → i ≡ line / shards % length l2 → s ≡ get_or l2 i s → t.ways ≡ s.ways → TellsLetter s.map t.map core line letter
+      → i ≡ line / shards % length l2 → s ≡ get_or l2 i s → t.ways ≡ s.ways → SetsLetter s.map t.map core line letter
       → AreLists shards l1_ways l2_ways (set l1 core new) (set l2 i t)
-  step_both core line i letter old new s t is within new_core changes number is_s ways tells =
+  step_both core line i letter old new s t is within new_core changes number is_s ways says =
       let here : i < length l2 = let below = place_below shards l1_ways l2_ways l1 l2 are line in omega arith in
       let old_core : IsCore shards l1_ways old = is_core shards l1_ways l2_ways l1 l2 are core old is within in
       let old_set : IsShared l2_ways (length l1) s = is_shared shards l1_ways l2_ways l1 l2 are i s is_s here in
@@ -153,15 +153,15 @@ module _ (shards l1_ways l2_ways : ℕ) (l1 : List CoreLines) (l2 : List SharedL
         a_set = let some = are.a_set in omega (arith, length-set l2 i t);
         few_cores = let few = are.few_cores in omega (arith, length-set l1 core new);
         each_core = All-set (IsCore shards l1_ways) l1 core new new_core are.each_core;
-        each_set = rw (length-set l1 core new) (All-set (IsShared l2_ways (length l1)) l2 i t (record { same_ways = ways ∙ old_set.same_ways; same_cores = tells.others.cores ∙ old_set.same_cores }) are.each_set);
-        tells = tells_letter are.tells core line letter
+        each_set = rw (length-set l1 core new) (All-set (IsShared l2_ways (length l1)) l2 i t (record { same_ways = ways ∙ old_set.same_ways; same_cores = says.others.cores ∙ old_set.same_cores }) are.each_set);
+        says = says_letter are.says core line letter
             (letter_set shards l1_ways l2_ways l1 l2 (set l2 i t) core old new is within old_core.same_shards new_core.same_shards line letter changes)
-            (sharing_others shards l2 line i s t number here is_s tells.others)
-            (λ c. rw (sharing_here shards l2 line i s t number here is_s, sharing_was shards l2 line i s t number here is_s) (tells.holds c))
-            (λ c. rw (sharing_here shards l2 line i s t number here is_s, sharing_was shards l2 line i s t number here is_s) (tells.owns c));
+            (sharing_others shards l2 line i s t number here is_s says.others)
+            (λ c. rw (sharing_here shards l2 line i s t number here is_s, sharing_was shards l2 line i s t number here is_s) (says.holds c))
+            (λ c. rw (sharing_here shards l2 line i s t number here is_s, sharing_was shards l2 line i s t number here is_s) (says.owns c));
       }
 
-  -- another letter that tells the same
+  -- another letter that says the same
   pub step_core : (core line : ℕ) (letter : Letter) (old new : CoreLines)
       → old ≡ get_or l1 core old → core < length l1 → IsCore shards l1_ways new → ChangesLetter old new line letter
       → is_valid letter ≡ is_valid (own_letter old line) → is_alone letter ≡ is_alone (own_letter old line)
@@ -177,7 +177,7 @@ module _ (shards l1_ways l2_ways : ℕ) (l1 : List CoreLines) (l2 : List SharedL
         few_cores = let few = are.few_cores in omega (arith, length-set l1 core new);
         each_core = All-set (IsCore shards l1_ways) l1 core new new_core are.each_core;
         each_set = rw (length-set l1 core new) are.each_set;
-        tells = tells_same are.tells
+        says = says_same are.says
             (λ c q. rw (now c q) (keeps is_valid (held ∙ ap is_valid (sym was)) c q))
             (λ c q. rw (now c q) (keeps is_alone (alone ∙ ap is_alone (sym was)) c q))
             (λ q. refl);
@@ -205,7 +205,7 @@ module _ (shards l1_ways l2_ways : ℕ) (l1 : List CoreLines) (l2 : List SharedL
         few_cores = are.few_cores;
         each_core = are.each_core;
         each_set = All-set (IsShared l2_ways (length l1)) l2 i t (record { same_ways = ways ∙ old_set.same_ways; same_cores = ap (λ (m : LineMap). m.cores) maps ∙ old_set.same_cores }) are.each_set;
-        tells = tells_same are.tells (λ c q. ap is_valid (letter_same shards l1_ways l2_ways l1 l2 (set l2 i t) c q)) (λ c q. ap is_alone (letter_same shards l1_ways l2_ways l1 l2 (set l2 i t) c q))
+        says = says_same are.says (λ c q. ap is_valid (letter_same shards l1_ways l2_ways l1 l2 (set l2 i t) c q)) (λ c q. ap is_alone (letter_same shards l1_ways l2_ways l1 l2 (set l2 i t) c q))
             (λ q. sharing_set shards l2 line i s t number here is_s (λ _ x. x) (λ q. ap (λ (m : LineMap). sharing_of m q) maps) q ∙ either (nat_eq (q / shards % length l2) i) (sharing_at shards l2 q));
       } where
         either : (b : Bool) (x : Sharing) → cond b x x ≡ x
@@ -260,7 +260,7 @@ empty_lists cores shards l1_sets l1_ways l2_sets l2_ways few some a_set =
       few_cores = omega (arith, length-replicate cores (no_copies shards l1_ways l1_sets));
       each_core = All-replicate (IsCore shards l1_ways) cores (no_copies shards l1_ways l1_sets) (record { same_shards = refl; same_ways = refl; copies = λ line e. rw (none_in {X = ℕ × Letter} l1_sets (line / shards % length (no_copies shards l1_ways l1_sets).sets)) refl });
       each_set = rw (length-replicate cores (no_copies shards l1_ways l1_sets)) (All-replicate (IsShared l2_ways cores) l2_sets (no_shared l2_ways cores) (record { same_ways = refl; same_cores = refl }));
-      tells = record { holds = λ core line. rw (shared line, letters core line) refl; owns = λ core line. rw (shared line, letters core line) refl };
+      says = record { holds = λ core line. rw (shared line, letters core line) refl; owns = λ core line. rw (shared line, letters core line) refl };
     }
 
 -- ---- the set of the L2 with a line
@@ -285,12 +285,12 @@ module _ (shards l1_ways l2_ways : ℕ) (l1 : List CoreLines) (l2 : List SharedL
   unfolding dirty_at
   dirty_is = ap (kept_of line) list_is
 
-  -- the directory tells the letters
+  -- the directory says the letters
   pub holds_is : (core : ℕ) → is_sharer s.map line core ≡ is_valid (letter_at before core line)
-  holds_is core = ap (λ (x : Sharing). is_among x core) (sym (sharing_of_set shards l1_ways l2_ways l1 l2 are line i s at_place is)) ∙ are.tells.holds core line
+  holds_is core = ap (λ (x : Sharing). is_among x core) (sym (sharing_of_set shards l1_ways l2_ways l1 l2 are line i s at_place is)) ∙ are.says.holds core line
 
   pub owns_is : (core : ℕ) → is_owner (owner_of s.map line) core ≡ is_alone (letter_at before core line)
-  owns_is core = ap (λ (x : Sharing). is_owner x.owner core) (sym (sharing_of_set shards l1_ways l2_ways l1 l2 are line i s at_place is)) ∙ are.tells.owns core line
+  owns_is core = ap (λ (x : Sharing). is_owner x.owner core) (sym (sharing_of_set shards l1_ways l2_ways l1 l2 are line i s at_place is)) ∙ are.says.owns core line
 
   pub lists_after : (t : SharedLines) (change : List (ℕ × Bool) → List (ℕ × Bool)) → t.list ≡ change s.list → map (λ (s : SharedLines). s.list) (set l2 i t) ≡ in_set_of shards line change (map (λ (s : SharedLines). s.list) l2)
   lists_after t change e =
@@ -329,13 +329,13 @@ module _ (shards l1_ways l2_ways : ℕ) (l1 : List CoreLines) (l2 : List SharedL
     unfolding filled_into_l2
     come_view = ap with_lists (lists_after come_set (filled l2_ways line false) (ap (λ (n : ℕ). filled n line false s.list) set_is.same_ways))
 
-    told : (test : Letter → Bool) (of_sharing : Sharing → ℕ → Bool) → test I ≡ false → ((core : ℕ) → of_sharing nobody core ≡ false)
+    said : (test : Letter → Bool) (of_sharing : Sharing → ℕ → Bool) → test I ≡ false → ((core : ℕ) → of_sharing nobody core ≡ false)
         → ((core q : ℕ) → of_sharing (sharing_at shards l2 q) core ≡ test (letter_at before core q))
         → (victim : Option (ℕ × Bool)) → victim_of s.ways s.list ≡ victim → (core q : ℕ) → (b : Bool)
         → of_sharing (cond b (sharing_without victim q (sharing_at shards l2 q)) (sharing_at shards l2 q)) core ≡ test (letter_at before core q)
-    told test of_sharing none nobody_none was victim e core q false = was core q
-    told test of_sharing none nobody_none was None e core q true = was core q
-    told test of_sharing none nobody_none was (Some v) e core q true =
+    said test of_sharing none nobody_none was victim e core q false = was core q
+    said test of_sharing none nobody_none was None e core q true = was core q
+    said test of_sharing none nobody_none was (Some v) e core q true =
         elim (cases_eq q v.0) as (λ _. of_sharing (cond (nat_eq q v.0) nobody (sharing_at shards l2 q)) core ≡ test (letter_at before core q)) [
           | inl k ↦ rw (eq-eqb q v.0 k) (nobody_none core ∙ sym (ap test (subst (λ (x : ℕ). letter_at before core x ≡ I) (sym k) (gone v (victim_is ∙ e) core)) ∙ none))
           | inr k ↦ rw (ne_eqb q v.0 k) (was core q)
@@ -348,13 +348,13 @@ module _ (shards l1_ways l2_ways : ℕ) (l1 : List CoreLines) (l2 : List SharedL
       few_cores = are.few_cores;
       each_core = are.each_core;
       each_set = All-set (IsShared l2_ways (length l1)) l2 i come_set (record { same_ways = set_is.same_ways; same_cores = cores ∙ set_is.same_cores }) are.each_set;
-      tells = record {
+      says = record {
         holds = λ core q.
             rw (sharing_set shards l2 line i s come_set at_place below_sets is (sharing_without (victim_of s.ways s.list)) sharing q, letter_same shards l1_ways l2_ways l1 l2 (set l2 i come_set) core q)
-            (told is_valid is_among refl (λ c. refl) are.tells.holds (victim_of s.ways s.list) refl core q (nat_eq (q / shards % length l2) i));
+            (said is_valid is_among refl (λ c. refl) are.says.holds (victim_of s.ways s.list) refl core q (nat_eq (q / shards % length l2) i));
         owns = λ core q.
             rw (sharing_set shards l2 line i s come_set at_place below_sets is (sharing_without (victim_of s.ways s.list)) sharing q, letter_same shards l1_ways l2_ways l1 l2 (set l2 i come_set) core q)
-            (told is_alone (λ x c. is_owner x.owner c) refl (λ c. refl) are.tells.owns (victim_of s.ways s.list) refl core q (nat_eq (q / shards % length l2) i));
+            (said is_alone (λ x c. is_owner x.owner c) refl (λ c. refl) are.says.owns (victim_of s.ways s.list) refl core q (nat_eq (q / shards % length l2) i));
       };
     }
 
@@ -393,7 +393,7 @@ module _ (shards l1_ways l2_ways : ℕ) (l1 : List CoreLines) (l2 : List SharedL
     letters_view copies letter changes other_l2 =
         letter_set shards l1_ways l2_ways l1 l2 other_l2 core old new is below_cores core_is.same_shards (core_stays copies).same_shards line letter changes
 
-    -- with a letter that tells the directory nothing new
+    -- with a letter that is nothing new to the directory
     pub alone_are : (letter : Letter) → ChangesLetter old new line letter → HasCopies new → is_valid letter ≡ is_valid (own_letter old line) → is_alone letter ≡ is_alone (own_letter old line)
         → AreLists shards l1_ways l2_ways (set l1 core new) l2
     alone_are letter changes copies held alone =
@@ -404,10 +404,10 @@ module _ (shards l1_ways l2_ways : ℕ) (l1 : List CoreLines) (l2 : List SharedL
       both_view = own_view (set l2 i t) (map-set_same (λ (s : SharedLines). s.list) l2 i t s (ap (λ (s : SharedLines). s.list) rest ∙ ap (λ (s : SharedLines). s.list) is_s))
 
       -- and the directory of the line
-      pub both_are : (letter : Letter) → ChangesLetter old new line letter → HasCopies new → TellsLetter s.map t.map core line letter → AreLists shards l1_ways l2_ways (set l1 core new) (set l2 i t)
-      both_are letter changes copies tells =
+      pub both_are : (letter : Letter) → ChangesLetter old new line letter → HasCopies new → SetsLetter s.map t.map core line letter → AreLists shards l1_ways l2_ways (set l1 core new) (set l2 i t)
+      both_are letter changes copies says =
           step_both shards l1_ways l2_ways l1 l2 are core line i letter old new s t is below_cores (core_stays copies) changes
-          (at_place shards l1_ways l2_ways l1 l2 are line i s number within is_s) is_s (ap (λ (s : SharedLines). s.ways) rest) tells
+          (at_place shards l1_ways l2_ways l1 l2 are line i s number within is_s) is_s (ap (λ (s : SharedLines). s.ways) rest) says
 
 -- ---- letters
 pub alone_held : (letter : Letter) → is_alone letter ≡ true → is_valid letter ≡ true
@@ -416,18 +416,18 @@ alone_held E h = refl
 alone_held S h = absurd cc
 alone_held I h = absurd cc
 
-pub told_as : (old new : LineMap) (core line : ℕ) (letter other : Letter) → is_valid letter ≡ is_valid other → is_alone letter ≡ is_alone other → TellsLetter old new core line letter → TellsLetter old new core line other
-told_as old new core line letter other held alone t = record {
+pub said_as : (old new : LineMap) (core line : ℕ) (letter other : Letter) → is_valid letter ≡ is_valid other → is_alone letter ≡ is_alone other → SetsLetter old new core line letter → SetsLetter old new core line other
+said_as old new core line letter other held alone t = record {
   holds = λ c. t.holds c ∙ ap (λ (b : Bool). cond (nat_eq core c) b (is_sharer old line c)) held;
   owns = λ c. t.owns c ∙ ap (λ (b : Bool). cond (nat_eq core c) b (is_owner (owner_of old line) c)) alone;
   others = t.others;
 }
 
-pub told_new : (old new : LineMap) (core line : ℕ) (write alone : Bool) → (write ≡ true → alone ≡ true) → TellsLetter old new core line (cond alone E S) → TellsLetter old new core line (own_after write I (not alone))
-told_new old new core line true true h t = told_as old new core line E M refl refl t
-told_new old new core line true false h t = let bad : false ≡ true = h refl in absurd cc
-told_new old new core line false true h t = t
-told_new old new core line false false h t = t
+pub said_new : (old new : LineMap) (core line : ℕ) (write alone : Bool) → (write ≡ true → alone ≡ true) → SetsLetter old new core line (cond alone E S) → SetsLetter old new core line (own_after write I (not alone))
+said_new old new core line true true h t = said_as old new core line E M refl refl t
+said_new old new core line true false h t = let bad : false ≡ true = h refl in absurd cc
+said_new old new core line false true h t = t
+said_new old new core line false false h t = t
 
 pub not_held : (letter : Letter) → is_valid letter ≡ false → letter ≡ I
 not_held M h = absurd cc

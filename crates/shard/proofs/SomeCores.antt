@@ -46,7 +46,7 @@ module _ (test : Letter → Bool) (c : Caches) (line : ℕ) where
           | inr e ↦ rw (ne_eqb o core e) (f o e)
         ])
 
--- the same letters, as far as a test tells, give the same answer
+-- the same letters, as far as a test sees, give the same answer
 pub some_other_same : (test other_test : Letter → Bool) (c d : Caches) (core line : ℕ) → length c.l1 ≡ length d.l1 → ((o : ℕ) → o ≢ core → test (letter_at c o line) ≡ other_test (letter_at d o line))
     → some_other test c core line ≡ some_other other_test d core line
 some_other_same test other_test c d core line longer f =

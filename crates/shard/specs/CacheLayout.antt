@@ -89,8 +89,8 @@ abbrev pub is_owner : Option ℕ → (core : ℕ) → Bool
 is_owner None core = false
 is_owner (Some owner) core = nat_eq owner core
 
--- a core has this letter for a line now, as far as a directory tells
-pub record TellsLetter (old new : LineMap) (core line : ℕ) (letter : Letter) : Type 0 where
+-- a core has this letter for a line now, as far as a directory says
+pub record SetsLetter (old new : LineMap) (core line : ℕ) (letter : Letter) : Type 0 where
   pub holds : (c : ℕ) → is_sharer new line c ≡ (if nat_eq core c then is_valid letter else is_sharer old line c)
   pub owns : (c : ℕ) → is_owner (owner_of new line) c ≡ (if nat_eq core c then is_alone letter else is_owner (owner_of old line) c)
   pub others : KeepsOthers old new line
@@ -132,7 +132,7 @@ pub record IsShared (ways cores : ℕ) (s : SharedLines) : Type 0 where
   pub same_cores : s.map.cores ≡ cores
 
 -- who has which lines is what the cores' letters say, and the owner is the core with M or E
-pub record Tells (letters : (core line : ℕ) → Letter) (sharing : (line : ℕ) → Sharing) : Type 0 where
+pub record SaysLetters (letters : (core line : ℕ) → Letter) (sharing : (line : ℕ) → Sharing) : Type 0 where
   pub holds : (core line : ℕ) → is_among (sharing line) core ≡ is_valid (letters core line)
   pub owns : (core line : ℕ) → is_owner (sharing line).owner core ≡ is_alone (letters core line)
 
@@ -143,4 +143,4 @@ pub record AreLists (shards l1_ways l2_ways : ℕ) (l1 : List CoreLines) (l2 : L
   pub each_core : All (IsCore shards l1_ways) l1
   pub each_set : All (IsShared l2_ways (length l1)) l2
   -- the directories say of each line which cores have it, and which core has it in M or E
-  pub tells : Tells (letter_at (lists_view shards l1_ways l2_ways l1 l2)) (sharing_at shards l2)
+  pub says : SaysLetters (letter_at (lists_view shards l1_ways l2_ways l1 l2)) (sharing_at shards l2)

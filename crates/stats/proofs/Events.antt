@@ -16,7 +16,7 @@ abbrev component_of : Event × Fired → ℕ
 component_of x = x.0.component
 
 module _ (first now : List CompCount) (events : List Event) (fired : List Fired) (i : ℕ) (d : Event) (f : Fired) (below : i < length events) (each : length fired ≡ length events)
-    (spot : ℕ) (own : spot ≡ (get_or events i d).component) (there : spot < length first)
+    (place : ℕ) (own : place ≡ (get_or events i d).component) (there : place < length first)
     (so_far : (n : ℕ) (c : CompCount) → n < length first → get_or now n c ≡ with_events (get_or first n c) n (take i (zip events fired))) where
   pair : get_or (zip events fired) i (d, f) ≡ (get_or events i d, get_or fired i f)
   pair = get_or-zip events fired i (d, f) below (omega (arith, each))
@@ -24,22 +24,22 @@ module _ (first now : List CompCount) (events : List Event) (fired : List Fired)
   within : i < length (zip events fired)
   within = omega (arith, each, length-zip events fired)
 
-  owned : spot ≡ component_of (get_or (zip events fired) i (d, f))
+  owned : place ≡ component_of (get_or (zip events fired) i (d, f))
   owned = own ∙ ap component_of (sym pair)
 
   pub event_fits : ((n : ℕ) (c : CompCount) → n < length first → CompFits (with_events (get_or first n c) n (zip events fired)))
-      → (c : CompCount) → CompFits (with_event (get_or now spot c) (get_or events i d, get_or fired i f))
+      → (c : CompCount) → CompFits (with_event (get_or now place c) (get_or events i d, get_or fired i f))
   unfolding with_events
   event_fits fits c =
-      subst (λ (x : Event × Fired). CompFits (with_event (get_or now spot c) x)) pair
-      (item_fits with_event component_of first now (zip events fired) i (d, f) within spot owned there so_far CompFits (λ z x. comp_fewer z (event_count x)) fits c)
+      subst (λ (x : Event × Fired). CompFits (with_event (get_or now place c) x)) pair
+      (item_fits with_event component_of first now (zip events fired) i (d, f) within place owned there so_far CompFits (λ z x. comp_fewer z (event_count x)) fits c)
 
-  pub event_counted : length now ≡ length first → (c fresh : CompCount) → fresh ≡ with_event (get_or now spot c) (get_or events i d, get_or fired i f)
-      → (n : ℕ) (z : CompCount) → n < length first → get_or (set now spot fresh) n z ≡ with_events (get_or first n z) n (take (i + 1) (zip events fired))
+  pub event_counted : length now ≡ length first → (c fresh : CompCount) → fresh ≡ with_event (get_or now place c) (get_or events i d, get_or fired i f)
+      → (n : ℕ) (z : CompCount) → n < length first → get_or (set now place fresh) n z ≡ with_events (get_or first n z) n (take (i + 1) (zip events fired))
   unfolding with_events
   event_counted long c fresh is =
-      item_counted with_event component_of first now (zip events fired) i (d, f) within spot owned there so_far long c fresh
-      (is ∙ ap (λ (x : Event × Fired). with_event (get_or now spot c) x) (sym pair))
+      item_counted with_event component_of first now (zip events fired) i (d, f) within place owned there so_far long c fresh
+      (is ∙ ap (λ (x : Event × Fired). with_event (get_or now place c) x) (sym pair))
 
 pub no_event : (c : CompCount) (n : ℕ) (xs : List (Event × Fired)) → c ≡ with_events c n (take 0 xs)
 unfolding with_events

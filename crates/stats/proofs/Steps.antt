@@ -41,34 +41,34 @@ module _ {C X : Type 0} (step : C → X → C) (owner : X → ℕ) where
         let split = ap (fold step c) (ap (filter p) (sym (take-append-drop k xs)) ∙ filter-append p (take k xs) (drop k xs)) ∙ fold-append step c (filter p (take k xs)) (filter p (drop k xs)) in
         shorter (with_own c n (take k xs)) (filter p (drop k xs)) (subst Fits split fits)
 
-  -- the counts of all numbers, which so far have the first items, at one item more: it is owned by `spot`
+  -- the counts of all numbers, which so far have the first items, at one item more: it is owned by `place`
   module _ (first now : List C) (xs : List X) (i : ℕ) (d : X) (below : i < length xs)
-      (spot : ℕ) (own : spot ≡ owner (get_or xs i d)) (there : spot < length first)
+      (place : ℕ) (own : place ≡ owner (get_or xs i d)) (there : place < length first)
       (so_far : (n : ℕ) (c : C) → n < length first → get_or now n c ≡ with_own (get_or first n c) n (take i xs)) where
-    its_count : (c : C) → step (get_or now spot c) (get_or xs i d) ≡ with_own (get_or first spot c) spot (take (i + 1) xs)
+    its_count : (c : C) → step (get_or now place c) (get_or xs i d) ≡ with_own (get_or first place c) place (take (i + 1) xs)
     its_count c =
-        ap (λ (y : C). step y (get_or xs i d)) (so_far spot c there)
-        ∙ own_item (get_or first spot c) spot xs i d below (sym own)
+        ap (λ (y : C). step y (get_or xs i d)) (so_far place c there)
+        ∙ own_item (get_or first place c) place xs i d below (sym own)
 
     pub item_fits : (Fits : C → Type 0) → ((c : C) (x : X) → Fits (step c x) → Fits c)
-        → ((n : ℕ) (c : C) → n < length first → Fits (with_own (get_or first n c) n xs)) → (c : C) → Fits (step (get_or now spot c) (get_or xs i d))
+        → ((n : ℕ) (c : C) → n < length first → Fits (with_own (get_or first n c) n xs)) → (c : C) → Fits (step (get_or now place c) (get_or xs i d))
     item_fits Fits fewer fits c =
-        subst Fits (sym (its_count c)) (first_fit Fits fewer (get_or first spot c) spot xs (i + 1) (fits spot c there))
+        subst Fits (sym (its_count c)) (first_fit Fits fewer (get_or first place c) place xs (i + 1) (fits place c there))
 
-    pub item_counted : length now ≡ length first → (c fresh : C) → fresh ≡ step (get_or now spot c) (get_or xs i d)
-        → (n : ℕ) (z : C) → n < length first → get_or (set now spot fresh) n z ≡ with_own (get_or first n z) n (take (i + 1) xs)
+    pub item_counted : length now ≡ length first → (c fresh : C) → fresh ≡ step (get_or now place c) (get_or xs i d)
+        → (n : ℕ) (z : C) → n < length first → get_or (set now place fresh) n z ≡ with_own (get_or first n z) n (take (i + 1) xs)
     item_counted long c fresh is n z within =
-        elim (cases_eq spot n) [
+        elim (cases_eq place n) [
           | inl same ↦
-              let inside : spot < length now = omega arith in
-              let P : ℕ → Type 0 = λ k. get_or (set now spot fresh) k z ≡ with_own (get_or first k z) k (take (i + 1) xs) in
+              let inside : place < length now = omega arith in
+              let P : ℕ → Type 0 = λ k. get_or (set now place fresh) k z ≡ with_own (get_or first k z) k (take (i + 1) xs) in
               subst P same
-              (get_or-set_same now spot fresh z inside
+              (get_or-set_same now place fresh z inside
               ∙ is
-              ∙ ap (λ (y : C). step y (get_or xs i d)) (get_or_default now spot c z inside)
+              ∙ ap (λ (y : C). step y (get_or xs i d)) (get_or_default now place c z inside)
               ∙ its_count z)
           | inr other ↦
-              get_or-set_other now spot n fresh z (λ h. other (sym h))
+              get_or-set_other now place n fresh z (λ h. other (sym h))
               ∙ so_far n z within
               ∙ other_item (get_or first n z) n xs i d below (λ h. other (own ∙ h))
         ]

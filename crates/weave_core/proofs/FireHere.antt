@@ -21,7 +21,7 @@ pub record IsFiring {C : Type 0} (serves : C → Kind → Bool) (d : Inside C) (
   pub there : slice_get d.here.items k.number ≡ Some event
   pub in_graph : slice_get d.graph.value event.number ≡ Some event
   pub next : next_in d.graph.value d.parts.value d.domain (own_of d) ≡ Some (event, k.start)
-  pub spot : slice_get d.spots.items event.component ≡ Some (place_in d.parts.value.places d.domain event.component)
+  pub own_place : slice_get d.own_places.items event.component ≡ Some (place_in d.parts.value.places d.domain event.component)
   pub component : C
   pub component_there : slice_get d.comps (place_in d.parts.value.places d.domain event.component) ≡ Some component
   pub served : IsTrue (serves component event.kind)
@@ -39,7 +39,7 @@ firing serves d i k first =
       there = e.1;
       in_graph = (i.here.each k.number e.0 e.1).0;
       next = first_next d.graph.value d.parts.value d.domain d.here.items d.incoming.stubs (own_of d) d.waiting i.numbered i.partitions i.here i.stubs refl i.stands k e.0 e.1 first;
-      spot = i.served.spot k.number e.0 e.1;
+      own_place = i.served.own_place k.number e.0 e.1;
       component = c.0;
       component_there = c.1.0;
       served = c.1.1;
@@ -66,16 +66,16 @@ fired_behind events [] f e h = ap (λ (z : Event). record { event = z; start = f
 fired_behind events (x ∷ xs) f e h = ap (λ (zs : List FiredEvent). timed_from events x ∷ zs) (fired_behind events xs f e h)
 
 -- a component that served one event serves the same kinds
-pub still_served : {C : Type 0} (serves : C → Kind → Bool) (d : Inside C) (i : IsDomain serves d) (spot : ℕ) (c now : C) → slice_get d.comps spot ≡ Some c
-    → ((kind : Kind) → serves now kind ≡ serves c kind) → HaveComponents serves d.parts.value d.domain d.here.items d.spots.items (set d.comps spot now)
-still_served serves d i spot c now there same = record {
-  spot = i.served.spot;
+pub still_served : {C : Type 0} (serves : C → Kind → Bool) (d : Inside C) (i : IsDomain serves d) (own_place : ℕ) (c now : C) → slice_get d.comps own_place ≡ Some c
+    → ((kind : Kind) → serves now kind ≡ serves c kind) → HaveComponents serves d.parts.value d.domain d.here.items d.own_places.items (set d.comps own_place now)
+still_served serves d i own_place c now there same = record {
+  own_place = i.served.own_place;
   serving = λ place e h.
       let s = i.served.serving place e h in
-      elim (cases_eq (place_in d.parts.value.places d.domain e.component) spot) [
+      elim (cases_eq (place_in d.parts.value.places d.domain e.component) own_place) [
         | inl here ↦
             let is : s.0 ≡ c = same_Some s.0 c (sym s.1.0 ∙ (ap (slice_get d.comps) here ∙ there)) in
-            (now, (ap (slice_get (set d.comps spot now)) here ∙ get_set_same d.comps spot now c there, subst IsTrue (ap (λ (z : _). serves z e.kind) is ∙ sym (same e.kind)) s.1.1))
-        | inr apart ↦ (s.0, (get_set_other d.comps spot (place_in d.parts.value.places d.domain e.component) now apart ∙ s.1.0, s.1.1))
+            (now, (ap (slice_get (set d.comps own_place now)) here ∙ get_set_same d.comps own_place now c there, subst IsTrue (ap (λ (z : _). serves z e.kind) is ∙ sym (same e.kind)) s.1.1))
+        | inr apart ↦ (s.0, (get_set_other d.comps own_place (place_in d.parts.value.places d.domain e.component) now apart ∙ s.1.0, s.1.1))
       ];
 }

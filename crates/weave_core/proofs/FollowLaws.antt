@@ -10,7 +10,7 @@ use Rattle.event_graph.specs.TimingSolution.{IsSolution, after_serving, of_compo
 use Rattle.domain_map.specs.Domains.{domain_of_event}
 use Rattle.weave_core.specs.DomainCalls.{DomainValue, Follows, IsFire, comps_in}
 use Rattle.weave_core.specs.DomainMachine.{is_clear, is_ready_in, known_finish}
-use Rattle.weave_core.specs.Following.{FirstFollows, FiresFollow, FloorsFollow, TellsFollow}
+use Rattle.weave_core.specs.Following.{FirstFollows, FiresFollow, FloorsFollow, LooksFollow}
 use Rattle.weave_core.specs.Interleavings.{IsPartitioned, IsFront, of_domain}
 use Rattle.weave_core.specs.Layout.{place_in}
 use Rattle.weave_core.specs.SoundDomain.{IsNextFiring, SoundDomainsFollow}
@@ -18,7 +18,7 @@ use Rattle.weave_core.specs.Soundness.{AreSoundBounds, AreSoundWords}
 use Rattle.weave_core.proofs.Following.{bounds_before, comps_set, floor_before, left_at, left_by, longer_front, none_left, set_left, words_before}
 use Rattle.weave_core.proofs.LeastBy.{some_next}
 use Rattle.weave_core.proofs.Lists.{both, get_below}
-use Rattle.weave_core.proofs.Spots.{spot_there}
+use Rattle.weave_core.proofs.OwnPlaces.{spot_there}
 use Rattle.weave_core.proofs.Words.{eq_is}
 
 none_taken : {X : Type 0} (xs : List X) → [] ≡ take 0 xs
@@ -33,8 +33,8 @@ first_follows stepped = record {
   };
 }
 
-pub tells_follow : {C : Type 0} (stepped : C → Kind → ℕ → C × ℕ) → TellsFollow stepped
-tells_follow stepped = record {
+pub looks_follow : {C : Type 0} (stepped : C → Kind → ℕ → C × ℕ) → LooksFollow stepped
+looks_follow stepped = record {
   each = λ all timed v solution number word may follows. record {
     fired = λ known bounds.
         follows.fired (words_before v.events timed v.partition v.domain v.own number word may known bounds) (bounds_before v.events timed v.partition v.domain v.own number word may known bounds);

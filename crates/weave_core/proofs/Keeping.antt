@@ -33,7 +33,7 @@ use Rattle.weave_core.proofs.Lists.{find_some, get_below, get_there, in_at, last
 use Rattle.weave_core.proofs.PendingEvents.{IsNextHere, may_fire, pending_is}
 use Rattle.weave_core.proofs.Solutions.{bounds_alike, finish_alike, order_alike, words_alike}
 use Rattle.weave_core.proofs.SoundDomains.{front_cut, mine_so_far, next_entry}
-use Rattle.weave_core.proofs.Spots.{spot_there}
+use Rattle.weave_core.proofs.OwnPlaces.{spot_there}
 use Rattle.weave_core.proofs.Updates.{read_after}
 
 none_taken : {X : Type 0} (xs : List X) → [] ≡ take 0 xs

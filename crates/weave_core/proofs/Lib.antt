@@ -33,7 +33,7 @@ mod Looked
 mod FireSteps
 mod FireHere
 mod Linking
-mod Spots
+mod OwnPlaces
 mod LinkAll
 mod Stubbing
 mod LayingOut

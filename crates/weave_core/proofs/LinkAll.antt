@@ -11,7 +11,7 @@ use Rattle.weave_core.specs.Beginning.{AreChained, AreCounts, IsCount}
 use Rattle.weave_core.specs.Layout.{AreLinked, hit_after, times_parent}
 use Rattle.weave_core.proofs.Linking.{chained_alike}
 use Rattle.weave_core.proofs.Lists.{get_below, last_at}
-use Rattle.weave_core.proofs.Spots.{get_push}
+use Rattle.weave_core.proofs.OwnPlaces.{get_push}
 use Rattle.weave_core.proofs.Words.{apart_eq, is_eq}
 
 abbrev pub both_hits : (number : ℕ) → Event → ℕ

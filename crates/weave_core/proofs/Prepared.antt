@@ -13,7 +13,7 @@ use Rattle.weave_core.specs.LaidOut.{IsLaidOut}
 use Rattle.weave_core.specs.Layout.{AreHere, AreStubs, HaveComponents, Stands, known_words, place_in, timed_from}
 use Rattle.weave_core.proofs.Lists.{get_below}
 use Rattle.weave_core.proofs.Looked.{stands_alike}
-use Rattle.weave_core.proofs.Spots.{spot_there}
+use Rattle.weave_core.proofs.OwnPlaces.{spot_there}
 
 -- what is true of a domain, over its graph and its partition
 pub record IsBegun {C : Type 0} (serves : C → Kind → Bool) (domain : ℕ) (l : Kept) (comps : List C) (events : List Event) (p : Partition) : Type 0 where
@@ -22,12 +22,12 @@ pub record IsBegun {C : Type 0} (serves : C → Kind → Bool) (domain : ℕ) (l
   pub here : AreHere events p domain l.here.items
   pub stubs : AreStubs events p domain l.here.items l.incoming.stubs
   pub stands : Stands events p domain (record { fired = map (timed_from events) l.fired.items; known = known_words p.crossings l.incoming.stubs; floor = l.incoming.floor }) l.here.items l.incoming.stubs l.waiting
-  pub served : HaveComponents serves p domain l.here.items l.spots.items comps
+  pub served : HaveComponents serves p domain l.here.items l.own_places.items comps
 
 served_by : {C : Type 0} (serves : C → Kind → Bool) (floor : C → Kind → ℕ) (events : List Event) (p : Partition) (domain : ℕ) (l : Kept) (comps all : List C)
-    → IsLaidOut events p domain l → IsFitted serves floor events p domain comps all → HaveComponents serves p domain l.here.items l.spots.items comps
+    → IsLaidOut events p domain l → IsFitted serves floor events p domain comps all → HaveComponents serves p domain l.here.items l.own_places.items comps
 served_by {C} serves floor events p domain l comps all laid fits = record {
-  spot = λ place e h. laid.spots.each e.component (below place e h);
+  own_place = λ place e h. laid.own_places.each e.component (below place e h);
   serving = λ place e h.
       let f : EventFits serves floor all e = fits.fits e.number e (laid.here.each place e h).0 in
       let at : slice_get (comps_in p.places domain all) (place_in p.places domain e.component) ≡ Some f.component =

@@ -10,7 +10,7 @@ use Rattle.weave_core.specs.Beginning.{AddsWaits, AreStubsUpto, IsMadeOf}
 use Rattle.weave_core.specs.DomainMachine.{is_exact}
 use Rattle.weave_core.specs.Layout.{unknown_into}
 use Rattle.weave_core.proofs.Lists.{get_below, last_at}
-use Rattle.weave_core.proofs.Spots.{get_push}
+use Rattle.weave_core.proofs.OwnPlaces.{get_push}
 use Rattle.weave_core.proofs.Updates.{get_set_other, get_set_same}
 use Rattle.weave_core.proofs.Words.{apart_eq, is_eq}
 

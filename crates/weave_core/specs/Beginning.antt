@@ -43,9 +43,9 @@ AddsLink here child parent heads after links longer =
     → AreChained here after longer (λ n c. count n c + cond (c == child) (times_parent n parent) 0) (λ f n c. max (late f n c) (cond (c == child) (hit_after f n parent) 0))
 
 -- for each component up to this one its place among those of the domain
-pub record AreSpots (places : List ℕ) (domain : ℕ) (spots : List ℕ) (upto : ℕ) : Type 0 where
-  pub size : length spots ≡ upto
-  pub each : (component : ℕ) → component < upto → slice_get spots component ≡ Some (place_in places domain component)
+pub record AreOwnPlaces (places : List ℕ) (domain : ℕ) (own_places : List ℕ) (upto : ℕ) : Type 0 where
+  pub size : length own_places ≡ upto
+  pub each : (component : ℕ) → component < upto → slice_get own_places component ≡ Some (place_in places domain component)
 
 -- the times of the event don't pass 2^62, and it takes no time less than none
 pub record IsSmallEvent (e : Event) : Type 0 where

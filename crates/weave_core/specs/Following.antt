@@ -27,7 +27,7 @@ pub record FirstFollows {C : Type 0} (stepped : C → Kind → ℕ → C × ℕ)
       → Follows stepped all timed (record { domain = domain; events = events; partition = p; own = at_first p; comps = comps_in p.places domain all }) solution
 
 -- a word that a domain may be told: what is sound after it was sound before
-pub record TellsFollow {C : Type 0} (stepped : C → Kind → ℕ → C × ℕ) : Type 0 where
+pub record LooksFollow {C : Type 0} (stepped : C → Kind → ℕ → C × ℕ) : Type 0 where
   pub each : (all : List C) (timed : List FiredEvent) (v : DomainValue C) (solution : IsSolution stepped v.events all timed) (number : ℕ) (word : Word)
       → MayTell v.events v.partition v.domain v.own number word → Follows stepped all timed v solution
       → Follows stepped all timed (record v { own = with_known v.own number word }) solution

@@ -30,4 +30,4 @@ pub record IsDomain {C : Type 0} (serves : C → Kind → Bool) (d : Inside C) :
   pub stands : Stands d.graph.value d.parts.value d.domain (own_of d) d.here.items d.incoming.stubs d.waiting
   pub counted : length d.fired.items ≡ fired_in d.waiting.waits
   pub room : length d.here.items ≤ vec_capacity d.fired
-  pub served : HaveComponents serves d.parts.value d.domain d.here.items d.spots.items d.comps
+  pub served : HaveComponents serves d.parts.value d.domain d.here.items d.own_places.items d.comps

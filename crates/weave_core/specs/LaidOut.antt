@@ -6,7 +6,7 @@ use Rattle.event_graph.specs.declared.event.Event.{Event}
 use Rattle.event_graph.specs.Numbered.{IsNumbered}
 use Rattle.domain_map.specs.Domains.{Partition}
 use Rattle.weave_core.specs.declared.prepare.Layout.{Layout as Kept}
-use Rattle.weave_core.specs.Beginning.{AreSmall, AreSpots}
+use Rattle.weave_core.specs.Beginning.{AreSmall, AreOwnPlaces}
 use Rattle.weave_core.specs.DomainMachine.{DomainState}
 use Rattle.weave_core.specs.Layout.{AreHere, AreLinked, AreStubs, Stands, fired_in, known_words}
 
@@ -33,4 +33,4 @@ pub record IsLaidOut (events : List Event) (p : Partition) (domain : ℕ) (l : K
   pub counted : fired_in l.waiting.waits ≡ 0
   pub fired : l.fired.items ≡ []
   pub room : length l.here.items ≤ vec_capacity l.fired
-  pub spots : AreSpots p.places domain l.spots.items (length p.places)
+  pub own_places : AreOwnPlaces p.places domain l.own_places.items (length p.places)

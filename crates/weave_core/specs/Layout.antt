@@ -150,6 +150,6 @@ fired_in (wait ∷ waits) = cond (wait == 4294967295) 1 0 + fired_in waits
 -- The components of the domain.
 
 -- the component of each event is there, and serves it
-pub record HaveComponents {C : Type 0} (serves : C → Kind → Bool) (p : Partition) (domain : ℕ) (here : List Event) (spots : List ℕ) (comps : List C) : Type 0 where
-  pub spot : (place : ℕ) (e : Event) → slice_get here place ≡ Some e → slice_get spots e.component ≡ Some (place_in p.places domain e.component)
+pub record HaveComponents {C : Type 0} (serves : C → Kind → Bool) (p : Partition) (domain : ℕ) (here : List Event) (own_places : List ℕ) (comps : List C) : Type 0 where
+  pub own_place : (place : ℕ) (e : Event) → slice_get here place ≡ Some e → slice_get own_places e.component ≡ Some (place_in p.places domain e.component)
   pub serving : (place : ℕ) (e : Event) → slice_get here place ≡ Some e → (c : C) × ((slice_get comps (place_in p.places domain e.component) ≡ Some c) × IsTrue (serves c e.kind))

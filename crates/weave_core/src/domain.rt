@@ -36,7 +36,7 @@ pub struct Domain<C: Component> {
     pub(crate) incoming: Incoming,
     pub(crate) fired: Vec<Fired>,
     /// For each component of the machine its place among those of its domain.
-    pub(crate) spots: Vec<u16>,
+    pub(crate) own_places: Vec<u16>,
     pub(crate) comps: Comps<C>,
 }
 
@@ -80,7 +80,7 @@ impl<C: Component> Domain<C> {
                 waiting: layout.waiting,
                 incoming: layout.incoming,
                 fired: layout.fired,
-                spots: layout.spots,
+                own_places: layout.own_places,
                 comps,
             }),
             Err(error) => Err((error, comps)),
@@ -141,8 +141,8 @@ impl<C: Component> Domain<C> {
             unreachable!()
         };
         let event = self.here[key.number as usize];
-        let spot = self.spots[usize::from(event.component)];
-        let finish = self.comps.as_mut_slice()[usize::from(spot)].step(event.kind, key.start);
+        let own_place = self.own_places[usize::from(event.component)];
+        let finish = self.comps.as_mut_slice()[usize::from(own_place)].step(event.kind, key.start);
         let fired = Fired {
             number: event.number,
             start: key.start,

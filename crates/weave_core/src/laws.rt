@@ -1,6 +1,6 @@
 //! Laws over the definitions alone, each the contract of a function that does nothing.
 ghost use Rattle.weave_core.specs.AtBarrier.{BarrierFloorsHold, BarriersAdvance};
-ghost use Rattle.weave_core.specs.Following.{FirstFollows, FiresFollow, FloorsFollow, TellsFollow};
+ghost use Rattle.weave_core.specs.Following.{FirstFollows, FiresFollow, FloorsFollow, LooksFollow};
 ghost use Rattle.weave_core.specs.Interleavings.{FirstUnfiredMayFire, Interleavings};
 ghost use Rattle.weave_core.specs.Keeping.{KeepingLaws};
 ghost use Rattle.weave_core.specs.SoundDomain.{SoundDomainsFollow, SoundFloorsBound};
@@ -73,8 +73,8 @@ pub fn first_follows<C: Component>()
 {}
 
 /// A domain that keeps to a solution where what it was told is sound does so after another word.
-pub fn tells_follow<C: Component>()
-    ensures { TellsFollow C.stepped }
+pub fn looks_follow<C: Component>()
+    ensures { LooksFollow C.stepped }
 {}
 
 /// A domain that keeps to a solution where what it was told is sound does so at a higher floor.

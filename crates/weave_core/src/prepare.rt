@@ -1,6 +1,6 @@
 //! What a domain keeps of a graph.
 ghost use Rattle.std.specs.Prelude.{◌≡◌, ◌≤◌, ◌<◌, ◌^◌, ◌+◌, All, IfNone, IfOk, IfSome, OnOk, length, map, replicate, slice_get, slice_index_or, Some};
-ghost use Rattle.weave_core.specs.Beginning.{AddsLink, AddsWaits, AreCounts, AreCrossed, AreSmall, AreSpots, AreStubsUpto, HasPlace, HasWaits, IsCount, IsCrossed, IsMadeOf, IsRisingList, NoPlace};
+ghost use Rattle.weave_core.specs.Beginning.{AddsLink, AddsWaits, AreCounts, AreCrossed, AreSmall, AreOwnPlaces, AreStubsUpto, HasPlace, HasWaits, IsCount, IsCrossed, IsMadeOf, IsRisingList, NoPlace};
 ghost use Rattle.domain_map.specs.Domains.{IsPartition};
 ghost use Rattle.weave_core.specs.DomainMachine.{latency_of};
 ghost use Rattle.weave_core.specs.LaidOut.{FitsDomain, IsLaidOut};
@@ -178,19 +178,23 @@ fn stub_of(events: &[Event], here: &[Event], number: u32, crossing: Crossing) ->
 }
 
 /// For each component its place among those of the domain.
-pub(crate) fn spots_of(alloc: Global, places: &[u16], domain: u16) -> Result<Vec<u16>, NoMemory>
+pub(crate) fn own_places_of(
+    alloc: Global,
+    places: &[u16],
+    domain: u16,
+) -> Result<Vec<u16>, NoMemory>
     requires { length places.now < 2 ^ 16 }
-    ensures { IfOk result (λ spots. AreSpots places.now domain spots.items (length places.now)) }
+    ensures { IfOk result (λ own_places. AreOwnPlaces places.now domain own_places.items (length places.now)) }
 {
-    let mut spots = Vec::with_capacity(alloc, places.len())?;
+    let mut own_places = Vec::with_capacity(alloc, places.len())?;
     let mut count = 0;
     for place in places {
-        spots.push(count)?;
+        own_places.push(count)?;
         if *place == domain {
             count += 1;
         }
     }
-    Ok(spots)
+    Ok(own_places)
 }
 
 /// The least time that an event takes.
@@ -221,7 +225,7 @@ pub(crate) struct Layout {
     pub(crate) waiting: Waiting,
     pub(crate) incoming: Incoming,
     pub(crate) fired: Vec<Fired>,
-    pub(crate) spots: Vec<u16>,
+    pub(crate) own_places: Vec<u16>,
 }
 
 /// Lays a domain of a graph out.
@@ -245,7 +249,7 @@ pub(crate) fn lay_out(
     } = link_all(alloc, &here)?;
     let stubs = stubs_of(alloc, events, &here, parts.crossings(), domain, &mut waits)?;
     let starts = starts_of(alloc, &here)?;
-    let spots = spots_of(alloc, parts.places(), domain)?;
+    let own_places = own_places_of(alloc, parts.places(), domain)?;
     let fired = Vec::with_capacity(alloc, here.len())?;
     let waiting = Waiting::begin(alloc, starts, waits)?;
     let incoming = Incoming::begin(alloc, stubs)?;
@@ -256,6 +260,6 @@ pub(crate) fn lay_out(
         waiting,
         incoming,
         fired,
-        spots,
+        own_places,
     })
 }

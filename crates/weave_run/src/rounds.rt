@@ -55,7 +55,7 @@ pub(crate) fn run_rounds<R: Threads + Sync, C: Component + Send, G: Gate>(
     let steps = 3 * events as usize + 1;
     let mut floor = 0;
     let mut fired = 0;
-    let mut is_worth = true;
+    let mut threads_are_worth = true;
     for round in 0..events {
         let Some(front) = front_of(domains, plan) else {
             return round;
@@ -63,11 +63,20 @@ pub(crate) fn run_rounds<R: Threads + Sync, C: Component + Send, G: Gate>(
         floor = front.max(floor);
         raise_floors(domains, floor);
         run_round(
-            rt, domains, team, plan, parts, outgoing, gate, workers, steps, is_worth,
+            rt,
+            domains,
+            team,
+            plan,
+            parts,
+            outgoing,
+            gate,
+            workers,
+            steps,
+            threads_are_worth,
         );
         let before = fired;
         fired = fired_so_far(domains);
-        is_worth = fired.saturating_sub(before) >= WORTH_OF_THREADS;
+        threads_are_worth = fired.saturating_sub(before) >= WORTH_OF_THREADS;
     }
     events
 }
@@ -93,7 +102,7 @@ fn run_round<R: Threads + Sync, C: Component + Send, G: Gate>(
     gate: &G,
     workers: u16,
     steps: usize,
-    is_worth: bool,
+    threads_are_worth: bool,
 )
     requires can { CanWeavePlan C.serves C.floor C.stepped C.greatest plan.now }
     requires parts { parts.now ≡ plan.now.parts.value }
@@ -105,7 +114,7 @@ fn run_round<R: Threads + Sync, C: Component + Send, G: Gate>(
     ensures ran { HasRunRound C.stepped plan.now domains.old.items domains.new.items }
     ensures team { IfSome team.new (IsTeam C.stepped plan.now domains.new.items) }
 {
-    let beside = is_worth && are_several_ready(domains);
+    let beside = threads_are_worth && are_several_ready(domains);
     if let Some(team) = team {
         if beside {
             run_beside(rt, domains, team, plan, parts, outgoing, gate, steps);

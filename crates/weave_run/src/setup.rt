@@ -64,7 +64,7 @@ pub(crate) fn prepare<C: Component>(
     ensures prepared { IfOk result (λ prepared. IsPrepared C.stepped plan.now prepared) }
     ensures back { IfErr result (λ e. e.1 ≡ comps) }
 {
-    let room = match take_room(alloc, graph, parts, plan, &comps, workers) {
+    let room = match reserve_all(alloc, graph, parts, plan, &comps, workers) {
         Ok(room) => room,
         Err(error) => return Err((error, comps)),
     };
@@ -90,7 +90,7 @@ pub(crate) fn prepare<C: Component>(
     }
 }
 
-fn take_room<C: Component>(
+fn reserve_all<C: Component>(
     alloc: Global,
     graph: &Graph,
     parts: &Parts,

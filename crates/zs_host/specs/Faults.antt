@@ -1,4 +1,4 @@
--- What an answer tells of the calls that failed.
+-- What an answer says of the calls that failed.
 use Rattle.std.specs.Prelude.{◌≡◌, ◌+◌, ◌-◌, ◌^◌, ◌≤◌, ℕ, min, Option, Some, Result, Ok, Err}
 use Rattle.zs_host.specs.declared.fault.Fault.{Fault}
 use Rattle.zs_host.specs.declared.files.FileFail.{FileFail}

@@ -19,9 +19,9 @@ pub enum FileFail {
 
 /// Files by name.
 pub trait Files {
-    /// Whether the object tells which bytes its names hold. Where it does not, `contents` says
+    /// Whether contracts see which bytes its names hold. Where they do not, `contents` says
     /// nothing.
-    ghost tells: { Bool };
+    ghost is_seen: { Bool };
 
     /// The bytes that a name holds, or None where there is no such name.
     ghost contents: { Self → List ℕ → Option (List ℕ) };
@@ -36,15 +36,15 @@ pub trait Files {
     /// a fault. Nothing changes but the count of faults and the latest fault.
     fn read(&mut self, alloc: Global, name: &str, most: usize) -> Result<Bytes, FileFail>
         ensures bound { IfOk result (λ bytes. length bytes ≤ most) }
-        ensures bytes { IfOk result (λ bytes. IsTrue tells → option_map (take most) (contents self.old name.now) ≡ Some bytes) }
-        ensures names { IsTrue tells → (n : List ℕ) → contents self.new n ≡ contents self.old n }
+        ensures bytes { IfOk result (λ bytes. IsTrue is_seen → option_map (take most) (contents self.old name.now) ≡ Some bytes) }
+        ensures names { IsTrue is_seen → (n : List ℕ) → contents self.new n ≡ contents self.old n }
         ensures faults { FileFaults result (faults self.old) (faults self.new) (latest self.old) (latest self.new) (record { operation = Read; name = name.now }) };
 
     /// Makes a name hold these bytes. After an answer that is not Ok the name holds what it held,
     /// or a prefix of the bytes.
     fn write(&mut self, alloc: Global, name: &str, bytes: &[u8]) -> Result<(), FileFail>
-        ensures written { OnOk result (IsTrue tells → contents self.new name.now ≡ Some bytes.now) }
-        ensures cut { OnErr result (IsTrue tells → HoldsOrCut (contents self.old name.now) bytes.now (contents self.new name.now)) }
-        ensures others { IsTrue tells → (n : List ℕ) → n ≢ name.now → contents self.new n ≡ contents self.old n }
+        ensures written { OnOk result (IsTrue is_seen → contents self.new name.now ≡ Some bytes.now) }
+        ensures cut { OnErr result (IsTrue is_seen → HoldsOrCut (contents self.old name.now) bytes.now (contents self.new name.now)) }
+        ensures others { IsTrue is_seen → (n : List ℕ) → n ≢ name.now → contents self.new n ≡ contents self.old n }
         ensures faults { FileFaults result (faults self.old) (faults self.new) (latest self.old) (latest self.new) (record { operation = Write; name = name.now }) };
 }

@@ -116,7 +116,7 @@ impl MemFiles {
 }
 
 impl Files for MemFiles {
-    ghost tells = { true };
+    ghost is_seen = { true };
 
     ghost contents = { λ f n. held_by f n };
 

@@ -54,7 +54,7 @@ impl MemSink {
 }
 
 impl Sink for MemSink {
-    ghost tells = { true };
+    ghost is_seen = { true };
 
     ghost bytes = { λ s. bytes_taken s };
 

@@ -53,7 +53,7 @@ impl<S: System> RealFiles<S> {
 }
 
 impl<S: System> Files for RealFiles<S> {
-    ghost tells = { false };
+    ghost is_seen = { false };
 
     ghost contents = { λ _ _. None };
 

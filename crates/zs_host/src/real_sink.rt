@@ -8,7 +8,7 @@ use std::alloc::Global;
 use std::io;
 use std::io::{ErrorKind, Print, Stderr, Stdout};
 
-/// A stream of the system, which tells no bytes. A put is one write of the system, without a
+/// A stream of the system, whose bytes are not seen. A put is one write of the system, without a
 /// buffer, that is tried again where a signal interrupts it. An empty piece is not written.
 #[derive(Drop)]
 pub struct RealSink<P> {
@@ -48,7 +48,7 @@ impl<P: Print> RealSink<P> {
 }
 
 impl<P: Print> Sink for RealSink<P> {
-    ghost tells = { false };
+    ghost is_seen = { false };
 
     ghost bytes = { λ _. [] };
 

@@ -14,8 +14,8 @@ pub enum SinkFail {
 
 /// A stream that takes bytes.
 pub trait Sink {
-    /// Whether the object tells which bytes it took. Where it does not, `bytes` says nothing.
-    ghost tells: { Bool };
+    /// Whether contracts see which bytes it took. Where they do not, `bytes` says nothing.
+    ghost is_seen: { Bool };
 
     /// The bytes so far.
     ghost bytes: { Self → List ℕ };
@@ -29,7 +29,7 @@ pub trait Sink {
         ensures within { IfOk result (λ n. n ≤ length piece.now) }
         ensures progress { IfOk result (λ n. 0 < length piece.now → 0 < n) }
         ensures empty { length piece.now ≡ 0 → result ≡ Ok 0 }
-        ensures appended { IfOk result (λ n. IsTrue tells → bytes self.new ≡ bytes self.old ++ take n piece.now) }
-        ensures unchanged { OnErr result (IsTrue tells → bytes self.new ≡ bytes self.old) }
+        ensures appended { IfOk result (λ n. IsTrue is_seen → bytes self.new ≡ bytes self.old ++ take n piece.now) }
+        ensures unchanged { OnErr result (IsTrue is_seen → bytes self.new ≡ bytes self.old) }
         ensures faults { SinkFaults result (faults self.old) (faults self.new) };
 }

@@ -50,7 +50,7 @@ impl SureFiles {
 }
 
 impl Files for SureFiles {
-    ghost tells = { true };
+    ghost is_seen = { true };
 
     ghost contents = { λ f n. Some (bytes_held f n) };
 

@@ -31,7 +31,7 @@ impl SureSink {
 }
 
 impl Sink for SureSink {
-    ghost tells = { true };
+    ghost is_seen = { true };
 
     ghost bytes = { λ s. bytes_put s };
 

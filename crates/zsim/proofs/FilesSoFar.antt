@@ -21,15 +21,15 @@ pub failed_input : (files : FilesSeen) (name : Option (List ℕ)) → FailedToRe
 failed_input files None failed = absurd failed
 failed_input files (Some name) failed = failed.failed
 
-module _ {F : Type 0} (tells : Bool) (contents : F → List ℕ → Option (List ℕ)) (faults : F → ℕ) (latest : F → Option Fault) (before between after : F) where
+module _ {F : Type 0} (is_seen : Bool) (contents : F → List ℕ → Option (List ℕ)) (faults : F → ℕ) (latest : F → Option Fault) (before between after : F) where
   abbrev first : FilesSeen
-  first = files_seen tells contents faults latest before between
+  first = files_seen is_seen contents faults latest before between
 
   abbrev second : FilesSeen
-  second = files_seen tells contents faults latest between after
+  second = files_seen is_seen contents faults latest between after
 
   abbrev both : FilesSeen
-  both = files_seen tells contents faults latest before after
+  both = files_seen is_seen contents faults latest before after
 
   -- what was read first stays read
   pub text_stays : (name : Option (List ℕ)) (text : List ℕ) → IsMachineText first name text → IsMachineText both name text

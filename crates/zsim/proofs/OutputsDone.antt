@@ -23,9 +23,9 @@ same_names target files is same = subst (λ (t : Option NamedFile). MatchOption 
 
 -- what a call that writes a file came to
 written : {T : Type 0} (r : Result T FileFail) (files : FilesSeen) (name bytes : List ℕ)
-    → OnOk r (IsTrue files.tells → files.held_after name ≡ Some bytes)
-    → OnErr r (IsTrue files.tells → HoldsOrCut (files.held_before name) bytes (files.held_after name))
-    → (IsTrue files.tells → (other : List ℕ) → other ≢ name → files.held_after other ≡ files.held_before other)
+    → OnOk r (IsTrue files.is_seen → files.held_after name ≡ Some bytes)
+    → OnErr r (IsTrue files.is_seen → HoldsOrCut (files.held_before name) bytes (files.held_after name))
+    → (IsTrue files.is_seen → (other : List ℕ) → other ≢ name → files.held_after other ≡ files.held_before other)
     → FileFaults r files.faults_before files.faults_after files.latest_before files.latest_after (record { operation = Write; name = name })
     → Writes r (Some (named_file name bytes)) files
 written (Ok x) files name bytes whole cut others faults = (record { faults = faults.0; latest = faults.1 }, record { held = whole; others = others })
@@ -33,9 +33,9 @@ written (Err fail.NoMemory) files name bytes whole cut others faults = (record {
 written (Err fail.Failed) files name bytes whole cut others faults = (record { failed = faults.0; latest = faults.1 }, record { held = cut; others = others })
 
 pub written_as : {T : Type 0} (r : Result T FileFail) (target : Option NamedFile) (files : FilesSeen) (name bytes : List ℕ) → target ≡ Some (named_file name bytes)
-    → OnOk r (IsTrue files.tells → files.held_after name ≡ Some bytes)
-    → OnErr r (IsTrue files.tells → HoldsOrCut (files.held_before name) bytes (files.held_after name))
-    → (IsTrue files.tells → (other : List ℕ) → other ≢ name → files.held_after other ≡ files.held_before other)
+    → OnOk r (IsTrue files.is_seen → files.held_after name ≡ Some bytes)
+    → OnErr r (IsTrue files.is_seen → HoldsOrCut (files.held_before name) bytes (files.held_after name))
+    → (IsTrue files.is_seen → (other : List ℕ) → other ≢ name → files.held_after other ≡ files.held_before other)
     → FileFaults r files.faults_before files.faults_after files.latest_before files.latest_after (record { operation = Write; name = name })
     → Writes r target files
 written_as r target files name bytes is whole cut others faults =

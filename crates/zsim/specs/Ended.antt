@@ -1,4 +1,4 @@
--- What the answer of a call tells whose words are a command: what was kept, the cause of each status, and what was
+-- What the answer of a call says whose words are a command: what was kept, the cause of each status, and what was
 -- written to standard output and to the file of a schedule. And what it says on standard error.
 use Rattle.std.specs.Prelude.{◌≡◌, ◌⊎◌, ℕ, Bool, if◌then◌else◌, List, [], Option, Some, None, IsSomeAnd, IsOk, IsOkAnd, Ok, Err, MatchOption, MatchResult}
 use Rattle.access_log.specs.Schedule.{ScheduleState}
@@ -134,7 +134,7 @@ pub record IsRefusedAt (command : Command) (kept : Kept) (at : Illegal) : Type 0
 abbrev pub status_at : (limit : Bool) → Status
 status_at limit = if limit then status.Limit else status.Ran
 
--- standard output gained the whole report of the run, whose end the status tells
+-- standard output gained the whole report of the run, whose end the status says
 abbrev pub IsReported : Status → Seen → Kept → Type 0
 IsReported s seen kept =
     (r : Results) × (run : Gives seen.command kept r) × (s ≡ status_at r.limit) × Gained seen.out (report_of run.setup.machine seen.command.brief r)

@@ -42,8 +42,8 @@ pub record IsGivenTheRecord (first second : Seen) (name : List ℕ) : Type 0 whe
   -- the name to which the first wrote
   pub recorded : List ℕ
   pub record_to : record_name first.command.task ≡ Some recorded
-  pub first_tells : IsTrue first.files.tells
-  pub second_tells : IsTrue second.files.tells
+  pub first_tells : IsTrue first.files.is_seen
+  pub second_tells : IsTrue second.files.is_seen
   pub holds : second.files.held_before name ≡ first.files.held_after recorded
 
 -- both calls ended in the same way, and wrote the same bytes to standard output

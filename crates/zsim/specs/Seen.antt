@@ -8,7 +8,7 @@ use Rattle.zs_host.specs.Files.{HoldsOrCut}
 
 pub record FilesSeen : Type 0 where
   -- whether they tell what their names hold
-  pub tells : Bool
+  pub is_seen : Bool
   -- the bytes that each name held, if it was there
   pub held_before : List ℕ → Option (List ℕ)
   pub held_after : List ℕ → Option (List ℕ)
@@ -20,8 +20,8 @@ pub record FilesSeen : Type 0 where
   pub latest_after : Option Fault
 
 pub record SinkSeen : Type 0 where
-  -- whether it tells which bytes it took
-  pub tells : Bool
+  -- whether contracts see which bytes it took
+  pub is_seen : Bool
   pub bytes_before : List ℕ
   pub bytes_after : List ℕ
   -- how many puts had failed
@@ -29,9 +29,9 @@ pub record SinkSeen : Type 0 where
   pub faults_after : ℕ
 
 -- what files of any type tell before and after a call
-abbrev pub files_seen : {F : Type 0} → (tells : Bool) → (contents : F → List ℕ → Option (List ℕ)) → (faults : F → ℕ) → (latest : F → Option Fault) → (before after : F) → FilesSeen
-files_seen tells contents faults latest before after = record {
-  tells = tells;
+abbrev pub files_seen : {F : Type 0} → (is_seen : Bool) → (contents : F → List ℕ → Option (List ℕ)) → (faults : F → ℕ) → (latest : F → Option Fault) → (before after : F) → FilesSeen
+files_seen is_seen contents faults latest before after = record {
+  is_seen = is_seen;
   held_before = contents before;
   held_after = contents after;
   faults_before = faults before;
@@ -40,10 +40,10 @@ files_seen tells contents faults latest before after = record {
   latest_after = latest after;
 }
 
--- what a stream of any type tells before and after a call
-abbrev pub sink_seen : {S : Type 0} → (tells : Bool) → (bytes : S → List ℕ) → (faults : S → ℕ) → (before after : S) → SinkSeen
-sink_seen tells bytes faults before after = record {
-  tells = tells;
+-- what is seen of a stream of any type before and after a call
+abbrev pub sink_seen : {S : Type 0} → (is_seen : Bool) → (bytes : S → List ℕ) → (faults : S → ℕ) → (before after : S) → SinkSeen
+sink_seen is_seen bytes faults before after = record {
+  is_seen = is_seen;
   bytes_before = bytes before;
   bytes_after = bytes after;
   faults_before = faults before;
@@ -52,17 +52,17 @@ sink_seen tells bytes faults before after = record {
 
 -- no name changed
 abbrev pub SameNames : FilesSeen → Type 0
-SameNames files = IsTrue files.tells → (name : List ℕ) → files.held_after name ≡ files.held_before name
+SameNames files = IsTrue files.is_seen → (name : List ℕ) → files.held_after name ≡ files.held_before name
 
 -- a name was made to hold these bytes, and no other name changed
 pub record WasWritten (files : FilesSeen) (name bytes : List ℕ) : Type 0 where
-  pub held : IsTrue files.tells → files.held_after name ≡ Some bytes
-  pub others : IsTrue files.tells → (other : List ℕ) → other ≢ name → files.held_after other ≡ files.held_before other
+  pub held : IsTrue files.is_seen → files.held_after name ≡ Some bytes
+  pub others : IsTrue files.is_seen → (other : List ℕ) → other ≢ name → files.held_after other ≡ files.held_before other
 
 -- it holds what it held, or the first of these bytes, and no other name changed
 pub record WasCut (files : FilesSeen) (name bytes : List ℕ) : Type 0 where
-  pub held : IsTrue files.tells → HoldsOrCut (files.held_before name) bytes (files.held_after name)
-  pub others : IsTrue files.tells → (other : List ℕ) → other ≢ name → files.held_after other ≡ files.held_before other
+  pub held : IsTrue files.is_seen → HoldsOrCut (files.held_before name) bytes (files.held_after name)
+  pub others : IsTrue files.is_seen → (other : List ℕ) → other ≢ name → files.held_after other ≡ files.held_before other
 
 -- no call on the files failed
 pub record NoFileFailed (files : FilesSeen) : Type 0 where
@@ -85,7 +85,7 @@ pub record FailedToWrite (files : FilesSeen) (name : List ℕ) : Type 0 where
 
 -- these are the first bytes that the name held, up to a limit and one byte more
 pub record WasRead (files : FilesSeen) (name : List ℕ) (limit : ℕ) (bytes : List ℕ) : Type 0 where
-  pub held : IsTrue files.tells → option_map (take (limit + 1)) (files.held_before name) ≡ Some bytes
+  pub held : IsTrue files.is_seen → option_map (take (limit + 1)) (files.held_before name) ≡ Some bytes
   pub most : length bytes ≤ limit + 1
 
 -- the file of an input was asked for, and could not be read; an input without a file is not
@@ -103,12 +103,12 @@ PutFailed sink = Rose sink.faults_before sink.faults_after
 
 -- the stream gained nothing
 abbrev pub GainedNothing : SinkSeen → Type 0
-GainedNothing sink = IsTrue sink.tells → sink.bytes_after ≡ sink.bytes_before
+GainedNothing sink = IsTrue sink.is_seen → sink.bytes_after ≡ sink.bytes_before
 
 -- the stream gained all of these bytes
 abbrev pub Gained : SinkSeen → List ℕ → Type 0
-Gained sink bytes = IsTrue sink.tells → sink.bytes_after ≡ sink.bytes_before ++ bytes
+Gained sink bytes = IsTrue sink.is_seen → sink.bytes_after ≡ sink.bytes_before ++ bytes
 
 -- the stream gained the first of these bytes, and not all
 abbrev pub GainedPrefix : SinkSeen → List ℕ → Type 0
-GainedPrefix sink whole = IsTrue sink.tells → (n : ℕ) × (n < length whole) × (sink.bytes_after ≡ sink.bytes_before ++ take n whole)
+GainedPrefix sink whole = IsTrue sink.is_seen → (n : ℕ) × (n < length whole) × (sink.bytes_after ≡ sink.bytes_before ++ take n whole)

@@ -71,8 +71,8 @@ abbrev pub named_file : (name bytes : List ℕ) → NamedFile
 named_file name bytes = record { name = name; bytes = bytes }
 
 -- the same as the code keeps it, by a reference to the words
-abbrev pub file_told : OutputFile → NamedFile
-file_told f = named_file f.name.now f.bytes
+abbrev pub file_value : OutputFile → NamedFile
+file_value f = named_file f.name.now f.bytes
 
 -- what a write of a file came to, if there is one
 abbrev pub Writes : {T : Type 0} → Result T FileFail → Option NamedFile → FilesSeen → Type 0

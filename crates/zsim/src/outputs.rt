@@ -5,7 +5,7 @@ ghost use Rattle.schedule_file.specs.ScheduleFile.{schedule_file_of};
 ghost use Rattle.zsim.specs.Ended.{status_at};
 ghost use Rattle.zsim.specs.Report.{report_of};
 ghost use Rattle.zsim.specs.Seen.{SameNames, WasCut, WasWritten, files_seen, sink_seen};
-ghost use Rattle.zsim.specs.Steps.{FinishesAs, IsUntouched, Writes, named_file, file_told};
+ghost use Rattle.zsim.specs.Steps.{FinishesAs, IsUntouched, Writes, named_file, file_value};
 
 use crate::Status;
 use crate::put::put_all;
@@ -30,7 +30,7 @@ pub fn output_file<'w>(
     schedule: &Schedule,
 ) -> Result<Option<OutputFile<'w>>, NoMemory>
     requires { schedule.now.cores ≤ 64 }
-    ensures { IfOk result (λ file. option_map file_told file ≡ option_map (λ n. named_file n (schedule_file_of schedule.now)) (option_map (λ n. n.now) name.entry)) }
+    ensures { IfOk result (λ file. option_map file_value file ≡ option_map (λ n. named_file n (schedule_file_of schedule.now)) (option_map (λ n. n.now) name.entry)) }
 {
     match name {
         Some(name) => Ok(Some(OutputFile {
@@ -52,8 +52,8 @@ pub fn finish<F: Files, O: Sink>(
     out: &mut O,
 ) -> Status
     requires { HasCounts machine.now results.now }
-    ensures { ((result ≡ Status.NoMemory) × IsUntouched (files_seen F.tells F.contents F.faults F.latest files.old files.new) (sink_seen O.tells O.bytes O.faults out.old out.new))
-        ⊎ FinishesAs result results.now.limit (report_of machine.now brief results.now) (option_map file_told file.entry) (files_seen F.tells F.contents F.faults F.latest files.old files.new) (sink_seen O.tells O.bytes O.faults out.old out.new) }
+    ensures { ((result ≡ Status.NoMemory) × IsUntouched (files_seen F.is_seen F.contents F.faults F.latest files.old files.new) (sink_seen O.is_seen O.bytes O.faults out.old out.new))
+        ⊎ FinishesAs result results.now.limit (report_of machine.now brief results.now) (option_map file_value file.entry) (files_seen F.is_seen F.contents F.faults F.latest files.old files.new) (sink_seen O.is_seen O.bytes O.faults out.old out.new) }
 {
     let text = match report_of(alloc, machine, results, brief) {
         Ok(text) => text,
@@ -77,7 +77,7 @@ fn write_file<F: Files>(
     file: Option<OutputFile<'_>>,
     files: &mut F,
 ) -> Result<(), FileFail>
-    ensures { Writes result (option_map file_told file.entry) (files_seen F.tells F.contents F.faults F.latest files.old files.new) }
+    ensures { Writes result (option_map file_value file.entry) (files_seen F.is_seen F.contents F.faults F.latest files.old files.new) }
 {
     match file {
         Some(file) => files.write(alloc, file.name, file.bytes.as_slice()),

@@ -8,8 +8,8 @@ use zs_host::{Sink, SinkFail};
 
 /// Puts all of a text. Each put is offered the whole rest.
 pub fn put_all<S: Sink>(alloc: Global, sink: &mut S, text: &[u8]) -> Result<(), SinkFail>
-    ensures all { OnOk result (Gained (sink_seen S.tells S.bytes S.faults sink.old sink.new) text.now) }
-    ensures cut { OnErr result (GainedPrefix (sink_seen S.tells S.bytes S.faults sink.old sink.new) text.now) }
+    ensures all { OnOk result (Gained (sink_seen S.is_seen S.bytes S.faults sink.old sink.new) text.now) }
+    ensures cut { OnErr result (GainedPrefix (sink_seen S.is_seen S.bytes S.faults sink.old sink.new) text.now) }
     ensures faults { SinkFaults result (S.faults sink.old) (S.faults sink.new) }
 {
     let mut done = 0;

@@ -28,7 +28,7 @@ pub fn take_machine<F: Files>(
     text: &mut Bytes,
 ) -> Result<Machine, Status>
     requires { text.old ≡ [] }
-    ensures takes { Takes (λ seen. IsMachineText seen (option_map (λ n. n.now) name.entry)) machine_by (option_map (λ n. n.now) name.entry) result (files_seen F.tells F.contents F.faults F.latest files.old files.new) text.new }
+    ensures takes { Takes (λ seen. IsMachineText seen (option_map (λ n. n.now) name.entry)) machine_by (option_map (λ n. n.now) name.entry) result (files_seen F.is_seen F.contents F.faults F.latest files.old files.new) text.new }
     ensures valid { IfOk result IsMachine }
 {
     match read_machine(alloc, name, files) {
@@ -48,7 +48,7 @@ pub fn take_exe<F: Files>(
 ) -> Result<Image, Status>
     requires machine { IsMachine machine.now }
     requires nothing { bytes.old ≡ [] }
-    ensures takes { Takes (λ seen. IsExeOf seen machine.now (exe_value exe.entry)) (image_by machine.now) (exe_file (exe_value exe.entry)) result (files_seen F.tells F.contents F.faults F.latest files.old files.new) bytes.new }
+    ensures takes { Takes (λ seen. IsExeOf seen machine.now (exe_value exe.entry)) (image_by machine.now) (exe_file (exe_value exe.entry)) result (files_seen F.is_seen F.contents F.faults F.latest files.old files.new) bytes.new }
     ensures memory { IfOk result (λ image. (image.base ≡ machine.now.memory.base) × (image.size ≡ machine.now.memory.size)) }
 {
     match read_exe(alloc, machine, exe, files) {
@@ -68,7 +68,7 @@ pub fn take_schedule<F: Files>(
 ) -> Result<Schedule, Status>
     requires machine { IsMachine machine.now }
     requires nothing { bytes.old ≡ [] }
-    ensures takes { Takes (λ seen. IsScheduleFile seen (replay name.now)) (schedule_by machine.now) (Some name.now) result (files_seen F.tells F.contents F.faults F.latest files.old files.new) bytes.new }
+    ensures takes { Takes (λ seen. IsScheduleFile seen (replay name.now)) (schedule_by machine.now) (Some name.now) result (files_seen F.is_seen F.contents F.faults F.latest files.old files.new) bytes.new }
 {
     match files.read(alloc, name, SCHEDULE_LIMIT + 1) {
         Ok(read) => *bytes = read,
@@ -94,9 +94,9 @@ fn read_machine<F: Files>(
     name: Option<&str>,
     files: &mut F,
 ) -> Result<Bytes, FileFail>
-    ensures text { IfOk result (IsMachineText (files_seen F.tells F.contents F.faults F.latest files.old files.new) (option_map (λ n. n.now) name.entry)) }
-    ensures names { SameNames (files_seen F.tells F.contents F.faults F.latest files.old files.new) }
-    ensures faults { Reads result (files_seen F.tells F.contents F.faults F.latest files.old files.new) (option_map (λ n. n.now) name.entry) }
+    ensures text { IfOk result (IsMachineText (files_seen F.is_seen F.contents F.faults F.latest files.old files.new) (option_map (λ n. n.now) name.entry)) }
+    ensures names { SameNames (files_seen F.is_seen F.contents F.faults F.latest files.old files.new) }
+    ensures faults { Reads result (files_seen F.is_seen F.contents F.faults F.latest files.old files.new) (option_map (λ n. n.now) name.entry) }
 {
     match name {
         Some(name) => files.read(alloc, name, MACHINE_LIMIT + 1),
@@ -113,9 +113,9 @@ fn read_exe<F: Files>(
     files: &mut F,
 ) -> Result<Bytes, FileFail>
     requires { IsMachine machine.now }
-    ensures exe { IfOk result (IsExeOf (files_seen F.tells F.contents F.faults F.latest files.old files.new) machine.now (exe_value exe.entry)) }
-    ensures names { SameNames (files_seen F.tells F.contents F.faults F.latest files.old files.new) }
-    ensures faults { Reads result (files_seen F.tells F.contents F.faults F.latest files.old files.new) (exe_file (exe_value exe.entry)) }
+    ensures exe { IfOk result (IsExeOf (files_seen F.is_seen F.contents F.faults F.latest files.old files.new) machine.now (exe_value exe.entry)) }
+    ensures names { SameNames (files_seen F.is_seen F.contents F.faults F.latest files.old files.new) }
+    ensures faults { Reads result (files_seen F.is_seen F.contents F.faults F.latest files.old files.new) (exe_file (exe_value exe.entry)) }
 {
     match exe {
         Exe::File(name) => files.read(alloc, name, EXE_LIMIT + 1),

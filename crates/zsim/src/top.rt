@@ -43,13 +43,13 @@ pub fn zsim<R: Threads + Wait + Sync, F: Files, O: Sink, E: Sink, G: Gate>(
 
     // Where they are a command: what the status and what was kept tell of the files and of standard
     // output.
-    ensures ended { IfSome (command_of (map string_bytes words.now)) (λ command. EndsAs (record { command = command; files = files_seen F.tells F.contents F.faults F.latest files.old files.new; out = sink_seen O.tells O.bytes O.faults out.old out.new }) result.status result.kept) }
+    ensures ended { IfSome (command_of (map string_bytes words.now)) (λ command. EndsAs (record { command = command; files = files_seen F.is_seen F.contents F.faults F.latest files.old files.new; out = sink_seen O.is_seen O.bytes O.faults out.old out.new }) result.status result.kept) }
 
     // Standard output is not touched until a run has come to its end.
     ensures untouched { (out.new ≡ out.old) ⊎ IsSomeAnd (command_of (map string_bytes words.now)) (λ command. (r : Results) × Gives command result.kept r) }
 
     // Standard error gained the line of the status. It is not touched where the status is Ran.
-    ensures error_line { Says result.said result.status (sink_seen E.tells E.bytes E.faults err.old err.new) }
+    ensures error_line { Says result.said result.status (sink_seen E.is_seen E.bytes E.faults err.old err.new) }
     ensures silent { result.status ≡ Status.Ran → (result.said ≡ Said.All) × (err.new ≡ err.old) }
 {
     let mut kept = Kept {
@@ -78,7 +78,7 @@ fn carry_out<R: Threads + Wait + Sync, F: Files, O: Sink, G: Gate>(
     kept: &mut Kept,
 ) -> Status
     requires { KeepsNothing kept.old }
-    ensures ended { EndsAs (record { command = command_value command.now; files = files_seen F.tells F.contents F.faults F.latest files.old files.new; out = sink_seen O.tells O.bytes O.faults out.old out.new }) result kept.new }
+    ensures ended { EndsAs (record { command = command_value command.now; files = files_seen F.is_seen F.contents F.faults F.latest files.old files.new; out = sink_seen O.is_seen O.bytes O.faults out.old out.new }) result kept.new }
     ensures untouched { (out.new ≡ out.old) ⊎ ((r : Results) × Gives (command_value command.now) kept.new r) }
 {
     let machine = match take_machine(alloc, command.machine, files, &mut kept.machine) {
@@ -128,7 +128,7 @@ fn run_and_report<R: Threads + Wait + Sync, F: Files, O: Sink, G: Gate>(
     requires cores { schedule.old.cores ≡ machine.now.cores }
     ensures cores { schedule.new.cores ≡ schedule.old.cores }
     ensures in_order { IsKeptInOrder machine.now image.now schedule.new.lists }
-    ensures run { RunsAs result machine.now image.now brief (option_map (λ n. n.now) record_to.entry) schedule.new (files_seen F.tells F.contents F.faults F.latest files.old files.new) (sink_seen O.tells O.bytes O.faults out.old out.new) }
+    ensures run { RunsAs result machine.now image.now brief (option_map (λ n. n.now) record_to.entry) schedule.new (files_seen F.is_seen F.contents F.faults F.latest files.old files.new) (sink_seen O.is_seen O.bytes O.faults out.old out.new) }
     ensures untouched { (out.new ≡ out.old) ⊎ ((r : Results) × RunGives machine.now image.now schedule.new r) }
 {
     let results = match run(rt, alloc, machine, image, workers, gate, schedule) {
@@ -159,7 +159,7 @@ fn replay_file<F: Files, O: Sink>(
     requires size { image.now.size ≡ machine.now.memory.size }
     requires nothing { sched_file.old ≡ [] }
     requires empty { schedule.old ≡ no_intervals machine.now.cores }
-    ensures replay { ReplaysFile result machine.now image.now brief name.now schedule.new sched_file.new (files_seen F.tells F.contents F.faults F.latest files.old files.new) (sink_seen O.tells O.bytes O.faults out.old out.new) }
+    ensures replay { ReplaysFile result machine.now image.now brief name.now schedule.new sched_file.new (files_seen F.is_seen F.contents F.faults F.latest files.old files.new) (sink_seen O.is_seen O.bytes O.faults out.old out.new) }
     ensures untouched { (out.new ≡ out.old) ⊎ ((schedule_by machine.now sched_file.new ≡ Ok schedule.new) × ((r : Results) × RunGives machine.now image.now schedule.new r)) }
 {
     *schedule = match take_schedule(alloc, machine, name, files, sched_file) {
@@ -183,7 +183,7 @@ fn replay_and_report<F: Files, O: Sink>(
     requires base { image.now.base ≡ machine.now.memory.base }
     requires size { image.now.size ≡ machine.now.memory.size }
     requires cores { schedule.now.cores ≡ machine.now.cores }
-    ensures replay { ReplaysAs result machine.now image.now brief schedule.now (files_seen F.tells F.contents F.faults F.latest files.old files.new) (sink_seen O.tells O.bytes O.faults out.old out.new) }
+    ensures replay { ReplaysAs result machine.now image.now brief schedule.now (files_seen F.is_seen F.contents F.faults F.latest files.old files.new) (sink_seen O.is_seen O.bytes O.faults out.old out.new) }
     ensures untouched { (out.new ≡ out.old) ⊎ ((r : Results) × RunGives machine.now image.now schedule.now r) }
 {
     match replay(alloc, machine, image, schedule) {
@@ -198,7 +198,7 @@ fn replay_and_report<F: Files, O: Sink>(
 
 /// Says on standard error how the call ended.
 fn say<E: Sink>(alloc: Global, err: &mut E, status: &Status) -> Said
-    ensures line { Says result status.now (sink_seen E.tells E.bytes E.faults err.old err.new) }
+    ensures line { Says result status.now (sink_seen E.is_seen E.bytes E.faults err.old err.new) }
     ensures silent { status.now ≡ Status.Ran → (result ≡ Said.All) × (err.new ≡ err.old) }
 {
     if matches!(status, Status::Ran) {

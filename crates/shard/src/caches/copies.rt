@@ -35,8 +35,8 @@ impl CacheLists {
         set.disown(line, core);
     }
 
-    /// A line that a core has is the most recently used of its set, with a letter that tells the
-    /// directory nothing new.
+    /// A line that a core has is the most recently used of its set, with a letter that is nothing
+    /// new to the directory.
     #[inline(always)]
     pub(super) fn keep_first(&mut self, core: u16, line: u64, letter: Letter)
         requires core { core < length self.old.l1 }

@@ -2,7 +2,7 @@
 ghost use Rattle.std.specs.Prelude.{◌≡◌, ◌≢◌, ℕ, ◌<◌, ◌≤◌, [], IfOk, IsSome, IsTrue, None, if◌then◌else◌, nat_eq, option_map, false, true, ◌↔◌};
 ghost use Rattle.cache_set.specs.Ways.{kept_of, used, filled, changed, victim_of};
 ghost use Rattle.mesi_dir.specs.LineMap.{HasOther, is_sharer, owner_of, sharing_of};
-ghost use Rattle.shard.specs.CacheLayout.{TellsLetter, is_owner, sharing_without};
+ghost use Rattle.shard.specs.CacheLayout.{SetsLetter, is_owner, sharing_without};
 
 use cache_set::{Letter, Set};
 use mesi_dir::Directory;
@@ -124,7 +124,7 @@ impl SharedSet {
         requires free { (other : ℕ) → other ≢ core → is_owner (owner_of self.old.map line) other ≡ false }
         ensures alone { IsTrue result ↔ (HasOther self.old.map line core → ⊥) }
         ensures rest { self.new ≡ record self.old { map = self.new.map } }
-        ensures letter { TellsLetter self.old.map self.new.map core line (if result then Letter.E else Letter.S) }
+        ensures letter { SetsLetter self.old.map self.new.map core line (if result then Letter.E else Letter.S) }
     {
         let alone = !self.directory.any_other(line, core);
         self.directory.grant(line, core, alone);
@@ -137,7 +137,7 @@ impl SharedSet {
         requires shared { IsTrue (is_sharer self.old.map line core) }
         requires free { (other : ℕ) → other ≢ core → is_owner (owner_of self.old.map line) other ≡ false }
         ensures rest { self.new ≡ record self.old { map = self.new.map } }
-        ensures letter { TellsLetter self.old.map self.new.map core line Letter.S }
+        ensures letter { SetsLetter self.old.map self.new.map core line Letter.S }
     {
         self.directory.grant(line, core, false);
     }
@@ -146,7 +146,7 @@ impl SharedSet {
     pub(crate) fn drop_core(&mut self, line: u64, core: u16)
         requires { core < self.old.map.cores }
         ensures rest { self.new ≡ record self.old { map = self.new.map } }
-        ensures letter { TellsLetter self.old.map self.new.map core line Letter.I }
+        ensures letter { SetsLetter self.old.map self.new.map core line Letter.I }
     {
         self.directory.drop_core(line, core);
     }

@@ -1,5 +1,5 @@
 use Rattle.std.proofs.Common.{◌≡◌, ◌++◌, ◌+◌, vec_len}
-use Rattle.event_graph.specs.NextEvent.{TellsLast}
+use Rattle.event_graph.specs.NextEvent.{HasLast}
 use Rattle.event_graph.proofs.AccessSteps.{events_below}
 use Rattle.event_graph.proofs.builder.add_access.Given as goal
 
@@ -7,5 +7,5 @@ abbrev pub invariant-loop-place : goal.invariant-loop-place
 invariant-loop-place g l =
     (l.events.items ≡ l.initial.events.items ++ events_below l.initial.events.items l.entry (g.X.Expand.pieces l.expansion l.entry) l.place)
     × (vec_len l.events ≡ vec_len l.initial.events + l.place)
-    × TellsLast l.last.items l.events.items
+    × HasLast l.last.items l.events.items
     × (vec_len l.last ≡ vec_len l.initial.last)

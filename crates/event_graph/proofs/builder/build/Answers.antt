@@ -36,7 +36,7 @@ pub loop-entry-preserved : goal.loop-entry-preserved
 loop-entry-preserved g c =
     let pieces = g.X.Expand.pieces c.args.expansion.now in (
       c.in_ok-add_access.ensures.cores ∙ c.loop-entry.invariant.0,
-      c.in_ok-add_access.ensures.told,
+      c.in_ok-add_access.ensures.last,
       c.in_ok-add_access.ensures.added
           ∙ one_access_more pieces c.args.entries.now _ c.loop-entry.entry-index _ _ c.as_slice-entry-items.ensures c.loop-entry-test.true c.loop-entry.invariant.2,
     )

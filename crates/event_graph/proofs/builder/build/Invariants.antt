@@ -1,6 +1,6 @@
 use Rattle.std.proofs.Common.{◌≡◌, ◌<◌, ℕ, None, length, vec_len, get_or, take}
 use Rattle.event_graph.specs.EventGraph.{all_events}
-use Rattle.event_graph.specs.NextEvent.{TellsLast}
+use Rattle.event_graph.specs.NextEvent.{HasLast}
 use Rattle.event_graph.proofs.builder.build.Given as goal
 
 abbrev pub invariant-loop-core : goal.invariant-loop-core
@@ -10,5 +10,5 @@ invariant-loop-core g l =
 abbrev pub invariant-loop-entry : goal.invariant-loop-entry
 invariant-loop-entry g l =
     (vec_len l.last ≡ l.cores)
-    × TellsLast l.last.items l.events.items
+    × HasLast l.last.items l.events.items
     × (l.events.items ≡ all_events (g.X.Expand.pieces l.expansion) (take l.entry-index l.entries))

@@ -2,8 +2,8 @@ use Rattle.std.proofs.Common.{◌<◌, length, arith}
 use Rattle.event_graph.proofs.LastKept.{kept_of_pushed}
 use Rattle.event_graph.proofs.builder.push_event.Goals as goal
 
-pub returns-then-event-clause-told : goal.returns-then-event-clause-told
-returns-then-event-clause-told c =
+pub returns-then-event-clause-last : goal.returns-then-event-clause-last
+returns-then-event-clause-last c =
     let there : c.args.event.core < length c.args.last.now.items = omega (arith, c.args.last.now.ok.0) in
     rw (c.in_ok-push.ensures.items, c.from.ensures)
-    (kept_of_pushed c.args.last.now.items c.args.events.now.items c.args.event there c.requires.told c.if-event.true)
+    (kept_of_pushed c.args.last.now.items c.args.events.now.items c.args.event there c.requires.last c.if-event.true)

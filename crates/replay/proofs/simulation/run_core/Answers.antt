@@ -8,7 +8,7 @@ use Rattle.bound_core.specs.Turn.{RunsToEnd}
 use Rattle.replay.specs.declared.gated_port.GatedPort.{GatedPort}
 use Rattle.replay.specs.Port.{LoggedPortState, gives}
 use Rattle.replay.specs.ReferenceRun.{time_of}
-use Rattle.replay.proofs.PortTurns.{halted_stays, inner_run, ran_to_end, same_times, told}
+use Rattle.replay.proofs.PortTurns.{halted_stays, inner_run, ran_to_end, same_times, logged}
 use Rattle.replay.proofs.simulation.run_core.Goals as goal
 
 pub returns-then-is_some : goal.returns-then-is_some
@@ -31,14 +31,14 @@ returns g c =
     let number : ready.number ≡ core.number = c.in_ok-reserve.ensures.number in
     let ran = c.run_one.ensures in
     let P : Type 0 = GatedPort g.row.G.Denot in
-    let through : RunsToEnd _ image end gives told ready.number chosen last ready.timed after.timed =
+    let through : RunsToEnd _ image end gives logged ready.number chosen last ready.timed after.timed =
     inner_run {Port = P} _ (λ p. p.port) (λ p q start request e given. given) _ image end ready.number _ c.run_one.new.port ready.timed after.timed ran.turns
     in
-    let turns : RunsToEnd (time_of machine) image end gives told ready.number chosen last ready.timed after.timed =
-    subst (λ (times : Entry → ℕ). RunsToEnd times image end gives told ready.number chosen last ready.timed after.timed) (same_times machine c.args.plain.now c.requires.plain) through
+    let turns : RunsToEnd (time_of machine) image end gives logged ready.number chosen last ready.timed after.timed =
+    subst (λ (times : Entry → ℕ). RunsToEnd times image end gives logged ready.number chosen last ready.timed after.timed) (same_times machine c.args.plain.now c.requires.plain) through
     in
-    let numbered = subst (λ (n : ℕ). RunsToEnd (time_of machine) image end gives told n chosen last ready.timed after.timed) number turns in
-    let own = subst (λ (t : TimedCore). RunsToEnd (time_of machine) image end gives told core.number chosen last t after.timed) timed numbered in
+    let numbered = subst (λ (n : ℕ). RunsToEnd (time_of machine) image end gives logged n chosen last ready.timed after.timed) number turns in
+    let own = subst (λ (t : TimedCore). RunsToEnd (time_of machine) image end gives logged core.number chosen last t after.timed) timed numbered in
     let running : core.timed.core.halted ≡ None = search rules in
     let is = c.choose.ensures in
     ran_to_end machine image end core port c.requires.ready c.requires.end running chosen last after

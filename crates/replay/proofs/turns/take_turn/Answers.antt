@@ -37,7 +37,7 @@ returns-in-Took-clause-took c = λ is.
       base = did.port_base;
       size = did.port_size;
       room = did.port_room;
-      told = cc;
+      logged = cc;
     }
     in
     (e, subst (λ (p : LoggedPortState). TakesAccess time c.args.program.now c.args.end p port core after e) c.choose.ensures found)

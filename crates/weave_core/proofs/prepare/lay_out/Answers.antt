@@ -3,7 +3,7 @@ use Rattle.std.proofs.Common.{ℕ, ◌≡◌, ◌++◌, List, length, map, take,
 use Rattle.event_graph.specs.declared.event.Event.{Event}
 use Rattle.domain_map.specs.declared.crossing.Crossing.{Crossing}
 use Rattle.weave_core.specs.declared.incoming.Stub.{Stub}
-use Rattle.weave_core.specs.Beginning.{AddsWaits, AreCounts, AreCrossed, AreSmall, AreSpots, AreStubsUpto, HasWaits, IsRisingList}
+use Rattle.weave_core.specs.Beginning.{AddsWaits, AreCounts, AreCrossed, AreSmall, AreOwnPlaces, AreStubsUpto, HasWaits, IsRisingList}
 use Rattle.weave_core.specs.LaidOut.{at_rest_with}
 use Rattle.weave_core.specs.Layout.{AreHere, AreLinked, AreStubs, Stands, fired_in, known_words, no_event}
 use Rattle.weave_core.specs.Stubs.{Stubs}
@@ -152,5 +152,5 @@ returns c =
           ∙ counted_first c.args.graph.now c.args.parts.now c.args.domain c.events-events.ensures.numbered c.requires.partitions c.requires.domain c.requires.fits c.events.result.now c.events.ensures c.in_ok-stubs.stubs.items upto c.in_ok-heads.field-0.waits.items c.stubs_of.new.waits c.in_ok-starts.starts.items counts adds starts;
       fired = c.in_ok-fired.ensures.items;
       room = omega (arith, c.in_ok-fired.ensures.capacity, c.len.ensures, c.in_ok-here.here.ok.0);
-      spots = subst (λ (xs : List ℕ). AreSpots xs c.args.domain c.in_ok-spots.spots.items (length xs)) c.places.ensures c.in_ok-spots.ensures;
+      own_places = subst (λ (xs : List ℕ). AreOwnPlaces xs c.args.domain c.in_ok-own_places.own_places.items (length xs)) c.places.ensures c.in_ok-own_places.ensures;
     }

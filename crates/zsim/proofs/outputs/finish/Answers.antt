@@ -3,7 +3,7 @@ use Rattle.std.proofs.Common.{◌≡◌, inl, inr, refl, option_map, rules}
 use Rattle.zsim.specs.Ended.{status_at}
 use Rattle.zsim.specs.Report.{report_of}
 use Rattle.zsim.specs.Seen.{files_seen, sink_seen}
-use Rattle.zsim.specs.Steps.{file_told}
+use Rattle.zsim.specs.Steps.{file_value}
 use Rattle.zsim.proofs.OutputsDone.{gained, gained_part, put_failed, put_no_memory, write_failed, write_no_memory}
 use Rattle.zsim.proofs.outputs.finish.Goals as goal
 
@@ -23,7 +23,7 @@ returns-in-Err g c =
 pub returns-in-Err-Failed : goal.returns-in-Err-Failed
 returns-in-Err-Failed g c =
     let sink = g.O.Sink in
-    let out = sink_seen sink.tells sink.bytes sink.faults c.args.out.now c.put_all.new.sink in
+    let out = sink_seen sink.is_seen sink.bytes sink.faults c.args.out.now c.put_all.new.sink in
     let text = report_of c.args.machine.now c.args.brief c.args.results.now in
     inr (inr (inl (
       refl,
@@ -35,7 +35,7 @@ returns-in-Err-Failed g c =
 pub returns-in-Err-NoMemory : goal.returns-in-Err-NoMemory
 returns-in-Err-NoMemory g c =
     let sink = g.O.Sink in
-    let out = sink_seen sink.tells sink.bytes sink.faults c.args.out.now c.put_all.new.sink in
+    let out = sink_seen sink.is_seen sink.bytes sink.faults c.args.out.now c.put_all.new.sink in
     let text = report_of c.args.machine.now c.args.brief c.args.results.now in
     inr (inr (inr (inl (
       refl,
@@ -48,7 +48,7 @@ returns-in-Err-NoMemory g c =
 pub returns-in-Ok-write_file : goal.returns-in-Ok-write_file
 returns-in-Ok-write_file g c =
     let sink = g.O.Sink in
-    let out = sink_seen sink.tells sink.bytes sink.faults c.args.out.now c.put_all.new.sink in
+    let out = sink_seen sink.is_seen sink.bytes sink.faults c.args.out.now c.put_all.new.sink in
     let text = report_of c.args.machine.now c.args.brief c.args.results.now in
     let is : c.status_of.result ≡ status_at c.args.results.now.limit = search rules in
     inr (inl (
@@ -63,25 +63,25 @@ returns-in-Ok-write_file g c =
 pub returns-in-Err-Failed-write_file : goal.returns-in-Err-Failed-write_file
 returns-in-Err-Failed-write_file g c =
     let files = g.F.Files in
-    let written = files_seen files.tells files.contents files.faults files.latest c.args.files.now c.write_file.new.files in
+    let written = files_seen files.is_seen files.contents files.faults files.latest c.args.files.now c.write_file.new.files in
     let sink = g.O.Sink in
-    let out = sink_seen sink.tells sink.bytes sink.faults c.args.out.now c.put_all.new.sink in
+    let out = sink_seen sink.is_seen sink.bytes sink.faults c.args.out.now c.put_all.new.sink in
     let text = report_of c.args.machine.now c.args.brief c.args.results.now in
     inr (inr (inr (inr (inl (
       refl,
       gained out c.as_slice.result.now c.in-Ok.text text c.as_slice.ensures c.in-Ok.ensures c.in-Ok-put_all.ensures.all,
       c.in-Ok-put_all.ensures.faults,
-      write_failed c.in-Err-Failed-write_file.field-0 (option_map file_told c.args.file) written c.in-Err-Failed-write_file.field-0-is c.in-Err-Failed-write_file.ensures,
+      write_failed c.in-Err-Failed-write_file.field-0 (option_map file_value c.args.file) written c.in-Err-Failed-write_file.field-0-is c.in-Err-Failed-write_file.ensures,
     )))))
 
 pub returns : goal.returns
 returns g c =
     let files = g.F.Files in
-    let written = files_seen files.tells files.contents files.faults files.latest c.args.files.now c.write_file.new.files in
+    let written = files_seen files.is_seen files.contents files.faults files.latest c.args.files.now c.write_file.new.files in
     let sink = g.O.Sink in
-    let out = sink_seen sink.tells sink.bytes sink.faults c.args.out.now c.put_all.new.sink in
+    let out = sink_seen sink.is_seen sink.bytes sink.faults c.args.out.now c.put_all.new.sink in
     let text = report_of c.args.machine.now c.args.brief c.args.results.now in
-    let cut = write_no_memory c.in-Err-NoMemory-write_file.field-0 (option_map file_told c.args.file) written c.in-Err-NoMemory-write_file.field-0-is c.in-Err-NoMemory-write_file.ensures in
+    let cut = write_no_memory c.in-Err-NoMemory-write_file.field-0 (option_map file_value c.args.file) written c.in-Err-NoMemory-write_file.field-0-is c.in-Err-NoMemory-write_file.ensures in
     inr (inr (inr (inr (inr (
       refl,
       gained out c.as_slice.result.now c.in-Ok.text text c.as_slice.ensures c.in-Ok.ensures c.in-Ok-put_all.ensures.all,

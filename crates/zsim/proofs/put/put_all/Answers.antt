@@ -11,9 +11,9 @@ loop-done-preserved g c =
     let piece = take (length text - done) (drop done text) in
     record {
       within = search rules;
-      gained = λ tells.
-          c.in_ok-done.ensures.appended tells
-          ∙ ap (λ before. before ++ take n piece) (c.loop-done.invariant.gained tells)
+      gained = λ is_seen.
+          c.in_ok-done.ensures.appended is_seen
+          ∙ ap (λ before. before ++ take n piece) (c.loop-done.invariant.gained is_seen)
           ∙ append_assoc (bytes c.args.sink.now) (take done text) (take n piece)
           ∙ ap (λ all. bytes c.args.sink.now ++ all) (take_more done n text);
       faults = c.in_ok-done.ensures.faults ∙ c.loop-done.invariant.faults;

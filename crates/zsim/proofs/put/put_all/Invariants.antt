@@ -6,7 +6,7 @@ use Rattle.zsim.proofs.put.put_all.Given as goal
 abbrev pub invariant-loop-done : goal.invariant-loop-done
 invariant-loop-done g l =
     let sink = g.S.Sink in
-    let seen = sink_seen sink.tells sink.bytes sink.faults l.initial.sink l.sink in
+    let seen = sink_seen sink.is_seen sink.bytes sink.faults l.initial.sink l.sink in
     record {
       within : l.done ≤ length l.text;
       gained : Gained seen (take l.done l.text);

@@ -8,6 +8,6 @@ returns-in-Ok-clause-replay g c =
     let files = g.F.Files in
     let sink = g.O.Sink in
     replays_as c.args.machine.now c.args.image.now c.args.brief c.args.schedule.now c.in-Ok.results c.finish.result
-    (files_seen files.tells files.contents files.faults files.latest c.args.files.now c.finish.new.files)
-    (sink_seen sink.tells sink.bytes sink.faults c.args.out.now c.finish.new.out)
+    (files_seen files.is_seen files.contents files.faults files.latest c.args.files.now c.finish.new.files)
+    (sink_seen sink.is_seen sink.bytes sink.faults c.args.out.now c.finish.new.out)
     (c.in-Ok.ensures.gives, c.in-Ok.ensures.counted) c.finish.ensures

@@ -19,9 +19,9 @@ returns-clause-replay g c =
     let taken = c.in-Ok.ensures.takes in
     inr (
       taken.0,
-      schedule_stays files.tells files.contents files.faults files.latest start read end c.args.name.now c.take_schedule.new.bytes taken.1,
-      replays_later files.tells files.contents files.faults files.latest start read end taken.2 c.replay_and_report.result c.args.machine.now c.args.image.now c.args.brief
-          c.in-Ok.read (sink_seen sink.tells sink.bytes sink.faults c.args.out.now c.replay_and_report.new.out) c.replay_and_report.ensures.replay,
+      schedule_stays files.is_seen files.contents files.faults files.latest start read end c.args.name.now c.take_schedule.new.bytes taken.1,
+      replays_later files.is_seen files.contents files.faults files.latest start read end taken.2 c.replay_and_report.result c.args.machine.now c.args.image.now c.args.brief
+          c.in-Ok.read (sink_seen sink.is_seen sink.bytes sink.faults c.args.out.now c.replay_and_report.new.out) c.replay_and_report.ensures.replay,
     )
 
 pub returns-clause-untouched : goal.returns-clause-untouched

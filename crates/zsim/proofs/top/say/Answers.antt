@@ -15,7 +15,7 @@ returns-then-matches-clause-line g c =
       | in-Ran w ↦ w.in-Ran.is
       | in_default w ↦ absurd (true≢false (sym c.if-matches.true ∙ w.matches-is))
     ] in
-    no_line c.args.status.now (sink_seen sink.tells sink.bytes sink.faults c.args.err.now c.args.err.now) ran refl (λ _. refl)
+    no_line c.args.status.now (sink_seen sink.is_seen sink.bytes sink.faults c.args.err.now c.args.err.now) ran refl (λ _. refl)
 
 pub returns-then-matches-clause-silent : goal.returns-then-matches-clause-silent
 returns-then-matches-clause-silent g c = λ _. (refl, refl)
@@ -28,7 +28,7 @@ returns-in-Err-clause-line g c =
       | in-Ran w ↦ absurd (true≢false (sym w.matches-is ∙ c.if-matches.false))
       | in_default w ↦ w.in_default.not-Ran
     ] in
-    line_not_begun c.args.status.now (sink_seen sink.tells sink.bytes sink.faults c.args.err.now c.args.err.now) not refl (λ _. refl)
+    line_not_begun c.args.status.now (sink_seen sink.is_seen sink.bytes sink.faults c.args.err.now c.args.err.now) not refl (λ _. refl)
 
 pub returns-in-Err-clause-silent : goal.returns-in-Err-clause-silent
 returns-in-Err-clause-silent g c =
@@ -42,7 +42,7 @@ returns-in-Err-clause-silent g c =
 pub returns-in-Ok-put_all-clause-line : goal.returns-in-Ok-put_all-clause-line
 returns-in-Ok-put_all-clause-line g c =
     let sink = g.E.Sink in
-    let err = sink_seen sink.tells sink.bytes sink.faults c.args.err.now c.put_all.new.sink in
+    let err = sink_seen sink.is_seen sink.bytes sink.faults c.args.err.now c.put_all.new.sink in
     let line = error_line c.args.status.now in (
       gained err c.as_bytes.result.now (string_bytes c.in-Ok.line) line c.as_bytes.ensures.value c.in-Ok.ensures c.in-Ok-put_all.ensures.all,
       c.in-Ok-put_all.ensures.faults,
@@ -60,7 +60,7 @@ returns-in-Ok-put_all-clause-silent g c =
 pub returns-in-Err-Failed-clause-line : goal.returns-in-Err-Failed-clause-line
 returns-in-Err-Failed-clause-line g c =
     let sink = g.E.Sink in
-    let err = sink_seen sink.tells sink.bytes sink.faults c.args.err.now c.put_all.new.sink in
+    let err = sink_seen sink.is_seen sink.bytes sink.faults c.args.err.now c.put_all.new.sink in
     let line = error_line c.args.status.now in (
       gained_part err c.as_bytes.result.now (string_bytes c.in-Ok.line) line c.as_bytes.ensures.value c.in-Ok.ensures c.in-Err-Failed.ensures.cut,
       put_failed c.in-Err-Failed.field-0 err.faults_before err.faults_after c.in-Err-Failed.field-0-is c.in-Err-Failed.ensures.faults,
@@ -77,7 +77,7 @@ returns-in-Err-Failed-clause-silent g c =
 pub returns-clause-line : goal.returns-clause-line
 returns-clause-line g c =
     let sink = g.E.Sink in
-    let err = sink_seen sink.tells sink.bytes sink.faults c.args.err.now c.put_all.new.sink in
+    let err = sink_seen sink.is_seen sink.bytes sink.faults c.args.err.now c.put_all.new.sink in
     let line = error_line c.args.status.now in (
       gained_part err c.as_bytes.result.now (string_bytes c.in-Ok.line) line c.as_bytes.ensures.value c.in-Ok.ensures c.in-Err-NoMemory.ensures.cut,
       put_no_memory c.in-Err-NoMemory.field-0 err.faults_before err.faults_after c.in-Err-NoMemory.field-0-is c.in-Err-NoMemory.ensures.faults,

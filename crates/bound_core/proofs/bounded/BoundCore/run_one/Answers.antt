@@ -10,7 +10,7 @@ loop-entry-init g c =
     let core = c.args.self.now.timed in
     let few : most_accesses end core ≤ end - core.clock + 256 = most_few end core (λ late. left_few core.core c.keeps_sound.ensures) in
     record {
-      taken = none_taken (g.X.Expand.time c.args.expansion.now) (g.P.Program.image c.args.program.now) end g.Q.Port.gives g.Q.Port.told c.args.self.now.number c.args.port.now core;
+      taken = none_taken (g.X.Expand.time c.args.expansion.now) (g.P.Program.image c.args.program.now) end g.Q.Port.gives g.Q.Port.logged c.args.self.now.number c.args.port.now core;
       core = c.requires.core;
       base = c.requires.base;
       size = c.requires.size;
@@ -43,8 +43,8 @@ loop-entry-preserved g c =
     let did = c.in-Took.ensures in
     let start : c.in-Took._entry.start ≤ latest_clock end first = omega (arith, did.starts, clock_within end now, was.latest, end_within end first) in
     record {
-      taken = one_more (g.X.Expand.time c.args.expansion.now) (g.P.Program.image c.args.program.now) end g.Q.Port.gives g.Q.Port.told c.args.self.now.number c.args.port.now c.loop-entry.port c.turn.new.port first now c.turn.new.self.timed c.in-Took._entry
-          was.taken did.turn (did.core ∙ was.number) start did.fewer did.port_told;
+      taken = one_more (g.X.Expand.time c.args.expansion.now) (g.P.Program.image c.args.program.now) end g.Q.Port.gives g.Q.Port.logged c.args.self.now.number c.args.port.now c.loop-entry.port c.turn.new.port first now c.turn.new.self.timed c.in-Took._entry
+          was.taken did.turn (did.core ∙ was.number) start did.fewer did.port_logged;
       core = search rules;
       base = search rules;
       size = search rules;
@@ -63,7 +63,7 @@ loop-entry-preserved g c =
 
 pub returns-clause-turns : goal.returns-clause-turns
 returns-clause-turns g c =
-    all_taken (g.X.Expand.time c.args.expansion.now) (g.P.Program.image c.args.program.now) c.args.end g.Q.Port.gives g.Q.Port.told c.args.self.now.number c.args.port.now c.loop-entry.port c.turn.new.port c.args.self.now.timed c.loop-entry.self.timed c.turn.new.self.timed
+    all_taken (g.X.Expand.time c.args.expansion.now) (g.P.Program.image c.args.program.now) c.args.end g.Q.Port.gives g.Q.Port.logged c.args.self.now.number c.args.port.now c.loop-entry.port c.turn.new.port c.args.self.now.timed c.loop-entry.self.timed c.turn.new.self.timed
     c.loop-entry.invariant.taken c.in_default.ensures.turn
 
 pub returns-clause-spare : goal.returns-clause-spare

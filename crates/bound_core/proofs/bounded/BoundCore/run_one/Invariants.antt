@@ -8,7 +8,7 @@ abbrev pub invariant-loop-entry : goal.invariant-loop-entry
 invariant-loop-entry g l =
     let first = l.initial.self in
     record {
-      taken : HasTaken (g.X.Expand.time l.expansion) (g.P.Program.image l.program) l.end g.Q.Port.gives g.Q.Port.told first.number l.initial.port l.port first.timed l.self.timed;
+      taken : HasTaken (g.X.Expand.time l.expansion) (g.P.Program.image l.program) l.end g.Q.Port.gives g.Q.Port.logged first.number l.initial.port l.port first.timed l.self.timed;
       core : g.Q.Port.core l.port ≡ l.self.number;
       base : g.Q.Port.base l.port ≡ l.self.timed.core.memory.base;
       size : g.Q.Port.size l.port ≡ l.self.timed.core.memory.size;

@@ -1,4 +1,4 @@
--- The line's directory tells the letters.
+-- The line's directory says the letters.
 use Rattle.shard.proofs.AllCaches.{have_copies, in_l2, some_other_is}
 use Rattle.shard.proofs.caches.CacheLists.any_other.Goals as goal
 

@@ -5,9 +5,9 @@ use Rattle.std.specs.Prelude.{IsSome}
 use Rattle.cache_set.specs.declared.letter.Letter.{Letter}
 use Rattle.cache_set.specs.declared.letter.Letter.TheVariants.{M, E, S}
 use Rattle.cache_set.specs.Ways.{without}
-use Rattle.shard.specs.CacheLayout.{CoreLines, SharedLines, TellsLetter}
+use Rattle.shard.specs.CacheLayout.{CoreLines, SharedLines, SetsLetter}
 use Rattle.shard.specs.Coherence.{is_valid, kept_first}
-use Rattle.shard.proofs.AllCaches.{both_are, both_view, dirty_is, letter_is, no_other, told_as}
+use Rattle.shard.proofs.AllCaches.{both_are, both_view, dirty_is, letter_is, no_other, said_as}
 use Rattle.shard.proofs.caches.CacheLists.own.Goals as goal
 
 pub grant-requires-clause-there : goal.grant-requires-clause-there
@@ -24,8 +24,8 @@ pub invariant_of-self : goal.invariant_of-self
 invariant_of-self c =
     let s = c.self.inside in
     let alone : c.grant.result ≡ true = c.grant.ensures.alone.1 (no_other s.shards s.l1_ways s.l2_ways s.l1.items s.l2.items c.self.invariant c.args.line c.place-place.result c.index_mut-set.result.now (rw (← c.self.view_is) at c.place-place.ensures.place) (rw (← c.self.view_is) at c.place-place.ensures.within) c.index_mut-set.ensures.value c.args.core (rw (← c.self.view_is) at c.requires.alone)) in
-    let tells = subst (λ (b : Bool). TellsLetter c.index_mut-set.result.now.map c.grant.new.self.map c.args.core c.args.line (cond b E S)) alone c.grant.ensures.letter in
-    rw c.from.ensures (both_are s.shards s.l1_ways s.l2_ways s.l1.items s.l2.items c.self.invariant c.args.core c.index_mut-cache.result.now (rw (← c.self.view_is) at c.requires.core) (rw c.from.ensures at c.index_mut-cache.ensures.value) c.keep_first.new.self c.args.line (λ (copies : List (ℕ × Letter)). (c.args.line, M) ∷ without c.args.line copies) c.keep_first.ensures.after c.place-place.result c.index_mut-set.result.now c.grant.new.self (rw (← c.self.view_is) at c.place-place.ensures.place) (rw (← c.self.view_is) at c.place-place.ensures.within) c.index_mut-set.ensures.value c.grant.ensures.rest M c.keep_first.ensures.letters c.keep_first.ensures.copies (told_as c.index_mut-set.result.now.map c.grant.new.self.map c.args.core c.args.line E M refl refl tells))
+    let says = subst (λ (b : Bool). SetsLetter c.index_mut-set.result.now.map c.grant.new.self.map c.args.core c.args.line (cond b E S)) alone c.grant.ensures.letter in
+    rw c.from.ensures (both_are s.shards s.l1_ways s.l2_ways s.l1.items s.l2.items c.self.invariant c.args.core c.index_mut-cache.result.now (rw (← c.self.view_is) at c.requires.core) (rw c.from.ensures at c.index_mut-cache.ensures.value) c.keep_first.new.self c.args.line (λ (copies : List (ℕ × Letter)). (c.args.line, M) ∷ without c.args.line copies) c.keep_first.ensures.after c.place-place.result c.index_mut-set.result.now c.grant.new.self (rw (← c.self.view_is) at c.place-place.ensures.place) (rw (← c.self.view_is) at c.place-place.ensures.within) c.index_mut-set.ensures.value c.grant.ensures.rest M c.keep_first.ensures.letters c.keep_first.ensures.copies (said_as c.index_mut-set.result.now.map c.grant.new.self.map c.args.core c.args.line E M refl refl says))
 
 pub returns : goal.returns
 unfolding kept_first

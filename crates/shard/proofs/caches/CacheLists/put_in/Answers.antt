@@ -4,9 +4,9 @@ use Rattle.std.proofs.lemmas.List.{length-map}
 use Rattle.std.specs.Prelude.{IsSome, nat_eq}
 use Rattle.cache_set.specs.declared.letter.Letter.{Letter}
 use Rattle.cache_set.specs.Ways.{filled, victim_of}
-use Rattle.shard.specs.CacheLayout.{ChangesLetter, CoreLines, SharedLines, TellsLetter, copies_of, letter_without, own_letter}
+use Rattle.shard.specs.CacheLayout.{ChangesLetter, CoreLines, SharedLines, SetsLetter, copies_of, letter_without, own_letter}
 use Rattle.shard.specs.Lines.{in_set_of}
-use Rattle.shard.proofs.AllCaches.{both_are, both_view, core_is, dirty_is, letter_is, no_other, own_victim_is, some_other_not, told_new}
+use Rattle.shard.proofs.AllCaches.{both_are, both_view, core_is, dirty_is, letter_is, no_other, own_victim_is, some_other_not, said_new}
 use Rattle.shard.proofs.caches.CacheLists.put_in.Goals as goal
 
 pub grant-alone-requires-clause-there : goal.grant-alone-requires-clause-there
@@ -27,7 +27,7 @@ invariant_of-self c =
     let changes : ChangesLetter c.index_mut-cache.result.now c.put.new.self c.args.line c.new_letter.result
     = subst (λ (v : Option (ℕ × Letter)). (q : ℕ) → own_letter c.put.new.self q ≡ cond (nat_eq c.args.line q) c.new_letter.result (letter_without v q (own_letter c.index_mut-cache.result.now q))) room c.put.ensures.letters in
     rw c.from.ensures (both_are s.shards s.l1_ways s.l2_ways s.l1.items s.l2.items c.self.invariant c.args.core c.index_mut-cache.result.now (rw (← c.self.view_is) at c.requires.core) (rw c.from.ensures at c.index_mut-cache.ensures.value) c.put.new.self c.args.line (filled c.index_mut-cache.result.now.ways c.args.line c.new_letter.result) c.put.ensures.after c.place-place.result c.index_mut-set.result.now c.grant-alone.new.self (rw (← c.self.view_is) at c.place-place.ensures.place) (rw (← c.self.view_is) at c.place-place.ensures.within) c.index_mut-set.ensures.value c.grant-alone.ensures.rest c.new_letter.result changes c.put.ensures.copies
-    (subst (λ (l : Letter). TellsLetter c.index_mut-set.result.now.map c.grant-alone.new.self.map c.args.core c.args.line l) (sym c.new_letter.ensures) (told_new c.index_mut-set.result.now.map c.grant-alone.new.self.map c.args.core c.args.line c.args.write c.grant-alone.result written c.grant-alone.ensures.letter)))
+    (subst (λ (l : Letter). SetsLetter c.index_mut-set.result.now.map c.grant-alone.new.self.map c.args.core c.args.line l) (sym c.new_letter.ensures) (said_new c.index_mut-set.result.now.map c.grant-alone.new.self.map c.args.core c.args.line c.args.write c.grant-alone.result written c.grant-alone.ensures.letter)))
 
 filled_as : (new old : CoreLines) (line ways : ℕ) (letter : Letter) → old.ways ≡ ways → new ≡ record old { sets = in_set_of old.shards line (filled old.ways line letter) old.sets }
     → new ≡ record old { sets = in_set_of old.shards line (filled ways line letter) old.sets }

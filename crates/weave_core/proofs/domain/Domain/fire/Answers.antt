@@ -28,8 +28,8 @@ index-event-requires g c =
     let below : c.in-Some.key.number < length c.self.inside.here.items = get_below c.self.inside.here.items c.in-Some.key.number f.event f.there in
     omega (arith, below, c.self.inside.here.ok.0)
 
-pub index-spot-requires : goal.index-spot-requires
-index-spot-requires g c =
+pub index-own_place-requires : goal.index-own_place-requires
+index-own_place-requires g c =
     let d = c.self.inside in
     let i = c.self.invariant in
     let k = c.in-Some.key in
@@ -39,8 +39,8 @@ index-spot-requires g c =
     (sym (read_there c.self.inside.here.items c.in-Some.key.number c.index-event.result.now (get_below c.self.inside.here.items c.in-Some.key.number f.event f.there) c.index-event.ensures) ∙ f.there)
     in
     let component : c.from.result ≡ f.event.component = c.from.ensures ∙ ap (λ (e : Event). e.component) event in
-    let spot_below : c.from.result < length c.self.inside.spots.items = omega (arith, component, get_below c.self.inside.spots.items f.event.component _ f.spot) in
-    omega (arith, spot_below, c.self.inside.spots.ok.0)
+    let own_place_below : c.from.result < length c.self.inside.own_places.items = omega (arith, component, get_below c.self.inside.own_places.items f.event.component _ f.own_place) in
+    omega (arith, own_place_below, c.self.inside.own_places.ok.0)
 
 pub offset_bounds-as_mut_slice-from : goal.offset_bounds-as_mut_slice-from
 offset_bounds-as_mut_slice-from g c =
@@ -53,13 +53,13 @@ offset_bounds-as_mut_slice-from g c =
     (sym (read_there c.self.inside.here.items c.in-Some.key.number c.index-event.result.now (get_below c.self.inside.here.items c.in-Some.key.number f.event f.there) c.index-event.ensures) ∙ f.there)
     in
     let component : c.from.result ≡ f.event.component = c.from.ensures ∙ ap (λ (e : Event). e.component) event in
-    let spot_below : c.from.result < length c.self.inside.spots.items = omega (arith, component, get_below c.self.inside.spots.items f.event.component _ f.spot) in
-    let spot : c.from-2.result ≡ place_in c.self.inside.parts.value.places c.self.inside.domain f.event.component =
-    c.from-2.ensures ∙ same_Some c.index-spot.result.now _
-    (sym (read_there c.self.inside.spots.items c.from.result c.index-spot.result.now spot_below c.index-spot.ensures) ∙ (ap (slice_get c.self.inside.spots.items) component ∙ f.spot))
+    let own_place_below : c.from.result < length c.self.inside.own_places.items = omega (arith, component, get_below c.self.inside.own_places.items f.event.component _ f.own_place) in
+    let own_place : c.from-2.result ≡ place_in c.self.inside.parts.value.places c.self.inside.domain f.event.component =
+    c.from-2.ensures ∙ same_Some c.index-own_place.result.now _
+    (sym (read_there c.self.inside.own_places.items c.from.result c.index-own_place.result.now own_place_below c.index-own_place.ensures) ∙ (ap (slice_get c.self.inside.own_places.items) component ∙ f.own_place))
     in
     let within : c.from-2.result < length c.as_mut_slice.result.now =
-    omega (arith, spot, get_below c.self.inside.comps _ f.component f.component_there, ap length c.as_mut_slice.ensures.value)
+    omega (arith, own_place, get_below c.self.inside.comps _ f.component f.component_there, ap length c.as_mut_slice.ensures.value)
     in
     search rules
 
@@ -74,13 +74,13 @@ bounds-as_mut_slice-from g c =
     (sym (read_there c.self.inside.here.items c.in-Some.key.number c.index-event.result.now (get_below c.self.inside.here.items c.in-Some.key.number f.event f.there) c.index-event.ensures) ∙ f.there)
     in
     let component : c.from.result ≡ f.event.component = c.from.ensures ∙ ap (λ (e : Event). e.component) event in
-    let spot_below : c.from.result < length c.self.inside.spots.items = omega (arith, component, get_below c.self.inside.spots.items f.event.component _ f.spot) in
-    let spot : c.from-2.result ≡ place_in c.self.inside.parts.value.places c.self.inside.domain f.event.component =
-    c.from-2.ensures ∙ same_Some c.index-spot.result.now _
-    (sym (read_there c.self.inside.spots.items c.from.result c.index-spot.result.now spot_below c.index-spot.ensures) ∙ (ap (slice_get c.self.inside.spots.items) component ∙ f.spot))
+    let own_place_below : c.from.result < length c.self.inside.own_places.items = omega (arith, component, get_below c.self.inside.own_places.items f.event.component _ f.own_place) in
+    let own_place : c.from-2.result ≡ place_in c.self.inside.parts.value.places c.self.inside.domain f.event.component =
+    c.from-2.ensures ∙ same_Some c.index-own_place.result.now _
+    (sym (read_there c.self.inside.own_places.items c.from.result c.index-own_place.result.now own_place_below c.index-own_place.ensures) ∙ (ap (slice_get c.self.inside.own_places.items) component ∙ f.own_place))
     in
     let within : c.from-2.result < length c.as_mut_slice.result.now =
-    omega (arith, spot, get_below c.self.inside.comps _ f.component f.component_there, ap length c.as_mut_slice.ensures.value)
+    omega (arith, own_place, get_below c.self.inside.comps _ f.component f.component_there, ap length c.as_mut_slice.ensures.value)
     in
     within
 
@@ -95,17 +95,17 @@ step-finish-requires-clause-serves g c =
     (sym (read_there c.self.inside.here.items c.in-Some.key.number c.index-event.result.now (get_below c.self.inside.here.items c.in-Some.key.number f.event f.there) c.index-event.ensures) ∙ f.there)
     in
     let component : c.from.result ≡ f.event.component = c.from.ensures ∙ ap (λ (e : Event). e.component) event in
-    let spot_below : c.from.result < length c.self.inside.spots.items = omega (arith, component, get_below c.self.inside.spots.items f.event.component _ f.spot) in
-    let spot : c.from-2.result ≡ place_in c.self.inside.parts.value.places c.self.inside.domain f.event.component =
-    c.from-2.ensures ∙ same_Some c.index-spot.result.now _
-    (sym (read_there c.self.inside.spots.items c.from.result c.index-spot.result.now spot_below c.index-spot.ensures) ∙ (ap (slice_get c.self.inside.spots.items) component ∙ f.spot))
+    let own_place_below : c.from.result < length c.self.inside.own_places.items = omega (arith, component, get_below c.self.inside.own_places.items f.event.component _ f.own_place) in
+    let own_place : c.from-2.result ≡ place_in c.self.inside.parts.value.places c.self.inside.domain f.event.component =
+    c.from-2.ensures ∙ same_Some c.index-own_place.result.now _
+    (sym (read_there c.self.inside.own_places.items c.from.result c.index-own_place.result.now own_place_below c.index-own_place.ensures) ∙ (ap (slice_get c.self.inside.own_places.items) component ∙ f.own_place))
     in
     let within : c.from-2.result < length c.as_mut_slice.result.now =
-    omega (arith, spot, get_below c.self.inside.comps _ f.component f.component_there, ap length c.as_mut_slice.ensures.value)
+    omega (arith, own_place, get_below c.self.inside.comps _ f.component f.component_there, ap length c.as_mut_slice.ensures.value)
     in
     let served_by : get_or c.as_mut_slice.result.now c.from-2.result c.index-as_mut_slice-from.result ≡ f.component =
     ap (λ (xs : List g.row.C.Denot). get_or xs c.from-2.result c.index-as_mut_slice-from.result) c.as_mut_slice.ensures.value
-    ∙ (ap (λ n. get_or c.self.inside.comps n c.index-as_mut_slice-from.result) spot ∙ get_or_from_slice_get c.self.inside.comps _ f.component c.index-as_mut_slice-from.result f.component_there)
+    ∙ (ap (λ n. get_or c.self.inside.comps n c.index-as_mut_slice-from.result) own_place ∙ get_or_from_slice_get c.self.inside.comps _ f.component c.index-as_mut_slice-from.result f.component_there)
     in
     let can : CanFire g.C.Component.greatest (domain_value c.self.inside) = subst (CanFire g.C.Component.greatest) (sym c.self.view_is) c.requires in
     let same_next : (can.may.event, can.key.start) ≡ (f.event, c.in-Some.key.start) = same_Some (can.may.event, can.key.start) (f.event, c.in-Some.key.start) (sym can.may.next ∙ f.next) in
@@ -126,17 +126,17 @@ step-finish-requires-clause-small g c =
     (sym (read_there c.self.inside.here.items c.in-Some.key.number c.index-event.result.now (get_below c.self.inside.here.items c.in-Some.key.number f.event f.there) c.index-event.ensures) ∙ f.there)
     in
     let component : c.from.result ≡ f.event.component = c.from.ensures ∙ ap (λ (e : Event). e.component) event in
-    let spot_below : c.from.result < length c.self.inside.spots.items = omega (arith, component, get_below c.self.inside.spots.items f.event.component _ f.spot) in
-    let spot : c.from-2.result ≡ place_in c.self.inside.parts.value.places c.self.inside.domain f.event.component =
-    c.from-2.ensures ∙ same_Some c.index-spot.result.now _
-    (sym (read_there c.self.inside.spots.items c.from.result c.index-spot.result.now spot_below c.index-spot.ensures) ∙ (ap (slice_get c.self.inside.spots.items) component ∙ f.spot))
+    let own_place_below : c.from.result < length c.self.inside.own_places.items = omega (arith, component, get_below c.self.inside.own_places.items f.event.component _ f.own_place) in
+    let own_place : c.from-2.result ≡ place_in c.self.inside.parts.value.places c.self.inside.domain f.event.component =
+    c.from-2.ensures ∙ same_Some c.index-own_place.result.now _
+    (sym (read_there c.self.inside.own_places.items c.from.result c.index-own_place.result.now own_place_below c.index-own_place.ensures) ∙ (ap (slice_get c.self.inside.own_places.items) component ∙ f.own_place))
     in
     let within : c.from-2.result < length c.as_mut_slice.result.now =
-    omega (arith, spot, get_below c.self.inside.comps _ f.component f.component_there, ap length c.as_mut_slice.ensures.value)
+    omega (arith, own_place, get_below c.self.inside.comps _ f.component f.component_there, ap length c.as_mut_slice.ensures.value)
     in
     let served_by : get_or c.as_mut_slice.result.now c.from-2.result c.index-as_mut_slice-from.result ≡ f.component =
     ap (λ (xs : List g.row.C.Denot). get_or xs c.from-2.result c.index-as_mut_slice-from.result) c.as_mut_slice.ensures.value
-    ∙ (ap (λ n. get_or c.self.inside.comps n c.index-as_mut_slice-from.result) spot ∙ get_or_from_slice_get c.self.inside.comps _ f.component c.index-as_mut_slice-from.result f.component_there)
+    ∙ (ap (λ n. get_or c.self.inside.comps n c.index-as_mut_slice-from.result) own_place ∙ get_or_from_slice_get c.self.inside.comps _ f.component c.index-as_mut_slice-from.result f.component_there)
     in
     let can : CanFire g.C.Component.greatest (domain_value c.self.inside) = subst (CanFire g.C.Component.greatest) (sym c.self.view_is) c.requires in
     let same_next : (can.may.event, can.key.start) ≡ (f.event, c.in-Some.key.start) = same_Some (can.may.event, can.key.start) (f.event, c.in-Some.key.start) (sym can.may.next ∙ f.next) in
@@ -169,17 +169,17 @@ tell_children-requires g c =
     (sym (read_there c.self.inside.here.items c.in-Some.key.number c.index-event.result.now (get_below c.self.inside.here.items c.in-Some.key.number f.event f.there) c.index-event.ensures) ∙ f.there)
     in
     let component : c.from.result ≡ f.event.component = c.from.ensures ∙ ap (λ (e : Event). e.component) event in
-    let spot_below : c.from.result < length c.self.inside.spots.items = omega (arith, component, get_below c.self.inside.spots.items f.event.component _ f.spot) in
-    let spot : c.from-2.result ≡ place_in c.self.inside.parts.value.places c.self.inside.domain f.event.component =
-    c.from-2.ensures ∙ same_Some c.index-spot.result.now _
-    (sym (read_there c.self.inside.spots.items c.from.result c.index-spot.result.now spot_below c.index-spot.ensures) ∙ (ap (slice_get c.self.inside.spots.items) component ∙ f.spot))
+    let own_place_below : c.from.result < length c.self.inside.own_places.items = omega (arith, component, get_below c.self.inside.own_places.items f.event.component _ f.own_place) in
+    let own_place : c.from-2.result ≡ place_in c.self.inside.parts.value.places c.self.inside.domain f.event.component =
+    c.from-2.ensures ∙ same_Some c.index-own_place.result.now _
+    (sym (read_there c.self.inside.own_places.items c.from.result c.index-own_place.result.now own_place_below c.index-own_place.ensures) ∙ (ap (slice_get c.self.inside.own_places.items) component ∙ f.own_place))
     in
     let within : c.from-2.result < length c.as_mut_slice.result.now =
-    omega (arith, spot, get_below c.self.inside.comps _ f.component f.component_there, ap length c.as_mut_slice.ensures.value)
+    omega (arith, own_place, get_below c.self.inside.comps _ f.component f.component_there, ap length c.as_mut_slice.ensures.value)
     in
     let served_by : get_or c.as_mut_slice.result.now c.from-2.result c.index-as_mut_slice-from.result ≡ f.component =
     ap (λ (xs : List g.row.C.Denot). get_or xs c.from-2.result c.index-as_mut_slice-from.result) c.as_mut_slice.ensures.value
-    ∙ (ap (λ n. get_or c.self.inside.comps n c.index-as_mut_slice-from.result) spot ∙ get_or_from_slice_get c.self.inside.comps _ f.component c.index-as_mut_slice-from.result f.component_there)
+    ∙ (ap (λ n. get_or c.self.inside.comps n c.index-as_mut_slice-from.result) own_place ∙ get_or_from_slice_get c.self.inside.comps _ f.component c.index-as_mut_slice-from.result f.component_there)
     in
     let can : CanFire g.C.Component.greatest (domain_value c.self.inside) = subst (CanFire g.C.Component.greatest) (sym c.self.view_is) c.requires in
     let same_next : (can.may.event, can.key.start) ≡ (f.event, c.in-Some.key.start) = same_Some (can.may.event, can.key.start) (f.event, c.in-Some.key.start) (sym can.may.next ∙ f.next) in
@@ -221,17 +221,17 @@ invariant_of-self g c =
     (sym (read_there c.self.inside.here.items c.in-Some.key.number c.index-event.result.now (get_below c.self.inside.here.items c.in-Some.key.number f.event f.there) c.index-event.ensures) ∙ f.there)
     in
     let component : c.from.result ≡ f.event.component = c.from.ensures ∙ ap (λ (e : Event). e.component) event in
-    let spot_below : c.from.result < length c.self.inside.spots.items = omega (arith, component, get_below c.self.inside.spots.items f.event.component _ f.spot) in
-    let spot : c.from-2.result ≡ place_in c.self.inside.parts.value.places c.self.inside.domain f.event.component =
-    c.from-2.ensures ∙ same_Some c.index-spot.result.now _
-    (sym (read_there c.self.inside.spots.items c.from.result c.index-spot.result.now spot_below c.index-spot.ensures) ∙ (ap (slice_get c.self.inside.spots.items) component ∙ f.spot))
+    let own_place_below : c.from.result < length c.self.inside.own_places.items = omega (arith, component, get_below c.self.inside.own_places.items f.event.component _ f.own_place) in
+    let own_place : c.from-2.result ≡ place_in c.self.inside.parts.value.places c.self.inside.domain f.event.component =
+    c.from-2.ensures ∙ same_Some c.index-own_place.result.now _
+    (sym (read_there c.self.inside.own_places.items c.from.result c.index-own_place.result.now own_place_below c.index-own_place.ensures) ∙ (ap (slice_get c.self.inside.own_places.items) component ∙ f.own_place))
     in
     let within : c.from-2.result < length c.as_mut_slice.result.now =
-    omega (arith, spot, get_below c.self.inside.comps _ f.component f.component_there, ap length c.as_mut_slice.ensures.value)
+    omega (arith, own_place, get_below c.self.inside.comps _ f.component f.component_there, ap length c.as_mut_slice.ensures.value)
     in
     let served_by : get_or c.as_mut_slice.result.now c.from-2.result c.index-as_mut_slice-from.result ≡ f.component =
     ap (λ (xs : List g.row.C.Denot). get_or xs c.from-2.result c.index-as_mut_slice-from.result) c.as_mut_slice.ensures.value
-    ∙ (ap (λ n. get_or c.self.inside.comps n c.index-as_mut_slice-from.result) spot ∙ get_or_from_slice_get c.self.inside.comps _ f.component c.index-as_mut_slice-from.result f.component_there)
+    ∙ (ap (λ n. get_or c.self.inside.comps n c.index-as_mut_slice-from.result) own_place ∙ get_or_from_slice_get c.self.inside.comps _ f.component c.index-as_mut_slice-from.result f.component_there)
     in
     let can : CanFire g.C.Component.greatest (domain_value c.self.inside) = subst (CanFire g.C.Component.greatest) (sym c.self.view_is) c.requires in
     let same_next : (can.may.event, can.key.start) ≡ (f.event, c.in-Some.key.start) = same_Some (can.may.event, can.key.start) (f.event, c.in-Some.key.start) (sym can.may.next ∙ f.next) in
@@ -275,7 +275,7 @@ invariant_of-self g c =
     take_front (set c.as_mut_slice.result.now c.from-2.result c.step-finish.new.self) _ (length c.self.inside.comps)
     (sym (length-set c.as_mut_slice.result.now c.from-2.result c.step-finish.new.self ∙ ap length c.as_mut_slice.ensures.value))
     ∙ (ap (λ (xs : List g.row.C.Denot). set xs c.from-2.result c.step-finish.new.self) c.as_mut_slice.ensures.value
-    ∙ (ap (λ n. set c.self.inside.comps n c.step-finish.new.self) spot
+    ∙ (ap (λ n. set c.self.inside.comps n c.step-finish.new.self) own_place
     ∙ ap (λ (z : g.row.C.Denot × ℕ). set c.self.inside.comps (place_in c.self.inside.parts.value.places c.self.inside.domain f.event.component) z.0) step))
     in
     record {
@@ -299,7 +299,7 @@ invariant_of-self g c =
           ∙ ap (λ (w : Waits). fired_in w.waits) (sym waiting))));
       room = omega (arith, i.room, c.push_reserved.ensures.capacity);
       served =
-          subst (HaveComponents g.C.Component.serves d.parts.value d.domain d.here.items d.spots.items) (sym comps_are)
+          subst (HaveComponents g.C.Component.serves d.parts.value d.domain d.here.items d.own_places.items) (sym comps_are)
           (still_served g.C.Component.serves d i (place_in d.parts.value.places d.domain f.event.component) f.component (g.C.Component.stepped f.component f.event.kind k.start).0 f.component_there
           (λ kind. g.met.C.Component.serves_stays f.component f.event.kind k.start kind f.served));
     }
@@ -315,17 +315,17 @@ returns g c =
     (sym (read_there c.self.inside.here.items c.in-Some.key.number c.index-event.result.now (get_below c.self.inside.here.items c.in-Some.key.number f.event f.there) c.index-event.ensures) ∙ f.there)
     in
     let component : c.from.result ≡ f.event.component = c.from.ensures ∙ ap (λ (e : Event). e.component) event in
-    let spot_below : c.from.result < length c.self.inside.spots.items = omega (arith, component, get_below c.self.inside.spots.items f.event.component _ f.spot) in
-    let spot : c.from-2.result ≡ place_in c.self.inside.parts.value.places c.self.inside.domain f.event.component =
-    c.from-2.ensures ∙ same_Some c.index-spot.result.now _
-    (sym (read_there c.self.inside.spots.items c.from.result c.index-spot.result.now spot_below c.index-spot.ensures) ∙ (ap (slice_get c.self.inside.spots.items) component ∙ f.spot))
+    let own_place_below : c.from.result < length c.self.inside.own_places.items = omega (arith, component, get_below c.self.inside.own_places.items f.event.component _ f.own_place) in
+    let own_place : c.from-2.result ≡ place_in c.self.inside.parts.value.places c.self.inside.domain f.event.component =
+    c.from-2.ensures ∙ same_Some c.index-own_place.result.now _
+    (sym (read_there c.self.inside.own_places.items c.from.result c.index-own_place.result.now own_place_below c.index-own_place.ensures) ∙ (ap (slice_get c.self.inside.own_places.items) component ∙ f.own_place))
     in
     let within : c.from-2.result < length c.as_mut_slice.result.now =
-    omega (arith, spot, get_below c.self.inside.comps _ f.component f.component_there, ap length c.as_mut_slice.ensures.value)
+    omega (arith, own_place, get_below c.self.inside.comps _ f.component f.component_there, ap length c.as_mut_slice.ensures.value)
     in
     let served_by : get_or c.as_mut_slice.result.now c.from-2.result c.index-as_mut_slice-from.result ≡ f.component =
     ap (λ (xs : List g.row.C.Denot). get_or xs c.from-2.result c.index-as_mut_slice-from.result) c.as_mut_slice.ensures.value
-    ∙ (ap (λ n. get_or c.self.inside.comps n c.index-as_mut_slice-from.result) spot ∙ get_or_from_slice_get c.self.inside.comps _ f.component c.index-as_mut_slice-from.result f.component_there)
+    ∙ (ap (λ n. get_or c.self.inside.comps n c.index-as_mut_slice-from.result) own_place ∙ get_or_from_slice_get c.self.inside.comps _ f.component c.index-as_mut_slice-from.result f.component_there)
     in
     let can : CanFire g.C.Component.greatest (domain_value c.self.inside) = subst (CanFire g.C.Component.greatest) (sym c.self.view_is) c.requires in
     let same_next : (can.may.event, can.key.start) ≡ (f.event, c.in-Some.key.start) = same_Some (can.may.event, can.key.start) (f.event, c.in-Some.key.start) (sym can.may.next ∙ f.next) in
@@ -369,7 +369,7 @@ returns g c =
     take_front (set c.as_mut_slice.result.now c.from-2.result c.step-finish.new.self) _ (length c.self.inside.comps)
     (sym (length-set c.as_mut_slice.result.now c.from-2.result c.step-finish.new.self ∙ ap length c.as_mut_slice.ensures.value))
     ∙ (ap (λ (xs : List g.row.C.Denot). set xs c.from-2.result c.step-finish.new.self) c.as_mut_slice.ensures.value
-    ∙ (ap (λ n. set c.self.inside.comps n c.step-finish.new.self) spot
+    ∙ (ap (λ n. set c.self.inside.comps n c.step-finish.new.self) own_place
     ∙ ap (λ (z : g.row.C.Denot × ℕ). set c.self.inside.comps (place_in c.self.inside.parts.value.places c.self.inside.domain f.event.component) z.0) step))
     in
     subst (λ (v : DomainValue g.row.C.Denot). IsFire g.C.Component.stepped v (record (domain_value c.self.inside) {

@@ -1,16 +1,16 @@
 -- A component more.
 use Rattle.std.proofs.Common.{◌+◌, ◌<◌, length, get_or, ap, ◌∙◌, arith}
 use Rattle.std.proofs.lemmas.Option.{slice_get-get_or}
-use Rattle.weave_core.proofs.Spots.{next_spot, same_place, other_place}
-use Rattle.weave_core.proofs.prepare.spots_of.Goals.{then-place-domain, else-place-domain}
-use Rattle.weave_core.proofs.prepare.spots_of.Goals as goal
+use Rattle.weave_core.proofs.OwnPlaces.{next_own_place, same_place, other_place}
+use Rattle.weave_core.proofs.prepare.own_places_of.Goals.{then-place-domain, else-place-domain}
+use Rattle.weave_core.proofs.prepare.own_places_of.Goals as goal
 
 pub loop-place-preserved : goal.loop-place-preserved
 loop-place-preserved c =
     let below : c.loop-place.place-index < length c.args.places.now = omega (arith, c.loop-place-test.true) in
     elim c.if-place-domain.branch [
       | then-place-domain w ↦ record {
-        spots = next_spot c.args.places.now c.args.domain c.loop-place.spots.items c.push.new.self.items c.loop-place.place-index c.loop-place.count c.loop-place.invariant.spots c.loop-place.invariant.count c.in_ok-push.ensures.items;
+        own_places = next_own_place c.args.places.now c.args.domain c.loop-place.own_places.items c.push.new.self.items c.loop-place.place-index c.loop-place.count c.loop-place.invariant.own_places c.loop-place.invariant.count c.in_ok-push.ensures.items;
         count =
             w.count-is
             ∙ (ap (λ n. n + 1) c.loop-place.invariant.count
@@ -18,7 +18,7 @@ loop-place-preserved c =
         few = omega (arith, w.count-is, c.loop-place.invariant.few);
       }
       | else-place-domain w ↦ record {
-        spots = next_spot c.args.places.now c.args.domain c.loop-place.spots.items c.push.new.self.items c.loop-place.place-index c.loop-place.count c.loop-place.invariant.spots c.loop-place.invariant.count c.in_ok-push.ensures.items;
+        own_places = next_own_place c.args.places.now c.args.domain c.loop-place.own_places.items c.push.new.self.items c.loop-place.place-index c.loop-place.count c.loop-place.invariant.own_places c.loop-place.invariant.count c.in_ok-push.ensures.items;
         count =
             w.count-is
             ∙ (c.loop-place.invariant.count

@@ -4,7 +4,7 @@ use Rattle.std.proofs.lemmas.Bool.{cases_lt}
 use Rattle.std.proofs.lemmas.List.{length_push}
 use Rattle.std.proofs.lemmas.Option.{same_Some, none-some}
 use Rattle.std.specs.List.{filter, enumerate_from}
-use Rattle.weave_core.specs.Beginning.{AreSpots}
+use Rattle.weave_core.specs.Beginning.{AreOwnPlaces}
 use Rattle.weave_core.specs.DomainCalls.{comps_in}
 use Rattle.weave_core.specs.Layout.{place_in}
 use Rattle.weave_core.proofs.Lists.{last_at}
@@ -15,20 +15,20 @@ get_push [] y i l = absurd (omega arith)
 get_push (z ∷ xs) y zero l = refl
 get_push (z ∷ xs) y (suc i) l = get_push xs y i (omega arith)
 
--- a spot more
-pub next_spot : (places : List ℕ) (domain : ℕ) (spots longer : List ℕ) (upto count : ℕ) → AreSpots places domain spots upto → count ≡ place_in places domain upto → longer ≡ spots ++ count ∷ []
-    → AreSpots places domain longer (upto + 1)
-next_spot places domain spots longer upto count are is more =
-    subst (λ (xs : List ℕ). AreSpots places domain xs (upto + 1)) (sym more)
+-- a place more
+pub next_own_place : (places : List ℕ) (domain : ℕ) (own_places longer : List ℕ) (upto count : ℕ) → AreOwnPlaces places domain own_places upto → count ≡ place_in places domain upto → longer ≡ own_places ++ count ∷ []
+    → AreOwnPlaces places domain longer (upto + 1)
+next_own_place places domain own_places longer upto count are is more =
+    subst (λ (xs : List ℕ). AreOwnPlaces places domain xs (upto + 1)) (sym more)
     (record {
-      size = length_push spots count ∙ ap (λ n. n + 1) are.size;
+      size = length_push own_places count ∙ ap (λ n. n + 1) are.size;
       each = λ component below.
           elim (cases_lt component upto) [
-            | inl l ↦ get_push spots count component (omega (arith, l, are.size)) ∙ are.each component l
+            | inl l ↦ get_push own_places count component (omega (arith, l, are.size)) ∙ are.each component l
             | inr m ↦
-                let same : component ≡ length spots = omega (arith, m, below, are.size) in
+                let same : component ≡ length own_places = omega (arith, m, below, are.size) in
                 let same_upto : upto ≡ component = omega (arith, m, below) in
-                ap (slice_get (spots ++ count ∷ [])) same ∙ (last_at spots count ∙ ap (λ n. Some n) (is ∙ ap (place_in places domain) same_upto))
+                ap (slice_get (own_places ++ count ∷ [])) same ∙ (last_at own_places count ∙ ap (λ n. Some n) (is ∙ ap (place_in places domain) same_upto))
           ];
     })
 

@@ -1,7 +1,7 @@
 -- Each room is as large as the parts of the plan ask.
 use Rattle.std.proofs.Common.{◌≡◌, length, ◌∙◌, ap, arith}
 use Rattle.domain_map.specs.Domains.{Partition}
-use Rattle.weave_run.proofs.setup.take_room.Goals as goal
+use Rattle.weave_run.proofs.setup.reserve_all.Goals as goal
 
 pub of-requires-clause-few : goal.of-requires-clause-few
 of-requires-clause-few g c = omega (arith, ap length c.crossings.ensures, c.requires.fits.few_crossings)

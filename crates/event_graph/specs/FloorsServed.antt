@@ -1,4 +1,4 @@
--- What an expansion tells of components.
+-- Components that serve with the floors of an expansion.
 use Rattle.std.specs.Prelude.{◌≡◌, ℕ, Bool, IsTrue, List, Option, Some, slice_get}
 use Rattle.component.specs.declared.kind.Kind.{Kind}
 
@@ -9,6 +9,6 @@ pub record ServesWith {C : Type 0} (serves : C → Kind → Bool) (floor : C →
   pub served : IsTrue (serves component kind)
   pub floor_is : floor component kind ≡ time
 
--- what is told is true of these components
-abbrev pub IsTrueOfComponents : {C : Type 0} → (told : ℕ → Kind → Option ℕ) → (C → Kind → Bool) → (C → Kind → ℕ) → List C → Type 0
-IsTrueOfComponents told serves floor comps = (number : ℕ) (kind : Kind) (time : ℕ) → told number kind ≡ Some time → ServesWith serves floor comps number kind time
+-- these components have such floors
+abbrev pub AreFloorsOf : {C : Type 0} → (floors : ℕ → Kind → Option ℕ) → (C → Kind → Bool) → (C → Kind → ℕ) → List C → Type 0
+AreFloorsOf floors serves floor comps = (number : ℕ) (kind : Kind) (time : ℕ) → floors number kind ≡ Some time → ServesWith serves floor comps number kind time
