@@ -85,7 +85,7 @@ fn word(instruction: Inst) -> u32
     requires { IsEncodable instruction }
     ensures { result ≡ encoded instruction }
 {
-    rv_decode::laws::ranges();
+    rv_decode::laws::fields_are_in_range();
     encode(instruction)
 }
 

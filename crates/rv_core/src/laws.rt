@@ -19,14 +19,14 @@ ghost use Rattle.rv_core.specs.Asked.{advanced};
 pub fn x0_reads_as_zero()
     ensures { (core : CoreState) → IsReached core → register core 0 ≡ 0 }
 {
-    rv_decode::laws::ranges();
+    rv_decode::laws::fields_are_in_range();
 }
 
 /// A core that is reached is sound: all that it asks for can be served.
 pub fn reached_cores_are_sound()
     ensures { (core : CoreState) → IsReached core → IsSoundCore core }
 {
-    rv_decode::laws::ranges();
+    rv_decode::laws::fields_are_in_range();
 }
 
 /// A step and a reply leave a sound core sound, and its memory where it is. A step leaves its
@@ -40,7 +40,7 @@ pub fn cores_stay_sound()
     ensures answered_pairing { (reply : ℕ) (core : CoreState) (now : InProgress) → IsSoundCore core → core.instruction ≡ Some now
         → (answered reply core).pairing ≡ pairing_after core.pairing now.next }
 {
-    rv_decode::laws::ranges();
+    rv_decode::laws::fields_are_in_range();
 }
 
 /// Every access that a core asks for says of the pairing what it is, and so does every list of
@@ -54,7 +54,7 @@ pub fn accesses_are_paired_right()
     ensures pairing { (core last : CoreState) (requests : List Request) → IsSoundCore core → Asks core requests last
         → last.pairing ≡ pairing_after_all core.pairing requests }
 {
-    rv_decode::laws::ranges();
+    rv_decode::laws::fields_are_in_range();
 }
 
 /// The accesses of a load or a store have the bytes of the whole, in order, wherever it crosses a

@@ -50,7 +50,7 @@ impl Core {
         ensures sound { IsSoundCore self.new }
         ensures memory { self.new.memory ≡ self.old.memory }
     {
-        rv_decode::laws::ranges();
+        rv_decode::laws::fields_are_in_range();
         self.fetch_and_execute(program)
     }
 

@@ -16,7 +16,7 @@ pub fn one_row()
 
 /// A word is the instruction by each row that matches it, an instruction only by such a row, and
 /// none where no row matches.
-pub fn rows()
+pub fn words_are_by_rows()
     ensures matching { (word : ℕ) (row : Row) → Contains table row → IsTrue (matches row word)
         → decoded word ≡ Some (by_row row word) }
     ensures matched { (word : ℕ) (i : Inst) → decoded word ≡ Some i → IsByRow word i }
@@ -25,7 +25,7 @@ pub fn rows()
 
 /// The fields of every instruction that a word decodes to are in their ranges: registers below 32,
 /// and registers and immediate in the ranges of its format.
-pub fn ranges()
+pub fn fields_are_in_range()
     ensures registers { (word : ℕ) (i : Inst) → decoded word ≡ Some i
         → (i.rd < 32) × (i.rs1 < 32) × (i.rs2 < 32) }
     ensures formats { (word : ℕ) (i : Inst) → decoded word ≡ Some i → FitsItsFormat i }
@@ -33,7 +33,7 @@ pub fn ranges()
 
 /// Each name is the name of one row, whose value and format are the name's, and the instruction by
 /// a row has the row's name.
-pub fn names()
+pub fn each_name_has_one_row()
     ensures once { AllPairs (λ row other. row.name ≢ other.name) table }
     ensures listed { (row : Row) → Contains table row
         → (value_of row.name ≡ row.value) × (format_of row.name ≡ row.format) }
@@ -45,7 +45,7 @@ pub fn names()
 
 /// A word under the mask of some of its bits is these bits at their places, and under the sum of
 /// two masks that have no bit in common it is the sum of what it is under each.
-pub fn masks()
+pub fn masks_add_up()
     ensures bits { (high low word : ℕ) → low ≤ high
         → bit_and word (ones high low) ≡ bits_of high low word * 2 ^ low }
     ensures sums { (mask other word : ℕ) → bit_and mask other ≡ 0

@@ -16,9 +16,9 @@ pub fn encode(inst: Inst) -> u32
     ensures only { (word : ℕ) → word < 2 ^ 32 → decoded word ≡ Some inst → result ≡ word }
 {
     // What the table says of its rows, and of words under masks, shows that the word is the one.
-    laws::rows();
-    laws::names();
-    laws::masks();
+    laws::words_are_by_rows();
+    laws::each_name_has_one_row();
+    laws::masks_add_up();
     let (value, format) = row(inst.name);
     value + registers(inst) + immediate(format, inst.imm)
 }

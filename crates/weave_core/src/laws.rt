@@ -124,7 +124,7 @@ pub fn barriers_advance<C: Component>()
 /// A domain that keeps to the one-list weave does so through each of its calls; a barrier gives all
 /// domains a sound floor and lets the first unfired event fire; and once all events have fired,
 /// what the domains fired and what their components are is what the weave gives.
-pub fn keeping<C: Component>()
+pub fn domains_keep_to_the_weave<C: Component>()
     ensures { KeepingLaws C.serves C.floor C.stepped C.greatest }
 {
     event_graph::laws::each_event_fires_once::<C>();

@@ -38,7 +38,7 @@ pub(crate) fn run_beside<R: Threads + Sync, C: Component + Send, G: Gate>(
     ensures ran { HasRunRound C.stepped plan.now domains.old.items domains.new.items }
     ensures team { IsTeam C.stepped plan.now domains.new.items team.new }
 {
-    laws::keeping::<C>();
+    laws::domains_keep_to_the_weave::<C>();
     let count = parts.domains();
     let before = Snapshot::of(&*domains);
     let crews = team.crews.as_mut_slice();

@@ -51,7 +51,7 @@ pub fn weave<R: Threads + Sync, C: Component + Send, G: Gate>(
     ensures woven { IfOk result (λ w. IsWoven C.stepped graph.now comps w.fired w.comps w.rounds) }
     ensures back { IfErr result (λ e. e.1 ≡ comps) }
 {
-    laws::keeping::<C>();
+    laws::domains_keep_to_the_weave::<C>();
     if !has_numbers(graph, parts) {
         return Err((NoMemory, comps));
     }
@@ -93,7 +93,7 @@ fn run<R: Threads + Sync, C: Component + Send, G: Gate>(
     requires events { events ≡ length plan.now.graph.value }
     ensures { IsWoven C.stepped plan.now.graph.value plan.now.comps.value result.fired result.comps result.rounds }
 {
-    laws::keeping::<C>();
+    laws::domains_keep_to_the_weave::<C>();
     event_graph::laws::components_serve_their_own_events::<C>();
     let Prepared {
         mut domains,

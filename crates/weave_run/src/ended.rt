@@ -20,7 +20,7 @@ pub(crate) fn fill_all<C: Component>(times: &mut [Fired], domains: &[Domain<C>],
     requires times { length times.old ≡ length plan.now.graph.value }
     ensures { times.new ≡ map fired_of (woven C.stepped plan.now.graph.value plan.now.comps.value) }
 {
-    laws::keeping::<C>();
+    laws::domains_keep_to_the_weave::<C>();
     for index in 0..domains.len() {
         fill(times, &domains[index], plan);
     }
@@ -33,7 +33,7 @@ fn fill<C: Component>(times: &mut [Fired], domain: &Domain<C>, plan: &Plan<C>)
     requires times { length times.old ≡ length plan.now.graph.value }
     ensures { HasFilled C.stepped plan.now times.old times.new domain.now }
 {
-    laws::keeping::<C>();
+    laws::domains_keep_to_the_weave::<C>();
     let fired = domain.fired();
     for place in 0..fired.len() {
         let event = fired[place];

@@ -44,7 +44,7 @@ pub(crate) fn run_beside_others<C: Component, G: Gate>(
     requires some { 0 < steps }
     ensures { HasServed C.stepped plan.now crossings.now post.old post.new }
 {
-    laws::keeping::<C>();
+    laws::domains_keep_to_the_weave::<C>();
     for _step in 0..steps {
         match post.domain.next() {
             Next::Fire { .. } => fire_and_publish(post, plan, outgoing, crossings, worker, gate),
@@ -73,7 +73,7 @@ fn fire_and_publish<C: Component, G: Gate>(
     requires may { (key : Key) × MayFire plan.now.graph.value plan.now.parts.value post.old.domain.domain post.old.domain.own key }
     ensures { HasFiredThere C.stepped plan.now crossings.now post.old post.new }
 {
-    laws::keeping::<C>();
+    laws::domains_keep_to_the_weave::<C>();
     let fired = fire(&mut post.domain, plan, post.number, worker, gate);
     publish_all(crossings, &mut post.seat, plan, outgoing, fired);
 }
@@ -94,7 +94,7 @@ fn publish_all<C: Component>(
     requires may { MayPublish plan.now seat.old fired.number }
     ensures { HasPublished plan.now seat.old seat.new fired.number fired.finish }
 {
-    laws::keeping::<C>();
+    laws::domains_keep_to_the_weave::<C>();
     let mut link = outgoing.last[fired.number as usize];
     while link > 0 {
         crossings.publish(seat, link - 1, fired.finish);
@@ -115,7 +115,7 @@ fn look_again<C: Component>(
     requires into { (x : Crossing) × (slice_get plan.now.parts.value.crossings crossing ≡ Some x) × (x.target ≡ post.old.domain.domain) }
     ensures { HasLooked C.stepped plan.now crossings.now post.old post.new crossing result }
 {
-    laws::keeping::<C>();
+    laws::domains_keep_to_the_weave::<C>();
     let word = crossings.look(&mut post.seat, crossing);
     match word {
         Word::Exact(_) => {

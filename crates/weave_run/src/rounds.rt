@@ -50,7 +50,7 @@ pub(crate) fn run_rounds<R: Threads + Sync, C: Component + Send, G: Gate>(
     ensures rounds { result ≤ length plan.now.graph.value }
     ensures team { IfSome team.new (IsTeam C.stepped plan.now domains.new.items) }
 {
-    laws::keeping::<C>();
+    laws::domains_keep_to_the_weave::<C>();
     // A fire for each event, a look for each of its parents, and the step that ends the round.
     let steps = 3 * events as usize + 1;
     let mut floor = 0;
@@ -152,7 +152,7 @@ fn front_of<C: Component>(domains: &[Domain<C>], plan: &Plan<C>) -> Option<Cycle
     ensures front { IsLeastStart plan.now domains.now result }
     ensures small { IfSome result (λ start. start ≤ 2 ^ 62) }
 {
-    laws::keeping::<C>();
+    laws::domains_keep_to_the_weave::<C>();
     let mut front: Option<Cycle> = None;
     for index in 0..domains.len() {
         if let Some(key) = domains[index].earliest() {
@@ -201,7 +201,7 @@ fn run_here<C: Component, G: Gate>(
     requires workers { 0 < workers }
     ensures { HasRunRound C.stepped plan.now domains.old domains.new }
 {
-    laws::keeping::<C>();
+    laws::domains_keep_to_the_weave::<C>();
     for number in 0..parts.domains() {
         let worker = number % workers;
         run_domain(domains, plan, parts, outgoing, gate, number, worker, steps);

@@ -23,7 +23,7 @@ pub(crate) fn fire<C: Component, G: Gate>(
     requires may { (key : Key) × MayFire plan.now.graph.value plan.now.parts.value domain.old.domain domain.old.own key }
     ensures { HasFiredNext C.stepped plan.now domain.old domain.new result }
 {
-    laws::keeping::<C>();
+    laws::domains_keep_to_the_weave::<C>();
     gate.pass(worker, Point::Fire { domain: number });
     domain.fire()
 }
@@ -42,7 +42,7 @@ pub(crate) fn run_alone<C: Component, G: Gate>(
     requires some { 0 < steps }
     ensures { HasRun C.stepped plan.now domain.old domain.new }
 {
-    laws::keeping::<C>();
+    laws::domains_keep_to_the_weave::<C>();
     for _step in 0..steps {
         let Next::Fire { .. } = domain.next() else {
             return;

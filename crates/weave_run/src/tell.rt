@@ -28,7 +28,7 @@ fn tell<C: Component>(
     requires finish { (x : Crossing) → slice_get plan.now.parts.value.crossings crossing ≡ Some x → IsFinish C.stepped plan.now x.parent finish }
     ensures told { HasToldCrossing C.stepped plan.now domains.old domains.new crossing }
 {
-    laws::keeping::<C>();
+    laws::domains_keep_to_the_weave::<C>();
     let target = parts.crossings()[crossing as usize].target;
     domains[usize::from(target)].look(crossing, Word::Exact(finish));
 }
@@ -72,7 +72,7 @@ pub(crate) fn tell_from<C: Component>(
     requires source { source < length domains.old }
     ensures { HasToldRest C.stepped plan.now domains.old domains.new source place }
 {
-    laws::keeping::<C>();
+    laws::domains_keep_to_the_weave::<C>();
     let count = domains[usize::from(source)].fired().len();
     for next in place..count {
         let fired = domains[usize::from(source)].fired()[next];

@@ -4,6 +4,6 @@ use Rattle.rv_core.proofs.laws.accesses_are_paired_right.Goals as goal
 pub returns : goal.returns
 returns c = record {
   next = λ core now sound here. next-paired core now sound here;
-  lists = λ core last requests sound asked. (asks-paired c.ranges-2.ensures.registers asked sound).0;
-  pairing = λ core last requests sound asked. (asks-paired c.ranges-2.ensures.registers asked sound).1;
+  lists = λ core last requests sound asked. (asks-paired c.fields_are_in_range.ensures.registers asked sound).0;
+  pairing = λ core last requests sound asked. (asks-paired c.fields_are_in_range.ensures.registers asked sound).1;
 }

@@ -2,4 +2,4 @@ use Rattle.rv_core.proofs.Reached.{reached-sound}
 use Rattle.rv_core.proofs.laws.x0_reads_as_zero.Goals as goal
 
 pub returns : goal.returns
-returns c core reached = (reached-sound c.ranges-2.ensures.registers reached).zero
+returns c core reached = (reached-sound c.fields_are_in_range.ensures.registers reached).zero

@@ -13,15 +13,15 @@ whole c =
 -- the laws of the table and of masks, which the code calls
 table : (c : After-registers) → TableLaws
 table c = record {
-  matching = c.rows.ensures.matching;
-  matched = c.rows.ensures.matched;
-  listed = c.names.ensures.listed;
-  each = c.names.ensures.each;
-  kept = c.names.ensures.kept;
+  matching = c.words_are_by_rows.ensures.matching;
+  matched = c.words_are_by_rows.ensures.matched;
+  listed = c.each_name_has_one_row.ensures.listed;
+  each = c.each_name_has_one_row.ensures.each;
+  kept = c.each_name_has_one_row.ensures.kept;
 }
 
 masks : (c : After-registers) → MaskLaws
-masks c = record { bits = c.masks.ensures.bits; sums = c.masks.ensures.sums }
+masks c = record { bits = c.masks_add_up.ensures.bits; sums = c.masks_add_up.ensures.sums }
 
 below : (c : After-registers) → encoded c.args.inst < 2 ^ 32
 below c = encoded_below (table c) (masks c) c.args.inst c.requires

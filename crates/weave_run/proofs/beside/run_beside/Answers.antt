@@ -57,7 +57,7 @@ returns-clause-ran g c =
     (let a = c.let_go.new.domains.ok in let b = c.tell_each.auto.domains in let d = ap length c.as_mut_slice.ensures.value in omega (arith, a, b, d))
     in
     subst (HasRunRound g.C.Component.stepped c.args.plan.now first) (sym (lent c.let_go.new.domains.len c.tell_each.new.domains _ size))
-    (round_beside g.C.Component.stepped c.args.plan.now first mid c.requires.met.kept ran g.C.Component.serves g.C.Component.floor g.C.Component.greatest c.keeping.ensures c.requires.can c.requires.met c.tell_each.new.domains c.note.new.counts
+    (round_beside g.C.Component.stepped c.args.plan.now first mid c.requires.met.kept ran g.C.Component.serves g.C.Component.floor g.C.Component.greatest c.domains_keep_to_the_weave.ensures c.requires.can c.requires.met c.tell_each.new.domains c.note.new.counts
     noted told)
 
 pub returns-clause-team : goal.returns-clause-team

@@ -8,11 +8,11 @@ use Rattle.weave_run.proofs.by_workers.run.Goals as goal
 
 pub run_rounds-rounds-requires-clause-met : goal.run_rounds-rounds-requires-clause-met
 run_rounds-rounds-requires-clause-met g c κs within =
-    begun_met g.C.Component.serves g.C.Component.floor g.C.Component.stepped g.C.Component.greatest c.keeping.ensures c.args.plan.now c.requires.can c.args.prepared.domains.items c.requires.prepared.domains
+    begun_met g.C.Component.serves g.C.Component.floor g.C.Component.stepped g.C.Component.greatest c.domains_keep_to_the_weave.ensures c.args.plan.now c.requires.can c.args.prepared.domains.items c.requires.prepared.domains
 
 pub gather-comps-requires-clause-there : goal.gather-comps-requires-clause-there
 gather-comps-requires-clause-there g c =
-    (at_end g.C.Component.serves g.C.Component.floor g.C.Component.stepped g.C.Component.greatest c.keeping.ensures c.args.plan.now c.requires.can c.run_rounds-rounds.new.domains.items c.run_rounds-rounds.ensures.kept
+    (at_end g.C.Component.serves g.C.Component.floor g.C.Component.stepped g.C.Component.greatest c.domains_keep_to_the_weave.ensures c.args.plan.now c.requires.can c.run_rounds-rounds.new.domains.items c.run_rounds-rounds.ensures.kept
     c.run_rounds-rounds.ensures.all c.finish_all-lists.result.items
     c.finish_all-lists.ensures.lists
     (λ n. c.components_serve_their_own_events.ensures c.args.plan.now.graph.value c.args.plan.now.comps.value (length c.args.plan.now.graph.value) n c.requires.can.partitioned.numbered c.requires.can.partitioned.fits)
@@ -20,7 +20,7 @@ gather-comps-requires-clause-there g c =
 
 pub gather-comps-requires-clause-dealing : goal.gather-comps-requires-clause-dealing
 gather-comps-requires-clause-dealing g c =
-    let e = at_end g.C.Component.serves g.C.Component.floor g.C.Component.stepped g.C.Component.greatest c.keeping.ensures c.args.plan.now c.requires.can c.run_rounds-rounds.new.domains.items c.run_rounds-rounds.ensures.kept
+    let e = at_end g.C.Component.serves g.C.Component.floor g.C.Component.stepped g.C.Component.greatest c.domains_keep_to_the_weave.ensures c.args.plan.now c.requires.can c.run_rounds-rounds.new.domains.items c.run_rounds-rounds.ensures.kept
     c.run_rounds-rounds.ensures.all c.finish_all-lists.result.items
     c.finish_all-lists.ensures.lists
     (λ n. c.components_serve_their_own_events.ensures c.args.plan.now.graph.value c.args.plan.now.comps.value (length c.args.plan.now.graph.value) n c.requires.can.partitioned.numbered c.requires.can.partitioned.fits)
@@ -32,7 +32,7 @@ returns g c =
     let times_len : c.args.prepared.times.len ≡ length c.fill_all.new.times =
     (let a = c.args.prepared.times.ok in let b = c.fill_all.auto.times in let d = ap length c.as_mut_slice.ensures.value in omega (arith, a, b, d))
     in
-    let e = at_end g.C.Component.serves g.C.Component.floor g.C.Component.stepped g.C.Component.greatest c.keeping.ensures c.args.plan.now c.requires.can c.run_rounds-rounds.new.domains.items c.run_rounds-rounds.ensures.kept
+    let e = at_end g.C.Component.serves g.C.Component.floor g.C.Component.stepped g.C.Component.greatest c.domains_keep_to_the_weave.ensures c.args.plan.now c.requires.can c.run_rounds-rounds.new.domains.items c.run_rounds-rounds.ensures.kept
     c.run_rounds-rounds.ensures.all c.finish_all-lists.result.items
     c.finish_all-lists.ensures.lists
     (λ n. c.components_serve_their_own_events.ensures c.args.plan.now.graph.value c.args.plan.now.comps.value (length c.args.plan.now.graph.value) n c.requires.can.partitioned.numbered c.requires.can.partitioned.fits)

@@ -5,7 +5,7 @@ use Rattle.weave_run.proofs.by_workers.weave.Goals as goal
 
 pub prepare-requires-clause-there : goal.prepare-requires-clause-there
 prepare-requires-clause-there g c =
-    parents_in g.C.Component.serves g.C.Component.floor g.C.Component.stepped g.C.Component.greatest c.keeping.ensures c.args.graph.now c.args.parts.now c.args.comps (record { partitioned = c.requires.partitioned; small = c.requires.small })
+    parents_in g.C.Component.serves g.C.Component.floor g.C.Component.stepped g.C.Component.greatest c.domains_keep_to_the_weave.ensures c.args.graph.now c.args.parts.now c.args.comps (record { partitioned = c.requires.partitioned; small = c.requires.small })
 
 pub run-requires-clause-can : goal.run-requires-clause-can
 run-requires-clause-can g c κs within = rw (c.of.ensures, c.of-2.ensures, c.of-3.ensures) (record { partitioned = c.requires.partitioned; small = c.requires.small })

@@ -9,7 +9,7 @@ use Rattle.weave_run.proofs.ended.fill.Goals as goal
 
 pub bounds-times-event : goal.bounds-times-event
 bounds-times-event g c =
-    let i = given g.C.Component.serves g.C.Component.floor g.C.Component.stepped g.C.Component.greatest c.keeping.ensures c.args.plan.now c.requires.can c.args.domain.now c.requires.kept c.fired-fired.result.now c.fired-fired.ensures
+    let i = given g.C.Component.serves g.C.Component.floor g.C.Component.stepped g.C.Component.greatest c.domains_keep_to_the_weave.ensures c.args.plan.now c.requires.can c.args.domain.now c.requires.kept c.fired-fired.result.now c.fired-fired.ensures
     c.loop-place.place (get_or c.fired-fired.result.now c.loop-place.place (record { number = 0; start = 0; finish = 0 }))
     (slice_get-get_or c.fired-fired.result.now c.loop-place.place (record { number = 0; start = 0; finish = 0 }) c.loop-place-test.true) in
     let b = i.below in
@@ -21,23 +21,23 @@ pub loop-place-preserved : goal.loop-place-preserved
 loop-place-preserved g c =
     let v = c.loop-place.invariant in
     let e = get_or c.fired-fired.result.now c.loop-place.place (record { number = 0; start = 0; finish = 0 }) in
-    let i = given g.C.Component.serves g.C.Component.floor g.C.Component.stepped g.C.Component.greatest c.keeping.ensures c.args.plan.now c.requires.can c.args.domain.now c.requires.kept c.fired-fired.result.now c.fired-fired.ensures
+    let i = given g.C.Component.serves g.C.Component.floor g.C.Component.stepped g.C.Component.greatest c.domains_keep_to_the_weave.ensures c.args.plan.now c.requires.can c.args.domain.now c.requires.kept c.fired-fired.result.now c.fired-fired.ensures
     c.loop-place.place (get_or c.fired-fired.result.now c.loop-place.place (record { number = 0; start = 0; finish = 0 }))
     (slice_get-get_or c.fired-fired.result.now c.loop-place.place (record { number = 0; start = 0; finish = 0 }) c.loop-place-test.true) in
     let count : length c.loop-place.times ≡ length c.args.plan.now.graph.value = v.count ∙ c.requires.times in
     record {
       count = length-set c.loop-place.times _ _ ∙ v.count;
       stays = λ n h.
-          agrees_then g.C.Component.serves g.C.Component.floor g.C.Component.stepped g.C.Component.greatest c.keeping.ensures c.args.plan.now c.requires.can c.loop-place.times c.args.domain.now c.loop-place.place
+          agrees_then g.C.Component.serves g.C.Component.floor g.C.Component.stepped g.C.Component.greatest c.domains_keep_to_the_weave.ensures c.args.plan.now c.requires.can c.loop-place.times c.args.domain.now c.loop-place.place
           (get_or c.fired-fired.result.now c.loop-place.place (record { number = 0; start = 0; finish = 0 })) i count n (v.stays n h);
       upto = λ p y l at.
           elim (cases_lt p c.loop-place.place) [
             | inl less ↦
-                agrees_then g.C.Component.serves g.C.Component.floor g.C.Component.stepped g.C.Component.greatest c.keeping.ensures c.args.plan.now c.requires.can c.loop-place.times c.args.domain.now c.loop-place.place
+                agrees_then g.C.Component.serves g.C.Component.floor g.C.Component.stepped g.C.Component.greatest c.domains_keep_to_the_weave.ensures c.args.plan.now c.requires.can c.loop-place.times c.args.domain.now c.loop-place.place
                 (get_or c.fired-fired.result.now c.loop-place.place (record { number = 0; start = 0; finish = 0 })) i count y.event.number (v.upto p y less at)
             | inr past ↦
                 let same : c.loop-place.place ≡ p = omega (arith, l, past) in
-                agrees_there g.C.Component.serves g.C.Component.floor g.C.Component.stepped g.C.Component.greatest c.keeping.ensures c.args.plan.now c.requires.can c.loop-place.times c.args.domain.now c.loop-place.place
+                agrees_there g.C.Component.serves g.C.Component.floor g.C.Component.stepped g.C.Component.greatest c.domains_keep_to_the_weave.ensures c.args.plan.now c.requires.can c.loop-place.times c.args.domain.now c.loop-place.place
                 (get_or c.fired-fired.result.now c.loop-place.place (record { number = 0; start = 0; finish = 0 })) i count y (ap (slice_get c.args.domain.now.own.fired) same ∙ at)
           ];
     }

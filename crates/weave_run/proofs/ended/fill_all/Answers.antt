@@ -34,6 +34,6 @@ loop-index-preserved g c =
 pub returns : goal.returns
 returns g c =
     let i = c.loop-index.invariant in
-    all_filled g.C.Component.serves g.C.Component.floor g.C.Component.stepped g.C.Component.greatest c.keeping.ensures c.args.plan.now c.requires.can c.args.domains.now c.loop-index.times c.requires.kept c.requires.all
+    all_filled g.C.Component.serves g.C.Component.floor g.C.Component.stepped g.C.Component.greatest c.domains_keep_to_the_weave.ensures c.args.plan.now c.requires.can c.args.domains.now c.loop-index.times c.requires.kept c.requires.all
     (i.count ∙ c.requires.times)
     (λ d v place y at f. i.upto d v place y (let w = slice_get_within c.args.domains.now d v at in let t = c.loop-index-test.false in omega (arith, w, t)) at f)

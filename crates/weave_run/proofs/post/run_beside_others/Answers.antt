@@ -8,34 +8,34 @@ use Rattle.weave_run.proofs.post.run_beside_others.Goals as goal
 pub returns-then-not-look_again : goal.returns-then-not-look_again
 returns-then-not-look_again g c =
     let i = c.loop-step.invariant in
-    has_served g.C.Component.serves g.C.Component.floor g.C.Component.stepped g.C.Component.greatest c.keeping.ensures c.args.plan.now c.requires.can c.args.crossings.now c.args.post.now c.look_again.new.post
+    has_served g.C.Component.serves g.C.Component.floor g.C.Component.stepped g.C.Component.greatest c.domains_keep_to_the_weave.ensures c.args.plan.now c.requires.can c.args.crossings.now c.args.post.now c.look_again.new.post
     (served_by_looking g.C.Component.stepped c.args.plan.now c.args.crossings.now c.args.post.now c.loop-step.post c.look_again.new.post c.in-Blocked.crossing c.look_again.result i.so_far c.look_again.ensures)
-    (gone_on_looking g.C.Component.serves g.C.Component.floor g.C.Component.stepped g.C.Component.greatest c.keeping.ensures c.args.plan.now c.requires.can c.args.crossings.now c.args.post.now c.loop-step.post c.look_again.new.post
+    (gone_on_looking g.C.Component.serves g.C.Component.floor g.C.Component.stepped g.C.Component.greatest c.domains_keep_to_the_weave.ensures c.args.plan.now c.requires.can c.args.crossings.now c.args.post.now c.loop-step.post c.look_again.new.post
     c.loop-step._step c.next.result i.so_far i.fresh i.goes c.next.ensures (λ key e. blocked_is_no_fire c.in-Blocked.crossing c.in-Blocked.bound key (sym c.in-Blocked.is ∙ e))
     (grows_by_looking g.C.Component.stepped c.args.plan.now c.args.crossings.now c.loop-step.post c.look_again.new.post c.in-Blocked.crossing c.look_again.result c.look_again.ensures))
 
 pub returns-in-Done : goal.returns-in-Done
 returns-in-Done g c =
     let i = c.loop-step.invariant in
-    has_served g.C.Component.serves g.C.Component.floor g.C.Component.stepped g.C.Component.greatest c.keeping.ensures c.args.plan.now c.requires.can c.args.crossings.now c.args.post.now c.loop-step.post i.so_far
-    (gone_on_looking g.C.Component.serves g.C.Component.floor g.C.Component.stepped g.C.Component.greatest c.keeping.ensures c.args.plan.now c.requires.can c.args.crossings.now c.args.post.now c.loop-step.post c.loop-step.post
+    has_served g.C.Component.serves g.C.Component.floor g.C.Component.stepped g.C.Component.greatest c.domains_keep_to_the_weave.ensures c.args.plan.now c.requires.can c.args.crossings.now c.args.post.now c.loop-step.post i.so_far
+    (gone_on_looking g.C.Component.serves g.C.Component.floor g.C.Component.stepped g.C.Component.greatest c.domains_keep_to_the_weave.ensures c.args.plan.now c.requires.can c.args.crossings.now c.args.post.now c.loop-step.post c.loop-step.post
     c.loop-step._step c.next.result i.so_far i.fresh i.goes c.next.ensures (λ key e. done_is_no_fire key (sym c.in-Done.is ∙ e)) (grows_nothing c.loop-step.post.domain.own))
 
 pub loop-step-preserved : goal.loop-step-preserved
 loop-step-preserved g c =
     let i = c.loop-step.invariant in
-    let h : HasStepped g.C.Component.serves g.C.Component.floor g.C.Component.stepped g.C.Component.greatest c.keeping.ensures c.args.plan.now c.requires.can c.args.crossings.now c.args.post.now c.loop-step._step c.loop-step.post =
+    let h : HasStepped g.C.Component.serves g.C.Component.floor g.C.Component.stepped g.C.Component.greatest c.domains_keep_to_the_weave.ensures c.args.plan.now c.requires.can c.args.crossings.now c.args.post.now c.loop-step._step c.loop-step.post =
     record { so_far = i.so_far; fresh = i.fresh; goes = i.goes }
     in
-    let after : HasStepped g.C.Component.serves g.C.Component.floor g.C.Component.stepped g.C.Component.greatest c.keeping.ensures c.args.plan.now c.requires.can c.args.crossings.now c.args.post.now (c.loop-step._step + 1) c.match-next.post =
+    let after : HasStepped g.C.Component.serves g.C.Component.floor g.C.Component.stepped g.C.Component.greatest c.domains_keep_to_the_weave.ensures c.args.plan.now c.requires.can c.args.crossings.now c.args.post.now (c.loop-step._step + 1) c.match-next.post =
     elim c.match-next.branch [
       | in-Fire w ↦
-          subst (HasStepped g.C.Component.serves g.C.Component.floor g.C.Component.stepped g.C.Component.greatest c.keeping.ensures c.args.plan.now c.requires.can c.args.crossings.now c.args.post.now (c.loop-step._step + 1)) (sym w.post-is)
-          (stepped_by_firing g.C.Component.serves g.C.Component.floor g.C.Component.stepped g.C.Component.greatest c.keeping.ensures c.args.plan.now c.requires.can c.args.crossings.now c.args.post.now c.loop-step.post w.fire_and_publish.new.post
+          subst (HasStepped g.C.Component.serves g.C.Component.floor g.C.Component.stepped g.C.Component.greatest c.domains_keep_to_the_weave.ensures c.args.plan.now c.requires.can c.args.crossings.now c.args.post.now (c.loop-step._step + 1)) (sym w.post-is)
+          (stepped_by_firing g.C.Component.serves g.C.Component.floor g.C.Component.stepped g.C.Component.greatest c.domains_keep_to_the_weave.ensures c.args.plan.now c.requires.can c.args.crossings.now c.args.post.now c.loop-step.post w.fire_and_publish.new.post
           c.loop-step._step h w.fire_and_publish.ensures)
       | in-Blocked+else-not-look_again w ↦
-          subst (HasStepped g.C.Component.serves g.C.Component.floor g.C.Component.stepped g.C.Component.greatest c.keeping.ensures c.args.plan.now c.requires.can c.args.crossings.now c.args.post.now (c.loop-step._step + 1)) (sym w.post-is)
-          (stepped_by_looking g.C.Component.serves g.C.Component.floor g.C.Component.stepped g.C.Component.greatest c.keeping.ensures c.args.plan.now c.requires.can c.args.crossings.now c.args.post.now c.loop-step.post w.look_again.new.post
+          subst (HasStepped g.C.Component.serves g.C.Component.floor g.C.Component.stepped g.C.Component.greatest c.domains_keep_to_the_weave.ensures c.args.plan.now c.requires.can c.args.crossings.now c.args.post.now (c.loop-step._step + 1)) (sym w.post-is)
+          (stepped_by_looking g.C.Component.serves g.C.Component.floor g.C.Component.stepped g.C.Component.greatest c.domains_keep_to_the_weave.ensures c.args.plan.now c.requires.can c.args.crossings.now c.args.post.now c.loop-step.post w.look_again.new.post
           c.loop-step._step c.next.result h c.next.ensures (λ key e. blocked_is_no_fire w.in-Blocked.crossing w.in-Blocked.bound key (sym w.in-Blocked.is ∙ e)) w.in-Blocked.crossing w.look_again.result w.look_again.ensures)
     ]
     in

@@ -15,10 +15,10 @@ loop-index-preserved g c =
     elim c.match-earliest.branch [
       | in-Some w ↦
           subst (IsFrontSo c.args.plan.now c.args.domains.now _) (sym (w.front-is ∙ ap (λ n. Some n) w.earlier.ensures))
-          (front_next g.C.Component.serves g.C.Component.floor g.C.Component.stepped g.C.Component.greatest c.keeping.ensures c.args.plan.now c.requires.can c.args.domains.now c.requires.kept c.loop-index.index v at c.loop-index.front
+          (front_next g.C.Component.serves g.C.Component.floor g.C.Component.stepped g.C.Component.greatest c.domains_keep_to_the_weave.ensures c.args.plan.now c.requires.can c.args.domains.now c.requires.kept c.loop-index.index v at c.loop-index.front
           c.loop-index.invariant w.in-Some.key (sym c.earliest.ensures ∙ w.in-Some.is))
       | in_default w ↦
           subst (IsFrontSo c.args.plan.now c.args.domains.now _) (sym w.front-is)
-          (front_past g.C.Component.serves g.C.Component.floor g.C.Component.stepped g.C.Component.greatest c.keeping.ensures c.args.plan.now c.requires.can c.args.domains.now c.requires.kept c.loop-index.index v at c.loop-index.front
+          (front_past g.C.Component.serves g.C.Component.floor g.C.Component.stepped g.C.Component.greatest c.domains_keep_to_the_weave.ensures c.args.plan.now c.requires.can c.args.domains.now c.requires.kept c.loop-index.index v at c.loop-index.front
           c.loop-index.invariant (sym c.earliest.ensures ∙ no_key c.earliest.result w.in_default.not-Some))
     ]

@@ -6,7 +6,7 @@ use Rattle.weave_run.proofs.rounds.run_here.Goals as goal
 
 pub loop-number-preserved : goal.loop-number-preserved
 loop-number-preserved g c =
-    one_ran g.C.Component.serves g.C.Component.floor g.C.Component.stepped g.C.Component.greatest c.keeping.ensures c.args.plan.now c.requires.can c.args.domains.now c.loop-number.domains c.run_domain.new.domains c.loop-number.number
+    one_ran g.C.Component.serves g.C.Component.floor g.C.Component.stepped g.C.Component.greatest c.domains_keep_to_the_weave.ensures c.args.plan.now c.requires.can c.args.domains.now c.loop-number.domains c.run_domain.new.domains c.loop-number.number
     c.loop-number.invariant c.run_domain.ensures
 
 pub returns : goal.returns
@@ -14,7 +14,7 @@ returns g c =
     let count = c.domains-number-end.ensures.count in
     let end = c.loop-number-test.false in
     let parts = ap (λ (p : Partition). length p.events) c.requires.parts in
-    all_ran g.C.Component.serves g.C.Component.floor g.C.Component.stepped g.C.Component.greatest c.keeping.ensures c.args.plan.now c.requires.can c.args.domains.now c.loop-number.domains c.loop-number.number
+    all_ran g.C.Component.serves g.C.Component.floor g.C.Component.stepped g.C.Component.greatest c.domains_keep_to_the_weave.ensures c.args.plan.now c.requires.can c.args.domains.now c.loop-number.domains c.loop-number.number
     c.loop-number.invariant (omega (arith, count, end, parts))
 
 pub loop-number-init : goal.loop-number-init

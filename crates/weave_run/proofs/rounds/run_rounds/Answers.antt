@@ -16,7 +16,7 @@ run_round-requires-clause-met g c κs within =
     ap (λ (vs : List (DomainValue g.row.C.Denot)). least_start_of c.args.plan.now.graph.value c.args.plan.now.parts.value (owns_of vs)) (sym c.deref.ensures.value) ∙ (sym c.front_of.ensures.front ∙ c.in-Some.is)
     in
     subst (AreMet g.C.Component.stepped c.args.plan.now) (sym (c.raise_floors.ensures ∙ ap (λ (n : ℕ). with_floors n c.loop-round.domains.items) c.max-floor.ensures))
-    (lifted_met g.C.Component.serves g.C.Component.floor g.C.Component.stepped g.C.Component.greatest c.keeping.ensures c.args.plan.now c.requires.can c.loop-round.domains.items c.loop-round.floor c.loop-round.round c.loop-round.invariant.so_far
+    (lifted_met g.C.Component.serves g.C.Component.floor g.C.Component.stepped g.C.Component.greatest c.domains_keep_to_the_weave.ensures c.args.plan.now c.requires.can c.loop-round.domains.items c.loop-round.floor c.loop-round.round c.loop-round.invariant.so_far
     c.in-Some.front least)
 
 pub loop-round-preserved : goal.loop-round-preserved
@@ -30,7 +30,7 @@ loop-round-preserved g c =
     in
     record {
       so_far = subst (λ (n : ℕ). HasRounds g.C.Component.stepped c.args.plan.now c.run_round.new.domains.items n (c.loop-round.round + 1)) (sym c.max-floor.ensures)
-          (next_round g.C.Component.serves g.C.Component.floor g.C.Component.stepped g.C.Component.greatest c.keeping.ensures c.args.plan.now c.requires.can c.loop-round.domains.items c.loop-round.floor c.loop-round.round c.loop-round.invariant.so_far
+          (next_round g.C.Component.serves g.C.Component.floor g.C.Component.stepped g.C.Component.greatest c.domains_keep_to_the_weave.ensures c.args.plan.now c.requires.can c.loop-round.domains.items c.loop-round.floor c.loop-round.round c.loop-round.invariant.so_far
           c.in-Some.front least c.run_round.new.domains.items c.in-Some.ensures.small ran);
       team = c.run_round.ensures.team;
     }
@@ -39,7 +39,7 @@ pub returns-clause-all : goal.returns-clause-all
 returns-clause-all g c =
     let end = c.loop-round-test.false in
     let count = c.requires.events in
-    all_fired g.C.Component.serves g.C.Component.floor g.C.Component.stepped g.C.Component.greatest c.keeping.ensures c.args.plan.now c.requires.can c.loop-round.domains.items c.loop-round.floor c.loop-round.round c.loop-round.invariant.so_far
+    all_fired g.C.Component.serves g.C.Component.floor g.C.Component.stepped g.C.Component.greatest c.domains_keep_to_the_weave.ensures c.args.plan.now c.requires.can c.loop-round.domains.items c.loop-round.floor c.loop-round.round c.loop-round.invariant.so_far
     (omega (arith, end, count))
 
 pub run_round-requires-clause-team : goal.run_round-requires-clause-team

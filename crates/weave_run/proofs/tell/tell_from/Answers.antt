@@ -9,7 +9,7 @@ tell_all-requires-clause-there g c =
     let i = c.loop-next.invariant in
     let source : c.args.source < length c.loop-next.domains = (let s = c.requires.source in let l = c.loop-next.auto.domains in omega (arith, s, l)) in
     let within : c.loop-next.next < length (own_in c.args.domains.now c.args.source).fired = (let t = c.loop-next-test.true in let n = i.count in omega (arith, t, n)) in
-    entry_below g.C.Component.serves g.C.Component.floor g.C.Component.stepped g.C.Component.greatest c.keeping.ensures c.args.plan.now c.requires.can c.args.domains.now c.loop-next.domains i.so_far.kept i.so_far.learn c.args.source source
+    entry_below g.C.Component.serves g.C.Component.floor g.C.Component.stepped g.C.Component.greatest c.domains_keep_to_the_weave.ensures c.args.plan.now c.requires.can c.args.domains.now c.loop-next.domains i.so_far.kept i.so_far.learn c.args.source source
     c.from-in-loop-next.result c.from-in-loop-next.ensures c.index-domains-from-in-loop-next.result c.fired.result.now c.fired.ensures c.loop-next.next within (record { number = 0; start = 0; finish = 0 })
 
 pub tell_all-requires-clause-finish : goal.tell_all-requires-clause-finish
@@ -17,7 +17,7 @@ tell_all-requires-clause-finish g c =
     let i = c.loop-next.invariant in
     let source : c.args.source < length c.loop-next.domains = (let s = c.requires.source in let l = c.loop-next.auto.domains in omega (arith, s, l)) in
     let within : c.loop-next.next < length (own_in c.args.domains.now c.args.source).fired = (let t = c.loop-next-test.true in let n = i.count in omega (arith, t, n)) in
-    entry_finish g.C.Component.serves g.C.Component.floor g.C.Component.stepped g.C.Component.greatest c.keeping.ensures c.args.plan.now c.requires.can c.args.domains.now c.loop-next.domains i.so_far.kept i.so_far.learn c.args.source source
+    entry_finish g.C.Component.serves g.C.Component.floor g.C.Component.stepped g.C.Component.greatest c.domains_keep_to_the_weave.ensures c.args.plan.now c.requires.can c.args.domains.now c.loop-next.domains i.so_far.kept i.so_far.learn c.args.source source
     c.from-in-loop-next.result c.from-in-loop-next.ensures c.index-domains-from-in-loop-next.result c.fired.result.now c.fired.ensures c.loop-next.next within (record { number = 0; start = 0; finish = 0 })
 
 pub loop-next-preserved : goal.loop-next-preserved
@@ -26,7 +26,7 @@ loop-next-preserved g c =
     let source : c.args.source < length c.loop-next.domains = (let s = c.requires.source in let l = c.loop-next.auto.domains in omega (arith, s, l)) in
     let within : c.loop-next.next < length (own_in c.args.domains.now c.args.source).fired = (let t = c.loop-next-test.true in let n = i.count in omega (arith, t, n)) in
     record {
-      so_far = next_done g.C.Component.serves g.C.Component.floor g.C.Component.stepped g.C.Component.greatest c.keeping.ensures c.args.plan.now c.requires.can c.args.domains.now c.loop-next.domains i.so_far.kept i.so_far.learn c.args.source
+      so_far = next_done g.C.Component.serves g.C.Component.floor g.C.Component.stepped g.C.Component.greatest c.domains_keep_to_the_weave.ensures c.args.plan.now c.requires.can c.args.domains.now c.loop-next.domains i.so_far.kept i.so_far.learn c.args.source
           source c.from-in-loop-next.result c.from-in-loop-next.ensures c.index-domains-from-in-loop-next.result c.fired.result.now c.fired.ensures c.loop-next.next within (record { number = 0; start = 0; finish = 0 }) c.args.place
           c.tell_all.new.domains i.so_far c.tell_all.ensures;
       count = i.count;

@@ -1,6 +1,6 @@
 use Rattle.rv_decode.proofs.FamilyLemmas.{and-ones}
 use Rattle.rv_decode.proofs.WordLemmas.{and-sum}
-use Rattle.rv_decode.proofs.laws.masks.Goals as goal
+use Rattle.rv_decode.proofs.laws.masks_add_up.Goals as goal
 
 pub returns-clause-bits : goal.returns-clause-bits
 returns-clause-bits c = and-ones

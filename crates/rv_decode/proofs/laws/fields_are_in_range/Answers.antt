@@ -1,5 +1,5 @@
 use Rattle.rv_decode.proofs.RangeLemmas.{in_range, registers}
-use Rattle.rv_decode.proofs.laws.ranges.Goals as goal
+use Rattle.rv_decode.proofs.laws.fields_are_in_range.Goals as goal
 
 pub returns-clause-registers : goal.returns-clause-registers
 returns-clause-registers c = registers

@@ -13,7 +13,7 @@ use Rattle.weave_core.specs.Keeping.{CanWeave}
 use Rattle.weave_core.proofs.FromLaws.{here, order_of, served_of}
 use Rattle.weave_core.proofs.Keeping.{Facts}
 use Rattle.weave_core.proofs.Ending.{keeping}
-use Rattle.weave_core.proofs.laws.keeping.Goals as goal
+use Rattle.weave_core.proofs.laws.domains_keep_to_the_weave.Goals as goal
 
 pub returns : goal.returns
 returns g c =

@@ -1,5 +1,5 @@
 use Rattle.rv_decode.proofs.RangeLemmas.{names_once, name_with_format, value_of_listed, format_of_listed, instruction-name}
-use Rattle.rv_decode.proofs.laws.names.Goals as goal
+use Rattle.rv_decode.proofs.laws.each_name_has_one_row.Goals as goal
 
 pub returns-clause-once : goal.returns-clause-once
 returns-clause-once c = names_once
