@@ -2,7 +2,7 @@
 use Rattle.std.proofs.Common.{◌≡◌, ◌∙◌, ℕ, length, map, Bool, ap, not, refl, sym, arith}
 use Rattle.std.specs.List.{range_with_len}
 use Rattle.std.proofs.lemmas.List.{length-map}
-use Rattle.bound_core.specs.TimedCore.{NumberedCore}
+use Rattle.bound_core.specs.NumberedCores.{NumberedCore}
 use Rattle.machine_desc.specs.declared.machine.Machine.{Machine}
 use Rattle.stats.specs.Counts.{Counts}
 use Rattle.replay.specs.declared.simulation.Simulation.{Simulation}
