@@ -18,7 +18,7 @@ use Rattle.access_log.specs.RecordedOrder.{no_stamps}
 use Rattle.shard_table.specs.Access.{AreAllSeats, AreNewSeats, AreWhole, IsSeatOf, SeatState, TableState, entries_of_seats, recorded_entries}
 use Rattle.bound_core.specs.History.{AreTurnsOf, IsHistory, after_history, after_turn}
 use Rattle.bound_core.specs.ShardWorld.{restarted}
-use Rattle.bound_core.specs.TimedCore.{TimedCore, ran_to}
+use Rattle.bound_core.specs.TimedCore.{TimedCore, beside_cycles, ran_to}
 use Rattle.bound_core.specs.NumberedCores.{NumberedCore, timed_of}
 use Rattle.bound_phase.specs.declared.member.Member.{Member}
 use Rattle.bound_core.specs.Turn.{IsOver}
@@ -256,12 +256,12 @@ module _ (time : Entry → ℕ) (image : MemoryImage) (end : ℕ) (t : TableStat
     each_entry P each = all_flat P (λ (seat : SeatState). seat.entries) seats_now (all_at (λ (s : SeatState). All P s.entries) seats_now (λ i s at.
         let n = made_at (λ (m : Member). m.seat) now i s at in subst (λ (x : SeatState). All P x.entries) n.2 (each i n.0 n.1)))
 
-    pub have_ended : (m : Machine) → t.cores ≡ m.cores → t.room ≡ m.interval + 258 → HaveEndedInterval m end first (map (λ m. m.core) now) entries
+    pub have_ended : (m : Machine) → t.cores ≡ m.cores → t.room ≡ m.interval + beside_cycles → HaveEndedInterval m end first (map (λ m. m.core) now) entries
     have_ended m cores_are room_is = record {
       over = each_left (IsOver end) (λ i n at. (was i n at).4.over);
       starts = all_recorded (λ (e : Entry). e.start ≤ end + 2 ^ 28) (entries_of_seats seats_now) (each_entry (λ (e : Entry). e.start ≤ end + 2 ^ 28) (λ i n at. (was i n at).4.starts));
       few =
-          subst (λ (k : ℕ). length entries ≤ k * (m.interval + 258)) cores_are
+          subst (λ (k : ℕ). length entries ≤ k * (m.interval + beside_cycles)) cores_are
           (subst (λ (k : ℕ). length entries ≤ t.cores * k) room_is (subst (λ (k : ℕ). k ≤ t.cores * t.room) (sym (length_recorded (entries_of_seats seats_now))) few_entries));
       few_each = λ core below.
           let n = some_at now core (omega (arith, below, size, cores_are)) in

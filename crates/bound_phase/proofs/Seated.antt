@@ -8,7 +8,7 @@ use Rattle.shard.specs.Served.{ShardState}
 use Rattle.shard_table.specs.Access.{AreNewSeats, SeatState, TableState}
 use Rattle.bound_core.specs.ShardPort.{AreShardsOf, IsShardAt}
 use Rattle.bound_core.specs.ShardWorld.{restarted}
-use Rattle.bound_core.specs.TimedCore.{TimedCore}
+use Rattle.bound_core.specs.TimedCore.{TimedCore, beside_cycles}
 use Rattle.bound_core.specs.NumberedCores.{NumberedCore, timed_of}
 use Rattle.bound_phase.specs.Bounds.{HaveNewSeats, CanBound, HasConsoleRoom, IsBeforeInterval}
 use Rattle.bound_phase.proofs.Ending.{all_here, made_at}
@@ -44,8 +44,8 @@ shards_restarted cores base size shards are = record {
 }
 
 pub seated : (m : Machine) (end : ℕ) (t : TableState) (first cores : List NumberedCore) (shards : List ShardState) (seats : List SeatState) → CanBound m end first shards
-    → length cores ≡ length first → timed_of cores ≡ timed_of first → map (λ c. c.number) cores ≡ map (λ c. c.number) first → All (HasConsoleRoom (m.interval + 258)) cores
-    → t.cores ≡ m.cores → t.shards ≡ map restarted shards → t.room ≡ m.interval + 258 → AreNewSeats t seats → HaveNewSeats m end t cores seats
+    → length cores ≡ length first → timed_of cores ≡ timed_of first → map (λ c. c.number) cores ≡ map (λ c. c.number) first → All (HasConsoleRoom (m.interval + beside_cycles)) cores
+    → t.cores ≡ m.cores → t.shards ≡ map restarted shards → t.room ≡ m.interval + beside_cycles → AreNewSeats t seats → HaveNewSeats m end t cores seats
 seated m end t first cores shards seats can size timed numbers room cores_are shards_are room_is new = record {
   count = size ∙ (can.count ∙ sym cores_are);
   cores_are = cores_are;
@@ -53,7 +53,7 @@ seated m end t first cores shards seats can size timed numbers room cores_are sh
       let x = agreed_at (λ (y : NumberedCore). y.timed) first cores number c timed at in
       let y = agreed_at (λ (z : NumberedCore). z.number) first cores number c numbers at in (
         moved m end x.0 c x.2 (all_here (IsBeforeInterval m end) first number x.0 can.at_start x.1),
-        all_here (HasConsoleRoom (m.interval + 258)) cores number c room at,
+        all_here (HasConsoleRoom (m.interval + beside_cycles)) cores number c room at,
         y.2 ∙ can.numbers number y.0 y.1,
       );
   seats_new = new;

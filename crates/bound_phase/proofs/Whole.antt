@@ -10,6 +10,7 @@ use Rattle.machine_desc.specs.declared.machine.Machine.{Machine}
 use Rattle.elf_load.specs.MemoryImage.{MemoryImage}
 use Rattle.shard_table.specs.Access.{IsSeatOf, SeatState, TableState}
 use Rattle.bound_core.specs.ShardPort.{AreShardsOf}
+use Rattle.bound_core.specs.TimedCore.{beside_cycles}
 use Rattle.bound_core.specs.NumberedCores.{NumberedCore}
 use Rattle.bound_phase.specs.declared.crew.Crew.{Crew}
 use Rattle.bound_phase.specs.declared.member.Member.{Member}
@@ -42,13 +43,13 @@ agreed_at f (x ∷ xs) (z ∷ ys) (suc i) y same at = agreed_at f xs ys i y (res
 
 -- ---- the cores of a machine, with new seats
 
-module _ (m : Machine) (end : ℕ) (t : TableState) (shards : AreShardsOf t.cores t.shards m.memory.base m.memory.size) (small : end ≤ 2 ^ 60) (room : t.room ≡ m.interval + 258) where
+module _ (m : Machine) (end : ℕ) (t : TableState) (shards : AreShardsOf t.cores t.shards m.memory.base m.memory.size) (small : end ≤ 2 ^ 60) (room : t.room ≡ m.interval + beside_cycles) where
   abbrev Can : Member → Type 0
   Can = CanRun t m.memory end
 
   -- a core that can run, but for its seat
   abbrev Ready : NumberedCore → ℕ → Type 0
-  Ready c number = IsBeforeInterval m end c × HasConsoleRoom (m.interval + 258) c × (c.number ≡ number) × (number < t.cores)
+  Ready c number = IsBeforeInterval m end c × HasConsoleRoom (m.interval + beside_cycles) c × (c.number ≡ number) × (number < t.cores)
 
   pub can_all : (base : ℕ) (cores : List NumberedCore) (seats : List SeatState) → ((i : ℕ) (c : NumberedCore) → slice_get cores i ≡ Some c → Ready c (base + i))
       → ((i : ℕ) (s : SeatState) → slice_get seats i ≡ Some s → IsSeatOf t s × (s.core ≡ base + i) × (s.entries ≡ [])) → All Can (mates cores seats)
@@ -59,7 +60,7 @@ module _ (m : Machine) (end : ℕ) (t : TableState) (shards : AreShardsOf t.core
       let one = ready 0 c refl in
       let seat = new 0 s refl in
       let start : IsBeforeInterval m end c = one.0 in
-      let spare : m.interval + 258 ≤ c.spare = one.1 in
+      let spare : m.interval + beside_cycles ≤ c.spare = one.1 in
       All-cons Can (record { core = c; seat = s }) (mates cores seats) (record {
         of_table = seat.0;
         core_is = seat.1 ∙ sym one.2;

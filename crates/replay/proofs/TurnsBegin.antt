@@ -12,7 +12,7 @@ use Rattle.machine_desc.specs.declared.machine.Machine.{Machine}
 use Rattle.machine_desc.specs.Machine.{IsMachine}
 use Rattle.bound_core.specs.ShardPort.{base_of, room_of, size_of}
 use Rattle.bound_core.specs.ShardWorld.{shards_serve}
-use Rattle.bound_core.specs.TimedCore.{TimedCore}
+use Rattle.bound_core.specs.TimedCore.{TimedCore, beside_cycles}
 use Rattle.bound_core.specs.NumberedCores.{NumberedCore}
 use Rattle.bound_core.specs.IntervalBounds.{latest_clock, most_accesses}
 use Rattle.bound_core.specs.Turn.{IsOver}
@@ -44,7 +44,7 @@ few_by machine end base size c ready None is =
       | inr late ↦ inl (record { idle = ready.idle; over = inr late })
     ]
 
-ready_goes : (machine : Machine) (end base size : ℕ) (c : NumberedCore) → end ≤ 2 ^ 34 → CanRunInterval machine end base size c.timed → machine.interval + 258 ≤ c.spare → IsOnItsWay end base size (core_most machine) c
+ready_goes : (machine : Machine) (end base size : ℕ) (c : NumberedCore) → end ≤ 2 ^ 34 → CanRunInterval machine end base size c.timed → machine.interval + beside_cycles ≤ c.spare → IsOnItsWay end base size (core_most machine) c
 ready_goes machine end base size c small ready spare = record {
   few = few_by machine end base size c.timed ready c.timed.core.halted refl;
   clock = omega (arith, latest_idle end c.timed ready.idle, ready.clock, small);
@@ -55,7 +55,7 @@ ready_goes machine end base size c small ready spare = record {
 
 pub turns_begin : (time : Entry → ℕ) (machine : Machine) (image : MemoryImage) (end : ℕ) (cores : List NumberedCore) (port : LoggedPortState) → IsMachine machine → end ≤ 2 ^ 34
     → ((i : ℕ) (c : NumberedCore) → slice_get cores i ≡ Some c → CanRunInterval machine end (base_of port.world) (size_of port.world) c.timed)
-    → ((i : ℕ) (c : NumberedCore) → slice_get cores i ≡ Some c → machine.interval + 258 ≤ c.spare)
+    → ((i : ℕ) (c : NumberedCore) → slice_get cores i ≡ Some c → machine.interval + beside_cycles ≤ c.spare)
     → length cores ≡ machine.cores → AreNumbered cores → length port.world.stamps ≡ machine.cores → port.entries ≡ [] → access_room machine ≤ min (room_of port.world) port.room
     → HaveTaken time image end (all_most machine) (phase_of cores port) [] cores port
 turns_begin time machine image end cores port is small ready spare count numbered stamps none room =

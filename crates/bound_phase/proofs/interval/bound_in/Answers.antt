@@ -3,6 +3,7 @@ use Rattle.zs_num.specs.declared.entry.Entry.{Entry}
 use Rattle.access_log.specs.Logs.{HaveDistinctKeys, LogState, entries_of_logs}
 use Rattle.access_log.specs.RecordedOrder.{recorded_order}
 use Rattle.shard_table.specs.Access.{AreAllSeats, AreWhole, SeatState, TableState, entries_of_seats, recorded_entries}
+use Rattle.bound_core.specs.TimedCore.{beside_cycles}
 use Rattle.bound_core.specs.NumberedCores.{NumberedCore}
 use Rattle.bound_phase.specs.declared.member.Member.{Member}
 use Rattle.bound_phase.specs.Bounds.{HaveNewSeats, HaveEndedInterval, IsBound}
@@ -55,7 +56,7 @@ merge-entries-requires-clause-room g c =
     let count : length cores ≡ t.cores = size ∙ (c.requires.can.count ∙ sym table.1) in
     let logs = c.close-shards.ensures.logs ∙ ap (map (λ (s : SeatState). s.entries)) back.seats_are in
     let few = few_all (g.X.Expand.time c.args.expansion.now) (g.P.Program.image c.args.program.now) c.args.end t cores seats back.now back.ran count c.in-Ok-make_over.ensures.seats c.close-shards.result.1.items logs in
-    let room : t.room ≡ m.interval + 258 = search rules in
+    let room : t.room ≡ m.interval + beside_cycles = search rules in
     let product : t.cores * t.room ≡ c.in-Ok.memory.merger = ap (λ (p : ℕ × ℕ). p.0 * p.1) (λ i. (table.1 i, room i)) ∙ sym c.in-Ok.ensures.merger in
     subst (λ (n : ℕ). length (entries_of_logs c.deref.result.now) ≤ n) product (subst (λ (ls : List LogState). length (entries_of_logs ls) ≤ t.cores * t.room) (sym c.deref.ensures.value) few)
 
@@ -115,7 +116,7 @@ returns-in-Ok-make_over-clause-ended g c =
     let logs = c.close-shards.ensures.logs ∙ ap (map (λ (s : SeatState). s.entries)) back.seats_are in
     let flat = flat_logs (g.X.Expand.time c.args.expansion.now) (g.P.Program.image c.args.program.now) c.args.end t cores seats back.now back.ran count c.in-Ok-make_over.ensures.seats c.close-shards.result.1.items logs in
     let all_of_them = subst (λ (ss : List SeatState). AreWhole t (recorded_entries ss) ss c.close-shards.result.0.items) back.seats_are c.close-shards.ensures.whole in
-    let room : t.room ≡ m.interval + 258 = search rules in
+    let room : t.room ≡ m.interval + beside_cycles = search rules in
     let it = have_ended (g.X.Expand.time c.args.expansion.now) (g.P.Program.image c.args.program.now) c.args.end t cores seats back.now back.ran count c.in-Ok-make_over.ensures.seats c.args.cores.items c.args.shards.items c.close-shards.result.0.items
     (c.new.ensures.timed ∙ ap (map (λ (x : NumberedCore). x.timed)) now_cores) (c.new.ensures.number ∙ ap (map (λ (x : NumberedCore). x.number)) now_cores) c.requires.can.shards_are.some table.0 all_of_them
     c.rising_lists_stay.ensures c.cores_decide_the_order.ensures m table.1 room in

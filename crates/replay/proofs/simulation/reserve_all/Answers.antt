@@ -1,5 +1,6 @@
 use Rattle.std.proofs.Common.{◌≤◌, ◌+◌, subst, arith}
 use Rattle.std.proofs.lemmas.Option.{get_or_from_slice_get, slice_get_within}
+use Rattle.bound_core.specs.TimedCore.{beside_cycles}
 use Rattle.bound_core.specs.NumberedCores.{NumberedCore}
 use Rattle.replay.proofs.Cores.{same_numbers, same_timed}
 use Rattle.replay.proofs.simulation.reserve_all.Goals as goal
@@ -14,5 +15,5 @@ pub returns-clause-spare : goal.returns-clause-spare
 returns-clause-spare c = λ i core here.
     let own = get_or_from_slice_get c.loop-number.cores i core core here in
     let within = slice_get_within c.loop-number.cores i core here in
-    subst (λ (x : NumberedCore). c.args.machine.now.interval + 258 ≤ x.spare) own
+    subst (λ (x : NumberedCore). c.args.machine.now.interval + beside_cycles ≤ x.spare) own
     (c.loop-number.invariant.done i core (omega (arith, within, c.loop-number-test.false, c.loop-number.auto.number-end, c.loop-number.auto.cores)))
