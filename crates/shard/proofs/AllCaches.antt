@@ -316,7 +316,7 @@ module _ (shards l1_ways l2_ways : ℕ) (l1 : List CoreLines) (l2 : List SharedL
   pub list_step : (list : List (ℕ × Bool)) → AreLists shards l1_ways l2_ways l1 (set l2 i (record s { list = list }))
   list_step list = step_shared shards l1_ways l2_ways l1 l2 are line i s (record s { list = list }) at_place is refl refl
 
-  -- the line that makes room
+  -- the line that is evicted
   pub victim_is : l2_victim before line ≡ victim_of s.ways s.list
   victim_is = rw (list_is, set_is.same_ways) refl
 
@@ -370,7 +370,7 @@ module _ (shards l1_ways l2_ways : ℕ) (l1 : List CoreLines) (l2 : List SharedL
   pub letter_is : (line : ℕ) → letter_at (lists_view shards l1_ways l2_ways l1 l2) core line ≡ own_letter old line
   letter_is line = letter_at_core shards l1_ways l2_ways l1 l2 core line old is below_cores core_is.same_shards
 
-  -- the line that makes room for another
+  -- the line that is evicted for another
   pub own_victim_is : (line : ℕ) → own_victim (lists_view shards l1_ways l2_ways l1 l2) core line ≡ victim_of old.ways (copies_of old line)
   own_victim_is line = rw (core_sets shards l1_ways l2_ways l1 l2 core old is below_cores, core_is.same_ways, core_is.same_shards) refl
 

@@ -116,7 +116,7 @@ module _ {X : Type 0} where
   kept_take_other line (suc n) (x ∷ s) w e l h =
       ap (λ (o : Option X). cond (eqb line x.0) (Some x.1) o) (kept_take_other line n s w e (omega arith) h)
 
-  -- where no line leaves, the others are kept
+  -- where no line is evicted, the others are kept
   pub kept_filled_room : (ways line other : ℕ) (v : X) (s : List (ℕ × X)) → 1 ≤ ways → victim_of ways s ≡ None → line ≢ other → kept_of line (filled ways other v s) ≡ kept_of line s
   kept_filled_room zero line other v s w none h = absurd (omega arith)
   kept_filled_room (suc n) line other v s w none h =

@@ -40,7 +40,7 @@ pub letter-kept : (q : ℕ) (s : WaySet) → letter_in q (copies_in s) ≡ mark_
 letter-kept q s = ap (λ (o : Option Letter). unwrap_or o I) (kept-as letter_of q s.list) ∙ unwrap_letter (kept_of q s.list)
 
 -- ---- one set
--- after a change at a line: another mark for it, and nothing of the line that makes room
+-- after a change at a line: another mark for it, and nothing of the line that is evicted
 pub record IsEdit (line : ℕ) (victim : Option (ℕ × ℕ)) (mark : Option ℕ) (old new : WaySet) : Type 0 where
   pub is_set : IsWaySet new
   pub same_ways : new.ways ≡ old.ways
@@ -271,7 +271,7 @@ module _ (shards ways : ℕ) (sets : List WaySet) (are : AreCoreSets shards ways
       (step (record { ways = old.ways; list = filled old.ways line (mark_of letter) old.list }) (filled_edit line letter old old_core.is_set (not_there absent) k) (filled ways line (letter_of (mark_of letter)))
       (filled-as letter_of old.ways line (mark_of letter) old.list ∙ ap (λ (n : ℕ). filled n line (letter_of (mark_of letter)) (copies_in old)) old_core.same_ways)))
 
-  -- the line that makes room, of this set
+  -- the line that is evicted, of this set
   pub last_placed : (v : ℕ × ℕ) → victim_of old.ways old.list ≡ Some v → set_number shards v.0 (map copies_in sets) ≡ set_number shards line (map copies_in sets)
   last_placed v at =
       rw (length-map sets copies_in) (are.placed i v.0 old inside (subst (λ (s : WaySet). IsSome (kept_of v.0 s.list)) is (last_kept (old.ways - 1) old.list v at)) ∙ place)

@@ -11,7 +11,7 @@ use Rattle.std.proofs.lemmas.Map.Keys.{IsDistinct-head, IsDistinct-tail}
 use Rattle.std.proofs.lemmas.Map.Made.{lookup-map_values}
 use Rattle.cache_set.specs.Ways.{kept_of, without, used, filled, changed, victim_of}
 
--- what is kept of a line once the line that makes room is gone
+-- what is kept of a line after an eviction
 abbrev pub kept_without : {X : Type 0} → (victim : Option (ℕ × X)) → (line : ℕ) → Option X → Option X
 kept_without None line kept = kept
 kept_without (Some victim) line kept = cond (nat_eq line victim.0) None kept

@@ -222,7 +222,7 @@ first_fits core line letter c k there f = record {
   l2 = f.l2;
 }
 
--- what a victim's way out leaves of the L1s
+-- what an eviction leaves of the L1s
 pub record SameL1 (c d : Caches) : Type 0 where
   pub ways : c.l1_ways ≡ d.l1_ways
   pub fits : Fits c

@@ -74,7 +74,7 @@ module _ (n number : ℕ) (some : 0 < n) (d : Caches) where
     unfolding kept_first
     first_apart core letter = own_apart core (λ copies. (line, letter) ∷ without line copies)
 
-  -- ---- steps with a line that leaves
+  -- ---- steps that evict a line
   back_apart : (c : Caches) → Part n number c d → (victim : Option (ℕ × Letter)) → ((w : ℕ × Letter) → victim ≡ Some w → w.0 % n ≢ number) → Part n number (written_back victim c) d
   back_apart c p None h = p
   back_apart c p (Some w) h =
@@ -90,7 +90,7 @@ module _ (n number : ℕ) (some : 0 < n) (d : Caches) where
   dirtied_apart line other c p false = p
 
   module _ (line : ℕ) (other : line % n ≢ number) where
-    -- a line that leaves is another shard's as well
+    -- a line that is evicted is another shard's as well
     l2_victim_other : (c : Caches) → Part n number c d → Placed c → (w : ℕ × Bool) → l2_victim c line ≡ Some w → w.0 % n ≢ number
     l2_victim_other c p placed w e same =
         let k : ℕ = set_number c.shards line c.l2 in

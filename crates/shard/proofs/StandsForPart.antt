@@ -56,7 +56,7 @@ module _ (n number : ℕ) (c d : Caches) (p : Part n number c d) (line : ℕ) (i
       rw (p.cores) (list_any_same (λ other. not (eqb other core) && test (letter_at c other line)) (λ other. not (eqb other core) && test (letter_at d other line))
       (λ other. ap (λ (l : Letter). not (eqb other core) && test l) (letter_same other)) 0 (length c.l1))
 
-  -- a line that leaves is the shard's as well
+  -- a line that is evicted is the shard's as well
   pub l2_victim_number : 0 < n → Placed c → (w : ℕ × Bool) → l2_victim c line ≡ Some w → w.0 % n ≡ number
   l2_victim_number some placed w e =
       let k : ℕ = set_number c.shards line c.l2 in

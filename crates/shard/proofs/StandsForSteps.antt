@@ -79,7 +79,7 @@ module _ (n number : ℕ) (some : 0 < n) where
     unfolding kept_first
     first_part core letter = own_part core (λ copies. (line, letter) ∷ without line copies)
 
-  -- ---- steps with a line that leaves
+  -- ---- steps that evict a line
   back_part : (c d : Caches) → Part n number c d → (victim : Option (ℕ × Letter)) → ((w : ℕ × Letter) → victim ≡ Some w → w.0 % n ≡ number) → Part n number (written_back victim c) (written_back victim d)
   back_part c d p None h = p
   back_part c d p (Some w) h =
