@@ -64,7 +64,7 @@ impl Port for WrittenBytes {
 
     ghost gives = { λ p start request e q. ⊤ };
 
-    ghost told = { λ p. None };
+    ghost logged = { λ p. None };
 
     fn access(&mut self, start: Cycle, request: Request) -> Entry {
         let reply = match request {
