@@ -84,16 +84,33 @@ count_from pieces before (e ∷ entries) =
 pub count_events : (pieces : Entry → List Piece) (entries : List Entry) → length (all_events pieces entries) ≡ sum_by (λ e. length (pieces e)) entries
 count_events pieces entries = count_from pieces [] entries ∙ zero-add (sum_by (λ e. length (pieces e)) entries)
 
--- the events of one access more are within the room for all
-pub few_at : (pieces : Entry → List Piece) (entries items : List Entry) (i : ℕ) (d : Entry) (seen : List Event) (len room : ℕ)
+-- the events of one access more are no more than all
+among_all : (pieces : Entry → List Piece) (entries items : List Entry) (i : ℕ) (d : Entry) (seen : List Event) (len : ℕ)
     → items ≡ entries → i < length items → seen ≡ all_events pieces (take i entries) → len ≡ length seen
-    → sum_by (λ e. length (pieces e)) entries < room → len + length (pieces (get_or items i d)) < room
-few_at pieces entries items i d seen len room same below is long few =
+    → len + length (pieces (get_or items i d)) ≤ sum_by (λ e. length (pieces e)) entries
+among_all pieces entries items i d seen len same below is long =
     let so_far : length seen ≡ sum_by (λ e. length (pieces e)) (take i entries) = ap length is ∙ count_events pieces (take i entries) in
     let inside : i < length entries = rw same at below in
     let within : sum_by (λ e. length (pieces e)) (take i entries) + length (pieces (get_or entries i d)) ≤ sum_by (λ e. length (pieces e)) entries =
     sum_by_more_le (λ (e : Entry). length (pieces e)) entries i d inside in
     rw same (omega arith)
+
+-- .. so they are fewer than a number that all are fewer than
+pub few_at : (pieces : Entry → List Piece) (entries items : List Entry) (i : ℕ) (d : Entry) (seen : List Event) (len many : ℕ)
+    → items ≡ entries → i < length items → seen ≡ all_events pieces (take i entries) → len ≡ length seen
+    → sum_by (λ e. length (pieces e)) entries < many → len + length (pieces (get_or items i d)) < many
+few_at pieces entries items i d seen len many same below is long few = omega (arith, among_all pieces entries items i d seen len same below is long, few)
+
+-- .. and within the room for all
+pub room_at : (pieces : Entry → List Piece) (entries items : List Entry) (i : ℕ) (d : Entry) (seen : List Event) (len room : ℕ)
+    → items ≡ entries → i < length items → seen ≡ all_events pieces (take i entries) → len ≡ length seen
+    → sum_by (λ e. length (pieces e)) entries ≤ room → len + length (pieces (get_or items i d)) ≤ room
+room_at pieces entries items i d seen len room same below is long there = omega (arith, among_all pieces entries items i d seen len same below is long, there)
+
+-- the room for as many as were counted is that for all
+pub room_counted : (pieces : Entry → List Piece) (entries items : List Entry) (count room : ℕ)
+    → items ≡ entries → count ≡ sum_by (λ e. length (pieces e)) items → count ≤ room → sum_by (λ e. length (pieces e)) entries ≤ room
+room_counted pieces entries items count room same is there = rw (sym same) (omega (arith, is, there))
 
 -- where Q holds of each access, what is then true of the events of its pieces is true of all events
 module _ (pieces : Entry → List Piece) (Q : Entry → Type 0) (R : Event → Type 0) (each : (before : List Event) (e : Entry) (k : ℕ) (p : Piece) → Q e → slice_get (pieces e) k ≡ Some p → R (event_at before e (pieces e) k p)) where

@@ -1,5 +1,5 @@
 //! How the events of an interval are made from its accesses.
-ghost use Rattle.std.specs.Prelude.{◌≡◌, ◌+◌, ◌<◌, ◌^◌, ◌++◌, ◌∷◌, [], IfOk, OnOk, All, length, vec_len, sum_by};
+ghost use Rattle.std.specs.Prelude.{◌≡◌, ◌+◌, ◌<◌, ◌≤◌, ◌^◌, ◌++◌, ◌∷◌, [], IfOk, All, length, vec_capacity, vec_len, sum_by};
 ghost use Rattle.std.specs.Option.{ForSome};
 ghost use Rattle.event_graph.specs.EventGraph.{all_events, access_events};
 ghost use Rattle.event_graph.specs.NextEvent.{HasLast, parent_among, next_event};
@@ -82,41 +82,41 @@ fn event_of(
     }
 }
 
-/// Puts an event behind the others, and keeps what is kept of critical events.
-fn push_event(
-    events: &mut Vec<Event>,
-    last: &mut Vec<Option<Critical>>,
-    event: Event,
-) -> Result<(), NoMemory>
+/// Puts an event behind the others, for which there is room, and keeps what is kept of critical
+/// events.
+fn push_event(events: &mut Vec<Event>, last: &mut Vec<Option<Critical>>, event: Event)
+    requires room { vec_len events.old < vec_capacity events.old }
     requires core { event.core < vec_len last.old }
     requires last { HasLast last.old.items events.old.items }
-    ensures pushed { OnOk result (events.new.items ≡ events.old.items ++ event ∷ []) }
-    ensures last { OnOk result (HasLast last.new.items events.new.items) }
+    ensures pushed { events.new.items ≡ events.old.items ++ event ∷ [] }
+    ensures capacity { vec_capacity events.new ≡ vec_capacity events.old }
+    ensures last { HasLast last.new.items events.new.items }
     ensures cores { vec_len last.new ≡ vec_len last.old }
 {
-    events.push(event)?;
+    events.push_reserved(event);
     if event.critical {
         last[usize::from(event.core)] = Some(Critical {
             number: event.number,
             finish: event.min_finish,
         });
     }
-    Ok(())
 }
 
-/// Puts the events of an access behind those of the accesses before it.
+/// Puts the events of an access behind those of the accesses before it. There is room for them.
 fn add_access<X: Expand>(
     events: &mut Vec<Event>,
     last: &mut Vec<Option<Critical>>,
     expansion: &X,
     entry: &Entry,
-) -> Result<(), NoMemory>
+)
+    requires room { vec_len events.old + length (X.pieces expansion.now entry.now) ≤ vec_capacity events.old }
     requires core { entry.now.core < vec_len last.old }
     requires last { HasLast last.old.items events.old.items }
     requires start { entry.now.start < 2 ^ 62 }
     requires few { vec_len events.old + length (X.pieces expansion.now entry.now) < 2 ^ 32 }
-    ensures added { OnOk result (events.new.items ≡ events.old.items ++ access_events events.old.items entry.now (X.pieces expansion.now entry.now)) }
-    ensures last { OnOk result (HasLast last.new.items events.new.items) }
+    ensures added { events.new.items ≡ events.old.items ++ access_events events.old.items entry.now (X.pieces expansion.now entry.now) }
+    ensures capacity { vec_capacity events.new ≡ vec_capacity events.old }
+    ensures last { HasLast last.new.items events.new.items }
     ensures cores { vec_len last.new ≡ vec_len last.old }
 {
     let base = events.len() as u32;
@@ -130,9 +130,8 @@ fn add_access<X: Expand>(
             last: place + 1 == count,
         };
         let event = event_of(events, earlier, entry, position, piece);
-        push_event(events, last, event)?;
+        push_event(events, last, event);
     }
-    Ok(())
 }
 
 /// How many events the accesses are made of.
@@ -161,11 +160,11 @@ pub fn build<X: Expand>(
 {
     let mut last = Vec::with_capacity(alloc, usize::from(cores))?;
     for _core in 0..cores {
-        last.push(None)?;
+        last.push_reserved(None);
     }
     let mut events = Vec::with_capacity(alloc, count_events(expansion, entries.as_slice()))?;
     for entry in entries.as_slice() {
-        add_access(&mut events, &mut last, expansion, entry)?;
+        add_access(&mut events, &mut last, expansion, entry);
     }
     Ok(Graph::of(events))
 }

@@ -22,15 +22,16 @@ loop-place-preserved g c =
     sym (get_or_from_slice_get last.items entry.core c.index-earlier.result.now None (slice_get_read last.items (length last.items) entry.core c.index-earlier.result.now refl there read))
     ∙ c.requires.last.at entry.core there in
     let base : c.len-base.result ≡ length before.items = omega (arith, before.ok.0) in
-    let pushed = c.in_ok-push_event.ensures.pushed in
+    let pushed = c.push_event.ensures.pushed in
     let grown : length c.push_event.new.events.items ≡ length c.loop-place.events.items + 1 = ap length pushed ∙ length-append c.loop-place.events.items (c.event_of-event.result ∷ []) in
     let long : vec_len c.push_event.new.events ≡ vec_len before + (c.loop-place.place + 1) = omega (arith, grown, c.push_event.new.events.ok.0, c.loop-place.events.ok.0) in (
       place_done before.items entry (g.X.Expand.pieces c.args.expansion.now entry) c.loop-place.place c.piece-piece.result law c.piece-piece.ensures
           c.loop-place.events.items c.deref.result.now c.push_event.new.events.items c.index-earlier.result.now c.len-base.result c.count-count.result c.event_of-event.result
           c.loop-place.invariant.0 c.deref.ensures.value kept base c.count-count.ensures c.event_of-event.ensures pushed,
       long,
-      c.in_ok-push_event.ensures.last,
-      omega (arith, c.in_ok-push_event.ensures.cores),
+      c.push_event.ensures.last,
+      omega (arith, c.push_event.ensures.cores),
+      c.push_event.ensures.capacity ∙ c.loop-place.invariant.4,
     )
 
 pub event_of-event-requires-clause-number : goal.event_of-event-requires-clause-number
@@ -55,7 +56,7 @@ event_of-event-requires-clause-second g c i is =
     omega (arith, earlier, c.deref.ensures.len, c.loop-place.invariant.1, c.len-base.ensures)
 
 pub loop-place-init : goal.loop-place-init
-loop-place-init g c = (sym (append-nil c.args.events.now.items), omega arith, c.requires.last, refl)
+loop-place-init g c = (sym (append-nil c.args.events.now.items), omega arith, c.requires.last, refl, refl)
 
 pub returns-clause-added : goal.returns-clause-added
 returns-clause-added g c =

@@ -5,5 +5,5 @@ use Rattle.event_graph.proofs.builder.push_event.Goals as goal
 pub returns-then-event-clause-last : goal.returns-then-event-clause-last
 returns-then-event-clause-last c =
     let there : c.args.event.core < length c.args.last.now.items = omega (arith, c.args.last.now.ok.0) in
-    rw (c.in_ok-push.ensures.items, c.from.ensures)
+    rw (c.push_reserved.ensures.items, c.from.ensures)
     (kept_of_pushed c.args.last.now.items c.args.events.now.items c.args.event there c.requires.last c.if-event.true)
