@@ -62,16 +62,16 @@ pub(crate) fn begin(alloc: Global, events: &[Event]) -> Result<Beginning, NoMemo
     let mut waits = Vec::with_capacity(alloc, count)?;
     let mut ready = ReadyHeap::with_room(alloc, count)?;
     for event in events {
-        first.add(event)?;
-        second.add(event)?;
+        first.add(event);
+        second.add(event);
         let start = earliest_start(event);
         let parents = parents(event);
-        times.push(Fired {
+        times.push_reserved(Fired {
             number: event.number,
             start,
             finish: 0,
-        })?;
-        waits.push(parents)?;
+        });
+        waits.push_reserved(parents);
         if parents == 0 {
             ready.push(Key {
                 start,

@@ -1,5 +1,5 @@
 //! The children of each event.
-ghost use Rattle.std.specs.Prelude.{◌≡◌, ◌<◌, ◌++◌, ◌∷◌, [], length, replicate, IfOk, IfSome, OnOk};
+ghost use Rattle.std.specs.Prelude.{◌≡◌, ◌<◌, ◌≤◌, ◌++◌, ◌∷◌, [], length, replicate, vec_capacity, vec_len, IfOk, IfSome};
 ghost use Rattle.weave_seq.specs.Chains.{last_child, parent_in, with_last_child};
 
 use event_graph::{Event, Parent};
@@ -23,11 +23,12 @@ pub(crate) struct Children {
 }
 
 impl Children {
-    /// No children yet of so many events.
+    /// No children yet of so many events, and room for them all.
     pub(crate) fn none(alloc: Global, slot: ParentSlot, events: usize) -> Result<Self, NoMemory>
         ensures slot { IfOk result (λ it. it.slot ≡ slot) }
         ensures last { IfOk result (λ it. it.last.items ≡ replicate events 0) }
         ensures before { IfOk result (λ it. it.before.items ≡ []) }
+        ensures room { IfOk result (λ it. events ≤ vec_capacity it.before) }
     {
         Ok(Children {
             slot,
@@ -36,16 +37,17 @@ impl Children {
         })
     }
 
-    /// Makes the next event the last child of its parent.
-    pub(crate) fn add(&mut self, event: &Event) -> Result<(), NoMemory>
-        requires { IfSome (parent_in self.old.slot event.now) (λ p. p.number < length self.old.last.items) }
+    /// Makes the next event the last child of its parent. No memory is taken.
+    pub(crate) fn add(&mut self, event: &Event)
+        requires room { vec_len self.old.before < vec_capacity self.old.before }
+        requires parent { IfSome (parent_in self.old.slot event.now) (λ p. p.number < length self.old.last.items) }
         ensures slot { self.new.slot ≡ self.old.slot }
-        ensures last { OnOk result (self.new.last.items ≡ with_last_child self.old.last.items (parent_in self.old.slot event.now) event.now.number) }
-        ensures before { OnOk result (self.new.before.items ≡ self.old.before.items ++ last_child self.old.last.items (parent_in self.old.slot event.now) ∷ []) }
+        ensures last { self.new.last.items ≡ with_last_child self.old.last.items (parent_in self.old.slot event.now) event.now.number }
+        ensures before { self.new.before.items ≡ self.old.before.items ++ last_child self.old.last.items (parent_in self.old.slot event.now) ∷ [] }
+        ensures capacity { vec_capacity self.new.before ≡ vec_capacity self.old.before }
     {
         let earlier = link(&mut self.last, parent(event, self.slot), event.number);
-        self.before.push(earlier)?;
-        Ok(())
+        self.before.push_reserved(earlier);
     }
 }
 

@@ -1,5 +1,5 @@
--- The events so far are linked, and what waits for no parent is ready.
-use Rattle.std.proofs.Common.{◌≡◌, ◌≤◌, [], length, map, take}
+-- The events so far are linked, what waits for no parent is ready, and there is room for all.
+use Rattle.std.proofs.Common.{◌≡◌, ◌≤◌, [], length, map, take, vec_capacity}
 use Rattle.event_graph.specs.OneListWeave.{finish_in}
 use Rattle.weave_seq.specs.declared.children.ParentSlot.TheVariants.{First, Second}
 use Rattle.weave_seq.specs.Chains.{AreChains, parents_in}
@@ -19,4 +19,8 @@ invariant-loop-event l = record {
   waits_size : length l.waits.items ≡ l.event-index;
   keys : AreSameKeys (ready_keys 0 l.times.items l.waits.items) l.ready.list;
   room : length l.events ≤ l.ready.room;
+  first_room : length l.events ≤ vec_capacity l.first.before;
+  second_room : length l.events ≤ vec_capacity l.second.before;
+  times_room : length l.events ≤ vec_capacity l.times;
+  waits_room : length l.events ≤ vec_capacity l.waits;
 }
