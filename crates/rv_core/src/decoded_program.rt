@@ -1,5 +1,5 @@
 //! A program whose words are decoded once.
-ghost use Rattle.std.specs.Prelude.{◌≡◌, ◌+◌, ◌*◌, ◌^◌, ◌≤◌, All, IfOk, IfSome};
+ghost use Rattle.std.specs.Prelude.{◌≡◌, ◌+◌, ◌≤◌, All, vec_capacity, vec_len, IfOk, IfSome};
 ghost use Rattle.rv_core.specs.Fetch.{fetched_at};
 ghost use Rattle.rv_core.specs.Decoded.{HasRegisters, IsDecodedWord};
 
@@ -102,18 +102,7 @@ impl<'a> DecodedProgram<'a> {
             place,
             count,
         })?;
-        for k in 0..count as u64 {
-            self.decode(first.wrapping_add(WORD * k))?;
-        }
-        Ok(())
-    }
-
-    /// Decodes the word at an address.
-    fn decode(&mut self, pc: u64) -> Result<(), NoMemory>
-        ensures { self.new ≡ self.old }
-    {
-        let fetched = self.image.fetch(&mut 0, pc);
-        self.words.push(DecodedWord { pc, fetched })?;
+        decode(&mut self.words, self.image, first, count);
         Ok(())
     }
 
@@ -128,6 +117,21 @@ impl<'a> DecodedProgram<'a> {
             Some(word) if word.pc == pc => Some(&word.fetched),
             _ => None,
         }
+    }
+}
+
+/// Decodes so many words, from an address on, behind those that are decoded. There is room for
+/// them.
+fn decode(words: &mut Vec<DecodedWord>, image: &Image, first: u64, count: usize)
+    requires room { vec_len words.old + count ≤ vec_capacity words.old }
+    requires before { All (IsDecodedWord image.now) words.old.items }
+    ensures { All (IsDecodedWord image.now) words.new.items }
+{
+    let mut pc = first;
+    for _ in 0..count {
+        let fetched = image.fetch(&mut 0, pc);
+        words.push_reserved(DecodedWord { pc, fetched });
+        pc = pc.wrapping_add(WORD);
     }
 }
 
