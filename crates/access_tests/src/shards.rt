@@ -1,7 +1,7 @@
 //! Accesses of two cores to one shard, with outcomes, letters and stamps worked by hand on the
 //! numbers of the built-in machine: two sets of one way in each core's own cache, and four of two
 //! ways in the shared one.
-ghost use Rattle.std.specs.Prelude.{◌≡◌, ◌%◌, ◌<◌, ◌≤◌, length, IfOk, IsTrue};
+ghost use Rattle.std.specs.Prelude.{◌≡◌, ◌%◌, ◌<◌, ◌≤◌, length, IfOk, IsTrue, false};
 ghost use Rattle.zs_num.specs.Request.{addr_of, bank_of_line, line_at};
 ghost use Rattle.zs_num.specs.Servable.{IsServable};
 
@@ -51,7 +51,7 @@ enum Access {
 
 impl Access {
     fn request(self) -> Request
-        ensures { addr_of result % 8 ≡ 0 → 65536 ≤ addr_of result → addr_of result < 1114112 → IsServable 65536 1048576 result }
+        ensures { addr_of result % 8 ≡ 0 → 65536 ≤ addr_of result → addr_of result < 1114112 → IsServable 65536 1048576 false result }
     {
         match self {
             Load(addr) => Request::Load { addr, width: 8 },

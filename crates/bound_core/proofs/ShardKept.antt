@@ -5,7 +5,7 @@ use Rattle.std.proofs.lemmas.List.{length-map, length-set}
 use Rattle.std.proofs.lemmas.List.FromFn.{length-enumerate_from}
 use Rattle.zs_num.specs.declared.entry.Entry.{Entry}
 use Rattle.zs_num.specs.declared.request.Request.{Request}
-use Rattle.zs_num.specs.declared.request.Request.TheVariants.{Load, Store, Lr, Sc, Amo}
+use Rattle.zs_num.specs.declared.request.Request.TheVariants.{Load, Store, Lr, Sc, Amo, Fetch}
 use Rattle.flat_memory.specs.declared.reservation.Reservation.{Reservation}
 use Rattle.flat_memory.specs.FlatMemory.{after_write, unless_written}
 use Rattle.shard.specs.Marks.{does_store, marks_after}
@@ -29,6 +29,7 @@ length-marks_after marks core (Lr addr width) = length-set marks core _
 length-marks_after marks core (Sc addr width value paired) =
     length-set (cond (does_store marks core addr width paired) (after_write core addr marks) marks) core None ∙ length-one_of (does_store marks core addr width paired) core addr marks
 length-marks_after marks core (Amo op addr width value) = length-after_write core addr marks
+length-marks_after marks core (Fetch addr) = refl
 
 module _ (shard : ShardState) (e : Entry) where
   pub marks_kept : length (shard_after shard e).marks ≡ length shard.marks

@@ -1,5 +1,5 @@
 -- Ports over a bare list of shards.
-use Rattle.std.proofs.Common.{mod-lt, length-set, take, drop, ◌++◌, ◌≡◌, ◌≤◌, ◌<◌, ◌+◌, ℕ, zero, suc, max, List, [], ◌∷◌, length, map, get_or, Some, refl, ap, sym, ◌∙◌, subst, arith}
+use Rattle.std.proofs.Common.{mod-lt, length-set, take, drop, ◌++◌, ◌≡◌, ◌≤◌, ◌<◌, ◌+◌, ℕ, zero, suc, max, List, [], ◌∷◌, length, map, get_or, Some, refl, ap, sym, ◌∙◌, subst, arith, false}
 use Rattle.std.specs.Prelude.{◌%◌, slice_get, slice_index, slice_index_or, slice_set, unwrap_or}
 use Rattle.std.proofs.Math.Seq.{take-append_seam}
 use Rattle.std.proofs.lemmas.Option.{slice_get-get_or}
@@ -128,12 +128,12 @@ module _ (w : ShardWorld) (core start : ℕ) (request : Request) where
       here ∙ (ap (λ (k : ℕ). get_or w.shards k x) is ∙ get_or_default w.shards n x no_shard (mod-lt (line_of request) some))
 
   -- what a port may be asked can be asked of the shard
-  pub can_serve : IsShardPort (record { world = w; core = core }) → IsServable (base_of w) (size_of w) request → CanServe (shard_for w.shards request) request
+  pub can_serve : IsShardPort (record { world = w; core = core }) → IsServable (base_of w) (size_of w) false request → CanServe (shard_for w.shards request) request
   unfolding CanServe
   can_serve port servable =
       let at = port.shards.each n (shard_for w.shards request) (shard_there port.shards.some) in (
-        subst (λ (base : ℕ). IsServable base (shard_for w.shards request).size request) (sym at.base_is)
-            (subst (λ (size : ℕ). IsServable (base_of w) size request) (sym at.size_is) servable),
+        subst (λ (base : ℕ). IsServable base (shard_for w.shards request).size false request) (sym at.base_is)
+            (subst (λ (size : ℕ). IsServable (base_of w) size false request) (sym at.size_is) servable),
         ap (λ (count : ℕ). line_of request % count) at.count ∙ sym at.number_is,
       )
 

@@ -1,5 +1,5 @@
 -- One turn over shards and over the machine for which they stand.
-use Rattle.std.proofs.Common.{◌≡◌, ℕ, ◌<◌, List, [], ◌∷◌, map, length, All, Option, Some, refl, sym, ◌∙◌, ap, subst, arith}
+use Rattle.std.proofs.Common.{◌≡◌, ℕ, ◌<◌, List, [], ◌∷◌, map, length, All, Option, Some, refl, sym, ◌∙◌, ap, subst, arith, false}
 use Rattle.std.specs.Prelude.{slice_get, slice_index, slice_set}
 use Rattle.std.proofs.lemmas.List.{length-map, length-set, map-set}
 use Rattle.std.proofs.lemmas.List.Elements.{All-cons, All-head, All-map, All-nil, All-set, All-tail, All-weaker}
@@ -44,7 +44,7 @@ same_head x y xs ys same = cc
 
 -- of a core that waits for an access of a sound instruction
 module _ (laws : CoreLaws) (c : CoreState) (sound : IsSoundCore c) (now : InProgress) (is : c.instruction ≡ Some now) where
-  pub waits_served : IsServable c.memory.base c.memory.size now.next
+  pub waits_served : IsServable c.memory.base c.memory.size false now.next
   waits_served = let served = sound.served in (rw is at served).0
 
 -- ---- the turn
@@ -66,14 +66,14 @@ module _ (laws : CoreLaws) (step : ShardsStandForAMachine) (marks_law : MarksAre
   waiting : (now : InProgress) × (ran.core.instruction ≡ Some now) × (now.next ≡ request)
   waiting = waits_for ran.core.instruction request asked
 
-  servable : IsServable r.memory.base (length r.memory.bytes) request
+  servable : IsServable r.memory.base (length r.memory.bytes) false request
   servable =
-      let own : IsServable ran.core.memory.base ran.core.memory.size waiting.0.next = waits_served laws ran.core stays.sound waiting.0 waiting.1 in
+      let own : IsServable ran.core.memory.base ran.core.memory.size false waiting.0.next = waits_served laws ran.core stays.sound waiting.0 waiting.1 in
       let based : ran.core.memory.base ≡ r.memory.base = ap (λ (x : _). x.base) stays.memory ∙ is_core.base_is in
       let sized : ran.core.memory.size ≡ length r.memory.bytes = ap (λ (x : _). x.size) stays.memory ∙ is_core.size_is in
-      subst (IsServable r.memory.base (length r.memory.bytes)) waiting.2
-      (subst (λ (n : ℕ). IsServable r.memory.base n waiting.0.next) sized
-      (subst (λ (n : ℕ). IsServable n ran.core.memory.size waiting.0.next) based own))
+      subst (IsServable r.memory.base (length r.memory.bytes) false) waiting.2
+      (subst (λ (n : ℕ). IsServable r.memory.base n false waiting.0.next) sized
+      (subst (λ (n : ℕ). IsServable n ran.core.memory.size false waiting.0.next) based own))
 
   -- its shard
   pub there : (shard : ShardState) × (slice_get w.shards (bank_of (length w.shards) request) ≡ Some shard)

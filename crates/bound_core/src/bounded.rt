@@ -238,7 +238,7 @@ impl BoundCore {
         requires room { 1 ≤ Q.room port.old }
         requires spare { 1 ≤ self.old.spare }
         requires clock { self.old.timed.clock ≤ 2 ^ 62 }
-        requires servable { IsServable (Q.base port.old) (Q.size port.old) request }
+        requires servable { IsServable (Q.base port.old) (Q.size port.old) false request }
         ensures given { Q.gives port.old self.old.timed.clock request result port.new }
         ensures left { self.new.timed ≡ core_after_access (X.time expansion.now) result self.old.timed }
         ensures core { result.core ≡ self.old.number }

@@ -1,5 +1,5 @@
 //! What serves the accesses of a core.
-ghost use Rattle.std.specs.Prelude.{◌≡◌, ◌+◌, ◌≤◌, ℕ, List, [], ◌∷◌, Option};
+ghost use Rattle.std.specs.Prelude.{◌≡◌, ◌+◌, ◌≤◌, ℕ, List, [], ◌∷◌, Option, false};
 ghost use Rattle.zs_num.specs.declared.entry.Entry.{Entry};
 ghost use Rattle.zs_num.specs.declared.request.Request.{Request};
 ghost use Rattle.zs_num.specs.Servable.{IsServable};
@@ -29,7 +29,7 @@ pub trait Port {
     /// Serves an access that starts then.
     fn access(&mut self, start: Cycle, request: Request) -> Entry
         requires room { 1 ≤ room self.old }
-        requires servable { IsServable (base self.old) (size self.old) request }
+        requires servable { IsServable (base self.old) (size self.old) false request }
         ensures gives { gives self.old start request result self.new }
         ensures core { result.core ≡ core self.old }
         ensures start { result.start ≡ start }

@@ -1,5 +1,5 @@
 -- What a core of a machine asks can be asked of the machine's shards.
-use Rattle.std.proofs.Common.{◌≡◌, ◌<◌, ◌%◌, ℕ, zero, suc, List, [], ◌∷◌, length, sym, ◌∙◌, ap, refl, subst, arith, mod-lt}
+use Rattle.std.proofs.Common.{◌≡◌, ◌<◌, ◌%◌, ℕ, zero, suc, List, [], ◌∷◌, length, sym, ◌∙◌, ap, refl, subst, arith, mod-lt, false}
 use Rattle.std.specs.Prelude.{slice_get, Some}
 use Rattle.zs_num.specs.declared.request.Request.{Request}
 use Rattle.zs_num.specs.Request.{line_of, bank_of}
@@ -14,14 +14,14 @@ some_at (x ∷ xs) zero within = (x, refl)
 some_at (x ∷ xs) (suc i) within = some_at xs i (omega (arith, within))
 
 can_serve : (shards cores number base size : ℕ) (shard : ShardState) (request : Request) → IsShardAt shards cores number base size shard → number ≡ line_of request % shards
-    → IsServable base size request → CanServe shard request
+    → IsServable base size false request → CanServe shard request
 unfolding CanServe
 can_serve shards cores number base size shard request at is servable = (
-  subst (λ (n : ℕ). IsServable n shard.size request) (sym at.base_is) (subst (λ (n : ℕ). IsServable base n request) (sym at.size_is) servable),
+  subst (λ (n : ℕ). IsServable n shard.size false request) (sym at.base_is) (subst (λ (n : ℕ). IsServable base n false request) (sym at.size_is) servable),
   ap (λ (n : ℕ). line_of request % n) at.count ∙ (sym is ∙ sym at.number_is),
 )
 
-pub may_ask : (cores core base size : ℕ) (shards : List ShardState) (request : Request) → AreShardsOf cores shards base size → core < cores → IsServable base size request → MayAsk shards core request
+pub may_ask : (cores core base size : ℕ) (shards : List ShardState) (request : Request) → AreShardsOf cores shards base size → core < cores → IsServable base size false request → MayAsk shards core request
 may_ask cores core base size shards request are known servable =
     let number : ℕ = bank_of (length shards) request in
     let found = some_at shards number (mod-lt (line_of request) are.some) in

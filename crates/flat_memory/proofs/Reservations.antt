@@ -2,7 +2,7 @@
 use Rattle.std.proofs.Common.{◌≡◌, ◌≢◌, ◌==◌, ◌∙◌, ℕ, Bool, true, false, cond, Option, Some, None, inl, inr, refl, sym, ap}
 use Rattle.std.proofs.lemmas.Bool.Decides.{eqb_tells}
 use Rattle.std.proofs.lemmas.List.{get_or-set_other}
-use Rattle.zs_num.specs.declared.request.Request.TheVariants.{Load, Store, Lr, Sc, Amo}
+use Rattle.zs_num.specs.declared.request.Request.TheVariants.{Load, Store, Lr, Sc, Amo, Fetch}
 use Rattle.flat_memory.specs.declared.reservation.Reservation.{Reservation}
 use Rattle.flat_memory.specs.FlatMemory.{MemoryState, is_reserved, reserving, unless_written, written}
 use Rattle.flat_memory.specs.Laws.{reservation_of, OthersEndByWrites}
@@ -43,3 +43,4 @@ others_end_by_writes memory core other (Lr addr width) apart = others_keep memor
 others_end_by_writes memory core other (Sc addr width value paired) apart =
     after_conditional memory core other addr width value (is_reserved memory other addr width) apart
 others_end_by_writes memory core other (Amo op addr width value) apart = after_others memory core other addr width _ apart
+others_end_by_writes memory core other (Fetch addr) apart = refl

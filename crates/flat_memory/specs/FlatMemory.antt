@@ -6,7 +6,7 @@ use Rattle.std.specs.List.{enumerate_from}
 use Rattle.byteorder.specs.Endian.{little_bytes, little_number}
 use Rattle.zs_num.specs.Request.{line_at}
 use Rattle.zs_num.specs.declared.request.Request.{Request}
-use Rattle.zs_num.specs.declared.request.Request.TheVariants.{Load, Store, Lr, Sc, Amo}
+use Rattle.zs_num.specs.declared.request.Request.TheVariants.{Load, Store, Lr, Sc, Amo, Fetch}
 use Rattle.elf_load.specs.MemoryImage.{MemoryImage, bytes_from}
 use Rattle.rv_alu.specs.Atomic.{new_number}
 use Rattle.flat_memory.specs.declared.reservation.Reservation.{Reservation}
@@ -63,17 +63,18 @@ written memory core addr width value = record memory {
 abbrev pub reserving : MemoryState → (core : ℕ) → Option Reservation → MemoryState
 reserving memory core reservation = record memory { reservations = slice_set memory.reservations core reservation }
 
--- What an access of a core is answered: a load, a load-reserved and an atomic operation the number, a store 0, and a
--- store-conditional 0 where the core has reserved the bytes and else 1.
+-- What an access of a core is answered: a load, a load-reserved and an atomic operation the number, a store and a fetch
+-- 0, and a store-conditional 0 where the core has reserved the bytes and else 1.
 abbrev pub memory_reply : MemoryState → (core : ℕ) → Request → ℕ
 memory_reply memory core (Load addr width) = memory_number memory addr width
 memory_reply memory core (Store addr width value) = 0
 memory_reply memory core (Lr addr width) = memory_number memory addr width
 memory_reply memory core (Sc addr width value paired) = if is_reserved memory core addr width then 0 else 1
 memory_reply memory core (Amo op addr width value) = memory_number memory addr width
+memory_reply memory core (Fetch addr) = 0
 
 -- The memory after an access. A store-conditional stores only where the core has reserved the bytes, and ends what it
--- has reserved in any case.
+-- has reserved in any case. A fetch changes nothing.
 abbrev pub memory_after : MemoryState → (core : ℕ) → Request → MemoryState
 memory_after memory core (Load addr width) = memory
 memory_after memory core (Store addr width value) = written memory core addr width value
@@ -82,3 +83,4 @@ memory_after memory core (Sc addr width value paired) =
     if is_reserved memory core addr width then reserving (written memory core addr width value) core None else reserving memory core None
 memory_after memory core (Amo op addr width value) =
     written memory core addr width (new_number op width (memory_number memory addr width) value)
+memory_after memory core (Fetch addr) = memory

@@ -2,7 +2,7 @@
 use Rattle.std.specs.Prelude.{◌≡◌, ◌≢◌, ◌⊎◌, ℕ, ◌+◌, ◌-◌, ◌%◌, ◌^◌, ◌<◌, ◌≤◌, Bool, true, false, if◌then◌else◌, length, slice_index, slice_index_or, Option, None}
 use Rattle.zs_num.specs.Request.{addr_of, line_at}
 use Rattle.zs_num.specs.declared.request.Request.{Request}
-use Rattle.zs_num.specs.declared.request.Request.TheVariants.{Load, Store, Lr, Sc, Amo}
+use Rattle.zs_num.specs.declared.request.Request.TheVariants.{Load, Store, Lr, Sc, Amo, Fetch}
 use Rattle.flat_memory.specs.declared.reservation.Reservation.{Reservation}
 use Rattle.flat_memory.specs.FlatMemory.{MemoryState, is_reserved, memory_after, memory_reply, unless_written}
 
@@ -45,9 +45,15 @@ does_write memory core (Store addr width value) = true
 does_write memory core (Lr addr width) = false
 does_write memory core (Sc addr width value paired) = is_reserved memory core addr width
 does_write memory core (Amo op addr width value) = true
+does_write memory core (Fetch addr) = false
 
 -- what a core has reserved ends where another core writes to its line, and by nothing else that another core does
 abbrev pub OthersEndByWrites : Type 0
 OthersEndByWrites = (memory : MemoryState) (core other : ℕ) (request : Request) → other ≢ core
     → reservation_of (memory_after memory other request) core
     ≡ (if does_write memory other request then unless_written false (addr_of request) (reservation_of memory core) else reservation_of memory core)
+
+-- a fetch is answered 0, and leaves memory as it was
+abbrev pub FetchesChangeNothing : Type 0
+FetchesChangeNothing = (memory : MemoryState) (core addr : ℕ)
+    → (memory_reply memory core (Fetch addr) ≡ 0) × (memory_after memory core (Fetch addr) ≡ memory)

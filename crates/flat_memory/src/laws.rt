@@ -1,5 +1,5 @@
 //! Laws over the definitions alone, each the contract of a function that does nothing.
-ghost use Rattle.flat_memory.specs.Laws.{ConditionalFailsAfterOthersStore, ConditionalStoresAfterReserved, LoadGivesWhatWasStored, OthersEndByWrites, StoreLeavesOtherBytes};
+ghost use Rattle.flat_memory.specs.Laws.{ConditionalFailsAfterOthersStore, ConditionalStoresAfterReserved, FetchesChangeNothing, LoadGivesWhatWasStored, OthersEndByWrites, StoreLeavesOtherBytes};
 
 /// A load of what a store stored gives the number's low bytes.
 pub fn stored_is_loaded()
@@ -26,4 +26,9 @@ pub fn a_store_between_ends_a_pair()
 /// another core does.
 pub fn others_end_by_writes()
     ensures { OthersEndByWrites }
+{}
+
+/// A fetch is answered 0, and changes neither the bytes of memory nor what is reserved.
+pub fn fetches_change_nothing()
+    ensures { FetchesChangeNothing }
 {}

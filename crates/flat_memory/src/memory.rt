@@ -1,5 +1,5 @@
 //! Memory as one list of bytes.
-ghost use Rattle.std.specs.Prelude.{◌≡◌, ◌+◌, ◌-◌, ◌≤◌, ◌<◌, length, slice_index, IfOk, IsTrue};
+ghost use Rattle.std.specs.Prelude.{◌≡◌, ◌+◌, ◌-◌, ◌≤◌, ◌<◌, true, length, slice_index, IfOk, IsTrue};
 ghost use Rattle.zs_num.specs.Servable.{IsServable};
 ghost use Rattle.flat_memory.specs.FlatMemory.{is_reserved as is_reserved_by, loaded, memory_after, memory_number, memory_reply, written};
 
@@ -59,7 +59,7 @@ impl FlatMemory {
     #[inline]
     pub fn serve(&mut self, core: u16, request: Request) -> u64
         requires core { core < length self.old.reservations }
-        requires servable { IsServable self.old.base (length self.old.bytes) request }
+        requires servable { IsServable self.old.base (length self.old.bytes) true request }
         ensures reply { result ≡ memory_reply self.old core request }
         ensures after { self.new ≡ memory_after self.old core request }
         ensures base { self.new.base ≡ self.old.base }
@@ -92,6 +92,7 @@ impl FlatMemory {
                 self.write(core, addr, width, amo(op, width, old, value));
                 old
             }
+            Request::Fetch { .. } => 0,
         }
     }
 

@@ -1,5 +1,5 @@
 //! Accesses of two cores on known numbers, in 4,096 bytes of memory from 0x10000 on.
-ghost use Rattle.std.specs.Prelude.{◌≡◌, ◌<◌, length, IsTrue};
+ghost use Rattle.std.specs.Prelude.{◌≡◌, ◌<◌, length, IsTrue, true};
 ghost use Rattle.zs_num.specs.Servable.{IsServable};
 
 use crate::checks::is_number;
@@ -22,7 +22,7 @@ struct Small {
 
 /// Whether the small memory can be asked this.
 fn is_servable(request: &Request) -> bool
-    ensures { IsTrue result → IsServable 0x10000 4096 request.now }
+    ensures { IsTrue result → IsServable 0x10000 4096 true request.now }
 {
     let (addr, width) = (request.addr(), u64::from(request.width()));
     let is_there = addr >= BASE && addr - BASE + width <= BYTES;
@@ -59,7 +59,7 @@ impl Small {
     /// Serves an access of a core, and answers its reply.
     fn serve(&mut self, core: u16, request: Request) -> u64
         requires core { core < 2 }
-        requires servable { IsServable 0x10000 4096 request }
+        requires servable { IsServable 0x10000 4096 true request }
     {
         self.memory.serve(core, request)
     }

@@ -17,6 +17,7 @@ load_served memory addr begins ends = record {
   ends = ends;
   in_line = omega arith;
   aligned = tt;
+  fetched = tt;
 }
 
 pub loads_served : (memory : MemoryRange) (addr count : ℕ) → memory.base ≤ addr → addr + count ≤ memory.base + memory.size → AreServableIn memory (byte_loads addr count)

@@ -5,7 +5,7 @@ use Rattle.std.proofs.Math.Nat.{min-le_right}
 use Rattle.std.proofs.lemmas.Bool.{and_parts, eqb-true, leb-false, leb-true}
 use Rattle.std.proofs.lemmas.List.{get_or-set_other, length-set}
 use Rattle.zs_num.specs.Request.{addr_of, width_of}
-use Rattle.zs_num.specs.Servable.{IsAligned, IsNaturallyAligned}
+use Rattle.zs_num.specs.Servable.{IsAligned, IsNaturallyAligned, MayFetch}
 use Rattle.zs_num.specs.declared.request.Request.{Request}
 use Rattle.rv_decode.specs.declared.inst.Inst.{Inst}
 use Rattle.rv_decode.specs.declared.name.Name.{Name}
@@ -124,10 +124,10 @@ unfolding load_requests
 loads-served memory addr width some few inside =
     served-cond memory (is_in_line addr width) _ _
     (λ e. let fits : addr % 64 + width ≤ 64 = leb-true _ _ e in
-    (record { some = some; few = few; begins = inside.begins; ends = inside.ends; in_line = fits; aligned = tt }, tt))
+    (record { some = some; few = few; begins = inside.begins; ends = inside.ends; in_line = fits; aligned = tt; fetched = tt }, tt))
     (λ e. let past : 64 < addr % 64 + width = leb-false _ _ e in (
-      record { some = omega arith; few = omega arith; begins = inside.begins; ends = omega arith; in_line = omega arith; aligned = tt },
-      (record { some = omega arith; few = omega arith; begins = omega arith; ends = omega arith; in_line = omega arith; aligned = tt }, tt),
+      record { some = omega arith; few = omega arith; begins = inside.begins; ends = omega arith; in_line = omega arith; aligned = tt; fetched = tt },
+      (record { some = omega arith; few = omega arith; begins = omega arith; ends = omega arith; in_line = omega arith; aligned = tt; fetched = tt }, tt),
     ))
 
 stores-served : (memory : MemoryRange) (addr width value : ℕ) → 1 ≤ width → width ≤ 8 → Inside memory addr width → AreServableIn memory (store_requests addr width value)
@@ -135,10 +135,10 @@ unfolding store_requests
 stores-served memory addr width value some few inside =
     served-cond memory (is_in_line addr width) _ _
     (λ e. let fits : addr % 64 + width ≤ 64 = leb-true _ _ e in
-    (record { some = some; few = few; begins = inside.begins; ends = inside.ends; in_line = fits; aligned = tt }, tt))
+    (record { some = some; few = few; begins = inside.begins; ends = inside.ends; in_line = fits; aligned = tt; fetched = tt }, tt))
     (λ e. let past : 64 < addr % 64 + width = leb-false _ _ e in (
-      record { some = omega arith; few = omega arith; begins = inside.begins; ends = omega arith; in_line = omega arith; aligned = tt },
-      (record { some = omega arith; few = omega arith; begins = omega arith; ends = omega arith; in_line = omega arith; aligned = tt }, tt),
+      record { some = omega arith; few = omega arith; begins = inside.begins; ends = omega arith; in_line = omega arith; aligned = tt; fetched = tt },
+      (record { some = omega arith; few = omega arith; begins = omega arith; ends = omega arith; in_line = omega arith; aligned = tt; fetched = tt }, tt),
     ))
 
 loads-paired : (pairing : Option Pairing) (addr width : ℕ) → ArePairedRight pairing (load_requests addr width)
@@ -182,10 +182,10 @@ aligned-in_line addr width (inl four) e = let e' : addr % 4 ≡ 0 = subst (λ w.
 aligned-in_line addr width (inr eight) e = let e' : addr % 8 ≡ 0 = subst (λ w. addr % w ≡ 0) eight e in omega arith
 
 atomic-keeps : (addr width : ℕ) (request : Request) (destination : Destination) (core : CoreState) → IsSoundCore core
-    → addr_of request ≡ addr → width_of request ≡ width → (width ≡ 4) ⊎ (width ≡ 8) → (IsNaturallyAligned addr width → IsAligned request) → IsPairedRight core.pairing request
+    → addr_of request ≡ addr → width_of request ≡ width → (width ≡ 4) ⊎ (width ≡ 8) → (IsNaturallyAligned addr width → IsAligned request) → MayFetch false request → IsPairedRight core.pairing request
     → destination.rd < 32 → destination.width ≡ width → Keeps core (atomic addr width request (ToRegister destination) core)
 unfolding atomic
-atomic-keeps addr width request destination core s same_addr same_width kind aligned paired rd size =
+atomic-keeps addr width request destination core s same_addr same_width kind aligned fetched paired rd size =
     cond-keeps core _ _ (addr % width == 0)
     (λ e. let multiple : addr % width ≡ 0 = eqb-true _ _ e in
     let fits : addr % 64 + width ≤ 64 = aligned-in_line addr width kind multiple in
@@ -200,6 +200,7 @@ atomic-keeps addr width request destination core s same_addr same_width kind ali
         ends = rw (same_addr, same_width) inside.ends;
         in_line = rw (same_addr, same_width) fits;
         aligned = aligned (kind, multiple);
+        fetched = fetched;
       },
       tt,
     ))
@@ -294,25 +295,25 @@ effect-keeps name.Divw i core rd s = goes_to-keeps core i.rd _ (following core) 
 effect-keeps name.Divuw i core rd s = goes_to-keeps core i.rd _ (following core) s
 effect-keeps name.Remw i core rd s = goes_to-keeps core i.rd _ (following core) s
 effect-keeps name.Remuw i core rd s = goes_to-keeps core i.rd _ (following core) s
-effect-keeps name.LrW i core rd s = atomic-keeps (register core i.rs1) 4 _ _ core s refl refl (inl refl) (λ a. a) tt rd refl
-effect-keeps name.ScW i core rd s = atomic-keeps (register core i.rs1) 4 _ _ core s refl refl (inl refl) (λ a. a) refl rd refl
-effect-keeps name.AmoswapW i core rd s = atomic-keeps (register core i.rs1) 4 _ _ core s refl refl (inl refl) (λ a. a) tt rd refl
-effect-keeps name.AmoaddW i core rd s = atomic-keeps (register core i.rs1) 4 _ _ core s refl refl (inl refl) (λ a. a) tt rd refl
-effect-keeps name.AmoxorW i core rd s = atomic-keeps (register core i.rs1) 4 _ _ core s refl refl (inl refl) (λ a. a) tt rd refl
-effect-keeps name.AmoandW i core rd s = atomic-keeps (register core i.rs1) 4 _ _ core s refl refl (inl refl) (λ a. a) tt rd refl
-effect-keeps name.AmoorW i core rd s = atomic-keeps (register core i.rs1) 4 _ _ core s refl refl (inl refl) (λ a. a) tt rd refl
-effect-keeps name.AmominW i core rd s = atomic-keeps (register core i.rs1) 4 _ _ core s refl refl (inl refl) (λ a. a) tt rd refl
-effect-keeps name.AmomaxW i core rd s = atomic-keeps (register core i.rs1) 4 _ _ core s refl refl (inl refl) (λ a. a) tt rd refl
-effect-keeps name.AmominuW i core rd s = atomic-keeps (register core i.rs1) 4 _ _ core s refl refl (inl refl) (λ a. a) tt rd refl
-effect-keeps name.AmomaxuW i core rd s = atomic-keeps (register core i.rs1) 4 _ _ core s refl refl (inl refl) (λ a. a) tt rd refl
-effect-keeps name.LrD i core rd s = atomic-keeps (register core i.rs1) 8 _ _ core s refl refl (inr refl) (λ a. a) tt rd refl
-effect-keeps name.ScD i core rd s = atomic-keeps (register core i.rs1) 8 _ _ core s refl refl (inr refl) (λ a. a) refl rd refl
-effect-keeps name.AmoswapD i core rd s = atomic-keeps (register core i.rs1) 8 _ _ core s refl refl (inr refl) (λ a. a) tt rd refl
-effect-keeps name.AmoaddD i core rd s = atomic-keeps (register core i.rs1) 8 _ _ core s refl refl (inr refl) (λ a. a) tt rd refl
-effect-keeps name.AmoxorD i core rd s = atomic-keeps (register core i.rs1) 8 _ _ core s refl refl (inr refl) (λ a. a) tt rd refl
-effect-keeps name.AmoandD i core rd s = atomic-keeps (register core i.rs1) 8 _ _ core s refl refl (inr refl) (λ a. a) tt rd refl
-effect-keeps name.AmoorD i core rd s = atomic-keeps (register core i.rs1) 8 _ _ core s refl refl (inr refl) (λ a. a) tt rd refl
-effect-keeps name.AmominD i core rd s = atomic-keeps (register core i.rs1) 8 _ _ core s refl refl (inr refl) (λ a. a) tt rd refl
-effect-keeps name.AmomaxD i core rd s = atomic-keeps (register core i.rs1) 8 _ _ core s refl refl (inr refl) (λ a. a) tt rd refl
-effect-keeps name.AmominuD i core rd s = atomic-keeps (register core i.rs1) 8 _ _ core s refl refl (inr refl) (λ a. a) tt rd refl
-effect-keeps name.AmomaxuD i core rd s = atomic-keeps (register core i.rs1) 8 _ _ core s refl refl (inr refl) (λ a. a) tt rd refl
+effect-keeps name.LrW i core rd s = atomic-keeps (register core i.rs1) 4 _ _ core s refl refl (inl refl) (λ a. a) tt tt rd refl
+effect-keeps name.ScW i core rd s = atomic-keeps (register core i.rs1) 4 _ _ core s refl refl (inl refl) (λ a. a) tt refl rd refl
+effect-keeps name.AmoswapW i core rd s = atomic-keeps (register core i.rs1) 4 _ _ core s refl refl (inl refl) (λ a. a) tt tt rd refl
+effect-keeps name.AmoaddW i core rd s = atomic-keeps (register core i.rs1) 4 _ _ core s refl refl (inl refl) (λ a. a) tt tt rd refl
+effect-keeps name.AmoxorW i core rd s = atomic-keeps (register core i.rs1) 4 _ _ core s refl refl (inl refl) (λ a. a) tt tt rd refl
+effect-keeps name.AmoandW i core rd s = atomic-keeps (register core i.rs1) 4 _ _ core s refl refl (inl refl) (λ a. a) tt tt rd refl
+effect-keeps name.AmoorW i core rd s = atomic-keeps (register core i.rs1) 4 _ _ core s refl refl (inl refl) (λ a. a) tt tt rd refl
+effect-keeps name.AmominW i core rd s = atomic-keeps (register core i.rs1) 4 _ _ core s refl refl (inl refl) (λ a. a) tt tt rd refl
+effect-keeps name.AmomaxW i core rd s = atomic-keeps (register core i.rs1) 4 _ _ core s refl refl (inl refl) (λ a. a) tt tt rd refl
+effect-keeps name.AmominuW i core rd s = atomic-keeps (register core i.rs1) 4 _ _ core s refl refl (inl refl) (λ a. a) tt tt rd refl
+effect-keeps name.AmomaxuW i core rd s = atomic-keeps (register core i.rs1) 4 _ _ core s refl refl (inl refl) (λ a. a) tt tt rd refl
+effect-keeps name.LrD i core rd s = atomic-keeps (register core i.rs1) 8 _ _ core s refl refl (inr refl) (λ a. a) tt tt rd refl
+effect-keeps name.ScD i core rd s = atomic-keeps (register core i.rs1) 8 _ _ core s refl refl (inr refl) (λ a. a) tt refl rd refl
+effect-keeps name.AmoswapD i core rd s = atomic-keeps (register core i.rs1) 8 _ _ core s refl refl (inr refl) (λ a. a) tt tt rd refl
+effect-keeps name.AmoaddD i core rd s = atomic-keeps (register core i.rs1) 8 _ _ core s refl refl (inr refl) (λ a. a) tt tt rd refl
+effect-keeps name.AmoxorD i core rd s = atomic-keeps (register core i.rs1) 8 _ _ core s refl refl (inr refl) (λ a. a) tt tt rd refl
+effect-keeps name.AmoandD i core rd s = atomic-keeps (register core i.rs1) 8 _ _ core s refl refl (inr refl) (λ a. a) tt tt rd refl
+effect-keeps name.AmoorD i core rd s = atomic-keeps (register core i.rs1) 8 _ _ core s refl refl (inr refl) (λ a. a) tt tt rd refl
+effect-keeps name.AmominD i core rd s = atomic-keeps (register core i.rs1) 8 _ _ core s refl refl (inr refl) (λ a. a) tt tt rd refl
+effect-keeps name.AmomaxD i core rd s = atomic-keeps (register core i.rs1) 8 _ _ core s refl refl (inr refl) (λ a. a) tt tt rd refl
+effect-keeps name.AmominuD i core rd s = atomic-keeps (register core i.rs1) 8 _ _ core s refl refl (inr refl) (λ a. a) tt tt rd refl
+effect-keeps name.AmomaxuD i core rd s = atomic-keeps (register core i.rs1) 8 _ _ core s refl refl (inr refl) (λ a. a) tt tt rd refl

@@ -2,7 +2,7 @@
 use Rattle.std.specs.Prelude.{◌≡◌, ℕ, zero, suc, ◌+◌, ◌*◌, ◌/◌, ◌%◌, ◌^◌, ◌≤◌, List, [], ◌∷◌, take, drop, Some}
 use Rattle.std.specs.List.{flat_map}
 use Rattle.zs_num.specs.declared.request.Request.{Request}
-use Rattle.zs_num.specs.declared.request.Request.TheVariants.{Load, Store, Lr, Sc, Amo}
+use Rattle.zs_num.specs.declared.request.Request.TheVariants.{Load, Store, Lr, Sc, Amo, Fetch}
 use Rattle.zs_num.specs.Request.{addr_of, width_of}
 use Rattle.elf_load.specs.MemoryImage.{MemoryImage}
 use Rattle.rv_core.specs.declared.memory_range.MemoryRange.{MemoryRange}
@@ -46,6 +46,7 @@ bytes_stored (Load addr width) = []
 bytes_stored (Lr addr width) = []
 bytes_stored (Sc addr width value paired) = []
 bytes_stored (Amo op addr width value) = []
+bytes_stored (Fetch addr) = []
 
 -- the number that bytes make, the lowest first
 abbrev pub number_of_bytes : List ℕ → ℕ

@@ -1,5 +1,5 @@
 -- What every core keeps.
-use Rattle.std.specs.Prelude.{◌≡◌, ◌+◌, ◌^◌, ◌≤◌, ◌<◌, List, ◌∷◌, length, slice_index, IfSome, []}
+use Rattle.std.specs.Prelude.{◌≡◌, ◌+◌, ◌^◌, ◌≤◌, ◌<◌, List, ◌∷◌, length, slice_index, IfSome, [], false}
 use Rattle.zs_num.specs.declared.request.Request.{Request}
 use Rattle.rv_core.specs.declared.ask.Ask.{Ask}
 use Rattle.rv_core.specs.declared.ask.Ask.TheVariants.{Local, Access, Halted}
@@ -10,7 +10,7 @@ use Rattle.zs_num.specs.Servable.{IsServable}
 
 -- an access that memory can serve
 abbrev pub IsServableIn : MemoryRange → Request → Type 0
-IsServableIn memory request = IsServable memory.base memory.size request
+IsServableIn memory request = IsServable memory.base memory.size false request
 
 -- accesses that memory can serve
 abbrev pub AreServableIn : MemoryRange → List Request → Type 0

@@ -1,7 +1,8 @@
 //! Load-reserved, store-conditional and atomic read-modify-writes.
-ghost use Rattle.std.specs.Prelude.{◌≡◌, ◌<◌, ◌≤◌, ◌+◌, ◌%◌, ◌==◌, ◌⊎◌, IsTrue, [], ◌∷◌};
+ghost use Rattle.std.specs.Prelude.{◌≡◌, ◌<◌, ◌≤◌, ◌+◌, ◌%◌, ◌==◌, ◌⊎◌, IsTrue, false, [], ◌∷◌};
 ghost use Rattle.zs_num.specs.PairedRight.{IsPairedRight};
 ghost use Rattle.zs_num.specs.Request.{addr_of, line_bytes, width_of};
+ghost use Rattle.zs_num.specs.Servable.{MayFetch};
 ghost use Rattle.rv_core.specs.Effect.{atomic, load_reserved, store_conditional, updates};
 ghost use Rattle.rv_core.specs.CoreState.{ToRegister};
 ghost use Rattle.rv_core.specs.Step.{is_free};
@@ -73,6 +74,7 @@ impl Core {
         requires rd { destination.rd < 32 }
         requires same_width { destination.width ≡ width_of request }
         requires paired { IsPairedRight self.old.pairing request }
+        requires no_fetch { MayFetch false request }
         ensures value { self.new ≡ atomic (addr_of request) (width_of request) request (ToRegister destination) self.old }
         ensures free { result ≡ is_free self.new }
     {

@@ -22,6 +22,9 @@ pub fn pair(pairing: &mut Option<Pairing>, request: Request)
     match request {
         Request::Lr { addr, width } => *pairing = Some(Pairing { addr, width }),
         Request::Sc { .. } => *pairing = None,
-        Request::Load { .. } | Request::Store { .. } | Request::Amo { .. } => {}
+        Request::Load { .. }
+        | Request::Store { .. }
+        | Request::Amo { .. }
+        | Request::Fetch { .. } => {}
     }
 }

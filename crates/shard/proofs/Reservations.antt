@@ -10,7 +10,7 @@ use Rattle.zs_num.specs.Pairing.{is_paired, pairing_after}
 use Rattle.zs_num.specs.Request.{addr_of, line_at, bank_of_line, bank_of}
 use Rattle.zs_num.specs.declared.pairing.Pairing.{Pairing}
 use Rattle.zs_num.specs.declared.request.Request.{Request}
-use Rattle.zs_num.specs.declared.request.Request.TheVariants.{Load, Store, Lr, Sc, Amo}
+use Rattle.zs_num.specs.declared.request.Request.TheVariants.{Load, Store, Lr, Sc, Amo, Fetch}
 use Rattle.rv_alu.specs.Atomic.{new_number}
 use Rattle.flat_memory.specs.declared.reservation.Reservation.{Reservation}
 use Rattle.flat_memory.specs.FlatMemory as flat
@@ -203,6 +203,11 @@ module _ (m : MarkedMemory) (pairings : List Paired) (are : AreMarks m (length p
   after_load addr width =
       from_each (Load addr width) (pairing_of pairings core) R (λ k l. rw (same_pairing k) (reserved_stays m (length pairings) are core (Load addr width) k refl (pairing_of pairings k)))
 
+  after_fetch : (addr : ℕ) → all_of (marked_after m core (Fetch addr)) (set pairings core (pairing_of pairings core)) ≡ all_of m pairings
+  unfolding marks_after
+  after_fetch addr =
+      from_each (Fetch addr) (pairing_of pairings core) R (λ k l. rw (same_pairing k) (reserved_stays m (length pairings) are core (Fetch addr) k refl (pairing_of pairings k)))
+
   after_store : (addr width value : ℕ) → all_of (marked_after m core (Store addr width value)) (set pairings core (pairing_of pairings core)) ≡ flat.after_write core addr (all_of m pairings)
   unfolding marks_after
   after_store addr width value =
@@ -309,6 +314,7 @@ module _ (m : MarkedMemory) (pairings : List Paired) (are : AreMarks m (length p
       let e = stores_alike addr width value paired (pairing_of pairings core) refl h in
       rw (e, flat_at m pairings core within) refl
   step_reply (Amo op addr width value) h = refl
+  step_reply (Fetch addr) h = refl
 
   sc_state : (addr width value : ℕ) (paired : Bool) (b : Bool) → does_store (marks_for m (Sc addr width value paired)) core addr width paired ≡ b → flat_for (marked_after m core (Sc addr width value paired)) (set pairings core None) ≡ cond b (flat.reserving (flat.written (flat_for m pairings) core addr width value) core None) (flat.reserving (flat_for m pairings) core None)
   unfolding bytes_after flat.written
@@ -325,6 +331,7 @@ module _ (m : MarkedMemory) (pairings : List Paired) (are : AreMarks m (length p
       let same : does_store (marks_for m (Sc addr width value paired)) core addr width paired ≡ flat.is_reservation (get_or (all_of m pairings) core None) addr width = rw (flat_at m pairings core within) e in
       sc_state addr width value paired (flat.is_reservation (get_or (all_of m pairings) core None) addr width) same
   step_after (Amo op addr width value) h = state_from (flat.with_number m.bytes (addr - m.base) width (new_number op width (flat.number_in m.bytes (addr - m.base) width) value)) _ _ (after_amo op addr width value)
+  step_after (Fetch addr) h = state_from m.bytes _ _ (after_fetch addr)
 
 -- ---- lists of accesses
 all_steps : (accesses : List (ℕ × Request)) (m : MarkedMemory) (pairings : List Paired) → AreMarks m (length pairings) → All (λ access. access.0 < length pairings) accesses → AreAllPairedRight pairings accesses

@@ -1,5 +1,5 @@
 -- There is an answer to every access: some shard keeps its line.
-use Rattle.std.proofs.Common.{◌≡◌, ℕ, ◌%◌, ◌<◌, List, [], ◌∷◌, length, get_or, set, Some, refl, sym, ap, subst, arith}
+use Rattle.std.proofs.Common.{◌≡◌, ℕ, ◌%◌, ◌<◌, List, [], ◌∷◌, length, get_or, set, Some, refl, sym, ap, subst, arith, false}
 use Rattle.std.specs.List.{All}
 use Rattle.std.specs.Prelude.{slice_get}
 use Rattle.std.proofs.lemmas.List.{length-set}
@@ -49,7 +49,7 @@ pub shards_answer : ShardsAnswer
 shards_answer shards memory c [] h some cores can = ([], shards, refl, refl)
 shards_answer shards memory c (access ∷ accesses) h some cores can =
     let Known : ℕ × Request → Type 0 = λ a. a.0 < length c.l1 in
-    let Can : ℕ × Request → Type 0 = λ a. IsServable memory.base (length memory.bytes) a.1 in
+    let Can : ℕ × Request → Type 0 = λ a. IsServable memory.base (length memory.bytes) false a.1 in
     let known : Known access = All-head Known access accesses cores in
     let can_one : Can access = All-head Can access accesses can in
     let within : line_of access.1 % length shards < length shards = omega arith in
@@ -64,4 +64,4 @@ shards_answer shards memory c (access ∷ accesses) h some cores can =
     answered_first shards s access accesses one.1
     (shards_answer (set shards s.number (shard_after s entry)) next d accesses step.2 (omega (arith, length-set shards s.number (shard_after s entry)))
     (subst (λ (n : ℕ). All (λ (a : ℕ × Request). a.0 < n) accesses) (sym as_many) (All-tail Known access accesses cores))
-    (subst (λ (n : ℕ). All (λ (a : ℕ × Request). IsServable memory.base n a.1) accesses) (sym as_long) (All-tail Can access accesses can)))
+    (subst (λ (n : ℕ). All (λ (a : ℕ × Request). IsServable memory.base n false a.1) accesses) (sym as_long) (All-tail Can access accesses can)))

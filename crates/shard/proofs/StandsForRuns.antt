@@ -1,5 +1,5 @@
 -- What shards answer to a list of accesses is what one machine with one flat memory does.
-use Rattle.std.proofs.Common.{◌≡◌, ℕ, ◌%◌, ◌<◌, List, [], ◌∷◌, length, get_or, map, set, replicate, Option, Some, None, refl, sym, ap, ◌∙◌, subst, arith}
+use Rattle.std.proofs.Common.{◌≡◌, ℕ, ◌%◌, ◌<◌, List, [], ◌∷◌, length, get_or, map, set, replicate, Option, Some, None, refl, sym, ap, ◌∙◌, subst, arith, false}
 use Rattle.std.specs.List.{All}
 use Rattle.std.specs.Prelude.{slice_get}
 use Rattle.std.proofs.lemmas.List.{length-map, length-replicate}
@@ -35,7 +35,7 @@ pub record AreOfMarked (memory : MarkedMemory) (c : Caches) (entries : List Entr
   pub stand : StandFor left (marked_after_all memory (accesses_of entries)) (caches_after_all c (accesses_of entries))
 
 pub are_of_marked : (entries : List Entry) (shards : List ShardState) (memory : MarkedMemory) (c : Caches) (left : List ShardState)
-    → StandFor shards memory c → All (λ entry. entry.core < length c.l1) entries → All (λ entry. IsServable memory.base (length memory.bytes) entry.request) entries
+    → StandFor shards memory c → All (λ entry. entry.core < length c.l1) entries → All (λ entry. IsServable memory.base (length memory.bytes) false entry.request) entries
     → AreAnswered shards entries left → AreOfMarked memory c entries left
 are_of_marked [] shards memory c left h cores can answered = record {
   replies = refl;
@@ -44,7 +44,7 @@ are_of_marked [] shards memory c left h cores can answered = record {
 }
 are_of_marked (entry ∷ entries) shards memory c left h cores can answered =
     let Known : Entry → Type 0 = λ e. e.core < length c.l1 in
-    let Can : Entry → Type 0 = λ e. IsServable memory.base (length memory.bytes) e.request in
+    let Can : Entry → Type 0 = λ e. IsServable memory.base (length memory.bytes) false e.request in
     let s : ShardState = answered.0 in
     let known : entry.core < length c.l1 = All-head Known entry entries cores in
     let can_one : Can entry = All-head Can entry entries can in
@@ -56,7 +56,7 @@ are_of_marked (entry ∷ entries) shards memory c left h cores can answered =
     let rest : AreOfMarked rest_memory d entries left
     = are_of_marked entries (set shards s.number (shard_after s entry)) rest_memory d left step.2
     (subst (λ (n : ℕ). All (λ (e : Entry). e.core < n) entries) (sym as_many) (All-tail Known entry entries cores))
-    (subst (λ (n : ℕ). All (λ (e : Entry). IsServable memory.base n e.request) entries) (sym as_long) (All-tail Can entry entries can))
+    (subst (λ (n : ℕ). All (λ (e : Entry). IsServable memory.base n false e.request) entries) (sym as_long) (All-tail Can entry entries can))
     answered.4 in
     record {
       replies = rw (answered.2 ∙ step.0, rest.replies) refl;
@@ -102,6 +102,6 @@ new_shards_are_one_machine m image entries left is cores can right answered =
     let long : length memory.bytes ≡ image.size = length-map-range_with_len (byte_at image.segments) image.base image.size in
     let one = entries_are_of_one_machine (new_shards m image) memory (new_caches m) (replicate m.cores None) entries left start.0 (paired ∙ sym many)
     (subst (λ (n : ℕ). All (λ (x : Entry). x.core < n) entries) (sym many) cores)
-    (subst (λ (n : ℕ). All (λ (x : Entry). IsServable image.base n x.request) entries) (sym long) can)
+    (subst (λ (n : ℕ). All (λ (x : Entry). IsServable image.base n false x.request) entries) (sym long) can)
     right answered in
     (one.0 ∙ ap (λ (f : flat.MemoryState). flat_replies f accesses) start.1, one.1)

@@ -4,7 +4,7 @@ use Rattle.std.proofs.lemmas.Bool.{cases_lt}
 use Rattle.zs_num.specs.Request.{addr_of, line_of, line_at}
 use Rattle.zs_num.specs.Servable.{IsServable}
 use Rattle.zs_num.specs.declared.request.Request.{Request}
-use Rattle.zs_num.specs.declared.request.Request.TheVariants.{Load, Store, Lr, Sc, Amo}
+use Rattle.zs_num.specs.declared.request.Request.TheVariants.{Load, Store, Lr, Sc, Amo, Fetch}
 use Rattle.rv_alu.specs.Atomic.{new_number}
 use Rattle.flat_memory.specs.declared.reservation.Reservation.{Reservation}
 use Rattle.flat_memory.specs.FlatMemory.{number_in, with_number}
@@ -98,7 +98,7 @@ module _ (n number base : ℕ) (some : 0 < n) (whole part : List ℕ) (share : S
 
 -- ---- requests
 module _ (n number base : ℕ) (some : 0 < n) (whole part : List ℕ) (share : Share n number base whole part) (marks : List (Option Reservation)) (core : ℕ) where
-  pub reply_same : (request : Request) → IsServable base (length whole) request → line_of request % n ≡ number
+  pub reply_same : (request : Request) → IsServable base (length whole) false request → line_of request % n ≡ number
       → reply_from part (place_of n base (addr_of request)) marks core request ≡ reply_from whole (addr_of request - base) marks core request
   unfolding reply_from
   reply_same (Load addr width) h is = sym (same_number n number base some whole part share addr width h.begins h.ends h.in_line is)
@@ -106,12 +106,13 @@ module _ (n number base : ℕ) (some : 0 < n) (whole part : List ℕ) (share : S
   reply_same (Lr addr width) h is = sym (same_number n number base some whole part share addr width h.begins h.ends h.in_line is)
   reply_same (Sc addr width value paired) h is = refl
   reply_same (Amo op addr width value) h is = sym (same_number n number base some whole part share addr width h.begins h.ends h.in_line is)
+  reply_same (Fetch addr) h is = refl
 
   share_if : (b : Bool) (s t u v : List ℕ) → Share n number base s t → Share n number base u v → Share n number base (cond b s u) (cond b t v)
   share_if true s t u v h k = h
   share_if false s t u v h k = k
 
-  pub share_after : (request : Request) → IsServable base (length whole) request → line_of request % n ≡ number
+  pub share_after : (request : Request) → IsServable base (length whole) false request → line_of request % n ≡ number
       → Share n number base (bytes_after whole (addr_of request - base) marks core request) (bytes_after part (place_of n base (addr_of request)) marks core request)
   unfolding bytes_after
   share_after (Load addr width) h is = share
@@ -123,8 +124,9 @@ module _ (n number base : ℕ) (some : 0 < n) (whole part : List ℕ) (share : S
   share_after (Amo op addr width value) h is =
       rw (← same_number n number base some whole part share addr width h.begins h.ends h.in_line is)
       (written_share n number base some whole part share addr width h.begins h.ends h.in_line is h.some (new_number op width (number_in whole (addr - base) width) value))
+  share_after (Fetch addr) h is = share
 
-  pub share_apart : (request : Request) → IsServable base (length whole) request → line_of request % n ≢ number → Share n number base (bytes_after whole (addr_of request - base) marks core request) part
+  pub share_apart : (request : Request) → IsServable base (length whole) false request → line_of request % n ≢ number → Share n number base (bytes_after whole (addr_of request - base) marks core request) part
   unfolding bytes_after
   share_apart (Load addr width) h other = share
   share_apart (Store addr width value) h other = apart_share n number base some whole part share addr width h.begins h.ends h.in_line other value
@@ -134,8 +136,9 @@ module _ (n number base : ℕ) (some : 0 < n) (whole part : List ℕ) (share : S
       [ true ↦ apart_share n number base some whole part share addr width h.begins h.ends h.in_line other value | false ↦ share ]
   share_apart (Amo op addr width value) h other =
       apart_share n number base some whole part share addr width h.begins h.ends h.in_line other (new_number op width (number_in whole (addr - base) width) value)
+  share_apart (Fetch addr) h other = share
 
-pub length-bytes_after : (base : ℕ) (whole : List ℕ) (marks : List (Option Reservation)) (core : ℕ) (request : Request) → IsServable base (length whole) request → length (bytes_after whole (addr_of request - base) marks core request) ≡ length whole
+pub length-bytes_after : (base : ℕ) (whole : List ℕ) (marks : List (Option Reservation)) (core : ℕ) (request : Request) → IsServable base (length whole) false request → length (bytes_after whole (addr_of request - base) marks core request) ≡ length whole
 unfolding bytes_after
 length-bytes_after base whole marks core (Load addr width) h = refl
 length-bytes_after base whole marks core (Store addr width value) h = length_written whole (addr - base) width value (omega (arith, h.begins, h.ends))
@@ -144,3 +147,4 @@ length-bytes_after base whole marks core (Sc addr width value paired) h =
     elim (does_store marks core addr width paired) as (λ b. length (cond b (with_number whole (addr - base) width value) whole) ≡ length whole)
     [ true ↦ length_written whole (addr - base) width value (omega (arith, h.begins, h.ends)) | false ↦ refl ]
 length-bytes_after base whole marks core (Amo op addr width value) h = length_written whole (addr - base) width _ (omega (arith, h.begins, h.ends))
+length-bytes_after base whole marks core (Fetch addr) h = refl

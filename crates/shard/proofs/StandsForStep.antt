@@ -1,5 +1,5 @@
 -- Shards stand for one machine after an access to a line of one of them, if they did before.
-use Rattle.std.proofs.Common.{◌≡◌, ◌≢◌, ℕ, ◌-◌, ◌%◌, ◌<◌, List, [], length, get_or, map, set, Option, Some, refl, sym, ap, ◌∙◌, subst, arith}
+use Rattle.std.proofs.Common.{◌≡◌, ◌≢◌, ℕ, ◌-◌, ◌%◌, ◌<◌, List, [], length, get_or, map, set, Option, Some, refl, sym, ap, ◌∙◌, subst, arith, false}
 use Rattle.std.specs.Prelude.{slice_get}
 use Rattle.std.proofs.lemmas.List.{get_or-map, length-map, length-set, map-set}
 use Rattle.std.proofs.lemmas.Option.{get_or_from_slice_get, slice_get_within}
@@ -77,7 +77,7 @@ stand_from shards memory c each marks whole coherent room = record {
 
 -- ---- one access
 module _ (shards : List ShardState) (memory : MarkedMemory) (c : Caches) (s : ShardState) (entry : Entry) (h : StandFor shards memory c) (k : KeepsLine shards (line_of entry.request) s)
-    (can : IsServable memory.base (length memory.bytes) entry.request) (known : entry.core < length c.l1) where
+    (can : IsServable memory.base (length memory.bytes) false entry.request) (known : entry.core < length c.l1) where
   abbrev n : ℕ
   n = length shards
 

@@ -7,7 +7,7 @@ use Rattle.zs_num.specs.Request.{line_of}
 use Rattle.zs_num.specs.declared.entry.Outcome.{Outcome}
 use Rattle.zs_num.specs.declared.entry.Outcome.TheVariants.{Hit, Upgrade, L2, Miss}
 use Rattle.zs_num.specs.declared.request.Request.{Request}
-use Rattle.zs_num.specs.declared.request.Request.TheVariants.{Load, Store, Lr, Sc, Amo}
+use Rattle.zs_num.specs.declared.request.Request.TheVariants.{Load, Store, Lr, Sc, Amo, Fetch}
 use Rattle.cache_set.specs.declared.letter.Letter.{Letter}
 use Rattle.cache_set.specs.declared.letter.Letter.TheVariants.{M, E, S, I}
 use Rattle.cache_set.specs.Ways.{kept_of, without, used, filled, changed, victim_of}
@@ -79,13 +79,15 @@ some_other test c core line = list_any (λ other. not (other == core) && test (l
 
 -- ---- the table
 
--- loads and load-reserveds read; stores, atomic operations and all store-conditionals write, also one that fails
+-- Loads and load-reserveds read, and so do fetches; stores, atomic operations and all store-conditionals write, also one
+-- that fails.
 abbrev pub is_write : Request → Bool
 is_write (Load addr width) = false
 is_write (Store addr width value) = true
 is_write (Lr addr width) = false
 is_write (Sc addr width value paired) = true
 is_write (Amo op addr width value) = true
+is_write (Fetch addr) = false
 
 -- How the caches meet an access, by the core's letter and by whether the L2 holds the line. `alone` says that another
 -- core has it in M or E, `has` that another core has it, and `dirty` that the line that the L2 evicts is dirty.

@@ -6,7 +6,7 @@ use Rattle.zs_num.specs.Servable.{IsServable}
 use Rattle.zs_num.specs.declared.entry.Entry.{Entry}
 use Rattle.zs_num.specs.declared.pairing.Pairing.{Pairing}
 use Rattle.zs_num.specs.declared.request.Request.{Request}
-use Rattle.zs_num.specs.declared.request.Request.TheVariants.{Load, Store, Lr, Sc, Amo}
+use Rattle.zs_num.specs.declared.request.Request.TheVariants.{Load, Store, Lr, Sc, Amo, Fetch}
 use Rattle.elf_load.specs.MemoryImage.{MemoryImage}
 use Rattle.machine_desc.specs.Machine.{IsMachine}
 use Rattle.machine_desc.specs.declared.machine.Machine.{Machine}
@@ -104,7 +104,7 @@ MarksAreReservations = (memory : MarkedMemory) (pairings : List (Option Pairing)
 -- shards stand, and they stand for what these leave.
 abbrev pub ShardsStandForAMachine : Type 0
 ShardsStandForAMachine = (shards : List ShardState) (memory : MarkedMemory) (c : Caches) (s : ShardState) (entry : Entry)
-    → StandFor shards memory c → KeepsLine shards (line_of entry.request) s → IsServable memory.base (length memory.bytes) entry.request → entry.core < length c.l1
+    → StandFor shards memory c → KeepsLine shards (line_of entry.request) s → IsServable memory.base (length memory.bytes) false entry.request → entry.core < length c.l1
     → (shard_reply s entry ≡ marked_reply memory entry.core entry.request)
     × (met_by s entry ≡ outcome_of c entry.core entry.request)
     × StandFor (slice_set shards s.number (shard_after s entry)) (marked_after memory entry.core entry.request) (caches_after c entry.core entry.request)
@@ -119,7 +119,7 @@ NewShardsStand = (m : Machine) (image : MemoryImage) → IsMachine m
 -- caches of one machine, and the shards that are left stand for what these leave.
 abbrev pub EntriesAreOfOneMachine : Type 0
 EntriesAreOfOneMachine = (shards : List ShardState) (memory : MarkedMemory) (c : Caches) (pairings : List (Option Pairing)) (entries : List Entry) (left : List ShardState)
-    → StandFor shards memory c → length pairings ≡ length c.l1 → All (λ entry. entry.core < length c.l1) entries → All (λ entry. IsServable memory.base (length memory.bytes) entry.request) entries
+    → StandFor shards memory c → length pairings ≡ length c.l1 → All (λ entry. entry.core < length c.l1) entries → All (λ entry. IsServable memory.base (length memory.bytes) false entry.request) entries
     → AreAllPairedRight pairings (accesses_of entries) → AreAnswered shards entries left
     → (map (λ entry. entry.reply) entries ≡ flat_replies (flat_for memory pairings) (accesses_of entries))
     × (map (λ entry. entry.outcome) entries ≡ outcomes_of c (accesses_of entries))
@@ -129,7 +129,7 @@ EntriesAreOfOneMachine = (shards : List ShardState) (memory : MarkedMemory) (c :
 -- So it is from the new shards of a machine on, with memory as an executable was loaded and empty caches.
 abbrev pub NewShardsAreOneMachine : Type 0
 NewShardsAreOneMachine = (m : Machine) (image : MemoryImage) (entries : List Entry) (left : List ShardState) → IsMachine m
-    → All (λ entry. entry.core < m.cores) entries → All (λ entry. IsServable image.base image.size entry.request) entries
+    → All (λ entry. entry.core < m.cores) entries → All (λ entry. IsServable image.base image.size false entry.request) entries
     → AreAllPairedRight (replicate m.cores None) (accesses_of entries) → AreAnswered (new_shards m image) entries left
     → (map (λ entry. entry.reply) entries ≡ flat_replies (flat.loaded image m.cores) (accesses_of entries))
     × (map (λ entry. entry.outcome) entries ≡ outcomes_of (new_caches m) (accesses_of entries))
@@ -141,17 +141,18 @@ has_written (Store addr width value) reply = true
 has_written (Lr addr width) reply = false
 has_written (Sc addr width value paired) reply = reply == 0
 has_written (Amo op addr width value) reply = true
+has_written (Fetch addr) reply = false
 
 -- A load of what a store wrote gives the low bytes of the number, where no access between wrote to the line.
 abbrev pub ReadAfterWrite : Type 0
 ReadAfterWrite = (shards : List ShardState) (memory : MarkedMemory) (c : Caches) (store load : Entry) (between : List Entry) (left : List ShardState) (addr width value : ℕ)
     → let entries = store ∷ (between ++ (load ∷ [])) in StandFor shards memory c → AreAnswered shards entries left
-    → All (λ entry. entry.core < length c.l1) entries → All (λ entry. IsServable memory.base (length memory.bytes) entry.request) entries
+    → All (λ entry. entry.core < length c.l1) entries → All (λ entry. IsServable memory.base (length memory.bytes) false entry.request) entries
     → store.request ≡ Store addr width value → load.request ≡ Load addr width → All (λ entry. IsTrue (has_written entry.request entry.reply) → line_of entry.request ≢ line_at addr) between
     → load.reply ≡ value % 256 ^ width
 
 -- Shards that stand for a machine answer whatever its cores ask of its memory.
 abbrev pub ShardsAnswer : Type 0
 ShardsAnswer = (shards : List ShardState) (memory : MarkedMemory) (c : Caches) (accesses : List (ℕ × Request)) → StandFor shards memory c → 0 < length shards
-    → All (λ access. access.0 < length c.l1) accesses → All (λ access. IsServable memory.base (length memory.bytes) access.1) accesses
+    → All (λ access. access.0 < length c.l1) accesses → All (λ access. IsServable memory.base (length memory.bytes) false access.1) accesses
     → (entries : List Entry) × (left : List ShardState) × AreAnswered shards entries left × (accesses_of entries ≡ accesses)

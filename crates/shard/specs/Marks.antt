@@ -3,7 +3,7 @@
 use Rattle.std.specs.Prelude.{ℕ, ◌-◌, Bool, ◌&&◌, if◌then◌else◌, List, [], length, slice_index_or, slice_set, Option, Some, None}
 use Rattle.zs_num.specs.Request.{addr_of, bank_of}
 use Rattle.zs_num.specs.declared.request.Request.{Request}
-use Rattle.zs_num.specs.declared.request.Request.TheVariants.{Load, Store, Lr, Sc, Amo}
+use Rattle.zs_num.specs.declared.request.Request.TheVariants.{Load, Store, Lr, Sc, Amo, Fetch}
 use Rattle.rv_alu.specs.Atomic.{new_number}
 use Rattle.flat_memory.specs.declared.reservation.Reservation.{Reservation}
 use Rattle.flat_memory.specs.FlatMemory.{after_write, is_reservation, number_in, with_number}
@@ -20,6 +20,7 @@ reply_from bytes place marks core (Store addr width value) = 0
 reply_from bytes place marks core (Lr addr width) = number_in bytes place width
 reply_from bytes place marks core (Sc addr width value paired) = if does_store marks core addr width paired then 0 else 1
 reply_from bytes place marks core (Amo op addr width value) = number_in bytes place width
+reply_from bytes place marks core (Fetch addr) = 0
 
 unfoldable pub bytes_after : (bytes : List ℕ) → (place : ℕ) → (marks : List (Option Reservation)) → (core : ℕ) → Request → List ℕ
 bytes_after bytes place marks core (Load addr width) = bytes
@@ -29,6 +30,7 @@ bytes_after bytes place marks core (Sc addr width value paired) =
     if does_store marks core addr width paired then with_number bytes place width value else bytes
 bytes_after bytes place marks core (Amo op addr width value) =
     with_number bytes place width (new_number op width (number_in bytes place width) value)
+bytes_after bytes place marks core (Fetch addr) = bytes
 
 unfoldable pub marks_after : (marks : List (Option Reservation)) → (core : ℕ) → Request → List (Option Reservation)
 marks_after marks core (Load addr width) = marks
@@ -37,6 +39,7 @@ marks_after marks core (Lr addr width) = slice_set marks core (Some (record { ad
 marks_after marks core (Sc addr width value paired) =
     slice_set (if does_store marks core addr width paired then after_write core addr marks else marks) core None
 marks_after marks core (Amo op addr width value) = after_write core addr marks
+marks_after marks core (Fetch addr) = marks
 
 -- ---- all shards
 

@@ -1,6 +1,6 @@
 -- A shard, and what it does with an access. All is said by functions of the shard and the recorded entry, so that a
 -- list of entries is at once the list of requests, of replies and of stamps.
-use Rattle.std.specs.Prelude.{◌≡◌, ℕ, ◌+◌, ◌-◌, ◌*◌, ◌/◌, ◌%◌, ◌<◌, List, [], ◌∷◌, length, max, replicate, Option, None}
+use Rattle.std.specs.Prelude.{◌≡◌, ℕ, ◌+◌, ◌-◌, ◌*◌, ◌/◌, ◌%◌, ◌<◌, List, [], ◌∷◌, length, max, replicate, Option, None, false}
 use Rattle.std.specs.List.{flat_map, range_with_len}
 use Rattle.zs_num.specs.Request.{addr_of, line_bytes, line_of, line_at, bank_of_line}
 use Rattle.zs_num.specs.Servable.{IsServable}
@@ -37,7 +37,7 @@ place_of shards base addr = line_bytes * (line_at addr / shards - lines_below sh
 
 -- what a shard can be asked: an access to a line of its own that memory can serve
 unfoldable pub CanServe : ShardState → Request → Type 0
-CanServe shard request = IsServable shard.base shard.size request × (bank_of_line shard.caches.shards (line_of request) ≡ shard.number)
+CanServe shard request = IsServable shard.base shard.size false request × (bank_of_line shard.caches.shards (line_of request) ≡ shard.number)
 
 -- a core that the shard knows
 abbrev pub KnowsCore : ShardState → (core : ℕ) → Type 0

@@ -68,6 +68,7 @@ impl MarkedBytes {
                 self.marks.end_others(core, addr);
                 old
             }
+            Request::Fetch { .. } => 0,
         }
     }
 }

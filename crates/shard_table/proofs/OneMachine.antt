@@ -1,5 +1,5 @@
 -- The accesses of all cores are served by one memory and by the caches of one machine, one after the other.
-use Rattle.std.proofs.Common.{◌≡◌, ℕ, zero, suc, ◌+◌, ◌<◌, List, [], ◌∷◌, ◌++◌, All, length, map, refl, sym, ◌∙◌, ap, subst, arith, ◌⊎◌, inl, inr}
+use Rattle.std.proofs.Common.{◌≡◌, ℕ, zero, suc, ◌+◌, ◌<◌, List, [], ◌∷◌, ◌++◌, All, length, map, refl, sym, ◌∙◌, ap, subst, arith, ◌⊎◌, inl, inr, false}
 use Rattle.std.specs.Prelude.{slice_get, slice_set, Some, None}
 use Rattle.std.specs.List.{enumerate_from, fold}
 use Rattle.std.proofs.lemmas.Bool.{cases_eq}
@@ -151,7 +151,7 @@ same_size : (s : ShardState) (e : Entry) → (shard_after s e).size ≡ s.size
 unfolding shard_after
 same_size s e = refl
 
-servable_of : (s : ShardState) (e : Entry) → CanServe s e.request → IsServable s.base s.size e.request
+servable_of : (s : ShardState) (e : Entry) → CanServe s e.request → IsServable s.base s.size false e.request
 unfolding CanServe
 servable_of s e can = can.0
 
@@ -165,7 +165,7 @@ record AreOfMarked (base size : ℕ) (memory : MarkedMemory) (c : Caches) (entri
 
 module _ (stand : ShardsStandForAMachine) (coherent : CoherentStays) (base size : ℕ) where
   marked : (entries : List Entry) (xs : List ShardState) (memory : MarkedMemory) (c : Caches) (left : List ShardState)
-      → StandFor xs memory c → memory.base ≡ base → length memory.bytes ≡ size → All (λ e. e.core < length c.l1) entries → All (λ e. IsServable base size e.request) entries
+      → StandFor xs memory c → memory.base ≡ base → length memory.bytes ≡ size → All (λ e. e.core < length c.l1) entries → All (λ e. IsServable base size false e.request) entries
       → AreAnswered xs entries left → AreOfMarked base size memory c entries left
   marked [] xs memory c left h base_is size_is known can did = record {
     replies = refl;
@@ -177,12 +177,12 @@ module _ (stand : ShardsStandForAMachine) (coherent : CoherentStays) (base size 
   }
   marked (e ∷ entries) xs memory c left h base_is size_is known can did =
       let Known : Entry → Type 0 = λ e. e.core < length c.l1 in
-      let Can : Entry → Type 0 = λ e. IsServable base size e.request in
+      let Can : Entry → Type 0 = λ e. IsServable base size false e.request in
       let s : ShardState = did.0 in
       let number : ℕ = bank_of_line (length xs) (line_of e.request) in
       let here_known : Known e = All-head Known e entries known in
-      let here_can : IsServable memory.base (length memory.bytes) e.request =
-      subst (λ (b : ℕ). IsServable b (length memory.bytes) e.request) (sym base_is) (subst (λ (m : ℕ). IsServable base m e.request) (sym size_is) (All-head Can e entries can)) in
+      let here_can : IsServable memory.base (length memory.bytes) false e.request =
+      subst (λ (b : ℕ). IsServable b (length memory.bytes) false e.request) (sym base_is) (subst (λ (m : ℕ). IsServable base m false e.request) (sym size_is) (All-head Can e entries can)) in
       let step = stand xs memory c s e h did.1 here_can here_known in
       let at : slice_get xs s.number ≡ Some s = ap (slice_get xs) (h.are.number number s did.1) ∙ did.1 in
       let later : MarkedMemory = marked_after memory e.core e.request in
@@ -210,11 +210,11 @@ module _ (t : TableState) (entries : List Entry) (seats : List SeatState) (left 
   all_known : All (λ e. e.core < length c.l1) entries
   all_known = All-weaker May (λ e. e.core < length c.l1) (λ e may. let marks = (h.cores (bank_of_entry (length t.shards) e) may.0 may.1).1 in subst (λ (m : ℕ). e.core < m) marks may.2) entries whole.servable
 
-  all_can : All (λ e. IsServable memory.base (length memory.bytes) e.request) entries
+  all_can : All (λ e. IsServable memory.base (length memory.bytes) false e.request) entries
   all_can =
-      All-weaker May (λ e. IsServable memory.base (length memory.bytes) e.request) (λ e may.
-      subst (λ (m : ℕ). IsServable memory.base m e.request) (h.are.size (bank_of_entry (length t.shards) e) may.0 may.1)
-      (subst (λ (b : ℕ). IsServable b may.0.size e.request) (h.are.base (bank_of_entry (length t.shards) e) may.0 may.1) (servable_of may.0 e may.3))) entries whole.servable
+      All-weaker May (λ e. IsServable memory.base (length memory.bytes) false e.request) (λ e may.
+      subst (λ (m : ℕ). IsServable memory.base m false e.request) (h.are.size (bank_of_entry (length t.shards) e) may.0 may.1)
+      (subst (λ (b : ℕ). IsServable b may.0.size false e.request) (h.are.base (bank_of_entry (length t.shards) e) may.0 may.1) (servable_of may.0 e may.3))) entries whole.servable
 
 pub whole_of_one_machine : WholeIsAnswered → CoherentStays → ShardsStandForAMachine → EntriesAreOfOneMachine
     → (t : TableState) (entries : List Entry) (seats : List SeatState) (left : List ShardState) (memory : MarkedMemory) (c : Caches)
@@ -248,7 +248,7 @@ reads_after_writes answers coherent stand reads t seats left memory c before bet
     let rest : List Entry = store ∷ (between ++ (load ∷ later)) in
     let first : List Entry = store ∷ (between ++ (load ∷ [])) in
     let Known : Entry → Type 0 = λ e. e.core < length c.l1 in
-    let Can : Entry → Type 0 = λ e. IsServable memory.base (length memory.bytes) e.request in
+    let Can : Entry → Type 0 = λ e. IsServable memory.base (length memory.bytes) false e.request in
     let known : All Known (before ++ rest) = all_known t (before ++ rest) seats left memory c whole h in
     let can : All Can (before ++ rest) = all_can t (before ++ rest) seats left memory c whole h in
     let one = answered_split before rest t.shards left (answers t (before ++ rest) seats left whole) in
@@ -261,6 +261,6 @@ reads_after_writes answers coherent stand reads t seats left memory c before bet
     let can_first : All Can first = left_all Can first later (subst (All Can) again (right_all Can before rest can)) in
     reads one.0 now caches store load between two.0 addr width value m.stand two.1
     (subst (λ (n : ℕ). All (λ (e : Entry). e.core < n) first) (sym m.cores_are) known_first)
-    (subst (λ (b : ℕ). All (λ (e : Entry). IsServable b (length now.bytes) e.request) first) (sym m.base_is)
-    (subst (λ (n : ℕ). All (λ (e : Entry). IsServable memory.base n e.request) first) (sym m.size_is) can_first))
+    (subst (λ (b : ℕ). All (λ (e : Entry). IsServable b (length now.bytes) false e.request) first) (sym m.base_is)
+    (subst (λ (n : ℕ). All (λ (e : Entry). IsServable memory.base n false e.request) first) (sym m.size_is) can_first))
     stored loaded none_wrote

@@ -4,7 +4,7 @@ use Rattle.zs_num.specs.declared.entry.Entry.{Entry}
 use Rattle.zs_num.specs.declared.entry.Outcome.{Outcome}
 use Rattle.zs_num.specs.declared.entry.Outcome.TheVariants.{Hit, Upgrade, L2, Miss}
 use Rattle.zs_num.specs.declared.request.Request.{Request}
-use Rattle.zs_num.specs.declared.request.Request.TheVariants.{Load, Store, Lr, Sc, Amo}
+use Rattle.zs_num.specs.declared.request.Request.TheVariants.{Load, Store, Lr, Sc, Amo, Fetch}
 use Rattle.event_graph.specs.declared.event.Event.{Event}
 use Rattle.event_graph.specs.declared.fired.Fired.{Fired}
 use Rattle.stats.specs.declared.counts.CoreCount.{CoreCount}
@@ -17,6 +17,7 @@ is_load (Store addr width value) = false
 is_load (Lr addr width) = false
 is_load (Sc addr width value paired) = false
 is_load (Amo op addr width value) = false
+is_load (Fetch addr) = false
 
 abbrev pub is_store : Request → Bool
 is_store (Load addr width) = false
@@ -24,6 +25,7 @@ is_store (Store addr width value) = true
 is_store (Lr addr width) = false
 is_store (Sc addr width value paired) = false
 is_store (Amo op addr width value) = false
+is_store (Fetch addr) = false
 
 abbrev pub is_atomic : Request → Bool
 is_atomic (Load addr width) = false
@@ -31,6 +33,7 @@ is_atomic (Store addr width value) = false
 is_atomic (Lr addr width) = true
 is_atomic (Sc addr width value paired) = true
 is_atomic (Amo op addr width value) = true
+is_atomic (Fetch addr) = false
 
 -- how it was met
 abbrev pub is_hit : Outcome → Bool

@@ -1,5 +1,5 @@
 -- What the cores of the tests can ask of the shards of their table, and what can be asked of these when it is closed.
-use Rattle.std.proofs.Common.{◌≡◌, ℕ, ◌%◌, ◌<◌, ◌++◌, List, [], ◌∷◌, length, Option, None, Some, slice_get, get_or, refl, sym, ◌∙◌, ap, subst, arith, zero, suc, mod-lt}
+use Rattle.std.proofs.Common.{◌≡◌, ℕ, ◌%◌, ◌<◌, ◌++◌, List, [], ◌∷◌, length, Option, None, Some, slice_get, get_or, refl, sym, ◌∙◌, ap, subst, arith, zero, suc, mod-lt, false}
 use Rattle.std.proofs.lemmas.List.{length-map, length-replicate}
 use Rattle.std.proofs.lemmas.List.Elements.{All-cons, All-nil}
 use Rattle.std.proofs.lemmas.Option.{same_Some, none-some}
@@ -65,16 +65,16 @@ one_more_of banks shards one are is number shard at = here (IsOf banks) shards a
     here P (x ∷ xs) each last (suc n) h = here (λ m. P (suc m)) xs (λ m s g. each (suc m) s g) last n h
 
 module _ (banks : ℕ) (table : TableState) (is : IsTested banks table) where
-  can_serve : 0 < banks → (number : ℕ) (shard : ShardState) (request : Request) → slice_get table.shards number ≡ Some shard → IsServable 65536 1048576 request → line_of request % banks ≡ number
+  can_serve : 0 < banks → (number : ℕ) (shard : ShardState) (request : Request) → slice_get table.shards number ≡ Some shard → IsServable 65536 1048576 false request → line_of request % banks ≡ number
       → CanServe shard request
   unfolding CanServe
   can_serve some number shard request at can own =
       let of = is.shards number shard at in (
-        subst (λ (base : ℕ). IsServable base shard.size request) (sym of.base) (subst (λ (size : ℕ). IsServable 65536 size request) (sym of.size) can),
+        subst (λ (base : ℕ). IsServable base shard.size false request) (sym of.base) (subst (λ (size : ℕ). IsServable 65536 size false request) (sym of.size) can),
         ap (λ (n : ℕ). line_of request % n) of.banks_are ∙ (own ∙ sym of.number_is),
       )
 
-  pub may_ask : 0 < banks → (core : ℕ) (request : Request) → core < 2 → IsServable 65536 1048576 request → MayAsk table.shards core request
+  pub may_ask : 0 < banks → (core : ℕ) (request : Request) → core < 2 → IsServable 65536 1048576 false request → MayAsk table.shards core request
   may_ask some core request few can =
       let number : ℕ = bank_of (length table.shards) request in
       let at = some_at table.shards number (mod-lt (line_of request) (omega (arith, is.count, some))) in
@@ -92,7 +92,7 @@ module _ (banks : ℕ) (table : TableState) (is : IsTested banks table) where
     serves_after shard (e ∷ entries) request can = serves_after (shard_after shard e) entries request (still shard e request can)
 
     pub closed_serve : 0 < banks → (entries : List Entry) (shards : List ShardState) → shards ≡ each_after shard_after (bank_of_entry (length table.shards)) entries table.shards
-        → (number : ℕ) (shard : ShardState) (request : Request) → slice_get shards number ≡ Some shard → IsServable 65536 1048576 request → line_of request % banks ≡ number → CanServe shard request
+        → (number : ℕ) (shard : ShardState) (request : Request) → slice_get shards number ≡ Some shard → IsServable 65536 1048576 false request → line_of request % banks ≡ number → CanServe shard request
     closed_serve some entries shards left number shard request at can own =
         by_case (slice_get table.shards number) refl
         (sym (its_own shard_after (bank_of_entry (length table.shards)) entries table.shards number) ∙ (ap (λ (xs : List ShardState). slice_get xs number) (sym left) ∙ at))

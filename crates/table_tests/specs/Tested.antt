@@ -1,5 +1,5 @@
 -- The tables of the tests: two cores, and shards of memory from 0x10000 to 0x110000.
-use Rattle.std.specs.Prelude.{◌≡◌, ◌%◌, ℕ, List, length, Some, slice_get}
+use Rattle.std.specs.Prelude.{◌≡◌, ◌%◌, ℕ, List, length, Some, slice_get, false}
 use Rattle.zs_num.specs.Request.{line_of}
 use Rattle.zs_num.specs.Servable.{IsServable}
 use Rattle.zs_num.specs.declared.request.Request.{Request}
@@ -20,7 +20,7 @@ AreOf banks shards = (number : ℕ) (shard : ShardState) → slice_get shards nu
 -- each can be asked what is in its lines
 abbrev pub CanBeAsked : (banks : ℕ) → List ShardState → Type 0
 CanBeAsked banks shards = (number : ℕ) (shard : ShardState) (request : Request) → slice_get shards number ≡ Some shard
-    → IsServable 65536 1048576 request → line_of request % banks ≡ number → CanServe shard request
+    → IsServable 65536 1048576 false request → line_of request % banks ≡ number → CanServe shard request
 
 -- a table of so many shards, at which a core can make 1000 accesses
 pub record IsTested (banks : ℕ) (table : TableState) : Type 0 where

@@ -1,5 +1,5 @@
 //! A table with the seats of its two cores.
-ghost use Rattle.std.specs.Prelude.{◌≡◌, ◌<◌, ◌≤◌, ◌%◌, [], ◌∷◌, length, IfOk};
+ghost use Rattle.std.specs.Prelude.{◌≡◌, ◌<◌, ◌≤◌, ◌%◌, [], ◌∷◌, length, IfOk, false};
 ghost use Rattle.machine_desc.specs.Machine.{IsMachine};
 ghost use Rattle.zs_num.specs.Servable.{IsServable};
 ghost use Rattle.shard_table.specs.Access.{IsSameSeat, IsSeatOf};
@@ -83,7 +83,7 @@ fn ask<R: Abort>(
 ) -> Result<Entry, Fail>
     requires table { (0 < banks) × IsTested banks table.now }
     requires seat { IsSeatOf table.now seat.old × (seat.old.core < 2) }
-    requires can { IsServable 65536 1048576 request }
+    requires can { IsServable 65536 1048576 false request }
     ensures same { IsSameSeat seat.old seat.new }
 {
     assert!(rt; seat.entries().len() < ROOM as usize);
@@ -128,14 +128,14 @@ impl Tested {
 
     /// The entry of an access of core 0.
     pub(crate) fn first_asks<R: Abort>(&mut self, rt: &R, request: Request) -> Result<Entry, Fail>
-        requires { IsServable 65536 1048576 request }
+        requires { IsServable 65536 1048576 false request }
     {
         ask(rt, &self.table, &mut self.first, self.banks, request)
     }
 
     /// The entry of an access of core 1.
     pub(crate) fn second_asks<R: Abort>(&mut self, rt: &R, request: Request) -> Result<Entry, Fail>
-        requires { IsServable 65536 1048576 request }
+        requires { IsServable 65536 1048576 false request }
     {
         ask(rt, &self.table, &mut self.second, self.banks, request)
     }

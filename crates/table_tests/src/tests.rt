@@ -1,5 +1,5 @@
 //! Worked accesses: stamps, replies and logs, and two threads that add to one doubleword.
-ghost use Rattle.std.specs.Prelude.{◌≡◌, ◌<◌, []};
+ghost use Rattle.std.specs.Prelude.{◌≡◌, ◌<◌, [], false};
 ghost use Rattle.zs_num.specs.Servable.{IsServable};
 ghost use Rattle.shard.specs.Served.{CanServe};
 ghost use Rattle.shard_table.specs.Access.{IsSameSeat, IsSeatOf};
@@ -94,7 +94,7 @@ fn stamps_pass_those_of_the_shard_and_of_the_core(rt: HostRuntime) -> Result<(),
 
 /// A store or a load of the even or the odd line.
 fn request_of(stores: bool, is_even: bool) -> Request
-    ensures { IsServable 65536 1048576 result }
+    ensures { IsServable 65536 1048576 false result }
 {
     let addr = if is_even { EVEN } else { ODD };
     if stores {
@@ -111,7 +111,7 @@ fn stamp_of<R: Abort>(
     is_first: bool,
     request: Request,
 ) -> Result<Stamp, Fail>
-    requires { IsServable 65536 1048576 request }
+    requires { IsServable 65536 1048576 false request }
 {
     let entry = if is_first {
         tested.first_asks(rt, request)?

@@ -1,7 +1,7 @@
 -- Accesses that are paired right: each store-conditional says rightly whether it is paired.
 use Rattle.std.specs.Prelude.{◌≡◌, ℕ, List, [], ◌∷◌, slice_index_or, slice_set, Option, None}
 use Rattle.zs_num.specs.declared.request.Request.{Request}
-use Rattle.zs_num.specs.declared.request.Request.TheVariants.{Load, Store, Lr, Sc, Amo}
+use Rattle.zs_num.specs.declared.request.Request.TheVariants.{Load, Store, Lr, Sc, Amo, Fetch}
 use Rattle.zs_num.specs.declared.pairing.Pairing.{Pairing}
 use Rattle.zs_num.specs.Pairing.{is_paired, pairing_after}
 
@@ -12,6 +12,7 @@ IsPairedRight pairing (Store addr width value) = Unit {0}
 IsPairedRight pairing (Lr addr width) = Unit {0}
 IsPairedRight pairing (Sc addr width value paired) = paired ≡ is_paired pairing addr width
 IsPairedRight pairing (Amo op addr width value) = Unit {0}
+IsPairedRight pairing (Fetch addr) = Unit {0}
 
 -- ---- the accesses of one core
 

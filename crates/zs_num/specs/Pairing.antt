@@ -3,7 +3,7 @@
 -- made no store-conditional since.
 use Rattle.std.specs.Prelude.{ℕ, ◌==◌, ◌&&◌, Bool, false, Option, Some, None}
 use Rattle.zs_num.specs.declared.request.Request.{Request}
-use Rattle.zs_num.specs.declared.request.Request.TheVariants.{Load, Store, Lr, Sc, Amo}
+use Rattle.zs_num.specs.declared.request.Request.TheVariants.{Load, Store, Lr, Sc, Amo, Fetch}
 use Rattle.zs_num.specs.declared.pairing.Pairing.{Pairing}
 
 -- the core's pairing after it made this access
@@ -13,6 +13,7 @@ pairing_after pairing (Store addr width value) = pairing
 pairing_after pairing (Lr addr width) = Some (record { addr = addr; width = width })
 pairing_after pairing (Sc addr width value paired) = None
 pairing_after pairing (Amo op addr width value) = pairing
+pairing_after pairing (Fetch addr) = pairing
 
 -- whether the core's latest load-reserved was at this address and width, and no store-conditional came since
 abbrev pub is_paired : Option Pairing → (addr width : ℕ) → Bool

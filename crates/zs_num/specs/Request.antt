@@ -1,7 +1,7 @@
 -- What a core asks of memory.
 use Rattle.std.specs.Prelude.{ℕ, ◌/◌, ◌%◌}
 use Rattle.zs_num.specs.declared.request.Request.{Request}
-use Rattle.zs_num.specs.declared.request.Request.TheVariants.{Load, Store, Lr, Sc, Amo}
+use Rattle.zs_num.specs.declared.request.Request.TheVariants.{Load, Store, Lr, Sc, Amo, Fetch}
 
 -- the address of its lowest byte
 abbrev pub addr_of : Request → ℕ
@@ -10,14 +10,16 @@ addr_of (Store addr width value) = addr
 addr_of (Lr addr width) = addr
 addr_of (Sc addr width value paired) = addr
 addr_of (Amo op addr width value) = addr
+addr_of (Fetch addr) = addr
 
--- how many bytes it reads or writes
+-- how many bytes it reads or writes; of a fetch, those of the instruction
 abbrev pub width_of : Request → ℕ
 width_of (Load addr width) = width
 width_of (Store addr width value) = width
 width_of (Lr addr width) = width
 width_of (Sc addr width value paired) = width
 width_of (Amo op addr width value) = width
+width_of (Fetch addr) = 4
 
 -- how many bytes a cache line has
 abbrev pub line_bytes : ℕ

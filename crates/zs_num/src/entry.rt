@@ -7,7 +7,8 @@ use std::marker::Model;
 /// How the caches met a request.
 #[derive(Clone, Copy, PartialEq, Eq)]
 pub enum Outcome {
-    /// The core's own cache had the line with the permission that was needed.
+    /// The core's own cache had the line with the permission that was needed: of a fetch its
+    /// instruction cache, of every other access its data cache.
     Hit,
     /// The core's own cache had the line without write permission. `others`: another core
     /// had it too.

@@ -4,6 +4,9 @@ ghost use Rattle.std.specs.Prelude.{◌≡◌};
 /// How many bytes a cache line has.
 pub const LINE: u64 = 64;
 
+/// How many bytes an instruction has.
+const INSTRUCTION: u8 = 4;
+
 /// The operation of an atomic read-modify-write (RISC-V Unprivileged ISA manual, "A" extension).
 #[derive(Clone, Copy, PartialEq, Eq)]
 pub enum AmoOp {
@@ -23,7 +26,7 @@ pub enum AmoOp {
 }
 
 /// What a core asks of memory. It lies in one line. Widths are in bytes: 1 to 8 for a
-/// load or a store, 4 or 8 for the others. Of a `value` the low `width` bytes count.
+/// load or a store, 4 for a fetch, 4 or 8 for the others. Of a `value` the low `width` bytes count.
 #[derive(Clone, Copy, PartialEq, Eq)]
 pub enum Request {
     Load {
@@ -55,6 +58,11 @@ pub enum Request {
         width: u8,
         value: u64,
     },
+    /// The fetch of an instruction through the core's instruction cache. It reads no byte of
+    /// memory: instructions are those of the executable as it was loaded.
+    Fetch {
+        addr: u64,
+    },
 }
 
 impl Request {
@@ -69,11 +77,12 @@ impl Request {
             | Request::Store { addr, .. }
             | Request::Lr { addr, .. }
             | Request::Sc { addr, .. }
-            | Request::Amo { addr, .. } => addr,
+            | Request::Amo { addr, .. }
+            | Request::Fetch { addr } => addr,
         }
     }
 
-    /// How many bytes it reads or writes.
+    /// How many bytes it reads or writes: of a fetch, those of the instruction.
     pub fn width(&self) -> u8
         ensures { result ≡ width_of self.now }
     {
@@ -83,6 +92,7 @@ impl Request {
             | Request::Lr { width, .. }
             | Request::Sc { width, .. }
             | Request::Amo { width, .. } => width,
+            Request::Fetch { .. } => INSTRUCTION,
         }
     }
 

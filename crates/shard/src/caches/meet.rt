@@ -191,7 +191,7 @@ fn is_write(request: &Request) -> bool
     ensures { result ≡ is_write request.now }
 {
     match *request {
-        Request::Load { .. } | Request::Lr { .. } => false,
+        Request::Load { .. } | Request::Lr { .. } | Request::Fetch { .. } => false,
         Request::Store { .. } | Request::Sc { .. } | Request::Amo { .. } => true,
     }
 }

@@ -1,4 +1,4 @@
-use Rattle.std.proofs.Common.{rules, ◌≡◌, ◌≤◌, ◌+◌, ℕ, length, sym, ap, ◌∙◌, subst, arith}
+use Rattle.std.proofs.Common.{rules, ◌≡◌, ◌≤◌, ◌+◌, ℕ, length, sym, ap, ◌∙◌, subst, arith, false}
 use Rattle.std.specs.Prelude.{slice_index, slice_set}
 use Rattle.zs_num.specs.Servable.{IsServable}
 use Rattle.zs_num.specs.declared.entry.Entry.{Entry}
@@ -16,7 +16,7 @@ serve-entry-requires-clause-can c =
     let is : c.index_mut.result.now ≡ shard_for w.shards c.args.request =
     shard_is w c.self.inside.core c.args.start c.args.request c.index_mut.result.now _ port.shards.some (search rules) c.index_mut.ensures.value
     in
-    let servable : IsServable (base_of w) (size_of w) c.args.request = subst (λ (p : ShardPortState). IsServable (base_of p.world) (size_of p.world) c.args.request) (sym c.self.view_is) c.requires.servable in
+    let servable : IsServable (base_of w) (size_of w) false c.args.request = subst (λ (p : ShardPortState). IsServable (base_of p.world) (size_of p.world) false c.args.request) (sym c.self.view_is) c.requires.servable in
     subst (λ (s : ShardState). CanServe s c.args.request) (sym is) (can_serve w c.self.inside.core c.args.start c.args.request port servable)
 
 pub serve-entry-requires-clause-own_stamp : goal.serve-entry-requires-clause-own_stamp
