@@ -42,6 +42,7 @@ pub(crate) fn two_cores(alloc: Global, banks: u16) -> Result<Machine, NoMemory>
             ways: 1,
             latency: 1,
         },
+        l1i: None,
         l2: L2 {
             banks,
             sets: 4,

@@ -13,6 +13,7 @@ use Rattle.component.specs.declared.comp.Comp.TheVariants.{Bank as ABank, Contro
 use Rattle.component.specs.Serving.{comp_serves, comp_latency}
 use Rattle.component.specs.Components.{AreComponents, IsBankOf, IsControllerOf}
 use Rattle.event_graph.specs.Fits.{GraphFits}
+use Rattle.event_graph.specs.AccessPaths.{path_of}
 use Rattle.event_graph.specs.Timing.{pieces_of, look_up_time}
 use Rattle.event_graph.specs.Floors.{plain_floor, is_bank, is_controller}
 use Rattle.event_graph.specs.PlainLaws.{plain_floors_are_times}
@@ -85,7 +86,7 @@ module _ (m : Machine) (comps : List Comp) (are : AreComponents m comps) where
       let found = controller_at component floors.0 in
       subst (ServesWith comp_serves comp_latency comps component Write) floors.1 (of_controller component found.0 found.1 found.2).1
 
-  pub plain_fits : IsMachine m → (entries : List Entry) → GraphFits comp_serves comp_latency (all_events (pieces_of m.l1 m.l2 m.controllers) entries) comps
+  pub plain_fits : IsMachine m → (entries : List Entry) → GraphFits comp_serves comp_latency (all_events (pieces_of (path_of m)) entries) comps
   plain_fits ok entries =
-      floors_fit (pieces_of m.l1 m.l2 m.controllers) (plain_floor m.l2 m.controllers) (plain_floors_are_times m.l1 m.l2 m.controllers ok.l2 ok.controllers)
+      floors_fit (pieces_of (path_of m)) (plain_floor m.l2 m.controllers) (plain_floors_are_times (path_of m) (record { l1 = ok.l1; l1i = ok.l1i; l2 = ok.l2; controllers = ok.controllers }))
       comp_serves comp_latency comps plain_floors entries

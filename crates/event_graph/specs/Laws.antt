@@ -1,9 +1,6 @@
 -- What is true of every machine's graphs, and of the weave on its components.
 use Rattle.std.specs.Prelude.{◌+◌, ◌*◌, ◌≤◌, ◌^◌, ℕ, List, length, sum_by}
 use Rattle.std.specs.List.{All}
-use Rattle.machine_desc.specs.declared.machine.L1.{L1}
-use Rattle.machine_desc.specs.declared.machine.L2.{L2}
-use Rattle.machine_desc.specs.declared.machine.Controllers.{Controllers}
 use Rattle.machine_desc.specs.declared.machine.Machine.{Machine}
 use Rattle.machine_desc.specs.Machine.{IsMachine}
 use Rattle.zs_num.specs.declared.entry.Entry.{Entry}
@@ -11,7 +8,9 @@ use Rattle.component.specs.declared.comp.Comp.{Comp}
 use Rattle.component.specs.ComponentStep.{comp_step, free_of}
 use Rattle.component.specs.Serving.{comp_serves, comp_latency, comp_greatest}
 use Rattle.component.specs.Components.{AreComponents}
+use Rattle.event_graph.specs.declared.access_path.AccessPath.{AccessPath}
 use Rattle.event_graph.specs.declared.event.Event.{Event}
+use Rattle.event_graph.specs.AccessPaths.{path_of}
 use Rattle.event_graph.specs.Fits.{GraphFits}
 use Rattle.event_graph.specs.Near.{AreNear}
 use Rattle.event_graph.specs.Numbered.{IsNumbered}
@@ -31,12 +30,12 @@ PlainFloorsAreOfComponents = (m : Machine) (comps : List Comp) → AreComponents
 -- zero load as its floor
 abbrev pub PlainGraphsFit : Type 0
 PlainGraphsFit = (m : Machine) (comps : List Comp) (entries : List Entry) → IsMachine m → AreComponents m comps
-    → GraphFits comp_serves comp_latency (all_events (pieces_of m.l1 m.l2 m.controllers) entries) comps
+    → GraphFits comp_serves comp_latency (all_events (pieces_of (path_of m)) entries) comps
 
 -- an access has four events at most
 abbrev pub PlainAccessesHaveFewEvents : Type 0
-PlainAccessesHaveFewEvents = (l1 : L1) (l2 : L2) (controllers : Controllers) (entries : List Entry)
-    → sum_by (λ e. length (pieces_of l1 l2 controllers e)) entries ≤ 4 * length entries
+PlainAccessesHaveFewEvents = (path : AccessPath) (entries : List Entry)
+    → sum_by (λ e. length (pieces_of path e)) entries ≤ 4 * length entries
 
 -- the components of a machine are its components after a weave, too
 abbrev pub MachineComponentsStay : Type 0

@@ -1,3 +1,4 @@
+pub mod AccessPaths
 pub mod Critical
 pub mod EventGraph
 pub mod Expansion
@@ -10,6 +11,7 @@ pub mod Near
 pub mod NextEvent
 pub mod Numbered
 pub mod OneListWeave
+pub mod PathInRange
 pub mod PlainLaws
 pub mod SmallSteps
 pub mod Timely

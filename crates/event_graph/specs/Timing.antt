@@ -1,14 +1,15 @@
 -- The time of an access where nothing else runs, and the events that it is made of.
 use Rattle.std.specs.Prelude.{◌+◌, ◌%◌, ℕ, Bool, true, false, max, if◌then◌else◌, List, [], ◌∷◌, None, Some}
 use Rattle.component.specs.declared.kind.Kind.TheVariants.{Lookup, Remote, Fill, Read, Write}
-use Rattle.machine_desc.specs.declared.machine.L1.{L1}
 use Rattle.machine_desc.specs.declared.machine.L2.{L2}
 use Rattle.machine_desc.specs.declared.machine.Controllers.{Controllers}
 use Rattle.zs_num.specs.declared.entry.Entry.{Entry}
 use Rattle.zs_num.specs.declared.entry.Outcome.{Outcome}
 use Rattle.zs_num.specs.declared.entry.Outcome.TheVariants.{Hit, Upgrade, L2 as FoundInL2, Miss}
 use Rattle.zs_num.specs.Request.{bank_of}
+use Rattle.event_graph.specs.declared.access_path.AccessPath.{AccessPath}
 use Rattle.event_graph.specs.declared.piece.Piece.{Piece}
+use Rattle.event_graph.specs.AccessPaths.{head_time}
 
 -- a look-up in the shared cache; others: another core has to change its copy
 abbrev pub look_up_time : L2 → (others : Bool) → ℕ
@@ -18,12 +19,16 @@ look_up_time l2 others = (if others then l2.latency + l2.remote else l2.latency)
 abbrev pub memory_time : Controllers → (dirty : Bool) → ℕ
 memory_time controllers dirty = (if dirty then max controllers.read controllers.write else controllers.read)
 
--- the zero-load time of an access, by its outcome
-abbrev pub time_by : L1 → L2 → Controllers → Outcome → ℕ
-time_by l1 l2 controllers Hit = l1.latency
-time_by l1 l2 controllers (Upgrade others) = l1.latency + look_up_time l2 others
-time_by l1 l2 controllers (FoundInL2 others) = l1.latency + look_up_time l2 others
-time_by l1 l2 controllers (Miss dirty) = l1.latency + l2.latency + memory_time controllers dirty + l2.fill
+-- the zero-load time of an access, by its head and its outcome
+abbrev pub time_by : (head : ℕ) → L2 → Controllers → Outcome → ℕ
+time_by head l2 controllers Hit = head
+time_by head l2 controllers (Upgrade others) = head + look_up_time l2 others
+time_by head l2 controllers (FoundInL2 others) = head + look_up_time l2 others
+time_by head l2 controllers (Miss dirty) = head + l2.latency + memory_time controllers dirty + l2.fill
+
+-- the zero-load time of an access
+abbrev pub access_time : AccessPath → Entry → ℕ
+access_time path e = time_by (head_time path e.request) path.l2 path.controllers e.outcome
 
 -- the bank that has the line of an access, and the bank's controller: bank b is component b, and controller m is
 -- component banks + m
@@ -33,14 +38,14 @@ bank_component l2 e = bank_of l2.banks e.request
 abbrev pub controller_component : L2 → Controllers → Entry → ℕ
 controller_component l2 controllers e = l2.banks + bank_component l2 e % controllers.count
 
--- the events: a look-up; on a miss a read, and beside it a write where a line is written back; and
+-- the events, each after the head of the access: a look-up; on a miss a read, and beside it a write where a line is written back; and
 -- then a fill, which waits for both
-module _ (l1 : L1) (l2 : L2) (controllers : Controllers) (bank controller : ℕ) where
+module _ (head : ℕ) (l2 : L2) (controllers : Controllers) (bank controller : ℕ) where
   abbrev pub look_up : (others : Bool) → Piece
   look_up others = record {
     component = bank;
     kind = (if others then Remote else Lookup);
-    offset = l1.latency;
+    offset = head;
     time = look_up_time l2 others;
     first = None;
     second = None;
@@ -50,7 +55,7 @@ module _ (l1 : L1) (l2 : L2) (controllers : Controllers) (bank controller : ℕ)
   read = record {
     component = controller;
     kind = Read;
-    offset = l1.latency + l2.latency;
+    offset = head + l2.latency;
     time = controllers.read;
     first = Some 0;
     second = None;
@@ -60,7 +65,7 @@ module _ (l1 : L1) (l2 : L2) (controllers : Controllers) (bank controller : ℕ)
   write = record {
     component = controller;
     kind = Write;
-    offset = l1.latency + l2.latency;
+    offset = head + l2.latency;
     time = controllers.write;
     first = Some 0;
     second = None;
@@ -70,7 +75,7 @@ module _ (l1 : L1) (l2 : L2) (controllers : Controllers) (bank controller : ℕ)
   fill dirty = record {
     component = bank;
     kind = Fill;
-    offset = l1.latency + l2.latency + memory_time controllers dirty;
+    offset = head + l2.latency + memory_time controllers dirty;
     time = l2.fill;
     first = Some 1;
     second = (if dirty then Some 2 else None);
@@ -83,5 +88,7 @@ module _ (l1 : L1) (l2 : L2) (controllers : Controllers) (bank controller : ℕ)
   pieces_by (Miss false) = look_up false ∷ read ∷ fill false ∷ []
   pieces_by (Miss true) = look_up false ∷ read ∷ write ∷ fill true ∷ []
 
-abbrev pub pieces_of : L1 → L2 → Controllers → Entry → List Piece
-pieces_of l1 l2 controllers e = pieces_by l1 l2 controllers (bank_component l2 e) (controller_component l2 controllers e) e.outcome
+-- the events of an access
+abbrev pub pieces_of : AccessPath → Entry → List Piece
+pieces_of path e =
+    pieces_by (head_time path e.request) path.l2 path.controllers (bank_component path.l2 e) (controller_component path.l2 path.controllers e) e.outcome

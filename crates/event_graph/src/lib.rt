@@ -1,6 +1,7 @@
 //! The events of an interval, and the order in which the weave takes them.
 #![tactic(auto)]
 
+mod access_path;
 mod builder;
 mod event;
 mod expand;
@@ -10,6 +11,7 @@ pub mod laws;
 mod piece;
 mod plain;
 
+pub use access_path::AccessPath;
 pub use builder::build;
 pub use component::Kind;
 pub use event::{Event, Parent};

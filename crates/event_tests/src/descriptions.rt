@@ -95,8 +95,81 @@ static KINDS: [Case; 9] = [
     ),
 ];
 
+/// The line with which the table of the L2 begins, behind an instruction cache.
+const L1I: (&str, &str) = ("[l2]", "[l1i]\nsets = 2\nways = 1\nlatency = 1\n\n[l2]");
+
+static OF_VERSION_2: [Case; 9] = [
+    (&[L1I], 5, "l1i", 0),
+    (&[("version = 1", "version = 2")], 2, "l1i", 0),
+    (
+        &[("version = 1", "version = 2"), ("[l2]", "[l1i]\n[l2]")],
+        2,
+        "l1i.sets",
+        0,
+    ),
+    (
+        &[
+            ("version = 1", "version = 2"),
+            ("[l2]", "[l1i]\nsets = 4097\n[l2]"),
+        ],
+        4,
+        "l1i.sets",
+        4097,
+    ),
+    (
+        &[
+            ("version = 1", "version = 2"),
+            ("[l2]", "[l1i]\nsets = 2\nways = 17\n[l2]"),
+        ],
+        4,
+        "l1i.ways",
+        17,
+    ),
+    (
+        &[
+            ("version = 1", "version = 2"),
+            ("[l2]", "[l1i]\nsets = 2\nways = 1\nlatency = 0\n[l2]"),
+        ],
+        4,
+        "l1i.latency",
+        0,
+    ),
+    (
+        &[
+            ("version = 1", "version = 2"),
+            ("intervals = 100000", "intervals = 100000\nl1i = 2"),
+        ],
+        3,
+        "l1i",
+        0,
+    ),
+    (
+        &[
+            ("version = 1", "version = 2"),
+            (
+                "[l2]",
+                "[l1i]\nsets = 2\nways = 1\nlatency = 1\ncolour = 1\n[l2]",
+            ),
+        ],
+        5,
+        "l1i.colour",
+        0,
+    ),
+    (
+        &[
+            ("version = 1", "version = 2"),
+            ("banks = 1\nsets = 4", "banks = 2\nsets = 4"),
+            ("banks = [0]", "banks = [0, 1]"),
+            ("[l2]", "[l1i]\nsets = 3\nways = 1\nlatency = 1\n[l2]"),
+        ],
+        6,
+        "l1i.sets",
+        0,
+    ),
+];
+
 static RANGES: [Case; 18] = [
-    (&[("version = 1", "version = 2")], 4, "version", 2),
+    (&[("version = 1", "version = 3")], 4, "version", 3),
     (&[("cores = 1", "cores = 65")], 4, "cores", 65),
     (&[("interval = 10000", "interval = 0")], 4, "interval", 0),
     (
@@ -254,6 +327,7 @@ fn the_first_check_that_fails_is_told(rt: HostRuntime) {
     refuse(&rt, &MISSING);
     refuse(&rt, &KINDS);
     refuse(&rt, &RANGES);
+    refuse(&rt, &OF_VERSION_2);
     refuse(&rt, &NAMES);
     refuse(&rt, &RATIOS);
     refuse(&rt, &DOMAINS);
@@ -284,6 +358,7 @@ fn are_same_domains(one: &Domains, other: &Domains) -> bool {
 fn are_same_parts(one: &Machine, other: &Machine) -> bool {
     one.memory == other.memory
         && one.l1 == other.l1
+        && one.l1i == other.l1i
         && one.l2 == other.l2
         && one.controllers == other.controllers
 }
@@ -294,6 +369,19 @@ fn is_same(rt: &impl Abort, one: &Machine, other: &Machine) {
     assert!(rt; one.interval == other.interval && one.intervals == other.intervals);
     assert!(rt; are_same_parts(one, other));
     assert!(rt; are_same_domains(&one.domains, &other.domains));
+}
+
+/// The built-in machine with an instruction cache for its core.
+fn fetching(rt: &(impl Abort + AllocGlobal)) -> Machine {
+    let text = edited(rt, &[("version = 1", "version = 2"), L1I]);
+    machine_of(rt, text.as_bytes())
+}
+
+#[test]
+fn version_2_has_an_instruction_cache(rt: HostRuntime) {
+    let machine = fetching(&rt);
+    assert!(rt; machine.version == 2);
+    assert!(rt; machine.l1i == Some(machine.l1));
 }
 
 #[test]

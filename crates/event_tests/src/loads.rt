@@ -42,7 +42,7 @@ fn are_of_two_cores(entries: &[Entry]) -> bool
 
 /// Whether these entries have fewer events than there are numbers for.
 fn are_few(plain: &Plain, entries: &[Entry]) -> bool
-    ensures { IsTrue result → sum_by (λ e. length (pieces_of plain.now.l1 plain.now.l2 plain.now.controllers e)) entries.now < 2 ^ 32 }
+    ensures { IsTrue result → sum_by (λ e. length (pieces_of plain.now.path e)) entries.now < 2 ^ 32 }
 {
     laws::plain_accesses_have_few_events();
     let _plain = plain;

@@ -63,6 +63,7 @@ pub(crate) fn small(rt: &(impl Abort + AllocGlobal), cores: u16) -> Machine
             ways: 1,
             latency: 1,
         },
+        l1i: None,
         l2: L2 {
             banks: 1,
             sets: 4,

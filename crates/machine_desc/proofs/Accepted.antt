@@ -1,15 +1,15 @@
 -- A document in which no check fails describes a machine whose numbers are in their ranges.
-use Rattle.std.proofs.Common.{◌≡◌, ℕ, ◌+◌, ◌<◌, ◌≤◌, ◌^◌, Bool, true, ◌==◌, ◌&&◌, ℤ, List, ◌++◌, codes, length, All, Some, None, inl, inr, refl, ◌∙◌, subst, arith, eq-eqb}
-use Rattle.std.specs.Prelude.{bytes_eq}
+use Rattle.std.proofs.Common.{◌≡◌, ℕ, ◌+◌, ◌<◌, ◌≤◌, ◌^◌, Bool, true, false, cond, ◌&&◌, ℤ, List, ◌++◌, codes, length, All, Some, None, inl, inr, is_some, refl, ◌∙◌, subst, arith}
+use Rattle.std.specs.Prelude.{bytes_eq, nat_lt, IfSome}
 use Rattle.std.specs.List.{find}
-use Rattle.std.proofs.lemmas.Bool.{cases_Bool}
+use Rattle.std.proofs.lemmas.Bool.{and_from, cases_Bool, le-leb}
 use Rattle.std.proofs.lemmas.List.{length-append, length-map, get_or_append_left, get_or-append-add}
 use Rattle.std.proofs.lemmas.List.Elements.{All-map}
 use Rattle.toml.specs.Data.{Members}
-use Rattle.machine_desc.specs.Keys.{KeyPath, Check, Ratio, range_check, pages_check, array_check, top, at, top_checks, memory_checks, l1_checks, l2_checks, controller_checks, domain_checks, version_1_checks, version_1_ratios}
+use Rattle.machine_desc.specs.Keys.{KeyPath, Check, Ratio, range_check, pages_check, array_check, top, at, top_checks, memory_checks, own_cache_checks, l1_checks, l1i_checks, l2_checks, controller_checks, domain_checks, sets_ratio}
 use Rattle.machine_desc.specs.Text.{natural, integer_at, version_of, integers_at}
 use Rattle.machine_desc.specs.Machine.{IsBetween, IsMemory, IsL1, IsL2, IsControllers, IsDomains, IsMachine}
-use Rattle.machine_desc.specs.Description.{checks_of, ratios_of, is_named, checks_refusal, ratios_refusal, written_domains, domain_refusal, names_refusal, document_refusal, memory_of, l1_of, l2_of, controllers_of, domains_of, numbers_of}
+use Rattle.machine_desc.specs.Description.{is_version, has_l1i, checks_if, checks_of, ratios_of, is_named, checks_refusal, ratio_refusal, ratios_refusal, written_domains, domain_refusal, names_refusal, document_refusal, memory_of, own_cache_of, l1_of, l1i_of, l2_of, controllers_of, domains_of, numbers_of}
 use Rattle.machine_desc.proofs.Valid.{IsInItsRange, checks_none-append, check_none, integer_holds, share_holds, array_holds, ratio_none, ratio_holds, domains_hold, first_none, second_none, map_none}
 
 -- the check and the ratio of this key
@@ -24,35 +24,35 @@ record Passed (document : Members) : Type 0 where
   pub top : checks_refusal document top_checks ≡ None
   pub memory : checks_refusal document memory_checks ≡ None
   pub l1 : checks_refusal document l1_checks ≡ None
+  pub l1i : checks_refusal document (checks_if (has_l1i document) l1i_checks) ≡ None
   pub l2 : checks_refusal document l2_checks ≡ None
   pub controllers : checks_refusal document controller_checks ≡ None
   pub domains : checks_refusal document domain_checks ≡ None
 
--- a document whose checks find nothing is of version 1
-is_version_1 : (document : Members) → checks_refusal document (checks_of document) ≡ None → (version_of document == 1) ≡ true
+-- a document whose checks find nothing is of a version that there is
+is_there : (document : Members) → checks_refusal document (checks_of document) ≡ None → is_version (version_of document) ≡ true
 unfolding checks_of
-is_version_1 document h =
-    elim (cases_Bool (version_of document == 1)) [
+is_there document h =
+    elim (cases_Bool (is_version (version_of document))) [
       | inl is ↦ is
       | inr other ↦
-          let holds = integer_holds document (top (codes "version")) (record { low = 1; high = 1; step = 1 }) (first_none _ _ (rw other at h)) in
-          eq-eqb (version_of document) 1 (omega (arith, holds.low, holds.high))
+          let holds = integer_holds document (top (codes "version")) (record { low = 1; high = 2; step = 1 }) (first_none _ _ (rw other at h)) in
+          and_from _ _ (le-leb _ _ holds.low) (le-leb _ _ holds.high)
     ]
 
 passed : (document : Members) → checks_refusal document (checks_of document) ≡ None → Passed document
-unfolding checks_of version_1_checks
+unfolding checks_of
 passed document h =
-    let all : checks_refusal document version_1_checks ≡ None = rw (is_version_1 document h) at h in
-    let (to_controllers, domains) = checks_none-append document (top_checks ++ memory_checks ++ l1_checks ++ l2_checks ++ controller_checks) domain_checks all in
-    let (to_l2, controllers) = checks_none-append document (top_checks ++ memory_checks ++ l1_checks ++ l2_checks) controller_checks to_controllers in
-    let (to_l1, l2) = checks_none-append document (top_checks ++ memory_checks ++ l1_checks) l2_checks to_l2 in
+    let l1i_there = checks_if (has_l1i document) l1i_checks in
+    let all : checks_refusal document (top_checks ++ memory_checks ++ l1_checks ++ l1i_there ++ l2_checks ++ controller_checks ++ domain_checks) ≡ None
+    = rw (is_there document h) at h in
+    let (to_controllers, domains) = checks_none-append document (top_checks ++ memory_checks ++ l1_checks ++ l1i_there ++ l2_checks ++ controller_checks) domain_checks all in
+    let (to_l2, controllers) = checks_none-append document (top_checks ++ memory_checks ++ l1_checks ++ l1i_there ++ l2_checks) controller_checks to_controllers in
+    let (to_l1i, l2) = checks_none-append document (top_checks ++ memory_checks ++ l1_checks ++ l1i_there) l2_checks to_l2 in
+    let (to_l1, l1i) = checks_none-append document (top_checks ++ memory_checks ++ l1_checks) l1i_there to_l1i in
     let (to_memory, l1) = checks_none-append document (top_checks ++ memory_checks) l1_checks to_l1 in
     let (top, memory) = checks_none-append document top_checks memory_checks to_memory in
-    record { top = top; memory = memory; l1 = l1; l2 = l2; controllers = controllers; domains = domains }
-
-ratios_hold : (document : Members) → checks_refusal document (checks_of document) ≡ None → ratios_refusal document (ratios_of document) ≡ None → ratios_refusal document version_1_ratios ≡ None
-unfolding ratios_of
-ratios_hold document h r = rw (is_version_1 document h) at r
+    record { top = top; memory = memory; l1 = l1; l1i = l1i; l2 = l2; controllers = controllers; domains = domains }
 
 -- what a list of checks that finds nothing says of a key, which is found by its name
 module _ (document : Members) (cs : List Check) (none : checks_refusal document cs ≡ None) where
@@ -84,21 +84,54 @@ memory_holds document p =
       stacks = stack.1;
     }
 
-l1_holds : (document : Members) → Passed document → ratios_refusal document version_1_ratios ≡ None → IsL1 (integer_at document (at (codes "l2") (codes "banks"))) (l1_of document)
-unfolding l1_checks version_1_ratios l1_of
-l1_holds document p r = let in_range = between document l1_checks p.l1 in record {
-  sets = in_range (at (codes "l1") (codes "sets")) 1 4096 refl;
-  ratio = ratio_holds document _ (ratio_none document version_1_ratios (is_ratio_of (at (codes "l1") (codes "sets"))) _ r refl);
-  ways = in_range (at (codes "l1") (codes "ways")) 1 16 refl;
-  latency = in_range (at (codes "l1") (codes "latency")) 1 65536 refl;
+-- the caches of the cores' own
+own_cache_holds : (document : Members) (table : List ℕ) → checks_refusal document (own_cache_checks table) ≡ None
+    → find (is_check_of (at table (codes "sets"))) (own_cache_checks table) ≡ Some (range_check (at table (codes "sets")) 1 4096)
+    → find (is_check_of (at table (codes "ways"))) (own_cache_checks table) ≡ Some (range_check (at table (codes "ways")) 1 16)
+    → find (is_check_of (at table (codes "latency"))) (own_cache_checks table) ≡ Some (range_check (at table (codes "latency")) 1 65536)
+    → ratio_refusal document (sets_ratio table) ≡ None
+    → IsL1 (integer_at document (at (codes "l2") (codes "banks"))) (own_cache_of document table)
+unfolding own_cache_of
+own_cache_holds document table none sets ways latency ratio = let in_range = between document (own_cache_checks table) none in record {
+  sets = in_range (at table (codes "sets")) 1 4096 sets;
+  ratio = ratio_holds document _ ratio;
+  ways = in_range (at table (codes "ways")) 1 16 ways;
+  latency = in_range (at table (codes "latency")) 1 65536 latency;
 }
 
-l2_holds : (document : Members) → Passed document → ratios_refusal document version_1_ratios ≡ None → IsL2 (l2_of document)
-unfolding l2_checks version_1_ratios l2_of
+-- the ratio of a cache that is there holds
+ratio_of_cache : (document : Members) (table : List ℕ) → ratios_refusal document (ratios_of document) ≡ None
+    → find (is_ratio_of (at table (codes "sets"))) (ratios_of document) ≡ Some (sets_ratio table) → ratio_refusal document (sets_ratio table) ≡ None
+ratio_of_cache document table none found = ratio_none document (ratios_of document) (is_ratio_of (at table (codes "sets"))) _ none found
+
+l1_holds : (document : Members) → Passed document → ratios_refusal document (ratios_of document) ≡ None → IsL1 (integer_at document (at (codes "l2") (codes "banks"))) (l1_of document)
+unfolding own_cache_checks ratios_of
+l1_holds document p r =
+    own_cache_holds document (codes "l1") p.l1 refl refl refl
+    (ratio_of_cache document (codes "l1") r (elim (cases_Bool (has_l1i document)) [ inl has ↦ rw has refl | inr none ↦ rw none refl ]))
+
+-- an instruction cache, where there is one
+l1i_holds_if : (document : Members) (b : Bool) → has_l1i document ≡ b → checks_refusal document (checks_if b l1i_checks) ≡ None → ratios_refusal document (ratios_of document) ≡ None
+    → IfSome (cond b (Some (own_cache_of document (codes "l1i"))) None) (IsL1 (integer_at document (at (codes "l2") (codes "banks"))))
+unfolding own_cache_checks ratios_of
+l1i_holds_if document false e none r = tt
+l1i_holds_if document true e none r =
+    own_cache_holds document (codes "l1i") none refl refl refl (ratio_of_cache document (codes "l1i") r (rw e refl))
+
+l1i_holds : (document : Members) → Passed document → ratios_refusal document (ratios_of document) ≡ None → IfSome (l1i_of document) (IsL1 (integer_at document (at (codes "l2") (codes "banks"))))
+unfolding l1i_of
+l1i_holds document p r = l1i_holds_if document (has_l1i document) refl p.l1i r
+
+l1i_there : (document : Members) → is_some (l1i_of document) ≡ nat_lt 1 (version_of document)
+unfolding l1i_of
+l1i_there document = elim (cases_Bool (has_l1i document)) [ inl has ↦ rw has refl | inr none ↦ rw none refl ]
+
+l2_holds : (document : Members) → Passed document → ratios_refusal document (ratios_of document) ≡ None → IsL2 (l2_of document)
+unfolding l2_checks ratios_of l2_of
 l2_holds document p r = let in_range = between document l2_checks p.l2 in record {
   banks = in_range (at (codes "l2") (codes "banks")) 1 64 refl;
   sets = in_range (at (codes "l2") (codes "sets")) 1 65536 refl;
-  ratio = ratio_holds document _ (ratio_none document version_1_ratios (is_ratio_of (at (codes "l2") (codes "sets"))) _ r refl);
+  ratio = ratio_holds document _ (ratio_of_cache document (codes "l2") r (elim (cases_Bool (has_l1i document)) [ inl has ↦ rw has refl | inr none ↦ rw none refl ]));
   ways = in_range (at (codes "l2") (codes "ways")) 1 32 refl;
   latency = in_range (at (codes "l2") (codes "latency")) 1 65536 refl;
   remote = (in_range (at (codes "l2") (codes "remote")) 0 65536 refl).1;
@@ -171,19 +204,19 @@ accepted document none =
     let known = first_none (checks_refusal document (checks_of document)) _ none in
     let rest = second_none (checks_refusal document (checks_of document)) _ none in
     let rest' = second_none (names_refusal document (checks_of document)) _ rest in
-    let ratio = ratios_hold document known (first_none (ratios_refusal document (ratios_of document)) _ rest') in
+    let ratio = first_none (ratios_refusal document (ratios_of document)) _ rest' in
     let domain = second_none (ratios_refusal document (ratios_of document)) _ rest' in
     let p = passed document known in
     let in_range = between document top_checks p.top in
     record {
-      version =
-          let version = in_range (top (codes "version")) 1 1 refl in
-          omega (arith, version.0, version.1);
+      version = in_range (top (codes "version")) 1 2 refl;
       cores = in_range (top (codes "cores")) 1 64 refl;
       interval = in_range (top (codes "interval")) 1 10000 refl;
       intervals = in_range (top (codes "intervals")) 1 1048576 refl;
       memory = memory_holds document p;
       l1 = l1_holds document p ratio;
+      l1i = l1i_holds document p ratio;
+      has_l1i = l1i_there document;
       l2 = l2_holds document p ratio;
       controllers = controllers_hold document p;
       domains = domains_all document p domain;

@@ -5,7 +5,7 @@ use Rattle.std.specs.Cmp.Lexicographic.{slice_cmp}
 use Rattle.std.specs.Ordering.{nat_cmp, is_lt}
 use Rattle.std.specs.Option.{option_or, option_map_or}
 use Rattle.toml.specs.Data.{Data, Members, no_members, member, as_integer, as_table}
-use Rattle.machine_desc.specs.Keys.{KeyPath, Range as Bounds, Rule, is_table, is_integer, is_share, is_array, Check, Ratio, top, at, version_check, version_1_checks, version_1_ratios}
+use Rattle.machine_desc.specs.Keys.{KeyPath, Range as Bounds, Rule, is_table, is_integer, is_share, is_array, Check, Ratio, top, at, version_check, top_checks, memory_checks, l1_checks, l1i_checks, l2_checks, controller_checks, domain_checks, sets_ratio}
 use Rattle.machine_desc.specs.Text.{document_of, table_at, value_at, integer_at, version_of, natural, array_integers, integers_at, full_name}
 use Rattle.machine_desc.specs.declared.errors.BadMachine.{BadMachine}
 use Rattle.machine_desc.specs.declared.errors.BadMachine.TheVariants.{Text, Missing, Kind, Range, Unknown, Ratio as BadRatio, Domain}
@@ -18,13 +18,32 @@ use Rattle.machine_desc.specs.declared.machine.Controllers.{Controllers}
 use Rattle.machine_desc.specs.declared.machine.Domains.{Domains}
 use Rattle.machine_desc.specs.declared.machine.Machine.{Machine}
 
--- The checks of a document, in order: those of its version. Of a version that there is not, the version alone is
--- checked, and fails.
-unfoldable pub checks_of : Members → List Check
-checks_of document = if version_of document == 1 then version_1_checks else version_check ∷ []
+-- the versions that there are
+abbrev pub is_version : ℕ → Bool
+is_version version = nat_le 1 version && nat_le version 2
 
+-- whether the machine of a document has instruction caches: those of version 1 have none
+abbrev pub has_l1i : Members → Bool
+has_l1i document = nat_lt 1 (version_of document)
+
+-- the checks of a table, where it is there to be checked
+abbrev pub checks_if : Bool → List Check → List Check
+checks_if there checks = if there then checks else []
+
+-- The checks of a document, in order, table by table: those of its version. Of a version that there is not, the version
+-- alone is checked, and fails.
+unfoldable pub checks_of : Members → List Check
+checks_of document =
+    if is_version (version_of document)
+    then top_checks ++ memory_checks ++ l1_checks ++ checks_if (has_l1i document) l1i_checks ++ l2_checks ++ controller_checks ++ domain_checks
+    else version_check ∷ []
+
+-- its ratios, in the order in which they are checked
 unfoldable pub ratios_of : Members → List Ratio
-ratios_of document = if version_of document == 1 then version_1_ratios else []
+ratios_of document =
+    if has_l1i document
+    then sets_ratio (codes "l1") ∷ sets_ratio (codes "l1i") ∷ sets_ratio (codes "l2") ∷ []
+    else sets_ratio (codes "l1") ∷ sets_ratio (codes "l2") ∷ []
 
 -- the integer is in the range
 abbrev pub is_in_range : Bounds → ℤ → Bool
@@ -156,12 +175,20 @@ memory_of document = record {
   stack = integer_at document (at (codes "memory") (codes "stack"));
 }
 
-unfoldable pub l1_of : Members → L1
-l1_of document = record {
-  sets = integer_at document (at (codes "l1") (codes "sets"));
-  ways = integer_at document (at (codes "l1") (codes "ways"));
-  latency = integer_at document (at (codes "l1") (codes "latency"));
+-- the cache with this table
+unfoldable pub own_cache_of : Members → (table : List ℕ) → L1
+own_cache_of document table = record {
+  sets = integer_at document (at table (codes "sets"));
+  ways = integer_at document (at table (codes "ways"));
+  latency = integer_at document (at table (codes "latency"));
 }
+
+-- the data cache, and the instruction cache where there is one
+abbrev pub l1_of : Members → L1
+l1_of document = own_cache_of document (codes "l1")
+
+unfoldable pub l1i_of : Members → Option L1
+l1i_of document = if has_l1i document then Some (own_cache_of document (codes "l1i")) else None
 
 unfoldable pub l2_of : Members → L2
 l2_of document = record {
@@ -198,6 +225,7 @@ numbers_of document = record {
   intervals = integer_at document (top (codes "intervals"));
   memory = memory_of document;
   l1 = l1_of document;
+  l1i = l1i_of document;
   l2 = l2_of document;
   controllers = controllers_of document;
   domains = domains_of document;

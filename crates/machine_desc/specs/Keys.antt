@@ -1,6 +1,6 @@
 -- The keys of a machine description, with what each has to be, in the order in which they are checked: one list for
 -- each table.
-use Rattle.std.specs.Prelude.{ℕ, ◌^◌, List, [], ◌∷◌, ◌++◌, codes}
+use Rattle.std.specs.Prelude.{ℕ, ◌^◌, List, [], ◌∷◌, codes}
 
 -- where a value stands: the name of its table, which is empty at the top level, and its own name
 pub record KeyPath : Type 0 where
@@ -49,9 +49,9 @@ pages_check key low high = record { key = key; rule = is_integer (record { low =
 abbrev pub array_check : KeyPath → KeyPath → Check
 array_check key count = record { key = key; rule = is_array count }
 
--- the first check of every description
+-- the first check of every description: there are two versions
 abbrev pub version_check : Check
-version_check = range_check (top (codes "version")) 1 1
+version_check = range_check (top (codes "version")) 1 2
 
 unfoldable pub top_checks : List Check
 top_checks =
@@ -72,13 +72,21 @@ memory_checks =
     }
     ∷ []
 
-unfoldable pub l1_checks : List Check
-l1_checks =
-    table_check (codes "l1")
-    ∷ range_check (at (codes "l1") (codes "sets")) 1 4096
-    ∷ range_check (at (codes "l1") (codes "ways")) 1 16
-    ∷ range_check (at (codes "l1") (codes "latency")) 1 65536
+-- a cache of each core's own, with the table of this name
+unfoldable pub own_cache_checks : (table : List ℕ) → List Check
+own_cache_checks table =
+    table_check table
+    ∷ range_check (at table (codes "sets")) 1 4096
+    ∷ range_check (at table (codes "ways")) 1 16
+    ∷ range_check (at table (codes "latency")) 1 65536
     ∷ []
+
+-- the data cache, and the instruction cache
+abbrev pub l1_checks : List Check
+l1_checks = own_cache_checks (codes "l1")
+
+abbrev pub l1i_checks : List Check
+l1i_checks = own_cache_checks (codes "l1i")
 
 unfoldable pub l2_checks : List Check
 l2_checks =
@@ -109,13 +117,6 @@ domain_checks =
     ∷ array_check (at (codes "domains") (codes "controllers")) (at (codes "controllers") (codes "count"))
     ∷ []
 
--- all keys of version 1
-unfoldable pub version_1_checks : List Check
-version_1_checks = top_checks ++ memory_checks ++ l1_checks ++ l2_checks ++ controller_checks ++ domain_checks
-
--- its ratios, in the order in which they are checked
-unfoldable pub version_1_ratios : List Ratio
-version_1_ratios =
-    record { key = at (codes "l1") (codes "sets"); divisor = at (codes "l2") (codes "banks") }
-    ∷ record { key = at (codes "l2") (codes "sets"); divisor = at (codes "l2") (codes "banks") }
-    ∷ []
+-- the sets of the cache with this table are dealt to the banks of the L2, as many to each
+abbrev pub sets_ratio : (table : List ℕ) → Ratio
+sets_ratio table = record { key = at table (codes "sets"); divisor = at (codes "l2") (codes "banks") }

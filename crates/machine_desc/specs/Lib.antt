@@ -2,6 +2,7 @@ pub mod Answers
 pub mod ComponentDomains
 pub mod Components
 pub mod Description
+pub mod InstructionCaches
 pub mod Keys
 pub mod Machine
 pub mod Plain

@@ -1,5 +1,5 @@
 -- What holds of the numbers of every machine that was read from a description.
-use Rattle.std.specs.Prelude.{◌≡◌, ◌<◌, ◌≤◌, ◌*◌, ◌%◌, ◌^◌, ℕ, length, All}
+use Rattle.std.specs.Prelude.{◌≡◌, ◌<◌, ◌≤◌, ◌*◌, ◌%◌, ◌^◌, ℕ, nat_lt, length, All, IfSome, is_some}
 use Rattle.machine_desc.specs.declared.machine.Memory.{Memory}
 use Rattle.machine_desc.specs.declared.machine.L1.{L1}
 use Rattle.machine_desc.specs.declared.machine.L2.{L2}
@@ -50,12 +50,15 @@ pub record IsDomains (banks controllers : ℕ) (d : Domains) : Type 0 where
   pub controllers_below : All (λ domain. domain < d.count) d.controllers
 
 pub record IsMachine (m : Machine) : Type 0 where
-  pub version : m.version ≡ 1
+  pub version : IsBetween 1 m.version 2
   pub cores : IsBetween 1 m.cores 64
   pub interval : IsBetween 1 m.interval 10000
   pub intervals : IsBetween 1 m.intervals (2 ^ 20)
   pub memory : IsMemory m.cores m.memory
   pub l1 : IsL1 m.l2.banks m.l1
+  -- the instruction caches, where there are any: version 1 has none, and version 2 has them
+  pub l1i : IfSome m.l1i (IsL1 m.l2.banks)
+  pub has_l1i : is_some m.l1i ≡ nat_lt 1 m.version
   pub l2 : IsL2 m.l2
   pub controllers : IsControllers m.controllers
   pub domains : IsDomains m.l2.banks m.controllers.count m.domains

@@ -1,5 +1,5 @@
 -- The built-in description `plain`: its text, and the machine that it describes.
-use Rattle.std.specs.Prelude.{ℕ, List, [], ◌∷◌, ◌++◌, codes}
+use Rattle.std.specs.Prelude.{ℕ, List, [], ◌∷◌, ◌++◌, codes, None}
 use Rattle.std.specs.List.{flat_map}
 use Rattle.machine_desc.specs.declared.machine.Machine.{Machine}
 
@@ -53,6 +53,7 @@ plain_machine = record {
   intervals = 100000;
   memory = record { base = 65536; size = 1048576; stack = 4096 };
   l1 = record { sets = 2; ways = 1; latency = 1 };
+  l1i = None;
   l2 = record { banks = 1; sets = 4; ways = 2; latency = 10; remote = 5; fill = 2; occupancy = 4 };
   controllers = record { count = 1; read = 100; write = 40; occupancy = 20 };
   domains = record { count = 2; banks = 0 ∷ []; controllers = 1 ∷ [] };

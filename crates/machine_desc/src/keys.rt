@@ -1,8 +1,9 @@
-//! The checks of a description as data. A later version of the description adds rows.
-ghost use Rattle.std.specs.Prelude.{◌≡◌, map, IfOk, string_bytes};
+//! The checks of a description as data, one list for each table. A later version of the description
+//! adds lists, of which a document has some.
+ghost use Rattle.std.specs.Prelude.{◌≡◌, ◌∷◌, [], ◌++◌, map, IfOk, OnOk, string_bytes};
 ghost use Rattle.toml.specs.View.{table_view};
-ghost use Rattle.machine_desc.specs.Description.{is_in_range, checks_of, ratios_of};
-ghost use Rattle.machine_desc.specs.Keys.{at, version_1_checks, version_1_ratios};
+ghost use Rattle.machine_desc.specs.Description.{is_in_range, is_version, has_l1i, checks_of, ratios_of};
+ghost use Rattle.machine_desc.specs.Keys.{at, version_check, top_checks, memory_checks, l1_checks, l1i_checks, l2_checks, controller_checks, domain_checks};
 ghost use Rattle.machine_desc.specs.Rows.{range_of, check_of, ratio_of};
 ghost use Rattle.machine_desc.specs.Text.{full_name, version_of};
 
@@ -119,12 +120,36 @@ macro_rules! array {
     };
 }
 
-/// All keys of version 1, in the order in which they are checked.
-static CHECKS: [Check; 29] = [
-    integer!("", "version", 1, 1),
+macro_rules! own_cache {
+    ($table:literal) => {
+        [
+            table!($table),
+            integer!($table, "sets", 1, 4096),
+            integer!($table, "ways", 1, 16),
+            integer!($table, "latency", 1, 65536),
+        ]
+    };
+}
+
+macro_rules! sets_ratio {
+    ($table:literal) => {
+        Ratio {
+            key: key!($table, "sets"),
+            divisor: key!("l2", "banks"),
+        }
+    };
+}
+
+// The keys of each table, in the order in which they are checked.
+
+static TOP: [Check; 4] = [
+    integer!("", "version", 1, 2),
     integer!("", "cores", 1, 64),
     integer!("", "interval", 1, 10000),
     integer!("", "intervals", 1, 1048576),
+];
+
+static MEMORY: [Check; 4] = [
     table!("memory"),
     integer!("memory", "base", 0, 0x100_0000_0000, 4096),
     integer!("memory", "size", 4096, 0x1000_0000, 4096),
@@ -136,10 +161,13 @@ static CHECKS: [Check; 29] = [
             whole: key!("memory", "size"),
         },
     },
-    table!("l1"),
-    integer!("l1", "sets", 1, 4096),
-    integer!("l1", "ways", 1, 16),
-    integer!("l1", "latency", 1, 65536),
+];
+
+static L1: [Check; 4] = own_cache!("l1");
+
+static L1I: [Check; 4] = own_cache!("l1i");
+
+static L2: [Check; 8] = [
     table!("l2"),
     integer!("l2", "banks", 1, 64),
     integer!("l2", "sets", 1, 65536),
@@ -148,39 +176,53 @@ static CHECKS: [Check; 29] = [
     integer!("l2", "remote", 0, 65536),
     integer!("l2", "fill", 1, 65536),
     integer!("l2", "occupancy", 1, 65536),
+];
+
+static CONTROLLERS: [Check; 5] = [
     table!("controllers"),
     integer!("controllers", "count", 1, 16),
     integer!("controllers", "read", 1, 65536),
     integer!("controllers", "write", 1, 65536),
     integer!("controllers", "occupancy", 1, 65536),
+];
+
+static DOMAINS: [Check; 4] = [
     table!("domains"),
     integer!("domains", "count", 1, 64),
     array!("domains", "banks", key!("l2", "banks")),
     array!("domains", "controllers", key!("controllers", "count")),
 ];
 
-/// The ratios of version 1, in the order in which they are checked.
-static RATIOS: [Ratio; 2] = [
-    Ratio {
-        key: key!("l1", "sets"),
-        divisor: key!("l2", "banks"),
-    },
-    Ratio {
-        key: key!("l2", "sets"),
-        divisor: key!("l2", "banks"),
-    },
-];
+static DATA_RATIOS: [Ratio; 2] = [sets_ratio!("l1"), sets_ratio!("l2")];
+
+static ALL_RATIOS: [Ratio; 3] = [sets_ratio!("l1"), sets_ratio!("l1i"), sets_ratio!("l2")];
 
 /// The checks of a document, in order: those of its version. Of a version that there is not, the
 /// check of the version alone, which fails.
 #[tactic(auto, unfolding(crate::specs::Description::checks_of))]
-pub(crate) fn checks(document: &Table) -> &'static [Check]
-    ensures { map check_of result.now ≡ checks_of (table_view document.now) }
+pub(crate) fn checks(alloc: Global, document: &Table) -> Result<Vec<Check>, AllocError>
+    ensures { IfOk result (λ checks. map check_of checks.items ≡ checks_of (table_view document.now)) }
 {
-    match version(document) {
-        1 => version_1_checks(),
-        _ => &CHECKS[..1],
+    if !is_version(version(document)) {
+        return Vec::from_slice(alloc, version_check());
     }
+    let mut checks = Vec::from_slice(alloc, top_checks())?;
+    add(&mut checks, memory_checks())?;
+    add(&mut checks, l1_checks())?;
+    if has_l1i(document) {
+        add(&mut checks, l1i_checks())?;
+    }
+    add(&mut checks, l2_checks())?;
+    add(&mut checks, controller_checks())?;
+    add(&mut checks, domain_checks())?;
+    Ok(checks)
+}
+
+/// Adds the checks of a table to those of the tables before it.
+fn add(checks: &mut Vec<Check>, more: &[Check]) -> Result<(), AllocError>
+    ensures { OnOk result (map check_of checks.new.items ≡ map check_of checks.old.items ++ map check_of more.now) }
+{
+    checks.extend_from_slice(more)
 }
 
 /// The ratios of a document, in order.
@@ -188,10 +230,24 @@ pub(crate) fn checks(document: &Table) -> &'static [Check]
 pub(crate) fn ratios(document: &Table) -> &'static [Ratio]
     ensures { map ratio_of result.now ≡ ratios_of (table_view document.now) }
 {
-    match version(document) {
-        1 => version_1_ratios(),
-        _ => &[],
+    match has_l1i(document) {
+        true => &ALL_RATIOS,
+        false => &DATA_RATIOS,
     }
+}
+
+/// Whether the machine of a document has instruction caches.
+pub(crate) fn has_l1i(document: &Table) -> bool
+    ensures { result ≡ has_l1i (table_view document.now) }
+{
+    version(document) > 1
+}
+
+/// Whether there is such a version.
+fn is_version(version: u64) -> bool
+    ensures { result ≡ is_version version }
+{
+    1 <= version && version <= 2
 }
 
 /// The version that a document says it is of: 0 where it says none.
@@ -201,17 +257,59 @@ fn version(document: &Table) -> u64
     integer_at(document, "", "version")
 }
 
-fn version_1_checks() -> &'static [Check]
-    ensures { map check_of result.now ≡ version_1_checks }
+fn version_check() -> &'static [Check]
+    ensures { map check_of result.now ≡ version_check ∷ [] }
 {
-    &CHECKS
+    &TOP[..1]
 }
 
-#[tactic(auto, unfolding(crate::specs::Keys::version_1_ratios))]
-fn version_1_ratios() -> &'static [Ratio]
-    ensures { map ratio_of result.now ≡ version_1_ratios }
+#[tactic(auto, unfolding(crate::specs::Keys::top_checks))]
+fn top_checks() -> &'static [Check]
+    ensures { map check_of result.now ≡ top_checks }
 {
-    &RATIOS
+    &TOP
+}
+
+#[tactic(auto, unfolding(crate::specs::Keys::memory_checks))]
+fn memory_checks() -> &'static [Check]
+    ensures { map check_of result.now ≡ memory_checks }
+{
+    &MEMORY
+}
+
+#[tactic(auto, unfolding(crate::specs::Keys::own_cache_checks))]
+fn l1_checks() -> &'static [Check]
+    ensures { map check_of result.now ≡ l1_checks }
+{
+    &L1
+}
+
+#[tactic(auto, unfolding(crate::specs::Keys::own_cache_checks))]
+fn l1i_checks() -> &'static [Check]
+    ensures { map check_of result.now ≡ l1i_checks }
+{
+    &L1I
+}
+
+#[tactic(auto, unfolding(crate::specs::Keys::l2_checks))]
+fn l2_checks() -> &'static [Check]
+    ensures { map check_of result.now ≡ l2_checks }
+{
+    &L2
+}
+
+#[tactic(auto, unfolding(crate::specs::Keys::controller_checks))]
+fn controller_checks() -> &'static [Check]
+    ensures { map check_of result.now ≡ controller_checks }
+{
+    &CONTROLLERS
+}
+
+#[tactic(auto, unfolding(crate::specs::Keys::domain_checks))]
+fn domain_checks() -> &'static [Check]
+    ensures { map check_of result.now ≡ domain_checks }
+{
+    &DOMAINS
 }
 
 /// The name of a key as it stands in a refusal: `table.key`, and at the top level `key`.

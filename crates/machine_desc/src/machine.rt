@@ -12,7 +12,7 @@ pub struct Memory {
     pub stack: u64,
 }
 
-/// A core's own data cache.
+/// A cache of a core's own: its data cache, or its instruction cache.
 #[derive(Clone, Copy, PartialEq, Eq)]
 pub struct L1 {
     /// How many sets it has: 1 to 4096, a multiple of the number of banks.
@@ -69,7 +69,7 @@ pub struct Domains {
 /// A machine.
 #[derive(Drop)]
 pub struct Machine {
-    /// The version of the description: 1.
+    /// The version of the description: 1 or 2.
     pub version: u32,
     /// How many cores it has: 1 to 64.
     pub cores: u16,
@@ -78,7 +78,11 @@ pub struct Machine {
     /// After how many intervals a run stops: 1 to 2^20.
     pub intervals: u32,
     pub memory: Memory,
+    /// Each core's data cache.
     pub l1: L1,
+    /// Each core's instruction cache, if the cores have one: those of version 1 have none, and
+    /// those of version 2 have one.
+    pub l1i: Option<L1>,
     pub l2: L2,
     pub controllers: Controllers,
     pub domains: Domains,

@@ -1,12 +1,13 @@
 //! The machine with the numbers of a document that passed the checks.
-ghost use Rattle.std.specs.Prelude.{◌≡◌, ◌<◌, ◌^◌, All, IfOk, length, map, codes};
+ghost use Rattle.std.specs.Prelude.{◌≡◌, ◌<◌, ◌^◌, All, IfOk, IfSome, length, map, codes};
 ghost use Rattle.toml.specs.View.{table_view};
-ghost use Rattle.machine_desc.specs.Description.{memory_of, l1_of, l2_of, controllers_of, domains_of, numbers_of};
+ghost use Rattle.machine_desc.specs.Description.{memory_of, own_cache_of, l1i_of, l2_of, controllers_of, domains_of, numbers_of};
 ghost use Rattle.machine_desc.specs.Keys.{at};
 ghost use Rattle.machine_desc.specs.Machine.{IsL1, IsL2, IsControllers, IsDomains, IsMachine};
 ghost use Rattle.machine_desc.specs.Text.{natural, integer_at, integers_at};
 
 use crate::document::{integer_at, integers_at, natural};
+use crate::keys::has_l1i;
 use crate::{Controllers, Domains, L1, L2, Machine, Memory, Places};
 use std::alloc::{AllocError, Global};
 use toml::Table;
@@ -23,7 +24,8 @@ pub(crate) fn numbers(alloc: Global, document: &Table) -> Result<Machine, AllocE
         interval: integer_at(document, "", "interval"),
         intervals: small(document, "", "intervals"),
         memory: memory(document),
-        l1: l1(document),
+        l1: own_cache(document, "l1"),
+        l1i: l1i(document),
         l2: l2(document),
         controllers: controllers(document),
         domains: domains(alloc, document)?,
@@ -57,15 +59,29 @@ fn memory(document: &Table) -> Memory
     }
 }
 
-#[tactic(auto, unfolding(crate::specs::Description::l1_of))]
-fn l1(document: &Table) -> L1
-    requires { IsL1 (l2_of (table_view document.now)).banks (l1_of (table_view document.now)) }
-    ensures { result ≡ l1_of (table_view document.now) }
+/// The cache with this table.
+#[tactic(auto, unfolding(crate::specs::Description::own_cache_of))]
+fn own_cache(document: &Table, table: &str) -> L1
+    requires { IsL1 (l2_of (table_view document.now)).banks (own_cache_of (table_view document.now) table.now) }
+    ensures { result ≡ own_cache_of (table_view document.now) table.now }
 {
     L1 {
-        sets: small(document, "l1", "sets"),
-        ways: short(document, "l1", "ways"),
-        latency: small(document, "l1", "latency"),
+        sets: small(document, table, "sets"),
+        ways: short(document, table, "ways"),
+        latency: small(document, table, "latency"),
+    }
+}
+
+/// The instruction cache, if the machine has them.
+#[tactic(auto, unfolding(crate::specs::Description::l1i_of))]
+fn l1i(document: &Table) -> Option<L1>
+    requires { IfSome (l1i_of (table_view document.now)) (IsL1 (l2_of (table_view document.now)).banks) }
+    ensures { result ≡ l1i_of (table_view document.now) }
+{
+    if has_l1i(document) {
+        Some(own_cache(document, "l1i"))
+    } else {
+        None
     }
 }
 

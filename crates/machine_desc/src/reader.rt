@@ -16,7 +16,8 @@ use crate::{Machine, MachineFail};
 use std::alloc::Global;
 use toml::Table;
 
-/// Reads a machine description, version 1: the machine of the text, or the first check that fails.
+/// Reads a machine description, of version 1 or 2: the machine of the text, or the first check that
+/// fails.
 #[tactic(auto, unfolding(crate::specs::Description::machine_of))]
 pub fn read(alloc: Global, text: &[u8]) -> Result<Machine, MachineFail>
     // The answer is that of the text, unless memory runs out.
@@ -42,9 +43,9 @@ fn read_document(alloc: Global, document: &Table) -> Result<Machine, MachineFail
 fn check_document(alloc: Global, document: &Table) -> Result<(), MachineFail>
     ensures { Answers result (passed_unless (document_refusal (table_view document.now))) }
 {
-    let checks = checks(document);
-    check_keys(alloc, document, checks)?;
-    check_names(alloc, document, checks)?;
+    let checks = checks(alloc, document)?;
+    check_keys(alloc, document, &checks)?;
+    check_names(alloc, document, &checks)?;
     check_ratios(alloc, document, ratios(document))?;
     check_domains(alloc, document)
 }

@@ -4,18 +4,14 @@ use Rattle.std.specs.List.{range_with_len}
 use Rattle.std.proofs.lemmas.Bool.{cases_lt}
 use Rattle.std.proofs.lemmas.List.{length-append}
 use Rattle.zs_num.specs.declared.entry.Entry.{Entry}
-use Rattle.zs_num.specs.declared.entry.Outcome.{Outcome}
-use Rattle.zs_num.specs.declared.entry.Outcome.TheVariants.{Hit, Upgrade, L2 as FoundInL2, Miss}
 use Rattle.zs_num.specs.declared.request.Request.{Request}
 use Rattle.elf_load.specs.MemoryImage.{MemoryImage}
 use Rattle.machine_desc.specs.declared.machine.Machine.{Machine}
-use Rattle.machine_desc.specs.declared.machine.L1.{L1}
-use Rattle.machine_desc.specs.declared.machine.L2.{L2}
-use Rattle.machine_desc.specs.declared.machine.Controllers.{Controllers}
 use Rattle.machine_desc.specs.Machine.{IsMachine}
 use Rattle.component.specs.declared.comp.Comp.{Comp}
 use Rattle.component.specs.Components.{AreFresh}
-use Rattle.event_graph.specs.Timing.{time_by}
+use Rattle.event_graph.specs.AccessPaths.{path_of}
+use Rattle.event_graph.specs.PlainLaws.{plain_time_at_least_one}
 use Rattle.rv_core.specs.CoreState.{InProgress}
 use Rattle.bound_core.specs.MachineWorld.{MachineWorld, serve}
 use Rattle.bound_core.specs.ReferenceMachine.{BoundState, access_served, bound_from}
@@ -172,16 +168,8 @@ module _ (time : Entry → ℕ) (some : (e : Entry) → 1 ≤ time e) (image : M
         | inr late ↦ turns_past (left_of_instruction c.core.instruction) place c w es late (omega arith)
       ]
 
--- an access takes as long as a look-up in the core's own cache, at least
-least_time : (l1 : L1) (l2 : L2) (controllers : Controllers) (o : Outcome) → l1.latency ≤ time_by l1 l2 controllers o
-least_time l1 l2 controllers Hit = omega arith
-least_time l1 l2 controllers (Upgrade others) = omega arith
-least_time l1 l2 controllers (FoundInL2 others) = omega arith
-least_time l1 l2 controllers (Miss dirty) = omega arith
-
 takes_a_cycle : (machine : Machine) → IsMachine machine → (e : Entry) → 1 ≤ time_of machine e
-takes_a_cycle machine is e =
-    omega (arith, is.l1.latency.0, least_time machine.l1 machine.l2 machine.controllers e.outcome)
+takes_a_cycle machine is e = plain_time_at_least_one (path_of machine) (record { l1 = is.l1; l1i = is.l1i; l2 = is.l2; controllers = is.controllers }) e
 
 -- ---- the schedule of a run
 

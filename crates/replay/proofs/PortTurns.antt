@@ -8,7 +8,7 @@ use Rattle.zs_num.specs.declared.request.Request.{Request}
 use Rattle.elf_load.specs.MemoryImage.{MemoryImage}
 use Rattle.machine_desc.specs.declared.machine.Machine.{Machine}
 use Rattle.event_graph.specs.declared.plain.Plain.{Plain}
-use Rattle.event_graph.specs.Timing.{time_by}
+use Rattle.event_graph.specs.Timing.{access_time}
 use Rattle.bound_core.specs.Laws.{AnswersAsWorld, moved}
 use Rattle.bound_core.specs.Reaching.{Reaches}
 use Rattle.bound_core.specs.ReferenceMachine.{BoundState}
@@ -85,11 +85,8 @@ module _ {Port : Type 0} (outer : Port → (start : ℕ) → Request → Entry �
   }
 
 -- the times of the expansion are those of the machine
-pub same_times : (machine : Machine) (plain : Plain) → IsPlainOf machine plain → (let times : Entry → ℕ = λ e. time_by plain.l1 plain.l2 plain.controllers e.outcome in times) ≡ time_of machine
-same_times machine plain is =
-    ap (λ l1. let times : Entry → ℕ = λ e. time_by l1 plain.l2 plain.controllers e.outcome in times) is.l1
-    ∙ ap (λ l2. let times : Entry → ℕ = λ e. time_by machine.l1 l2 plain.controllers e.outcome in times) is.l2
-    ∙ ap (λ controllers. let times : Entry → ℕ = λ e. time_by machine.l1 machine.l2 controllers e.outcome in times) is.controllers
+pub same_times : (machine : Machine) (plain : Plain) → IsPlainOf machine plain → (let times : Entry → ℕ = λ e. access_time plain.path e in times) ≡ time_of machine
+same_times machine plain is = ap (λ path. let times : Entry → ℕ = λ e. access_time path e in times) is
 
 -- ---- a core that waits for nothing
 

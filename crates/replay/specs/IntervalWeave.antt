@@ -11,6 +11,7 @@ use Rattle.component.specs.Components.{AreComponents}
 use Rattle.event_graph.specs.declared.event.Event.{Event}
 use Rattle.event_graph.specs.declared.fired.Fired.{Fired}
 use Rattle.event_graph.specs.declared.plain.Plain.{Plain}
+use Rattle.event_graph.specs.AccessPaths.{path_of}
 use Rattle.event_graph.specs.EventGraph.{all_events}
 use Rattle.event_graph.specs.Fits.{GraphFits}
 use Rattle.event_graph.specs.Numbered.{IsNumbered}
@@ -23,14 +24,12 @@ use Rattle.replay.specs.declared.weaving.WovenInterval.{WovenInterval}
 use Rattle.replay.specs.ReferenceRun.{woven_interval}
 
 -- the expansion of this machine
-pub record IsPlainOf (machine : Machine) (plain : Plain) : Type 0 where
-  pub l1 : plain.l1 ≡ machine.l1
-  pub l2 : plain.l2 ≡ machine.l2
-  pub controllers : plain.controllers ≡ machine.controllers
+abbrev pub IsPlainOf : Machine → Plain → Type 0
+IsPlainOf machine plain = plain.path ≡ path_of machine
 
 -- the events of these accesses, and what the weave asks of them
 pub record AreEventsOf (machine : Machine) (comps : List Comp) (entries : List Entry) (graph : List Event) : Type 0 where
-  pub are : graph ≡ all_events (pieces_of machine.l1 machine.l2 machine.controllers) entries
+  pub are : graph ≡ all_events (pieces_of (path_of machine)) entries
   pub numbered : IsNumbered graph
   pub fits : GraphFits comp_serves comp_latency graph comps
   pub small : AreSmallSteps comp_step comp_greatest graph comps

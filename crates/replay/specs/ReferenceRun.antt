@@ -10,7 +10,8 @@ use Rattle.component.specs.ComponentStep.{comp_step, free_of}
 use Rattle.component.specs.Components.{AreFresh}
 use Rattle.event_graph.specs.EventGraph.{all_events}
 use Rattle.event_graph.specs.OneListWeave.{comps_after, fired_of, woven}
-use Rattle.event_graph.specs.Timing.{pieces_of, time_by}
+use Rattle.event_graph.specs.AccessPaths.{path_of}
+use Rattle.event_graph.specs.Timing.{access_time, pieces_of}
 use Rattle.feedback.specs.FeedbackDelay.{feedback_delays}
 use Rattle.stats.specs.Counts.{Interval, counts_of, total_accesses}
 use Rattle.replay.specs.Limits.{access_limit, cycle_limit}
@@ -34,15 +35,15 @@ pub record RunState : Type 0 where
   -- the intervals that were run
   pub intervals : List Interval
 
--- the time of an access where nothing else runs, by how it was met
+-- the time of an access where nothing else runs, by what it asked and how it was met
 abbrev pub time_of : Machine → Entry → ℕ
-time_of machine e = time_by machine.l1 machine.l2 machine.controllers e.outcome
+time_of machine e = access_time (path_of machine) e
 
 -- An interval as it is recorded, from the components before it and its accesses: the events of these, the one-list
 -- weave of the events, and the delay of each core.
 unfoldable pub woven_interval : Machine → List Comp → List Entry → Interval
 woven_interval machine comps entries =
-    let events = all_events (pieces_of machine.l1 machine.l2 machine.controllers) entries in
+    let events = all_events (pieces_of (path_of machine)) entries in
     let fired = map fired_of (woven comp_step events comps) in
     record { entries = entries; events = events; fired = fired; delays = feedback_delays events fired machine.cores }
 

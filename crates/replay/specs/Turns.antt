@@ -4,7 +4,7 @@ use Rattle.zs_num.specs.declared.entry.Entry.{Entry}
 use Rattle.elf_load.specs.MemoryImage.{MemoryImage}
 use Rattle.machine_desc.specs.declared.machine.Machine.{Machine}
 use Rattle.event_graph.specs.declared.plain.Plain.{Plain}
-use Rattle.event_graph.specs.Timing.{time_by}
+use Rattle.event_graph.specs.Timing.{access_time}
 use Rattle.bound_core.specs.Reaching.{Reaches}
 use Rattle.bound_core.specs.ReferenceMachine.{BoundState, bound_phase}
 use Rattle.bound_core.specs.ShardPort.{base_of, room_of, size_of}
@@ -18,7 +18,7 @@ use Rattle.replay.specs.Simulation.{AreNumbered, phase_of}
 
 -- the time of an access by an expansion
 abbrev pub time_by_plain : Plain → Entry → ℕ
-time_by_plain plain e = time_by plain.l1 plain.l2 plain.controllers e.outcome
+time_by_plain plain e = access_time plain.path e
 
 -- A core on its way through an interval: it is over, or it has at most so many accesses left, and none of them is late.
 pub record IsOnItsWay (end base size left : ℕ) (c : NumberedCore) : Type 0 where

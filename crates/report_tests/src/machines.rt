@@ -49,6 +49,7 @@ pub(crate) fn machine(
             ways: 1,
             latency: 1,
         },
+        l1i: None,
         l2: L2 {
             banks,
             sets: u32::from(banks),

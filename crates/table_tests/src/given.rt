@@ -77,6 +77,7 @@ pub(crate) fn machine(alloc: Global, cores: u16, banks: u16) -> Result<Machine, 
             ways: 1,
             latency: 1,
         },
+        l1i: None,
         l2: L2 {
             banks,
             sets: 4,

@@ -79,6 +79,7 @@ fn machine(alloc: Global, layout: Layout) -> Option<Machine>
             ways: 1,
             latency: 1,
         },
+        l1i: None,
         l2: L2 {
             banks,
             sets: u32::from(banks),

@@ -1,5 +1,5 @@
 -- What a core asks of memory.
-use Rattle.std.specs.Prelude.{ℕ, ◌/◌, ◌%◌}
+use Rattle.std.specs.Prelude.{ℕ, ◌/◌, ◌%◌, Bool, true, false}
 use Rattle.zs_num.specs.declared.request.Request.{Request}
 use Rattle.zs_num.specs.declared.request.Request.TheVariants.{Load, Store, Lr, Sc, Amo, Fetch}
 
@@ -20,6 +20,15 @@ width_of (Lr addr width) = width
 width_of (Sc addr width value paired) = width
 width_of (Amo op addr width value) = width
 width_of (Fetch addr) = 4
+
+-- whether it is the fetch of an instruction
+abbrev pub is_fetch : Request → Bool
+is_fetch (Load addr width) = false
+is_fetch (Store addr width value) = false
+is_fetch (Lr addr width) = false
+is_fetch (Sc addr width value paired) = false
+is_fetch (Amo op addr width value) = false
+is_fetch (Fetch addr) = true
 
 -- how many bytes a cache line has
 abbrev pub line_bytes : ℕ

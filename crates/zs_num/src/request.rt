@@ -66,7 +66,7 @@ pub enum Request {
 }
 
 impl Request {
-    ghost use Rattle.zs_num.specs.Request.{addr_of, line_of, width_of};
+    ghost use Rattle.zs_num.specs.Request.{addr_of, is_fetch, line_of, width_of};
 
     /// The address of its lowest byte.
     pub fn addr(&self) -> u64
@@ -94,6 +94,14 @@ impl Request {
             | Request::Amo { width, .. } => width,
             Request::Fetch { .. } => INSTRUCTION,
         }
+    }
+
+    /// Whether it is the fetch of an instruction.
+    #[inline(always)]
+    pub fn is_fetch(&self) -> bool
+        ensures { result ≡ is_fetch self.now }
+    {
+        matches!(self, Request::Fetch { .. })
     }
 
     /// The number of the line in which it lies.

@@ -4,4 +4,4 @@ use Rattle.std.proofs.lemmas.Bool.{leb-true}
 use Rattle.event_tests.proofs.loads.are_few.Goals as goal
 
 pub returns : goal.returns
-returns c = λ h. let few = c.plain_accesses_have_few_events.ensures c.args.plain.now.l1 c.args.plain.now.l2 c.args.plain.now.controllers c.args.entries.now in omega (arith, few, leb-true (length c.args.entries.now) 1048576 h)
+returns c = λ h. let few = c.plain_accesses_have_few_events.ensures c.args.plain.now.path c.args.entries.now in omega (arith, few, leb-true (length c.args.entries.now) 1048576 h)

@@ -25,7 +25,7 @@ loop-alloc-init c =
         as_long = refl;
         come = first.2;
       };
-      plain = record { l1 = c.of-plain.ensures.l1; l2 = c.of-plain.ensures.l2; controllers = c.of-plain.ensures.controllers };
+      plain = c.of-plain.ensures;
       count = omega arith;
       end = omega arith;
       small = omega arith;

@@ -28,7 +28,7 @@ loop-alloc-init g c =
         };
         in_order = c.requires.empty;
       };
-      plain = record { l1 = c.of-plain.ensures.l1; l2 = c.of-plain.ensures.l2; controllers = c.of-plain.ensures.controllers };
+      plain = c.of-plain.ensures;
       count = none;
       end = omega arith;
       small = omega arith;

@@ -2,4 +2,4 @@ use Rattle.std.proofs.Common.{refl}
 use Rattle.event_graph.proofs.plain.Plain.controller.Goals as goal
 
 pub returns : goal.returns
-returns c = rw (c.remainder-number.ensures, c.from.ensures, c.from-2.ensures, c.bank.ensures) refl
+returns c = rw (c.remainder-number.ensures, c.from.ensures, c.from-count.ensures, c.bank.ensures) refl
