@@ -313,7 +313,7 @@ def main():
         reader = Reader(path)
         with open(path, encoding="utf-8") as file:
             reader.items(tree(file.read()))
-        short = path.removeprefix("crates/")
+        short = path[len("crates/") :]
         for name, line in reader.built:
             if left.get((short, name), 0) > 0:
                 left[short, name] -= 1

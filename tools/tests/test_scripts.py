@@ -83,7 +83,7 @@ def test_a_run_without_an_answer_is_told(checkout):
 def test_the_proved_program_is_taken(checkout):
     assert checkout("prove", "--is-done").returncode == 1
     ended = checkout("prove", rt=PROVE)
-    assert ended.returncode == 0 and b"2 of 34 crates are proved" in ended.stderr
+    assert ended.returncode == 0 and re.search(rb" 2 of \d+ crates are proved", ended.stderr)
     assert checkout("prove", "--is-done").returncode == 0
     ended = checkout("zsim", "run", "plain", "x")
     assert (ended.returncode, ended.stdout, ended.stderr) == (9, b"run plain x\n", b"")
