@@ -29,7 +29,8 @@ def test_plain_is_the_built_in_machine(repository):
 def test_every_key_of_a_machine_has_a_label(repository):
     rows = re.findall(r"(?m)^\| `([a-z0-9.]+)` \| integer \|", (repository / "docs/machine-description.md").read_text())
     assert len(rows) > 20 and set(rows) - {"version"} == set(KEYS)
-    assert set(KEYS) < set(zsim_tools.read_machine("plain").values)
+    # The built-in machine is of version 1, which has no instruction caches.
+    assert {key for key in KEYS if not key.startswith("l1i.")} < set(zsim_tools.read_machine("plain").values)
 
 
 def test_every_column_is_in_the_documents(repository):
