@@ -33,8 +33,8 @@ pub record IsTrueNumber (finish n : ℕ) : Type 0 where
   pub exact : n % 2 ≡ 1 → n ≡ 2 * finish + 1
 
 module _ (finishes sources : List ℕ) where
-  -- A seat knows the finishes and the sources. What it found isn't above the word, and an exact one is the word; the word of
-  -- a crossing that it owns is what it last wrote. The words of domains whose seats aren't made yet say nothing.
+  -- A seat knows the finishes and the sources. What it found isn't above the word, and an exact one is the word; the word
+  -- of a crossing that it owns is what it last wrote. The words of domains whose seats aren't made yet say nothing.
   pub record IsCrossingSeat (words : List ℕ) (v : View) : Type 0 where
     pub told_is : v.told ≡ true
     pub finishes_are : v.finishes ≡ finishes

@@ -38,8 +38,8 @@ bank_component l2 e = bank_of l2.banks e.request
 abbrev pub controller_component : L2 → Controllers → Entry → ℕ
 controller_component l2 controllers e = l2.banks + bank_component l2 e % controllers.count
 
--- the events, each after the head of the access: a look-up; on a miss a read, and beside it a write where a line is written back; and
--- then a fill, which waits for both
+-- the events, each after the head of the access: a look-up; on a miss a read, and beside it a write where a line is
+-- written back; and then a fill, which waits for both
 module _ (head : ℕ) (l2 : L2) (controllers : Controllers) (bank controller : ℕ) where
   abbrev pub look_up : (others : Bool) → Piece
   look_up others = record {

@@ -19,17 +19,17 @@ pub struct AccessPath {
 }
 
 impl AccessPath {
-    /// That of a machine.
-    pub fn of(m: &Machine) -> AccessPath
-        requires { IsMachine m.now }
-        ensures value { result ≡ path_of m.now }
+    /// What an access to this machine goes through.
+    pub fn of(machine: &Machine) -> AccessPath
+        requires { IsMachine machine.now }
+        ensures value { result ≡ path_of machine.now }
         ensures in_range { IsAccessPath result }
     {
         AccessPath {
-            l1: m.l1,
-            l1i: m.l1i,
-            l2: m.l2,
-            controllers: m.controllers,
+            l1: machine.l1,
+            l1i: machine.l1i,
+            l2: machine.l2,
+            controllers: machine.controllers,
         }
     }
 }

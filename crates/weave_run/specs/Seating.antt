@@ -47,8 +47,8 @@ pub record IsPostSeated {C : Type 0} (stepped : C → Kind → ℕ → C × ℕ)
   pub kept : KeepsToWeave stepped plan post.domain
   pub seated : IsSeated stepped plan table post.domain post.seat
 
--- Of what the domain has fired since, the seat has written each finish to the words of all crossings out of the event. To
--- no other word has it written.
+-- The seat has written the finish of each event that the domain fired since to the words of all crossings out of it, and
+-- has written to no other word.
 pub record HasPublishedSince {C : Type 0} (stepped : C → Kind → ℕ → C × ℕ) (plan : Plan C) (old new : Post C) : Type 0 where
   pub finishes : (number finish : ℕ) (x : Crossing) → slice_get plan.parts.value.crossings number ≡ Some x → is_fired old.domain.own.fired x.parent ≡ false → is_fired new.domain.own.fired x.parent ≡ true
       → IsFinish stepped plan x.parent finish → slice_index new.seat.wrote number ≡ kept_number (Exact finish)

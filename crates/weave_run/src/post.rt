@@ -103,7 +103,7 @@ fn publish_all<C: Component>(
 }
 
 /// Looks at the word of a crossing into the domain. If it says the finish, the domain is told that.
-/// Answers whether it is.
+/// Answers whether it says so.
 fn look_again<C: Component>(
     post: &mut Post<C>,
     plan: &Plan<C>,
