@@ -1,50 +1,18 @@
 -- What a file says, written. Each part that was read is a field of the file, and what is behind it was read next.
-use Rattle.std.proofs.Common.{◌≡◌, ℕ, zero, suc, ◌+◌, ◌*◌, ◌/◌, ◌%◌, ◌^◌, ◌<◌, ◌≤◌, ◌==◌, Bool, true, false, cond, if◌then◌else◌, bytes_eq, List, [], ◌∷◌, ◌++◌, All, length, take, drop, get_or, position, nat_le, Option, Some, None, Result, Ok, Err, inl, inr, refl, ap, sym, subst, ◌∙◌, append_assoc, arith}
-use Rattle.std.proofs.Math.Nat.{div-div-eq-div-mul, pow-succ'}
-use Rattle.std.proofs.lemmas.Bool.{cases_lt, eqb-true, leb-true, leb-false, ltb-false}
-use Rattle.std.proofs.lemmas.List.{drop-drop, drop_all, get_or_past, length-take-le, length-drop, take-append-drop}
-use Rattle.std.proofs.lemmas.List.Elements.{All-cons, All-drop, All-nil, All-tail, All-take}
+use Rattle.std.proofs.Common.{◌≡◌, ℕ, zero, suc, ◌+◌, ◌*◌, ◌^◌, ◌<◌, ◌≤◌, ◌==◌, Bool, true, false, cond, if◌then◌else◌, bytes_eq, List, [], ◌∷◌, ◌++◌, All, length, take, drop, get_or, position, nat_le, Option, Some, None, Result, Ok, Err, refl, ap, sym, subst, ◌∙◌, append_assoc, arith}
+use Rattle.std.proofs.lemmas.Bool.{eqb-true, leb-true, leb-false, ltb-false}
+use Rattle.std.proofs.lemmas.List.{drop-drop, drop_all, length-take-le, length-drop, take-append-drop}
+use Rattle.std.proofs.lemmas.List.Elements.{All-cons, All-drop, All-nil, All-take}
 use Rattle.std.proofs.lemmas.List.Sums.{fails_before_first}
 use Rattle.std.proofs.lemmas.Slice.Eq.{bytes_eq-Decides}
-use Rattle.std.specs.Int.{byte_at, bytes_low_first}
 use Rattle.std.specs.List.{flat_map, position_or_len}
 use Rattle.byteorder.specs.Endian.{little_bytes, little_number}
-use Rattle.byteorder.specs.Numbers.{little_from-cons, little_from-lt}
+use Rattle.byteorder.specs.Numbers.{little_from-lt}
 use Rattle.access_log.specs.Schedule.{AreTurns, ScheduleState}
 use Rattle.schedule_file.specs.declared.bad_schedule.BadSchedule.{BadSchedule}
 use Rattle.schedule_file.specs.declared.bad_schedule.BadSchedule.TheVariants as bad
-use Rattle.schedule_file.specs.ScheduleFile.{count_of, field_at, header_bytes, known_turns, list_bytes, lists_from, magic, read_number, schedule_file_of, schedule_of, then_read, turns_from}
-
--- ---- numbers
-
-byte-above : (i x : ℕ) → byte_at (suc i) x ≡ byte_at i (x / 256)
-byte-above zero x = refl
-byte-above (suc i) x =
-    ap (λ (y : ℕ). y % 256) (ap (λ (p : ℕ). x / p) (pow-succ' 256 (suc i)) ∙ sym (div-div-eq-div-mul x 256 (256 ^ suc i)))
-
-bytes-above : (i count x : ℕ) → bytes_low_first (suc i) count x ≡ bytes_low_first i count (x / 256)
-bytes-above i zero x = refl
-bytes-above i (suc count) x = rw (byte-above i x, bytes-above (suc i) count x) refl
-
--- bytes are those of their number
-number_written : (xs : List ℕ) → All (λ byte. byte < 256) xs → little_bytes (length xs) (little_number (length xs) xs) ≡ xs
-number_written [] low = refl
-number_written (x ∷ xs) low =
-    let here : x < 256 = low 0 0 (omega arith) in
-    let rest = little_number (length xs) xs in
-    let all : little_number (length (x ∷ xs)) (x ∷ xs) ≡ x + 256 * rest = ap (λ n. x + 256 * n) (little_from-cons 0 (length xs) x xs) in
-    let first : (x + 256 * rest) % 256 ≡ x = omega (arith, here) in
-    let others : (x + 256 * rest) / 256 ≡ rest = omega (arith, here) in
-    ap (little_bytes (length (x ∷ xs))) all
-    ∙ (ap (λ byte. byte ∷ bytes_low_first 1 (length xs) (x + 256 * rest)) first
-    ∙ ap (λ bytes. x ∷ bytes) (bytes-above 0 (length xs) (x + 256 * rest) ∙ (ap (bytes_low_first 0 (length xs)) others ∙ number_written xs (All-tail (λ byte. byte < 256) x xs low))))
-
-each_below : (xs : List ℕ) → All (λ byte. byte < 256) xs → (k : ℕ) → get_or xs k 0 < 256
-each_below xs low k =
-    elim (cases_lt k (length xs)) [
-      | inl within ↦ low k 0 within
-      | inr past ↦ omega (arith, get_or_past xs k 0 past)
-    ]
+use Rattle.schedule_file.specs.ScheduleFile.{count_of, field_at, header_bytes, known_turns, list_bytes, lists_from, magic, numbers_of, read_number, read_numbers, schedule_file_of, schedule_of, then_read, turns_from, version_for, width_for}
+use Rattle.schedule_file.proofs.Numbers.{each_below, length-numbers_of, number_written, numbers_written}
 
 -- ---- what was read before a result
 
@@ -88,6 +56,17 @@ number_read bytes at number low is =
     let written : little_bytes 4 number ≡ field = ap (little_bytes 4) (sym same) ∙ (ap (λ n. little_bytes n (little_number n field)) (sym has.0.long) ∙ number_written field bytes_low) in
     (rw written has.0, omega (arith, same, short))
 
+numbers_read : (width : ℕ) (bytes : List ℕ) (at count : ℕ) (numbers : List ℕ) → All (λ byte. byte < 256) bytes → read_numbers width bytes at count ≡ Ok numbers
+    → IsField bytes at (width * count) (flat_map (little_bytes width) numbers) × (length numbers ≡ count)
+numbers_read width bytes at count numbers low is =
+    let read = first_read (field_at bytes at (width * count)) (λ field. Ok (numbers_of width count field)) numbers is in
+    let field = read.0 in
+    let has = field_read bytes at (width * count) field read.1 in
+    let same : numbers_of width count field ≡ numbers = cc (read.2) in
+    let bytes_low : All (λ byte. byte < 256) field = rw has.1 (All-take (λ byte. byte < 256) (width * count) (drop at bytes) (All-drop (λ byte. byte < 256) at bytes low)) in
+    let written : flat_map (little_bytes width) numbers ≡ field = ap (flat_map (little_bytes width)) (sym same) ∙ numbers_written width count field bytes_low has.0.long in
+    (rw written has.0, ap length (sym same) ∙ length-numbers_of width count field)
+
 -- ---- the lists
 
 no_place : (b : Bool) (place : ℕ) → cond b (Some place) None ≡ None → b ≡ false
@@ -106,35 +85,39 @@ known_read interval (Some place) list turns is = cc
 
 -- a list was read
 record IsList (cores : ℕ) (bytes : List ℕ) (at : ℕ) (turns : List ℕ) : Type 0 where
-  pub within : at + (4 + length turns) ≤ length bytes
-  pub ahead : drop at bytes ≡ list_bytes turns ++ drop (at + (4 + length turns)) bytes
+  pub within : at + (4 + width_for cores * length turns) ≤ length bytes
+  pub ahead : drop at bytes ≡ list_bytes (width_for cores) turns ++ drop (at + (4 + width_for cores * length turns)) bytes
   pub known : All (λ core. core < cores) turns
   pub short : length turns < 2 ^ 32
 
 turns_read : (cores : ℕ) (bytes : List ℕ) (interval at : ℕ) (turns : List ℕ) → All (λ byte. byte < 256) bytes → turns_from cores bytes interval at ≡ Ok turns → IsList cores bytes at turns
 unfolding turns_from
 turns_read cores bytes interval at turns low is =
-    let counted = first_read (read_number bytes at) (λ count. then_read (field_at bytes (at + 4) count) (λ list. known_turns interval (position (nat_le cores) list) list)) turns is in
-    let listed = first_read (field_at bytes (at + 4) counted.0) (λ list. known_turns interval (position (nat_le cores) list) list) turns counted.2 in
+    let width = width_for cores in
+    let counted = first_read (read_number bytes at) (λ count. then_read (read_numbers width bytes (at + 4) count) (λ list. known_turns interval (position (nat_le cores) list) list)) turns is in
+    let count = counted.0 in
+    let listed = first_read (read_numbers width bytes (at + 4) count) (λ list. known_turns interval (position (nat_le cores) list) list) turns counted.2 in
     let known = known_read interval (position (nat_le cores) listed.0) listed.0 turns listed.2 in
-    let number = number_read bytes at counted.0 low counted.1 in
-    let field = field_read bytes (at + 4) counted.0 listed.0 listed.1 in
     let same : listed.0 ≡ turns = known.1 in
-    let long : length turns ≡ counted.0 = ap length (sym same) ∙ field.0.long in
-    let place : at + 4 + counted.0 ≡ at + (4 + length turns) = omega (arith, long) in
+    let number = number_read bytes at count low counted.1 in
+    let list = numbers_read width bytes (at + 4) count listed.0 low listed.1 in
+    let long : length turns ≡ count = ap length (sym same) ∙ list.1 in
+    let field = subst (λ (ts : List ℕ). IsField bytes (at + 4) (width * count) (flat_map (little_bytes width) ts)) same list.0 in
+    let place : at + 4 + width * count ≡ at + (4 + width * length turns) = ap (λ n. at + 4 + width * n) (sym long) ∙ omega arith in
+    let numbers = flat_map (little_bytes width) turns in
     record {
-      within = omega (arith, field.0.within, long);
+      within = omega (arith, field.within, place);
       ahead = number.0.ahead
-          ∙ (ap (λ rest. little_bytes 4 counted.0 ++ rest) (field.0.ahead ∙ (ap (λ list. list ++ drop (at + 4 + counted.0) bytes) same ∙ ap (λ n. turns ++ drop n bytes) place))
-          ∙ (ap (λ n. little_bytes 4 n ++ (turns ++ drop (at + (4 + length turns)) bytes)) (sym long)
-          ∙ sym (append_assoc (little_bytes 4 (length turns)) turns (drop (at + (4 + length turns)) bytes))));
+          ∙ (ap (λ rest. little_bytes 4 count ++ rest) (field.ahead ∙ ap (λ n. numbers ++ drop n bytes) place)
+          ∙ (ap (λ n. little_bytes 4 n ++ (numbers ++ drop (at + (4 + width * length turns)) bytes)) (sym long)
+          ∙ sym (append_assoc (little_bytes 4 (length turns)) numbers (drop (at + (4 + width * length turns)) bytes))));
       known = all_known cores turns (ap (position (nat_le cores)) (sym same) ∙ known.0);
       short = omega (arith, long, number.1);
     }
 
 -- all lists were read
 record AreLists (cores : ℕ) (bytes : List ℕ) (count at : ℕ) (lists : List (List ℕ)) : Type 0 where
-  pub ahead : drop at bytes ≡ flat_map list_bytes lists
+  pub ahead : drop at bytes ≡ flat_map (list_bytes (width_for cores)) lists
   pub many : length lists ≡ count
   pub known : All (λ turns. All (λ core. core < cores) turns) lists
   pub short : All (λ turns. length turns < 2 ^ 32) lists
@@ -151,15 +134,15 @@ lists_read cores bytes zero interval at lists low is =
       short = All-nil (λ turns. length turns < 2 ^ 32);
     })
 lists_read cores bytes (suc count) interval at lists low is =
-    let first = first_read (turns_from cores bytes interval at) (λ turns. then_read (lists_from cores bytes count (interval + 1) (at + (4 + length turns))) (λ rest. Ok (turns ∷ rest))) lists is in
+    let first = first_read (turns_from cores bytes interval at) (λ turns. then_read (lists_from cores bytes count (interval + 1) (at + (4 + width_for cores * length turns))) (λ rest. Ok (turns ∷ rest))) lists is in
     let turns = first.0 in
-    let others = first_read (lists_from cores bytes count (interval + 1) (at + (4 + length turns))) (λ rest. Ok (turns ∷ rest)) lists first.2 in
+    let others = first_read (lists_from cores bytes count (interval + 1) (at + (4 + width_for cores * length turns))) (λ rest. Ok (turns ∷ rest)) lists first.2 in
     let rest = others.0 in
     let head = turns_read cores bytes interval at turns low first.1 in
-    let tail = lists_read cores bytes count (interval + 1) (at + (4 + length turns)) rest low others.1 in
+    let tail = lists_read cores bytes count (interval + 1) (at + (4 + width_for cores * length turns)) rest low others.1 in
     let all : turns ∷ rest ≡ lists = cc (others.2) in
     subst (λ ls. AreLists cores bytes (suc count) at ls) all (record {
-      ahead = head.ahead ∙ ap (λ behind. list_bytes turns ++ behind) tail.ahead;
+      ahead = head.ahead ∙ ap (λ behind. list_bytes (width_for cores) turns ++ behind) tail.ahead;
       many = ap suc tail.many;
       known = All-cons (λ list. All (λ core. core < cores) list) turns rest head.known tail.known;
       short = All-cons (λ list. length list < 2 ^ 32) turns rest head.short tail.short;
@@ -169,7 +152,7 @@ lists_read cores bytes (suc count) interval at lists low is =
 
 -- what the header tells was read
 record IsHeader (cores : ℕ) (bytes : List ℕ) (count : ℕ) : Type 0 where
-  pub ahead : bytes ≡ magic ++ (little_bytes 4 1 ++ (little_bytes 4 cores ++ (little_bytes 4 count ++ drop 16 bytes)))
+  pub ahead : bytes ≡ magic ++ (little_bytes 4 (version_for cores) ++ (little_bytes 4 cores ++ (little_bytes 4 count ++ drop 16 bytes)))
   pub few : count < 2 ^ 32
 
 -- what is read after the number of cores, after the version, and after the magic
@@ -177,7 +160,7 @@ abbrev after_cores : (cores : ℕ) (bytes : List ℕ) (found : ℕ) → Result �
 after_cores cores bytes found = if found == cores then read_number bytes 12 else Err (bad.Cores found)
 
 abbrev after_version : (cores : ℕ) (bytes : List ℕ) (version : ℕ) → Result ℕ BadSchedule
-after_version cores bytes version = if version == 1 then then_read (read_number bytes 8) (after_cores cores bytes) else Err (bad.Version version)
+after_version cores bytes version = if version == version_for cores then then_read (read_number bytes 8) (after_cores cores bytes) else Err (bad.Version version)
 
 abbrev after_magic : (cores : ℕ) (bytes found : List ℕ) → Result ℕ BadSchedule
 after_magic cores bytes found = if bytes_eq found magic then then_read (read_number bytes 4) (after_version cores bytes) else Err bad.Magic
@@ -188,11 +171,11 @@ header_read cores bytes count low is =
     let start = first_read (field_at bytes 0 4) (after_magic cores bytes) count is in
     let same_magic = test_passed (bytes_eq start.0 magic) (then_read (read_number bytes 4) (after_version cores bytes)) bad.Magic count start.2 in
     let versioned = first_read (read_number bytes 4) (after_version cores bytes) count same_magic.1 in
-    let same_version = test_passed (versioned.0 == 1) (then_read (read_number bytes 8) (after_cores cores bytes)) (bad.Version versioned.0) count versioned.2 in
+    let same_version = test_passed (versioned.0 == version_for cores) (then_read (read_number bytes 8) (after_cores cores bytes)) (bad.Version versioned.0) count versioned.2 in
     let machine = first_read (read_number bytes 8) (after_cores cores bytes) count same_version.1 in
     let same_cores = test_passed (machine.0 == cores) (read_number bytes 12) (bad.Cores machine.0) count machine.2 in
     let is_magic : start.0 ≡ magic = (bytes_eq-Decides start.0 magic).0 same_magic.0 in
-    let is_version : versioned.0 ≡ 1 = eqb-true versioned.0 1 same_version.0 in
+    let is_version : versioned.0 ≡ version_for cores = eqb-true versioned.0 (version_for cores) same_version.0 in
     let is_machine : machine.0 ≡ cores = eqb-true machine.0 cores same_cores.0 in
     let magic_field = (field_read bytes 0 4 start.0 start.1).0 in
     let version_field = (number_read bytes 4 versioned.0 low versioned.1).0 in
@@ -201,7 +184,7 @@ header_read cores bytes count low is =
     record {
       ahead = magic_field.ahead ∙ (ap (λ field. field ++ drop 4 bytes) is_magic
           ∙ ap (λ rest. magic ++ rest) (version_field.ahead ∙ (ap (λ n. little_bytes 4 n ++ drop 8 bytes) is_version
-          ∙ ap (λ rest. little_bytes 4 1 ++ rest) (machine_field.ahead ∙ (ap (λ n. little_bytes 4 n ++ drop 12 bytes) is_machine
+          ∙ ap (λ rest. little_bytes 4 (version_for cores) ++ rest) (machine_field.ahead ∙ (ap (λ n. little_bytes 4 n ++ drop 12 bytes) is_machine
           ∙ ap (λ rest. little_bytes 4 cores ++ rest) count_field.0.ahead)))));
       few = count_field.1;
     }
@@ -218,8 +201,8 @@ written_again cores bytes s low is =
     let head = header_read cores bytes count low header.1 in
     let rest = lists_read cores bytes count 0 16 body.0 low body.1 in
     subst (λ t. (schedule_file_of t ≡ bytes) × (t.cores ≡ cores) × AreTurns t) all (
-      sym (head.ahead ∙ ap (λ n. magic ++ (little_bytes 4 1 ++ (little_bytes 4 cores ++ (little_bytes 4 n ++ drop 16 bytes)))) (sym rest.many)
-          ∙ ap (λ behind. magic ++ (little_bytes 4 1 ++ (little_bytes 4 cores ++ (little_bytes 4 (length body.0) ++ behind)))) rest.ahead),
+      sym (head.ahead ∙ ap (λ n. magic ++ (little_bytes 4 (version_for cores) ++ (little_bytes 4 cores ++ (little_bytes 4 n ++ drop 16 bytes)))) (sym rest.many)
+          ∙ ap (λ behind. magic ++ (little_bytes 4 (version_for cores) ++ (little_bytes 4 cores ++ (little_bytes 4 (length body.0) ++ behind)))) rest.ahead),
       refl,
       record { known = rest.known; short = rest.short; few = omega (arith, rest.many, head.few) },
     )

@@ -1,11 +1,11 @@
 -- Schedules and their files, both ways.
-use Rattle.std.specs.Prelude.{◌≡◌, ℕ, ◌≤◌, ◌<◌, List, All, Ok}
+use Rattle.std.specs.Prelude.{◌≡◌, ℕ, ◌^◌, ◌<◌, List, All, Ok}
 use Rattle.access_log.specs.Schedule.{AreTurns, ScheduleState}
 use Rattle.schedule_file.specs.ScheduleFile.{schedule_file_of, schedule_of}
 
--- A schedule of at most 64 cores is what its file says.
+-- A schedule is what its file says. (The number of cores of a `Schedule` is below 2^16.)
 abbrev pub EachScheduleIsReadAgain : Type 0
-EachScheduleIsReadAgain = (s : ScheduleState) → AreTurns s → s.cores ≤ 64 → schedule_of s.cores (schedule_file_of s) ≡ Ok s
+EachScheduleIsReadAgain = (s : ScheduleState) → AreTurns s → s.cores < 2 ^ 16 → schedule_of s.cores (schedule_file_of s) ≡ Ok s
 
 -- What a list of bytes says, for any number of cores, is a schedule of that many, which has these bytes as its file.
 abbrev pub EachFileIsWrittenAgain : Type 0

@@ -1,8 +1,7 @@
 //! Laws over the definitions alone, each the contract of a function that does nothing.
 ghost use Rattle.schedule_file.specs.Laws.{EachFileIsWrittenAgain, EachScheduleIsReadAgain};
 
-/// What is read from the file of a schedule of at most 64 cores is that schedule, so no two
-/// schedules have one file.
+/// What is read from the file of a schedule is that schedule, so no two schedules have one file.
 pub fn each_schedule_is_read_again()
     ensures { EachScheduleIsReadAgain }
 {}

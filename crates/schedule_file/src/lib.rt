@@ -1,10 +1,11 @@
-//! The file of a schedule, version 1: written, and read again. Each schedule has one file, and each
-//! file one schedule.
+//! The file of a schedule: written, and read again. Version 1 is for at most 64 cores and version 2
+//! for more, so each schedule has one file, and each file one schedule.
 #![tactic(auto)]
 
 mod bad_schedule;
 pub mod laws;
 mod reader;
+mod version;
 mod writer;
 
 pub use bad_schedule::{BadSchedule, ScheduleReadFail};
@@ -13,5 +14,3 @@ pub use writer::write;
 
 /// What a file begins with.
 const MAGIC: [u8; 4] = *b"ZSCH";
-
-const VERSION: u32 = 1;
