@@ -170,7 +170,7 @@ static OF_VERSION_2: [Case; 9] = [
 
 static RANGES: [Case; 18] = [
     (&[("version = 1", "version = 3")], 4, "version", 3),
-    (&[("cores = 1", "cores = 65")], 4, "cores", 65),
+    (&[("cores = 1", "cores = 257")], 4, "cores", 257),
     (&[("interval = 10000", "interval = 0")], 4, "interval", 0),
     (
         &[("interval = 10000", "interval = 10001")],
@@ -391,7 +391,7 @@ fn the_built_in_text_reads_as_its_machine(rt: HostRuntime) {
 
 /// The greatest machine: each number at the upper end of its range.
 const GREATEST: &str = "version = 1
-cores = 64
+cores = 256
 interval = 10000
 intervals = 1048576
 memory = { base = 1099511627776, size = 268435456, stack = 1048576 }

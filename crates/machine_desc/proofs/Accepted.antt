@@ -210,7 +210,7 @@ accepted document none =
     let in_range = between document top_checks p.top in
     record {
       version = in_range (top (codes "version")) 1 2 refl;
-      cores = in_range (top (codes "cores")) 1 64 refl;
+      cores = in_range (top (codes "cores")) 1 256 refl;
       interval = in_range (top (codes "interval")) 1 10000 refl;
       intervals = in_range (top (codes "intervals")) 1 1048576 refl;
       memory = memory_holds document p;

@@ -56,7 +56,7 @@ version_check = range_check (top (codes "version")) 1 2
 unfoldable pub top_checks : List Check
 top_checks =
     version_check
-    ∷ range_check (top (codes "cores")) 1 64
+    ∷ range_check (top (codes "cores")) 1 256
     ∷ range_check (top (codes "interval")) 1 10000
     ∷ range_check (top (codes "intervals")) 1 1048576
     ∷ []

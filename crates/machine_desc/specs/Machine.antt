@@ -51,7 +51,7 @@ pub record IsDomains (banks controllers : ℕ) (d : Domains) : Type 0 where
 
 pub record IsMachine (m : Machine) : Type 0 where
   pub version : IsBetween 1 m.version 2
-  pub cores : IsBetween 1 m.cores 64
+  pub cores : IsBetween 1 m.cores 256
   pub interval : IsBetween 1 m.interval 10000
   pub intervals : IsBetween 1 m.intervals (2 ^ 20)
   pub memory : IsMemory m.cores m.memory

@@ -144,7 +144,7 @@ macro_rules! sets_ratio {
 
 static TOP: [Check; 4] = [
     integer!("", "version", 1, 2),
-    integer!("", "cores", 1, 64),
+    integer!("", "cores", 1, 256),
     integer!("", "interval", 1, 10000),
     integer!("", "intervals", 1, 1048576),
 ];

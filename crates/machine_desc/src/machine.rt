@@ -71,7 +71,7 @@ pub struct Domains {
 pub struct Machine {
     /// The version of the description: 1 or 2.
     pub version: u32,
-    /// How many cores it has: 1 to 64.
+    /// How many cores it has: 1 to 256.
     pub cores: u16,
     /// The length of an interval, in cycles: 1 to 10000.
     pub interval: u64,
