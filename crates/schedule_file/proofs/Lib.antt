@@ -1,3 +1,4 @@
+pub mod FileLengths
 pub mod Lists
 pub mod Numbers
 pub mod ReadAndWritten

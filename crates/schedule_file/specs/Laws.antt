@@ -1,5 +1,5 @@
 -- Schedules and their files, both ways.
-use Rattle.std.specs.Prelude.{◌≡◌, ℕ, ◌^◌, ◌<◌, List, All, Ok}
+use Rattle.std.specs.Prelude.{◌≡◌, ℕ, ◌+◌, ◌*◌, ◌^◌, ◌≤◌, ◌<◌, List, All, length, sum_by, Ok}
 use Rattle.access_log.specs.Schedule.{AreTurns, ScheduleState}
 use Rattle.schedule_file.specs.ScheduleFile.{schedule_file_of, schedule_of}
 
@@ -11,3 +11,7 @@ EachScheduleIsReadAgain = (s : ScheduleState) → AreTurns s → s.cores < 2 ^ 1
 abbrev pub EachFileIsWrittenAgain : Type 0
 EachFileIsWrittenAgain = (cores : ℕ) (bytes : List ℕ) (s : ScheduleState) → All (λ byte. byte < 256) bytes → schedule_of cores bytes ≡ Ok s
     → (schedule_file_of s ≡ bytes) × (s.cores ≡ cores) × AreTurns s
+
+-- The file of a schedule has 16 bytes, four for each interval, and at most two for each turn.
+abbrev pub FilesAreShort : Type 0
+FilesAreShort = (s : ScheduleState) → length (schedule_file_of s) ≤ 16 + (4 * length s.lists + 2 * sum_by length s.lists)
