@@ -13,18 +13,22 @@ static FILE: [u8; 28] = *b"ZSCH\x01\0\0\0\x02\0\0\0\x02\0\0\0\x03\0\0\0\0\x01\x0
 /// The file of an empty schedule of two cores.
 static EMPTY: [u8; 16] = *b"ZSCH\x01\0\0\0\x02\0\0\0\0\0\0\0";
 
-/// Why a file for two cores is not read.
-fn fail(alloc: Global, file: &[u8]) -> Option<ScheduleReadFail> {
-    read(alloc, file, 2).err()
+/// A turn of the last of 65 cores, whose numbers have two bytes each.
+static WIDE: [u8; 22] = *b"ZSCH\x02\0\0\0\x41\0\0\0\x01\0\0\0\x01\0\0\0\x40\0";
+
+/// Why a file for so many cores is not read.
+fn fail(alloc: Global, cores: u16, file: &[u8]) -> Option<ScheduleReadFail> {
+    read(alloc, file, cores).err()
 }
 
-/// Checks what is wrong with a file for two cores.
+/// Checks what is wrong with a file for so many cores.
 fn is_wrong(
     rt: &(impl Abort + AllocGlobal),
+    cores: u16,
     file: &[u8],
     wanted: Option<BadSchedule>,
 ) -> Result<(), NoMemory> {
-    match fail(rt.alloc(), file) {
+    match fail(rt.alloc(), cores, file) {
         Some(ScheduleReadFail::Bad(bad)) => assert!(rt; wanted == Some(bad)),
         Some(ScheduleReadFail::NoMemory) => return Err(NoMemory),
         None => assert!(rt; wanted.is_none()),
@@ -50,7 +54,7 @@ fn written(alloc: Global) -> Result<Bytes, NoMemory> {
 fn a_schedule_without_intervals_is_a_header(rt: HostRuntime) -> Result<(), Fail> {
     let file = written(rt.alloc())?;
     assert!(rt; file.as_slice() == EMPTY.as_slice());
-    Ok(is_wrong(&rt, &EMPTY, None)?)
+    Ok(is_wrong(&rt, 2, &EMPTY, None)?)
 }
 
 /// The place of a byte of the file, another byte, and what is wrong with it there.
@@ -81,7 +85,7 @@ fn changed(rt: &impl Abort, at: usize, byte: u8) -> [u8; 28] {
 #[test]
 fn each_refusal_names_the_first_thing_that_is_wrong(rt: HostRuntime) -> Result<(), Fail> {
     for &(at, byte, bad) in &CHANGED {
-        is_wrong(&rt, &changed(&rt, at, byte), Some(bad))?;
+        is_wrong(&rt, 2, &changed(&rt, at, byte), Some(bad))?;
     }
     Ok(())
 }
@@ -109,7 +113,50 @@ fn a_file_that_ends_within_a_field_is_short_where_the_field_begins(
     rt: HostRuntime,
 ) -> Result<(), Fail> {
     for &(len, at) in &CUT {
-        is_wrong(&rt, cut(&rt, len), Some(BadSchedule::Short { at }))?;
+        is_wrong(&rt, 2, cut(&rt, len), Some(BadSchedule::Short { at }))?;
     }
     Ok(())
+}
+
+/// The file of a schedule of 65 cores with one turn, of the last of them.
+fn wide(rt: &(impl Abort + AllocGlobal)) -> Bytes {
+    let alloc = rt.alloc();
+    let mut schedule = Schedule::new(alloc, 65);
+    let turns = Vec::from_slice(alloc, &[64]).expect(rt, "memory");
+    schedule.push(turns).expect(rt, "memory");
+    write(alloc, &schedule).expect(rt, "memory")
+}
+
+#[test]
+fn a_core_of_more_than_64_has_two_bytes(rt: HostRuntime) {
+    assert!(&rt; wide(&rt).as_slice() == WIDE.as_slice());
+}
+
+#[test]
+fn a_schedule_of_65_cores_is_read_from_its_file(rt: HostRuntime) -> Result<(), Fail> {
+    let schedule = read(rt.alloc(), &WIDE, 65)?;
+    has_counts(&rt, &schedule, 65, 1);
+    has_turns(&rt, &schedule, 0, &[64]);
+    Ok(())
+}
+
+/// The file of 65 cores with another byte at a place.
+fn changed_wide(rt: &impl Abort, at: usize, byte: u8) -> [u8; 22] {
+    let mut file = WIDE;
+    assert!(rt; at < file.len());
+    file[at] = byte;
+    file
+}
+
+#[test]
+fn the_version_is_that_for_so_many_cores(rt: HostRuntime) -> Result<(), Fail> {
+    let old = changed_wide(&rt, 4, 1);
+    is_wrong(&rt, 65, &old, Some(BadSchedule::Version { found: 1 }))?;
+    let past = changed_wide(&rt, 20, 0x41);
+    let stranger = BadSchedule::Core {
+        interval: 0,
+        place: 0,
+    };
+    is_wrong(&rt, 65, &past, Some(stranger))?;
+    Ok(is_wrong(&rt, 65, &WIDE[..21], Some(BadSchedule::Short { at: 20 }))?)
 }
