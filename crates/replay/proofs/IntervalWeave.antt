@@ -52,14 +52,14 @@ module _ (machine : Machine) (ok : IsMachine machine) (plain : Plain) (is : IsPl
   -- the events of an interval begin before cycle 2^36 + 2^20, and its components are free by cycle 2^56, so that no sum
   -- of the weave reaches 2^62
   pub steps_are_small : MachineStepsStaySmall → All (λ c. free_of c ≤ 2 ^ 56) comps → IsNumbered graph → GraphFits comp_serves comp_latency graph comps
-      → AreNear (2 ^ 36 + 2 ^ 20) (2 ^ 36 + 2 ^ 20) (all_events (pieces_of plain.path) entries) → length graph ≤ 4 * length entries → length entries ≤ 2 ^ 20
+      → AreNear (2 ^ 36 + 2 ^ 20) (2 ^ 36 + 2 ^ 20) (all_events (pieces_of plain.path) entries) → length graph ≤ 4 * length entries → length entries ≤ 2 ^ 22
       → AreSmallSteps comp_step comp_greatest graph comps
   steps_are_small law free numbered fit near count few =
       let near_graph : AreNear (2 ^ 36 + 2 ^ 20) (2 ^ 36 + 2 ^ 20) graph = subst (λ g. AreNear (2 ^ 36 + 2 ^ 20) (2 ^ 36 + 2 ^ 20) g) (sym made) near in
       law machine comps graph (2 ^ 56) (2 ^ 36 + 2 ^ 20) ok are free numbered fit (near_by (2 ^ 36 + 2 ^ 20) (2 ^ 56) (2 ^ 36 + 2 ^ 20) graph (omega arith) near_graph) (omega (arith, count, few))
 
 -- few accesses have few events
-pub few_events : PlainAccessesHaveFewEvents → (plain : Plain) (entries : List Entry) → length entries ≤ 2 ^ 20
+pub few_events : PlainAccessesHaveFewEvents → (plain : Plain) (entries : List Entry) → length entries ≤ 2 ^ 22
     → sum_by (λ e. length (pieces_of plain.path e)) entries < 2 ^ 32
 few_events law plain entries few = omega (arith, law plain.path entries, few)
 

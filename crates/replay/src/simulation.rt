@@ -584,7 +584,7 @@ fn delay_all(cores: &mut [BoundCore], delays: &[u64])
 fn access_room(machine: &Machine) -> u64
     requires { IsMachine machine.now }
     ensures value { result ≡ access_room machine.now }
-    ensures small { result ≤ 2 ^ 20 }
+    ensures small { result ≤ 2 ^ 22 }
 {
     u64::from(machine.cores) * (machine.interval + BESIDE_CYCLES)
 }

@@ -39,7 +39,7 @@ pub fn events_of(
     requires free { All (λ c. free_of c ≤ 2 ^ 56) comps.now }
     requires cores { All (λ e. e.core < machine.now.cores) entries.now }
     requires starts { All (λ e. e.start ≤ 2 ^ 36) entries.now }
-    requires few { length entries.now ≤ 2 ^ 20 }
+    requires few { length entries.now ≤ 2 ^ 22 }
     ensures { IfOk result (AreEventsOf machine.now comps.now entries.now) }
 {
     event_graph::laws::plain_graphs_fit();

@@ -32,7 +32,7 @@ run_cores-requires-clause-room g c κs within =
     let far : room_of port.world ≡ 2 ^ 62 - 1 = ap room_of c.in_ok-begin.ensures.world ∙ begun_room _ p.port.world.shards in
     let value = c.access_room.ensures.value in
     let room : access_room machine ≤ port.room = omega (arith, value, c.in_ok-begin.ensures.room) in
-    let small : access_room machine ≤ 2 ^ 20 = omega (arith, value, c.access_room.ensures.small) in
+    let small : access_room machine ≤ 2 ^ 22 = omega (arith, value, c.access_room.ensures.small) in
     omega (arith, far, room, small)
 
 pub take_sorted-entries-requires : goal.take_sorted-entries-requires
