@@ -1,11 +1,9 @@
 -- A replay of a recorded schedule repeats the run.
-use Rattle.std.proofs.Common.{◌≡◌, ◌≢◌, ℕ, ◌+◌, ◌*◌, ◌<◌, ◌≤◌, Bool, true, false, List, [], ◌∷◌, length, Option, Some, None, Result, Ok, Err, All, take, option_map, refl, sym, ◌∙◌, ap, subst, inl, inr, arith, nat_lt}
-use Rattle.std.specs.Prelude.{IsOkAnd, MatchOption, MatchResult, sum_by}
-use Rattle.std.specs.List.{flat_map}
+use Rattle.std.proofs.Common.{◌≡◌, ◌≢◌, ℕ, ◌+◌, ◌<◌, ◌≤◌, Bool, true, false, List, length, Option, Some, None, Result, Ok, Err, All, take, option_map, refl, sym, ◌∙◌, ap, subst, inl, inr, arith, nat_lt}
+use Rattle.std.specs.Prelude.{IsOkAnd, MatchOption, MatchResult}
 use Rattle.std.proofs.lemmas.Bool.Decides.{nat_tests}
-use Rattle.std.proofs.lemmas.List.{length-append, take_all}
-use Rattle.std.proofs.lemmas.List.Concat.{length-flat_map}
-use Rattle.std.proofs.lemmas.List.Sums.{get_or-le-sum_by, sum_by-cons}
+use Rattle.std.proofs.lemmas.List.{take_all}
+use Rattle.std.proofs.lemmas.List.Sums.{get_or-le-sum_by}
 use Rattle.access_log.specs.Schedule.{AreTurns, ScheduleState}
 use Rattle.machine_desc.specs.declared.machine.Machine.{Machine}
 use Rattle.machine_desc.specs.Machine.{IsMachine}
@@ -14,8 +12,8 @@ use Rattle.replay.specs.declared.replay_fail.ReplayFail.TheVariants as fail
 use Rattle.replay.specs.Laws.{FitsRun, LegalSchedulesFit, ReplaysGiveTheSame}
 use Rattle.replay.specs.ReferenceRun.{Illegal, IsIllegalAt, IsKeptInOrder, IsRunOf}
 use Rattle.replay.specs.Results.{HasCounts, Results}
-use Rattle.schedule_file.specs.Laws.{EachScheduleIsReadAgain}
-use Rattle.schedule_file.specs.ScheduleFile.{header_bytes, list_bytes, schedule_file_of, schedule_of}
+use Rattle.schedule_file.specs.Laws.{EachScheduleIsReadAgain, FilesAreShort}
+use Rattle.schedule_file.specs.ScheduleFile.{schedule_file_of, schedule_of}
 use Rattle.zsim.specs.declared.ended.Kept.{Kept}
 use Rattle.zsim.specs.declared.ended.ScheduleFault.TheVariants as fault
 use Rattle.zsim.specs.declared.ended.Status.{Status}
@@ -69,23 +67,6 @@ parts command kept setup is = parts_from command kept setup (machine_by kept.mac
 
 -- ---- the file of a schedule
 
-header_length : (s : ScheduleState) → length (header_bytes s) ≡ 16
-unfolding header_bytes
-header_length s = refl
-
-list_length : (turns : List ℕ) → length (list_bytes turns) ≡ 4 + length turns
-list_length turns = omega arith
-
-lists_length : (lists : List (List ℕ)) → sum_by (λ turns. length (list_bytes turns)) lists ≡ 4 * length lists + sum_by length lists
-lists_length [] = refl
-lists_length (turns ∷ lists) =
-    omega (arith, lists_length lists, list_length turns, sum_by-cons (λ (ts : List ℕ). length (list_bytes ts)) turns lists, sum_by-cons length turns lists)
-
-file_length : (s : ScheduleState) → length (schedule_file_of s) ≡ 16 + (4 * length s.lists + sum_by length s.lists)
-file_length s =
-    length-append (header_bytes s) (flat_map list_bytes s.lists)
-    ∙ (rw (header_length s, length-flat_map list_bytes s.lists, lists_length s.lists) refl)
-
 not_over : (most n : ℕ) → n ≤ most → nat_lt most n ≡ false
 not_over most n within = grind (arith, nat_tests)
 
@@ -94,7 +75,7 @@ reads_again : (machine : Machine) (s : ScheduleState) → length (schedule_file_
 unfolding schedule_by
 reads_again machine s short again = rw (not_over schedule_limit (length (schedule_file_of s)) short, again) refl
 
-module _ (read_again : EachScheduleIsReadAgain) (machine : Machine) (sound : IsMachine machine) (s : ScheduleState) (results : Results) (cores : s.cores ≡ machine.cores) (fits : FitsRun machine s.lists results) (counted : HasCounts machine results) where
+module _ (read_again : EachScheduleIsReadAgain) (files_short : FilesAreShort) (machine : Machine) (sound : IsMachine machine) (s : ScheduleState) (results : Results) (cores : s.cores ≡ machine.cores) (fits : FitsRun machine s.lists results) (counted : HasCounts machine results) where
   are_turns : AreTurns s
   are_turns = record {
     known = subst (λ (n : ℕ). All (λ (turns : List ℕ). All (λ number. number < n) turns) s.lists) (sym cores) fits.known;
@@ -103,7 +84,7 @@ module _ (read_again : EachScheduleIsReadAgain) (machine : Machine) (sound : IsM
   }
 
   pub short_enough : length (schedule_file_of s) ≤ schedule_limit
-  short_enough = omega (arith, file_length s, fits.turns, counted.accesses, fits.intervals, fits.few, sound.intervals.1)
+  short_enough = omega (arith, files_short s, fits.turns, counted.accesses, fits.intervals, fits.few, sound.intervals.1)
 
   pub is_read_again : schedule_by machine (schedule_file_of s) ≡ Ok s
   is_read_again =
@@ -148,7 +129,7 @@ decided seen t k setup (inr all) some is =
 
 -- ---- a replay of what it kept
 
-module _ (replays : ReplaysGiveTheSame) (fits : LegalSchedulesFit) (read_again : EachScheduleIsReadAgain) (first second : Seen) (s t : Status) (ran replayed : Kept) (ended : EndsAs first s ran) (whole : IsReportedWhole s) (ended_again : EndsAs second t replayed) (again : IsReplayOf first second ran replayed) where
+module _ (replays : ReplaysGiveTheSame) (fits : LegalSchedulesFit) (read_again : EachScheduleIsReadAgain) (files_short : FilesAreShort) (first second : Seen) (s t : Status) (ran replayed : Kept) (ended : EndsAs first s ran) (whole : IsReportedWhole s) (ended_again : EndsAs second t replayed) (again : IsReplayOf first second ran replayed) where
   abbrev report : IsReported s first ran
   report = reported first s ran ended whole
 
@@ -171,10 +152,10 @@ module _ (replays : ReplaysGiveTheSame) (fits : LegalSchedulesFit) (read_again :
   cores = ok_and (λ (m : Machine). ran.schedule.cores ≡ m.cores) (machine_by ran.machine) machine had.machine (keeps_all first s ran ended whole).cores
 
   file_is_read : schedule_by machine (schedule_file_of ran.schedule) ≡ Ok ran.schedule
-  file_is_read = is_read_again read_again machine gives.sound ran.schedule results cores (fits machine image ran.schedule.lists results gives.run) gives.counted
+  file_is_read = is_read_again read_again files_short machine gives.sound ran.schedule results cores (fits machine image ran.schedule.lists results gives.run) gives.counted
 
   pub file_is_short : length (schedule_file_of ran.schedule) ≤ schedule_limit
-  file_is_short = short_enough read_again machine gives.sound ran.schedule results cores (fits machine image ran.schedule.lists results gives.run) gives.counted
+  file_is_short = short_enough read_again files_short machine gives.sound ran.schedule results cores (fits machine image ran.schedule.lists results gives.run) gives.counted
 
   pub same_machine : machine_by replayed.machine ≡ Ok machine
   same_machine = ap machine_by again.machine ∙ had.machine

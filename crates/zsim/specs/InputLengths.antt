@@ -11,4 +11,4 @@ exe_limit = 2 ^ 26
 
 -- the most bytes of a schedule file
 abbrev pub schedule_limit : ℕ
-schedule_limit = 2 ^ 27
+schedule_limit = 2 ^ 28

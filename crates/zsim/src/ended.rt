@@ -69,7 +69,7 @@ pub enum Which {
     Machine,
     /// The executable, of 2^26 bytes at most.
     Exe,
-    /// The schedule file, of 2^27 bytes at most.
+    /// The schedule file, of 2^28 bytes at most.
     Schedule,
 }
 

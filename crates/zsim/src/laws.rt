@@ -20,4 +20,5 @@ pub fn replays_repeat_runs()
     replay::laws::replays_give_the_same();
     replay::laws::legal_schedules_fit();
     schedule_file::laws::each_schedule_is_read_again();
+    schedule_file::laws::files_are_short();
 }

@@ -7,4 +7,4 @@ pub const MACHINE_LIMIT: usize = 1 << 20;
 pub const EXE_LIMIT: usize = 1 << 26;
 
 /// The limit of a schedule file, in bytes.
-pub const SCHEDULE_LIMIT: usize = 1 << 27;
+pub const SCHEDULE_LIMIT: usize = 1 << 28;

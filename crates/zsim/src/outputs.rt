@@ -29,7 +29,6 @@ pub fn output_file<'w>(
     name: Option<&'w str>,
     schedule: &Schedule,
 ) -> Result<Option<OutputFile<'w>>, NoMemory>
-    requires { schedule.now.cores ≤ 64 }
     ensures { IfOk result (λ file. option_map file_value file ≡ option_map (λ n. named_file n (schedule_file_of schedule.now)) (option_map (λ n. n.now) name.entry)) }
 {
     match name {
