@@ -551,9 +551,16 @@ class BadSchedule(Exception):
     """The number of what is wrong with a file, and what it names."""
 
 
+def version_for(cores):
+    """Returns the version of a file for so many cores, which is also how many bytes a core's number has in it."""
+    return 1 if cores <= 64 else 2
+
+
 def schedule_file(cores, lists):
-    header = struct.pack("<4sIII", b"ZSCH", 1, cores, len(lists))
-    return header + b"".join(struct.pack("<I", len(turns)) + bytes(turns) for turns in lists)
+    version = version_for(cores)
+    header = struct.pack("<4sIII", b"ZSCH", version, cores, len(lists))
+    written = (b"".join(core.to_bytes(version, "little") for core in turns) for turns in lists)
+    return header + b"".join(struct.pack("<I", len(turns)) + numbers for turns, numbers in zip(lists, written))
 
 
 def schedule_of(file, cores):
@@ -569,18 +576,20 @@ def schedule_of(file, cores):
 
     if field(0, 4) != b"ZSCH":
         raise BadSchedule("2")
-    if number(4) != 1:
+    width = version_for(cores)
+    if number(4) != width:
         raise BadSchedule(f"3 {number(4)}")
     if number(8) != cores:
         raise BadSchedule(f"4 {number(8)}")
     lists, at = [], 16
     while len(lists) < number(12):
-        turns = list(field(at + 4, number(at)))
+        numbers = field(at + 4, width * number(at))
+        turns = [int.from_bytes(numbers[k : k + width], "little") for k in range(0, len(numbers), width)]
         strangers = [place for place, core in enumerate(turns) if core >= cores]
         if strangers:
             raise BadSchedule(f"5 {len(lists)} {strangers[0]}")
         lists.append(turns)
-        at += 4 + len(turns)
+        at += 4 + len(numbers)
     if at != len(file):
         raise BadSchedule(f"6 {at}")
     return lists
@@ -822,7 +831,7 @@ def machine_of(machine, name, names):
 def lists_of(name, names, cores):
     """Returns the lists of a schedule's file."""
     file = names.read(name)
-    if len(file) > 2**27:
+    if len(file) > 2**28:
         raise Untold
     return schedule_of(file, cores)
 
