@@ -14,25 +14,32 @@ HEADER = struct.Struct("<4sIII")
 COUNT = struct.Struct("<I")
 
 
+def version_for(cores):
+    """Returns the version of a file for so many cores, and the form of a core's number in its lists."""
+    return (1, "B") if cores <= 64 else (2, "H")
+
+
 def text_of(data):
     """Returns the line of each interval."""
-    magic, version, _, intervals = HEADER.unpack_from(data)
-    if (magic, version) != (b"ZSCH", 1):
-        sys.exit("schedule.py: this is no schedule file of version 1")
+    magic, version, cores, intervals = HEADER.unpack_from(data)
+    wanted, number = version_for(cores)
+    if (magic, version) != (b"ZSCH", wanted):
+        sys.exit("schedule.py: this is no schedule file")
     lines, at = [], HEADER.size
     for _ in range(intervals):
         (count,) = COUNT.unpack_from(data, at)
-        at += COUNT.size
-        lines.append(" ".join(str(core) for core in data[at : at + count]))
-        at += count
+        turns = struct.Struct(f"<{count}{number}")
+        lines.append(" ".join(map(str, turns.unpack_from(data, at + COUNT.size))))
+        at += COUNT.size + turns.size
     return lines
 
 
 def file_of(cores, lines):
     """Returns the bytes of a schedule."""
-    turns = [bytes(int(core) for core in line.split()) for line in lines]
-    lists = b"".join(COUNT.pack(len(turn)) + turn for turn in turns)
-    return HEADER.pack(b"ZSCH", 1, cores, len(turns)) + lists
+    version, number = version_for(cores)
+    lists = [[int(core) for core in line.split()] for line in lines]
+    turns = (COUNT.pack(len(turn)) + struct.pack(f"<{len(turn)}{number}", *turn) for turn in lists)
+    return HEADER.pack(b"ZSCH", version, cores, len(lists)) + b"".join(turns)
 
 
 def main():
