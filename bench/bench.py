@@ -5,7 +5,8 @@
 
 Each time is the user time of the best of N runs (3, if not given). Instructions and accesses are those of the report.
 Programs of one core run on `plain`. Those that share their work run on examples/machines/server.toml, with 1, 4 and 16
-of its cores; for each of these runs --shares also prints how its time is shared among the parts of zsim, by perf.
+of its cores; for each of these runs --shares also prints how its time is shared among the parts of zsim, by perf. Those
+for several workers run on 4, 16 and 64 of its cores, and two of them on the 256 cores of many_cores.toml.
 
 Where qemu-riscv64 is installed, it runs the same executable. Where valgrind, make and a C compiler are, cachegrind runs
 the native twin of each C program: the same source, compiled for the machine at hand. Of both, the time that they take
@@ -38,6 +39,8 @@ PROGRAMS = LOOPS + C_PROGRAMS + PARALLEL + BESIDE
 SERVER = os.path.join(TOP, "examples/machines/server.toml")
 CORES = [1, 4, 16]
 CORES_BESIDE = [4, 16, 64]
+MANY = os.path.join(TOP, "examples/machines/many_cores.toml")
+BESIDE_MANY = ["reading", "scattered"]
 WORKERS = [1, 2, 4]
 # A memory that is filled at once, so that the time is that of the run.
 SMALL_MEMORY = {"size": 0x100000, "stack": 4160}
@@ -179,7 +182,7 @@ def beside_rows(name, cores, runs, folder):
     """Yields the cells of a program's rows on so many cores, one for each number of workers."""
     alone = None
     for workers in WORKERS:
-        machine_file = server_with(cores, folder, **SMALL_MEMORY)
+        machine_file = MANY if cores == 256 else server_with(cores, folder, **SMALL_MEMORY)
         words = [PROGRAM, "run", machine_file, os.path.join(HERE, f"{name}.elf"), "--workers", str(workers)]
         front = [name, str(cores), str(workers)]
         results = [timed(words) for _ in range(runs)]
@@ -264,6 +267,7 @@ def main():
         if runs:
             print_table(PARALLEL_HEADINGS, 1, (parallel_row(*run, words.runs, folder) for run in runs))
         runs_beside = [(name, cores) for name in beside for cores in CORES_BESIDE]
+        runs_beside += [(name, 256) for name in beside if name in BESIDE_MANY]
         if runs_beside:
             rows = (row for run in runs_beside for row in beside_rows(*run, words.runs, folder))
             print_table(BESIDE_HEADINGS, 1, rows)
