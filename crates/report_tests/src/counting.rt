@@ -389,17 +389,17 @@ fn has_counts(rt: &impl Abort, found: &SizedCounters, cores: u16, comps: u16) {
     assert!(rt; found.counters.comp_counts().len() == usize::from(comps));
 }
 
-/// Checks that nothing is counted of 64 cores, 64 banks and 16 controllers.
+/// Checks that nothing is counted of 256 cores, 64 banks and 16 controllers.
 fn has_nothing(rt: &impl Abort, found: &SizedCounters) {
-    has_counts(rt, found, 64, 80);
-    has_core(rt, found, 63, &NO_CORE_COUNT);
+    has_counts(rt, found, 256, 80);
+    has_core(rt, found, 255, &NO_CORE_COUNT);
     has_comp(rt, found, 79, &NO_COMP_COUNT);
     has_totals(rt, found, 0, 0);
 }
 
 #[test]
 fn the_largest_machine_has_counters(rt: HostRuntime) {
-    has_nothing(&rt, &uncounted(&rt, &machine(&rt, 64, 64, 16)));
+    has_nothing(&rt, &uncounted(&rt, &machine(&rt, 256, 64, 16)));
 }
 
 static NO_CORE_COUNT: CoreCount = CoreCount {

@@ -24,7 +24,7 @@ pub(crate) fn machine(
     controllers: u16,
 ) -> Machine
     requires some_cores { 1 ≤ cores }
-    requires few_cores { cores ≤ 64 }
+    requires few_cores { cores ≤ 256 }
     requires some_banks { 1 ≤ banks }
     requires few_banks { banks ≤ 64 }
     requires some_controllers { 1 ≤ controllers }

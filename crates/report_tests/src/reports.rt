@@ -358,13 +358,13 @@ fn has_lines(rt: &impl Abort, report: &str, count: usize, parts: &[&str; 3]) {
 /// Seven lines, two of each core, and one of each component.
 #[test]
 fn the_report_of_the_greatest_machine_is_whole(rt: HostRuntime) {
-    let report = first_report(&rt, &machine(&rt, 64, 64, 16));
+    let report = first_report(&rt, &machine(&rt, 256, 64, 16));
     let text = text_of(&rt, report.as_slice());
-    has_lines(&rt, text, 7 + 2 * 64 + 64 + 16, &GREATEST_PARTS);
+    has_lines(&rt, text, 7 + 2 * 256 + 64 + 16, &GREATEST_PARTS);
 }
 
 static GREATEST_PARTS: [&str; 3] = [
-    "zsim report 1\ncores 64\nintervals 1048576\ninstructions 0\ncycles 0\naccesses 0\nevents 0\ncore 0 instructions 0 cycles 0 delay 0 loads 0 stores 0 atomics 0 hits 0 upgrades 0 l2hits 0 misses 0 halt running\ncore 0 console 0 \"\"\ncore 1 instructions 0 ",
-    "\ncore 63 console 0 \"\"\nbank 0 events 0 waited 0 free 0\nbank 1 events ",
+    "zsim report 1\ncores 256\nintervals 1048576\ninstructions 0\ncycles 0\naccesses 0\nevents 0\ncore 0 instructions 0 cycles 0 delay 0 loads 0 stores 0 atomics 0 hits 0 upgrades 0 l2hits 0 misses 0 halt running\ncore 0 console 0 \"\"\ncore 1 instructions 0 ",
+    "\ncore 255 console 0 \"\"\nbank 0 events 0 waited 0 free 0\nbank 1 events ",
     "\ncontroller 15 events 0 waited 0 free 0\n",
 ];
