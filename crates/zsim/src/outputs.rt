@@ -1,5 +1,5 @@
 //! The outputs of a run: the report, and behind it the file of its schedule.
-ghost use Rattle.std.specs.Prelude.{◌≡◌, ◌⊎◌, ◌≤◌, IfOk, OnOk, OnErr, IsSomeAnd, MatchOption, option_map};
+ghost use Rattle.std.specs.Prelude.{◌≡◌, ◌⊎◌, IfOk, OnOk, OnErr, IsSomeAnd, MatchOption, option_map};
 ghost use Rattle.replay.specs.Results.{HasCounts};
 ghost use Rattle.schedule_file.specs.ScheduleFile.{schedule_file_of};
 ghost use Rattle.zsim.specs.Ended.{status_at};
