@@ -43,6 +43,17 @@ bank 1 events 20 waited 0 free 3000
 controller 0 events 40 waited 80 free 3900
 """
 
+# One of version 2, whose cores fetch: the same with 1100 fetches more, of which 20 found their line in the L2 and 5 in
+# memory alone.
+FETCHING = (
+    WORKED.replace("report 1", "report 2")
+    .replace("accesses 1300", "accesses 2400")
+    .replace("atomics 0 hits 580", "atomics 0 fetches 400 hits 965")
+    .replace("l2hits 10 misses 5", "l2hits 20 misses 10")
+    .replace("atomics 50 hits 650", "atomics 50 fetches 700 hits 1340")
+    .replace("l2hits 20 misses 20", "l2hits 30 misses 20")
+)
+
 
 @pytest.fixture(scope="session")
 def repository():

@@ -10,7 +10,7 @@ import sys
 from pathlib import Path
 
 import pytest
-from conftest import WORKED, environment
+from conftest import FETCHING, WORKED, environment
 
 import zsim_tools
 
@@ -96,6 +96,13 @@ def test_show_of_a_brief_report(command, tmp_path):
         ["accesses", "1300"],
         ["events", "160"],
     ]
+
+
+def test_show_of_cores_that_fetch(command, tmp_path):
+    (tmp_path / "fetching.txt").write_text(FETCHING)
+    lines = [line.split() for line in command("show", "fetching.txt").stdout.splitlines()]
+    assert "core instructions cycles delay loads stores atomics fetches halt".split() in lines
+    assert "1 2000 3000 100 600 50 50 700 exit 1".split() in lines and ["fetches_pki", "366.7"] in lines
 
 
 def test_show_as_json_and_csv_have_the_same_numbers(command, worked, repository):

@@ -5,7 +5,7 @@ import shlex
 import shutil
 
 import pytest
-from conftest import HERE, WORKED
+from conftest import FETCHING, HERE, WORKED
 from test_plots import size_of, texts_of
 
 import zsim_tools
@@ -36,7 +36,7 @@ def test_every_key_of_a_machine_has_a_label(repository):
 def test_every_column_is_in_the_documents(repository):
     text = (repository / "docs/tools.md").read_text()
     machine = zsim_tools.read_machine("plain").changed({"cores": 2, "l2.banks": 2, "domains.banks": [0, 0]})
-    columns = numbers_of(parse_report(WORKED, machine=machine))
+    columns = numbers_of(parse_report(FETCHING, machine=machine))
     for name in columns:
         if not re.fullmatch("(core|bank|controller)[0-9]+_.*", name):
             assert f"`{name}`" in text, name

@@ -148,6 +148,12 @@ def test_what_is_no_table_is_refused(command, tmp_path, name, text, told):
     assert (ended.returncode, ended.stderr) == (2, f"zsim-tools: {told}\n")
 
 
+def test_what_fetches_are_counted_with_is_in_the_label():
+    assert label_of("l1_mpki", fetching=True) == "misses in the L1 and L1I per 1000 instructions"
+    assert label_of("core3_hits", fetching=True) == "core 3: hits in the L1 and L1I"
+    assert label_of("l2_mpki", fetching=True) == label_of("l2_mpki")
+
+
 def test_every_column_has_a_label_with_words(table):
     for column in table.columns:
         if not column.endswith(("sha256", "_halt")) and column not in (

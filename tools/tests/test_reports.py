@@ -3,7 +3,7 @@
 import re
 
 import pytest
-from conftest import WORKED
+from conftest import FETCHING, WORKED
 
 import zsim_tools
 from zsim_tools.outcomes import judge, row_of
@@ -147,6 +147,16 @@ def test_derived_numbers_come_back_from_a_table(machine, tmp_path, ending):
     assert table["cycles"].isna().tolist() == [False, True] and str(table["cycles"].dtype) == "Int64"
 
 
+def test_a_report_of_cores_that_fetch():
+    report = parse_report(FETCHING)
+    assert list(report.cores["fetches"]) == [400, 700] and report.core_list[0].counters["hits"] == 965
+    assert report.derived["fetches_pki"] == pytest.approx(1100 / 3)
+    assert list(report.cores["fetches_pki"]) == pytest.approx([400, 350])
+    # (20 + 30 and 10 + 20 of 3000 instructions: those of loads, stores and atomics, and of fetches)
+    assert report.derived["l1_mpki"] == pytest.approx(80 / 3)
+    assert "fetches_pki" not in parse_report(WORKED).derived
+
+
 def test_without_a_machine_there_is_no_busy_share():
     report = parse_report(WORKED)
     assert "busy" not in report.banks and "bank_busy" not in report.derived
@@ -194,9 +204,13 @@ def test_a_report_cut_in_half_says_so(command, tmp_path):
         ("", "line 1: no report: the file is empty"),
         (
             "\x7fELF\x02\x01\x01",
-            'line 1: no report: it begins with "\\x7fELF\\x02\\x01\\x01", not with "zsim report 1"',
+            'line 1: no report: it begins with "\\x7fELF\\x02\\x01\\x01", not with "zsim report 1 or 2"',
         ),
-        ("zsim report 2\ncores 1\n", 'line 1: a report of version "2"; these tools read version 1'),
+        ("zsim report 3\ncores 1\n", 'line 1: a report of version "3"; these tools read version 1 or 2'),
+        (WORKED.replace("report 1", "report 2"), "line 8: here belongs the line of core 0, not"),
+        (FETCHING.replace("report 2", "report 1"), "line 8: here belongs the line of core 0, not"),
+        (FETCHING.replace("fetches 400", "fetches 401"), "line 6: accesses 2400, but the cores below come to 2401"),
+        (WORKED.replace("cores 2", "cores 0"), "line 2: a machine has at least one core"),
         (WORKED.replace("cores 2", "cores two"), 'line 2: here belongs "cores N", not "cores two"'),
         (
             WORKED.replace("cycles 4000\nacc", "cycles 04000\nacc"),

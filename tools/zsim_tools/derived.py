@@ -5,8 +5,6 @@ A quotient with a divisor of 0 is no number (NaN).
 
 from math import isnan, nan
 
-CORE_SUMS = ("instructions", "delay", "loads", "stores", "atomics", "hits", "upgrades", "l2hits", "misses")
-
 
 def quotient(part, whole):
     return part / whole if whole else nan
@@ -15,9 +13,11 @@ def quotient(part, whole):
 def of_core(core):
     """Returns the derived numbers of a core's counters, or of the sums over all cores."""
     thousands = core["instructions"] / 1000
+    fetches = {"fetches_pki": quotient(core["fetches"], thousands)} if "fetches" in core else {}
     return {
         "cpi": quotient(core["cycles"], core["instructions"]),
         "waiting": quotient(core["delay"], core["cycles"]),
+        **fetches,
         "hits_pki": quotient(core["hits"], thousands),
         "upgrades_pki": quotient(core["upgrades"], thousands),
         "l2hits_pki": quotient(core["l2hits"], thousands),
@@ -49,7 +49,9 @@ def controller_occupancy(machine):
 def totals(report):
     """Returns the sums over the cores, the banks and the controllers, by name."""
     cores = [core.counters for core in report.core_list]
-    sums = {name: sum([core[name] for core in cores]) for name in CORE_SUMS}
+    # (the column `cycles` is the greatest clock, as in the report)
+    names = [name for name in (cores[0] if cores else ()) if name != "cycles"]
+    sums = {name: sum([core[name] for core in cores]) for name in names}
     for kind, components in (("bank", report.bank_list), ("controller", report.controller_list)):
         for name in ("events", "waited"):
             sums[f"{kind}_{name}"] = sum([component.counters[name] for component in components])

@@ -10,10 +10,17 @@ from .texts import SHARES, console, plain_number, print_csv, print_json, print_t
 # Which whole tells how much a change of a number weighs. A number that is not here is measured by itself.
 KINDS = {
     "cycles": ("cycles", "delay", "waited", "free", "bank_waited", "controller_waited"),
-    "accesses": ("accesses", "loads", "stores", "atomics", "hits", "upgrades", "l2hits", "misses"),
+    "accesses": ("accesses", "loads", "stores", "atomics", "fetches", "hits", "upgrades", "l2hits", "misses"),
     "events": ("events", "bank_events", "controller_events"),
     "instructions": ("instructions",),
-    "accesses per thousand instructions": ("hits_pki", "upgrades_pki", "l2hits_pki", "l1_mpki", "l2_mpki"),
+    "accesses per thousand instructions": (
+        "fetches_pki",
+        "hits_pki",
+        "upgrades_pki",
+        "l2hits_pki",
+        "l1_mpki",
+        "l2_mpki",
+    ),
     "cycles per event": ("wait", "bank_wait", "controller_wait"),
     "one": SHARES,
 }

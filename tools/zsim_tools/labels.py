@@ -39,6 +39,7 @@ NUMBERS = {
     "loads": "loads",
     "stores": "stores",
     "atomics": "atomics",
+    "fetches": "fetches",
     "hits": "hits in the L1",
     "upgrades": "upgrades",
     "l2hits": "hits in the L2",
@@ -47,6 +48,7 @@ NUMBERS = {
     "free": "free from (cycle)",
     "cpi": "cycles per instruction",
     "waiting": "waiting (share of the cycles)",
+    "fetches_pki": "fetches per 1000 instructions",
     "hits_pki": "hits in the L1 per 1000 instructions",
     "upgrades_pki": "upgrades per 1000 instructions",
     "l2hits_pki": "hits in the L2 per 1000 instructions",
@@ -56,6 +58,9 @@ NUMBERS = {
     "cycles_spread": "spread of the cores' cycles (share of the mean)",
     "cpi_spread": "spread of the cores' CPI (share of the mean)",
 }
+
+# Where cores fetch, these are of both first caches together: the report does not tell which of them an access came to.
+FETCHING = {name: NUMBERS[name].replace("the L1", "the L1 and L1I") for name in ("hits", "hits_pki", "l1_mpki")}
 
 COMPONENTS = {
     "events": "events of the {kinds}",
@@ -68,17 +73,21 @@ COMPONENTS = {
 KINDS = {"bank": "banks", "controller": "controllers"}
 
 
-def label_of(column):
-    """Returns the label of a column, with its unit. A column that is not known here is its own label."""
+def label_of(column, fetching=False):
+    """Returns the label of a column, with its unit. A column that is not known here is its own label.
+
+    `fetching` says that the cores fetch their instructions: the table has the column `fetches`.
+    """
+    numbers = {**NUMBERS, **FETCHING} if fetching else NUMBERS
     if column in KEYS:
         return KEYS[column]
-    if column in NUMBERS:
-        return NUMBERS[column]
+    if column in numbers:
+        return numbers[column]
     for kind, kinds in KINDS.items():
         for name, text in COMPONENTS.items():
             if column == f"{kind}_{name}":
                 return text.format(kind=kind, kinds=kinds)
     part = re.fullmatch("(core|bank|controller)([0-9]+)_(.+)", column)
-    if part and part[3] in NUMBERS:
-        return f"{part[1]} {part[2]}: {NUMBERS[part[3]]}"
+    if part and part[3] in numbers:
+        return f"{part[1]} {part[2]}: {numbers[part[3]]}"
     return column

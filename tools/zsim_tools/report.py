@@ -12,28 +12,23 @@ from . import derived
 from .errors import ToolError, told
 from .machine import read_bytes
 
-VERSION = "1"
-
-# What the counters of a core and of a component are called in the report, in its order.
-CORE_COUNTERS = (
-    "instructions",
-    "cycles",
-    "delay",
-    "loads",
-    "stores",
-    "atomics",
-    "hits",
-    "upgrades",
-    "l2hits",
-    "misses",
-)
+# The versions of reports, and what the counters of a core are called in each, in the order of the report.
+WHAT_IT_DID = ("instructions", "cycles", "delay", "loads", "stores", "atomics")
+WHAT_IT_FOUND = ("hits", "upgrades", "l2hits", "misses")
+CORE_COUNTERS = {
+    "1": (*WHAT_IT_DID, *WHAT_IT_FOUND),
+    "2": (*WHAT_IT_DID, "fetches", *WHAT_IT_FOUND),
+}
 COMPONENT_COUNTERS = ("events", "waited", "free")
 SUMMARY = ("cores", "intervals", "instructions", "cycles", "accesses", "events")
 
 NUMBER = "(0|[1-9][0-9]*)"
-FIRST_LINE = re.compile(f"zsim report {VERSION}")
+FIRST_LINE = re.compile(f"zsim report ({'|'.join(CORE_COUNTERS)})")
 HALT = "(exit [0-9]+|illegal [0-9a-f]{8}|(?:misaligned|atomic|fetch|access) [0-9a-f]{16}|break|running)"
-CORE_LINE = re.compile(" ".join([f"core {NUMBER}", *(f"{name} {NUMBER}" for name in CORE_COUNTERS), f"halt {HALT}"]))
+CORE_LINES = {
+    version: re.compile(" ".join([f"core {NUMBER}", *(f"{name} {NUMBER}" for name in counters), f"halt {HALT}"]))
+    for version, counters in CORE_COUNTERS.items()
+}
 CONSOLE_LINE = re.compile(rf'core {NUMBER} console {NUMBER} "((?:[ !#-\[\]-~]|\\x[0-9a-f]{{2}})*)"')
 SUMMARY_LINES = {word: re.compile(f"{word} {NUMBER}") for word in SUMMARY}
 COMPONENT_LINE = re.compile(
@@ -174,14 +169,16 @@ def shown(line):
 def parse_report(text, name="report", machine=None, status=None):
     """Returns the Report of a text. ToolError names the line that is wrong."""
     lines = Lines(name, text)
-    take_header(lines, text)
+    version = take_header(lines, text)
     summary = {}
     for word, pattern in SUMMARY_LINES.items():
         match = lines.take(pattern, f'"{word} N"')
         (summary[word],) = lines.numbers(match.groups())
     if lines.at_end:
         return Report(name, summary, machine=machine, status=status)
-    cores = tuple(take_core(lines, number) for number in range(summary["cores"]))
+    if not summary["cores"]:
+        lines.fail("a machine has at least one core", SUMMARY.index("cores") + 2)
+    cores = tuple(take_core(lines, number, version) for number in range(summary["cores"]))
     banks = take_components(lines, "bank")
     controllers = take_components(lines, "controller")
     if not lines.at_end:
@@ -194,20 +191,21 @@ def parse_report(text, name="report", machine=None, status=None):
 
 
 def take_header(lines, text):
+    """Takes the first line, and returns the version of the report."""
     first = text.partition("\n")[0]
+    versions = " or ".join(CORE_COUNTERS)
     if not text:
         lines.fail("no report: the file is empty")
     if not first.startswith("zsim report "):
-        lines.fail(f'no report: it begins with {shown(first)}, not with "zsim report {VERSION}"')
-    if lines.lines and first != f"zsim report {VERSION}":
-        lines.fail(
-            f"a report of version {shown(first.removeprefix('zsim report '))}; these tools read version {VERSION}"
-        )
-    lines.take(FIRST_LINE, f'"zsim report {VERSION}"')
+        lines.fail(f'no report: it begins with {shown(first)}, not with "zsim report {versions}"')
+    if lines.lines and not FIRST_LINE.fullmatch(first):
+        version = shown(first.removeprefix("zsim report "))
+        lines.fail(f"a report of version {version}; these tools read version {versions}")
+    return lines.take(FIRST_LINE, f'"zsim report {versions}"')[1]
 
 
-def take_core(lines, number):
-    match = lines.take(CORE_LINE, f"the line of core {number}")
+def take_core(lines, number, version):
+    match = lines.take(CORE_LINES[version], f"the line of core {number}")
     numbers = lines.numbers(match.groups()[:-1])
     if numbers[0] != number:
         lines.fail(f"core {numbers[0]} where core {number} belongs", lines.next)
@@ -217,7 +215,7 @@ def take_core(lines, number):
         lines.fail(
             f"core {console[1]} wrote {console[2]} bytes, but here are {len(written)} of core {number}", lines.next
         )
-    return Core(number, dict(zip(CORE_COUNTERS, numbers[1:])), match[match.lastindex], written)
+    return Core(number, dict(zip(CORE_COUNTERS[version], numbers[1:])), match[match.lastindex], written)
 
 
 def console_bytes(text):
@@ -240,12 +238,13 @@ def check_sums(lines, report):
     """The summary has the sums of what follows: a report that lost its last lines, or was changed, is refused."""
     totals = derived.totals(report)
     events = totals["bank_events"] + totals["controller_events"]
+    made = totals["loads"] + totals["stores"] + totals["atomics"] + totals.get("fetches", 0)
     met = totals["hits"] + totals["upgrades"] + totals["l2hits"] + totals["misses"]
     cycles = max(core.counters["cycles"] for core in report.core_list) if report.core_list else 0
     for word, found, where in (
         ("instructions", totals["instructions"], "the cores"),
         ("cycles", cycles, "the cores"),
-        ("accesses", totals["loads"] + totals["stores"] + totals["atomics"], "the cores"),
+        ("accesses", made, "the cores"),
         ("accesses", met, "what the accesses of the cores found"),
         ("events", events, "the banks and controllers"),
     ):

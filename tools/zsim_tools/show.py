@@ -3,11 +3,9 @@
 from statistics import mean
 
 from . import derived
+from .report import WHAT_IT_DID, WHAT_IT_FOUND
 from .texts import console, plain_number, print_csv, print_json, print_table, shown_number
 
-# The columns of a core in two tables, so that both fit a terminal: what it did, and what follows from that.
-FIRST = ("instructions", "cycles", "delay", "loads", "stores", "atomics")
-SECOND = ("hits", "upgrades", "l2hits", "misses")
 
 
 def parts_of(report):
@@ -73,12 +71,14 @@ def show_tables(reports):
 
 
 def show_cores(out, cores):
-    for names in (FIRST, SECOND, tuple(derived.of_core(cores[0]))):
+    # Several tables, so that each fits a terminal: what the cores did, what they found, and what follows from that.
+    did = tuple(name for name in (*WHAT_IT_DID, "fetches") if name in cores[0])
+    for names in (did, WHAT_IT_FOUND, tuple(derived.of_core(cores[0]))):
         rows = [[str(number), *(shown_number(name, core[name]) for name in names)] for number, core in enumerate(cores)]
         if len(cores) > 1:
             rows += summary_rows(names, cores)
         headings = ["core", *names]
-        if names == FIRST:
+        if names == did:
             headings.append("halt")
             halts = [core["halt"] for core in cores] + [""] * 4
             rows = [[*row, halt] for row, halt in zip(rows, halts)]

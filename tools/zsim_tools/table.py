@@ -19,6 +19,7 @@ NEEDED = ("executable", "status", "line", "halt")
 FRACTIONS = (
     "cpi",
     "waiting",
+    "fetches_pki",
     "hits_pki",
     "upgrades_pki",
     "l2hits_pki",
