@@ -9,9 +9,9 @@ from conftest import FETCHING, HERE, WORKED
 from test_plots import size_of, texts_of
 
 import zsim_tools
-from zsim_tools import plots
+from zsim_tools import inputs, plots
 from zsim_tools.labels import KEYS
-from zsim_tools.machine import PLAIN, parse_machine, read_text
+from zsim_tools.machine import PLAIN, parse_machine
 from zsim_tools.outcomes import judge, numbers_of, row_of
 from zsim_tools.report import parse_report
 from zsim_tools.sweep_file import read_sweep
@@ -20,7 +20,7 @@ from zsim_tools.task import run_machine
 
 
 def test_plain_is_the_built_in_machine(repository):
-    text = read_text(PLAIN)
+    text = inputs.read_text(PLAIN, inputs.MACHINE)
     assert f"```toml\n{text}```" in (repository / "docs/machine-description.md").read_text()
     source = (repository / "crates/machine_desc/src/plain.rt").read_text()
     assert text in source or text in source.replace("\\n", "\n")

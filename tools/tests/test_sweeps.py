@@ -347,7 +347,7 @@ def test_a_name_of_parquet_goes_to_its_library(command, twelve, monkeypatch):
 
     monkeypatch.setattr("importlib.util.find_spec", lambda name: name)
     monkeypatch.setattr("pandas.DataFrame.to_parquet", lambda table, file, engine, index: table.to_pickle(file))
-    monkeypatch.setattr("pandas.read_parquet", lambda path, engine: pandas.read_pickle(path))
+    monkeypatch.setattr("pandas.read_parquet", lambda file, engine: pandas.read_pickle(file))
     assert command("sweep", "sweep.toml", "--out", "table.parquet").returncode == 0
     command("sweep", "sweep.toml", "--out", "table.csv")
     pandas.testing.assert_frame_equal(zsim_tools.read_table(twelve / "table.parquet"), table_of(twelve))

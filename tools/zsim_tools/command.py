@@ -4,7 +4,7 @@ import os
 import signal
 import sys
 
-from .errors import ToolError, reason
+from .errors import ToolError, one_line, reason
 from .words import parser
 
 DONE, BAD, NOT_ALL = 0, 2, 3
@@ -96,9 +96,24 @@ def main(words=None):
         if not isinstance(error, BrokenPipeError):
             say(f"cannot write: {error.filename or 'standard output'}: {reason(error)}")
         return BAD
+    except MemoryError:
+        say("out of memory")
+        return BAD
     except KeyboardInterrupt:
         say("interrupted")
         return INTERRUPTED
     except Ended:
         say("ended")
         return ENDED
+    except Exception as error:
+        say(f"a fault of these tools: {place_of(error)}: {type(error).__name__}: {one_line(error)}")
+        return BAD
+
+
+def place_of(error):
+    """Returns the last place in this package through which an error came, as `plots.py, line 10`."""
+    import traceback
+
+    places = traceback.extract_tb(error.__traceback__)
+    own = [place for place in places if os.path.dirname(place.filename) == os.path.dirname(__file__)]
+    return f"{os.path.basename(own[-1].filename)}, line {own[-1].lineno}"

@@ -24,7 +24,7 @@ def one_line(text):
 
 def reason(error):
     """Returns why the operating system refused, as in `No such file or directory`."""
-    return error.strerror or one_line(error)
+    return getattr(error, "strerror", None) or one_line(error)
 
 
 @contextmanager
@@ -32,7 +32,7 @@ def told(what):
     """Has a refusal of the operating system told as one line: what could not be done, and why."""
     try:
         yield
-    except OSError as error:
+    except (OSError, ValueError) as error:  # (a ValueError: the name has a character that no name has)
         raise ToolError(f"{what}: {reason(error)}") from None
 
 

@@ -10,7 +10,8 @@ import tomllib
 from functools import lru_cache
 from typing import NamedTuple
 
-from .errors import ToolError, one_line, told
+from . import inputs
+from .errors import ToolError, one_line
 
 PLAIN = os.path.join(os.path.dirname(os.path.abspath(__file__)), "plain.toml")
 
@@ -130,25 +131,12 @@ def parse_toml(text, name):
         line = re.search("at line ([0-9]+)", str(error))
         number = line[1] if line else len(text.splitlines())
         raise ToolError(f"{name}: line {number}: no TOML: {one_line(error)}") from None
+    except (ValueError, RecursionError) as error:  # (a number of thousands of digits, or thousands of brackets)
+        raise ToolError(f"{name}: no TOML that can be read: {one_line(error)}") from None
 
 
 def read_machine(path):
     """Reads a machine description. `plain` is the one that is built into zsim."""
     if str(path) == "plain":
-        return parse_machine(read_text(PLAIN), "plain")
-    return parse_machine(read_text(path), str(path))
-
-
-def read_bytes(path):
-    """Reads a file, or raises ToolError."""
-    with told(f"cannot read: {path}"), open(path, "rb") as file:
-        return file.read()
-
-
-def read_text(path):
-    """Reads a file in UTF-8, or raises ToolError."""
-    try:
-        return read_bytes(path).decode("utf-8")
-    except UnicodeDecodeError as error:
-        line = error.object[: error.start].count(b"\n") + 1
-        raise ToolError(f"{path}: line {line}: no UTF-8") from None
+        return parse_machine(inputs.read_text(PLAIN, inputs.MACHINE), "plain")
+    return parse_machine(inputs.read_text(path, inputs.MACHINE), str(path))

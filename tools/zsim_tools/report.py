@@ -8,9 +8,8 @@ import re
 import sys
 from typing import NamedTuple
 
-from . import derived
+from . import derived, inputs
 from .errors import ToolError, told
-from .machine import read_bytes
 
 # The versions of reports, and what the counters of a core are called in each, in the order of the report.
 WHAT_IT_DID = ("instructions", "cycles", "delay", "loads", "stores", "atomics")
@@ -38,8 +37,10 @@ COMPONENT_LINE = re.compile(
 # How much of a line a message shows.
 LONGEST = 40
 
-# The data frames have integers of 64 bits. No counter of a run comes near: clocks stay below 2^58.
+# The data frames have integers of 64 bits. No counter of a run comes near: clocks stay below 2^58. (A number of
+# thousands of digits would not be read at all.)
 GREATEST = 2**63 - 1
+MOST_DIGITS = 20
 
 
 class Core(NamedTuple):
@@ -154,9 +155,9 @@ class Lines:
 
     def numbers(self, texts):
         """Returns numbers of the line that was just taken."""
-        numbers = list(map(int, texts))
+        numbers = [int(text[: MOST_DIGITS + 1]) for text in texts]
         if max(numbers) > GREATEST:
-            self.fail(f"the number {max(numbers)} is too large", self.next)
+            self.fail(f"the number {shown(max(texts, key=len))[1:-1]} is too large", self.next)
         return numbers
 
 
@@ -273,6 +274,9 @@ def read_report(path, machine=None):
     """Reads the report of a file; `-` is standard input. ToolError names the file, and the line that is wrong."""
     name = "standard input" if str(path) == "-" else str(path)
     with told(f"cannot read: {name}"):
-        data = sys.stdin.buffer.read() if str(path) == "-" else read_bytes(path)
+        if str(path) == "-":
+            data = inputs.read_open(sys.stdin.buffer, name, inputs.REPORT)
+        else:
+            data = inputs.read_bytes(path, inputs.REPORT)
     # A report is ASCII. Any other byte stands for itself in what is shown of a line that is wrong.
     return parse_report(data.decode("latin-1"), name, machine)

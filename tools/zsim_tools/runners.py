@@ -10,6 +10,7 @@ import signal
 from collections import deque
 from contextlib import contextmanager
 
+from . import inputs
 from .errors import ToolError, one_line, told
 from .task import Started, in_memory, name_of, run_on_worker
 
@@ -126,8 +127,7 @@ class Cluster:
 
     def start(self, runs):
         self._send_package()
-        with told(f"cannot read: {self.program}"), open(self.program, "rb") as file:
-            program = self.client.scatter(file.read(), broadcast=True, hash=False)
+        program = self.client.scatter(inputs.read_bytes(self.program, inputs.PROGRAM), broadcast=True, hash=False)
         sent = {}
         for run in runs:
             executable = run.executable

@@ -32,7 +32,9 @@ class Store:
 
     def _read(self):
         self.file.seek(0)
-        data = self.file.read()
+        # (a file of another kind, and however large, is not read beyond its beginning)
+        data = self.file.read(len(HEADER) + 1)
+        data += self.file.read() if data == HEADER + b"\n" else b""
         whole = data[: data.rfind(b"\n") + 1]
         first, *lines = whole.splitlines() or [HEADER if HEADER.startswith(data) else data]
         if first != HEADER:

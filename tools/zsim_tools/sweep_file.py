@@ -2,14 +2,17 @@
 
 import hashlib
 import itertools
+import math
 import os
 import re
 from typing import NamedTuple
 
-from .errors import ToolError, told
-from .machine import Machine, flat, is_kind, kind_of, parse_toml, read_machine, read_text
+from . import inputs
+from .errors import ToolError
+from .machine import Machine, flat, is_kind, kind_of, parse_toml, read_machine
 
 GENERATED = re.compile("gen:(0|[1-9][0-9]*)")
+MOST_RUNS = 2**20
 
 
 class Executable(NamedTuple):
@@ -49,8 +52,15 @@ class SweepFile(NamedTuple):
     axes: tuple
     executables: tuple
 
+    def check_size(self):
+        """Raises ToolError where there are more runs than a table can have."""
+        runs = math.prod([len(self.executables), *(len(axis.points) for axis in self.axes)])
+        if runs > MOST_RUNS:
+            raise ToolError(f"{self.name}: these are {runs} runs, and a sweep has at most {MOST_RUNS}")
+
     def planned(self):
         """Returns all runs: each executable on the machines of all combinations, the last axis varying fastest."""
+        self.check_size()
         keys = [key for axis in self.axes for key in axis.keys]
         template = self.machine.template(keys)
         machines = []
@@ -72,7 +82,7 @@ def cell(value):
 
 def read_sweep(path):
     """Reads the file of a sweep, its machine and its executables. ToolError names the file and the line or key."""
-    content = parse_toml(read_text(path), path)
+    content = parse_toml(inputs.read_text(path, inputs.SWEEP), path)
     known = {"machine": "string", "executables": "array of strings", "axes": "table", "tied": "array of tables"}
     for key, value in content.items():
         if key not in known:
@@ -139,6 +149,8 @@ def read_executable(path, folder, name):
             raise ToolError(f"{path}: executables: {name}: behind gen: stands a number")
         return Executable(name, None, sha256(name.encode("utf-8")))
     executable = os.path.join(folder, name)
-    with told(f"{path}: executables: cannot read: {executable}"), open(executable, "rb") as file:
-        data = file.read()
+    try:
+        data = inputs.read_bytes(executable, inputs.EXECUTABLE)
+    except ToolError as error:
+        raise ToolError(f"{path}: executables: {error}") from None
     return Executable(name, data, sha256(data))

@@ -3,7 +3,7 @@
 import os
 from contextlib import closing
 
-from .errors import told
+from . import inputs
 from .program import find_zsim
 from .runners import Cluster, Here
 from .store import Store
@@ -38,6 +38,7 @@ def carry_out(path, out, jobs=None, scheduler=None, zsim=None, watcher=None):
     """Does what `sweep` does, and returns the rows of the table."""
     check_ending(out)
     check_output(out)
+    check_output(f"{out}.runs")
     planned = read_sweep(path).planned()
     program = find_zsim(zsim)
     zsim_sha256 = hash_of(program)
@@ -86,5 +87,4 @@ def runner_of(program, jobs, scheduler):
 
 
 def hash_of(program):
-    with told(f"cannot read: {program}"), open(program, "rb") as file:
-        return sha256(file.read())
+    return sha256(inputs.read_bytes(program, inputs.PROGRAM))

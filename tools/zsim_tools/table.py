@@ -7,7 +7,8 @@ import os
 from contextlib import suppress
 from itertools import chain
 
-from .errors import ToolError, check_ending_of, ending_of, one_line, reason, told
+from . import inputs
+from .errors import ToolError, check_ending_of, ending_of, one_line, told
 
 ENDINGS = (".csv", ".parquet")
 SHA256 = ("machine_sha256", "executable_sha256", "zsim_sha256")
@@ -116,16 +117,15 @@ def read_table(path):
     import pandas
 
     check_readable(path)
+    content = io.BytesIO(inputs.read_bytes(path, inputs.TABLE))
     try:
         if ending_of(path) == ".parquet":
-            table = pandas.read_parquet(path, engine="pyarrow")
+            table = pandas.read_parquet(content, engine="pyarrow")
         else:
             texts = {name: "string" for name in TEXTS}
             table = pandas.read_csv(
-                path, dtype=texts, keep_default_na=False, na_values="", float_precision="round_trip"
+                content, dtype=texts, keep_default_na=False, na_values="", float_precision="round_trip"
             )
-    except OSError as error:
-        raise ToolError(f"cannot read: {path}: {reason(error)}") from None
     except Exception as error:  # (each library has exceptions of its own for a file that is none of its kind)
         raise ToolError(f"{path}: no table: {one_line(error)}") from None
     for name in NEEDED:
