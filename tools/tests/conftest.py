@@ -2,7 +2,9 @@
 
 import os
 import signal
+import subprocess
 import sys
+from contextlib import contextmanager
 from dataclasses import dataclass
 from pathlib import Path
 
@@ -53,6 +55,40 @@ FETCHING = (
     .replace("atomics 50 hits 650", "atomics 50 fetches 700 hits 1340")
     .replace("l2hits 20 misses 20", "l2hits 30 misses 20")
 )
+
+
+# No test takes longer, in seconds, also where others keep the machine busy.
+PATIENCE = 300
+
+
+@pytest.fixture(autouse=True)
+def time_limit():
+    """Fails a test that would wait for ever."""
+
+    def late(*_):
+        pytest.fail(f"it had not ended after {PATIENCE} seconds")
+
+    before = signal.signal(signal.SIGALRM, late)
+    signal.alarm(PATIENCE)
+    yield
+    signal.alarm(0)
+    signal.signal(signal.SIGALRM, before)
+
+
+def meet_signals():
+    """Has a process meet signals as one does that was started at a terminal, also where the tests ignore them."""
+    for number in (signal.SIGINT, signal.SIGTERM, signal.SIGHUP):
+        signal.signal(number, signal.SIG_DFL)
+
+
+@contextmanager
+def process_of(words, **options):
+    """A process, which is ended in any case."""
+    with subprocess.Popen([str(word) for word in words], preexec_fn=meet_signals, **options) as process:
+        try:
+            yield process
+        finally:
+            process.kill()
 
 
 @pytest.fixture(scope="session")
@@ -115,7 +151,7 @@ def command(fake_zsim, tmp_path, monkeypatch, capsys):
     """
     monkeypatch.chdir(tmp_path)
     monkeypatch.setenv("ZSIM", fake_zsim)
-    handler = signal.getsignal(signal.SIGTERM)
+    handlers = {number: signal.getsignal(number) for number in (signal.SIGTERM, signal.SIGHUP)}
 
     def run(*words, **variables):
         for name, value in variables.items():
@@ -128,7 +164,8 @@ def command(fake_zsim, tmp_path, monkeypatch, capsys):
         return Ended(status, *capsys.readouterr())
 
     yield run
-    signal.signal(signal.SIGTERM, handler)
+    for number, handler in handlers.items():
+        signal.signal(number, handler)
 
 
 def environment(zsim, **variables):

@@ -1,6 +1,7 @@
 """A sweep on a dask cluster of two workers on this machine."""
 
 import os
+import re
 
 import pytest
 
@@ -57,6 +58,15 @@ def test_a_program_that_workers_cannot_run(cluster, command, twelve):
     ended = command(*words, "--zsim", "./text")
     assert ended.returncode == 2 and "zsim-tools: --scheduler: a worker failed: " in ended.stderr
     assert "Exec format error" in ended.stderr and not (twelve / "table.csv").exists()
+
+
+def test_a_cluster_without_workers(command, twelve, monkeypatch):
+    monkeypatch.setattr("zsim_tools.runners.WAIT_FOR_WORKERS", "0.2s")
+    with distributed.LocalCluster(n_workers=0, dashboard_address=":0", silence_logs=50) as empty:
+        ended = command("sweep", "sweep.toml", "--out", "table.csv", "--scheduler", empty.scheduler_address)
+    assert ended.returncode == 2 and not (twelve / "table.csv").exists()
+    told = "has no workers; dask-worker tcp://[0-9.:]+ starts one, on any machine\n"
+    assert re.fullmatch(f"zsim-tools: --scheduler: tcp://[0-9.:]+ {told}", ended.stderr)
 
 
 def test_no_scheduler_at_the_address(command, twelve):

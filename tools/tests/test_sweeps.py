@@ -3,6 +3,7 @@
 import contextlib
 import os
 import re
+import shutil
 import signal
 import subprocess
 import sys
@@ -10,7 +11,7 @@ import time
 from pathlib import Path
 
 import pytest
-from conftest import environment
+from conftest import environment, process_of
 
 import zsim_tools
 from zsim_tools.sweeps import Watcher
@@ -81,13 +82,13 @@ def test_a_run_that_is_done_is_not_run_again(command, twelve):
     assert text_of(log).count("\n") == 16 + 8 and len(table_of(twelve)) == 16
 
 
-@pytest.mark.parametrize("by", [signal.SIGINT, signal.SIGTERM, signal.SIGKILL])
+@pytest.mark.parametrize("by", [signal.SIGINT, signal.SIGTERM, signal.SIGHUP, signal.SIGKILL])
 def test_a_sweep_that_was_stopped_goes_on(command, fake_zsim, twelve, by):
     log, hold = twelve / "log", twelve / "hold"
     hold.touch()
     words = [sys.executable, "-m", "zsim_tools", "sweep", "sweep.toml", "--out", "table.csv", "--jobs", "1"]
     variables = environment(fake_zsim, FAKE_LOG=log, FAKE_HOLD=hold)
-    with subprocess.Popen(words, cwd=twelve, env=variables, stderr=subprocess.PIPE, text=True) as process:
+    with process_of(words, cwd=twelve, env=variables, stderr=subprocess.PIPE, text=True) as process:
         # Five runs are done and kept, and the sixth has begun.
         wait_for(lambda: text_of(log).count("\n") == 6 and text_of(twelve / "table.csv.runs").count("\n") == 6)
         assert len(runs_of(process)) == 1
@@ -146,18 +147,49 @@ def test_a_terminal_gets_a_bar_and_the_failures_as_they_come(fake_zsim, twelve):
     reader, writer = os.openpty()
     words = [sys.executable, "-m", "zsim_tools", "sweep", "sweep.toml", "--out", "table.csv", "--jobs", "1"]
     variables = environment(fake_zsim, TERM="xterm", COLUMNS="120")
-    with subprocess.Popen(words, cwd=twelve, env=variables, stdin=subprocess.DEVNULL, stderr=writer) as process:
+    with process_of(words, cwd=twelve, env=variables, stdin=subprocess.DEVNULL, stderr=writer) as process:
         os.close(writer)
         said = b""
         with contextlib.suppress(OSError):  # (which a terminal gives at its end)
             while part := os.read(reader, 4096):
                 said += part
+        process.wait()
     os.close(reader)
     assert process.returncode == 3
     text = re.sub(r"\x1b\[[0-9;?]*[A-Za-z]", "", said.decode())
     assert "12/12 runs 0:00:" in text and "left 0:00:00" in text
     refusal = text.index("zsim-tools: a.elf l1.sets=2 l1.ways=0: status 6: zsim: machine 4 l1.ways 0")
     assert refusal < text.index("12/12")
+
+
+def test_without_a_terminal_a_line_each_minute(command, twelve, monkeypatch):
+    monkeypatch.setattr("zsim_tools.ticker.MINUTE", 0.2)
+    program = twelve / "zsim"
+    program.write_text(f'#!/bin/sh\nsleep 0.3\nexec {os.environ["ZSIM"]} "$@"\n')
+    program.chmod(0o755)
+    ended = command("sweep", "sweep.toml", "--out", "table.csv", "--zsim", program, "--jobs", "2")
+    lines = ended.stderr.splitlines()
+    assert len(lines) > 3 and lines[-1] == "zsim-tools: table.csv: 12 runs"
+    told = "zsim-tools: table.csv: ([0-9]+) of 12 runs in 0:00:0[0-9](, about 0:00:[0-9]{2} left)?"
+    done = [int(re.fullmatch(told, line)[1]) for line in lines[:-1]]
+    assert done == sorted(done) and done[-1] > 0
+
+
+def test_who_ends_a_sweep_ends_the_build_that_it_waits_for(twelve, repository):
+    """In a checkout of its own, whose script stands in for the one that proves and builds zsim."""
+    shutil.copytree(repository / "tools/zsim_tools", twelve / "tools/zsim_tools")
+    (twelve / "crates/zsim_main").mkdir(parents=True)
+    begun, over = twelve / "begun", twelve / "over"
+    script = twelve / "prove"
+    script.write_text(f"#!/bin/sh\ntrap 'kill $!; touch {over}; exit 143' TERM\nsleep 600 &\ntouch {begun}\nwait\n")
+    script.chmod(0o755)
+    variables = environment("", PYTHONPATH=twelve / "tools")
+    words = [sys.executable, "-m", "zsim_tools", "sweep", "sweep.toml", "--out", "table.csv"]
+    with process_of(words, cwd=twelve, env=variables, stderr=subprocess.PIPE, text=True) as process:
+        wait_for(begun.exists)
+        process.send_signal(signal.SIGTERM)
+        _, said = process.communicate(timeout=60)
+    assert (process.returncode, said) == (143, "zsim-tools: ended\n") and over.exists()
 
 
 def test_what_a_kill_left_of_a_line_is_dropped(command, twelve):

@@ -80,7 +80,10 @@ def end(*_):
 
 def main(words=None):
     """Carries out the command that the words name, and returns the status."""
-    signal.signal(signal.SIGTERM, end)
+    for told_to_end in (signal.SIGTERM, signal.SIGHUP):
+        # (what is ignored stays so: who calls `nohup` wants the work to go on)
+        if signal.getsignal(told_to_end) != signal.SIG_IGN:
+            signal.signal(told_to_end, end)
     try:
         given = parser().parse_args(words)
         status = COMMANDS[given.command](given)

@@ -41,13 +41,26 @@ def why_not(name):
 @cache
 def built_here():
     """Returns the proved program of this checkout. The script `prove` makes it where it has to, and says so."""
-    import subprocess
-
     script, program = f"{REPOSITORY}/prove", f"{REPOSITORY}/crates/zsim_main/out/zsim_main"
-    proved = subprocess.run([script], stdin=subprocess.DEVNULL, stdout=subprocess.DEVNULL, check=False)
-    if proved.returncode != 0 or not os.path.isfile(program):
+    if status_of(script) != 0 or not os.path.isfile(program):
         raise ToolError(f"cannot run: {program}: {script} could not build it (see above); name another with --zsim")
     return program
+
+
+def status_of(script):
+    """Runs a script to its end, and returns its status. Who ends this process ends the script, and what it started."""
+    import subprocess
+
+    with (
+        told(f"cannot run: {script}"),
+        subprocess.Popen([script], stdin=subprocess.DEVNULL, stdout=subprocess.DEVNULL) as started,
+    ):
+        try:
+            return started.wait()
+        except BaseException:
+            started.terminate()
+            started.wait()
+            raise
 
 
 def run(machine, exe, zsim=None):

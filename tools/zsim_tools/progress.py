@@ -3,22 +3,24 @@
 import sys
 import threading
 
+from . import ticker
 from .sweeps import Watcher
+from .ticker import Ticker, duration
 
 
 class Progress(Watcher):
-    """Where standard error is no terminal, there is no bar: failures alone, and one line in the end."""
+    """Where standard error is no terminal, there is no bar: failures, a line each minute, and one in the end."""
 
     def __init__(self, out):
         self.out = out
         self.bar = None
         self.loading = None
+        self.ticker = None
         self.begun = False
         self.failures = 0
         self.done = 0
 
     def begin(self, runs, before):
-        self.begun = True
         self.runs = runs
         self.before = len(before)
         self.failures = sum(ended.failure is not None for ended in before)
@@ -26,11 +28,19 @@ class Progress(Watcher):
             # (in a thread, since the bar's library takes longer to load than many a run)
             self.loading = threading.Thread(target=self._show_bar)
             self.loading.start()
+        else:
+            self.ticker = Ticker(ticker.MINUTE, self._tell)
+            self.ticker.start()
+        self.begun = True
 
     def _show_bar(self):
         bar = started_bar()
         self.task = bar.add_task("sweep", total=self.runs, completed=self.done)
         self.bar = bar
+
+    def _tell(self, passed):
+        left = f", about {duration(passed / self.done * (self.runs - self.done))} left" if self.done else ""
+        self.say(f"{self.out}: {self.done} of {self.runs} runs in {duration(passed)}{left}")
 
     def ended(self, ended):
         self.done += 1
@@ -43,6 +53,8 @@ class Progress(Watcher):
     def end(self):
         if not self.begun:
             return
+        if self.ticker:
+            self.ticker.stop()
         if self.loading:
             self.loading.join()
         if self.bar:

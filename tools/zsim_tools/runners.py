@@ -99,6 +99,10 @@ def signature(program):
     return status.st_dev, status.st_ino, status.st_size, status.st_mtime_ns
 
 
+# How long a cluster without workers is waited for.
+WAIT_FOR_WORKERS = "10s"
+
+
 class Cluster:
     """Runs on the workers of a dask cluster, which need neither zsim nor this package: both are sent to them."""
 
@@ -126,6 +130,7 @@ class Cluster:
         self.client.close()
 
     def start(self, runs):
+        self._await_workers()
         self._send_package()
         program = self.client.scatter(inputs.read_bytes(self.program, inputs.PROGRAM), broadcast=True, hash=False)
         sent = {}
@@ -136,6 +141,13 @@ class Cluster:
                 sent[executable.name] = executable.name if data is None else self.client.scatter(data, hash=False)
             words = (run.machine.text, sent[executable.name], program)
             self.futures[self.client.submit(run_on_worker, *words, pure=False)] = run
+
+    def _await_workers(self):
+        try:
+            self.client.wait_for_workers(1, timeout=WAIT_FOR_WORKERS)
+        except (OSError, self.library.TimeoutError):
+            told = f"has no workers; dask-worker {self.address} starts one, on any machine"
+            raise ToolError(f"--scheduler: {self.address} {told}") from None
 
     def _send_package(self):
         import shutil
