@@ -82,12 +82,7 @@ PLOTS = {
         "sets of the L1",
         "misses in the L1 per 1000 instructions",
         "",
-        [
-            "matrix_blocked, l1.ways 1",
-            "matrix_blocked, l1.ways 8",
-            "matrix_naive, l1.ways 1",
-            "matrix_naive, l1.ways 8",
-        ],
+        ["matrix_naive, 1", "matrix_naive, 8", "matrix_blocked, 1", "matrix_blocked, 8"],
     ),
     "matrix_blocked.png": (
         "ways of the L1 (lines in a set)",
@@ -99,7 +94,7 @@ PLOTS = {
         "occupancy of a controller (cycles per event)",
         "waiting (share of the cycles)",
         "",
-        [f"{name}, l2.banks {banks}" for name in ("stream", "stream_padded") for banks in (1, 2, 4)],
+        [f"{name}, {banks}" for name in ("stream", "stream_padded") for banks in (1, 2, 4)],
     ),
 }
 

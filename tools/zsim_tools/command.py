@@ -5,7 +5,7 @@ import signal
 import sys
 
 from .errors import ToolError, one_line, reason
-from .words import parser
+from .words import check_plot, parser
 
 DONE, BAD, NOT_ALL = 0, 2, 3
 INTERRUPTED, ENDED = 130, 143
@@ -51,12 +51,27 @@ def plot_command(words):
     from .plots import plot
     from .table import read_table
 
+    check_plot(words)
     where = {}
     for column, value in words.where:
         where.setdefault(column, []).append(value)
-    table = read_table(words.table)
     _, left_out = plot(
-        table, words.out, words.x, words.y, words.lines, words.heat, where, words.title, words.log_y, words.table
+        read_table(words.table),
+        words.out,
+        words.x,
+        words.y,
+        words.lines,
+        words.heat,
+        where,
+        words.title,
+        words.log_y,
+        words.table,
+        bars=words.bars,
+        log_x=words.log_x,
+        size=words.size,
+        baseline=dict(words.baseline),
+        geomean=words.geomean,
+        with_limits=words.with_limits,
     )
     if left_out:
         say(f"{left_out} of the rows are left out: their runs did not end by the program's exit")

@@ -46,6 +46,12 @@ NUMBERS = {
     "misses": "misses in the L2",
     "waited": "waiting of events (cycles)",
     "free": "free from (cycle)",
+    "l1_kib": "size of the L1 (KiB)",
+    "l1i_kib": "size of the L1I (KiB)",
+    "l2_kib": "size of the L2 (KiB)",
+    "seconds": "time of the simulation (seconds)",
+    "instructions_per_second": "instructions per second of the simulation",
+    "speedup": "speed-up",
     "cpi": "cycles per instruction",
     "waiting": "waiting (share of the cycles)",
     "fetches_pki": "fetches per 1000 instructions",
@@ -91,3 +97,10 @@ def label_of(column, fetching=False):
     if part and part[3] in numbers:
         return f"{part[1]} {part[2]}: {numbers[part[3]]}"
     return column
+
+
+def value_text(value):
+    """Returns a value of a column as axes, legends, maps and titles have it."""
+    if isinstance(value, str):
+        return value
+    return str(int(value)) if float(value).is_integer() else f"{float(value):.4g}"

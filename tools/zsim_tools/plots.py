@@ -1,207 +1,345 @@
-"""Plots of tables: a number against an axis, with a line for each executable or value of another axis; or a heat map.
+"""Plots of tables: a number against an axis, as lines or as bars, or a map of two axes.
 
-They read in grey as well: lines differ in their markers and strokes, and the colours also in how light they are.
+They read in grey as well: lines differ in their markers and strokes, bars in their hatches, and the colours also in how
+light they are. The words and units of axes, legends and titles are those of `labels`.
 """
 
-import difflib
+import textwrap
 from pathlib import Path
 
 from .errors import ToolError, check_ending_of
-from .labels import label_of
+from .labels import label_of, value_text
+from .plot_rows import (
+    GEOMETRIC_MEAN,
+    SPEEDUP,
+    axes_of,
+    check_column,
+    good_rows,
+    is_numeric,
+    over_repeats,
+    relative,
+    selected,
+    with_geometric_mean,
+)
 from .table import write_whole
+from .ticks import fit_label, fit_numbers, name_ticks, number_ticks
 
-ENDINGS = (".png", ".svg")
+ENDINGS = (".png", ".svg", ".pdf")
 # From dark to light, so that they differ in print without colour too (of matplotlib's map "viridis").
 COLOURS = ("#440154", "#21908d", "#e07b00", "#3b528b", "#5dc963", "#b8627d")
 MARKERS = ("o", "s", "^", "D", "v", "P", "X", "*")
 STROKES = ("-", "--", "-.", ":")
-# How many values a message names, and how many of an axis have a tick of their own.
-MOST = 16
+HATCHES = ("", "///", "...", "\\\\\\", "xx", "--")
+# How many values of an axis have a tick of their own, and how many entries of a legend stand in a column.
+MOST_TICKS = 32
+MOST_ENTRIES = 20
 INCHES = (7.0, 4.5)
 DOTS = 150
+# How wide texts are, in characters: that of a legend's heading, and those of titles and labels for each inch.
+HEADING = 22
+TITLE = 11
+# The size of the letters, in points: the first for each inch of a plot's width, and the least and the greatest.
+LETTERS = (1.43, 7.0, 10.0)
 
 
-def good_rows(table):
-    """Returns the rows of runs that ended by their program's exit, and how many others there are."""
-    exits = table["halt"].map(lambda halt: all(part.startswith("exit ") for part in str(halt).split("; ")))
-    good = table[(table["status"] == 0) & exits.astype(bool)]
-    return good, len(table) - len(good)
-
-
-def selected(table, where, name):
-    """Returns the rows in which each column of `where` has its value, or one of a list of values."""
-    for column, wanted in where.items():
-        check_column(table, column, name)
-        known = table[column]
-        wanted = wanted if isinstance(wanted, list) else [wanted]
-        for value in wanted:
-            if not (known.astype("string") == str(value)).any():
-                values = sorted(set(known.dropna()))
-                told = ", ".join(map(str, values[:MOST])) + (", .." if len(values) > MOST else "")
-                raise ToolError(f"{name}: no row has {column} = {value}; there are {told}")
-        table = table[known.astype("string").isin(list(map(str, wanted)))]
-    return table
-
-
-def check_column(table, column, name, numeric=False):
-    import pandas
-
-    if column not in table.columns:
-        near = closest(column, table.columns)
-        hint = f"; did you mean {near}?" if near else ""
-        raise ToolError(f"{name}: has no column {column}{hint}")
-    if numeric and not pandas.api.types.is_numeric_dtype(table[column]):
-        raise ToolError(f"{name}: column {column}: is not of numbers")
-
-
-def closest(word, words):
-    return next(iter(difflib.get_close_matches(word, words, 1)), None)
-
-
-def check_single(table, columns, name):
-    """Raises ToolError where several rows have the same values in these columns: a plot could only show one."""
-    doubled = table[table.duplicated(columns, keep=False)]
-    if doubled.empty:
-        return
-    first = doubled.iloc[0]
-    alike = doubled[(doubled[columns] == first[columns]).all(axis=1)]
-    told = ", ".join(f"{column} = {first[column]}" for column in columns)
-    axes = [column for column in axes_of(table) if column not in columns and alike[column].nunique() > 1]
-    mend = f"; pick a value of {' and of '.join(axes)} with --where, or draw --lines of it" if axes else ""
-    raise ToolError(f"{name}: {len(alike)} rows have {told}{mend}")
-
-
-def axes_of(table):
-    """Returns the columns that tell the runs of a sweep apart: its axes, which stand first, and the executable."""
-    columns = list(table.columns)
-    return columns[: columns.index("executable") + 1]
-
-
-def plot(table, out, x, y, lines=(), heat=None, where=None, title=None, log_y=False, name="table"):
-    """Plots column y of a table against column x, and writes it as PNG or SVG, by the ending of the name `out`.
+def plot(
+    table,
+    out,
+    x=None,
+    y=None,
+    lines=(),
+    heat=None,
+    where=None,
+    title=None,
+    log_y=False,
+    name="table",
+    *,
+    bars=(),
+    log_x=False,
+    size=INCHES,
+    baseline=None,
+    geomean=False,
+    with_limits=False,
+):
+    """Plots column y of a table against column x, and writes it as PNG, SVG or PDF, by the ending of the name `out`.
 
     There is a line for each combination of values of the columns `lines`; of the executable, where none is given. With
+    `bars`, columns too, there is a group of bars for each value of x, of the executable where none is given. With
     `heat`, another column, it is a map of x and that column instead. `where` picks rows, as in `{"l1.sets": 64,
-    "l1.ways": [1, 2]}`. Returns the figure of matplotlib, and how many rows were left out since their run did not end
-    by the program's exit. ToolError says what is wrong with the words or the table.
+    "l1.ways": [1, 2]}`. `baseline`, as in `{"l1.ways": 1}`, divides y by what it is there; y can be `speedup` then.
+    `geomean` adds the geometric mean over the executables. Of repeats it is the mean, with a bar from the least to the
+    greatest. `size` is the width and the height in inches. Returns the figure of matplotlib, and how many rows were left
+    out since their run did not end by the program's exit; `with_limits` takes those that reached a limit too. ToolError
+    says what is wrong with the words or the table.
     """
     check_ending_of(out, ENDINGS, "plot")
-    rows = selected(table, where or {}, name)
-    rows, left_out = good_rows(rows)
-    if rows.empty:
-        raise ToolError(f"{name}: no run ended by its program's exit, so there is nothing to plot")
-    check_column(rows, y, name, numeric=True)
-    check_column(rows, x, name)
-    columns = [heat] if heat else list(lines) or ["executable"]
-    for column in columns:
-        check_column(rows, column, name)
-    rows = rows[rows[y].notna() & rows[x].notna()]
-    if rows.empty:
-        raise ToolError(f"{name}: column {y}: has no number in these rows")
-    check_single(rows, [x, *columns], name)
-    figure = heat_map(rows, x, heat, y) if heat else line_plot(rows, x, y, columns, log_y)
-    figure.axes[0].set_title(title or title_of(rows, x, y, columns), fontsize="medium")
-    save(figure, out)
+    x = x or ("executable" if bars else None)
+    columns = [heat] if heat else list(bars) or list(lines) or ([] if geomean else ["executable"])
+    columns = [column for column in columns if column != x]
+    rows, left_out = rows_of(table, x, y, columns, where or {}, baseline or {}, with_limits, name)
+    if geomean:
+        rows = with_geometric_mean(rows, y, "executable" in (x, *columns), name)
+    words = Words(rows, "fetches" in table.columns)
+    rows = over_repeats(rows, y, [x, *columns], name)
+    with style_of(size):
+        figure, axes = new_figure(size)
+        axes.set_title(textwrap.fill(title or words.common((x, *columns)), int(TITLE * size[0])), fontsize="medium")
+        axes.set_xlabel(words.label(x))
+        label = y_label(words, y, baseline)
+        if heat:
+            heat_map(figure, axes, rows, x, heat, y, words, label)
+        else:
+            (draw_bars if bars else draw_lines)(axes, rows, x, y, columns, words)
+            scale_y(axes, rows, y, log_y)
+            for _ in range(2):  # (since the ticks and the label make room for each other)
+                ticks_below(figure, axes, rows, x, words, bool(bars), log_x)
+                fit_label(figure, axes.yaxis.label, label, int(TITLE * size[1]))
+        save(figure, out)
     return figure, left_out
 
 
-def title_of(rows, x, y, columns):
-    """Returns the values that all rows have in common: those of the other axes, and of the executable."""
-    common = [column for column in axes_of(rows) if column not in (x, y, *columns)]
-    common += [column for column in columns if rows[column].nunique() == 1]
-    return ", ".join(value_text(column, rows[column].iloc[0]) for column in common if rows[column].nunique() == 1)
+def rows_of(table, x, y, columns, where, baseline, with_limits, name):
+    """Returns the rows that are to be plotted, with y relative to the baseline, and how many rows were left out."""
+    if y == SPEEDUP and not baseline:
+        raise ToolError(f"{name}: {SPEEDUP}: is over a baseline; name its rows with --baseline")
+    rows, left_out = good_rows(selected(table, where, name), with_limits)
+    if rows.empty:
+        raise ToolError(f"{name}: no run ended by its program's exit, so there is nothing to plot")
+    check_column(rows, "cycles" if y == SPEEDUP else y, name, numeric=True)
+    for column in (x, *columns):
+        check_column(rows, column, name)
+    of = "cycles" if y == SPEEDUP else y
+    rows = rows[rows[of].notna() & rows[x].notna()]
+    if rows.empty:
+        raise ToolError(f"{name}: column {y}: has no number in these rows")
+    if baseline:
+        others = {column: value for column, value in where.items() if column not in baseline}
+        base, _ = good_rows(selected(table, {**others, **baseline}, name), with_limits)
+        rows = relative(rows, base, baseline, y, name)
+    return rows, left_out
 
 
-def value_text(column, value):
-    """Returns a value of an axis as legends and titles have it."""
-    if column != "executable":
-        return f"{column} {value}"
-    return value if value.startswith("gen:") else Path(value).stem
+class Words:
+    """The words of a plot: labels of columns, and texts of their values."""
 
+    def __init__(self, rows, fetching):
+        self.rows = rows
+        self.fetching = fetching
+        self.executables = short_names(rows["executable"].dropna().unique())
 
-def line_plot(rows, x, y, columns, log_y):
-    figure, axes = new_figure()
-    keys = rows[columns].drop_duplicates()
-    keys = keys if columns == ["executable"] else keys.sort_values(columns)
-    for place, key in enumerate(keys.itertuples(index=False, name=None)):
-        line = rows[(rows[columns] == list(key)).all(axis=1)].sort_values(x)
-        axes.plot(
-            list(map(float, line[x])) if is_numeric(rows[x]) else list(line[x]),
-            list(map(float, line[y])),
-            color=COLOURS[place % len(COLOURS)],
-            marker=MARKERS[place % len(MARKERS)],
-            linestyle=STROKES[place % len(STROKES)],
-            label=", ".join(value_text(column, value) for column, value in zip(columns, key)),
+    def label(self, column):
+        return label_of(column, self.fetching)
+
+    def value(self, column, value):
+        return self.executables[value] if column == "executable" else value_text(value)
+
+    def key(self, columns, values):
+        """Returns the entry of a legend."""
+        return ", ".join(self.value(column, value) for column, value in zip(columns, values))
+
+    def common(self, drawn):
+        """Returns the values that all rows have in common: those of the other axes, and of the executable."""
+        axes = [column for column in axes_of(self.rows) if column not in drawn]
+        axes += [column for column in drawn[1:] if self.rows[column].nunique() == 1]
+        return ", ".join(
+            self.value(column, self.rows[column].iloc[0])
+            if column == "executable"
+            else f"{self.label(column)}: {self.value(column, self.rows[column].iloc[0])}"
+            for column in axes
+            if self.rows[column].nunique(dropna=False) == 1 and column != "repeat"
         )
-    axes.set_xlabel(label_of(x))
-    axes.set_ylabel(label_of(y))
-    scale_x(axes, rows[x])
+
+
+def short_names(executables):
+    """Returns the name of each executable without its folder and ending; with its folder, where two have one name."""
+    stems = {name: name if name.startswith("gen:") else Path(name).stem for name in executables}
+    alike = {stem for stem in stems.values() if list(stems.values()).count(stem) > 1}
+    return {name: str(Path(name).with_suffix("")) if stem in alike else stem for name, stem in stems.items()}
+
+
+def y_label(words, y, baseline):
+    """Returns the label of the number that is plotted, with what it is relative to."""
+    if not baseline:
+        return words.label(y)
+    there = ", ".join(f"{words.label(column).partition(' (')[0]} = {value}" for column, value in baseline.items())
+    return f"{words.label(y)} over {there}" if y == SPEEDUP else f"{words.label(y)}, relative to {there}"
+
+
+def keys_of(rows, columns):
+    """Returns each combination of values of the columns once: executables as they stand, the mean last; others by size."""
+    keys = rows[columns].drop_duplicates()
+    for column in reversed([column for column in columns if column != "executable"]):
+        keys = keys.sort_values(column, kind="stable")
+    if "executable" in columns:
+        order = list(dict.fromkeys(rows["executable"]))
+        order.sort(key=lambda executable: executable == GEOMETRIC_MEAN)
+        keys = keys.sort_values("executable", kind="stable", key=lambda column: column.map(order.index))
+    return list(keys.itertuples(index=False, name=None))
+
+
+def rows_with(rows, columns, key):
+    """Returns the rows that have these values in the columns."""
+    return rows[(rows[columns] == list(key)).all(axis=1)] if columns else rows
+
+
+def spread_of(rows):
+    """Returns how far the repeats go down and up from their mean; None where there are none."""
+    ends = [list(map(float, rows["down"])), list(map(float, rows["up"]))]
+    return ends if any(map(any, ends)) else None
+
+
+def draw_lines(axes, rows, x, y, columns, words):
+    numeric = is_numeric(rows[x])
+    places = {value: place for place, (value,) in enumerate(keys_of(rows, [x]))}
+    keys = keys_of(rows, columns) if columns else [()]
+    for number, key in enumerate(keys):
+        line = rows_with(rows, columns, key).sort_values(x)
+        line = line if numeric else line.sort_values(x, key=lambda column: column.map(places))
+        axes.errorbar(
+            [float(value) if numeric else places[value] for value in line[x]],
+            list(map(float, line[y])),
+            yerr=spread_of(line),
+            capsize=3,
+            color=COLOURS[number % len(COLOURS)],
+            marker=MARKERS[number % len(MARKERS)],
+            linestyle=STROKES[number % len(STROKES)],
+            label=words.key(columns, key),
+        )
+    axes.grid(True, color="0.9")
+    add_legend(axes, columns, words, len(keys))
+
+
+def draw_bars(axes, rows, x, y, columns, words):
+    """Draws a group of bars for each value of x, with one for each combination of values of the columns."""
+    groups = {value: place for place, (value,) in enumerate(keys_of(rows, [x]))}
+    keys = keys_of(rows, columns) if columns else [()]
+    width = 0.8 / len(keys)
+    for number, key in enumerate(keys):
+        bar = rows_with(rows, columns, key)
+        axes.bar(
+            [groups[value] + (number - (len(keys) - 1) / 2) * width for value in bar[x]],
+            list(map(float, bar[y])),
+            width,
+            yerr=spread_of(bar),
+            capsize=3,
+            color=COLOURS[number % len(COLOURS)],
+            hatch=HATCHES[number % len(HATCHES)],
+            edgecolor="white",
+            ecolor="black",
+            label=words.key(columns, key),
+        )
+    axes.set_axisbelow(True)
+    axes.grid(True, axis="y", color="0.9")
+    add_legend(axes, columns, words, len(keys))
+
+
+def add_legend(axes, columns, words, entries):
+    """Has a legend beside the plot, where it lies on no curve."""
+    if entries < 2:
+        return
+    heading = ",\n".join(textwrap.fill(words.label(column), HEADING) for column in columns)
+    axes.legend(
+        title=heading if columns != ["executable"] else None,
+        loc="upper left",
+        bbox_to_anchor=(1.01, 1.0),
+        borderaxespad=0.0,
+        frameon=False,
+        fontsize="small",
+        title_fontsize="small",
+        alignment="left",
+        handlelength=3.0,
+        ncol=-(-entries // MOST_ENTRIES),
+    )
+
+
+def scale_y(axes, rows, y, log_y):
     if log_y:
         if (rows[y] <= 0).any():
             raise ToolError(f"--log-y: {y} has values that are not above 0")
         axes.set_yscale("log")
     else:
         axes.set_ylim(bottom=min(0, float(rows[y].min())))
-    axes.grid(True, color="0.9")
-    if len(keys) > 1:
-        axes.legend(frameon=False)
-    return figure
 
 
-def is_numeric(column):
-    import pandas
+def ticks_below(figure, axes, rows, x, words, bars, log_x):
+    """Has ticks along the bottom: at each number, or at each name and each group of bars."""
+    if is_numeric(rows[x]) and not bars:
+        scale_x(figure, axes, rows[x], log_x)
+    elif log_x:
+        what = "bars stand side by side, whatever stands below them" if bars else f"{x} is not of numbers"
+        raise ToolError(f"--log-x: {what}")
+    else:
+        name_ticks(figure, axes, [words.value(x, value) for (value,) in keys_of(rows, [x])])
 
-    return pandas.api.types.is_numeric_dtype(column)
 
-
-def scale_x(axes, column):
-    """Has a tick at each value, on a logarithmic axis where the values double."""
-    if not is_numeric(column):
-        return
+def scale_x(figure, axes, column, log_x):
+    """Has a tick at each value, on a logarithmic axis where the values double or it is asked for."""
     values = sorted({float(value) for value in column})
-    if len(values) > 2 and values[0] > 0 and values[-1] / values[0] >= 8 and not set(ratios(values)) - {2.0, 4.0, 8.0}:
+    if log_x and values[0] <= 0:
+        raise ToolError(f"--log-x: {column.name} has values that are not above 0")
+    if doubles(values):
         axes.set_xscale("log", base=2)
-    if len(values) <= MOST:
-        axes.set_xticks(values, [f"{value:g}" for value in values])
-        axes.minorticks_off()
+    elif log_x:
+        axes.set_xscale("log")
+    if len(values) <= MOST_TICKS:
+        number_ticks(figure, axes.xaxis, values, list(map(value_text, values)))
 
 
-def ratios(values):
-    return [after / before for before, after in zip(values, values[1:])]
+def doubles(values):
+    """Whether values grow by doubling, each once or a few times."""
+    ratios = {after / before for before, after in zip(values, values[1:]) if before > 0}
+    return len(values) > 2 and values[0] > 0 and values[-1] / values[0] >= 8 and not ratios - {2.0, 4.0, 8.0}
 
 
-def heat_map(rows, x, heat, y):
+def heat_map(figure, axes, rows, x, heat, y, words, label):
     """Draws a field for each pair of values, with its number: the darker, the more. A pair without one is hatched."""
-    figure, axes = new_figure()
     axes.patch.set(hatch="///", edgecolor="0.7")
     grid = rows.pivot(index=heat, columns=x, values=y).astype(float)
     image = axes.imshow(grid.to_numpy(), cmap="Greys", aspect="auto", origin="lower")
-    axes.set_xticks(range(len(grid.columns)), [f"{value}" for value in grid.columns])
-    axes.set_yticks(range(len(grid.index)), [f"{value}" for value in grid.index])
-    axes.set_xlabel(label_of(x))
-    axes.set_ylabel(label_of(heat))
+    axes.set_ylabel(words.label(heat))
+    bar = figure.colorbar(image)
+    fit_label(figure, bar.ax.yaxis.label, label, int(TITLE * figure.get_figheight()))
+    for column, values, axis in ((heat, grid.index, axes.yaxis), (x, grid.columns, axes.xaxis)):
+        number_ticks(figure, axis, range(len(values)), [words.value(column, value) for value in values])
     middle = (grid.min().min() + grid.max().max()) / 2
-    for row, values in enumerate(grid.to_numpy()):
-        for column, value in enumerate(values):
-            if value == value:
-                colour = "white" if value > middle else "black"
-                axes.text(column, row, f"{value:.3g}", ha="center", va="center", color=colour, fontsize="small")
-    figure.colorbar(image, label=label_of(y))
-    return figure
+    texts = [
+        axes.text(
+            column, row, f"{value:.3g}", ha="center", va="center", color="white" if value > middle else "black"
+        )
+        for row, values in enumerate(grid.to_numpy())
+        for column, value in enumerate(values)
+        if value == value
+    ]
+    fit_numbers(figure, axes, texts)
 
 
-def new_figure():
+def style_of(size):
+    """Returns the context of a plot of this size: small ones have smaller letters, lines and markers."""
     import matplotlib
+
+    by_inch, least, greatest = LETTERS
+    letters = min(greatest, max(least, by_inch * size[0]))
+    return matplotlib.rc_context(
+        {
+            "font.size": letters,
+            "lines.linewidth": 0.15 * letters,
+            "lines.markersize": 0.6 * letters,
+            # Texts stay texts, and the same plot is the same file.
+            "svg.fonttype": "none",
+            "svg.hashsalt": "zsim-tools",
+            "pdf.fonttype": 42,
+        }
+    )
+
+
+def new_figure(size):
     from matplotlib.figure import Figure
 
-    # Texts stay texts, and the same plot is the same file.
-    matplotlib.rcParams["svg.fonttype"] = "none"
-    matplotlib.rcParams["svg.hashsalt"] = "zsim-tools"
-    figure = Figure(figsize=INCHES, dpi=DOTS, layout="constrained")
+    figure = Figure(figsize=size, dpi=DOTS, layout="constrained")
     return figure, figure.add_subplot()
 
 
 def save(figure, out):
     form = Path(out).suffix.removeprefix(".")
-    metadata = {"Date": None} if form == "svg" else {"Software": None}
+    metadata = {"svg": {"Date": None}, "pdf": {"CreationDate": None}, "png": {"Software": None}}[form]
     write_whole(out, lambda file: figure.savefig(file, format=form, metadata=metadata))

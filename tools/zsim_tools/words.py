@@ -59,15 +59,18 @@ again while its machine, its executable and zsim are the same. A machine that zs
 refusal, and stops nothing."""
 
 PLOT = """\
-Plots a number of a sweep's table against an axis, as PNG or SVG: one line for each executable, or for each
-value of another column, or a heat map of two axes.
+Plots a number of a sweep's table against an axis, as PNG, SVG or PDF: one line for each executable, or for
+each value of another column; bars, in a group for each executable; or a heat map of two axes.
 
   zsim-tools plot l1.csv --x l1.ways --y l1_mpki --where l1.sets=64 --out l1.png
   zsim-tools plot l1.csv --x l1.ways --y l1_mpki --lines l1.sets --where executable=sort.elf --out l1.png
   zsim-tools plot l1.csv --x l1.ways --y l1_mpki --heat l1.sets --where executable=sort.elf --out l1.svg
+  zsim-tools plot l1.csv --bars l1.ways --y speedup --baseline l1.ways=1 --where l1.sets=64 --out l1.pdf
 
 AXIS and NUMBER are columns of the table (docs/tools.md has all): keys of the machine, as l1.ways, counters, as
-cycles, and derived numbers, as cpi. Runs that did not end by their program's exit are left out."""
+cycles, and derived numbers, as cpi. speedup is the cycles of the baseline by the cycles. Where a sweep repeats
+its runs, it is the mean over the repeats, with a bar from the least to the greatest. Runs that did not end by
+their program's exit are left out."""
 
 
 class Words(argparse.ArgumentParser):
@@ -131,19 +134,33 @@ def add_sweep(sweep):
     sweep.add_argument("--zsim", metavar="PROGRAM", help=program)
 
 
+def check_plot(given):
+    """Raises ToolError where a plot has nothing along the bottom."""
+    if not (given.x or given.bars):
+        raise ToolError("usage: the following arguments are required: --x (see zsim-tools plot --help)")
+
+
 def add_plot(plot):
     plot.add_argument("table", metavar="TABLE", help="a table that a sweep wrote")
-    plot.add_argument("--x", required=True, metavar="AXIS", help="the column along the bottom")
+    plot.add_argument("--x", metavar="AXIS", help="the column along the bottom (of bars: executable)")
     plot.add_argument("--y", required=True, metavar="NUMBER", help="the column that is plotted")
     kind = plot.add_mutually_exclusive_group()
     lines = "a line for each value of COLUMN (executable); can be given again"
     kind.add_argument("--lines", action="append", default=[], metavar="COLUMN", help=lines)
+    bars = "bars for the values of COLUMN, in a group for each value of AXIS; can be given again"
+    kind.add_argument("--bars", action="append", default=[], metavar="COLUMN", help=bars)
     kind.add_argument("--heat", metavar="AXIS", help="a map of both axes, with the number in each field")
     where = "plot these rows alone; can be given again, also for another value of COLUMN"
     plot.add_argument("--where", action="append", default=[], type=condition, metavar="COLUMN=VALUE", help=where)
+    base = "NUMBER relative to what it is in the row with this value; can be given again, for another column"
+    plot.add_argument("--baseline", action="append", default=[], type=condition, metavar="COLUMN=VALUE", help=base)
+    plot.add_argument("--geomean", action="store_true", help="the geometric mean over the executables too")
+    plot.add_argument("--with-limits", action="store_true", help="also runs that reached a limit")
+    plot.add_argument("--log-x", action="store_true", help="a logarithmic scale for AXIS (where its values double)")
     plot.add_argument("--log-y", action="store_true", help="a logarithmic scale for NUMBER")
     plot.add_argument("--title", metavar="TEXT", help="the title (what all rows have in common)")
-    plot.add_argument("--out", required=True, metavar="PLOT", help="the file to write, .png or .svg by its name")
+    plot.add_argument("--size", type=size, default=(7.0, 4.5), metavar="WxH", help="width and height in inches (7x4.5)")
+    plot.add_argument("--out", required=True, metavar="PLOT", help="the file to write, .png, .svg or .pdf by its name")
 
 
 def count(text):
@@ -151,6 +168,18 @@ def count(text):
     if not (text.isascii() and text.isdigit()) or int(text) < 1:
         raise argparse.ArgumentTypeError(f"{text} is no whole number of at least 1")
     return int(text)
+
+
+def size(text):
+    """Returns a width and a height in inches."""
+    width, times, height = text.partition("x")
+    try:
+        inches = float(width), float(height)
+    except ValueError:
+        inches = (0.0, 0.0)
+    if not all(1 <= length <= 40 for length in inches):
+        raise argparse.ArgumentTypeError(f"{text} is not WxH, as 7x4.5, from 1 to 40 inches each")
+    return inches
 
 
 def condition(text):
