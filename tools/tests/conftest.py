@@ -177,6 +177,11 @@ def environment(zsim, **variables):
     }
 
 
+def without_times(table):
+    """Returns a table without the numbers that differ from run to run."""
+    return table.drop(columns=["seconds", "instructions_per_second"])
+
+
 @pytest.fixture
 def twelve(tmp_path, repository):
     """A folder with a sweep of 12 runs for what stands in for zsim: two executables, two sets, three ways."""

@@ -1,10 +1,12 @@
-"""Stands in for zsim: takes its words, and prints a report that is made up of the machine's numbers.
+"""Stands in for zsim: takes its words, and prints a report that is made up of the machine's numbers. With several workers
+each run has some cycles more or less, as if its cores raced.
 
 It refuses what the tests of sweeps have refused, as zsim does. The variables FAKE_LOG and FAKE_HOLD name files: each
 run appends a line to the first as it begins, and with the sixth line and the later ones, runs wait while the second is
 there.
 """
 
+import argparse
 import os
 import sys
 import time
@@ -24,11 +26,11 @@ def log(line):
     return len(Path(path).read_text(encoding="utf-8").splitlines())
 
 
-def report(machine, executable):
+def report(machine, executable, workers):
     lines = machine["l1"]["sets"] * machine["l1"]["ways"]
     misses = max(1, (len(executable) * TURNS) // lines)
     hits = TURNS * len(executable) - misses
-    delay = machine["controllers"]["occupancy"] * misses
+    delay = machine["controllers"]["occupancy"] * misses + (os.getpid() % 5 if workers > 1 else 0)
     instructions, cycles = 10 * TURNS * len(executable), 20 * TURNS * len(executable) + 100 * misses + delay
     text = [
         "zsim report 1",
@@ -51,9 +53,20 @@ def report(machine, executable):
     return "\n".join(text) + "\n"
 
 
+def words():
+    parser = argparse.ArgumentParser()
+    parser.add_argument("command", choices=["run", "replay"])
+    for name in ("machine", "executable", "--record", "--schedule"):
+        parser.add_argument(name)
+    parser.add_argument("--workers", type=int, default=1)
+    return parser
+
+
 def main():
-    _, command, machine_name, executable_name = sys.argv
-    assert command == "run"
+    given = words().parse_args()
+    machine_name, executable_name = given.machine, given.executable
+    if machine_name == "plain":
+        machine_name = Path(__file__).resolve().parents[1] / "zsim_tools/plain.toml"
     begun = log(executable_name)
     while begun > 5 and os.path.exists(os.environ.get("FAKE_HOLD", "")):
         time.sleep(0.02)
@@ -71,7 +84,9 @@ def main():
     if b"nonsense" in executable:
         print("Segmentation fault")
         return 0
-    sys.stdout.write(report(machine, executable))
+    sys.stdout.write(report(machine, executable, given.workers))
+    if given.record:
+        Path(given.record).write_text(f"schedule of {len(executable)} bytes", encoding="utf-8")
     if b"endless" in executable:
         print("zsim: stopped at the limit", file=sys.stderr)
         return 3

@@ -4,6 +4,7 @@ import os
 import re
 
 import pytest
+from conftest import without_times
 
 import zsim_tools
 
@@ -22,7 +23,8 @@ def test_the_workers_give_the_same_table(cluster, command, twelve, fake_zsim):
     ended = command("sweep", "sweep.toml", "--out", "cluster.csv", "--scheduler", cluster.scheduler_address)
     assert (ended.returncode, ended.stderr) == (0, "zsim-tools: cluster.csv: 12 runs\n")
     command("sweep", "sweep.toml", "--out", "table.csv")
-    assert (twelve / "cluster.csv").read_text() == (twelve / "table.csv").read_text()
+    cluster, here = (zsim_tools.read_table(twelve / name) for name in ("cluster.csv", "table.csv"))
+    assert (cluster["seconds"] > 0).all() and without_times(cluster).equals(without_times(here))
 
 
 def test_both_workers_have_a_part(cluster, command, twelve):
@@ -40,6 +42,18 @@ def test_both_workers_have_a_part(cluster, command, twelve):
     # What was run there is done: nothing is left to be run here.
     again = command("sweep", "sweep.toml", "--out", "table.csv", "--zsim", program)
     assert again.stderr == "zsim-tools: table.csv: 0 runs, 12 were done before\n"
+
+
+def test_schedules_come_from_workers(cluster, command, twelve):
+    (twelve / "sweep.toml").write_text("workers = 2\nrepeat = 2\n" + (twelve / "sweep.toml").read_text())
+    words = ("sweep", "sweep.toml", "--out", "table.csv", "--record", "schedules")
+    ended = command(*words, "--scheduler", cluster.scheduler_address)
+    assert ended.returncode == 0
+    table = zsim_tools.read_table(twelve / "table.csv")
+    assert len(table) == 24 and {(twelve / name).read_text() for name in table["schedule"]} == {
+        "schedule of 9 bytes",
+        "schedule of 24 bytes",
+    }
 
 
 def test_refusals_come_from_workers_too(cluster, command, twelve):

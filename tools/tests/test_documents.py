@@ -19,6 +19,14 @@ from zsim_tools.table import FRACTIONS, SHA256
 from zsim_tools.task import run_machine
 
 
+L1I = """\
+[l1i]
+sets = 2
+ways = 1
+latency = 1
+"""
+
+
 def test_plain_is_the_built_in_machine(repository):
     text = inputs.read_text(PLAIN, inputs.MACHINE)
     assert f"```toml\n{text}```" in (repository / "docs/machine-description.md").read_text()
@@ -33,16 +41,22 @@ def test_every_key_of_a_machine_has_a_label(repository):
     assert {key for key in KEYS if not key.startswith("l1i.")} < set(zsim_tools.read_machine("plain").values)
 
 
+def with_l1i(machine):
+    """Returns a machine of version 2, with instruction caches."""
+    text = machine.text.replace("version = 1", "version = 2").replace("[l2]", f"{L1I}\n[l2]")
+    return parse_machine(text, machine.name)
+
+
 def test_every_column_is_in_the_documents(repository):
     text = (repository / "docs/tools.md").read_text()
     machine = zsim_tools.read_machine("plain").changed({"cores": 2, "l2.banks": 2, "domains.banks": [0, 0]})
-    columns = numbers_of(parse_report(FETCHING, machine=machine))
+    columns = numbers_of(parse_report(FETCHING, machine=with_l1i(machine), seconds=0.5))
     for name in columns:
         if not re.fullmatch("(core|bank|controller)[0-9]+_.*", name):
             assert f"`{name}`" in text, name
     whole_run = {name for name in columns if not re.fullmatch("(core|bank|controller)[0-9]+_.*", name)}
     assert set(FRACTIONS) == {name for name in whole_run if isinstance(columns[name], float)}
-    for name in ("executable", "status", "line", "halt", "machine_sha256", "executable_sha256", "zsim_sha256"):
+    for name in ("executable", "repeat", "schedule", "status", "line", "halt", "machine_sha256", "executable_sha256", "zsim_sha256"):
         assert f"`{name}`" in text
 
 
@@ -137,8 +151,9 @@ def test_the_stored_tables_are_those_of_zsim(built_zsim, repository, tmp_path, n
         ]
         assert len(rows) == 1
         found = rows.iloc[0]
-        assert {key: found[key] for key in wanted if key not in SHA256} == {
-            key: value for key, value in wanted.items() if key not in SHA256
+        own = {*SHA256, "seconds", "instructions_per_second"}  # (what is not the same at every place and time)
+        assert {key: found[key] for key in wanted if key not in own} == {
+            key: value for key, value in wanted.items() if key not in own
         }
 
 

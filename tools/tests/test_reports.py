@@ -96,6 +96,8 @@ BY_HAND = {
     "controller_wait": 2.0,
     "controller_busy": 0.5,
     "controller_busiest": 0.5,
+    "l1_kib": 0.125,
+    "l2_kib": 0.5,
 }
 CORES_BY_HAND = {
     "cpi": [4.0, 1.5],

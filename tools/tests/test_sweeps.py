@@ -11,7 +11,7 @@ import time
 from pathlib import Path
 
 import pytest
-from conftest import environment, process_of
+from conftest import environment, process_of, without_times
 
 import zsim_tools
 from zsim_tools.sweeps import Watcher
@@ -265,6 +265,86 @@ domains.banks = [[0], [0, 0]]
     assert table["bank1_events"].isna().tolist() == [True, False, True, False]
 
 
+def test_domains_follow_a_rule(twelve):
+    (twelve / "sweep.toml").write_text(
+        """\
+machine = "plain"
+executables = ["gen:5"]
+domains = "even"
+axes.l2.banks = [1, 4]
+axes.controllers.count = [1, 3]
+axes.domains.count = [2, 4]
+"""
+    )
+    from zsim_tools.sweep_file import read_sweep
+
+    planned = read_sweep(twelve / "sweep.toml").planned()
+    found = [(run.machine.values["domains.banks"], run.machine.values["domains.controllers"]) for run in planned]
+    assert found[0] == ([0], [0]) and found[2] == ([0], [0, 1, 0]) and found[3] == ([0], [0, 1, 2])
+    assert found[4] == ([0, 1, 0, 1], [0]) and found[7] == ([0, 1, 2, 3], [0, 1, 2])
+    # Columns are for what varies by itself.
+    assert set(planned[0].values) == {"l2.banks", "controllers.count", "domains.count"}
+
+
+def test_runs_of_several_workers_are_repeated(command, twelve):
+    log = twelve / "log"
+    (twelve / "sweep.toml").write_text("workers = 2\nrepeat = 5\n" + text_of(twelve / "sweep.toml"))
+    assert command("sweep", "sweep.toml", "--out", "table.csv", FAKE_LOG=log).returncode == 0
+    table = table_of(twelve)
+    assert len(table) == 60 and list(table["repeat"])[:6] == [0, 1, 2, 3, 4, 0]
+    assert list(table.columns[:5]) == ["l1.sets", "l1.ways", "executable", "repeat", "status"]
+    assert table["cycles"].nunique() > 12 and text_of(log).count("\n") == 60
+    again = command("sweep", "sweep.toml", "--out", "table.csv", FAKE_LOG=log)
+    assert again.stderr == "zsim-tools: table.csv: 0 runs, 60 were done before\n"
+    # One worker has runs of its own, and another number of them too.
+    (twelve / "sweep.toml").write_text(text_of(twelve / "sweep.toml").replace("repeat = 5\n", ""))
+    command("sweep", "sweep.toml", "--out", "table.csv", "--workers", 1, FAKE_LOG=log)
+    assert text_of(log).count("\n") == 72 and "repeat" not in table_of(twelve)
+    command("sweep", "sweep.toml", "--out", "table.csv", "--workers", 3, FAKE_LOG=log)
+    assert text_of(log).count("\n") == 84
+
+
+def test_schedules_are_recorded(command, twelve):
+    log = twelve / "log"
+    (twelve / "long.elf").write_text("gone")
+    words = ("sweep", "sweep.toml", "--out", "table.csv", "--record", "schedules")
+    assert command(*words, FAKE_LOG=log).returncode == 3
+    names = list(table_of(twelve)["schedule"])
+    assert names[6:] == [""] * 6 and len(set(names[:6])) == 6
+    assert {text_of(twelve / name) for name in names[:6]} == {"schedule of 9 bytes"}
+    # A run whose schedule is not there any more is made again, with those that are never done.
+    (twelve / names[2]).unlink()
+    command(*words, FAKE_LOG=log)
+    assert text_of(log).count("\n") == 12 + 1 + 6 and (twelve / names[2]).is_file()
+
+
+def test_the_time_and_the_sizes_are_in_the_table(command, twelve):
+    command("sweep", "sweep.toml", "--out", "table.csv")
+    table = table_of(twelve)
+    assert list(table["l1_kib"])[:6] == [0.125, 0.25, 0.5, 0.25, 0.5, 1.0] and set(table["l2_kib"]) == {0.5}
+    assert (table["seconds"] > 0).all() and (table["seconds"] < 60).all()
+    speed = table["instructions"] / table["seconds"]
+    assert list(table["instructions_per_second"]) == pytest.approx(list(speed))
+    first = text_of(twelve / "table.csv")
+    command("sweep", "sweep.toml", "--out", "table.csv")
+    assert text_of(twelve / "table.csv") == first
+    # What an older version kept has no time.
+    runs = twelve / "table.csv.runs"
+    runs.write_text(re.sub(r', "seconds": [0-9.e-]+', "", text_of(runs)))
+    command("sweep", "sweep.toml", "--out", "table.csv")
+    assert "seconds" not in table_of(twelve)
+
+
+def test_runs_from_python_are_recorded_and_replayed(twelve, fake_zsim):
+    schedule = twelve / "a.schedule"
+    report = zsim_tools.run("plain", twelve / "a.elf", zsim=fake_zsim, workers=2, record=schedule)
+    assert text_of(schedule) == "schedule of 9 bytes" and report.derived["seconds"] > 0
+    report = zsim_tools.run("plain", twelve / "a.elf", zsim=fake_zsim, replay=schedule)
+    assert report.summary["instructions"] == 90000
+    with pytest.raises(zsim_tools.ToolError, match="a replay has its order from a file"):
+        zsim_tools.run("plain", twelve / "a.elf", zsim=fake_zsim, replay=schedule, workers=2)
+
+
 def test_the_machine_keeps_its_comments():
     text = "# top\nversion = 1 # one\n[l1]\nways =  8  # lines\nsets = 0x40\n[d]\nbanks = [0, # zero\n 1]\n"
     machine = zsim_tools.Machine("m", text, {"version": 1, "l1.ways": 8, "l1.sets": 64, "d.banks": [0, 1]})
@@ -304,7 +384,7 @@ BAD_SWEEPS = [
     ("[1, 2, 4]", "[]", "sweep.toml: axes.l1.ways: has to be a list of values, with at least one"),
     ("[1, 2, 4]", "[1, 2, 1]", "sweep.toml: axes: l1.ways: 1 stands twice"),
     ("[1, 2, 4]", "[1, 2,", "sweep.toml: line 6: no TOML: "),
-    ("[axes]", "[axis]", "sweep.toml: axis: no key of a sweep; those are machine, executables, axes, tied"),
+    ("[axes]", "[axis]", "sweep.toml: axis: no key of a sweep; those are machine, executables, axes, tied, domains, workers, repeat"),
     ("[axes]", "[[axes]]", "sweep.toml: axes: is of kind array of tables, and has to be of kind table"),
     ('"machine.toml"', "3", "sweep.toml: machine: is of kind integer, and has to be of kind string"),
     ('"machine.toml"', '"nothing.toml"', "sweep.toml: machine: cannot read: nothing.toml: No such file or directory"),
@@ -319,6 +399,17 @@ BAD_SWEEPS = [
         "sweep.toml: tied[0]: keys that are tied have as many values each: l1.sets has 2 and l1.ways has 3",
     ),
     ("[axes]", "[[tied]]\nl1.sets = [1]\n[axes]", "sweep.toml: l1.sets: stands in two axes"),
+    ("[axes]", "workers = 0\n[axes]", "sweep.toml: workers: 0 is not from 1 to 64"),
+    ("[axes]", "workers = 65\n[axes]", "sweep.toml: workers: 65 is not from 1 to 64"),
+    ("[axes]", "workers = 2\nrepeat = 0\n[axes]", "sweep.toml: repeat: 0 is less than 1"),
+    ("[axes]", "repeat = 3\n[axes]", "sweep.toml: repeat: with one worker all 3 runs are the same"),
+    ("[axes]", "repeat = true\n[axes]", "sweep.toml: repeat: is of kind boolean"),
+    ("[axes]", 'domains = "odd"\n[axes]', "sweep.toml: domains: there is no rule 'odd', only \"even\""),
+    (
+        "[axes]",
+        'domains = "even"\n[axes]\ndomains.banks = [[0]]',
+        "sweep.toml: domains.banks: stands in an axis, and follows the rule of domains",
+    ),
 ]
 
 
@@ -370,7 +461,8 @@ def test_parquet_needs_its_library(command, twelve):
     else:
         assert command("sweep", "sweep.toml", "--out", "table.parquet").returncode == 0
         command("sweep", "sweep.toml", "--out", "table.csv")
-        assert zsim_tools.read_table(twelve / "table.parquet").equals(table_of(twelve))
+        parquet = zsim_tools.read_table(twelve / "table.parquet")
+        assert without_times(parquet).equals(without_times(table_of(twelve)))
 
 
 def test_a_name_of_parquet_goes_to_its_library(command, twelve, monkeypatch):
@@ -382,7 +474,8 @@ def test_a_name_of_parquet_goes_to_its_library(command, twelve, monkeypatch):
     monkeypatch.setattr("pandas.read_parquet", lambda file, engine: pandas.read_pickle(file))
     assert command("sweep", "sweep.toml", "--out", "table.parquet").returncode == 0
     command("sweep", "sweep.toml", "--out", "table.csv")
-    pandas.testing.assert_frame_equal(zsim_tools.read_table(twelve / "table.parquet"), table_of(twelve))
+    parquet = zsim_tools.read_table(twelve / "table.parquet")
+    pandas.testing.assert_frame_equal(without_times(parquet), without_times(table_of(twelve)))
 
 
 @pytest.mark.parametrize(

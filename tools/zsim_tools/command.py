@@ -43,7 +43,9 @@ def sweep_command(words):
     from .sweeps import carry_out
 
     watcher = Progress(words.out)
-    carry_out(words.sweep, words.out, words.jobs, words.scheduler, words.zsim, watcher)
+    carry_out(
+        words.sweep, words.out, words.jobs, words.scheduler, words.zsim, watcher, words.workers, words.record
+    )
     return NOT_ALL if watcher.failures else DONE
 
 

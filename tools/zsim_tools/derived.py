@@ -67,8 +67,31 @@ def spread(values):
     return (max(values) - min(values)) / mean if mean else 0.0
 
 
+LINE = 64
+
+
+def kib_of(machine):
+    """Returns the sizes of the caches of a machine, in KiB, by name. That of the L2 is of all banks together."""
+    sizes = {}
+    for cache in ("l1", "l1i", "l2"):
+        sets, ways = machine.number(f"{cache}.sets"), machine.number(f"{cache}.ways")
+        if sets is not None and ways is not None:
+            sizes[f"{cache}_kib"] = sets * ways * LINE / 1024
+    return sizes
+
+
 def of_run(report, sums):
-    """Returns the derived numbers of a whole run: of its `totals`, the spreads, the means and maxima."""
+    """Returns the derived numbers of a whole run: of its `totals`, the spreads, the means and maxima; of its machine and
+    its time, where they are known."""
+    beside = kib_of(report.machine) if report.machine else {}
+    if report.seconds is not None:
+        by_second = quotient(report.summary["instructions"], report.seconds)
+        beside |= {"seconds": report.seconds, "instructions_per_second": by_second}
+    return {**of_cores(report, sums), **beside}
+
+
+def of_cores(report, sums):
+    """Returns the derived numbers that follow from the counters of a report."""
     if report.brief:
         one = report.summary["cores"] == 1
         return {"cpi": quotient(report.summary["cycles"], report.summary["instructions"])} if one else {}

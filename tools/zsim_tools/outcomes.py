@@ -38,7 +38,7 @@ def judge(run, outcome):
     if outcome.status not in (RAN, LIMIT):
         return Ended(run, outcome, f"status {outcome.status}: {outcome.line}")
     try:
-        report = parse_report(outcome.output, "its output", run.machine, outcome.status)
+        report = parse_report(outcome.output, "its output", run.machine, outcome.status, outcome.seconds)
     except ToolError as error:
         return Ended(run, outcome, str(error))
     return Ended(run, outcome, failure_of(report, outcome), {"halt": halts_of(report), **numbers_of(report)})
@@ -73,10 +73,13 @@ def halts_of(report):
     return "; ".join(dict.fromkeys(core.halt for core in report.core_list))
 
 
-def row_of(run, ended, zsim_sha256):
-    """Returns the row of a run."""
+def row_of(run, ended, zsim_sha256, schedule=None):
+    """Returns the row of a run. `schedule` is the name of the file with its schedule, where that is recorded."""
     row = {key: cell(value) for key, value in run.values.items()}
-    row |= {"executable": run.executable.name, "status": ended.outcome.status, "line": ended.outcome.line, "halt": ""}
+    row |= {"executable": run.executable.name}
+    row |= {} if run.repeat is None else {"repeat": run.repeat}
+    row |= {"status": ended.outcome.status, "line": ended.outcome.line, "halt": ""}
+    row |= {} if schedule is None else {"schedule": schedule if ended.columns else ""}
     if ended.columns:
         row |= {name: value for name, value in ended.columns.items() if name not in run.values}
     elif not row["line"]:

@@ -6,7 +6,7 @@ from functools import cache
 
 from .errors import RunError, ToolError, told
 from .machine import Machine, read_machine
-from .task import run_machine, run_words
+from .task import in_memory, name_of, run_words, run_words_of
 
 # The statuses with a report: every core halted, or a limit was reached.
 RAN, LIMIT = 0, 3
@@ -63,23 +63,32 @@ def status_of(script):
             raise
 
 
-def run(machine, exe, zsim=None):
+def run(machine, exe, zsim=None, workers=1, record=None, replay=None):
     """Runs an executable on a machine, and returns the Report.
 
     `machine` is the name of a description, `plain`, or a Machine; `exe` is a file name or `gen:N`; `zsim` is the
-    program, where it is not to be looked for. RunError, with the status and the line of standard error, says that there
-    is no report. A run that reached a limit has one, with the status 3.
+    program, where it is not to be looked for. `workers` is on how many threads it runs the cores, `record` the name of a
+    file that gets the schedule, and `replay` that of a file under whose schedule it runs. RunError, with the status and
+    the line of standard error, says that there is no report. A run that reached a limit has one, with the status 3.
     """
     from .report import parse_report  # (a sweep loads it when its first runs have begun)
 
+    if replay and (record or workers != 1):
+        raise ToolError("a replay has its order from a file: it has no workers, and no schedule to record")
     program = find_zsim(zsim)
     with told(f"cannot run: {program}"):
-        if isinstance(machine, Machine):
-            outcome = run_machine(program, machine.text, str(exe))
-        else:
-            outcome = run_words([program, "run", str(machine), str(exe)])
+        files = [in_memory(machine.text.encode("utf-8"))] if isinstance(machine, Machine) else []
+        named = name_of(files[0]) if files else str(machine)
+        outcome = run_words([program, *words_of(named, exe, workers, record, replay)], files)
     if outcome.status not in (RAN, LIMIT):
         raise RunError(outcome.status, outcome.line)
     if not isinstance(machine, Machine):
         machine = read_machine(machine)
-    return parse_report(outcome.output, f"the report of {exe}", machine, outcome.status)
+    return parse_report(outcome.output, f"the report of {exe}", machine, outcome.status, outcome.seconds)
+
+
+def words_of(machine, exe, workers=1, record=None, replay=None):
+    """Returns the words of zsim for a run, or for a replay."""
+    if replay:
+        return ["replay", machine, str(exe), "--schedule", str(replay)]
+    return run_words_of(machine, str(exe), workers, str(record) if record else None)

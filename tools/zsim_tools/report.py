@@ -67,7 +67,8 @@ class Component(NamedTuple):
 class Report(NamedTuple):
     """A report of zsim. `machine`, where it is known, is the Machine of the run: the busy shares need its occupancies.
 
-    `status` is that of the run, 0 or 3, where it was run by these tools. A brief report has the summary alone.
+    `status` is that of the run, 0 or 3, and `seconds` how long it took, where it was run by these tools. A brief report
+    has the summary alone.
     """
 
     name: str
@@ -77,6 +78,7 @@ class Report(NamedTuple):
     controller_list: tuple = ()
     machine: object = None
     status: int | None = None
+    seconds: float | None = None
 
     @property
     def brief(self):
@@ -167,7 +169,7 @@ def shown(line):
     return f'"{text}..."' if len(line) > LONGEST else f'"{text}"'
 
 
-def parse_report(text, name="report", machine=None, status=None):
+def parse_report(text, name="report", machine=None, status=None, seconds=None):
     """Returns the Report of a text. ToolError names the line that is wrong."""
     lines = Lines(name, text)
     version = take_header(lines, text)
@@ -176,7 +178,7 @@ def parse_report(text, name="report", machine=None, status=None):
         match = lines.take(pattern, f'"{word} N"')
         (summary[word],) = lines.numbers(match.groups())
     if lines.at_end:
-        return Report(name, summary, machine=machine, status=status)
+        return Report(name, summary, machine=machine, status=status, seconds=seconds)
     if not summary["cores"]:
         lines.fail("a machine has at least one core", SUMMARY.index("cores") + 2)
     cores = tuple(take_core(lines, number, version) for number in range(summary["cores"]))
@@ -185,7 +187,7 @@ def parse_report(text, name="report", machine=None, status=None):
     if not lines.at_end:
         rest = lines.lines[lines.next] if lines.next < len(lines.lines) else lines.rest
         lines.fail(f"the report ends before this line, not with {shown(rest)}")
-    report = Report(name, summary, cores, banks, controllers, machine, status)
+    report = Report(name, summary, cores, banks, controllers, machine, status, seconds)
     check_sums(lines, report)
     check_machine(report)
     return report

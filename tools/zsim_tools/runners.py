@@ -12,7 +12,7 @@ from contextlib import contextmanager
 
 from . import inputs
 from .errors import ToolError, one_line, told
-from .task import Started, in_memory, name_of, run_on_worker
+from .task import in_memory, name_of, run_on_worker, start_machine
 
 
 class Here:
@@ -21,8 +21,9 @@ class Here:
     All of it is done in one thread, since threads that hand runs over cost more than the work of a short run.
     """
 
-    def __init__(self, program, jobs):
+    def __init__(self, program, jobs, options):
         self.program = program
+        self.options = options
         self.jobs = jobs
         self.runs = {}
         self.executables = {}
@@ -63,9 +64,8 @@ class Here:
         if run is None:
             return
         with told(f"cannot run: {self.program}"), undisturbed():
-            machine = in_memory(run.machine.text.encode("utf-8"))
-            words = [self.program, "run", name_of(machine), self._name_of_executable(run.executable)]
-            started = Started(words, [machine], self.environment)
+            executable = self._name_of_executable(run.executable)
+            started = start_machine(self.program, run.machine.text, executable, self.options, self.environment)
             self.runs[started] = run
             self.ends.register(started, selectors.EVENT_READ)
 
@@ -106,8 +106,9 @@ WAIT_FOR_WORKERS = "10s"
 class Cluster:
     """Runs on the workers of a dask cluster, which need neither zsim nor this package: both are sent to them."""
 
-    def __init__(self, program, address):
+    def __init__(self, program, address, options):
         self.program = program
+        self.options = options
         self.address = address
         self.futures = {}
 
@@ -139,7 +140,7 @@ class Cluster:
             if executable.name not in sent:
                 data = executable.data
                 sent[executable.name] = executable.name if data is None else self.client.scatter(data, hash=False)
-            words = (run.machine.text, sent[executable.name], program)
+            words = (run.machine.text, sent[executable.name], program, tuple(self.options))
             self.futures[self.client.submit(run_on_worker, *words, pure=False)] = run
 
     def _await_workers(self):

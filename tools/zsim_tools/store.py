@@ -2,14 +2,18 @@
 
 Each run is a line of JSON, appended as the run ends. So a sweep that is stopped, in whatever way, loses no run: what
 the last write left of a line that it did not end is dropped. A run is known by three hashes, those of the machine's
-text, of the executable and of zsim, and is never run again where these are the same.
+text, of the executable and of zsim, and is never run again where these are the same. Where several workers run it, or
+where it is repeated, their number and that of the repeat tell it apart too.
 """
 
 import fcntl
+import hashlib
 import json
 import os
 
 from .errors import ToolError, reason, told
+from .program import LIMIT, RAN
+from .table import write_whole
 from .task import Outcome
 
 HEADER = json.dumps({"zsim-tools runs": 1}).encode("ascii")
@@ -42,7 +46,7 @@ class Store:
         for number, line in enumerate(lines, 2):
             try:
                 record = json.loads(line)
-                self.runs[tuple(record["key"])] = Outcome(record["status"], record["line"], record["output"])
+                self.runs[tuple(record["key"])] = outcome_of(record)
             except (ValueError, TypeError, KeyError):
                 raise ToolError(f"{self.path}: line {number}: this is no run of a sweep") from None
         self.file.truncate(len(whole))
@@ -56,10 +60,37 @@ class Store:
 
     def add(self, key, outcome):
         """Keeps a run that is done."""
-        record = {"key": key, "status": outcome.status, "line": outcome.line, "output": outcome.output}
+        # (the schedule, where it is recorded, is a file of its own)
+        record = {"key": key, **{name: value for name, value in outcome._asdict().items() if name != "schedule"}}
         self._append(json.dumps(record).encode("ascii"))
 
     def close(self):
         with told(f"cannot write: {self.path}"):
             os.fsync(self.file.fileno())
             self.file.close()
+
+
+def outcome_of(record):
+    """Returns the outcome of a run as it was kept."""
+    return Outcome(record["status"], record["line"], record["output"], record.get("seconds"))
+
+
+class Schedules:
+    """A folder with the schedules of runs, each under a name that is made of what the run is known by."""
+
+    def __init__(self, folder):
+        self.folder = folder
+        with told(f"cannot write: {folder}"):
+            os.makedirs(folder, exist_ok=True)
+
+    def name_of(self, key):
+        name = hashlib.sha256(" ".join(key).encode("ascii")).hexdigest()
+        return os.path.join(self.folder, f"{name[:16]}.schedule")
+
+    def has(self, key, outcome):
+        """Whether the schedule of a run is there, if it has one: it ran to its end or to a limit."""
+        return outcome.status not in (RAN, LIMIT) or os.path.exists(self.name_of(key))
+
+    def keep(self, key, outcome):
+        if outcome.status in (RAN, LIMIT):
+            write_whole(self.name_of(key), lambda file: file.write(outcome.schedule))

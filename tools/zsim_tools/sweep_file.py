@@ -13,6 +13,10 @@ from .machine import Machine, flat, is_kind, kind_of, parse_toml, read_machine
 
 GENERATED = re.compile("gen:(0|[1-9][0-9]*)")
 MOST_RUNS = 2**20
+DOMAINS = ("domains.banks", "domains.controllers")
+# What zsim takes at most: a machine of more banks is refused for them, whatever the lists have.
+MOST_COMPONENTS = 64
+MOST_WORKERS = 64
 
 
 class Executable(NamedTuple):
@@ -37,11 +41,14 @@ class Planned(NamedTuple):
     machine: Machine
     machine_sha256: str
     executable: Executable
+    repeat: int | None = None
 
     @property
     def label(self):
         """Returns how a message names this run."""
-        return " ".join([self.executable.name, *(f"{key}={cell(value)}" for key, value in self.values.items())])
+        repeat = [] if self.repeat is None else [f"repeat={self.repeat}"]
+        values = [f"{key}={cell(value)}" for key, value in self.values.items()]
+        return " ".join([self.executable.name, *values, *repeat])
 
 
 class SweepFile(NamedTuple):
@@ -51,24 +58,45 @@ class SweepFile(NamedTuple):
     machine: Machine
     axes: tuple
     executables: tuple
+    workers: int = 1
+    repeat: int | None = None
+    even_domains: bool = False
 
     def check_size(self):
         """Raises ToolError where there are more runs than a table can have."""
-        runs = math.prod([len(self.executables), *(len(axis.points) for axis in self.axes)])
+        runs = math.prod([len(self.executables), self.repeat or 1, *(len(axis.points) for axis in self.axes)])
         if runs > MOST_RUNS:
             raise ToolError(f"{self.name}: these are {runs} runs, and a sweep has at most {MOST_RUNS}")
 
     def planned(self):
-        """Returns all runs: each executable on the machines of all combinations, the last axis varying fastest."""
+        """Returns all runs: each executable on the machines of all combinations, the last axis varying fastest, and
+        each of them as often as it is repeated."""
         self.check_size()
         keys = [key for axis in self.axes for key in axis.keys]
-        template = self.machine.template(keys)
+        template = self.machine.template([*keys, *(DOMAINS if self.even_domains else ())])
         machines = []
         for points in itertools.product(*(axis.points for axis in self.axes)):
             values = dict(zip(keys, itertools.chain.from_iterable(points)))
-            machine = template(values)
+            domains = even_domains({**self.machine.values, **values}) if self.even_domains else {}
+            machine = template({**values, **domains})
             machines.append((values, machine, sha256(machine.text.encode("utf-8"))))
-        return [Planned(*machine, executable) for executable in self.executables for machine in machines]
+        repeats = [None] if self.repeat is None else range(self.repeat)
+        return [
+            Planned(*machine, executable, repeat)
+            for executable in self.executables
+            for machine in machines
+            for repeat in repeats
+        ]
+
+
+def even_domains(values):
+    """Returns the lists of domains of a machine with these values: each domain has as many banks as the next, or one
+    less, and so for controllers."""
+    count = max(1, values["domains.count"])
+    return {
+        f"domains.{kind}": [number % count for number in range(min(max(0, values[key]), MOST_COMPONENTS))]
+        for kind, key in (("banks", "l2.banks"), ("controllers", "controllers.count"))
+    }
 
 
 def sha256(data):
@@ -80,10 +108,21 @@ def cell(value):
     return str(value) if isinstance(value, list) else value
 
 
-def read_sweep(path):
-    """Reads the file of a sweep, its machine and its executables. ToolError names the file and the line or key."""
+def read_sweep(path, workers=None):
+    """Reads the file of a sweep, its machine and its executables. ToolError names the file and the line or key.
+
+    `workers` stands for those that the file says, where it is given.
+    """
     content = parse_toml(inputs.read_text(path, inputs.SWEEP), path)
-    known = {"machine": "string", "executables": "array of strings", "axes": "table", "tied": "array of tables"}
+    known = {
+        "machine": "string",
+        "executables": "array of strings",
+        "axes": "table",
+        "tied": "array of tables",
+        "domains": "string",
+        "workers": "integer",
+        "repeat": "integer",
+    }
     for key, value in content.items():
         if key not in known:
             raise ToolError(f"{path}: {key}: no key of a sweep; those are {', '.join(known)}")
@@ -98,7 +137,36 @@ def read_sweep(path):
     executables = tuple(read_executable(path, folder, name) for name in content["executables"])
     if len({executable.name for executable in executables}) < len(executables):
         raise ToolError(f"{path}: executables: one stands twice")
-    return SweepFile(str(path), machine, axes, executables)
+    even = read_domains(path, machine, axes, content.get("domains"))
+    return SweepFile(str(path), machine, axes, executables, *read_workers(path, content, workers), even)
+
+
+def read_workers(path, content, workers):
+    """Returns how many workers a run has, and how often it is repeated, or None where that is not said."""
+    workers = workers or content.get("workers", 1)
+    repeat = content.get("repeat")
+    if not 1 <= workers <= MOST_WORKERS:
+        raise ToolError(f"{path}: workers: {workers} is not from 1 to {MOST_WORKERS}")
+    if repeat is not None and repeat < 1:
+        raise ToolError(f"{path}: repeat: {repeat} is less than 1")
+    if repeat is not None and repeat > 1 and workers == 1:
+        raise ToolError(f"{path}: repeat: with one worker all {repeat} runs are the same; give more with workers")
+    return workers, repeat
+
+
+def read_domains(path, machine, axes, rule):
+    """Returns whether the lists of domains follow the banks and the controllers."""
+    if rule is None:
+        return False
+    if rule != "even":
+        raise ToolError(f'{path}: domains: there is no rule {rule!a}, only "even"')
+    for key in DOMAINS:
+        machine.check(key, [0], f"{path}: domains")
+        if any(key in axis.keys for axis in axes):
+            raise ToolError(f"{path}: {key}: stands in an axis, and follows the rule of domains")
+    for key in ("l2.banks", "controllers.count", "domains.count"):
+        machine.check(key, 0, f"{path}: domains")
+    return True
 
 
 def read_base(path, folder, name):

@@ -12,7 +12,7 @@ from .errors import ToolError, check_ending_of, ending_of, one_line, told
 
 ENDINGS = (".csv", ".parquet")
 SHA256 = ("machine_sha256", "executable_sha256", "zsim_sha256")
-TEXTS = ("executable", "line", "halt", *SHA256)
+TEXTS = ("executable", "line", "halt", "schedule", *SHA256)
 # What a table of a sweep has at least.
 NEEDED = ("executable", "status", "line", "halt")
 
@@ -35,6 +35,11 @@ FRACTIONS = (
     "controller_wait",
     "controller_busy",
     "controller_busiest",
+    "l1_kib",
+    "l1i_kib",
+    "l2_kib",
+    "seconds",
+    "instructions_per_second",
 )
 
 

@@ -2,6 +2,7 @@
 
 import os
 import signal
+import time
 from contextlib import suppress
 from typing import NamedTuple
 
@@ -10,7 +11,8 @@ NOT_IGNORED = (signal.SIGPIPE, signal.SIGXFSZ)
 
 
 class Outcome(NamedTuple):
-    """How a run ended: its status, its line on standard error, and its standard output.
+    """How a run ended: its status, its line on standard error, its standard output, how many seconds it took where that
+    is known, and the bytes of its schedule where that was recorded.
 
     A status below 0 is that of a signal, as Python has it.
     """
@@ -18,6 +20,15 @@ class Outcome(NamedTuple):
     status: int
     line: str
     output: str
+    seconds: float | None = None
+    schedule: bytes = b""
+
+
+class Options(NamedTuple):
+    """How a run is carried out: on how many threads, and whether its schedule is recorded."""
+
+    workers: int = 1
+    record: bool = False
 
 
 def in_memory(data=b""):
@@ -38,9 +49,12 @@ class Started:
     It is a context; leaving it ends the run. A selector can wait for it, beside others: it is readable at its end.
     """
 
-    def __init__(self, words, inputs=(), environment=os.environ):
-        """Starts a command. `inputs` are open files that it reads. OSError where it cannot be started."""
-        self.files = [*inputs, in_memory(), in_memory()]
+    def __init__(self, words, inputs=(), environment=os.environ, schedule=None):
+        """Starts a command. `inputs` are open files that it reads, and `schedule` one to which it writes the schedule.
+        OSError where it cannot be started."""
+        self.schedule = schedule
+        self.files = [*inputs, *filter(None, [schedule]), in_memory(), in_memory()]
+        self.began = time.monotonic()
         self.process = self.pidfd = None
         output, said = (file.fileno() for file in self.files[-2:])
         streams = [
@@ -71,13 +85,15 @@ class Started:
     def outcome(self):
         """Waits for the end of the run, and returns its outcome."""
         status = self._wait()
+        seconds = round(time.monotonic() - self.began, 6)
         output, said = map(content_of, self.files[-2:])
+        schedule = content_of(self.schedule) if self.schedule else b""
         self.close()
         lines = said.decode("utf-8", "replace").split("\n")
         line = " ".join(line.strip() for line in lines if line.strip())
         if status < 0:
             line = line or f"ended by signal {-status}"
-        return Outcome(status, line, output.decode("latin-1"))
+        return Outcome(status, line, output.decode("latin-1"), seconds, schedule)
 
     def close(self):
         """Ends the run, if it is still there, and closes its files."""
@@ -109,13 +125,28 @@ def run_words(words, inputs=()):
         return started.outcome()
 
 
-def run_machine(program, machine_text, executable):
-    """Runs an executable on the machine of a text."""
+def start_machine(program, machine_text, executable, options=Options(), environment=os.environ):
+    """Starts a run of an executable on the machine of a text."""
     machine = in_memory(machine_text.encode("utf-8"))
-    return run_words([program, "run", name_of(machine), executable], [machine])
+    schedule = in_memory() if options.record else None
+    words = run_words_of(name_of(machine), executable, options.workers, name_of(schedule) if schedule else None)
+    return Started([program, *words], [machine], environment, schedule)
 
 
-def run_on_worker(machine_text, executable, program):
+def run_words_of(machine, executable, workers=1, record=None):
+    """Returns the words of zsim for a run. (One worker is what it has where nothing is said.)"""
+    words = ["run", machine, executable]
+    words += ["--workers", str(workers)] if workers != 1 else []
+    return words + (["--record", record] if record else [])
+
+
+def run_machine(program, machine_text, executable, options=Options()):
+    """Runs an executable on the machine of a text."""
+    with start_machine(program, machine_text, executable, options) as started:
+        return started.outcome()
+
+
+def run_on_worker(machine_text, executable, program, options):
     """Runs zsim on a worker that has neither the program nor the executable: both come as their bytes.
 
     `executable` is the word of a generated program, or bytes. They are kept on the worker under their hashes, so each
@@ -123,7 +154,7 @@ def run_on_worker(machine_text, executable, program):
     """
     if isinstance(executable, bytes):
         executable = str(kept_file(executable))
-    return run_machine(str(kept_file(program)), machine_text, executable)
+    return run_machine(str(kept_file(program)), machine_text, executable, Options(*options))
 
 
 def kept_file(data):

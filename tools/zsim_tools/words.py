@@ -52,7 +52,11 @@ axes, its status, its counters, derived numbers, and the hashes of machine, exec
 
   [[tied]]                                       keys that vary together: the first values, the second ones, ..
   l2.banks = [1, 2]
-  domains.banks = [[0], [0, 0]]
+  controllers.count = [1, 2]
+
+  domains = "even"                               the lists of domains follow the banks and the controllers
+  workers = 4                                    the cores run on so many threads, and their races can differ,
+  repeat = 10                                    so each run is made so many times
 
 Each run is kept in TABLE.runs as it ends. A sweep that was stopped goes on where it was, and a run is not run
 again while its machine, its executable and zsim are the same. A machine that zsim refuses is a row with its
@@ -130,8 +134,15 @@ def add_sweep(sweep):
     where.add_argument("--jobs", type=count, metavar="N", help="run N at a time on this machine (one a processor)")
     cluster = "run on a dask cluster, as tcp://host:8786, to whose workers zsim and the executables are sent"
     where.add_argument("--scheduler", metavar="ADDRESS", help=cluster)
+    sweep.add_argument("--workers", type=count, metavar="N", help="run the cores of each run on N threads (1)")
+    record = "write the schedule of each run to a file in this folder, whose name is in the table"
+    sweep.add_argument("--record", metavar="FOLDER", help=record)
+    add_program(sweep)
+
+
+def add_program(command):
     program = "the program to run (that of this checkout, or the command zsim; the variable ZSIM names another)"
-    sweep.add_argument("--zsim", metavar="PROGRAM", help=program)
+    command.add_argument("--zsim", metavar="PROGRAM", help=program)
 
 
 def check_plot(given):
