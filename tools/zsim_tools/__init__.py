@@ -19,6 +19,7 @@ _HOMES = {
     "RunError": "errors",
     "ToolError": "errors",
     "diff": "differences",
+    "explain": "meanings",
     "parse_report": "report",
     "plot": "plots",
     "read_machine": "machine",

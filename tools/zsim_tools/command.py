@@ -80,7 +80,19 @@ def plot_command(words):
     return DONE
 
 
-COMMANDS = {"show": show_command, "diff": diff_command, "sweep": sweep_command, "plot": plot_command}
+def explain_command(words):
+    from .meanings import explain
+    from .machine import read_machine
+
+    line = " ".join(words.line)
+    meaning = explain(line, read_machine(words.machine).text if words.machine else None)
+    if meaning is None:
+        raise ToolError(f"explain: this is no line of zsim: {line}")
+    print(meaning)
+    return DONE
+
+
+COMMANDS = {"show": show_command, "diff": diff_command, "sweep": sweep_command, "plot": plot_command, "explain": explain_command}
 
 
 def say(line):

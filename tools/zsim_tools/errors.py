@@ -9,12 +9,13 @@ class ToolError(Exception):
 
 
 class RunError(ToolError):
-    """A run of zsim that gave no report: its status, and its line on standard error."""
+    """A run of zsim that gave no report: its status, its line on standard error, and what that means, where it is known."""
 
-    def __init__(self, status, line):
+    def __init__(self, status, line, meaning=None):
         super().__init__(line or f"zsim ended with status {status}")
         self.status = status
         self.line = line
+        self.meaning = meaning
 
 
 def one_line(text):

@@ -81,10 +81,22 @@ def run(machine, exe, zsim=None, workers=1, record=None, replay=None):
         named = name_of(files[0]) if files else str(machine)
         outcome = run_words([program, *words_of(named, exe, workers, record, replay)], files)
     if outcome.status not in (RAN, LIMIT):
-        raise RunError(outcome.status, outcome.line)
+        raise RunError(outcome.status, outcome.line, meaning_of(outcome.line, machine))
     if not isinstance(machine, Machine):
         machine = read_machine(machine)
     return parse_report(outcome.output, f"the report of {exe}", machine, outcome.status, outcome.seconds)
+
+
+def meaning_of(line, machine):
+    """Returns what a line of zsim means, with the values of the machine where it can be read."""
+    from .meanings import explain
+
+    if not isinstance(machine, Machine):
+        try:
+            machine = read_machine(machine)
+        except ToolError:
+            return explain(line)
+    return explain(line, machine.text)
 
 
 def words_of(machine, exe, workers=1, record=None, replay=None):

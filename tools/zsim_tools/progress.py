@@ -4,6 +4,7 @@ import sys
 import threading
 
 from . import ticker
+from .meanings import explain
 from .sweeps import Watcher
 from .ticker import Ticker, duration
 
@@ -19,6 +20,7 @@ class Progress(Watcher):
         self.begun = False
         self.failures = 0
         self.done = 0
+        self.explained = set()
 
     def begin(self, runs, before):
         self.runs = runs
@@ -47,8 +49,18 @@ class Progress(Watcher):
         if ended.failure:
             self.failures += 1
             self.say(f"{ended.run.label}: {ended.failure}")
+            self._explain(ended)
         if self.bar:
             self.bar.update(self.task, completed=self.done)
+
+    def _explain(self, ended):
+        """Says what a line of zsim means, or why a core halted, the first time that it comes."""
+        line = ended.outcome.line or ended.failure.rpartition("halted: ")[2]
+        if line not in self.explained:
+            self.explained.add(line)
+            meaning = explain(line, ended.run.machine.text)
+            if meaning:
+                self.say(f"    {meaning}")
 
     def end(self):
         if not self.begun:

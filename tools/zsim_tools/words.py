@@ -11,7 +11,8 @@ Tables, comparisons, sweeps and plots of the reports of zsim.
   zsim-tools diff A B                        what changed from one report to another
   zsim-tools sweep SWEEP.toml --out TABLE    runs each combination of machines and executables
   zsim-tools plot TABLE --x AXIS --y NUMBER --out PLOT
-                                             a curve for each executable, or a heat map
+                                             a curve for each executable, bars, or a heat map
+  zsim-tools explain LINE                    what a line of zsim means, and how to mend it
 
 Each has a --help of its own. docs/tools.md tells of all, with examples and formulas."""
 
@@ -77,6 +78,16 @@ its runs, it is the mean over the repeats, with a bar from the least to the grea
 their program's exit are left out."""
 
 
+EXPLAIN = """\
+Says what a line of zsim on standard error means, or why a core halted, and how to mend it:
+
+  zsim-tools explain zsim: elf 6
+  zsim-tools explain zsim: machine 6 l1.sets --machine desktop.toml
+  zsim-tools explain illegal c0002573
+
+With the machine (--machine) the words have its values, and the line of its file."""
+
+
 class Words(argparse.ArgumentParser):
     """A parser that says in one line what is wrong with the words."""
 
@@ -86,13 +97,14 @@ class Words(argparse.ArgumentParser):
 
 def parser():
     """Returns the parser of the words. What it gives has the name of the command in `command`."""
-    words = Words(usage="zsim-tools show|diff|sweep|plot ..", **common("zsim-tools", DESCRIPTION, ENDING))
+    words = Words(usage="zsim-tools COMMAND ..", **common("zsim-tools", DESCRIPTION, ENDING))
     commands = words.add_subparsers(dest="command", required=True, metavar="COMMAND", help=argparse.SUPPRESS)
     for name, description, ending, add in (
         ("show", SHOW, ENDING, add_show),
         ("diff", DIFF, ENDING, add_diff),
         ("sweep", SWEEP, SWEEP_ENDING, add_sweep),
         ("plot", PLOT, ENDING, add_plot),
+        ("explain", EXPLAIN, ENDING, add_explain),
     ):
         add(commands.add_parser(name, **common(f"zsim-tools {name}", description, ending)))
     return words
@@ -143,6 +155,11 @@ def add_sweep(sweep):
 def add_program(command):
     program = "the program to run (that of this checkout, or the command zsim; the variable ZSIM names another)"
     command.add_argument("--zsim", metavar="PROGRAM", help=program)
+
+
+def add_explain(explain):
+    explain.add_argument("line", nargs="+", metavar="LINE", help="the line, in one word or in several")
+    explain.add_argument("--machine", metavar="FILE", help="the machine description that zsim refused")
 
 
 def check_plot(given):

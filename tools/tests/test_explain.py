@@ -1,0 +1,186 @@
+"""What zsim refuses, in words: the checks of a description, and each line on standard error."""
+
+import re
+
+import pytest
+
+import zsim_tools
+from zsim_tools import inputs
+from zsim_tools.checks import ALLOWED, TABLES, Allowed, refusal_of
+from zsim_tools.meanings import ELF, HALTS, LINES, SCHEDULE, explain, line_of
+from zsim_tools.machine import PLAIN
+
+PLAIN_TEXT = inputs.read_text(PLAIN, inputs.MACHINE)
+L1I = "[l1i]\nsets = 2\nways = 1\nlatency = 1\n[l2]"
+WITH_L1I = PLAIN_TEXT.replace("version = 1", "version = 2").replace("[l2]", L1I)
+
+
+def test_the_keys_and_their_ranges_are_those_of_the_document(repository):
+    page = (repository / "docs/machine-description.md").read_text()
+    rows = re.findall(r"(?m)^\| `([a-z0-9.]+)` \| (integer|table|array of integers) \| (.*?) \|", page)
+    listed = [key for key, _, _ in rows]
+    assert [key for key in listed if key in ALLOWED] == list(ALLOWED)
+    assert [key for key in listed if key in TABLES] == list(TABLES)[1:]
+    for key, kind, told in rows:
+        if kind == "integer":
+            numbers = [eval(number.replace("^", "**")) for number in re.findall(r"[0-9]+(?:\^[0-9]+)?", told)]
+            assert ALLOWED[key] == Allowed(*numbers), key
+        elif kind != "table":
+            assert told == f"`{ALLOWED[key]}` elements"
+
+
+def changed(words):
+    """Returns the built-in machine with the changes of a case."""
+    text = PLAIN_TEXT
+    for change in words.split(";"):
+        old, _, new = change.partition("->")
+        old, new = (part.strip().replace(" | ", "\n").replace("| ", "\n") for part in (old, new))
+        text = text.replace(old, new, 1)
+    return text
+
+
+def test_the_checks_refuse_what_zsim_refuses(repository):
+    """The cases of zsim that change the built-in machine, and their stored lines, one after the other."""
+    cases = (repository / "crates/zsim_tests/data/cases").read_text()
+    cases = cases[cases.index("machine cores = 1 ->") :].splitlines()
+    changes = [line.removeprefix("machine ") for line in cases if line.startswith("machine ") and " : " not in line]
+    refusals = [refusal_of(changed(change)) for change in changes]
+    found = [refusal.line for refusal in refusals if refusal]
+    stored = (repository / "crates/zsim_tests/stdout").read_text()
+    lines = re.findall(r"(?m)^zsim: machine (?!1$).*$", stored)
+    # (the last of these cases is of version 2, which the checks take and zsim refuses)
+    lines = lines[: lines.index("zsim: machine 4 version 2")]
+    assert len(lines) > 15 and found[: len(lines)] == lines
+
+
+@pytest.mark.parametrize(
+    "old, new, line",
+    [
+        ("cores = 1", "cores =", "1"),
+        ("version = 1", "", "2 version"),
+        ("version = 1", "version = 3", "4 version 3"),
+        ("[l1]", "[l9]", "2 l1"),
+        ("[l1]\nsets = 2\nways = 1\nlatency = 1", "", "2 l1"),
+        ("[memory]", "l1 = 5\n[memory]", "1"),
+        ("banks = 1", "banks = 1.0", "3 l2.banks"),
+        ("banks = [0]", "banks = [0.5]", "3 domains.banks"),
+        ("banks = [0]", "banks = []", "4 domains.banks 0"),
+        ("banks = [0]", "banks = [0, 0]", "4 domains.banks 2"),
+        ("banks = [0]", "banks = [2]", "7 0"),
+        ("controllers = [1]", "controllers = [-1]", "7 1"),
+        ("stack = 4096", "stack = 4097", "4 memory.stack 4097"),
+        ("size = 1048576", "size = 4096\n#", None),
+        ("cores = 1", "cores = 64", None),
+        ("stack = 4096", "stack = 1048576", None),
+        ("fill = 2", 'fill = 2\n"a b" = 1', '5 l2.a\\x20b'),
+        ("fill = 2", "fill = 2\nzz = 1\nae = 1", "5 l2.ae"),
+    ],
+)
+def test_each_check_is_told_as_zsim_tells_it(old, new, line):
+    assert PLAIN_TEXT.count(old) >= 1
+    refusal = refusal_of(PLAIN_TEXT.replace(old, new, 1))
+    assert (refusal and refusal.line) == (line and f"zsim: machine {line}")
+
+
+def test_stacks_have_to_fit():
+    text = PLAIN_TEXT.replace("cores = 1", "cores = 2").replace("stack = 4096", "stack = 1048576")
+    assert refusal_of(text).line == "zsim: machine 4 memory.stack 1048576"
+    assert "2 of 1048576 bytes are more than `memory.size`" in explain(refusal_of(text).line, text)
+
+
+def test_the_machines_of_the_examples_pass(repository):
+    for path in (repository / "examples/machines").glob("*.toml"):
+        assert refusal_of(path.read_text()) is None
+    assert refusal_of(PLAIN_TEXT) is None and refusal_of(WITH_L1I) is None
+    assert refusal_of(WITH_L1I.replace(L1I, L1I.replace("sets = 2\n", ""))).line == "zsim: machine 2 l1i.sets"
+
+
+@pytest.mark.parametrize(
+    "line, told",
+    [
+        ("zsim: machine 6 l1.sets", "`l1.sets` (sets of the L1) is 24, which is no multiple of `l2.banks`, which is 16"),
+        ("zsim: machine 4 l1.ways 0", "is 0, and has to be an integer from 1 to 16"),
+        ("zsim: machine 4 memory.base 1", "an integer from 0 to 1099511627776, a multiple of 4096"),
+        ("zsim: machine 4 domains.banks 3", "has 3 elements, and needs one for each of `l2.banks`, which is 16"),
+        ("zsim: machine 2 l1i", "(or have `version = 1`, which has none)"),
+        ("zsim: machine 3 cores", "`cores` (cores) is of another kind than it has to be: an integer from 1 to 64"),
+        ("zsim: machine 5 l1.way", "`l1.way` is no key of a description; is it `l1.ways`?"),
+        ("zsim: machine 5 colour", "`colour` is no key of a description"),
+        ("zsim: machine 5 l1i", "Version 1 has no instruction caches"),
+        ("zsim: machine 7 17", "Element 1 of `domains.controllers` is 1, and has to be from 0 to 7"),
+        ("zsim: machine 4 version 2", "this zsim has no cores that fetch"),
+        ("zsim: elf 10 1", "Segment 1 of the executable is not in memory"),
+        ("zsim: elf 11 0 2", "The segments 0 and 2 of the executable"),
+        ("elf 6", "`-march=rv64ima -mabi=lp64`"),
+        ("zsim: schedule 7 2 13", "in interval 2, at place 13"),
+        ("zsim: stopped at the limit", "`intervals` of the machine, or 2^26 accesses"),
+        ("zsim: too long: machine", "2^20 bytes"),
+        ("zsim: usage: zsim run MACHINE EXE", "no command"),
+        ("illegal c0002573", "The word c0002573 is no instruction of RV64IMA"),
+        ("break", "A breakpoint"),
+    ],
+)
+def test_a_line_in_words(repository, line, told):
+    text = (repository / "examples/machines/server.toml").read_text().replace("[l1]\nsets = 64", "[l1]\nsets = 24")
+    assert told in explain(line, text)
+    # Without the machine there are words too.
+    assert explain(line)
+
+
+def test_the_line_in_the_file_is_named(repository):
+    text = (repository / "examples/machines/server.toml").read_text().replace("[l1]\nsets = 64", "[l1]\nsets = 24")
+    number = text.splitlines().index("sets = 24") + 1
+    assert explain("zsim: machine 6 l1.sets", text).endswith(f"It stands in line {number} of the description.")
+    assert "The nearest are 16 or 32." in explain("zsim: machine 6 l1.sets", text)
+    assert line_of("l1.ways = 3\n[l2]\n ways=4 # four\n", "l2.ways") == 3
+    assert line_of("l1.ways = 3\n", "l1.ways") == 1 and line_of("l1 = {ways = 3}", "l1.ways") is None
+    assert line_of("# [l1]\n[l1i]\n", "l1i") == 2
+
+
+NONE = "zsim|hello|zsim: machine|zsim: machine 9|zsim: machine 4|zsim: elf 13|zsim: machine 4 l1.ways many|Segmentation"
+
+
+@pytest.mark.parametrize("line", ["", *NONE.split("|"), "zsim: machine 6 colour 1 2"])
+def test_what_is_no_line_of_zsim(line):
+    assert explain(line) is None
+
+
+def test_every_line_of_the_documents_has_words(repository):
+    programs = (repository / "docs/programs.md").read_text()
+    assert {int(number) for number in re.findall(r"(?m)^\| `zsim: elf ([0-9]+)", programs)} == set(ELF)
+    halts = re.search(r"(?s)## Programs that halt(.*?)\n## ", programs)[1]
+    assert set(re.findall(r"(?m)^\| `([a-z]+)", halts)) == {"halt", *HALTS}
+    schedules = (repository / "docs/schedules.md").read_text()
+    assert {int(number) for number in re.findall(r"(?m)^\| ([0-9]) \|", schedules)} == set(SCHEDULE)
+    lines = (repository / "docs/command-line.md").read_text()
+    for line in re.findall(r"`zsim: ([a-z :]+?)(?: n`|`|: zsim run)", lines):
+        assert line in ("machine", "elf", "schedule") or line in LINES, line
+
+
+def test_the_command(command, repository, tmp_path):
+    (tmp_path / "bad.toml").write_text(PLAIN_TEXT.replace("ways = 1", "ways = 0"))
+    ended = command("explain", "zsim: machine 4 l1.ways 0", "--machine", "bad.toml")
+    assert (ended.returncode, ended.stderr) == (0, "")
+    assert ended.stdout.endswith("an integer from 1 to 16. It stands in line 13 of the description.\n")
+    # The words of the line need no quotes.
+    assert command("explain", "zsim:", "elf", "2").stdout == f"{ELF[2]}\n"
+    ended = command("explain", "hello", "world")
+    assert (ended.returncode, ended.stderr) == (2, "zsim-tools: explain: this is no line of zsim: hello world\n")
+
+
+def test_a_sweep_explains_a_refusal_once(command, twelve):
+    text = (twelve / "sweep.toml").read_text()
+    (twelve / "sweep.toml").write_text(text.replace("[1, 2, 4]", "[1, 0]"))
+    lines = command("sweep", "sweep.toml", "--out", "table.csv", "--jobs", 1).stderr.splitlines()
+    told = [line for line in lines if "has to be an integer from 1 to 16" in line]
+    assert len(told) == 1 and told[0].startswith("zsim-tools:     `l1.ways`")
+    place = lines.index(told[0])
+    assert lines[place - 1] == "zsim-tools: a.elf l1.sets=2 l1.ways=0: status 6: zsim: machine 4 l1.ways 0"
+
+
+def test_a_refusal_from_python_is_explained(fake_zsim):
+    machine = zsim_tools.read_machine("plain").changed({"l1.ways": 0})
+    with pytest.raises(zsim_tools.RunError) as refusal:
+        zsim_tools.run(machine, "gen:5", zsim=fake_zsim)
+    assert "has to be an integer from 1 to 16" in refusal.value.meaning
+    assert zsim_tools.explain("zsim: elf 2") == ELF[2]
