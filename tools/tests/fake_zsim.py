@@ -31,6 +31,7 @@ def report(machine, executable, workers):
     misses = max(1, (len(executable) * TURNS) // lines)
     hits = TURNS * len(executable) - misses
     delay = machine["controllers"]["occupancy"] * misses + (os.getpid() % 5 if workers > 1 else 0)
+    said = "hello" if b"hello" in executable else ""
     instructions, cycles = 10 * TURNS * len(executable), 20 * TURNS * len(executable) + 100 * misses + delay
     text = [
         "zsim report 1",
@@ -42,7 +43,7 @@ def report(machine, executable, workers):
         f"events {3 * misses}",
         f"core 0 instructions {instructions} cycles {cycles} delay {delay} loads {hits + misses} stores 0 atomics 0"
         f" hits {hits} upgrades 0 l2hits 0 misses {misses} halt {'break' if b'break' in executable else 'exit 0'}",
-        'core 0 console 0 ""',
+        f'core 0 console {len(said)} "{said}"',
     ]
     banks, controllers = machine["l2"]["banks"], machine["controllers"]["count"]
     text += [f"bank {bank} events {2 * misses if bank == 0 else 0} waited 0 free {cycles}" for bank in range(banks)]

@@ -5,6 +5,7 @@ import signal
 import sys
 
 from .errors import ToolError, one_line, reason
+from .table import check_output
 from .words import check_plot, parser
 
 DONE, BAD, NOT_ALL = 0, 2, 3
@@ -80,6 +81,14 @@ def plot_command(words):
     return DONE
 
 
+def run_command(words):
+    from .run_once import run_once
+
+    if words.out:
+        check_output(words.out)
+    return DONE if run_once(words, say) else NOT_ALL
+
+
 def explain_command(words):
     from .meanings import explain
     from .machine import read_machine
@@ -92,7 +101,7 @@ def explain_command(words):
     return DONE
 
 
-COMMANDS = {"show": show_command, "diff": diff_command, "sweep": sweep_command, "plot": plot_command, "explain": explain_command}
+COMMANDS = {"show": show_command, "diff": diff_command, "sweep": sweep_command, "plot": plot_command, "explain": explain_command, "run": run_command}
 
 
 def say(line):

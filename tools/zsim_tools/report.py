@@ -67,8 +67,8 @@ class Component(NamedTuple):
 class Report(NamedTuple):
     """A report of zsim. `machine`, where it is known, is the Machine of the run: the busy shares need its occupancies.
 
-    `status` is that of the run, 0 or 3, and `seconds` how long it took, where it was run by these tools. A brief report
-    has the summary alone.
+    `status` is that of the run, 0 or 3, and `seconds` how long it took, where it was run by these tools. `text` is the
+    whole report as zsim wrote it. A brief report has the summary alone.
     """
 
     name: str
@@ -79,6 +79,7 @@ class Report(NamedTuple):
     machine: object = None
     status: int | None = None
     seconds: float | None = None
+    text: str = ""
 
     @property
     def brief(self):
@@ -178,7 +179,7 @@ def parse_report(text, name="report", machine=None, status=None, seconds=None):
         match = lines.take(pattern, f'"{word} N"')
         (summary[word],) = lines.numbers(match.groups())
     if lines.at_end:
-        return Report(name, summary, machine=machine, status=status, seconds=seconds)
+        return Report(name, summary, machine=machine, status=status, seconds=seconds, text=text)
     if not summary["cores"]:
         lines.fail("a machine has at least one core", SUMMARY.index("cores") + 2)
     cores = tuple(take_core(lines, number, version) for number in range(summary["cores"]))
@@ -187,7 +188,7 @@ def parse_report(text, name="report", machine=None, status=None, seconds=None):
     if not lines.at_end:
         rest = lines.lines[lines.next] if lines.next < len(lines.lines) else lines.rest
         lines.fail(f"the report ends before this line, not with {shown(rest)}")
-    report = Report(name, summary, cores, banks, controllers, machine, status, seconds)
+    report = Report(name, summary, cores, banks, controllers, machine, status, seconds, text)
     check_sums(lines, report)
     check_machine(report)
     return report

@@ -9,6 +9,7 @@ Tables, comparisons, sweeps and plots of the reports of zsim.
 
   zsim-tools show REPORT...                  the counters and derived numbers of reports
   zsim-tools diff A B                        what changed from one report to another
+  zsim-tools run MACHINE EXE                 runs zsim once, and shows what came of it
   zsim-tools sweep SWEEP.toml --out TABLE    runs each combination of machines and executables
   zsim-tools plot TABLE --x AXIS --y NUMBER --out PLOT
                                              a curve for each executable, bars, or a heat map
@@ -78,6 +79,19 @@ its runs, it is the mean over the repeats, with a bar from the least to the grea
 their program's exit are left out."""
 
 
+RUN = """\
+Runs zsim once, says on standard error how much time has passed, and shows the consoles as text and the tables
+of show. (Nothing else is known before the end: zsim says nothing meanwhile.)
+
+  zsim-tools run examples/machines/laptop.toml examples/c/sort.elf
+  zsim-tools run examples/machines/desktop.toml examples/c/lock.elf --workers 4 --record lock.schedule
+  zsim-tools run examples/machines/desktop.toml examples/c/lock.elf --schedule lock.schedule --out lock.txt"""
+
+RUN_ENDING = """\
+Status: 0 done, and the program ended by its exit; 3 the run was refused, reached a limit or halted by a fault,
+which is explained; 2 the words, an input or an output is bad, with one line on standard error that names the
+file, the line or the key; 130 or 143 interrupted or ended."""
+
 EXPLAIN = """\
 Says what a line of zsim on standard error means, or why a core halted, and how to mend it:
 
@@ -105,6 +119,7 @@ def parser():
         ("sweep", SWEEP, SWEEP_ENDING, add_sweep),
         ("plot", PLOT, ENDING, add_plot),
         ("explain", EXPLAIN, ENDING, add_explain),
+        ("run", RUN, RUN_ENDING, add_run),
     ):
         add(commands.add_parser(name, **common(f"zsim-tools {name}", description, ending)))
     return words
@@ -155,6 +170,17 @@ def add_sweep(sweep):
 def add_program(command):
     program = "the program to run (that of this checkout, or the command zsim; the variable ZSIM names another)"
     command.add_argument("--zsim", metavar="PROGRAM", help=program)
+
+
+def add_run(run):
+    run.add_argument("machine", metavar="MACHINE", help="a machine description; plain is built in")
+    run.add_argument("executable", metavar="EXE", help="an executable, or gen:N")
+    run.add_argument("--workers", type=count, default=1, metavar="N", help="run the cores on N threads (1)")
+    run.add_argument("--record", metavar="FILE", help="write the schedule of the run to this file")
+    run.add_argument("--schedule", metavar="FILE", help="run under the schedule of this file: a replay")
+    run.add_argument("--out", metavar="REPORT", help="also write the report as zsim wrote it to this file")
+    add_program(run)
+    add_form(run)
 
 
 def add_explain(explain):
