@@ -14,7 +14,7 @@ from conftest import FETCHING, WORKED, environment
 
 import zsim_tools
 
-COMMANDS = ("show", "diff", "sweep", "plot", "explain", "run")
+COMMANDS = ("show", "diff", "sweep", "plot", "run", "describe", "explain")
 DEBIAN = "/usr/lib/python3/dist-packages"
 
 
@@ -34,7 +34,7 @@ def test_help(command):
         ([], "the following arguments are required: COMMAND (see zsim-tools --help)"),
         (
             ["shew"],
-            "argument COMMAND: invalid choice: 'shew' (choose from 'show', 'diff', 'sweep', 'plot', 'explain', 'run') (see zsim-tools --help)",
+            "argument COMMAND: invalid choice: 'shew' (choose from 'show', 'diff', 'sweep', 'plot', 'run', 'describe', 'explain') (see zsim-tools --help)",
         ),
         (["show"], "the following arguments are required: REPORT (see zsim-tools show --help)"),
         (["show", "a", "--colour"], "unrecognized arguments: --colour (see zsim-tools --help)"),

@@ -89,6 +89,19 @@ def run_command(words):
     return DONE if run_once(words, say) else NOT_ALL
 
 
+def describe_command(words):
+    from .describe import describe_json, describe_tables
+    from .machine import read_machine
+
+    machine = read_machine(words.machine)
+    if words.out:
+        from .drawing import draw
+
+        draw(machine, words.out)
+    (describe_json if words.json else describe_tables)(machine)
+    return DONE
+
+
 def explain_command(words):
     from .meanings import explain
     from .machine import read_machine
@@ -101,7 +114,15 @@ def explain_command(words):
     return DONE
 
 
-COMMANDS = {"show": show_command, "diff": diff_command, "sweep": sweep_command, "plot": plot_command, "explain": explain_command, "run": run_command}
+COMMANDS = {
+    "show": show_command,
+    "diff": diff_command,
+    "sweep": sweep_command,
+    "plot": plot_command,
+    "run": run_command,
+    "describe": describe_command,
+    "explain": explain_command,
+}
 
 
 def say(line):

@@ -13,6 +13,7 @@ Tables, comparisons, sweeps and plots of the reports of zsim.
   zsim-tools sweep SWEEP.toml --out TABLE    runs each combination of machines and executables
   zsim-tools plot TABLE --x AXIS --y NUMBER --out PLOT
                                              a curve for each executable, bars, or a heat map
+  zsim-tools describe MACHINE                what the numbers of a machine come to, and a drawing
   zsim-tools explain LINE                    what a line of zsim means, and how to mend it
 
 Each has a --help of its own. docs/tools.md tells of all, with examples and formulas."""
@@ -79,6 +80,15 @@ its runs, it is the mean over the repeats, with a bar from the least to the grea
 their program's exit are left out."""
 
 
+DESCRIBE = """\
+Says what the numbers of a machine description come to: the sizes of its caches, the cycles of each kind of
+access where nothing waits, through how many banks and controllers it goes (hops) and for how many cycles it
+keeps them busy, the bytes a cycle of each controller, and what is worth a second look:
+
+  zsim-tools describe examples/machines/desktop.toml --out desktop.svg
+
+A description that zsim refuses is explained, with the line of its file."""
+
 RUN = """\
 Runs zsim once, says on standard error how much time has passed, and shows the consoles as text and the tables
 of show. (Nothing else is known before the end: zsim says nothing meanwhile.)
@@ -118,8 +128,9 @@ def parser():
         ("diff", DIFF, ENDING, add_diff),
         ("sweep", SWEEP, SWEEP_ENDING, add_sweep),
         ("plot", PLOT, ENDING, add_plot),
-        ("explain", EXPLAIN, ENDING, add_explain),
         ("run", RUN, RUN_ENDING, add_run),
+        ("describe", DESCRIBE, ENDING, add_describe),
+        ("explain", EXPLAIN, ENDING, add_explain),
     ):
         add(commands.add_parser(name, **common(f"zsim-tools {name}", description, ending)))
     return words
@@ -181,6 +192,12 @@ def add_run(run):
     run.add_argument("--out", metavar="REPORT", help="also write the report as zsim wrote it to this file")
     add_program(run)
     add_form(run)
+
+
+def add_describe(describe):
+    describe.add_argument("machine", metavar="MACHINE", help="a machine description; plain is built in")
+    describe.add_argument("--out", metavar="DRAWING", help="also draw it, to a file .svg, .png or .pdf by its name")
+    describe.add_argument("--json", action="store_true", help="as JSON")
 
 
 def add_explain(explain):

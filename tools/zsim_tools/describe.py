@@ -1,0 +1,159 @@
+"""What the numbers of a machine description come to: sizes, cycles of each kind of access, bandwidths, domains.
+
+The times are those of docs/time-and-weave.md where nothing waits.
+"""
+
+from typing import NamedTuple
+
+from . import derived
+from .checks import refusal_of
+from .errors import ToolError
+from .meanings import explain
+from .texts import console, print_json, print_table
+
+LINE = derived.LINE
+# An interval of fewer misses than so many makes components busy in intervals to come.
+MISSES = 10
+
+
+class Access(NamedTuple):
+    """A kind of access: how many cycles it takes where nothing waits, how many banks and controllers it goes through,
+    and how many cycles it keeps its bank and its controller busy."""
+
+    name: str
+    cycles: int
+    hops: int
+    bank: int
+    controller: int
+
+
+def checked(machine):
+    """Returns the machine, or raises ToolError, which says in words why zsim would refuse it."""
+    refusal = refusal_of(machine.text)
+    if refusal:
+        raise ToolError(f"{machine.name}: {refusal.line}: {explain(refusal.line, machine.text)}")
+    return machine
+
+
+def accesses_of(values):
+    """Returns each kind of access. The first cache of a fetch is the L1I."""
+    found = accesses_by(values, "l1", "")
+    if "l1i.latency" in values:
+        fetches = accesses_by(values, "l1i", "fetch: ")
+        found += [access for access in fetches if "upgrade" not in access.name and "remote" not in access.name]
+    return found
+
+
+def accesses_by(values, cache, before):
+    first, look_up, remote = values[f"{cache}.latency"], values["l2.latency"], values["l2.remote"]
+    read, write, fill = values["controllers.read"], values["controllers.write"], values["l2.fill"]
+    bank, controller = values["l2.occupancy"], values["controllers.occupancy"]
+    name = cache.upper()
+    return [
+        Access(f"{before}{name} hit", first, 0, 0, 0),
+        Access(f"{before}upgrade, no other core has the line", first + look_up, 1, bank, 0),
+        Access(f"{before}upgrade, remote: others have it", first + look_up + remote, 1, bank, 0),
+        Access(f"{before}L2 hit", first + look_up, 1, bank, 0),
+        Access(f"{before}L2 hit, remote: another core changes its copy", first + look_up + remote, 1, bank, 0),
+        Access(f"{before}miss, clean victim", first + look_up + read + fill, 2, 2 * bank, controller),
+        Access(
+            f"{before}miss, dirty victim", first + look_up + max(read, write) + fill, 2, 2 * bank, 2 * controller
+        ),
+    ]
+
+
+def caches_of(values):
+    """Returns a row for each cache: name, where it is, sets, ways, KiB."""
+    rows = []
+    for name, where in (
+        ("l1", "each core, data"),
+        ("l1i", "each core, instructions"),
+        ("l2", f"{values['l2.banks']} banks in all"),
+    ):
+        if f"{name}.sets" in values:
+            sets, ways = values[f"{name}.sets"], values[f"{name}.ways"]
+            rows.append((name.upper(), where, sets, ways, sets * ways * LINE / 1024))
+    return rows
+
+
+def controllers_of(values):
+    """Returns a row for each controller: its number, its domain, its banks, its bytes a cycle."""
+    count, bytes_a_cycle = values["controllers.count"], LINE / values["controllers.occupancy"]
+    return [
+        (number, values["domains.controllers"][number], list(range(number, values["l2.banks"], count)), bytes_a_cycle)
+        for number in range(count)
+    ]
+
+
+def notes_of(values):
+    """Returns what is worth a second look, though zsim takes it (docs/machine-description.md)."""
+    notes = []
+    miss = accesses_of(values)[-1].cycles
+    if values["interval"] < MISSES * miss:
+        notes.append(f"an interval of {values['interval']} cycles is shorter than {MISSES} misses of {miss} cycles")
+    idle = [number for number, _, banks, _ in controllers_of(values) if not banks]
+    if idle:
+        notes.append(f"no bank goes through the controllers {', '.join(map(str, idle))}")
+    if values["cores"] > 1:
+        for what, number in (("set of the L2", values["l2.sets"]), ("bank", values["l2.banks"])):
+            if number > 1 and values["memory.stack"] % (LINE * number) == 0:
+                notes.append(f"the stacks of all cores begin in one {what}: have memory.stack a line more or less")
+                break
+    used = {*values["domains.banks"], *values["domains.controllers"]}
+    if len(used) < values["domains.count"]:
+        notes.append(f"{values['domains.count'] - len(used)} of the {values['domains.count']} domains have no component")
+    return notes
+
+
+def description_of(machine):
+    """Returns all of it as one value, for JSON."""
+    values = machine.values
+    return {
+        "machine": machine.name,
+        "caches": [dict(zip(("name", "where", "sets", "ways", "kib"), row)) for row in caches_of(values)],
+        "accesses": [access._asdict() for access in accesses_of(values)],
+        "controllers": [
+            dict(zip(("controller", "domain", "banks", "bytes_per_cycle"), row)) for row in controllers_of(values)
+        ],
+        "notes": notes_of(values),
+    }
+
+
+def describe_json(machine):
+    print_json(description_of(checked(machine)))
+
+
+def describe_tables(machine):
+    """Prints what a machine description comes to."""
+    values = checked(machine).values
+    out = console()
+    print_table(out, machine.name, ["machine", ""], general_of(values))
+    for headings, rows in (
+        (["cache", "of", "sets", "ways", "KiB"], caches_of(values)),
+        (["access", "cycles", "hops", "bank busy", "controller busy"], accesses_of(values)),
+        (["controller", "domain", "banks", "bytes a cycle"], controllers_of(values)),
+    ):
+        out.print()
+        print_table(out, "", headings, [[shown(value) for value in row] for row in rows])
+    for note in notes_of(values):
+        out.print(f"\nNote: {note}.", markup=False)
+
+
+def general_of(values):
+    whole = LINE / values["controllers.occupancy"] * sum(bool(banks) for _, _, banks, _ in controllers_of(values))
+    return [
+        ["cores", str(values["cores"])],
+        ["memory", f"{values['memory.size'] / 1024:g} KiB from {values['memory.base']:#x} on"],
+        ["stack of a core", f"{values['memory.stack']} bytes"],
+        ["intervals", f"{values['intervals']} of {values['interval']} cycles"],
+        ["bytes a cycle of a bank", shown(LINE / values["l2.occupancy"])],
+        ["bytes a cycle of memory", shown(whole)],
+        ["domains", str(values["domains.count"])],
+    ]
+
+
+def shown(value):
+    """Returns a value as a table has it."""
+    if isinstance(value, list):
+        return ", ".join(map(str, value)) or "none"
+    return f"{value:.4g}" if isinstance(value, float) else str(value)
