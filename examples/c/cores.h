@@ -22,6 +22,20 @@ static inline uint64_t first_item(uint64_t items, uint64_t core, uint64_t cores)
     return items * core / cores;
 }
 
+/* From plain.ld: where memory ends, and how many bytes each stack has. */
+extern const char end_of_memory[], stack_bytes[];
+
+/* How many bytes of a core's stack were never written, so far as they are 0 as at the start: those at
+   its far end. Where it is 0 the stack was full, and may have overflowed. */
+static inline uint64_t stack_left(long core)
+{
+    uint64_t bytes = (uint64_t)stack_bytes, left = 0;
+    const volatile char *lowest = end_of_memory - (uint64_t)(core + 1) * bytes;
+    while (left < bytes && lowest[left] == 0)
+        left++;
+    return left;
+}
+
 /* Adds to a number in one access (AMOADD), and answers what it was. */
 static inline uint64_t add_to(uint64_t *number, uint64_t value)
 {

@@ -2,7 +2,9 @@
 # picolibc-riscv64-unknown-elf. A Makefile sets PROGRAMS and includes this.
 #
 #   make            builds all executables
-#   make NAME.elf   builds one, from NAME.c
+#   make NAME.elf   builds one, from NAME.c. CORES=N, STACK=N and MEMORY=N check that the stacks of so
+#                   many cores, of so many bytes each, have room in a memory of so many bytes.
+#                   LIBRARY=1 links library.c where nothing asks for it that the linker sees
 #   make try        runs all under qemu-riscv64 (Debian's qemu-user)
 #   make clean      removes what was built in between
 
@@ -19,8 +21,24 @@ LDFLAGS = -march=rv64im -mabi=lp64 --specs=picolibc.specs -nostartfiles -static 
 
 all: $(PROGRAMS:%=%.elf)
 
-%.elf: start.o %.o $(EXAMPLES)/plain.ld
-	$(CC) $(LDFLAGS) start.o $*.o -o $@
+# What the linker script is told of the machine.
+SIZES = $(CORES:%=-Wl,--defsym=cores=%) $(STACK:%=-Wl,--defsym=stack=%) \
+    $(MEMORY:%=-Wl,--defsym=memory=%) $(LIBRARY:%=-Wl,-u,sbrk)
+
+# (a program that is there is linked again where its machine is named)
+%.elf: start.o %.o library.a $(EXAMPLES)/plain.ld $(if $(CORES)$(STACK)$(MEMORY)$(LIBRARY),again)
+	$(CC) $(LDFLAGS) $(SIZES) start.o $*.o -Wl,--start-group library.a -lc -Wl,--end-group -o $@
+
+# One object, so that either all of it is linked or nothing.
+library.a: library.o library_start.o
+	$(CC) -r -nostdlib -march=rv64ima -mabi=lp64 $^ -o library_whole.o
+	riscv64-unknown-elf-ar rcs $@ library_whole.o
+
+library.o: $(EXAMPLES)/library.c $(HEADERS)
+	$(CC) $(CFLAGS) -ftls-model=local-exec -c $< -o $@
+
+library_start.o: $(EXAMPLES)/library_start.s
+	$(CC) -march=rv64ima -mabi=lp64 -c $< -o $@
 
 %.o: %.c $(HEADERS)
 	$(CC) $(CFLAGS) -c $< -o $@
@@ -36,7 +54,9 @@ try: all
 	done
 
 clean:
-	rm -f *.o
+	rm -f *.o *.a
 
-.PHONY: all try clean
+again:
+
+.PHONY: all try clean again
 .PRECIOUS: %.o

@@ -2,9 +2,9 @@
 # number in a0, the number of cores in a1, and sp at the end of its own stack. Both numbers go to main
 # as its arguments, and what main returns is the number with which the core exits.
 #
-# tp keeps the core's number (core_number in zsim.h): there is no thread-local storage. Memory outside
-# the file's bytes is 0 at the start, so bss need not be cleared, and no core has to wait for another
-# to do it.
+# tp keeps the core's number (core_number in zsim.h), where no library is linked that has thread-local
+# storage: `call_main` is `main` then (plain.ld), and else in library_start.s. Memory outside the file's
+# bytes is 0 at the start, so bss need not be cleared, and no core has to wait for another to do it.
 
     .section .text.start, "ax"
     .globl _start
@@ -14,6 +14,7 @@ _start:
     la gp, __global_pointer$
     .option pop
     mv tp, a0
-    call main
+    .weak call_main
+    call call_main
     li a7, 93                       # exit
     ecall

@@ -9,7 +9,10 @@
 
 #ifdef __riscv
 
-static inline long environment_call(long number, long first, long second, long third)
+/* Calls have the names of the C library, whose headers can be included too. */
+#define INLINE extern inline __attribute__((gnu_inline, always_inline))
+
+INLINE long environment_call(long number, long first, long second, long third)
 {
     register long a0 __asm__("a0") = first;
     register long a1 __asm__("a1") = second;
@@ -21,23 +24,24 @@ static inline long environment_call(long number, long first, long second, long t
 
 /* Writes the first bytes to the console (file 1 or 2), at most 256 in one call. Answers how many,
    or a negative number: -14 where the bytes are not all in memory, -38 for another file. */
-static inline long write(int file, const void *bytes, size_t count)
+INLINE long write(int file, const void *bytes, size_t count)
 {
     return environment_call(64, file, (long)bytes, (long)count);
 }
 
 /* Ends the program of this core. */
-static inline _Noreturn void exit(int status)
+INLINE _Noreturn void exit(int status)
 {
     environment_call(93, status, 0, 0);
     __builtin_unreachable();
 }
 
-/* The number of this core, from 0 on. */
+/* The number of this core, from 0 on. It stands in tp; where the C library has its storage there, which
+   is in memory and so not below 64, 16 bytes before that. */
 static inline long core_number(void)
 {
     register long tp __asm__("tp");
-    return tp;
+    return tp < 64 ? tp : *(long *)(tp - 16);
 }
 
 #else
