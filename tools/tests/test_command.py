@@ -5,6 +5,7 @@ import io
 import json
 import os
 import re
+import shutil
 import subprocess
 import sys
 from pathlib import Path
@@ -242,6 +243,26 @@ def test_no_python_is_started_to_look_for_the_packages_of_debian(repository, tmp
     assert found("rich", VIRTUAL_ENV=str(tmp_path)) == "python3\n"
     assert found("rich", ZSIM_PYTHON=f"{tmp_path}/python3") == f"{tmp_path}/python3\n"
     assert (tmp_path / "started").read_text() == "started\n" * 3
+
+
+def test_the_package_installs_into_an_environment(repository, tmp_path):
+    """As docs/tools.md has it, over the packages of the Python that runs the tests, and without a network."""
+    pytest.importorskip("ensurepip", reason="there is no python3-venv")
+    pytest.importorskip("setuptools")
+    pytest.importorskip("wheel")
+    # (a copy, since what is built stands beside the sources)
+    ignored = shutil.ignore_patterns("__pycache__", "build", "*.egg-info", "tests")
+    shutil.copytree(repository / "tools", tmp_path / "tools", ignore=ignored)
+    text = (repository / "docs/tools.md").read_text()
+    lines = re.findall(r"(?m)^    ((?:python3 -m venv|environment/bin/pip) .*)$", text)
+    assert len(lines) == 2
+    unset = {name: value for name, value in os.environ.items() if name not in ("PYTHONPATH", "ZSIM_PYTHON")}
+    for line in [*lines, "environment/bin/zsim-tools explain zsim: elf 2", "environment/bin/zsim-tools describe plain"]:
+        words = line.split()
+        words[0] = sys.executable if words[0] == "python3" else words[0]
+        ended = subprocess.run(words, cwd=tmp_path, env=unset, capture_output=True, text=True, timeout=200, check=False)
+        assert ended.returncode == 0, ended.stderr
+    assert ended.stdout.startswith("plain\n")
 
 
 def loaded_by(code):

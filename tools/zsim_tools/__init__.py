@@ -5,6 +5,7 @@
     report = zsim_tools.run("examples/machines/laptop.toml", "examples/c/sort.elf")
     report.cores                    a data frame with a row for each core, and so report.banks, report.controllers
     report.derived                  the derived numbers of the run
+    zsim_tools.explain("zsim: elf 6")        what a line of zsim means, and how to mend it
     zsim_tools.sweep("sweep.toml", "sweep.csv")
     zsim_tools.read_table("sweep.csv")
 

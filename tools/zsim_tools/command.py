@@ -1,4 +1,4 @@
-"""The command line: zsim-tools show, diff, sweep and plot."""
+"""The command line: what each command of zsim-tools does."""
 
 import os
 import signal

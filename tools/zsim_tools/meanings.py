@@ -145,7 +145,8 @@ def wanted(key):
 
 
 def meaning_of(key):
-    return f" ({KEYS[key]})" if key in KEYS else ""
+    """Returns what a key is, without its unit, as ` (ways of the L1)`."""
+    return f" ({KEYS[key].partition(' (')[0]})" if key in KEYS else ""
 
 
 def missing(key):

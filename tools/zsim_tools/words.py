@@ -5,7 +5,7 @@ import argparse
 from .errors import ToolError
 
 DESCRIPTION = """\
-Tables, comparisons, sweeps and plots of the reports of zsim.
+Runs, tables, comparisons, sweeps and plots of zsim, and what its machines and refusals mean.
 
   zsim-tools show REPORT...                  the counters and derived numbers of reports
   zsim-tools diff A B                        what changed from one report to another
