@@ -122,6 +122,18 @@ def test_the_baseline_need_not_be_plotted(table, tmp_path):
     assert axes.get_title() == "ways of the L1 (lines in a set): 4, geometric mean"
 
 
+def test_an_executable_as_the_baseline(table, tmp_path):
+    options = {"where": {"l1.sets": 2}, "baseline": {"executable": "a.elf"}}
+    figure, _ = zsim_tools.plot(table, tmp_path / "a.png", "l1.ways", "instructions", **options)
+    lines = [list(container.lines[0].get_ydata()) for container in figure.axes[0].containers]
+    assert lines == [[1, 1, 1], [pytest.approx(24 / 9)] * 3]
+    alone = table[table["l1.sets"].eq(2) & table["l1.ways"].eq(1)].drop(columns=["l1.sets", "l1.ways"])
+    figure, _ = zsim_tools.plot(
+        alone, tmp_path / "a.png", "executable", "instructions", lines=["status"], baseline={"executable": "a.elf"}
+    )
+    assert list(figure.axes[0].containers[0].lines[0].get_ydata()) == [1, pytest.approx(24 / 9)]
+
+
 def repeated(table):
     """Returns a table in which each run is there three times, with more cycles each time."""
     import pandas

@@ -82,18 +82,27 @@ def relative(rows, base, baseline, y, name):
     """
     of = "cycles" if y == SPEEDUP else y
     axes = [column for column in axes_of(rows) if column not in (*baseline, "repeat")]
-    wholes = base.groupby(axes, dropna=False, sort=False)[of].mean().astype(float)
-    found = [wholes.get(tuple(key) if len(axes) > 1 else key[0]) for key in rows[axes].itertuples(index=False)]
-    for key, whole in zip(rows[axes].itertuples(index=False), found):
-        if whole is None or not whole > 0:
+    wholes = {}
+    for key, value in zip(keys_in(base, axes), base[of]):
+        wholes.setdefault(key, []).append(float(value))
+    found = []
+    for key in keys_in(rows, axes):
+        repeats = wholes.get(key)
+        if not repeats or not sum(repeats) > 0:
             told = ", ".join(f"{column} = {value}" for column, value in zip(axes, key))
-            what = "no row" if whole is None else f"no {of} above 0"
+            what = f"no {of} above 0" if repeats else "no row"
             raise ToolError(f"{name}: --baseline: there is {what} for {told}")
+        found.append(sum(repeats) / len(repeats))
     values = [float(value) for value in rows[of]]
     if y == SPEEDUP and 0 in values:
         raise ToolError(f"{name}: {SPEEDUP}: a run has no cycles")
     made = [whole / value if y == SPEEDUP else value / whole for value, whole in zip(values, found)]
     return rows.assign(**{y: made})
+
+
+def keys_in(rows, columns):
+    """Returns the values that each row has in the columns."""
+    return list(rows[columns].itertuples(index=False, name=None)) if columns else [()] * len(rows)
 
 
 def with_geometric_mean(rows, y, keep, name):

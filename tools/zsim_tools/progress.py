@@ -4,7 +4,6 @@ import sys
 import threading
 
 from . import ticker
-from .meanings import explain
 from .sweeps import Watcher
 from .ticker import Ticker, duration
 
@@ -57,6 +56,8 @@ class Progress(Watcher):
         """Says what a line of zsim means, or why a core halted, the first time that it comes."""
         line = ended.outcome.line or ended.failure.rpartition("halted: ")[2]
         if line not in self.explained:
+            from .meanings import explain  # (which most sweeps need not load)
+
             self.explained.add(line)
             meaning = explain(line, ended.run.machine.text)
             if meaning:
