@@ -1,5 +1,6 @@
-"""Stands in for zsim: takes its words, and prints a report that is made up of the machine's numbers. With several workers
-each run has some cycles more or less, as if its cores raced.
+"""Stands in for zsim: takes its words, and prints a report that is made up of the machine's numbers.
+
+With several workers each run has some cycles more or less, as if its cores raced.
 
 It refuses what the tests of sweeps have refused, as zsim does. The variables FAKE_LOG and FAKE_HOLD name files: each
 run appends a line to the first as it begins, and with the sixth line and the later ones, runs wait while the second is

@@ -1,6 +1,6 @@
-"""The checks of a machine description, as zsim makes them: in its order, with its numbers (docs/machine-description.md).
+"""The checks of a machine description as zsim makes them, in its order and with its numbers.
 
-They say which line zsim would give, without running it. zsim's own answer is the one that counts.
+They say which line zsim would give (`docs/machine-description.md`), without running it. zsim's own answer is the one that counts.
 """
 
 import tomllib

@@ -1,4 +1,4 @@
-"""The rows that a plot shows: which of a table's, what they are compared with, and what several of them have in common."""
+"""The rows that a plot shows: which ones of a table, what they are compared with, and what several come to."""
 
 import difflib
 from math import exp, log

@@ -1,4 +1,4 @@
-"""Runs zsim once for a person at a terminal: says meanwhile how much time has passed, and then shows what came of it."""
+"""Runs zsim once for a person at a terminal: says how much time has passed, and then shows what came of it."""
 
 import sys
 
