@@ -74,6 +74,8 @@ def plot(
     """
     check_ending_of(out, ENDINGS, "plot")
     x = x or ("executable" if bars else None)
+    if x is None or y is None:
+        raise ToolError("a plot needs the columns x and y")
     columns = [heat] if heat else list(bars) or list(lines) or ([] if geomean else ["executable"])
     columns = [column for column in columns if column != x]
     rows, left_out = rows_of(table, x, y, columns, where or {}, baseline or {}, with_limits, name)
