@@ -74,6 +74,14 @@ def test_the_files_that_a_reader_must_believe_have_the_lines_that_are_told(repos
         assert [int(count.split()[-1]) for count in counts.split(",")] == lines, names
 
 
+def test_what_the_documents_point_to_is_there(repository):
+    pages = [*repository.glob("*.md"), *repository.glob("docs/*.md"), *repository.glob("examples/**/*.md")]
+    links = [(page, link) for page in pages for link in re.findall(r"\]\(([^)#:]+)(?:#[^)]*)?\)", page.read_text())]
+    assert len(links) > 5
+    for page, link in links:
+        assert (page.parent / link).exists(), f"{page}: {link}"
+
+
 @pytest.mark.parametrize("name, runs", [("matrix.toml", 48), ("stream.toml", 64)])
 def test_the_sweeps_of_the_examples_are_read(repository, name, runs):
     planned = read_sweep(repository / "examples/sweeps" / name).planned()
