@@ -1,6 +1,6 @@
 //! The machines of the tests.
-ghost use Rattle.std.specs.Prelude.{◌≡◌, ◌<◌, ◌≤◌, ◌%◌, All, IfOk, length};
-ghost use Rattle.machine_desc.specs.Machine.{IsMachine};
+ghost use Rattle.std.specs.Prelude.{◌≡◌, ◌<◌, ◌≤◌, ◌%◌, All, IfOk, IfSome, length};
+ghost use Rattle.machine_desc.specs.Machine.{IsL1, IsMachine};
 
 use machine_desc::{Controllers, Domains, L1, L2, Machine, Memory, Places};
 use std::alloc::Global;
@@ -15,20 +15,22 @@ fn places(alloc: Global, count: u16) -> Result<Places, NoMemory>
 }
 
 /// A machine of two cores and so many banks in one domain, with the caches and the memory of the
-/// built-in one.
-pub(crate) fn two_cores(alloc: Global, banks: u16) -> Result<Machine, NoMemory>
+/// built-in one, and with instruction caches if they are given.
+pub(crate) fn two_cores(alloc: Global, banks: u16, l1i: Option<L1>) -> Result<Machine, NoMemory>
     requires some { 1 ≤ banks }
     requires few { banks ≤ 64 }
     requires l1 { 2 % banks ≡ 0 }
     requires l2 { 4 % banks ≡ 0 }
+    requires l1i { IfSome l1i (IsL1 banks) }
     ensures machine { IfOk result IsMachine }
     ensures cores { IfOk result (λ m. m.cores ≡ 2) }
+    ensures l1i { IfOk result (λ m. m.l1i ≡ l1i) }
     ensures banks { IfOk result (λ m. m.l2.banks ≡ banks) }
     ensures base { IfOk result (λ m. m.memory.base ≡ 65536) }
     ensures size { IfOk result (λ m. m.memory.size ≡ 1048576) }
 {
     Ok(Machine {
-        version: 1,
+        version: if l1i.is_some() { 2 } else { 1 },
         cores: 2,
         interval: 10_000,
         intervals: 100_000,
@@ -42,7 +44,7 @@ pub(crate) fn two_cores(alloc: Global, banks: u16) -> Result<Machine, NoMemory>
             ways: 1,
             latency: 1,
         },
-        l1i: None,
+        l1i,
         l2: L2 {
             banks,
             sets: 4,

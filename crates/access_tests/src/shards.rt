@@ -1,16 +1,19 @@
 //! Accesses of two cores to one shard, with outcomes, letters and stamps worked by hand on the
 //! numbers of the built-in machine: two sets of one way in each core's own cache, and four of two
 //! ways in the shared one.
-ghost use Rattle.std.specs.Prelude.{◌≡◌, ◌%◌, ◌<◌, ◌≤◌, length, IfOk, IsTrue, false};
+ghost use Rattle.std.specs.Prelude.{◌≡◌, ◌%◌, ◌<◌, ◌≤◌, Bool, length, IfOk, IfSome, IsTrue, is_some};
+ghost use Rattle.machine_desc.specs.Machine.{IsL1};
 ghost use Rattle.zs_num.specs.Request.{addr_of, bank_of_line, line_at};
-ghost use Rattle.zs_num.specs.Servable.{IsServable};
+ghost use Rattle.zs_num.specs.Servable.{IsServable, MayFetch};
+ghost use Rattle.shard.specs.HaveL1i.{have_l1i};
 
 use crate::checks::is_number;
 use crate::machines::two_cores;
-use Access::{Load, Reserve, Store, StoreIf};
+use Access::{Fetch, Load, Reserve, Store, StoreIf};
 use cache_set::Letter;
 use cache_set::Letter::{E, I, M, S};
 use elf_load::{Image, load};
+use machine_desc::L1;
 use shard::Shard;
 use std::alloc::Global;
 use std::process::Abort;
@@ -39,9 +42,10 @@ fn image(alloc: Global) -> Result<Image, Fail>
     Ok(load(alloc, &FILE, BASE, SIZE)?)
 }
 
-/// An access to eight bytes.
+/// An access to eight bytes, or the fetch of four.
 #[derive(Clone, Copy)]
 enum Access {
+    Fetch(u64),
     Load(u64),
     Store(u64, u64),
     Reserve(u64),
@@ -51,9 +55,10 @@ enum Access {
 
 impl Access {
     fn request(self) -> Request
-        ensures { addr_of result % 8 ≡ 0 → 65536 ≤ addr_of result → addr_of result < 1114112 → IsServable 65536 1048576 false result }
+        ensures { (l1i : Bool) → MayFetch l1i result → addr_of result % 8 ≡ 0 → 65536 ≤ addr_of result → addr_of result < 1114112 → IsServable 65536 1048576 l1i result }
     {
         match self {
+            Fetch(addr) => Request::Fetch { addr },
             Load(addr) => Request::Load { addr, width: 8 },
             Store(addr, value) => Request::Store {
                 addr,
@@ -83,25 +88,30 @@ type Stamped = (u16, u16, Stamp, Access, Stamp);
 struct Tested {
     shard: Shard,
     banks: u16,
+    // Whether the machine has instruction caches.
+    l1i: bool,
     ghost base: { shard.base ≡ 65536 },
     ghost size: { shard.size ≡ 1048576 },
     ghost cores: { length shard.marks ≡ 2 },
     ghost shards: { shard.caches.shards ≡ banks },
+    ghost caches: { have_l1i shard.caches ≡ l1i },
 }
 
 impl Tested {
-    /// The shard of a number, of so many.
-    fn fresh(alloc: Global, banks: u16, number: u16) -> Result<Self, Fail>
+    /// The shard of a number, of so many, with instruction caches if they are given.
+    fn fresh(alloc: Global, banks: u16, number: u16, l1i: Option<L1>) -> Result<Self, Fail>
         requires some { 1 ≤ banks }
         requires few { banks ≤ 64 }
         requires l1 { 2 % banks ≡ 0 }
         requires l2 { 4 % banks ≡ 0 }
         requires number { number < banks }
+        requires l1i { IfSome l1i (IsL1 banks) }
     {
-        let machine = two_cores(alloc, banks)?;
+        let machine = two_cores(alloc, banks, l1i)?;
         let image = image(alloc)?;
         let shard = Shard::new(alloc, &machine, number, &image)?;
-        Ok(Tested { shard, banks })
+        let l1i = l1i.is_some();
+        Ok(Tested { shard, banks, l1i })
     }
 
     /// The line of an address is one of the shard's.
@@ -111,6 +121,17 @@ impl Tested {
         self.banks > 0 && addr / LINE % u64::from(self.banks) == u64::from(self.shard.number())
     }
 
+    /// The machine has an instruction cache for an access that wants one.
+    fn may_be_asked(&self, request: &Request) -> bool
+        ensures { IsTrue result → MayFetch (have_l1i self.now.shard.caches) request.now }
+    {
+        match *request {
+            Request::Fetch { .. } => self.l1i,
+            Request::Load { .. } | Request::Lr { .. } => true,
+            Request::Store { .. } | Request::Sc { .. } | Request::Amo { .. } => true,
+        }
+    }
+
     /// The entry of an access of a core whose own last stamp is `last`.
     #[tactic(auto, unfolding(shard::specs::Served::CanServe))]
     fn ask<R: Abort>(&mut self, rt: &R, core: u16, last: Stamp, access: Access) -> Entry {
@@ -118,6 +139,7 @@ impl Tested {
         let addr = request.addr();
         assert!(rt; core < 2 && last < 1000 && self.shard.last() < 1000);
         assert!(rt; addr % 8 == 0 && addr >= BASE && addr < BASE + SIZE && self.has(addr));
+        assert!(rt; self.may_be_asked(&request));
         self.shard.serve(core, 0, last, request)
     }
 
@@ -264,11 +286,49 @@ fn plays<R: Abort>(
     bytes: &[(u64, u8)],
     later: &[Step],
 ) -> Result<(), Fail> {
-    let mut t = Tested::fresh(alloc, 1, 0)?;
+    let mut t = Tested::fresh(alloc, 1, 0, None)?;
     t.begins(rt, 0);
     t.answers(rt, first);
     t.holds(rt, bytes);
     t.answers(rt, later);
+    Ok(())
+}
+
+/// Instruction caches of two sets of one way.
+const L1I: L1 = L1 {
+    sets: 2,
+    ways: 1,
+    latency: 1,
+};
+
+static FETCHED: [Step; 5] = [
+    (0, Fetch(0x11000), MISS, 0, (I, I), CLEAN),
+    (0, Fetch(0x11000), HIT, 0, (I, I), CLEAN),
+    (0, Store(0x11000, 5), L2_ALONE, 0, (M, I), CLEAN),
+    (0, Fetch(0x11000), HIT, 0, (M, I), CLEAN),
+    (1, Fetch(0x11000), L2_ALONE, 0, (M, I), CLEAN),
+];
+
+static THEN_LOADED: [Step; 2] = [
+    (1, Load(0x11100), MISS, 0, (M, I), CLEAN),
+    (1, Load(0x11200), MISS_DIRTY, 0, (I, I), None),
+];
+
+/// Whether the instruction caches of core 0 and core 1 have line 0x440.
+fn has_fetched<R: Abort>(rt: &R, t: &Tested, holds: bool) {
+    assert!(rt; t.shard.fetch_holds(0, 0x440) == holds && t.shard.fetch_holds(1, 0x440) == holds);
+}
+
+#[test]
+fn a_fetched_line_stays_where_it_is_written_and_leaves_with_the_shared_cache(
+    rt: HostRuntime,
+) -> Result<(), Fail> {
+    let mut t = Tested::fresh(rt.alloc(), 1, 0, Some(L1I))?;
+    has_fetched(&rt, &t, false);
+    t.answers(&rt, &FETCHED);
+    has_fetched(&rt, &t, true);
+    t.answers(&rt, &THEN_LOADED);
+    has_fetched(&rt, &t, false);
     Ok(())
 }
 
@@ -315,7 +375,7 @@ fn stamps<R: Abort>(
 ) -> Result<(), Fail>
     requires { number < 2 }
 {
-    let mut t = Tested::fresh(alloc, 2, number)?;
+    let mut t = Tested::fresh(alloc, 2, number, None)?;
     t.stamps(rt, &STAMPED, last);
     t.goes_on(rt, earlier);
     Ok(())

@@ -1,5 +1,5 @@
 -- The steps of an access, put together.
-use Rattle.std.proofs.Common.{◌≡◌, ◌≢◌, ℕ, ◌-◌, ◌<◌, Bool, true, false, cond, List, [], length, get_or, set, take, Option, Some, None, refl, sym, ap, ◌∙◌, subst, inl, inr}
+use Rattle.std.proofs.Common.{◌≡◌, ◌≢◌, ℕ, ◌-◌, ◌<◌, Bool, true, false, cond, List, [], length, get_or, map, set, take, Option, Some, None, refl, sym, ap, ◌∙◌, subst, inl, inr}
 use Rattle.std.specs.Prelude.{IsSome, nat_eq}
 use Rattle.std.proofs.lemmas.Bool.{eq-eqb, ne_eqb, cases_eq, cases_lt, cases_Bool}
 use Rattle.std.proofs.lemmas.List.{get_or-set_same, get_or-set_other, get_or_past, length-map, length-set}
@@ -8,8 +8,8 @@ use Rattle.zs_num.specs.declared.entry.Outcome.TheVariants.{L2}
 use Rattle.cache_set.specs.declared.letter.Letter.{Letter}
 use Rattle.cache_set.specs.declared.letter.Letter.TheVariants.{M, E, S, I}
 use Rattle.cache_set.specs.Ways.{kept_of, without, used, changed}
-use Rattle.shard.specs.CacheSteps.{ChangesOne, DropsAll, DropsOthers, LeavesFree, EvictsCopies, EvictsOwn, after_at, copies_at}
-use Rattle.shard.specs.Coherence.{Caches, dirty_at, in_own_set_of, is_alone, is_valid, is_modified, l2_victim, letter_at, looked_up, marked_dirty, on_others, other_after, others_changed, own_after, own_victim, recalled, copies_evicted, some_other, filled_into_l1, filled_into_l2, written_back}
+use Rattle.shard.specs.CacheSteps.{ChangesOne, DropsAll, DropsOthers, LeavesFree, EvictsCopies, EvictsOwn, copies_at}
+use Rattle.shard.specs.Coherence.{Caches, after_at, dirty_at, in_own_set_of, instructions_recalled, is_alone, is_valid, is_modified, l2_victim, letter_at, looked_up, marked_dirty, on_others, other_after, others_changed, own_after, own_victim, recalled, copies_evicted, some_other, filled_into_l1, filled_into_l2, written_back}
 use Rattle.shard.specs.Lines.{in_set_of, set_number, set_of}
 use Rattle.shard.proofs.Entries.{still_there, used_kept}
 use Rattle.shard.proofs.Others.{fills, has_left}
@@ -218,6 +218,13 @@ dirty_recalled v c q = refl
 victim_recalled : (v : ℕ) (c : Caches) (q : ℕ) → l2_victim (recalled v c) q ≡ l2_victim c q
 unfolding recalled
 victim_recalled v c q = refl
+
+-- where there are no instruction caches, no instruction leaves
+pub data_recalled : (v : ℕ) (c : Caches) → c.l1i ≡ [] → instructions_recalled v (recalled v c) ≡ recalled v c
+unfolding recalled instructions_recalled
+data_recalled v c none =
+    let same : map (in_set_of c.shards v (without v)) c.l1i ≡ c.l1i = rw none refl in
+    ap (λ (l1i : List (List (List (ℕ × Unit {0})))). record (recalled v c) { l1i = l1i }) same
 
 pub l2_room : (c new : Caches) (line : ℕ) (victim : ℕ × Bool) → l2_victim c line ≡ Some victim → new ≡ recalled victim.0 c → DropsAll c new victim.0 → EvictsCopies c new line
 l2_room c new line victim is after drops = record {

@@ -229,16 +229,16 @@ map_replicate f x zero = refl
 map_replicate {X} {Y} f x (suc n) = ap (λ (ys : List Y). f x ∷ ys) (map_replicate f x n)
 
 pub empty_view : (cores shards l1_sets l1_ways l2_sets l2_ways : ℕ)
-    → lists_view shards l1_ways l2_ways (replicate cores (no_copies shards l1_ways l1_sets)) (replicate l2_sets (no_shared l2_ways cores)) ≡ empty_caches cores shards l1_sets l1_ways l2_sets l2_ways
+    → lists_view shards l1_ways l2_ways (replicate cores (no_copies shards l1_ways l1_sets)) (replicate l2_sets (no_shared l2_ways cores)) ≡ empty_caches cores shards l1_sets l1_ways 0 0 0 l2_sets l2_ways
 empty_view cores shards l1_sets l1_ways l2_sets l2_ways =
     rw (map_replicate (λ (c : CoreLines). c.sets) (no_copies shards l1_ways l1_sets) cores, map_replicate (λ (s : SharedLines). s.list) (no_shared l2_ways cores) l2_sets) refl
 
-empty_letter : (cores shards l1_sets l1_ways l2_sets l2_ways : ℕ) (core line : ℕ) → letter_at (empty_caches cores shards l1_sets l1_ways l2_sets l2_ways) core line ≡ I
+empty_letter : (cores shards l1_sets l1_ways l2_sets l2_ways : ℕ) (core line : ℕ) → letter_at (empty_caches cores shards l1_sets l1_ways 0 0 0 l2_sets l2_ways) core line ≡ I
 unfolding letter_at
 empty_letter cores shards l1_sets l1_ways l2_sets l2_ways core line =
     let none : List (ℕ × Letter) = [] in
     let sets : List (List (ℕ × Letter)) = replicate l1_sets none in
-    elim (cases_lt core cores) as (λ _. letter_at (empty_caches cores shards l1_sets l1_ways l2_sets l2_ways) core line ≡ I) [
+    elim (cases_lt core cores) as (λ _. letter_at (empty_caches cores shards l1_sets l1_ways 0 0 0 l2_sets l2_ways) core line ≡ I) [
       | inl l ↦ rw (get_or-replicate cores core sets [] l, none_in {X = ℕ × Letter} l1_sets (line / shards % length sets)) refl
       | inr l ↦ rw (get_or_past (replicate cores sets) core [] (omega (arith, length-replicate cores sets))) refl
     ]

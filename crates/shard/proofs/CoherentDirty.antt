@@ -1,11 +1,11 @@
 -- Whether a line is dirty in the L2, where it is there, after each step of an access.
-use Rattle.std.proofs.Common.{◌≡◌, ◌≢◌, ℕ, ◌<◌, ◌≤◌, Bool, true, false, cond, List, [], length, Option, Some, None, is_some, refl, arith, inl, inr}
+use Rattle.std.proofs.Common.{◌≡◌, ◌≢◌, ℕ, ◌<◌, ◌≤◌, Bool, true, false, cond, List, [], length, Option, Some, None, is_some, refl, ◌∙◌, arith, inl, inr}
 use Rattle.std.specs.Option.{option_map_or}
 use Rattle.std.proofs.lemmas.Bool.{cases_eq}
 use Rattle.std.proofs.lemmas.List.{get_or-set_same, length-set}
 use Rattle.cache_set.specs.declared.letter.Letter.{Letter}
 use Rattle.cache_set.specs.Ways.{used, filled, changed}
-use Rattle.shard.specs.Coherence.{Caches, dirty_at, is_modified, kept_first, l2_victim, looked_up, marked_dirty, others_changed, own_victim, recalled, copies_evicted, filled_into_l1, filled_into_l2, written_back}
+use Rattle.shard.specs.Coherence.{Caches, dirty_at, filled_into_l1i, instructions_recalled, on_l1i, used_in_l1i, is_modified, kept_first, l2_victim, looked_up, marked_dirty, others_changed, own_victim, recalled, copies_evicted, filled_into_l1, filled_into_l2, written_back}
 use Rattle.shard.specs.Lines.{set_of, set_number}
 use Rattle.shard.specs.StandsFor.{HaveSets, IsSet}
 use Rattle.shard.proofs.CoherentLetters.{at_victim, kept_here}
@@ -18,14 +18,18 @@ l2_set c h line =
     let Is : List (ℕ × Bool) → Type 0 = IsSet c.l2_ways in
     at_or Is c.l2 (set_number c.shards line c.l2) [] h.l2 (set_nil c.l2_ways)
 
--- ---- steps on the L1s alone
+-- ---- steps on the L1s and the L1Is alone
 pub dirty_recalled : (line : ℕ) (c : Caches) (l : ℕ) → dirty_at (recalled line c) l ≡ dirty_at c l
 unfolding dirty_at recalled
 dirty_recalled line c l = refl
 
+pub dirty_instructions : (line : ℕ) (c : Caches) (l : ℕ) → dirty_at (instructions_recalled line c) l ≡ dirty_at c l
+unfolding dirty_at instructions_recalled
+dirty_instructions line c l = refl
+
 pub dirty_copies_evicted : (victim : Option (ℕ × Bool)) (c : Caches) (l : ℕ) → dirty_at (copies_evicted victim c) l ≡ dirty_at c l
 dirty_copies_evicted None c l = refl
-dirty_copies_evicted (Some victim) c l = dirty_recalled victim.0 c l
+dirty_copies_evicted (Some victim) c l = dirty_instructions victim.0 (recalled victim.0 c) l ∙ dirty_recalled victim.0 c l
 
 pub dirty_others : (change : Letter → Letter) (core line : ℕ) (c : Caches) (l : ℕ) → dirty_at (others_changed change core line c) l ≡ dirty_at c l
 unfolding dirty_at others_changed
@@ -39,6 +43,11 @@ dirty_first core line letter c l = refl
 pub dirty_taken : (core line : ℕ) (letter : Letter) (c : Caches) (l : ℕ) → dirty_at (filled_into_l1 core line letter c) l ≡ dirty_at (written_back (own_victim c core line) c) l
 unfolding dirty_at filled_into_l1
 dirty_taken core line letter c l = refl
+
+pub dirty_on_l1i : (held : Bool) (core line : ℕ) (c : Caches) (l : ℕ) → dirty_at (on_l1i held core line c) l ≡ dirty_at c l
+unfolding dirty_at used_in_l1i filled_into_l1i
+dirty_on_l1i true core line c l = refl
+dirty_on_l1i false core line c l = refl
 
 -- ---- a line that is dirty from now on
 pub dirty_marked_same : (line : ℕ) (c : Caches) → dirty_at (marked_dirty line c) line ≡ option_map_or (λ _. Some true) (dirty_at c line) None

@@ -1,5 +1,5 @@
 -- The letter that a core has for a line after each step of an access.
-use Rattle.std.proofs.Common.{◌≡◌, ◌≢◌, ℕ, ◌-◌, ◌<◌, ◌≤◌, true, false, cond, eqb, List, [], ◌∷◌, length, get_or, map, set, Option, Some, None, refl, sym, ap, ◌∙◌, subst, arith}
+use Rattle.std.proofs.Common.{◌≡◌, ◌≢◌, ℕ, ◌-◌, ◌<◌, ◌≤◌, Bool, true, false, cond, eqb, List, [], ◌∷◌, length, get_or, map, set, Option, Some, None, refl, sym, ap, ◌∙◌, subst, arith}
 use Rattle.std.specs.List.{All, IsDistinct, enumerate_from}
 use Rattle.std.specs.Map.{keys_of}
 use Rattle.std.specs.Option.{option_map_or}
@@ -11,7 +11,7 @@ use Rattle.std.proofs.lemmas.Option.{get_or_from_slice_get, slice_get_within}
 use Rattle.cache_set.specs.declared.letter.Letter.{Letter}
 use Rattle.cache_set.specs.declared.letter.Letter.TheVariants.{M, E, S, I}
 use Rattle.cache_set.specs.Ways.{kept_of, without, filled, victim_of}
-use Rattle.shard.specs.Coherence.{Caches, in_own_set_of, is_modified, kept_first, letter_at, letter_in, looked_up, marked_dirty, others_changed, own_victim, recalled, filled_into_l1, filled_into_l2, with_letter, written_back}
+use Rattle.shard.specs.Coherence.{Caches, filled_into_l1i, in_own_set_of, instructions_recalled, is_modified, kept_first, on_l1i, used_in_l1i, letter_at, letter_in, looked_up, marked_dirty, others_changed, own_victim, recalled, filled_into_l1, filled_into_l2, with_letter, written_back}
 use Rattle.shard.specs.Lines.{set_of, in_set_of, set_number}
 use Rattle.shard.specs.StandsFor.{HaveSets, IsSet}
 use Rattle.shard.proofs.CoherentLines.{kept_changed_other, kept_changed_same, kept_elsewhere, kept_filled_other, kept_filled_room, kept_filled_same, kept_filled_victim, kept_front_other, kept_front_same, kept_without_other, kept_without_same, set_same}
@@ -48,6 +48,16 @@ letter_written_back None c core l = refl
 letter_written_back (Some victim) c core l =
     elim (is_modified victim.1) as (λ b. letter_at (cond b (marked_dirty victim.0 c) c) core l ≡ letter_at c core l)
     [ true ↦ letter_marked victim.0 c core l | false ↦ refl ]
+
+-- ---- steps on the instruction caches alone
+pub letter_instructions : (line : ℕ) (c : Caches) (core l : ℕ) → letter_at (instructions_recalled line c) core l ≡ letter_at c core l
+unfolding letter_at instructions_recalled
+letter_instructions line c core l = refl
+
+pub letter_on_l1i : (held : Bool) (core line : ℕ) (c : Caches) (a l : ℕ) → letter_at (on_l1i held core line c) a l ≡ letter_at c a l
+unfolding letter_at used_in_l1i filled_into_l1i
+letter_on_l1i true core line c a l = refl
+letter_on_l1i false core line c a l = refl
 
 -- ---- a line that no core has any more
 -- a change that leaves an empty set empty

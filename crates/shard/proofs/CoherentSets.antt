@@ -16,9 +16,11 @@ held_all (e ∷ s) h = All-cons (λ (way : ℕ × Letter). is_valid way.1 ≡ tr
 pub sets_of_fit : (c : Caches) → Fits c → Placed c → HaveSets c
 sets_of_fit c f p = record {
   l1 = All-weaker (All (IsL1 c.l1_ways)) (All (IsSet c.l1_ways)) (λ sets h. All-weaker (IsL1 c.l1_ways) (IsSet c.l1_ways) (λ s k. k.fits) sets h) c.l1 f.l1;
+  l1i = f.l1i;
   l2 = f.l2;
   held = λ core n. held_all (get_or (get_or c.l1 core []) n []) (at_or (IsL1 c.l1_ways) (get_or c.l1 core []) n [] (own_sets c f core) (l1_nil c.l1_ways)).held;
   l1_placed = λ core n. stand_all c.shards (length (get_or c.l1 core [])) n (get_or (get_or c.l1 core []) n []) ((p.l1 core).each n);
+  l1i_placed = λ core n. stand_all c.shards (length (get_or c.l1i core [])) n (get_or (get_or c.l1i core []) n []) ((p.l1i core).each n);
   l2_placed = λ n. stand_all c.shards (length c.l2) n (get_or c.l2 n []) (p.l2.each n);
 }
 
@@ -39,11 +41,13 @@ fit_of_sets c h = record {
   l1 = All-from_get_or (All (IsL1 c.l1_ways)) c.l1 []
       (λ core known. All-from_get_or (IsL1 c.l1_ways) (get_or c.l1 core []) []
       (λ n there. record { fits = h.l1 core [] known n [] there; held = all_held (get_or (get_or c.l1 core []) n []) (h.held core n) }));
+  l1i = h.l1i;
   l2 = h.l2;
 }
 
 pub placed_of_sets : (c : Caches) → HaveSets c → Placed c
 placed_of_sets c h = record {
   l1 = λ core. record { many = refl; each = λ n. all_stand c.shards (length (get_or c.l1 core [])) n (get_or (get_or c.l1 core []) n []) (h.l1_placed core n) };
+  l1i = λ core. record { many = refl; each = λ n. all_stand c.shards (length (get_or c.l1i core [])) n (get_or (get_or c.l1i core []) n []) (h.l1i_placed core n) };
   l2 = record { many = refl; each = λ n. all_stand c.shards (length c.l2) n (get_or c.l2 n []) (h.l2_placed n) };
 }

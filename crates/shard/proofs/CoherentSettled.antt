@@ -7,17 +7,26 @@ use Rattle.std.proofs.lemmas.List.Folds.{list_any_at}
 use Rattle.std.proofs.lemmas.List.FromFn.{get_or-range_with_len, length-range_with_len}
 use Rattle.cache_set.specs.declared.letter.Letter.{Letter}
 use Rattle.cache_set.specs.declared.letter.Letter.TheVariants.{M, E, S, I}
-use Rattle.shard.specs.Coherence.{Caches, dirty_at, is_alone, is_valid, letter_at, some_other}
+use Rattle.shard.specs.Coherence.{Caches, dirty_at, fetch_holds, is_alone, is_valid, letter_at, some_other}
 use Rattle.shard.specs.StandsFor.{AreCoherent, HaveSets}
 
--- What an access of a core to a line leaves of coherent caches: its letter and the others' for the line agree, and for
--- other lines letters are as they were, or lost.
-pub record Settles (c d : Caches) (core line : ℕ) : Type 0 where
+-- What an access to a line leaves of coherent caches: the letters for the line agree, for other lines letters are as they
+-- were, or lost, and the L2 has what the cores have.
+pub record Settles (c d : Caches) (line : ℕ) : Type 0 where
   pub others : (a l : ℕ) → l ≢ line → (letter_at d a l ≡ letter_at c a l) ⊎ (letter_at d a l ≡ I)
-  pub alone : is_alone (letter_at d core line) ≡ true → (a : ℕ) → a ≢ core → letter_at d a line ≡ I
-  pub shared : (a : ℕ) → a ≢ core → is_alone (letter_at d a line) ≡ false
+  pub single : (a b : ℕ) → b ≢ a → is_alone (letter_at d a line) ≡ true → letter_at d b line ≡ I
   pub lines : (a l : ℕ) → l ≢ line → is_valid (letter_at d a l) ≡ true → is_some (dirty_at d l) ≡ true
+  pub fetched : (a l : ℕ) → l ≢ line → fetch_holds d a l ≡ true → is_some (dirty_at d l) ≡ true
   pub there : is_some (dirty_at d line) ≡ true
+
+-- letters for a line agree where one core's agrees with the others' and none of these is alone
+pub single_by : (d : Caches) (core line : ℕ) → (is_alone (letter_at d core line) ≡ true → (a : ℕ) → a ≢ core → letter_at d a line ≡ I)
+    → ((a : ℕ) → a ≢ core → is_alone (letter_at d a line) ≡ false) → (a b : ℕ) → b ≢ a → is_alone (letter_at d a line) ≡ true → letter_at d b line ≡ I
+single_by d core line lone shared a b apart alone =
+    elim (cases_eq a core) as (λ _. letter_at d b line ≡ I) [
+      | inl e ↦ lone (subst (λ (x : ℕ). is_alone (letter_at d x line) ≡ true) e alone) b (λ k. apart (k ∙ sym e))
+      | inr e ↦ let bad : true ≡ false = sym alone ∙ shared a e in absurd cc
+    ]
 
 lone_is_held : (x : Letter) → is_alone x ≡ true → is_valid x ≡ true
 lone_is_held M h = refl
@@ -31,7 +40,7 @@ lost x e h = let bad : is_valid I ≡ true = rw e at h in absurd cc
 pub lost_alone : (x : Letter) → x ≡ I → is_alone x ≡ false
 lost_alone x e = rw e refl
 
-module _ (c d : Caches) (core line : ℕ) (h : AreCoherent c) (s : Settles c d core line) where
+module _ (c d : Caches) (line : ℕ) (h : AreCoherent c) (s : Settles c d line) where
   single_other : (a b l : ℕ) → b ≢ a → l ≢ line → is_alone (letter_at d a l) ≡ true → letter_at d b l ≡ I
   single_other a b l apart other alone =
       let before : letter_at c b l ≡ I
@@ -41,23 +50,20 @@ module _ (c d : Caches) (core line : ℕ) (h : AreCoherent c) (s : Settles c d c
       ] in
       elim (s.others b l other) as (λ _. letter_at d b l ≡ I) [ inl same ↦ same ∙ before | inr gone ↦ gone ]
 
-  single_line : (a b : ℕ) → b ≢ a → is_alone (letter_at d a line) ≡ true → letter_at d b line ≡ I
-  single_line a b apart alone =
-      elim (cases_eq a core) as (λ _. letter_at d b line ≡ I) [
-        | inl e ↦ s.alone (subst (λ (x : ℕ). is_alone (letter_at d x line) ≡ true) e alone) b (λ k. apart (k ∙ sym e))
-        | inr e ↦ let bad : true ≡ false = sym alone ∙ s.shared a e in absurd cc
-      ]
-
   pub settled : HaveSets d → AreCoherent d
   settled sets = record {
     sets = sets;
     single = λ a b l apart alone. elim (cases_eq l line) as (λ _. letter_at d b l ≡ I) [
-      | inl e ↦ subst (λ (x : ℕ). letter_at d b x ≡ I) (sym e) (single_line a b apart (subst (λ (x : ℕ). is_alone (letter_at d a x) ≡ true) e alone))
+      | inl e ↦ subst (λ (x : ℕ). letter_at d b x ≡ I) (sym e) (s.single a b apart (subst (λ (x : ℕ). is_alone (letter_at d a x) ≡ true) e alone))
       | inr e ↦ single_other a b l apart e alone
     ];
     inclusive = λ a l held. elim (cases_eq l line) as (λ _. is_some (dirty_at d l) ≡ true) [
       | inl e ↦ subst (λ (x : ℕ). is_some (dirty_at d x) ≡ true) (sym e) s.there
       | inr e ↦ s.lines a l e held
+    ];
+    l1i_inclusive = λ a l held. elim (cases_eq l line) as (λ _. is_some (dirty_at d l) ≡ true) [
+      | inl e ↦ subst (λ (x : ℕ). is_some (dirty_at d x) ≡ true) (sym e) s.there
+      | inr e ↦ s.fetched a l e held
     ];
   }
 

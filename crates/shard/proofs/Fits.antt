@@ -10,13 +10,13 @@ use Rattle.std.proofs.lemmas.List.Elements.{All-head, All-map, All-nil, All-cons
 use Rattle.std.proofs.lemmas.List.FromFn.{get_or-enumerate_from, length-enumerate_from}
 use Rattle.std.proofs.lemmas.Map.{keys-set_value, length-set_value, lookup-none, NonePasses, none_passes_from_lookup}
 use Rattle.std.proofs.lemmas.Map.Keys.{IsDistinct-cons}
-use Rattle.zs_num.specs.Request.{line_of}
+use Rattle.zs_num.specs.Request.{is_fetch, line_of}
 use Rattle.zs_num.specs.declared.request.Request.{Request}
 use Rattle.cache_set.specs.declared.letter.Letter.{Letter}
 use Rattle.cache_set.specs.declared.letter.Letter.TheVariants.{M, E, S, I}
 use Rattle.cache_set.specs.Ways.{kept_of, without, used, filled, changed}
 use Rattle.cache_set.proofs.Sets.{lacks-absent, lacks-take, distinct-without, lacks-others, length-without, length-without_some}
-use Rattle.shard.specs.Coherence.{Caches, letter_in, letter_at, dirty_at, outcome_by, outcome_of, is_write, is_alone, is_dirty_victim, some_other, is_valid, is_modified, own_after, own_victim, on_l2, on_others, on_own, l2_victim, copies_evicted, written_back, caches_after, empty_caches, recalled, marked_dirty, filled_into_l2, looked_up, other_after, others_changed, kept_first, filled_into_l1, with_letter}
+use Rattle.shard.specs.Coherence.{Caches, letter_in, letter_at, dirty_at, fetch_holds, l1i_lines_at, outcome_by, is_write, is_alone, is_dirty_victim, some_other, is_valid, is_modified, own_after, own_victim, on_l2, on_others, on_own, l2_victim, copies_evicted, written_back, after_at, after_fetch_at, fetch_outcome_by, caches_after, empty_caches, recalled, instructions_recalled, marked_dirty, filled_into_l2, looked_up, other_after, others_changed, kept_first, filled_into_l1, filled_into_l1i, on_l1i, used_in_l1i, with_letter}
 use Rattle.shard.specs.Accesses.{caches_after_all}
 use Rattle.shard.specs.Lines.{set_of, in_set_of, set_number}
 use Rattle.shard.specs.StandsFor.{IsSet}
@@ -164,6 +164,7 @@ in_set P shards line change sets nil step h =
 -- ---- the caches
 pub record Fits (c : Caches) : Type 0 where
   pub l1 : All (All (IsL1 c.l1_ways)) c.l1
+  pub l1i : All (All (IsSet c.l1i_ways)) c.l1i
   pub l2 : All (IsSet c.l2_ways) c.l2
 
 pub own_sets : (c : Caches) → Fits c → (core : ℕ) → All (IsL1 c.l1_ways) (get_or c.l1 core [])
@@ -177,6 +178,16 @@ unfolding recalled
 recalled_fits line c f = record {
   l1 = mapped (All (IsL1 c.l1_ways)) (in_set_of c.shards line (without line)) c.l1
       (λ sets h. in_set (IsL1 c.l1_ways) c.shards line (without line) sets (l1_nil c.l1_ways) (l1_without c.l1_ways line (set_of c.shards line sets)) h) f.l1;
+  l1i = f.l1i;
+  l2 = f.l2;
+}
+
+instructions_fit : (line : ℕ) (c : Caches) → Fits c → Fits (instructions_recalled line c)
+unfolding instructions_recalled
+instructions_fit line c f = record {
+  l1 = f.l1;
+  l1i = mapped (All (IsSet c.l1i_ways)) (in_set_of c.shards line (without line)) c.l1i
+      (λ sets h. in_set (IsSet c.l1i_ways) c.shards line (without line) sets (set_nil c.l1i_ways) (set_without c.l1i_ways line (set_of c.shards line sets)) h) f.l1i;
   l2 = f.l2;
 }
 
@@ -184,6 +195,7 @@ marked_fits : (line : ℕ) (c : Caches) → Fits c → Fits (marked_dirty line c
 unfolding marked_dirty
 marked_fits line c f = record {
   l1 = f.l1;
+  l1i = f.l1i;
   l2 = in_set (IsSet c.l2_ways) c.shards line (changed line true) c.l2 (set_nil c.l2_ways) (set_changed c.l2_ways line true (set_of c.shards line c.l2)) f.l2;
 }
 
@@ -191,6 +203,7 @@ pub looked_fits : (line : ℕ) (c : Caches) → Fits c → Fits (looked_up line 
 unfolding looked_up
 looked_fits line c f = record {
   l1 = f.l1;
+  l1i = f.l1i;
   l2 = in_set (IsSet c.l2_ways) c.shards line (used line) c.l2 (set_nil c.l2_ways) (set_used c.l2_ways line (set_of c.shards line c.l2)) f.l2;
 }
 
@@ -198,6 +211,7 @@ pub fetched_fits : (line : ℕ) (c : Caches) → dirty_at c line ≡ None → Fi
 unfolding filled_into_l2 dirty_at
 fetched_fits line c none f = record {
   l1 = f.l1;
+  l1i = f.l1i;
   l2 = in_set (IsSet c.l2_ways) c.shards line (filled c.l2_ways line false) c.l2 (set_nil c.l2_ways) (λ h. set_filled c.l2_ways line false (set_of c.shards line c.l2) h none) f.l2;
 }
 
@@ -210,6 +224,7 @@ others_fits change core line c f = record {
         | false ↦ in_set (IsL1 c.l1_ways) c.shards line (λ copies. with_letter line (change (letter_in line copies)) copies) sets (l1_nil c.l1_ways)
             (l1_letter c.l1_ways line (change (letter_in line (set_of c.shards line sets))) (set_of c.shards line sets)) h
       ]) f.l1;
+  l1i = f.l1i;
   l2 = f.l2;
 }
 
@@ -219,6 +234,7 @@ first_fits core line letter c k there f = record {
   l1 = All-set (All (IsL1 c.l1_ways)) c.l1 core (in_set_of c.shards line (λ copies. (line, letter) ∷ without line copies) (get_or c.l1 core []))
       (in_set (IsL1 c.l1_ways) c.shards line (λ copies. (line, letter) ∷ without line copies) (get_or c.l1 core []) (l1_nil c.l1_ways)
       (l1_first c.l1_ways line letter (set_of c.shards line (get_or c.l1 core [])) k there) (own_sets c f core)) f.l1;
+  l1i = f.l1i;
   l2 = f.l2;
 }
 
@@ -247,6 +263,7 @@ put_fits ways core line letter d e k i f =
           (All-set (All (IsL1 d.l1_ways)) d.l1 core (in_set_of d.shards line (filled d.l1_ways line letter) (get_or d.l1 core []))
           (in_set (IsL1 d.l1_ways) d.shards line (filled d.l1_ways line letter) (get_or d.l1 core []) (l1_nil d.l1_ways)
           (l1_filled d.l1_ways line letter (set_of d.shards line (get_or d.l1 core [])) k none) (own_sets d f core)) f.l1);
+      l1i = f.l1i;
       l2 = f.l2;
     }
 
@@ -256,8 +273,37 @@ taken_fits core line letter c k i f =
     let back : SameL1 (written_back (own_victim c core line) c) c = back_same_l1 (own_victim c core line) c f in
     put_fits c.l1_ways core line letter (written_back (own_victim c core line) c) back.ways k (back.letters core line ∙ i) back.fits
 
+-- ---- a core's instruction cache
+instruction_sets : (c : Caches) → Fits c → (core : ℕ) → All (IsSet c.l1i_ways) (get_or c.l1i core [])
+instruction_sets c f core = at_or (All (IsSet c.l1i_ways)) c.l1i core [] f.l1i (All-nil (IsSet c.l1i_ways))
+
+pub instruction_set : (c : Caches) → Fits c → (core line : ℕ) → IsSet c.l1i_ways (l1i_lines_at c core line)
+instruction_set c f core line =
+    at_or (IsSet c.l1i_ways) (get_or c.l1i core []) (set_number c.shards line (get_or c.l1i core [])) [] (instruction_sets c f core) (set_nil c.l1i_ways)
+
+instructions_set_fit : (core line : ℕ) (change : List (ℕ × Unit {0}) → List (ℕ × Unit {0})) (c : Caches) → (IsSet c.l1i_ways (l1i_lines_at c core line) → IsSet c.l1i_ways (change (l1i_lines_at c core line))) → Fits c
+    → Fits (record c { l1i = set c.l1i core (in_set_of c.shards line change (get_or c.l1i core [])) })
+instructions_set_fit core line change c step f = record {
+  l1 = f.l1;
+  l1i = All-set (All (IsSet c.l1i_ways)) c.l1i core (in_set_of c.shards line change (get_or c.l1i core []))
+      (in_set (IsSet c.l1i_ways) c.shards line change (get_or c.l1i core []) (set_nil c.l1i_ways) step (instruction_sets c f core)) f.l1i;
+  l2 = f.l2;
+}
+
+none_from : {X : Type 0} (o : Option X) → is_some o ≡ false → o ≡ None
+none_from None h = refl
+none_from (Some x) h = absurd cc
+
+-- a line that comes in was not there
+pub on_l1i_fits : (held : Bool) (core line : ℕ) (c : Caches) → (held ≡ false → fetch_holds c core line ≡ false) → Fits c → Fits (on_l1i held core line c)
+unfolding fetch_holds used_in_l1i filled_into_l1i
+on_l1i_fits true core line c out f = instructions_set_fit core line (used line) c (set_used c.l1i_ways line (l1i_lines_at c core line)) f
+on_l1i_fits false core line c out f =
+    instructions_set_fit core line (filled c.l1i_ways line tt) c
+    (λ h. set_filled c.l1i_ways line tt (l1i_lines_at c core line) h (none_from (kept_of line (l1i_lines_at c core line)) (out refl))) f
+
 -- ---- the core's own letter on the way
-absent_set : (line v : ℕ) (sets : List (List (ℕ × Letter))) (n k : ℕ) → kept_of line (get_or sets n []) ≡ None → kept_of line (get_or (set sets k (without v (get_or sets k []))) n []) ≡ None
+absent_set : {X : Type 0} (line v : ℕ) (sets : List (List (ℕ × X))) (n k : ℕ) → kept_of line (get_or sets n []) ≡ None → kept_of line (get_or (set sets k (without v (get_or sets k []))) n []) ≡ None
 absent_set line v sets n k h =
     let longer : length (set sets n (without v (get_or sets n []))) ≡ length sets = length-set sets n (without v (get_or sets n [])) in
     let same : kept_of line (get_or (set sets n (without v (get_or sets n []))) n []) ≡ None
@@ -270,7 +316,7 @@ absent_set line v sets n k h =
       | inr e ↦ rw (get_or-set_other sets k n (without v (get_or sets k [])) [] e) h
     ]
 
-absent_in_set : (shards line v : ℕ) (sets : List (List (ℕ × Letter))) → kept_of line (set_of shards line sets) ≡ None → kept_of line (set_of shards line (in_set_of shards v (without v) sets)) ≡ None
+absent_in_set : {X : Type 0} (shards line v : ℕ) (sets : List (List (ℕ × X))) → kept_of line (set_of shards line sets) ≡ None → kept_of line (set_of shards line (in_set_of shards v (without v) sets)) ≡ None
 absent_in_set shards line v sets h =
     rw (length-set sets (set_number shards v sets) (without v (set_of shards v sets))) (absent_set line v sets (set_number shards line sets) (set_number shards v sets) h)
 
@@ -281,6 +327,17 @@ own_recalled core line v c f i =
     elim (cases_lt core (length c.l1)) as (λ _. letter_in line (set_of c.shards line (get_or (map (in_set_of c.shards v (without v)) c.l1) core [])) ≡ I) [
       | inl l ↦ rw (get_or-map (in_set_of c.shards v (without v)) c.l1 core [] [] l, absent_in_set c.shards line v (get_or c.l1 core []) none) refl
       | inr l ↦ rw (get_or_past (map (in_set_of c.shards v (without v)) c.l1) core [] (omega (arith, length-map c.l1 (in_set_of c.shards v (without v))))) refl
+    ]
+
+-- a line that a core's L1I does not have does not come there because another is evicted
+instructions_absent : (core line v : ℕ) (c : Caches) → fetch_holds c core line ≡ false → fetch_holds (instructions_recalled v c) core line ≡ false
+unfolding fetch_holds instructions_recalled
+instructions_absent core line v c out =
+    let sets : List (List (ℕ × Unit {0})) = get_or c.l1i core [] in
+    let none : kept_of line (set_of c.shards line sets) ≡ None = none_from (kept_of line (set_of c.shards line sets)) out in
+    elim (cases_lt core (length c.l1i)) as (λ _. is_some (kept_of line (set_of c.shards line (get_or (map (in_set_of c.shards v (without v)) c.l1i) core []))) ≡ false) [
+      | inl l ↦ rw (get_or-map (in_set_of c.shards v (without v)) c.l1i core [] [] l, absent_in_set c.shards line v sets none) refl
+      | inr l ↦ rw (get_or_past (map (in_set_of c.shards v (without v)) c.l1i) core [] (omega (arith, length-map c.l1i (in_set_of c.shards v (without v))))) refl
     ]
 
 own_others : (change : Letter → Letter) (core line : ℕ) (c : Caches) → letter_at (others_changed change core line c) core line ≡ letter_at c core line
@@ -309,14 +366,23 @@ held_after false I false = refl
 
 pub room_fits : (victim : Option (ℕ × Bool)) (c : Caches) → Fits c → Fits (copies_evicted victim c)
 room_fits None c f = f
-room_fits (Some victim) c f = recalled_fits victim.0 c f
+room_fits (Some victim) c f = instructions_fit victim.0 (recalled victim.0 c) (recalled_fits victim.0 c f)
 
 room_own : (victim : Option (ℕ × Bool)) (core line : ℕ) (c : Caches) → Fits c → letter_at c core line ≡ I → letter_at (copies_evicted victim c) core line ≡ I
+unfolding letter_at instructions_recalled
 room_own None core line c f i = i
 room_own (Some victim) core line c f i = own_recalled core line victim.0 c f i
 
+recalled_holds : (core line v : ℕ) (c : Caches) → fetch_holds (recalled v c) core line ≡ fetch_holds c core line
+unfolding fetch_holds recalled
+recalled_holds core line v c = refl
+
+room_holds : (victim : Option (ℕ × Bool)) (core line : ℕ) (c : Caches) → fetch_holds c core line ≡ false → fetch_holds (copies_evicted victim c) core line ≡ false
+room_holds None core line c out = out
+room_holds (Some victim) core line c out = instructions_absent core line victim.0 (recalled victim.0 c) (recalled_holds core line victim.0 c ∙ out)
+
 room_l2 : (victim : Option (ℕ × Bool)) (line : ℕ) (c : Caches) → dirty_at (copies_evicted victim c) line ≡ dirty_at c line
-unfolding dirty_at recalled
+unfolding dirty_at recalled instructions_recalled
 room_l2 None line c = refl
 room_l2 (Some victim) line c = refl
 
@@ -336,10 +402,6 @@ dirtied_own : (b : Bool) (core line : ℕ) (c : Caches) → letter_at (cond b (m
 unfolding letter_at marked_dirty
 dirtied_own true core line c = refl
 dirtied_own false core line c = refl
-
-none_from : {X : Type 0} (o : Option X) → is_some o ≡ false → o ≡ None
-none_from None h = refl
-none_from (Some x) h = absurd cc
 
 miss_fits : (core line : ℕ) (letter : Letter) (c : Caches) → is_valid letter ≡ true → letter_at c core line ≡ I → is_some (dirty_at c line) ≡ false → Fits c
     → Fits (filled_into_l1 core line letter (filled_into_l2 line (copies_evicted (l2_victim c line) c)))
@@ -373,18 +435,47 @@ steps_fit c f core line I e true false alone has dirty i = miss_fits core line M
 steps_fit c f core line I e false true alone has dirty i = found_fits core line (own_after false I has) false c (held_after false I has) e f
 steps_fit c f core line I e false false alone has dirty i = miss_fits core line (own_after false I has) c (held_after false I has) e i f
 
+read_fits : (c : Caches) (core line : ℕ) (write : Bool) → Fits c → Fits (after_at c core line write)
+read_fits c core line write f =
+    steps_fit c f core line (letter_at c core line) refl write (is_some (dirty_at c line))
+    (some_other is_alone c core line) (some_other is_valid c core line) (is_dirty_victim c (l2_victim c line)) refl
+
+fetched_holds : (core line : ℕ) (c : Caches) → fetch_holds (filled_into_l2 line c) core line ≡ fetch_holds c core line
+unfolding fetch_holds filled_into_l2
+fetched_holds core line c = refl
+
+looked_holds : (core line : ℕ) (c : Caches) → fetch_holds (looked_up line c) core line ≡ fetch_holds c core line
+unfolding fetch_holds looked_up
+looked_holds core line c = refl
+
+fetch_steps_fit : (c : Caches) → Fits c → (core line : ℕ) (held : Bool) → fetch_holds c core line ≡ held → (in_l2 dirty : Bool) → is_some (dirty_at c line) ≡ in_l2
+    → Fits (on_l1i held core line (on_l2 (fetch_outcome_by held in_l2 dirty) line c))
+fetch_steps_fit c f core line true e in_l2 dirty i = on_l1i_fits true core line c (λ k. absurd cc) f
+fetch_steps_fit c f core line false e true dirty i = on_l1i_fits false core line (looked_up line c) (λ _. looked_holds core line c ∙ e) (looked_fits line c f)
+fetch_steps_fit c f core line false e false dirty i =
+    let made : Caches = copies_evicted (l2_victim c line) c in
+    let none : dirty_at made line ≡ None = room_l2 (l2_victim c line) line c ∙ none_from (dirty_at c line) i in
+    on_l1i_fits false core line (filled_into_l2 line made) (λ _. fetched_holds core line made ∙ room_holds (l2_victim c line) core line c e)
+    (fetched_fits line made none (room_fits (l2_victim c line) c f))
+
+fetch_fits : (c : Caches) (core line : ℕ) → Fits c → Fits (after_fetch_at c core line)
+fetch_fits c core line f =
+    fetch_steps_fit c f core line (fetch_holds c core line) refl (is_some (dirty_at c line)) (is_dirty_victim c (l2_victim c line)) refl
+
 pub access_fits : (c : Caches) (core : ℕ) (request : Request) → Fits c → Fits (caches_after c core request)
-unfolding caches_after outcome_of
+unfolding caches_after
 access_fits c core request f =
-    steps_fit c f core (line_of request) (letter_at c core (line_of request)) refl (is_write request) (is_some (dirty_at c (line_of request)))
-    (some_other is_alone c core (line_of request)) (some_other is_valid c core (line_of request)) (is_dirty_victim c (l2_victim c (line_of request))) refl
+    let line : ℕ = line_of request in
+    elim (is_fetch request) as (λ b. Fits (cond b (after_fetch_at c core line) (after_at c core line (is_write request))))
+    [ true ↦ fetch_fits c core line f | false ↦ read_fits c core line (is_write request) f ]
 
 pub accesses_fit : (accesses : List (ℕ × Request)) (c : Caches) → Fits c → Fits (caches_after_all c accesses)
 accesses_fit [] c f = f
 accesses_fit (access ∷ accesses) c f = accesses_fit accesses (caches_after c access.0 access.1) (access_fits c access.0 access.1 f)
 
-pub empty_fit : (cores shards l1_sets l1_ways l2_sets l2_ways : ℕ) → Fits (empty_caches cores shards l1_sets l1_ways l2_sets l2_ways)
-empty_fit cores shards l1_sets l1_ways l2_sets l2_ways = record {
+pub empty_fit : (cores shards l1_sets l1_ways fetchers l1i_sets l1i_ways l2_sets l2_ways : ℕ) → Fits (empty_caches cores shards l1_sets l1_ways fetchers l1i_sets l1i_ways l2_sets l2_ways)
+empty_fit cores shards l1_sets l1_ways fetchers l1i_sets l1i_ways l2_sets l2_ways = record {
   l1 = All-replicate (All (IsL1 l1_ways)) cores (replicate l1_sets []) (All-replicate (IsL1 l1_ways) l1_sets [] (l1_nil l1_ways));
+  l1i = All-replicate (All (IsSet l1i_ways)) fetchers (replicate l1i_sets []) (All-replicate (IsSet l1i_ways) l1i_sets [] (set_nil l1i_ways));
   l2 = All-replicate (IsSet l2_ways) l2_sets [] (set_nil l2_ways);
 }

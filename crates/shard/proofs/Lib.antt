@@ -1,7 +1,10 @@
 pub mod Access
 pub mod AllCaches
+pub mod Beside
 pub mod Coherent
+pub mod CoherentApart
 pub mod CoherentDirty
+pub mod CoherentInstructions
 pub mod CoherentLetters
 pub mod CoherentLines
 pub mod CoherentLists
@@ -15,10 +18,12 @@ pub mod CoreSets
 pub mod Entries
 pub mod FirstBytes
 pub mod Fits
+pub mod Instructions
 pub mod Kept
 pub mod LaidOut
 pub mod Others
 pub mod Reservations
+pub mod ShardLists
 pub mod SharedSets
 pub mod SomeCores
 pub mod StandsForAnswers

@@ -3,14 +3,14 @@ use Rattle.std.proofs.Common.{◌≡◌, ◌≢◌, ℕ, ◌%◌, ◌/◌, ◌<�
 use Rattle.std.specs.List.{enumerate_from}
 use Rattle.std.proofs.lemmas.List.{length-map, length-set}
 use Rattle.std.proofs.lemmas.List.FromFn.{length-enumerate_from}
-use Rattle.zs_num.specs.Request.{line_of}
+use Rattle.zs_num.specs.Request.{is_fetch, line_of}
 use Rattle.zs_num.specs.declared.entry.Outcome.{Outcome}
 use Rattle.zs_num.specs.declared.entry.Outcome.TheVariants.{Hit, Upgrade, L2, Miss}
 use Rattle.zs_num.specs.declared.request.Request.{Request}
 use Rattle.cache_set.specs.declared.letter.Letter.{Letter}
 use Rattle.cache_set.specs.declared.letter.Letter.TheVariants.{M, E, S, I}
 use Rattle.cache_set.specs.Ways.{without, used, filled, changed}
-use Rattle.shard.specs.Coherence.{Caches, caches_after, in_own_set_of, is_valid, is_modified, is_write, kept_first, l2_victim, letter_at, letter_in, looked_up, marked_dirty, on_l2, on_others, on_own, other_after, others_changed, outcome_of, own_after, own_victim, recalled, copies_evicted, some_other, filled_into_l1, filled_into_l2, with_letter, written_back}
+use Rattle.shard.specs.Coherence.{Caches, after_at, after_fetch_at, caches_after, fetch_holds, fetch_met_at, filled_into_l1i, in_l1i_set_of, in_own_set_of, instructions_recalled, is_valid, is_modified, is_write, kept_first, l2_victim, letter_at, letter_in, looked_up, marked_dirty, met_at, on_l1i, on_l2, on_others, on_own, other_after, others_changed, own_after, own_victim, recalled, copies_evicted, some_other, filled_into_l1, filled_into_l2, used_in_l1i, with_letter, written_back}
 use Rattle.shard.specs.Lines.{in_set_of, set_number}
 use Rattle.shard.proofs.CoherentLetters.{at_victim}
 use Rattle.shard.proofs.CoherentLists.{mapped_at, numbered_at, set_read}
@@ -21,10 +21,46 @@ use Rattle.shard.proofs.StandsForSets.{Agree, apart_step, same_rest}
 
 module _ (n number : ℕ) (some : 0 < n) (d : Caches) where
   l2_apart : (c : Caches) (s : List (List (ℕ × Bool))) → Part n number c d → Agree n number s d.l2 → Part n number (record c { l2 = s }) d
-  l2_apart c s p a = record { whole = p.whole; count = p.count; l1_ways = p.l1_ways; l2_ways = p.l2_ways; cores = p.cores; l1 = p.l1; l2 = a }
+  l2_apart c s p a = record {
+    whole = p.whole;
+    count = p.count;
+    l1_ways = p.l1_ways;
+    l1i_ways = p.l1i_ways;
+    l2_ways = p.l2_ways;
+    cores = p.cores;
+    fetchers = p.fetchers;
+    l1 = p.l1;
+    l1i = p.l1i;
+    l2 = a;
+  }
 
   l1_apart : (c : Caches) (s : List (List (List (ℕ × Letter)))) → Part n number c d → length d.l1 ≡ length s → ((core : ℕ) → Agree n number (get_or s core []) (get_or d.l1 core [])) → Part n number (record c { l1 = s }) d
-  l1_apart c s p long a = record { whole = p.whole; count = p.count; l1_ways = p.l1_ways; l2_ways = p.l2_ways; cores = long; l1 = a; l2 = p.l2 }
+  l1_apart c s p long a = record {
+    whole = p.whole;
+    count = p.count;
+    l1_ways = p.l1_ways;
+    l1i_ways = p.l1i_ways;
+    l2_ways = p.l2_ways;
+    cores = long;
+    fetchers = p.fetchers;
+    l1 = a;
+    l1i = p.l1i;
+    l2 = p.l2;
+  }
+
+  l1i_apart : (c : Caches) (s : List (List (List (ℕ × Unit {0})))) → Part n number c d → length d.l1i ≡ length s → ((core : ℕ) → Agree n number (get_or s core []) (get_or d.l1i core [])) → Part n number (record c { l1i = s }) d
+  l1i_apart c s p long a = record {
+    whole = p.whole;
+    count = p.count;
+    l1_ways = p.l1_ways;
+    l1i_ways = p.l1i_ways;
+    l2_ways = p.l2_ways;
+    cores = p.cores;
+    fetchers = long;
+    l1 = p.l1;
+    l1i = a;
+    l2 = p.l2;
+  }
 
   -- ---- each step, for a line of another shard
   module _ (line : ℕ) (other : line % n ≢ number) (c : Caches) (p : Part n number c d) where
@@ -37,6 +73,13 @@ module _ (n number : ℕ) (some : 0 < n) (d : Caches) where
         let f : List (List (ℕ × Letter)) → List (List (ℕ × Letter)) = in_set_of c.shards line (without line) in
         l1_apart c (map f c.l1) p (p.cores ∙ sym (length-map c.l1 f))
         (λ core. rw (mapped_at f c.l1 core refl) (apart_step n number some c.shards p.whole (get_or c.l1 core []) (get_or d.l1 core []) (without line) line other (p.l1 core)))
+
+    instructions_apart : Part n number (instructions_recalled line c) d
+    unfolding instructions_recalled
+    instructions_apart =
+        let f : List (List (ℕ × Unit {0})) → List (List (ℕ × Unit {0})) = in_set_of c.shards line (without line) in
+        l1i_apart c (map f c.l1i) p (p.fetchers ∙ sym (length-map c.l1i f))
+        (λ core. rw (mapped_at f c.l1i core refl) (apart_step n number some c.shards p.whole (get_or c.l1i core []) (get_or d.l1i core []) (without line) line other (p.l1i core)))
 
     marked_apart : Part n number (marked_dirty line c) d
     unfolding marked_dirty
@@ -74,6 +117,19 @@ module _ (n number : ℕ) (some : 0 < n) (d : Caches) where
     unfolding kept_first
     first_apart core letter = own_apart core (λ copies. (line, letter) ∷ without line copies)
 
+    own_l1i_apart : (core : ℕ) (change : List (ℕ × Unit {0}) → List (ℕ × Unit {0})) → Part n number (in_l1i_set_of core line change c) d
+    own_l1i_apart core change =
+        let v : List (List (ℕ × Unit {0})) = in_set_of c.shards line change (get_or c.l1i core []) in
+        l1i_apart c (set c.l1i core v) p (p.fetchers ∙ sym (length-set c.l1i core v))
+        (λ a. set_read (λ s. Agree n number s (get_or d.l1i a [])) c.l1i core v a
+        (λ e. subst (λ (x : ℕ). Agree n number v (get_or d.l1i x [])) (sym e) (apart_step n number some c.shards p.whole (get_or c.l1i core []) (get_or d.l1i core []) change line other (p.l1i core)))
+        (p.l1i a))
+
+    on_l1i_apart : (held : Bool) (core : ℕ) → Part n number (on_l1i held core line c) d
+    unfolding used_in_l1i filled_into_l1i
+    on_l1i_apart true core = own_l1i_apart core (used line)
+    on_l1i_apart false core = own_l1i_apart core (filled c.l1i_ways line tt)
+
   -- ---- steps that evict a line
   back_apart : (c : Caches) → Part n number c d → (victim : Option (ℕ × Letter)) → ((w : ℕ × Letter) → victim ≡ Some w → w.0 % n ≢ number) → Part n number (written_back victim c) d
   back_apart c p None h = p
@@ -83,7 +139,7 @@ module _ (n number : ℕ) (some : 0 < n) (d : Caches) where
 
   room_apart : (c : Caches) → Part n number c d → (victim : Option (ℕ × Bool)) → ((w : ℕ × Bool) → victim ≡ Some w → w.0 % n ≢ number) → Part n number (copies_evicted victim c) d
   room_apart c p None h = p
-  room_apart c p (Some w) h = recalled_apart w.0 (h w refl) c p
+  room_apart c p (Some w) h = instructions_apart w.0 (h w refl) (recalled w.0 c) (recalled_apart w.0 (h w refl) c p)
 
   dirtied_apart : (line : ℕ) → line % n ≢ number → (c : Caches) → Part n number c d → (b : Bool) → Part n number (cond b (marked_dirty line c) c) d
   dirtied_apart line other c p true = marked_apart line other c p
@@ -134,16 +190,26 @@ module _ (n number : ℕ) (some : 0 < n) (d : Caches) where
     on_own_apart c p placed S core letter = first_apart line other c p core letter
     on_own_apart c p placed I core letter = taken_apart c p placed core letter
 
+    data_apart : (c : Caches) → Part n number c d → Placed c → (core : ℕ) (write : Bool) → Part n number (after_at c core line write) d
+    data_apart c p placed core write =
+        let own : Letter = letter_at c core line in
+        let outcome : Outcome = met_at c core line write in
+        let letter : Letter = own_after write own (some_other is_valid c core line) in
+        let first : Caches = on_l2 outcome line c in
+        let second : Caches = on_others outcome write core line first in
+        let l2_keeps : Keeps c first = l2_step outcome line c in
+        let others_keep : Keeps first second = others_step outcome write core line first in
+        on_own_apart second (on_others_apart first (on_l2_apart c p placed outcome) outcome write core) (others_keep.placed (l2_keeps.placed placed)) own core letter
+
+    fetch_apart : (c : Caches) → Part n number c d → Placed c → (core : ℕ) → Part n number (after_fetch_at c core line) d
+    fetch_apart c p placed core =
+        let outcome : Outcome = fetch_met_at c core line in
+        on_l1i_apart line other (on_l2 outcome line c) (on_l2_apart c p placed outcome) (fetch_holds c core line) core
+
   pub access_apart : (c : Caches) → Part n number c d → Placed c → (core : ℕ) (request : Request) → line_of request % n ≢ number → Part n number (caches_after c core request) d
   unfolding caches_after
   access_apart c p placed core request other =
       let line : ℕ = line_of request in
       let write : Bool = is_write request in
-      let own : Letter = letter_at c core line in
-      let outcome : Outcome = outcome_of c core request in
-      let letter : Letter = own_after write own (some_other is_valid c core line) in
-      let first : Caches = on_l2 outcome line c in
-      let second : Caches = on_others outcome write core line first in
-      let l2_keeps : Keeps c first = l2_step outcome line c in
-      let others_keep : Keeps first second = others_step outcome write core line first in
-      on_own_apart line other second (on_others_apart line other first (on_l2_apart line other c p placed outcome) outcome write core) (others_keep.placed (l2_keeps.placed placed)) own core letter
+      elim (is_fetch request) as (λ (b : Bool). Part n number (cond b (after_fetch_at c core line) (after_at c core line write)) d)
+      [ true ↦ fetch_apart line other c p placed core | false ↦ data_apart line other c p placed core write ]

@@ -11,6 +11,7 @@ use Rattle.zs_num.specs.declared.request.Request.TheVariants.{Load, Store, Lr, S
 use Rattle.flat_memory.specs.FlatMemory.{MemoryState, number_in, with_number, written}
 use Rattle.flat_memory.specs.Laws.{LoadGivesWhatWasStored}
 use Rattle.shard.specs.Coherence.{Caches, caches_after}
+use Rattle.shard.specs.HaveL1i.{have_l1i}
 use Rattle.shard.specs.Laws.{ReadAfterWrite, has_written}
 use Rattle.shard.specs.Marks.{MarkedMemory, bytes_after, does_store, marked_after, marked_reply, marks_for, reply_from}
 use Rattle.shard.specs.Served.{ShardState, shard_after}
@@ -18,7 +19,7 @@ use Rattle.shard.specs.StandsFor.{AreAnswered, StandFor}
 use Rattle.shard.proofs.Coherent.{coherent_stays}
 use Rattle.shard.proofs.StandsForBytes.{number_same, written_before, written_behind}
 use Rattle.shard.proofs.StandsForShare.{length-bytes_after}
-use Rattle.shard.proofs.StandsForStep.{shards_stand}
+use Rattle.shard.proofs.StandsForStep.{stand_after}
 
 -- ---- a number of another line
 module _ (base : ℕ) (bytes : List ℕ) (addr width : ℕ) (begins : base ≤ addr) (fits : addr % 64 + width ≤ 64) where
@@ -44,7 +45,7 @@ module _ (base : ℕ) (bytes : List ℕ) (addr width : ℕ) (begins : base ≤ a
   stays_if true at wide value from to inside other = stays_at at wide value from to inside (other refl)
   stays_if false at wide value from to inside other = refl
 
-  stays : (marks : List _) (core : ℕ) (request : Request) → IsServable base (length bytes) false request → (has_written request (reply_from bytes (addr_of request - base) marks core request) ≡ true → line_of request ≢ line_at addr)
+  stays : {l1i : Bool} (marks : List _) (core : ℕ) (request : Request) → IsServable base (length bytes) l1i request → (has_written request (reply_from bytes (addr_of request - base) marks core request) ≡ true → line_of request ≢ line_at addr)
       → reads (bytes_after bytes (addr_of request - base) marks core request) ≡ reads bytes
   unfolding bytes_after reply_from
   stays marks core (Load at wide) can other = refl
@@ -60,24 +61,24 @@ module _ (load : Entry) (addr width number : ℕ) (is_load : load.request ≡ Lo
   unfolding reply_from
   loads memory e = rw (is_load) e
 
-  still_read : (between : List Entry) (shards : List ShardState) (memory : MarkedMemory) (c : Caches) (left : List ShardState) → memory.base ≤ addr → addr % 64 + width ≤ 64
+  still_read : {l1i : Bool} (between : List Entry) (shards : List ShardState) (memory : MarkedMemory) (c : Caches) (left : List ShardState) → memory.base ≤ addr → addr % 64 + width ≤ 64
       → StandFor shards memory c → AreAnswered shards (between ++ (load ∷ [])) left
-      → All (λ entry. entry.core < length c.l1) (between ++ (load ∷ [])) → All (λ entry. IsServable memory.base (length memory.bytes) false entry.request) (between ++ (load ∷ []))
+      → All (λ entry. entry.core < length c.l1) (between ++ (load ∷ [])) → All (λ entry. IsServable memory.base (length memory.bytes) l1i entry.request) (between ++ (load ∷ []))
       → All (λ entry. has_written entry.request entry.reply ≡ true → line_of entry.request ≢ line_at addr) between
       → number_in memory.bytes (addr - memory.base) width ≡ number → load.reply ≡ number
-  still_read [] shards memory c left begins fits h answered cores can others e =
+  still_read {l1i} [] shards memory c left begins fits h answered cores can others e =
       let Known : Entry → Type 0 = λ entry. entry.core < length c.l1 in
-      let Can : Entry → Type 0 = λ entry. IsServable memory.base (length memory.bytes) false entry.request in
-      let step = shards_stand shards memory c answered.0 load h answered.1 (All-head Can load [] can) (All-head Known load [] cores) in
+      let Can : Entry → Type 0 = λ entry. IsServable memory.base (length memory.bytes) l1i entry.request in
+      let step = stand_after shards memory c answered.0 load h answered.1 (All-head Can load [] can) (All-head Known load [] cores) in
       answered.2 ∙ (step.0 ∙ loads memory e)
-  still_read (entry ∷ between) shards memory c left begins fits h answered cores can others e =
+  still_read {l1i} (entry ∷ between) shards memory c left begins fits h answered cores can others e =
       let rest : List Entry = between ++ (load ∷ []) in
       let Known : Entry → Type 0 = λ entry. entry.core < length c.l1 in
-      let Can : Entry → Type 0 = λ entry. IsServable memory.base (length memory.bytes) false entry.request in
+      let Can : Entry → Type 0 = λ entry. IsServable memory.base (length memory.bytes) l1i entry.request in
       let Apart : Entry → Type 0 = λ entry. has_written entry.request entry.reply ≡ true → line_of entry.request ≢ line_at addr in
       let known : Known entry = All-head Known entry rest cores in
       let can_one : Can entry = All-head Can entry rest can in
-      let step = shards_stand shards memory c answered.0 entry h answered.1 can_one known in
+      let step = stand_after shards memory c answered.0 entry h answered.1 can_one known in
       let d : Caches = caches_after c entry.core entry.request in
       let next : MarkedMemory = marked_after memory entry.core entry.request in
       let as_many : length d.l1 ≡ length c.l1 = (coherent_stays c entry.core entry.request h.coherent h.room known).2 in
@@ -89,7 +90,7 @@ module _ (load : Entry) (addr width number : ℕ) (is_load : load.request ≡ Lo
       = stays memory.base memory.bytes addr width begins fits (marks_for memory entry.request) entry.core entry.request can_one other ∙ e in
       still_read between (set shards answered.0.number (shard_after answered.0 entry)) next d left begins fits step.2 answered.4
       (subst (λ (n : ℕ). All (λ (x : Entry). x.core < n) rest) (sym as_many) (All-tail Known entry rest cores))
-      (subst (λ (n : ℕ). All (λ (x : Entry). IsServable memory.base n false x.request) rest) (sym as_long) (All-tail Can entry rest can))
+      (subst (λ (n : ℕ). All (λ (x : Entry). IsServable memory.base n l1i x.request) rest) (sym as_long) (All-tail Can entry rest can))
       (All-tail Apart entry between others) kept
 
 -- a store
@@ -104,16 +105,16 @@ pub read_after_write : LoadGivesWhatWasStored → ReadAfterWrite
 read_after_write law shards memory c store load between left addr width value h answered cores can is_store is_load others =
     let rest : List Entry = between ++ (load ∷ []) in
     let Known : Entry → Type 0 = λ entry. entry.core < length c.l1 in
-    let Can : Entry → Type 0 = λ entry. IsServable memory.base (length memory.bytes) false entry.request in
+    let Can : Entry → Type 0 = λ entry. IsServable memory.base (length memory.bytes) (have_l1i c) entry.request in
     let known : Known store = All-head Known store rest cores in
     let can_one : Can store = All-head Can store rest can in
-    let is : IsServable memory.base (length memory.bytes) false (Store addr width value) = subst (λ (r : Request). IsServable memory.base (length memory.bytes) false r) is_store can_one in
-    let step = shards_stand shards memory c answered.0 store h answered.1 can_one known in
+    let is : IsServable memory.base (length memory.bytes) (have_l1i c) (Store addr width value) = subst (λ (r : Request). IsServable memory.base (length memory.bytes) (have_l1i c) r) is_store can_one in
+    let step = stand_after shards memory c answered.0 store h answered.1 can_one known in
     let d : Caches = caches_after c store.core store.request in
     let next : MarkedMemory = marked_after memory store.core store.request in
     let as_many : length d.l1 ≡ length c.l1 = (coherent_stays c store.core store.request h.coherent h.room known).2 in
     let as_long : length next.bytes ≡ length memory.bytes = length-bytes_after memory.base memory.bytes (marks_for memory store.request) store.core store.request can_one in
     still_read load addr width (value % 256 ^ width) is_load between (set shards answered.0.number (shard_after answered.0 store)) next d left is.begins is.in_line step.2 answered.4
     (subst (λ (n : ℕ). All (λ (x : Entry). x.core < n) rest) (sym as_many) (All-tail Known store rest cores))
-    (subst (λ (n : ℕ). All (λ (x : Entry). IsServable memory.base n false x.request) rest) (sym as_long) (All-tail Can store rest can))
+    (subst (λ (n : ℕ). All (λ (x : Entry). IsServable memory.base n (have_l1i c) x.request) rest) (sym as_long) (All-tail Can store rest can))
     others (stores law memory store.core store.request addr width value is_store is.begins is.ends)

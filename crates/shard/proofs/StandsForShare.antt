@@ -98,7 +98,7 @@ module _ (n number base : ℕ) (some : 0 < n) (whole part : List ℕ) (share : S
 
 -- ---- requests
 module _ (n number base : ℕ) (some : 0 < n) (whole part : List ℕ) (share : Share n number base whole part) (marks : List (Option Reservation)) (core : ℕ) where
-  pub reply_same : (request : Request) → IsServable base (length whole) false request → line_of request % n ≡ number
+  pub reply_same : {l1i : Bool} (request : Request) → IsServable base (length whole) l1i request → line_of request % n ≡ number
       → reply_from part (place_of n base (addr_of request)) marks core request ≡ reply_from whole (addr_of request - base) marks core request
   unfolding reply_from
   reply_same (Load addr width) h is = sym (same_number n number base some whole part share addr width h.begins h.ends h.in_line is)
@@ -112,7 +112,7 @@ module _ (n number base : ℕ) (some : 0 < n) (whole part : List ℕ) (share : S
   share_if true s t u v h k = h
   share_if false s t u v h k = k
 
-  pub share_after : (request : Request) → IsServable base (length whole) false request → line_of request % n ≡ number
+  pub share_after : {l1i : Bool} (request : Request) → IsServable base (length whole) l1i request → line_of request % n ≡ number
       → Share n number base (bytes_after whole (addr_of request - base) marks core request) (bytes_after part (place_of n base (addr_of request)) marks core request)
   unfolding bytes_after
   share_after (Load addr width) h is = share
@@ -126,7 +126,7 @@ module _ (n number base : ℕ) (some : 0 < n) (whole part : List ℕ) (share : S
       (written_share n number base some whole part share addr width h.begins h.ends h.in_line is h.some (new_number op width (number_in whole (addr - base) width) value))
   share_after (Fetch addr) h is = share
 
-  pub share_apart : (request : Request) → IsServable base (length whole) false request → line_of request % n ≢ number → Share n number base (bytes_after whole (addr_of request - base) marks core request) part
+  pub share_apart : {l1i : Bool} (request : Request) → IsServable base (length whole) l1i request → line_of request % n ≢ number → Share n number base (bytes_after whole (addr_of request - base) marks core request) part
   unfolding bytes_after
   share_apart (Load addr width) h other = share
   share_apart (Store addr width value) h other = apart_share n number base some whole part share addr width h.begins h.ends h.in_line other value
@@ -138,7 +138,7 @@ module _ (n number base : ℕ) (some : 0 < n) (whole part : List ℕ) (share : S
       apart_share n number base some whole part share addr width h.begins h.ends h.in_line other (new_number op width (number_in whole (addr - base) width) value)
   share_apart (Fetch addr) h other = share
 
-pub length-bytes_after : (base : ℕ) (whole : List ℕ) (marks : List (Option Reservation)) (core : ℕ) (request : Request) → IsServable base (length whole) false request → length (bytes_after whole (addr_of request - base) marks core request) ≡ length whole
+pub length-bytes_after : {l1i : Bool} (base : ℕ) (whole : List ℕ) (marks : List (Option Reservation)) (core : ℕ) (request : Request) → IsServable base (length whole) l1i request → length (bytes_after whole (addr_of request - base) marks core request) ≡ length whole
 unfolding bytes_after
 length-bytes_after base whole marks core (Load addr width) h = refl
 length-bytes_after base whole marks core (Store addr width value) h = length_written whole (addr - base) width value (omega (arith, h.begins, h.ends))

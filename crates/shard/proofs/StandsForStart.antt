@@ -1,7 +1,8 @@
 -- The new shards of a machine stand for memory as it was loaded, and for empty caches.
-use Rattle.std.proofs.Common.{◌≡◌, ℕ, zero, suc, ◌+◌, ◌-◌, ◌*◌, ◌/◌, ◌%◌, ◌<◌, ◌≤◌, List, [], ◌∷◌, length, get_or, map, replicate, take, Option, Some, None, refl, sym, ap, ◌∙◌, subst, arith, inl, inr, length-append}
+use Rattle.std.proofs.Common.{◌≡◌, ℕ, zero, suc, ◌+◌, ◌-◌, ◌*◌, ◌/◌, ◌%◌, ◌<◌, ◌≤◌, cond, List, [], ◌∷◌, length, get_or, map, replicate, take, Option, Some, None, is_some, refl, sym, ap, ◌∙◌, subst, arith, inl, inr, length-append}
 use Rattle.std.specs.List.{flat_map, range_with_len}
-use Rattle.std.specs.Prelude.{slice_get}
+use Rattle.std.specs.Option.{option_map_or}
+use Rattle.std.specs.Prelude.{◌⊎◌, IfSome, slice_get}
 use Rattle.std.proofs.Math.Nat.{div-add-mod, mul_comm}
 use Rattle.std.proofs.lemmas.Bool.{cases_lt}
 use Rattle.std.proofs.lemmas.List.{get_or-replicate, get_or_past, length-replicate, length-take-le}
@@ -9,7 +10,9 @@ use Rattle.std.proofs.lemmas.List.Concat.{get_or-flat_map}
 use Rattle.std.proofs.lemmas.List.FromFn.{get_or-map-range_with_len, get_or-range_with_len, length-map-range_with_len, length-range_with_len}
 use Rattle.std.proofs.lemmas.Option.{get_or_from_slice_get, slice_get_within}
 use Rattle.elf_load.specs.MemoryImage.{MemoryImage, byte_at, bytes_from}
-use Rattle.machine_desc.specs.Machine.{IsMachine}
+use Rattle.machine_desc.specs.InstructionCaches.{fetchers_of, l1i_sets_of, l1i_ways_of}
+use Rattle.machine_desc.specs.Machine.{IsL1, IsMachine}
+use Rattle.machine_desc.specs.declared.machine.L1.{L1}
 use Rattle.machine_desc.specs.declared.machine.Machine.{Machine}
 use Rattle.flat_memory.specs.declared.reservation.Reservation.{Reservation}
 use Rattle.flat_memory.specs.FlatMemory as flat
@@ -119,6 +122,17 @@ mapped_each : {Y : Type 0} (f : ℕ → Y) (v : Y) → ((i : ℕ) → f i ≡ v)
 mapped_each f v h a zero = refl
 mapped_each f v h a (suc n) = rw (h a, mapped_each f v h (a + 1) n) refl
 
+-- ---- all cores have an instruction cache, or none has
+l1i_ratio : (banks : ℕ) (l1i : Option L1) → IfSome l1i (IsL1 banks) → option_map_or (λ c. c.sets) l1i 0 % banks ≡ 0
+l1i_ratio banks None is = omega arith
+l1i_ratio banks (Some c) is = is.ratio
+
+l1i_some : (banks cores : ℕ) (l1i : Option L1) → IfSome l1i (IsL1 banks)
+    → ((cond (is_some l1i) cores 0 ≡ cores) × (1 ≤ option_map_or (λ c. c.sets) l1i 0) × (1 ≤ option_map_or (λ c. c.ways) l1i 0)) ⊎ (cond (is_some l1i) cores 0 ≡ 0)
+l1i_some banks cores None is = inr refl
+l1i_some banks cores (Some c) is = inl (refl, is.sets.0, is.ways.0)
+
+-- ---- the shards of a machine
 module _ (m : Machine) (image : MemoryImage) (is : IsMachine m) where
   abbrev all : List ShardState
   all = new_shards m image
@@ -138,9 +152,14 @@ module _ (m : Machine) (image : MemoryImage) (is : IsMachine m) where
       whole = refl;
       count = refl;
       l1_ways = refl;
+      l1i_ways = refl;
       l2_ways = refl;
       cores = length-replicate m.cores (replicate (m.l1.sets / m.l2.banks) []) ∙ sym (length-replicate m.cores (replicate m.l1.sets []));
+      fetchers =
+          length-replicate (fetchers_of m) (replicate {A = List (ℕ × Unit {0})} (l1i_sets_of m / m.l2.banks) [])
+          ∙ sym (length-replicate (fetchers_of m) (replicate {A = List (ℕ × Unit {0})} (l1i_sets_of m) []));
       l1 = λ core. core_agrees m.l2.banks j m.cores m.l1.sets core some is.l1.ratio;
+      l1i = λ core. core_agrees m.l2.banks j (fetchers_of m) (l1i_sets_of m) core some (l1i_ratio m.l2.banks m.l1i is.l1i);
       l2 = empty_agree m.l2.banks j m.l2.sets some is.l2.ratio;
     };
     share = first_share m.l2.banks j some image;
@@ -158,8 +177,8 @@ module _ (m : Machine) (image : MemoryImage) (is : IsMachine m) where
       (λ j t e. subst (λ (k : ℕ). Stands k (new_memory m image) (new_caches m) j t) (sym count) (subst (λ (x : ShardState). Stands m.l2.banks (new_memory m image) (new_caches m) j x) (one_of j t e) (new_stands j)))
       (sym (mapped_all (λ (s : ShardState). s.marks) (λ number. new_shard m number image) (replicate m.cores None) (λ i. refl) 0 m.l2.banks))
       refl
-      (empty_coherent m.cores 1 m.l1.sets m.l1.ways m.l2.sets m.l2.ways)
-      (empty_room m.cores 1 m.l1.sets m.l1.ways m.l2.sets m.l2.ways is.l1.sets.0 is.l1.ways.0 is.l2.sets.0 is.l2.ways.0)
+      (empty_coherent m.cores 1 m.l1.sets m.l1.ways (fetchers_of m) (l1i_sets_of m) (l1i_ways_of m) m.l2.sets m.l2.ways)
+      (empty_room m.cores 1 m.l1.sets m.l1.ways (fetchers_of m) (l1i_sets_of m) (l1i_ways_of m) m.l2.sets m.l2.ways is.l1.sets.0 is.l1.ways.0 is.l2.sets.0 is.l2.ways.0 (l1i_some m.l2.banks m.cores m.l1i is.l1i))
 
   no_pairing : (core : ℕ) → pairing_of (replicate m.cores None) core ≡ None
   no_pairing core =

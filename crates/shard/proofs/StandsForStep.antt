@@ -1,5 +1,5 @@
 -- Shards stand for one machine after an access to a line of one of them, if they did before.
-use Rattle.std.proofs.Common.{◌≡◌, ◌≢◌, ℕ, ◌-◌, ◌%◌, ◌<◌, List, [], length, get_or, map, set, Option, Some, refl, sym, ap, ◌∙◌, subst, arith, false}
+use Rattle.std.proofs.Common.{◌≡◌, ◌≢◌, ℕ, ◌-◌, ◌%◌, ◌<◌, Bool, List, [], length, get_or, map, set, Option, Some, refl, sym, ap, ◌∙◌, subst, arith}
 use Rattle.std.specs.Prelude.{slice_get}
 use Rattle.std.proofs.lemmas.List.{get_or-map, length-map, length-set, map-set}
 use Rattle.std.proofs.lemmas.Option.{get_or_from_slice_get, slice_get_within}
@@ -43,9 +43,12 @@ each_stands shards memory c h j t e =
         whole = h.whole;
         count = h.are.count j t e;
         l1_ways = h.l1_ways j t e;
+        l1i_ways = h.l1i_ways j t e;
         l2_ways = h.l2_ways j t e;
         cores = (h.cores j t e).0;
+        fetchers = h.fetchers j t e;
         l1 = λ core. record { many = h.l1_sets j core t e; same = λ line is. h.l1 core line t (keeps line is) };
+        l1i = λ core. record { many = h.l1i_sets j core t e; same = λ line is. h.l1i core line t (keeps line is) };
         l2 = record { many = h.l2_sets j t e; same = λ line is. h.l2 line t (keeps line is) };
       };
       share = record { bytes = λ addr from below is. h.bytes addr t from below (keeps (line_at addr) is) };
@@ -65,19 +68,23 @@ stand_from shards memory c each marks whole coherent room = record {
   marks = marks;
   whole = whole;
   l1 = λ core line t k. ((each (line % length shards) t k).part.l1 core).same line refl;
+  l1i = λ core line t k. ((each (line % length shards) t k).part.l1i core).same line refl;
   l2 = λ line t k. (each (line % length shards) t k).part.l2.same line refl;
   l1_sets = λ j core t e. ((each j t e).part.l1 core).many;
+  l1i_sets = λ j core t e. ((each j t e).part.l1i core).many;
   l2_sets = λ j t e. (each j t e).part.l2.many;
   cores = λ j t e. ((each j t e).part.cores, (each j t e).cores);
+  fetchers = λ j t e. (each j t e).part.fetchers;
   l1_ways = λ j t e. (each j t e).part.l1_ways;
+  l1i_ways = λ j t e. (each j t e).part.l1i_ways;
   l2_ways = λ j t e. (each j t e).part.l2_ways;
   coherent = coherent;
   room = room;
 }
 
--- ---- one access
-module _ (shards : List ShardState) (memory : MarkedMemory) (c : Caches) (s : ShardState) (entry : Entry) (h : StandFor shards memory c) (k : KeepsLine shards (line_of entry.request) s)
-    (can : IsServable memory.base (length memory.bytes) false entry.request) (known : entry.core < length c.l1) where
+-- ---- one access, with instruction caches or without
+module _ {l1i : Bool} (shards : List ShardState) (memory : MarkedMemory) (c : Caches) (s : ShardState) (entry : Entry) (h : StandFor shards memory c) (k : KeepsLine shards (line_of entry.request) s)
+    (can : IsServable memory.base (length memory.bytes) l1i entry.request) (known : entry.core < length c.l1) where
   abbrev n : ℕ
   n = length shards
 
@@ -132,7 +139,7 @@ module _ (shards : List ShardState) (memory : MarkedMemory) (c : Caches) (s : Sh
   bytes_left : length left.bytes ≡ length memory.bytes
   bytes_left = length-bytes_after memory.base memory.bytes (marks_for memory entry.request) entry.core entry.request can
 
-  coherent_left : AreCoherent caches_left × HaveRoomForLines caches_left × (length caches_left.l1 ≡ length c.l1)
+  coherent_left : AreCoherent caches_left × HaveRoomForLines caches_left × (length caches_left.l1 ≡ length c.l1) × (length caches_left.l1i ≡ length c.l1i)
   coherent_left = coherent_stays c entry.core entry.request h.coherent h.room known
 
   own_left : Stands n left caches_left number (shard_after s entry)
@@ -184,11 +191,18 @@ module _ (shards : List ShardState) (memory : MarkedMemory) (c : Caches) (s : Sh
       (λ j t e. subst (λ (m : ℕ). Stands m left caches_left j t) (sym long) (each_after_set (λ i x. Stands n left caches_left i x) shards number (shard_after s entry) within own_left other_left j t e))
       marks_left (shards_stay c entry.core entry.request ∙ h.whole) coherent_left.0 coherent_left.1
 
-pub shards_stand : ShardsStandForAMachine
-shards_stand shards memory c s entry h k can known =
+pub stand_after : {l1i : Bool} (shards : List ShardState) (memory : MarkedMemory) (c : Caches) (s : ShardState) (entry : Entry)
+    → StandFor shards memory c → KeepsLine shards (line_of entry.request) s → IsServable memory.base (length memory.bytes) l1i entry.request → entry.core < length c.l1
+    → (shard_reply s entry ≡ marked_reply memory entry.core entry.request)
+    × (met_by s entry ≡ outcome_of c entry.core entry.request)
+    × StandFor (set shards s.number (shard_after s entry)) (marked_after memory entry.core entry.request) (caches_after c entry.core entry.request)
+stand_after shards memory c s entry h k can known =
     let n : ℕ = length shards in (
       step_reply shards memory c s entry h k can known,
       step_outcome shards memory c s entry h k can known,
       subst (λ (i : ℕ). StandFor (set shards i (shard_after s entry)) (marked_after memory entry.core entry.request) (caches_after c entry.core entry.request)) (sym (own shards memory c s entry h k can known).number)
           (stand_left shards memory c s entry h k can known),
     )
+
+pub shards_stand : ShardsStandForAMachine
+shards_stand shards memory c s entry h k can known = stand_after shards memory c s entry h k can known

@@ -5,11 +5,11 @@ use Rattle.std.specs.List.{All}
 use Rattle.cache_set.specs.declared.letter.Letter.{Letter}
 use Rattle.cache_set.specs.declared.letter.Letter.TheVariants.{I}
 use Rattle.cache_set.specs.Letters.{letter_of}
-use Rattle.cache_set.specs.Ways.{kept_of}
+use Rattle.cache_set.specs.Ways.{kept_of, without}
 use Rattle.cache_set.specs.WaySets.{WaySet, IsWaySet}
 use Rattle.mesi_dir.specs.LineMap.{LineMap, Sharing, KeepsOthers, is_among, is_sharer, nobody, owner_of, sharing_of}
 use Rattle.shard.specs.Coherence.{Caches, is_alone, is_valid, letter_at, letter_in}
-use Rattle.shard.specs.Lines.{set_of}
+use Rattle.shard.specs.Lines.{in_set_of, set_of}
 
 -- ---- the cache of one core
 
@@ -100,14 +100,16 @@ abbrev pub sharing_without : (victim : Option (ℕ × Bool)) → (line : ℕ) �
 sharing_without None line sharing = sharing
 sharing_without (Some victim) line sharing = if nat_eq line victim.0 then nobody else sharing
 
--- ---- all caches of a shard
+-- ---- the data caches and the L2 of a shard, as caches of a machine without instruction caches
 
 abbrev pub lists_view : (shards l1_ways l2_ways : ℕ) → List CoreLines → List SharedLines → Caches
 lists_view shards l1_ways l2_ways l1 l2 = record {
   shards = shards;
   l1_ways = l1_ways;
+  l1i_ways = 0;
   l2_ways = l2_ways;
   l1 = map (λ c. c.sets) l1;
+  l1i = [];
   l2 = map (λ s. s.list) l2;
 }
 
@@ -144,3 +146,31 @@ pub record AreLists (shards l1_ways l2_ways : ℕ) (l1 : List CoreLines) (l2 : L
   pub each_set : All (IsShared l2_ways (length l1)) l2
   -- the directories say of each line which cores have it, and which core has it in M or E
   pub says : SaysLetters (letter_at (lists_view shards l1_ways l2_ways l1 l2)) (sharing_at shards l2)
+
+-- ---- the instruction caches of a shard
+
+pub record InstructionLines : Type 0 where
+  pub ways : ℕ
+  -- by core and by set
+  pub l1i : List (List (List (ℕ × Unit {0})))
+
+-- lines of which nothing is kept but that they are there: the code keeps one letter for all of them
+abbrev pub lines_in : List (ℕ × Letter) → List (ℕ × Unit {0})
+lines_in copies = map (λ way. (way.0, tt)) copies
+
+abbrev pub instructions_view : (ways : ℕ) → List CoreLines → InstructionLines
+instructions_view ways caches = record { ways = ways; l1i = map (λ c. map lines_in c.sets) caches }
+
+-- there is a core at least, and the caches are of so many shards, with so many ways
+pub record AreInstructionCaches (shards ways : ℕ) (caches : List CoreLines) : Type 0 where
+  pub some : 0 < length caches
+  pub each : All (IsCore shards ways) caches
+
+-- all caches of a shard
+abbrev pub with_l1i : Option InstructionLines → Caches → Caches
+with_l1i None c = c
+with_l1i (Some lines) c = record c { l1i_ways = lines.ways; l1i = lines.l1i }
+
+-- no instruction cache has a line any more
+abbrev pub lines_recalled : (shards line : ℕ) → InstructionLines → InstructionLines
+lines_recalled shards line lines = record lines { l1i = map (in_set_of shards line (without line)) lines.l1i }

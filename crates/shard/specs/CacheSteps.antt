@@ -1,10 +1,9 @@
 -- What the steps of an access do to the letters, and what they evict: what each step leaves for the next.
-use Rattle.std.specs.Prelude.{◌≡◌, ◌≢◌, ℕ, Bool, true, false, if◌then◌else◌, IsSome, List, [], length, nat_eq, slice_index_or, Some, None, is_some}
-use Rattle.zs_num.specs.declared.entry.Outcome.{Outcome}
+use Rattle.std.specs.Prelude.{◌≡◌, ◌≢◌, ℕ, Bool, true, false, if◌then◌else◌, IsSome, List, [], length, nat_eq, slice_index_or, Some, None}
 use Rattle.cache_set.specs.declared.letter.Letter.{Letter}
 use Rattle.cache_set.specs.declared.letter.Letter.TheVariants.{I}
 use Rattle.cache_set.specs.Ways.{filled, kept_of}
-use Rattle.shard.specs.Coherence.{Caches, dirty_at, in_own_set_of, is_alone, is_dirty_victim, is_valid, l2_victim, letter_at, on_l2, on_others, on_own, outcome_by, own_after, own_victim, some_other, filled_into_l1}
+use Rattle.shard.specs.Coherence.{Caches, dirty_at, filled_into_l1, in_own_set_of, is_alone, is_valid, l2_victim, letter_at, own_victim}
 use Rattle.shard.specs.Lines.{set_of}
 
 -- a line with the letter I has no copy in its set
@@ -32,17 +31,6 @@ abbrev pub copies_at : Caches → (core line : ℕ) → List (ℕ × Letter)
 copies_at c core line = set_of c.shards line (slice_index_or c.l1 core [])
 
 -- ---- an access of a line
-
--- how the caches meet it, and what it leaves
-abbrev pub met_at : Caches → (core line : ℕ) → (write : Bool) → Outcome
-met_at c core line write =
-    outcome_by write (letter_at c core line) (is_some (dirty_at c line))
-    (some_other is_alone c core line) (some_other is_valid c core line) (is_dirty_victim c (l2_victim c line))
-
-abbrev pub after_at : Caches → (core line : ℕ) → (write : Bool) → Caches
-after_at c core line write =
-    on_own (letter_at c core line) core line (own_after write (letter_at c core line) (some_other is_valid c core line))
-    (on_others (met_at c core line write) write core line (on_l2 (met_at c core line write) line c))
 
 -- a full set of a core has evicted its last line, and the line comes into the set as it would into the full one
 pub record EvictsOwn (old new : Caches) (core line : ℕ) : Type 0 where

@@ -1,7 +1,7 @@
 -- Laws of the definitions.
-use Rattle.std.specs.Prelude.{◌≡◌, ◌≢◌, ℕ, ◌%◌, ◌^◌, ◌<◌, ◌≤◌, ◌==◌, ◌↔◌, Bool, true, false, List, [], ◌∷◌, ◌++◌, All, length, map, replicate, slice_set, Option, None, IsSome, IsTrue}
+use Rattle.std.specs.Prelude.{◌≡◌, ◌≢◌, ◌⊎◌, ℕ, ◌%◌, ◌^◌, ◌<◌, ◌≤◌, ◌==◌, ◌↔◌, Bool, true, false, List, [], ◌∷◌, ◌++◌, All, length, map, replicate, slice_set, Option, None, IfSome, IsSome, IsTrue}
 use Rattle.zs_num.specs.PairedRight.{AreAllPairedRight, pairings_after_all}
-use Rattle.zs_num.specs.Request.{line_of, line_at}
+use Rattle.zs_num.specs.Request.{is_fetch, line_of, line_at}
 use Rattle.zs_num.specs.Servable.{IsServable}
 use Rattle.zs_num.specs.declared.entry.Entry.{Entry}
 use Rattle.zs_num.specs.declared.pairing.Pairing.{Pairing}
@@ -9,13 +9,15 @@ use Rattle.zs_num.specs.declared.request.Request.{Request}
 use Rattle.zs_num.specs.declared.request.Request.TheVariants.{Load, Store, Lr, Sc, Amo, Fetch}
 use Rattle.elf_load.specs.MemoryImage.{MemoryImage}
 use Rattle.machine_desc.specs.Machine.{IsMachine}
+use Rattle.machine_desc.specs.InstructionCaches.{has_l1i}
 use Rattle.machine_desc.specs.declared.machine.Machine.{Machine}
 use Rattle.flat_memory.specs.FlatMemory as flat
 use Rattle.zs_num.specs.declared.entry.Outcome.TheVariants.{Hit}
 use Rattle.cache_set.specs.declared.letter.Letter.TheVariants.{I}
-use Rattle.shard.specs.Coherence.{Caches, caches_after, dirty_at, empty_caches, is_alone, is_valid, is_write, letter_at, outcome_of}
+use Rattle.shard.specs.Coherence.{Caches, caches_after, dirty_at, empty_caches, fetch_holds, is_alone, is_valid, l2_victim, letter_at, outcome_of}
 use Rattle.shard.specs.Accesses.{caches_after_all, outcomes_of}
-use Rattle.shard.specs.Allowed.{allows}
+use Rattle.shard.specs.Allowed.{may_hit}
+use Rattle.shard.specs.HaveL1i.{have_l1i}
 use Rattle.shard.specs.Marks.{MarkedMemory, marked_after, marked_reply}
 use Rattle.shard.specs.Served.{CanServe, KnowsCore, ShardState, met_by, shard_after, shard_reply}
 use Rattle.shard.specs.StandsFor.{AreAnswered, AreCoherent, HaveRoomForLines, HaveSets, KeepsLine, StandFor, accesses_of, flat_for, new_memory, new_shards}
@@ -38,35 +40,63 @@ CoresStay = (shard : ShardState) (entry : Entry) (core : ℕ) → KnowsCore shar
 
 -- ---- the caches of a machine
 
--- an access hits exactly where the core has the line with a letter that allows it
+-- A read or a write hits exactly where the core has the line with a letter that allows it, and a fetch exactly where the
+-- core's L1I has the line.
 abbrev pub HitsAreAllowed : Type 0
-HitsAreAllowed = (c : Caches) (core : ℕ) (request : Request) → (outcome_of c core request ≡ Hit) ↔ IsTrue (allows (is_write request) (letter_at c core (line_of request)))
+HitsAreAllowed = (c : Caches) (core : ℕ) (request : Request) → (outcome_of c core request ≡ Hit) ↔ IsTrue (may_hit c core request)
+
+-- where the L2 has its line, a fetch changes no letter, and no other access changes an instruction cache
+abbrev pub FetchesChangeNoLetter : Type 0
+FetchesChangeNoLetter = (c : Caches) (core addr : ℕ) → IsSome (dirty_at c (line_at addr)) → (caches_after c core (Fetch addr)).l1 ≡ c.l1
+
+abbrev pub WritesLeaveInstructions : Type 0
+WritesLeaveInstructions = (c : Caches) (core : ℕ) (request : Request) → is_fetch request ≡ false → IsSome (dirty_at c (line_of request))
+    → (caches_after c core request).l1i ≡ c.l1i
+
+-- and else a fetch changes letters, and another access instruction caches, for the line alone that the L2 evicts
+abbrev pub FetchesTakeOneLetter : Type 0
+FetchesTakeOneLetter = (c : Caches) (core addr other line : ℕ) → IfSome (l2_victim c (line_at addr)) (λ victim. line ≢ victim.0)
+    → letter_at (caches_after c core (Fetch addr)) other line ≡ letter_at c other line
+
+abbrev pub WritesTakeOneInstruction : Type 0
+WritesTakeOneInstruction = (c : Caches) (core : ℕ) (request : Request) (other line : ℕ) → is_fetch request ≡ false → IfSome (l2_victim c (line_of request)) (λ victim. line ≢ victim.0)
+    → fetch_holds (caches_after c core request) other line ≡ fetch_holds c other line
+
+-- a line that a core fetched is in its instruction cache
+abbrev pub FetchesStay : Type 0
+FetchesStay = (c : Caches) (core addr : ℕ) → HaveRoomForLines c → core < length c.l1i → IsTrue (fetch_holds (caches_after c core (Fetch addr)) core (line_at addr))
 
 -- whatever is accessed, from empty caches on, no set has a line twice or more lines than ways, each line stands in its
 -- own set, and no L1 has a line with the letter I
 abbrev pub SetsStaySound : Type 0
-SetsStaySound = (cores shards l1_sets l1_ways l2_sets l2_ways : ℕ) (accesses : List (ℕ × Request))
-    → HaveSets (caches_after_all (empty_caches cores shards l1_sets l1_ways l2_sets l2_ways) accesses)
+SetsStaySound = (cores shards l1_sets l1_ways fetchers l1i_sets l1i_ways l2_sets l2_ways : ℕ) (accesses : List (ℕ × Request))
+    → HaveSets (caches_after_all (empty_caches cores shards l1_sets l1_ways fetchers l1i_sets l1i_ways l2_sets l2_ways) accesses)
 
 -- Coherence is kept by every access of a core, where there is a set for each line with room for one. So is the room,
 -- and so are the cores.
 abbrev pub CoherentStays : Type 0
 CoherentStays = (c : Caches) (core : ℕ) (request : Request) → AreCoherent c → HaveRoomForLines c → core < length c.l1
-    → AreCoherent (caches_after c core request) × HaveRoomForLines (caches_after c core request) × (length (caches_after c core request).l1 ≡ length c.l1)
+    → AreCoherent (caches_after c core request) × HaveRoomForLines (caches_after c core request)
+    × (length (caches_after c core request).l1 ≡ length c.l1) × (length (caches_after c core request).l1i ≡ length c.l1i)
 
--- what accesses of cores make of empty caches that have a set for each line, with room for one
+-- What accesses of cores make of empty caches that have a set for each line, with room for one. All cores have an
+-- instruction cache, or none has.
 abbrev pub AfterEmpty : (Caches → Type 0) → Type 0
-AfterEmpty Holds = (cores shards l1_sets l1_ways l2_sets l2_ways : ℕ) (accesses : List (ℕ × Request))
-    → 1 ≤ l1_sets → 1 ≤ l1_ways → 1 ≤ l2_sets → 1 ≤ l2_ways → All (λ access. access.0 < cores) accesses
-    → Holds (caches_after_all (empty_caches cores shards l1_sets l1_ways l2_sets l2_ways) accesses)
+AfterEmpty Holds = (cores shards l1_sets l1_ways fetchers l1i_sets l1i_ways l2_sets l2_ways : ℕ) (accesses : List (ℕ × Request))
+    → 1 ≤ l1_sets → 1 ≤ l1_ways → 1 ≤ l2_sets → 1 ≤ l2_ways → (((fetchers ≡ cores) × (1 ≤ l1i_sets) × (1 ≤ l1i_ways)) ⊎ (fetchers ≡ 0))
+    → All (λ access. access.0 < cores) accesses
+    → Holds (caches_after_all (empty_caches cores shards l1_sets l1_ways fetchers l1i_sets l1i_ways l2_sets l2_ways) accesses)
 
 -- where a core has a line in M or E, no other core has it
 abbrev pub SingleWriter : Type 0
 SingleWriter = AfterEmpty (λ c. (core other line : ℕ) → other ≢ core → IsTrue (is_alone (letter_at c core line)) → letter_at c other line ≡ I)
 
--- each line of an L1 stands in the L2
+-- each line of an L1 stands in the L2, and so does each line of an instruction cache
 abbrev pub Inclusion : Type 0
 Inclusion = AfterEmpty (λ c. (core line : ℕ) → IsTrue (is_valid (letter_at c core line)) → IsSome (dirty_at c line))
+
+abbrev pub InstructionsInclusion : Type 0
+InstructionsInclusion = AfterEmpty (λ c. (core line : ℕ) → IsTrue (fetch_holds c core line) → IsSome (dirty_at c line))
 
 -- ---- marks and reservations
 
@@ -104,7 +134,7 @@ MarksAreReservations = (memory : MarkedMemory) (pairings : List (Option Pairing)
 -- shards stand, and they stand for what these leave.
 abbrev pub ShardsStandForAMachine : Type 0
 ShardsStandForAMachine = (shards : List ShardState) (memory : MarkedMemory) (c : Caches) (s : ShardState) (entry : Entry)
-    → StandFor shards memory c → KeepsLine shards (line_of entry.request) s → IsServable memory.base (length memory.bytes) false entry.request → entry.core < length c.l1
+    → StandFor shards memory c → KeepsLine shards (line_of entry.request) s → IsServable memory.base (length memory.bytes) (have_l1i c) entry.request → entry.core < length c.l1
     → (shard_reply s entry ≡ marked_reply memory entry.core entry.request)
     × (met_by s entry ≡ outcome_of c entry.core entry.request)
     × StandFor (slice_set shards s.number (shard_after s entry)) (marked_after memory entry.core entry.request) (caches_after c entry.core entry.request)
@@ -119,7 +149,7 @@ NewShardsStand = (m : Machine) (image : MemoryImage) → IsMachine m
 -- caches of one machine, and the shards that are left stand for what these leave.
 abbrev pub EntriesAreOfOneMachine : Type 0
 EntriesAreOfOneMachine = (shards : List ShardState) (memory : MarkedMemory) (c : Caches) (pairings : List (Option Pairing)) (entries : List Entry) (left : List ShardState)
-    → StandFor shards memory c → length pairings ≡ length c.l1 → All (λ entry. entry.core < length c.l1) entries → All (λ entry. IsServable memory.base (length memory.bytes) false entry.request) entries
+    → StandFor shards memory c → length pairings ≡ length c.l1 → All (λ entry. entry.core < length c.l1) entries → All (λ entry. IsServable memory.base (length memory.bytes) (have_l1i c) entry.request) entries
     → AreAllPairedRight pairings (accesses_of entries) → AreAnswered shards entries left
     → (map (λ entry. entry.reply) entries ≡ flat_replies (flat_for memory pairings) (accesses_of entries))
     × (map (λ entry. entry.outcome) entries ≡ outcomes_of c (accesses_of entries))
@@ -129,7 +159,7 @@ EntriesAreOfOneMachine = (shards : List ShardState) (memory : MarkedMemory) (c :
 -- So it is from the new shards of a machine on, with memory as an executable was loaded and empty caches.
 abbrev pub NewShardsAreOneMachine : Type 0
 NewShardsAreOneMachine = (m : Machine) (image : MemoryImage) (entries : List Entry) (left : List ShardState) → IsMachine m
-    → All (λ entry. entry.core < m.cores) entries → All (λ entry. IsServable image.base image.size false entry.request) entries
+    → All (λ entry. entry.core < m.cores) entries → All (λ entry. IsServable image.base image.size (has_l1i m) entry.request) entries
     → AreAllPairedRight (replicate m.cores None) (accesses_of entries) → AreAnswered (new_shards m image) entries left
     → (map (λ entry. entry.reply) entries ≡ flat_replies (flat.loaded image m.cores) (accesses_of entries))
     × (map (λ entry. entry.outcome) entries ≡ outcomes_of (new_caches m) (accesses_of entries))
@@ -147,12 +177,12 @@ has_written (Fetch addr) reply = false
 abbrev pub ReadAfterWrite : Type 0
 ReadAfterWrite = (shards : List ShardState) (memory : MarkedMemory) (c : Caches) (store load : Entry) (between : List Entry) (left : List ShardState) (addr width value : ℕ)
     → let entries = store ∷ (between ++ (load ∷ [])) in StandFor shards memory c → AreAnswered shards entries left
-    → All (λ entry. entry.core < length c.l1) entries → All (λ entry. IsServable memory.base (length memory.bytes) false entry.request) entries
+    → All (λ entry. entry.core < length c.l1) entries → All (λ entry. IsServable memory.base (length memory.bytes) (have_l1i c) entry.request) entries
     → store.request ≡ Store addr width value → load.request ≡ Load addr width → All (λ entry. IsTrue (has_written entry.request entry.reply) → line_of entry.request ≢ line_at addr) between
     → load.reply ≡ value % 256 ^ width
 
 -- Shards that stand for a machine answer whatever its cores ask of its memory.
 abbrev pub ShardsAnswer : Type 0
 ShardsAnswer = (shards : List ShardState) (memory : MarkedMemory) (c : Caches) (accesses : List (ℕ × Request)) → StandFor shards memory c → 0 < length shards
-    → All (λ access. access.0 < length c.l1) accesses → All (λ access. IsServable memory.base (length memory.bytes) false access.1) accesses
+    → All (λ access. access.0 < length c.l1) accesses → All (λ access. IsServable memory.base (length memory.bytes) (have_l1i c) access.1) accesses
     → (entries : List Entry) × (left : List ShardState) × AreAnswered shards entries left × (accesses_of entries ≡ accesses)

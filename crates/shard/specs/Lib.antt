@@ -3,6 +3,8 @@ pub mod Allowed
 pub mod CacheLayout
 pub mod CacheSteps
 pub mod Coherence
+pub mod InstructionSteps
+pub mod HaveL1i
 pub mod Laws
 pub mod Lines
 pub mod Marks

@@ -1,6 +1,6 @@
 -- A shard, and what it does with an access. All is said by functions of the shard and the recorded entry, so that a
 -- list of entries is at once the list of requests, of replies and of stamps.
-use Rattle.std.specs.Prelude.{◌≡◌, ℕ, ◌+◌, ◌-◌, ◌*◌, ◌/◌, ◌%◌, ◌<◌, List, [], ◌∷◌, length, max, replicate, Option, None, false}
+use Rattle.std.specs.Prelude.{◌≡◌, ℕ, ◌+◌, ◌-◌, ◌*◌, ◌/◌, ◌%◌, ◌<◌, List, [], ◌∷◌, length, max, replicate, Option, None}
 use Rattle.std.specs.List.{flat_map, range_with_len}
 use Rattle.zs_num.specs.Request.{addr_of, line_bytes, line_of, line_at, bank_of_line}
 use Rattle.zs_num.specs.Servable.{IsServable}
@@ -9,8 +9,10 @@ use Rattle.zs_num.specs.declared.entry.Outcome.{Outcome}
 use Rattle.zs_num.specs.declared.request.Request.{Request}
 use Rattle.elf_load.specs.MemoryImage.{MemoryImage, bytes_from}
 use Rattle.machine_desc.specs.declared.machine.Machine.{Machine}
+use Rattle.machine_desc.specs.InstructionCaches.{fetchers_of, l1i_sets_of, l1i_ways_of}
 use Rattle.flat_memory.specs.declared.reservation.Reservation.{Reservation}
 use Rattle.shard.specs.Coherence.{Caches, caches_after, empty_caches, outcome_of}
+use Rattle.shard.specs.HaveL1i.{have_l1i}
 use Rattle.shard.specs.Marks.{bytes_after, marks_after, reply_from}
 
 pub record ShardState : Type 0 where
@@ -35,9 +37,10 @@ lines_below shards base = line_at base / shards
 abbrev pub place_of : (shards base addr : ℕ) → ℕ
 place_of shards base addr = line_bytes * (line_at addr / shards - lines_below shards base) + addr % line_bytes
 
--- what a shard can be asked: an access to a line of its own that memory can serve
+-- what a shard can be asked: an access to a line of its own that the machine can be asked
 unfoldable pub CanServe : ShardState → Request → Type 0
-CanServe shard request = IsServable shard.base shard.size false request × (bank_of_line shard.caches.shards (line_of request) ≡ shard.number)
+CanServe shard request =
+    IsServable shard.base shard.size (have_l1i shard.caches) request × (bank_of_line shard.caches.shards (line_of request) ≡ shard.number)
 
 -- a core that the shard knows
 abbrev pub KnowsCore : ShardState → (core : ℕ) → Type 0
@@ -91,12 +94,17 @@ first_bytes shards number image =
     flat_map (λ line. bytes_from image.segments (line_bytes * (line * shards + number)) line_bytes)
     (range_with_len (lines_below shards image.base) (lines_kept shards image.base image.size))
 
+-- the caches of one shard's lines, empty
+abbrev pub new_caches_of_shard : Machine → Caches
+new_caches_of_shard m = empty_caches m.cores m.l2.banks (m.l1.sets / m.l2.banks) m.l1.ways
+    (fetchers_of m) (l1i_sets_of m / m.l2.banks) (l1i_ways_of m) (m.l2.sets / m.l2.banks) m.l2.ways
+
 abbrev pub new_shard : Machine → (number : ℕ) → MemoryImage → ShardState
 new_shard m number image = record {
   number = number;
   base = image.base;
   size = image.size;
-  caches = empty_caches m.cores m.l2.banks (m.l1.sets / m.l2.banks) m.l1.ways (m.l2.sets / m.l2.banks) m.l2.ways;
+  caches = new_caches_of_shard m;
   bytes = first_bytes m.l2.banks number image;
   marks = replicate m.cores None;
   last = 0;

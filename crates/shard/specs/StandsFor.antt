@@ -1,5 +1,5 @@
 -- What shards stand for together: one memory, and the cache lists of one machine.
-use Rattle.std.specs.Prelude.{◌≡◌, ◌≢◌, ℕ, ◌+◌, ◌-◌, ◌*◌, ◌<◌, ◌≤◌, if◌then◌else◌, IsTrue, IsSome, List, [], ◌∷◌, length, map, replicate, nat_eq, slice_index_or, slice_get, slice_set, Option, Some, None}
+use Rattle.std.specs.Prelude.{◌≡◌, ◌≢◌, ◌⊎◌, ℕ, ◌+◌, ◌-◌, ◌*◌, ◌<◌, ◌≤◌, if◌then◌else◌, IsTrue, IsSome, List, [], ◌∷◌, length, map, replicate, nat_eq, slice_index_or, slice_get, slice_set, Option, Some, None}
 use Rattle.std.specs.List.{All, IsDistinct, range_with_len}
 use Rattle.std.specs.Map.{keys_of}
 use Rattle.zs_num.specs.PairedRight.{pairing_of}
@@ -12,7 +12,8 @@ use Rattle.machine_desc.specs.declared.machine.Machine.{Machine}
 use Rattle.cache_set.specs.declared.letter.Letter.TheVariants.{I}
 use Rattle.flat_memory.specs.declared.reservation.Reservation.{Reservation}
 use Rattle.flat_memory.specs.FlatMemory.{MemoryState, is_reservation}
-use Rattle.shard.specs.Coherence.{Caches, dirty_at, is_alone, is_valid, letter_at}
+use Rattle.shard.specs.Coherence.{Caches, dirty_at, fetch_holds, is_alone, is_valid, letter_at}
+use Rattle.shard.specs.HaveL1i.{have_l1i}
 use Rattle.shard.specs.Lines.{set_number, set_of}
 use Rattle.shard.specs.Marks.{MarkedMemory}
 use Rattle.shard.specs.Served.{ShardState, met_by, new_shard, place_of, shard_after, shard_reply}
@@ -26,19 +27,22 @@ pub record IsSet {X : Type 0} (ways : ℕ) (set : List (ℕ × X)) : Type 0 wher
 
 pub record HaveSets (c : Caches) : Type 0 where
   pub l1 : All (λ sets. All (λ set. IsSet c.l1_ways set) sets) c.l1
+  pub l1i : All (λ sets. All (λ set. IsSet c.l1i_ways set) sets) c.l1i
   pub l2 : All (λ set. IsSet c.l2_ways set) c.l2
   -- what an L1 has it holds: no letter is I
   pub held : (core n : ℕ) → All (λ way. IsTrue (is_valid way.1)) (slice_index_or (slice_index_or c.l1 core []) n [])
   -- each line stands in its own set
   pub l1_placed : (core n : ℕ) → All (λ way. set_number c.shards way.0 (slice_index_or c.l1 core []) ≡ n) (slice_index_or (slice_index_or c.l1 core []) n [])
+  pub l1i_placed : (core n : ℕ) → All (λ way. set_number c.shards way.0 (slice_index_or c.l1i core []) ≡ n) (slice_index_or (slice_index_or c.l1i core []) n [])
   pub l2_placed : (n : ℕ) → All (λ way. set_number c.shards way.0 c.l2 ≡ n) (slice_index_or c.l2 n [])
 
 pub record AreCoherent (c : Caches) : Type 0 where
   pub sets : HaveSets c
   -- a core whose letter for a line is M or E is the only one that has it
   pub single : (core other line : ℕ) → other ≢ core → IsTrue (is_alone (letter_at c core line)) → letter_at c other line ≡ I
-  -- each line of an L1 stands in the L2
+  -- each line of an L1 stands in the L2, and each line of an instruction cache
   pub inclusive : (core line : ℕ) → IsTrue (is_valid (letter_at c core line)) → IsSome (dirty_at c line)
+  pub l1i_inclusive : (core line : ℕ) → IsTrue (fetch_holds c core line) → IsSome (dirty_at c line)
 
 -- there is a set for each line, and room for a line in each
 pub record HaveRoomForLines (c : Caches) : Type 0 where
@@ -46,6 +50,10 @@ pub record HaveRoomForLines (c : Caches) : Type 0 where
   pub l2_ways : 1 ≤ c.l2_ways
   pub l1_sets : (core : ℕ) → core < length c.l1 → 1 ≤ length (slice_index_or c.l1 core [])
   pub l2_sets : 1 ≤ length c.l2
+  -- all cores have an instruction cache, or none has
+  pub fetchers : (length c.l1i ≡ length c.l1) ⊎ (length c.l1i ≡ 0)
+  pub l1i_ways : IsTrue (have_l1i c) → 1 ≤ c.l1i_ways
+  pub l1i_sets : (core : ℕ) → core < length c.l1i → 1 ≤ length (slice_index_or c.l1i core [])
 
 -- ---- shards
 
@@ -70,13 +78,19 @@ pub record StandFor (shards : List ShardState) (memory : MarkedMemory) (c : Cach
   pub whole : c.shards ≡ 1
   pub l1 : (core line : ℕ) (s : ShardState) → KeepsLine shards line s
       → set_of 1 line (slice_index_or c.l1 core []) ≡ set_of (length shards) line (slice_index_or s.caches.l1 core [])
+  pub l1i : (core line : ℕ) (s : ShardState) → KeepsLine shards line s
+      → set_of 1 line (slice_index_or c.l1i core []) ≡ set_of (length shards) line (slice_index_or s.caches.l1i core [])
   pub l2 : (line : ℕ) (s : ShardState) → KeepsLine shards line s → set_of 1 line c.l2 ≡ set_of (length shards) line s.caches.l2
   -- each shard has its part of the sets, and knows all cores
   pub l1_sets : (i core : ℕ) (s : ShardState) → slice_get shards i ≡ Some s
       → length (slice_index_or c.l1 core []) ≡ length shards * length (slice_index_or s.caches.l1 core [])
+  pub l1i_sets : (i core : ℕ) (s : ShardState) → slice_get shards i ≡ Some s
+      → length (slice_index_or c.l1i core []) ≡ length shards * length (slice_index_or s.caches.l1i core [])
   pub l2_sets : (i : ℕ) (s : ShardState) → slice_get shards i ≡ Some s → length c.l2 ≡ length shards * length s.caches.l2
   pub cores : (i : ℕ) (s : ShardState) → slice_get shards i ≡ Some s → (length s.caches.l1 ≡ length c.l1) × (length s.marks ≡ length c.l1)
+  pub fetchers : (i : ℕ) (s : ShardState) → slice_get shards i ≡ Some s → length s.caches.l1i ≡ length c.l1i
   pub l1_ways : (i : ℕ) (s : ShardState) → slice_get shards i ≡ Some s → s.caches.l1_ways ≡ c.l1_ways
+  pub l1i_ways : (i : ℕ) (s : ShardState) → slice_get shards i ≡ Some s → s.caches.l1i_ways ≡ c.l1i_ways
   pub l2_ways : (i : ℕ) (s : ShardState) → slice_get shards i ≡ Some s → s.caches.l2_ways ≡ c.l2_ways
   pub coherent : AreCoherent c
   pub room : HaveRoomForLines c

@@ -1,10 +1,10 @@
-//! The caches of a shard's lines: a cache for each core (L1), and one that all share (L2).
+//! The data caches of a shard's lines: a cache for each core (L1), and one that all share (L2).
 ghost use Rattle.std.specs.Prelude.{◌≡◌, ℕ, ◌<◌, ◌≤◌, [], IfOk, length, replicate, None};
 ghost use Rattle.shard.specs.Coherence.{Caches, dirty_at, empty_caches, letter_at};
 ghost use Rattle.shard.specs.Lines.{set_number};
 
 mod copies;
-mod core_cache;
+pub(crate) mod core_cache;
 mod eviction;
 mod l2;
 mod meet;
@@ -19,8 +19,8 @@ use std::alloc::Global;
 use std::marker::Model;
 use zs_num::NoMemory;
 
-/// The caches of one shard's lines: a cache for each core, and for each set of the L2 its lines and
-/// a directory of them.
+/// The caches of one shard's lines but for instruction caches: a cache for each core, and for each
+/// set of the L2 its lines and a directory of them.
 #[derive(Drop)]
 pub(crate) struct CacheLists {
     shards: u64,
@@ -58,7 +58,7 @@ impl CacheLists {
         requires l1_ways { (1 ≤ l1_ways) × (l1_ways ≤ 32) }
         requires l2_sets { 1 ≤ l2_sets }
         requires l2_ways { (1 ≤ l2_ways) × (l2_ways ≤ 32) }
-        ensures { IfOk result (λ c. c ≡ empty_caches cores shards l1_sets l1_ways l2_sets l2_ways) }
+        ensures { IfOk result (λ c. c ≡ empty_caches cores shards l1_sets l1_ways 0 0 0 l2_sets l2_ways) }
     {
         Ok(CacheLists {
             shards: u64::from(shards),
@@ -90,7 +90,7 @@ impl CacheLists {
     }
 
     /// For how many cores there are caches.
-    fn cores(&self) -> u16
+    pub(crate) fn cores(&self) -> u16
         ensures { result ≡ length self.now.l1 }
     {
         self.l1.len() as u16
@@ -107,7 +107,7 @@ impl CacheLists {
 }
 
 /// The caches of so many cores, without a line.
-fn core_caches(
+pub(crate) fn core_caches(
     alloc: Global,
     cores: u16,
     shards: u16,

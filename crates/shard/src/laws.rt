@@ -1,5 +1,5 @@
 //! Laws over the definitions alone, each the contract of a function that does nothing.
-ghost use Rattle.shard.specs.Laws.{CoherentStays, CoresStay, EntriesAreOfOneMachine, HitsAreAllowed, Inclusion, LastIsStamp, MarksAreReservations, NewShardsAreOneMachine, NewShardsStand, NumberStays, ReadAfterWrite, SetsStaySound, ShardsAnswer, ShardsStandForAMachine, SingleWriter, StillServes};
+ghost use Rattle.shard.specs.Laws.{CoherentStays, CoresStay, EntriesAreOfOneMachine, FetchesChangeNoLetter, FetchesStay, FetchesTakeOneLetter, HitsAreAllowed, Inclusion, InstructionsInclusion, LastIsStamp, MarksAreReservations, NewShardsAreOneMachine, NewShardsStand, NumberStays, ReadAfterWrite, SetsStaySound, ShardsAnswer, ShardsStandForAMachine, SingleWriter, StillServes, WritesLeaveInstructions, WritesTakeOneInstruction};
 
 /// An access leaves a shard its number.
 pub fn number_stays()
@@ -22,7 +22,7 @@ pub fn cores_stay()
 {}
 
 /// An access hits exactly where the core has the line with a letter that allows it: any letter to
-/// read, M or E to write.
+/// read, M or E to write; and a fetch exactly where the core's instruction cache has the line.
 pub fn hits_are_allowed()
     ensures { HitsAreAllowed }
 {}
@@ -52,9 +52,22 @@ pub fn single_writer()
     ensures { SingleWriter }
 {}
 
-/// Whatever cores access, from empty caches on: the L2 has each line that an L1 has.
+/// Whatever cores access, from empty caches on: the L2 has each line that an L1 has, and each line
+/// that an instruction cache has.
 pub fn inclusion()
-    ensures { Inclusion }
+    ensures data { Inclusion }
+    ensures instructions { InstructionsInclusion }
+{}
+
+/// Where the L2 has the line, a fetch changes no letter, and no other access changes an instruction
+/// cache: also a write leaves the line there. Where the L2 does not have it, they change these for
+/// the line alone that the L2 evicts. What a core fetched is in its instruction cache.
+pub fn instructions_are_apart()
+    ensures letters { FetchesChangeNoLetter }
+    ensures instructions { WritesLeaveInstructions }
+    ensures letter { FetchesTakeOneLetter }
+    ensures instruction { WritesTakeOneInstruction }
+    ensures stays { FetchesStay }
 {}
 
 /// What a shard does with an access to a line of its own is what one machine does, and the shards

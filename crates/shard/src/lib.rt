@@ -3,9 +3,11 @@
 
 mod caches;
 mod filling;
+mod instruction_caches;
 pub mod laws;
 mod marked_bytes;
 mod marks;
 mod shard;
+mod shard_caches;
 
 pub use shard::Shard;

@@ -1,14 +1,15 @@
 //! One shard, and what is asked of it.
 ghost use Rattle.std.specs.Prelude.{◌≡◌, ◌+◌, ◌-◌, ◌*◌, ◌%◌, ◌^◌, ◌<◌, ◌≤◌, length, slice_index, IfOk};
 ghost use Rattle.machine_desc.specs.Machine.{IsMachine};
-ghost use Rattle.shard.specs.Coherence.{dirty_at, letter_at};
+ghost use Rattle.shard.specs.Coherence.{dirty_at, fetch_holds, letter_at};
+ghost use Rattle.shard.specs.HaveL1i.{have_l1i};
 ghost use Rattle.zs_num.specs.Request.{line_at, line_bytes, bank_of_line};
 ghost use Rattle.shard.specs.Served.{new_shard, place_of, resumed, shard_after, CanServe, KnowsCore, IsServedBy};
 
-use crate::caches::CacheLists;
 use crate::filling::first_bytes;
 use crate::marked_bytes::MarkedBytes;
 use crate::marks::Marks;
+use crate::shard_caches::ShardCaches;
 use cache_set::Letter;
 use division::quotient;
 use elf_load::Image;
@@ -27,7 +28,7 @@ pub struct Shard {
     count: u64,
     // How many lines of this shard lie below memory.
     below: u64,
-    caches: CacheLists,
+    caches: ShardCaches,
     base: u64,
     size: u64,
     number: u16,
@@ -75,16 +76,7 @@ impl Shard {
         requires size { image.now.size ≡ machine.now.memory.size }
         ensures { IfOk result (λ shard. shard ≡ new_shard machine.now number image.now) }
     {
-        let banks = u32::from(machine.l2.banks);
-        let caches = CacheLists::new(
-            alloc,
-            machine.cores,
-            machine.l2.banks,
-            machine.l1.sets / banks,
-            machine.l1.ways,
-            machine.l2.sets / banks,
-            machine.l2.ways,
-        )?;
+        let caches = ShardCaches::new(alloc, machine)?;
         let count = u64::from(machine.l2.banks);
         let memory = MarkedBytes {
             bytes: first_bytes(alloc, count, number, image)?,
@@ -104,7 +96,8 @@ impl Shard {
 
     /// Serves an access at the core's clock `start`, for a core whose latest stamp is `last`. The
     /// entry's stamp is one more than this and than the shard's own, so both are asked to be small:
-    /// the shard's by `own_stamp`, the core's by `stamp`.
+    /// the shard's by `own_stamp`, the core's by `stamp`. A fetch is of a multiple of 4, on a machine
+    /// with instruction caches.
     #[tactic(auto, unfolding(crate::specs::Served::CanServe, crate::specs::Served::shard_reply, crate::specs::Served::met_by, crate::specs::Served::shard_after))]
     #[inline(always)]
     pub fn serve(&mut self, core: u16, start: Cycle, last: Stamp, request: Request) -> Entry
@@ -118,6 +111,7 @@ impl Shard {
         ensures base { self.new.base ≡ self.old.base }
         ensures size { self.new.size ≡ self.old.size }
         ensures shards { self.new.caches.shards ≡ self.old.caches.shards }
+        ensures l1i { have_l1i self.new.caches ≡ have_l1i self.old.caches }
         ensures cores { length self.new.marks ≡ length self.old.marks }
         ensures last { self.new.last ≡ result.stamp }
     {
@@ -140,6 +134,14 @@ impl Shard {
         ensures { result ≡ letter_at self.now.caches core line }
     {
         self.caches.letter(core, line)
+    }
+
+    /// Whether a core's instruction cache has a line. No core that the shard does not know has one,
+    /// and none of a machine without instruction caches.
+    pub fn fetch_holds(&self, core: u16, line: u64) -> bool
+        ensures { result ≡ fetch_holds self.now.caches core line }
+    {
+        self.caches.fetch_holds(core, line)
     }
 
     /// Whether a line is dirty in the shared cache: None where the shared cache does not hold it.

@@ -1,6 +1,6 @@
 -- The accesses of all cores are served by one memory and by the caches of one machine, one after the other.
-use Rattle.std.proofs.Common.{◌≡◌, ℕ, zero, suc, ◌+◌, ◌<◌, List, [], ◌∷◌, ◌++◌, All, length, map, refl, sym, ◌∙◌, ap, subst, arith, ◌⊎◌, inl, inr, false}
-use Rattle.std.specs.Prelude.{slice_get, slice_set, Some, None}
+use Rattle.std.proofs.Common.{◌≡◌, ℕ, zero, suc, ◌+◌, ◌<◌, List, [], ◌∷◌, ◌++◌, All, length, map, refl, sym, ◌∙◌, ap, subst, arith, ◌⊎◌, inl, inr}
+use Rattle.std.specs.Prelude.{Bool, nat_lt, slice_get, slice_set, Some, None}
 use Rattle.std.specs.List.{enumerate_from, fold}
 use Rattle.std.proofs.lemmas.Bool.{cases_eq}
 use Rattle.std.proofs.lemmas.List.{append_assoc, length-set}
@@ -12,6 +12,7 @@ use Rattle.zs_num.specs.declared.entry.Entry.{Entry}
 use Rattle.access_log.specs.History.{bank_of_entry, each_after, of_bank, of_number}
 use Rattle.shard.specs.Coherence.{Caches, caches_after}
 use Rattle.shard.specs.Accesses.{caches_after_all, outcomes_of}
+use Rattle.shard.specs.HaveL1i.{have_l1i}
 use Rattle.shard.specs.Laws.{CoherentStays, EntriesAreOfOneMachine, NumberStays, ReadAfterWrite, ShardsStandForAMachine, marked_after_all, marked_replies}
 use Rattle.shard.specs.Marks.{MarkedMemory, marked_after}
 use Rattle.shard.specs.Served.{AreServedBy, CanServe, ShardState, shard_after}
@@ -151,47 +152,51 @@ same_size : (s : ShardState) (e : Entry) → (shard_after s e).size ≡ s.size
 unfolding shard_after
 same_size s e = refl
 
-servable_of : (s : ShardState) (e : Entry) → CanServe s e.request → IsServable s.base s.size false e.request
+servable_of : (s : ShardState) (e : Entry) → CanServe s e.request → IsServable s.base s.size (have_l1i s.caches) e.request
 unfolding CanServe
 servable_of s e can = can.0
 
-record AreOfMarked (base size : ℕ) (memory : MarkedMemory) (c : Caches) (entries : List Entry) (left : List ShardState) : Type 0 where
+record AreOfMarked (base size : ℕ) (l1i : Bool) (memory : MarkedMemory) (c : Caches) (entries : List Entry) (left : List ShardState) : Type 0 where
   replies : map (λ e. e.reply) entries ≡ marked_replies memory (accesses_of entries)
   outcomes : map (λ e. e.outcome) entries ≡ outcomes_of c (accesses_of entries)
   stand : StandFor left (marked_after_all memory (accesses_of entries)) (caches_after_all c (accesses_of entries))
   base_is : (marked_after_all memory (accesses_of entries)).base ≡ base
   size_is : length (marked_after_all memory (accesses_of entries)).bytes ≡ size
   cores_are : length (caches_after_all c (accesses_of entries)).l1 ≡ length c.l1
+  l1i_is : have_l1i (caches_after_all c (accesses_of entries)) ≡ l1i
 
-module _ (stand : ShardsStandForAMachine) (coherent : CoherentStays) (base size : ℕ) where
+module _ (stand : ShardsStandForAMachine) (coherent : CoherentStays) (base size : ℕ) (l1i : Bool) where
   marked : (entries : List Entry) (xs : List ShardState) (memory : MarkedMemory) (c : Caches) (left : List ShardState)
-      → StandFor xs memory c → memory.base ≡ base → length memory.bytes ≡ size → All (λ e. e.core < length c.l1) entries → All (λ e. IsServable base size false e.request) entries
-      → AreAnswered xs entries left → AreOfMarked base size memory c entries left
-  marked [] xs memory c left h base_is size_is known can did = record {
+      → StandFor xs memory c → memory.base ≡ base → length memory.bytes ≡ size → have_l1i c ≡ l1i → All (λ e. e.core < length c.l1) entries
+      → All (λ e. IsServable base size l1i e.request) entries → AreAnswered xs entries left → AreOfMarked base size l1i memory c entries left
+  marked [] xs memory c left h base_is size_is l1i_is known can did = record {
     replies = refl;
     outcomes = refl;
     stand = subst (λ (ys : List ShardState). StandFor ys memory c) (sym did) h;
     base_is = base_is;
     size_is = size_is;
     cores_are = refl;
+    l1i_is = l1i_is;
   }
-  marked (e ∷ entries) xs memory c left h base_is size_is known can did =
+  marked (e ∷ entries) xs memory c left h base_is size_is l1i_is known can did =
       let Known : Entry → Type 0 = λ e. e.core < length c.l1 in
-      let Can : Entry → Type 0 = λ e. IsServable base size false e.request in
+      let Can : Entry → Type 0 = λ e. IsServable base size l1i e.request in
       let s : ShardState = did.0 in
       let number : ℕ = bank_of_line (length xs) (line_of e.request) in
       let here_known : Known e = All-head Known e entries known in
-      let here_can : IsServable memory.base (length memory.bytes) false e.request =
-      subst (λ (b : ℕ). IsServable b (length memory.bytes) false e.request) (sym base_is) (subst (λ (m : ℕ). IsServable base m false e.request) (sym size_is) (All-head Can e entries can)) in
+      let here_can : IsServable memory.base (length memory.bytes) (have_l1i c) e.request =
+      subst (λ (b : ℕ). IsServable b (length memory.bytes) (have_l1i c) e.request) (sym base_is)
+      (subst (λ (m : ℕ). IsServable base m (have_l1i c) e.request) (sym size_is) (subst (λ (have : Bool). IsServable base size have e.request) (sym l1i_is) (All-head Can e entries can))) in
       let step = stand xs memory c s e h did.1 here_can here_known in
       let at : slice_get xs s.number ≡ Some s = ap (slice_get xs) (h.are.number number s did.1) ∙ did.1 in
       let later : MarkedMemory = marked_after memory e.core e.request in
       let ys : List ShardState = slice_set xs s.number (shard_after s e) in
       let size_stays : length later.bytes ≡ size =
       sym (step.2.are.size s.number (shard_after s e) (get_set xs s.number s (shard_after s e) at)) ∙ (same_size s e ∙ (h.are.size number s did.1 ∙ size_is)) in
-      let cores_stay : length (caches_after c e.core e.request).l1 ≡ length c.l1 = (coherent c e.core e.request h.coherent h.room here_known).2 in
-      let rest : AreOfMarked base size later (caches_after c e.core e.request) entries left =
-      marked entries ys later (caches_after c e.core e.request) left step.2 base_is size_stays
+      let stays = coherent c e.core e.request h.coherent h.room here_known in
+      let cores_stay : length (caches_after c e.core e.request).l1 ≡ length c.l1 = stays.2 in
+      let rest : AreOfMarked base size l1i later (caches_after c e.core e.request) entries left =
+      marked entries ys later (caches_after c e.core e.request) left step.2 base_is size_stays (ap (nat_lt 0) stays.3 ∙ l1i_is)
       (subst (λ (m : ℕ). All (λ (x : Entry). x.core < m) entries) (sym cores_stay) (All-tail Known e entries known)) (All-tail Can e entries can) did.4 in
       record {
         replies = rw (did.2 ∙ step.0, rest.replies) refl;
@@ -200,6 +205,7 @@ module _ (stand : ShardsStandForAMachine) (coherent : CoherentStays) (base size 
         base_is = rest.base_is;
         size_is = rest.size_is;
         cores_are = rest.cores_are ∙ cores_stay;
+        l1i_is = rest.l1i_is;
       }
 
 -- each core is one of the machine, and what it asks memory can serve
@@ -210,11 +216,12 @@ module _ (t : TableState) (entries : List Entry) (seats : List SeatState) (left 
   all_known : All (λ e. e.core < length c.l1) entries
   all_known = All-weaker May (λ e. e.core < length c.l1) (λ e may. let marks = (h.cores (bank_of_entry (length t.shards) e) may.0 may.1).1 in subst (λ (m : ℕ). e.core < m) marks may.2) entries whole.servable
 
-  all_can : All (λ e. IsServable memory.base (length memory.bytes) false e.request) entries
+  all_can : All (λ e. IsServable memory.base (length memory.bytes) (have_l1i c) e.request) entries
   all_can =
-      All-weaker May (λ e. IsServable memory.base (length memory.bytes) false e.request) (λ e may.
-      subst (λ (m : ℕ). IsServable memory.base m false e.request) (h.are.size (bank_of_entry (length t.shards) e) may.0 may.1)
-      (subst (λ (b : ℕ). IsServable b may.0.size false e.request) (h.are.base (bank_of_entry (length t.shards) e) may.0 may.1) (servable_of may.0 e may.3))) entries whole.servable
+      All-weaker May (λ e. IsServable memory.base (length memory.bytes) (have_l1i c) e.request) (λ e may.
+      subst (λ (have : Bool). IsServable memory.base (length memory.bytes) have e.request) (ap (nat_lt 0) (h.fetchers (bank_of_entry (length t.shards) e) may.0 may.1))
+      (subst (λ (m : ℕ). IsServable memory.base m (have_l1i may.0.caches) e.request) (h.are.size (bank_of_entry (length t.shards) e) may.0 may.1)
+      (subst (λ (b : ℕ). IsServable b may.0.size (have_l1i may.0.caches) e.request) (h.are.base (bank_of_entry (length t.shards) e) may.0 may.1) (servable_of may.0 e may.3)))) entries whole.servable
 
 pub whole_of_one_machine : WholeIsAnswered → CoherentStays → ShardsStandForAMachine → EntriesAreOfOneMachine
     → (t : TableState) (entries : List Entry) (seats : List SeatState) (left : List ShardState) (memory : MarkedMemory) (c : Caches)
@@ -223,7 +230,7 @@ whole_of_one_machine answers coherent stand one_machine t entries seats left mem
     let did : AreAnswered t.shards entries left = answers t entries seats left whole in
     let known = all_known t entries seats left memory c whole h in
     let can = all_can t entries seats left memory c whole h in
-    let m = marked stand coherent memory.base (length memory.bytes) entries t.shards memory c left h refl refl known can did in
+    let m = marked stand coherent memory.base (length memory.bytes) (have_l1i c) entries t.shards memory c left h refl refl refl known can did in
     record {
       replies = m.replies;
       outcomes = m.outcomes;
@@ -248,11 +255,11 @@ reads_after_writes answers coherent stand reads t seats left memory c before bet
     let rest : List Entry = store ∷ (between ++ (load ∷ later)) in
     let first : List Entry = store ∷ (between ++ (load ∷ [])) in
     let Known : Entry → Type 0 = λ e. e.core < length c.l1 in
-    let Can : Entry → Type 0 = λ e. IsServable memory.base (length memory.bytes) false e.request in
+    let Can : Entry → Type 0 = λ e. IsServable memory.base (length memory.bytes) (have_l1i c) e.request in
     let known : All Known (before ++ rest) = all_known t (before ++ rest) seats left memory c whole h in
     let can : All Can (before ++ rest) = all_can t (before ++ rest) seats left memory c whole h in
     let one = answered_split before rest t.shards left (answers t (before ++ rest) seats left whole) in
-    let m = marked stand coherent memory.base (length memory.bytes) before t.shards memory c one.0 h refl refl (left_all Known before rest known) (left_all Can before rest can) one.1 in
+    let m = marked stand coherent memory.base (length memory.bytes) (have_l1i c) before t.shards memory c one.0 h refl refl refl (left_all Known before rest known) (left_all Can before rest can) one.1 in
     let now : MarkedMemory = marked_after_all memory (accesses_of before) in
     let caches : Caches = caches_after_all c (accesses_of before) in
     let again : rest ≡ first ++ later = ap (λ (es : List Entry). store ∷ es) (sym (append_assoc between (load ∷ []) later)) in
@@ -261,6 +268,7 @@ reads_after_writes answers coherent stand reads t seats left memory c before bet
     let can_first : All Can first = left_all Can first later (subst (All Can) again (right_all Can before rest can)) in
     reads one.0 now caches store load between two.0 addr width value m.stand two.1
     (subst (λ (n : ℕ). All (λ (e : Entry). e.core < n) first) (sym m.cores_are) known_first)
-    (subst (λ (b : ℕ). All (λ (e : Entry). IsServable b (length now.bytes) false e.request) first) (sym m.base_is)
-    (subst (λ (n : ℕ). All (λ (e : Entry). IsServable memory.base n false e.request) first) (sym m.size_is) can_first))
+    (subst (λ (b : ℕ). All (λ (e : Entry). IsServable b (length now.bytes) (have_l1i caches) e.request) first) (sym m.base_is)
+    (subst (λ (n : ℕ). All (λ (e : Entry). IsServable memory.base n (have_l1i caches) e.request) first) (sym m.size_is)
+    (subst (λ (have : Bool). All (λ (e : Entry). IsServable memory.base (length memory.bytes) have e.request) first) (sym m.l1i_is) can_first)))
     stored loaded none_wrote

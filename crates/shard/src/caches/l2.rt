@@ -1,5 +1,5 @@
 //! What an access does to the L2.
-ghost use Rattle.std.specs.Prelude.{◌≡◌, ℕ, Bool, IsSome};
+ghost use Rattle.std.specs.Prelude.{◌≡◌, ℕ, Bool, [], IsSome};
 ghost use Rattle.shard.specs.Coherence.{dirty_at, l2_victim, letter_at, looked_up, marked_dirty, filled_into_l2};
 
 use super::CacheLists;
@@ -7,7 +7,7 @@ use cache_set::Letter;
 
 impl CacheLists {
     /// A line of the L2 is the most recently used of its set.
-    pub(super) fn use_line(&mut self, line: u64)
+    pub(crate) fn use_line(&mut self, line: u64)
         requires { IsSome (dirty_at self.old line) }
         ensures { self.new ≡ looked_up line self.old }
     {
@@ -26,8 +26,9 @@ impl CacheLists {
     }
 
     /// The line that is evicted from the L2 for this one, and whether it is dirty there.
-    pub(super) fn l2_victim(&self, line: u64) -> Option<(u64, bool)>
-        ensures { result ≡ l2_victim self.now line }
+    pub(crate) fn l2_victim(&self, line: u64) -> Option<(u64, bool)>
+        ensures victim { result ≡ l2_victim self.now line }
+        ensures data_alone { self.now.l1i ≡ [] }
     {
         self.l2[self.place(line)].victim()
     }

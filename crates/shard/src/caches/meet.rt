@@ -1,31 +1,22 @@
 //! How the caches meet an access: each row of the table of the MESI protocol.
 ghost use Rattle.std.specs.Prelude.{◌≡◌, ◌≢◌, ℕ, ◌<◌, ◌||◌, IsSome, IsTrue, None, false, true, length, if◌then◌else◌};
-ghost use Rattle.shard.specs.CacheSteps.{LeavesFree, EvictsCopies, after_at, met_at};
-ghost use Rattle.shard.specs.Coherence.{caches_after, dirty_at, is_alone, is_dirty_victim, is_valid, is_modified, is_write, l2_victim, letter_at, marked_dirty, on_others, outcome_of, copies_evicted, some_core, some_other};
+ghost use Rattle.shard.specs.CacheSteps.{LeavesFree, EvictsCopies};
+ghost use Rattle.shard.specs.Coherence.{after_at, dirty_at, filled_into_l2, is_alone, is_dirty_victim, is_valid, is_modified, l2_victim, letter_at, marked_dirty, met_at, on_others, copies_evicted, some_core, some_other};
 ghost use Rattle.shard.specs.Allowed.{allows};
 
 use super::CacheLists;
 use cache_set::Letter;
-use zs_num::{Outcome, Request};
+use zs_num::Outcome;
 
 impl CacheLists {
-    /// How the caches meet an access of a core, and what it does to them.
+    /// How the caches meet a read or a write of a line by a core, and what it does to them.
     #[inline(always)]
-    pub(crate) fn meet(&mut self, core: u16, request: Request) -> Outcome
-        requires { core < length self.old.l1 }
-        ensures outcome { result ≡ outcome_of self.old core request }
-        ensures after { self.new ≡ caches_after self.old core request }
-        ensures cores { length self.new.l1 ≡ length self.old.l1 }
-    {
-        self.meet_line(core, request.line(), is_write(&request))
-    }
-
-    /// How they meet a read or a write of a line.
-    #[inline(always)]
-    fn meet_line(&mut self, core: u16, line: u64, write: bool) -> Outcome
+    pub(crate) fn meet_line(&mut self, core: u16, line: u64, write: bool) -> Outcome
         requires { core < length self.old.l1 }
         ensures outcome { result ≡ met_at self.old core line write }
         ensures after { self.new ≡ after_at self.old core line write }
+        ensures cores { length self.new.l1 ≡ length self.old.l1 }
+        ensures shards { self.new.shards ≡ self.old.shards }
     {
         let own = self.letter(core, line);
         if allows(own, write) {
@@ -143,10 +134,26 @@ impl CacheLists {
         ensures outcome { result ≡ met_at self.old core line write }
         ensures after { self.new ≡ after_at self.old core line write }
     {
-        let dirty_victim = self.evict_copies(core, line);
-        self.fill_into_l2(line);
+        let dirty_victim = self.fill_from_memory(core, line);
         self.bring_in(core, line, write);
         Outcome::Miss { dirty_victim }
+    }
+
+    /// A line that no core has comes into the L2 from memory. The answer is whether the line that
+    /// the L2 evicts for it is dirty.
+    pub(crate) fn fill_from_memory(&mut self, core: u16, line: u64) -> bool
+        requires core { core < length self.old.l1 }
+        requires absent { dirty_at self.old line ≡ None }
+        ensures dirty { result ≡ is_dirty_victim self.old (l2_victim self.old line) }
+        ensures after { self.new ≡ filled_into_l2 line (copies_evicted (l2_victim self.old line) self.old) }
+        ensures there { IsSome (dirty_at self.new line) }
+        ensures absent { (c : ℕ) → letter_at self.old c line ≡ Letter.I → letter_at self.new c line ≡ Letter.I }
+        ensures cores { length self.new.l1 ≡ length self.old.l1 }
+        ensures shards { self.new.shards ≡ self.old.shards }
+    {
+        let dirty_victim = self.evict_copies(core, line);
+        self.fill_into_l2(line);
+        dirty_victim
     }
 
     /// Evicts from every L1 the line that is evicted from the L2 for a core's access. The answer is
@@ -183,15 +190,5 @@ fn allows(letter: Letter, write: bool) -> bool
         Letter::M | Letter::E => true,
         Letter::S => !write,
         Letter::I => false,
-    }
-}
-
-/// Whether a request is a write: also a store-conditional that fails.
-fn is_write(request: &Request) -> bool
-    ensures { result ≡ is_write request.now }
-{
-    match *request {
-        Request::Load { .. } | Request::Lr { .. } | Request::Fetch { .. } => false,
-        Request::Store { .. } | Request::Sc { .. } | Request::Amo { .. } => true,
     }
 }

@@ -2,5 +2,5 @@ use Rattle.shard.proofs.CoherentRuns.{from_empty}
 use Rattle.shard.proofs.laws.single_writer.Goals as goal
 
 pub returns : goal.returns
-returns c cores shards l1_sets l1_ways l2_sets l2_ways accesses some1 ways1 some2 ways2 known =
-    (from_empty cores shards l1_sets l1_ways l2_sets l2_ways accesses some1 ways1 some2 ways2 known).single
+returns c cores shards l1_sets l1_ways fetchers l1i_sets l1i_ways l2_sets l2_ways accesses some1 ways1 some2 ways2 fetch known =
+    (from_empty cores shards l1_sets l1_ways fetchers l1i_sets l1i_ways l2_sets l2_ways accesses some1 ways1 some2 ways2 fetch known).single
