@@ -16,17 +16,17 @@ const EXIT: u32 = 0x05d0_0893;
 const ECALL: u32 = 0x73;
 
 /// The image of a program of these words.
-fn image(rt: &(impl Abort + AllocGlobal), words: &[u32]) -> Image {
+pub(crate) fn image(rt: &(impl Abort + AllocGlobal), words: &[u32]) -> Image {
     read(rt, &file_of(rt, words))
 }
 
 /// The one core of a machine, before its first instruction.
 fn core() -> Core {
-    Core::new(0, 1, BASE, BASE + SIZE, BASE, SIZE)
+    Core::new(0, 1, BASE, BASE + SIZE, BASE, SIZE, false)
 }
 
 /// What the core asks for next.
-fn next<P: Program>(core: &mut Core, program: &P) -> Ask {
+pub(crate) fn next<P: Program>(core: &mut Core, program: &P) -> Ask {
     core.next(program)
 }
 
@@ -45,13 +45,13 @@ fn answer(core: &mut Core, number: u64) -> Option<u8>
 }
 
 /// Answers the access that the core asked for.
-fn reply(rt: &impl Abort, core: &mut Core, number: u64) -> Option<u8> {
-    assert!(rt; core.in_progress());
+pub(crate) fn reply(rt: &impl Abort, core: &mut Core, number: u64) -> Option<u8> {
+    assert!(rt; core.request().is_some());
     answer(core, number)
 }
 
 /// Checks what a core asks for.
-fn is_ask(rt: &impl Abort, found: Ask, wanted: Ask) {
+pub(crate) fn is_ask(rt: &impl Abort, found: Ask, wanted: Ask) {
     assert!(rt; found == wanted);
 }
 
@@ -71,7 +71,7 @@ fn is_at(rt: &impl Abort, core: &Core, index: u8, number: u64, pc: u64) {
 }
 
 /// What the first instruction that is not local asks for.
-fn first_ask(core: &mut Core, image: &Image) -> Ask {
+pub(crate) fn first_ask(core: &mut Core, image: &Image) -> Ask {
     for _ in 0..1000 {
         match next(core, image) {
             Ask::Local => {}
@@ -88,10 +88,10 @@ fn asks(rt: &(impl Abort + AllocGlobal), words: &[u32], wanted: Ask) {
 
 /// An access that a core asks for, what it is answered, a register with the number that it then
 /// has, and pc.
-type Access = (Request, u64, u8, u64, u64);
+pub(crate) type Access = (Request, u64, u8, u64, u64);
 
 /// Checks an access of a core, and answers it.
-fn is_asked(rt: &impl Abort, core: &mut Core, image: &Image, access: &Access) {
+pub(crate) fn is_asked(rt: &impl Abort, core: &mut Core, image: &Image, access: &Access) {
     is_ask(rt, first_ask(core, image), Ask::Access(access.0));
     assert!(rt; reply(rt, core, access.1).is_none());
     is_at(rt, core, access.2, access.3, access.4);
@@ -465,7 +465,7 @@ static CALLS: [([u32; 4], u64, u64); 10] = [
 
 #[test]
 fn a_core_begins_with_its_number_the_number_of_cores_and_its_stack(rt: HostRuntime) {
-    let core = Core::new(3, 4, 0x1_0078, 0x10_d000, BASE, SIZE);
+    let core = Core::new(3, 4, 0x1_0078, 0x10_d000, BASE, SIZE, false);
     assert!(rt; core.halted().is_none() && !core.in_progress());
     for n in 0..32 {
         let number = match n {

@@ -1,6 +1,6 @@
 //! Small programs on one core, with numbers from the RISC-V Unprivileged ISA manual and its table
 //! of opcodes. Memory is a flat list of bytes, and each access finds its line in memory.
-ghost use Rattle.std.specs.Prelude.{◌≡◌, ◌-◌, ◌<◌, ◌≤◌, length, vec_capacity, vec_len, Some};
+ghost use Rattle.std.specs.Prelude.{◌≡◌, ◌-◌, ◌<◌, ◌≤◌, length, vec_capacity, vec_len, true, Some};
 ghost use Rattle.machine_desc.specs.Machine.{IsMachine};
 ghost use Rattle.flat_memory.specs.FlatMemory.{memory_after, memory_reply};
 
@@ -79,6 +79,8 @@ impl Port for FlatPort {
     ghost base = { λ p. p.memory.base };
 
     ghost size = { λ p. length p.memory.bytes };
+
+    ghost l1i = { λ p. true };
 
     ghost room = { λ p. vec_capacity p.entries - vec_len p.entries };
 

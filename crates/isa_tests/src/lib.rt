@@ -13,6 +13,8 @@ mod decoding;
 #[cfg(test)]
 mod executables;
 #[cfg(test)]
+mod fetching;
+#[cfg(test)]
 mod files;
 #[cfg(test)]
 mod generating;

@@ -3,6 +3,7 @@
 -- sums are modulo 2^64. An instruction with accesses is in progress until its last access has its reply.
 use Rattle.std.specs.Prelude.{ℕ, ◌+◌, ◌-◌, ◌%◌, ◌^◌, ◌==◌, min, Bool, true, false, ◌&&◌, ◌||◌, if◌then◌else◌, List, [], ◌∷◌, slice_index, slice_set, Some}
 use Rattle.std.specs.Int.{w64, cast_unsigned}
+use Rattle.zs_num.specs.Request.{line_at}
 use Rattle.zs_num.specs.declared.request.AmoOp.{AmoOp}
 use Rattle.zs_num.specs.declared.request.AmoOp.TheVariants as amo
 use Rattle.zs_num.specs.declared.request.Request.{Request}
@@ -17,7 +18,7 @@ use Rattle.rv_core.specs.declared.progress.Reply.{Reply}
 use Rattle.rv_core.specs.declared.why.Why.{Why}
 use Rattle.rv_core.specs.declared.why.Why.TheVariants.{Exit, Misaligned, AtomicAlign, Access, Break}
 use Rattle.rv_core.specs.Accesses.{byte_loads, is_in_memory, joined, load_requests, low_bytes, sign_extended_bytes, store_requests}
-use Rattle.rv_core.specs.CoreState.{CoreState, Ending, ToRegister, ToConsole, ToNothing}
+use Rattle.rv_core.specs.CoreState.{CoreState, Ending, ToRegister, ToConsole, ToExecution, ToNothing}
 use Rattle.zs_num.specs.Pairing.{is_paired}
 
 -- ---- registers, pc and halts
@@ -52,10 +53,15 @@ abbrev pub received : Destination → List Reply → ℕ
 received destination replies =
     let number = joined replies % 2 ^ 64 in if destination.signed then sign_extended_bytes destination.width number else number
 
+-- the instruction at pc was fetched
+abbrev pub has_fetched : CoreState → CoreState
+has_fetched core = record core { fetched_line = Some (line_at core.pc); is_fetched = true }
+
 -- The last reply has come. The bytes of a write call are on the console by then, and a0 (x10) gets their count.
 unfoldable pub ended : Ending → List Reply → CoreState → CoreState
 ended (ToRegister destination) replies core = goes_on core destination.rd (received destination replies)
 ended (ToConsole count) replies core = goes_on core 10 count
+ended ToExecution replies core = has_fetched core
 ended ToNothing replies core = goes_on core 0 0
 
 -- the core goes through an instruction with these accesses left, the first of which comes next

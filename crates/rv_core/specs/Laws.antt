@@ -1,20 +1,22 @@
 -- Words of the laws over whole instructions and whole runs of a core.
-use Rattle.std.specs.Prelude.{◌≡◌, ℕ, zero, suc, ◌+◌, ◌*◌, ◌/◌, ◌%◌, ◌^◌, ◌≤◌, List, [], ◌∷◌, take, drop, Some}
+use Rattle.std.specs.Prelude.{◌≡◌, ℕ, zero, suc, not, ◌&&◌, is_some, ◌+◌, ◌*◌, ◌/◌, ◌%◌, ◌^◌, ◌≤◌, List, [], ◌∷◌, take, drop, Bool, IsTrue, Some}
 use Rattle.std.specs.List.{flat_map}
 use Rattle.zs_num.specs.declared.request.Request.{Request}
 use Rattle.zs_num.specs.declared.request.Request.TheVariants.{Load, Store, Lr, Sc, Amo, Fetch}
-use Rattle.zs_num.specs.Request.{addr_of, width_of}
-use Rattle.elf_load.specs.MemoryImage.{MemoryImage}
+use Rattle.zs_num.specs.Request.{addr_of, line_at, width_of}
+use Rattle.elf_load.specs.MemoryImage.{MemoryImage, fetched_word}
+use Rattle.elf_load.specs.SoundImage.{IsSoundImage}
 use Rattle.rv_core.specs.declared.memory_range.MemoryRange.{MemoryRange}
 use Rattle.rv_core.specs.declared.progress.Reply.{Reply}
 use Rattle.rv_core.specs.Accesses.{reply_to}
 use Rattle.rv_core.specs.CoreState.{CoreState, InProgress}
-use Rattle.rv_core.specs.Step.{answered, initial_core}
+use Rattle.rv_core.specs.Step.{answered, initial_core, is_latest, needs_fetch}
 use Rattle.rv_core.specs.Asked.{advanced}
 
 -- A core came to a state: from the start, by instructions of any program and by replies, whatever they are.
 pub data IsReached : CoreState → Type 0 where
-  starts : (number cores entry sp : ℕ) (memory : MemoryRange) → memory.base + memory.size ≤ 2 ^ 48 → IsReached (initial_core number cores entry sp memory)
+  starts : (number cores entry sp : ℕ) (memory : MemoryRange) (fetching : Bool) → memory.base + memory.size ≤ 2 ^ 48 → (IsTrue fetching → entry % 4 ≡ 0)
+      → IsReached (initial_core number cores entry sp memory fetching)
   advances : (image : MemoryImage) (core : CoreState) → IsReached core → IsReached (advanced image core)
   is_answered : (reply : ℕ) (core : CoreState) → IsReached core → IsReached (answered reply core)
 
@@ -57,3 +59,10 @@ number_of_bytes (byte ∷ bytes) = byte + 256 * number_of_bytes bytes
 abbrev pub replies_loaded : List Request → List ℕ → List Reply
 replies_loaded [] bytes = []
 replies_loaded (request ∷ requests) bytes = reply_to request (number_of_bytes (take (width_of request) bytes)) ∷ replies_loaded requests (drop (width_of request) bytes)
+
+-- In an image of the core's memory, a core that fetches has to fetch an instruction exactly where its four bytes are in
+-- one executable segment and their line is not that of the core's latest fetch: segments lie in memory.
+abbrev pub FetchesWhereAWordIs : Type 0
+FetchesWhereAWordIs = (image : MemoryImage) (core : CoreState) → IsSoundImage image → image.base ≡ core.memory.base → image.size ≡ core.memory.size
+    → needs_fetch image core
+    ≡ (core.fetching && not (is_latest core.fetched_line (line_at core.pc)) && is_some (fetched_word image.segments core.pc))

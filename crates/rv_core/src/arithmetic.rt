@@ -3,6 +3,7 @@ ghost use Rattle.std.specs.Prelude.{◌≡◌, ◌<◌, IsTrue};
 ghost use Rattle.rv_alu.specs.Computing.{is_arithmetic};
 ghost use Rattle.rv_core.specs.Effect.{computes, computes_immediate};
 ghost use Rattle.rv_core.specs.Step.{is_free};
+ghost use Rattle.rv_core.specs.Asked.{is_idle};
 
 use crate::Core;
 use rv_alu::alu;
@@ -13,7 +14,7 @@ impl Core {
     #[inline(always)]
     pub(crate) fn compute_with_immediate(&mut self, name: Name, inst: &Inst) -> bool
         requires name { IsTrue (is_arithmetic name) }
-        requires free { IsTrue (is_free self.old) }
+        requires idle { IsTrue (is_idle self.old) }
         requires rd { inst.now.rd < 32 }
         requires rs1 { inst.now.rs1 < 32 }
         requires rs2 { inst.now.rs2 < 32 }
@@ -28,7 +29,7 @@ impl Core {
     #[inline(always)]
     pub(crate) fn compute(&mut self, name: Name, inst: &Inst) -> bool
         requires name { IsTrue (is_arithmetic name) }
-        requires free { IsTrue (is_free self.old) }
+        requires idle { IsTrue (is_idle self.old) }
         requires rd { inst.now.rd < 32 }
         requires rs1 { inst.now.rs1 < 32 }
         requires rs2 { inst.now.rs2 < 32 }

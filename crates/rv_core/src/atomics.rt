@@ -6,6 +6,7 @@ ghost use Rattle.zs_num.specs.Servable.{MayFetch};
 ghost use Rattle.rv_core.specs.Effect.{atomic, load_reserved, store_conditional, updates};
 ghost use Rattle.rv_core.specs.CoreState.{ToRegister};
 ghost use Rattle.rv_core.specs.Step.{is_free};
+ghost use Rattle.rv_core.specs.Asked.{is_idle};
 
 use crate::progress::Destination;
 use crate::replies::low_bytes;
@@ -16,7 +17,7 @@ use zs_num::{AmoOp, Request};
 impl Core {
     /// A load-reserved of so many bytes.
     pub(crate) fn load_reserved(&mut self, width: u8, inst: &Inst) -> bool
-        requires free { IsTrue (is_free self.old) }
+        requires idle { IsTrue (is_idle self.old) }
         requires width { (width ≡ 4) ⊎ (width ≡ 8) }
         requires rd { inst.now.rd < 32 }
         requires rs1 { inst.now.rs1 < 32 }
@@ -29,7 +30,7 @@ impl Core {
 
     /// A store-conditional of so many bytes.
     pub(crate) fn store_conditional(&mut self, width: u8, inst: &Inst) -> bool
-        requires free { IsTrue (is_free self.old) }
+        requires idle { IsTrue (is_idle self.old) }
         requires width { (width ≡ 4) ⊎ (width ≡ 8) }
         requires rd { inst.now.rd < 32 }
         requires rs1 { inst.now.rs1 < 32 }
@@ -49,7 +50,7 @@ impl Core {
 
     /// An atomic read-modify-write of so many bytes.
     pub(crate) fn update(&mut self, op: AmoOp, width: u8, inst: &Inst) -> bool
-        requires free { IsTrue (is_free self.old) }
+        requires idle { IsTrue (is_idle self.old) }
         requires width { (width ≡ 4) ⊎ (width ≡ 8) }
         requires rd { inst.now.rd < 32 }
         requires rs1 { inst.now.rs1 < 32 }
@@ -69,7 +70,7 @@ impl Core {
     /// Asks for the access of an atomic, unless it is not aligned or not in memory.
     #[tactic(auto, unfolding(crate::specs::Effect::accesses, crate::specs::Effect::atomic))]
     fn ask_atomic(&mut self, request: Request, destination: Destination) -> bool
-        requires free { IsTrue (is_free self.old) }
+        requires idle { IsTrue (is_idle self.old) }
         requires width { (width_of request ≡ 4) ⊎ (width_of request ≡ 8) }
         requires rd { destination.rd < 32 }
         requires same_width { destination.width ≡ width_of request }

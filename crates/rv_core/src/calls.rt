@@ -2,6 +2,7 @@
 ghost use Rattle.std.specs.Prelude.{◌≡◌, IsTrue};
 ghost use Rattle.rv_core.specs.Effect.{calls, writes};
 ghost use Rattle.rv_core.specs.Step.{is_free};
+ghost use Rattle.rv_core.specs.Asked.{is_idle};
 
 use crate::state::A0;
 use crate::{Core, Why};
@@ -37,7 +38,7 @@ impl Core {
     /// A call of the environment by its number in a7.
     #[tactic(auto, unfolding(crate::specs::Effect::calls))]
     pub(crate) fn call(&mut self) -> bool
-        requires { IsTrue (is_free self.old) }
+        requires { IsTrue (is_idle self.old) }
         ensures value { self.new ≡ calls self.old }
         ensures free { result ≡ is_free self.new }
     {
@@ -52,7 +53,7 @@ impl Core {
     /// The write call: its bytes are loaded one by one.
     #[tactic(auto, unfolding(crate::specs::Effect::writes))]
     fn write_call(&mut self) -> bool
-        requires { IsTrue (is_free self.old) }
+        requires { IsTrue (is_idle self.old) }
         ensures value { self.new ≡ writes self.old }
         ensures free { result ≡ is_free self.new }
     {

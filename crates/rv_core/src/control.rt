@@ -3,6 +3,7 @@ ghost use Rattle.std.specs.Prelude.{◌≡◌, ◌<◌, IsTrue};
 ghost use Rattle.rv_alu.specs.Computing.{is_branch};
 ghost use Rattle.rv_core.specs.Effect.{address, branches, even, jumps, relative};
 ghost use Rattle.rv_core.specs.Step.{is_free};
+ghost use Rattle.rv_core.specs.Asked.{is_idle};
 
 use crate::{Core, Why};
 use rv_alu::taken;
@@ -12,7 +13,7 @@ impl Core {
     /// JAL.
     #[inline(always)]
     pub(crate) fn jump(&mut self, inst: &Inst) -> bool
-        requires free { IsTrue (is_free self.old) }
+        requires idle { IsTrue (is_idle self.old) }
         requires rd { inst.now.rd < 32 }
         ensures value { self.new ≡ jumps inst.now.rd (relative inst.now self.old) self.old }
         ensures free { result ≡ is_free self.new }
@@ -23,7 +24,7 @@ impl Core {
     /// JALR, which clears the lowest bit of its target.
     #[inline(always)]
     pub(crate) fn jump_by_register(&mut self, inst: &Inst) -> bool
-        requires free { IsTrue (is_free self.old) }
+        requires idle { IsTrue (is_idle self.old) }
         requires rd { inst.now.rd < 32 }
         requires rs1 { inst.now.rs1 < 32 }
         ensures value { self.new ≡ jumps inst.now.rd (even (address inst.now self.old)) self.old }
@@ -38,7 +39,7 @@ impl Core {
     #[tactic(auto, unfolding(crate::specs::Effect::branches))]
     pub(crate) fn branch(&mut self, name: Name, inst: &Inst) -> bool
         requires name { IsTrue (is_branch name) }
-        requires free { IsTrue (is_free self.old) }
+        requires idle { IsTrue (is_idle self.old) }
         requires rd { inst.now.rd < 32 }
         requires rs1 { inst.now.rs1 < 32 }
         requires rs2 { inst.now.rs2 < 32 }
@@ -57,7 +58,7 @@ impl Core {
     #[inline(always)]
     #[tactic(auto, unfolding(crate::specs::Effect::jumps))]
     fn jump_to(&mut self, rd: u8, target: u64) -> bool
-        requires free { IsTrue (is_free self.old) }
+        requires idle { IsTrue (is_idle self.old) }
         requires rd { rd < 32 }
         ensures value { self.new ≡ jumps rd target self.old }
         ensures free { result ≡ is_free self.new }

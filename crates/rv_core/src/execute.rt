@@ -2,6 +2,7 @@
 ghost use Rattle.std.specs.Prelude.{◌≡◌, ◌<◌, IsTrue};
 ghost use Rattle.rv_core.specs.Effect.{effect};
 ghost use Rattle.rv_core.specs.Step.{is_free};
+ghost use Rattle.rv_core.specs.Asked.{is_idle};
 
 use crate::{Core, Why};
 use rv_decode::{Inst, Name};
@@ -15,7 +16,7 @@ impl Core {
     #[inline(always)]
     #[tactic(auto, unfolding(crate::specs::Effect::effect))]
     pub(crate) fn execute<T>(&mut self, inst: &Inst) -> bool
-        requires free { IsTrue (is_free self.old) }
+        requires idle { IsTrue (is_idle self.old) }
         requires rd { inst.now.rd < 32 }
         requires rs1 { inst.now.rs1 < 32 }
         requires rs2 { inst.now.rs2 < 32 }

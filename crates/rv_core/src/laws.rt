@@ -9,7 +9,7 @@ ghost use Rattle.zs_num.specs.declared.request.Request.{Request};
 ghost use Rattle.rv_core.specs.Accesses.{joined, load_requests, store_requests};
 ghost use Rattle.rv_core.specs.CoreState.{CoreState, InProgress};
 ghost use Rattle.rv_core.specs.Effect.{register};
-ghost use Rattle.rv_core.specs.Laws.{addresses, addresses_of, bytes_of, bytes_stored, number_of_bytes, replies_loaded, Asks, IsReached};
+ghost use Rattle.rv_core.specs.Laws.{addresses, addresses_of, bytes_of, bytes_stored, number_of_bytes, replies_loaded, Asks, FetchesWhereAWordIs, IsReached};
 ghost use Rattle.rv_core.specs.Sound.{IsSoundCore};
 ghost use Rattle.rv_core.specs.Step.{answered};
 ghost use Rattle.rv_core.specs.Asked.{advanced};
@@ -29,14 +29,16 @@ pub fn reached_cores_are_sound()
     rv_decode::laws::fields_are_in_range();
 }
 
-/// A step and a reply leave a sound core sound, and its memory where it is. A step leaves its
-/// pairing, and a reply gives it the one that the access leaves.
+/// A step and a reply leave a sound core sound, and its memory where it is; whether it fetches stays
+/// as it is. A step leaves its pairing, and a reply gives it the one that the access leaves.
 pub fn cores_stay_sound()
     ensures advanced { (image : MemoryImage) (core : CoreState) → IsSoundCore core → IsSoundCore (advanced image core) }
     ensures advanced_memory { (image : MemoryImage) (core : CoreState) → IsSoundCore core → (advanced image core).memory ≡ core.memory }
+    ensures advanced_fetching { (image : MemoryImage) (core : CoreState) → IsSoundCore core → (advanced image core).fetching ≡ core.fetching }
     ensures advanced_pairing { (image : MemoryImage) (core : CoreState) → IsSoundCore core → (advanced image core).pairing ≡ core.pairing }
     ensures answered { (reply : ℕ) (core : CoreState) → IsSoundCore core → IsSoundCore (answered reply core) }
     ensures answered_memory { (reply : ℕ) (core : CoreState) → IsSoundCore core → (answered reply core).memory ≡ core.memory }
+    ensures answered_fetching { (reply : ℕ) (core : CoreState) → IsSoundCore core → (answered reply core).fetching ≡ core.fetching }
     ensures answered_pairing { (reply : ℕ) (core : CoreState) (now : InProgress) → IsSoundCore core → core.instruction ≡ Some now
         → (answered reply core).pairing ≡ pairing_after core.pairing now.next }
 {
@@ -72,4 +74,11 @@ pub fn accesses_are_little_endian()
         → flat_map bytes_stored (store_requests addr width value) ≡ bytes_of width value }
     ensures loads { (addr width : ℕ) (bytes : List ℕ) → length bytes ≡ width → All (λ b. b < 256) bytes
         → joined (replies_loaded (load_requests addr width) bytes) ≡ number_of_bytes bytes }
+{}
+
+/// A core that fetches has to fetch an instruction exactly where its four bytes are in one
+/// executable segment and their line is not that of the core's latest fetch, where the image is of
+/// the core's memory.
+pub fn fetches_where_a_word_is()
+    ensures { FetchesWhereAWordIs }
 {}

@@ -24,4 +24,5 @@ pub use ask::Ask;
 pub use decoded_program::DecodedProgram;
 pub use program::{Fetched, Program};
 pub use state::Core;
+pub use step::Stepped;
 pub use why::Why;

@@ -3,6 +3,7 @@ ghost use Rattle.std.specs.Prelude.{◌≡◌, ◌<◌, ◌≤◌, IsTrue};
 ghost use Rattle.rv_core.specs.Accesses.{is_in_line, left_in_line, low_bytes};
 ghost use Rattle.rv_core.specs.Effect.{loads, stores};
 ghost use Rattle.rv_core.specs.Step.{is_free};
+ghost use Rattle.rv_core.specs.Asked.{is_idle};
 
 use crate::progress::Destination;
 use crate::replies::{high_bytes, low_bytes};
@@ -14,7 +15,7 @@ impl Core {
     /// A load of so many bytes: one access, or two where it crosses a line.
     #[tactic(auto, unfolding(crate::specs::Accesses::load_requests, crate::specs::Effect::accesses))]
     pub(crate) fn load(&mut self, width: u8, signed: bool, inst: &Inst) -> bool
-        requires free { IsTrue (is_free self.old) }
+        requires idle { IsTrue (is_idle self.old) }
         requires some { 1 ≤ width }
         requires few { width ≤ 8 }
         requires rd { inst.now.rd < 32 }
@@ -49,7 +50,7 @@ impl Core {
     /// lower line gets the lower bytes.
     #[tactic(auto, unfolding(crate::specs::Accesses::store_requests, crate::specs::Effect::accesses))]
     pub(crate) fn store(&mut self, width: u8, inst: &Inst) -> bool
-        requires free { IsTrue (is_free self.old) }
+        requires idle { IsTrue (is_idle self.old) }
         requires some { 1 ≤ width }
         requires few { width ≤ 8 }
         requires rs1 { inst.now.rs1 < 32 }

@@ -24,6 +24,12 @@ pub struct Reply {
 pub enum Progress {
     /// No instruction is in progress.
     Idle,
+    /// An instruction was fetched, and is to be executed.
+    Fetched,
+    /// An instruction has its fetch next, at this address, and then its execution.
+    Fetch {
+        addr: u64,
+    },
     /// A load or a store has an access to the lower line next, and then one to the upper line.
     Lower {
         next: Request,

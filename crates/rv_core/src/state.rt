@@ -1,5 +1,5 @@
 //! The state of a core.
-ghost use Rattle.std.specs.Prelude.{◌≡◌, ◌+◌, ◌<◌, ◌≤◌, ◌^◌, ◌++◌, [], ◌∷◌, None, IsTrue, IsSome, IfSome, option_map, is_some, option_to_list};
+ghost use Rattle.std.specs.Prelude.{◌≡◌, ◌+◌, ◌%◌, ◌<◌, ◌≤◌, ◌^◌, ◌++◌, [], ◌∷◌, false, None, IsTrue, IsSome, IfSome, option_map, option_to_list};
 ghost use Rattle.zs_num.specs.PairedRight.{ArePairedRight, IsPairedRight};
 ghost use Rattle.zs_num.specs.Pairing.{is_paired};
 ghost use Rattle.zs_num.specs.Request.{width_of};
@@ -10,7 +10,8 @@ ghost use Rattle.rv_core.specs.Effect.{ended, goes_on, goes_through, goes_to, ha
 ghost use Rattle.rv_core.specs.Fetch.{fetched_at};
 ghost use Rattle.rv_core.specs.Decoded.{HasRegisters};
 ghost use Rattle.rv_core.specs.Progress.{ending_of, IsNarrow};
-ghost use Rattle.rv_core.specs.Step.{answered, console_byte, initial_core, is_free, replies_with};
+ghost use Rattle.rv_core.specs.Asked.{is_idle, is_in_progress};
+ghost use Rattle.rv_core.specs.Step.{answered, asks_for_instruction, console_byte, initial_core, is_free, is_latest, replies_with, unfetched};
 
 use crate::memory_range::MemoryRange;
 use crate::pairing::{is_paired, pair};
@@ -19,7 +20,7 @@ use crate::replies::{received, reply_to};
 use crate::{Fetched, Program, Why};
 use rv_decode::Inst;
 use std::marker::Model;
-use zs_num::{Pairing, Request};
+use zs_num::{LINE, Pairing, Request};
 
 /// The register a0.
 pub(crate) const A0: u8 = 10;
@@ -35,27 +36,39 @@ pub struct Core {
     halted: Option<Why>,
     pairing: Option<Pairing>,
     memory: MemoryRange,
+    // Whether it fetches its instructions, and the line of its latest fetch.
+    fetching: bool,
+    line: Option<u64>,
 }
 
 impl Model for Core {
     ghost use Rattle.rv_core.specs.CoreState.{CoreState};
-    ghost use Rattle.rv_core.specs.Progress.{in_progress, IsBounded};
+    ghost use Rattle.rv_core.specs.Progress.{in_progress, is_fetched, IsBounded};
     ghost use Rattle.rv_core.specs.Sound.{IsSoundCore};
 
     ghost Value = { CoreState };
 
-    ghost view = { λ c. record { registers = c.registers; pc = c.pc; memory = c.memory; pairing = c.pairing; instruction = in_progress c.progress; halted = c.halted } };
+    ghost view = { λ c. record { registers = c.registers; pc = c.pc; memory = c.memory; pairing = c.pairing; instruction = in_progress c.progress; fetching = c.fetching; fetched_line = c.line; is_fetched = is_fetched c.progress; halted = c.halted } };
 
-    ghost invariant = { λ c. IsSoundCore (record { registers = c.registers; pc = c.pc; memory = c.memory; pairing = c.pairing; instruction = in_progress c.progress; halted = c.halted }) × IsBounded c.memory c.progress };
+    ghost invariant = { λ c. IsSoundCore (record { registers = c.registers; pc = c.pc; memory = c.memory; pairing = c.pairing; instruction = in_progress c.progress; fetching = c.fetching; fetched_line = c.line; is_fetched = is_fetched c.progress; halted = c.halted }) × IsBounded c.memory c.progress };
 }
 
 impl Core {
     /// The core of this number at the start: `cores` is how many there are, and memory has `size`
-    /// bytes from `base` on.
+    /// bytes from `base` on. `fetching` says whether it fetches its instructions, by accesses.
     #[tactic(auto, unfolding(crate::specs::Step::initial_core))]
-    pub fn new(number: u16, cores: u16, entry: u64, sp: u64, base: u64, size: u64) -> Self
-        requires { base + size ≤ 2 ^ 48 }
-        ensures { result ≡ initial_core number cores entry sp (record { base = base; size = size }) }
+    pub fn new(
+        number: u16,
+        cores: u16,
+        entry: u64,
+        sp: u64,
+        base: u64,
+        size: u64,
+        fetching: bool,
+    ) -> Self
+        requires memory { base + size ≤ 2 ^ 48 }
+        requires aligned { IsTrue fetching → entry % 4 ≡ 0 }
+        ensures { result ≡ initial_core number cores entry sp (record { base = base; size = size }) fetching }
     {
         let mut registers = [0; 32];
         registers[2] = sp;
@@ -69,6 +82,8 @@ impl Core {
             halted: None,
             pairing: None,
             memory: MemoryRange { base, size },
+            fetching,
+            line: None,
         }
     }
 
@@ -98,32 +113,61 @@ impl Core {
         self.halted
     }
 
-    /// The access that the instruction in progress needs next, or None where none is in progress.
+    /// The access that the instruction in progress needs next, or None where it waits for none.
     #[inline(always)]
     pub fn request(&self) -> Option<Request>
         ensures value { result ≡ option_map (λ now. now.next) self.now.instruction }
-        ensures served { IfSome result (IsServableIn self.now.memory) }
+        ensures served { IfSome result (IsServableIn self.now.memory self.now.fetching) }
         ensures sound { IsSoundCore self.now }
     {
         match self.progress {
-            Progress::Idle => None,
+            Progress::Idle | Progress::Fetched => None,
+            Progress::Fetch { addr } => Some(Request::Fetch { addr }),
             Progress::Lower { next, .. } | Progress::Last { next, .. } => Some(next),
             Progress::Write { addr, .. } => Some(Request::Load { addr, width: 1 }),
         }
     }
 
-    /// Whether the core comes to its next instruction: it has not halted, and none is in progress.
+    /// Whether the core goes on by itself: it has not halted, and waits for no reply.
     #[inline(always)]
     pub fn is_free(&self) -> bool
         ensures { result ≡ is_free self.now }
     {
-        self.halted.is_none() && matches!(self.progress, Progress::Idle)
+        self.halted.is_none() && matches!(self.progress, Progress::Idle | Progress::Fetched)
     }
 
-    /// Whether an instruction is in progress, so that a further access is needed.
+    /// Whether the core fetches its instructions.
+    #[inline(always)]
+    pub fn is_fetching(&self) -> bool
+        ensures value { result ≡ self.now.fetching }
+        ensures sound { IsSoundCore self.now }
+    {
+        self.fetching
+    }
+
+    /// Whether the instruction at pc was fetched and is to be executed.
+    #[inline(always)]
+    pub fn is_fetched(&self) -> bool
+        ensures { result ≡ self.now.is_fetched }
+    {
+        matches!(self.progress, Progress::Fetched)
+    }
+
+    /// A core that does not fetch has no instruction that was fetched.
+    #[inline(always)]
+    pub(crate) fn has_none_fetched(&self)
+        requires { self.now.fetching ≡ false }
+        ensures fetched { self.now.is_fetched ≡ false }
+        ensures sound { IsSoundCore self.now }
+    {
+        let _ = &self.fetching;
+    }
+
+    /// Whether an instruction is in progress: it needs a further access, or was fetched and is to be
+    /// executed.
     #[inline(always)]
     pub fn in_progress(&self) -> bool
-        ensures { result ≡ is_some self.now.instruction }
+        ensures { result ≡ is_in_progress self.now }
     {
         !matches!(self.progress, Progress::Idle)
     }
@@ -153,7 +197,9 @@ impl Core {
     #[inline(always)]
     #[tactic(auto, unfolding(crate::specs::Effect::goes_to))]
     pub(crate) fn go_to(&mut self, rd: u8, value: u64, target: u64)
-        requires { rd < 32 }
+        requires rd { rd < 32 }
+        requires aligned { IsTrue self.old.fetching → target % 4 ≡ 0 }
+        requires fetched { self.old.is_fetched ≡ false }
         ensures value { self.new ≡ goes_to self.old rd value target }
         ensures free { is_free self.new ≡ is_free self.old }
     {
@@ -166,7 +212,8 @@ impl Core {
     /// Writes a register, unless it is x0, and goes on at the next instruction.
     #[inline(always)]
     pub(crate) fn go_on(&mut self, rd: u8, value: u64)
-        requires { rd < 32 }
+        requires rd { rd < 32 }
+        requires fetched { self.old.is_fetched ≡ false }
         ensures value { self.new ≡ goes_on self.old rd value }
         ensures free { is_free self.new ≡ is_free self.old }
     {
@@ -175,6 +222,7 @@ impl Core {
 
     /// Halts.
     pub(crate) fn halt(&mut self, why: Why)
+        requires { IsTrue (is_idle self.old) }
         ensures { self.new ≡ halts why self.old }
     {
         self.halted = Some(why);
@@ -198,9 +246,38 @@ impl Core {
         is_paired(self.pairing, addr, width)
     }
 
+    /// Begins the instruction at pc with its fetch.
+    pub(crate) fn begin_fetch(&mut self)
+        requires idle { IsTrue (is_idle self.old) }
+        requires fetching { IsTrue self.old.fetching }
+        requires begins { self.old.memory.base ≤ self.old.pc }
+        requires ends { self.old.pc + 4 ≤ self.old.memory.base + self.old.memory.size }
+        ensures { self.new ≡ asks_for_instruction self.old }
+    {
+        self.progress = Progress::Fetch { addr: self.pc };
+    }
+
+    /// The instruction that was fetched is executed now.
+    pub(crate) fn begin_execution(&mut self)
+        requires { IsTrue (is_free self.old) }
+        ensures value { self.new ≡ unfetched self.old }
+        ensures idle { IsTrue (is_idle self.new) }
+    {
+        self.progress = Progress::Idle;
+    }
+
+    /// Whether a line is that of the latest fetch.
+    pub(crate) fn has_line(&self, line: u64) -> bool
+        ensures value { result ≡ is_latest self.now.fetched_line line }
+        ensures sound { IsSoundCore self.now }
+    {
+        self.line == Some(line)
+    }
+
     /// Begins an instruction of one access.
     pub(crate) fn begin(&mut self, next: Request, destination: Option<Destination>)
-        requires served { IsServableIn self.old.memory next }
+        requires idle { IsTrue (is_idle self.old) }
+        requires served { IsServableIn self.old.memory self.old.fetching next }
         requires paired { IsPairedRight self.old.pairing next }
         requires ending { EndsInRegister (ending_of destination) }
         ensures { self.new ≡ goes_through (next ∷ []) [] (ending_of destination) self.old }
@@ -219,7 +296,8 @@ impl Core {
         upper: Request,
         destination: Option<Destination>,
     )
-        requires served { IsServableIn self.old.memory next × IsServableIn self.old.memory upper }
+        requires idle { IsTrue (is_idle self.old) }
+        requires served { IsServableIn self.old.memory self.old.fetching next × IsServableIn self.old.memory self.old.fetching upper }
         requires narrow { width_of next < 8 }
         requires paired { ArePairedRight self.old.pairing (next ∷ upper ∷ []) }
         requires ending { EndsInRegister (ending_of destination) }
@@ -235,6 +313,7 @@ impl Core {
     /// Begins a write call of so many bytes from an address on.
     #[tactic(auto, using(crate::proofs::ByteLoads::loads_first))]
     pub(crate) fn begin_write(&mut self, addr: u64, count: u64)
+        requires idle { IsTrue (is_idle self.old) }
         requires some { 0 < count }
         requires begins { self.old.memory.base ≤ addr }
         requires ends { addr + count ≤ self.old.memory.base + self.old.memory.size }
@@ -250,8 +329,9 @@ impl Core {
 
     /// Takes the reply to the access that the instruction in progress needs next. Where that was
     /// the last, the instruction ends, and the core comes to the next one. Of a reply the lowest
-    /// bytes count, as many as the access has. The answer is the byte that goes to the console,
-    /// where the access belongs to a write call.
+    /// bytes count, as many as the access has; that to a fetch has no effect, and the instruction is
+    /// executed next. The answer is the byte that goes to the console, where the access belongs to a
+    /// write call.
     #[inline(always)]
     pub fn answer(&mut self, reply: u64) -> Option<u8>
         requires { IsSome self.old.instruction }
@@ -259,6 +339,7 @@ impl Core {
         ensures byte { result ≡ console_byte self.old.instruction reply }
         ensures sound { IsSoundCore self.new }
         ensures memory { self.new.memory ≡ self.old.memory }
+        ensures fetching { self.new.fetching ≡ self.old.fetching }
     {
         self.take(reply)
     }
@@ -271,7 +352,12 @@ impl Core {
         ensures sound { IsSoundCore self.old }
     {
         match self.progress {
-            Progress::Idle => unreachable!(),
+            Progress::Idle | Progress::Fetched => unreachable!(),
+            Progress::Fetch { .. } => {
+                self.line = Some(self.pc / LINE);
+                self.progress = Progress::Fetched;
+                None
+            }
             Progress::Lower {
                 next,
                 upper,
@@ -306,6 +392,7 @@ impl Core {
     /// Ends an instruction with its last reply, beside the one from the lower line.
     #[tactic(auto, unfolding(crate::specs::Effect::ended))]
     fn end(&mut self, lower: Option<Reply>, reply: Reply, destination: Option<Destination>)
+        requires fetched { self.old.is_fetched ≡ false }
         requires narrow { IsNarrow lower }
         requires ending { EndsInRegister (ending_of destination) }
         ensures { self.new ≡ ended (ending_of destination) (replies_with (ending_of destination) (option_to_list lower) reply) self.old }
@@ -319,6 +406,7 @@ impl Core {
     /// A byte was written, and so many are left from an address on.
     #[tactic(auto, using(crate::proofs::ByteLoads::loads_first), unfolding(crate::specs::Effect::ended))]
     fn wrote(&mut self, addr: u64, left: u64, count: u64)
+        requires idle { IsTrue (is_idle self.old) }
         requires begins { self.old.memory.base ≤ addr }
         requires ends { addr + left ≤ self.old.memory.base + self.old.memory.size }
         requires few { left ≤ 256 }

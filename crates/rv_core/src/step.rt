@@ -1,28 +1,46 @@
 //! A step of a core: its next instruction, up to its first access if it has one.
-ghost use Rattle.std.specs.Prelude.{◌≡◌, ◌<◌, false, IfNone, IfSome, IsTrue, OnSome};
+ghost use Rattle.std.specs.Prelude.{◌≡◌, ◌+◌, ◌<◌, ◌≤◌, Bool, false, IfNone, IfSome, IsTrue, OnSome, is_some};
+ghost use Rattle.elf_load.specs.MemoryImage.{fetched_word};
 ghost use Rattle.rv_core.specs.Effect.{effect, goes_on, halts};
 ghost use Rattle.rv_core.specs.Fetch.{fetched_at};
 ghost use Rattle.rv_core.specs.Decoded.{HasRegisters};
 ghost use Rattle.rv_core.specs.Sound.{IsServableAsk, IsSoundCore};
-ghost use Rattle.rv_core.specs.Step.{executed, is_free};
-ghost use Rattle.rv_core.specs.Asked.{advanced, asked};
+ghost use Rattle.rv_core.specs.Step.{executed, is_free, needs_fetch};
+ghost use Rattle.rv_core.specs.Asked.{advanced, asked, is_idle, stepped};
 
 use crate::{Ask, Core, Fetched, Program, Why};
 use elf_load::Image;
 use rv_decode::Inst;
+use zs_num::LINE;
+
+/// What a core that fetches did in a step.
+#[derive(Clone, Copy)]
+pub enum Stepped {
+    /// It asks for its next instruction.
+    Fetches,
+    /// It executed its next instruction, up to the first access if it has one. `goes_on`: it comes
+    /// to another one.
+    Executed { goes_on: bool },
+}
 
 impl Core {
-    /// Executes the next instruction, up to its first access if it has one. Where an instruction is
-    /// in progress, or the core has halted, it asks again for what it asked.
+    /// Executes the next instruction, up to its next access, of which its fetch is the first if it
+    /// has to be fetched. Where an access waits for its reply, or the core has halted, it asks again
+    /// for what it asked.
     pub fn next<P: Program>(&mut self, program: &P) -> Ask
         ensures value { self.new ≡ advanced (P.image program.now) self.old }
         ensures ask { result ≡ asked self.new.halted self.new.instruction }
-        ensures served { IsServableAsk self.new.memory result }
+        ensures served { IsServableAsk self.new.memory self.new.fetching result }
         ensures sound { IsSoundCore self.new }
         ensures memory { self.new.memory ≡ self.old.memory }
+        ensures fetching { self.new.fetching ≡ self.old.fetching }
     {
         if self.is_free() {
-            self.step(program);
+            if self.is_fetching() {
+                self.step_fetching(program);
+            } else {
+                self.step(program);
+            }
         }
         self.ask()
     }
@@ -30,7 +48,7 @@ impl Core {
     /// What the core asks for.
     fn ask(&self) -> Ask
         ensures value { result ≡ asked self.now.halted self.now.instruction }
-        ensures served { IsServableAsk self.now.memory result }
+        ensures served { IsServableAsk self.now.memory self.now.fetching result }
         ensures sound { IsSoundCore self.now }
     {
         match (self.halted(), self.request()) {
@@ -40,23 +58,75 @@ impl Core {
         }
     }
 
-    /// Executes the next instruction, up to its first access if it has one. It answers whether the
-    /// core comes to a next instruction: it has not halted, and has no access to make.
+    /// Executes the next instruction of a core that does not fetch, up to its first access if it has
+    /// one. It answers whether the core comes to a next instruction: it has not halted, and has no
+    /// access to make.
     #[inline(always)]
     pub fn step<P: Program>(&mut self, program: &P) -> bool
-        requires { IsTrue (is_free self.old) }
-        ensures value { self.new ≡ executed (P.image program.now) self.old }
+        requires free { IsTrue (is_free self.old) }
+        requires fetching { self.old.fetching ≡ false }
+        ensures value { self.new ≡ stepped (P.image program.now) self.old }
         ensures free { result ≡ is_free self.new }
         ensures sound { IsSoundCore self.new }
         ensures memory { self.new.memory ≡ self.old.memory }
+        ensures fetching { self.new.fetching ≡ false }
     {
         rv_decode::laws::fields_are_in_range();
+        self.has_none_fetched();
         self.fetch_and_execute(program)
+    }
+
+    /// The next step of a core that fetches: it asks for its next instruction, where it has to, or
+    /// executes it.
+    #[inline(never)]
+    pub fn step_fetching<P: Program>(&mut self, program: &P) -> Stepped
+        requires free { IsTrue (is_free self.old) }
+        requires fetching { IsTrue self.old.fetching }
+        ensures value { self.new ≡ stepped (P.image program.now) self.old }
+        ensures fetches { result ≡ Stepped.Fetches → IsTrue (needs_fetch (P.image program.now) self.old) }
+        ensures executes { (goes_on : Bool) → result ≡ Stepped.Executed goes_on → (needs_fetch (P.image program.now) self.old ≡ false) × (goes_on ≡ is_free self.new) }
+        ensures sound { IsSoundCore self.new }
+        ensures memory { self.new.memory ≡ self.old.memory }
+        ensures fetching { self.new.fetching ≡ self.old.fetching }
+    {
+        rv_decode::laws::fields_are_in_range();
+        if self.needs_fetch(program) {
+            self.begin_fetch();
+            return Stepped::Fetches;
+        }
+        self.begin_execution();
+        Stepped::Executed {
+            goes_on: self.fetch_and_execute(program),
+        }
+    }
+
+    /// Whether the instruction at pc has to be fetched.
+    #[tactic(auto, unfolding(crate::specs::Step::needs_fetch))]
+    fn needs_fetch<P: Program>(&mut self, program: &P) -> bool
+        requires { IsTrue self.old.fetching }
+        ensures value { result ≡ needs_fetch (P.image program.now) self.old }
+        ensures begins { IsTrue result → self.old.memory.base ≤ self.old.pc }
+        ensures ends { IsTrue result → self.old.pc + 4 ≤ self.old.memory.base + self.old.memory.size }
+        ensures unfetched { IsTrue result → self.old.is_fetched ≡ false }
+        ensures same { self.new ≡ self.old }
+        ensures sound { IsSoundCore self.old }
+    {
+        let pc = self.pc();
+        !self.has_line(pc / LINE) && self.has_word(program) && self.has(pc, 4)
+    }
+
+    /// Whether the four bytes at pc are in one executable segment.
+    fn has_word<P: Program>(&mut self, program: &P) -> bool
+        ensures value { result ≡ is_some (fetched_word (P.image program.now).segments self.old.pc) }
+        ensures same { self.new ≡ self.old }
+        ensures sound { IsSoundCore self.old }
+    {
+        !matches!(self.fetch(program), Fetched::Outside)
     }
 
     #[inline(always)]
     fn fetch_and_execute<P: Program>(&mut self, program: &P) -> bool
-        requires { IsTrue (is_free self.old) }
+        requires { IsTrue (is_idle self.old) }
         ensures value { self.new ≡ executed (P.image program.now) self.old }
         ensures free { result ≡ is_free self.new }
         ensures sound { IsSoundCore self.old }
@@ -73,7 +143,7 @@ impl Core {
     /// Executes an instruction that the program does not have decoded.
     #[inline(never)]
     fn execute_apart(&mut self, inst: &Inst) -> bool
-        requires free { IsTrue (is_free self.old) }
+        requires idle { IsTrue (is_idle self.old) }
         requires registers { HasRegisters (Fetched.Instruction inst.now) }
         ensures value { self.new ≡ effect inst.now.name inst.now self.old }
         ensures free { result ≡ is_free self.new }
@@ -86,6 +156,7 @@ impl Core {
     #[cold]
     #[inline(never)]
     fn decode<P: Program>(&mut self, program: &P) -> Option<Inst>
+        requires { IsTrue (is_idle self.old) }
         ensures found { IfSome result (λ inst. fetched_at (P.image program.now) self.old.pc ≡ Fetched.Instruction inst) }
         ensures registers { IfSome result (λ inst. HasRegisters (Fetched.Instruction inst)) }
         ensures same { OnSome result (self.new ≡ self.old) }
@@ -102,6 +173,7 @@ impl Core {
 
     /// Halts, and answers that the core comes to no next instruction.
     pub(crate) fn stop(&mut self, why: Why) -> bool
+        requires { IsTrue (is_idle self.old) }
         ensures value { self.new ≡ halts why self.old }
         ensures free { result ≡ false }
     {
@@ -112,7 +184,7 @@ impl Core {
     /// Writes a register, and answers that the core comes to its next instruction.
     #[inline(always)]
     pub(crate) fn write_register(&mut self, rd: u8, value: u64) -> bool
-        requires free { IsTrue (is_free self.old) }
+        requires idle { IsTrue (is_idle self.old) }
         requires rd { rd < 32 }
         ensures value { self.new ≡ goes_on self.old rd value }
         ensures free { result ≡ is_free self.new }

@@ -1,11 +1,14 @@
 use Rattle.std.proofs.Common.{◌∙◌, ap, subst, sym}
 use Rattle.rv_core.specs.CoreState.{CoreState}
 use Rattle.rv_core.specs.Sound.{IsSoundCore}
-use Rattle.rv_core.proofs.Reached.{answered-sound}
+use Rattle.rv_core.proofs.Reached.{answered-kept}
 use Rattle.rv_core.proofs.state.Core.answer.Goals as goal
 
 pub returns-clause-sound : goal.returns-clause-sound
-returns-clause-sound c = subst IsSoundCore (sym c.take.ensures.value) (answered-sound c.args.reply c.args.self.now c.take.ensures.sound).0
+returns-clause-sound c = subst IsSoundCore (sym c.take.ensures.value) (answered-kept c.args.reply c.args.self.now c.take.ensures.sound).sound
 
 pub returns-clause-memory : goal.returns-clause-memory
-returns-clause-memory c = ap (λ (core : CoreState). core.memory) c.take.ensures.value ∙ (answered-sound c.args.reply c.args.self.now c.take.ensures.sound).1
+returns-clause-memory c = ap (λ (core : CoreState). core.memory) c.take.ensures.value ∙ (answered-kept c.args.reply c.args.self.now c.take.ensures.sound).memory
+
+pub returns-clause-fetching : goal.returns-clause-fetching
+returns-clause-fetching c = ap (λ (core : CoreState). core.fetching) c.take.ensures.value ∙ (answered-kept c.args.reply c.args.self.now c.take.ensures.sound).fetching

@@ -1,6 +1,9 @@
-use Rattle.std.proofs.Common.{◌≡◌, ◌≤◌, ◌<◌, ◌+◌, ◌-◌, ap, arith}
+use Rattle.std.proofs.Common.{◌≡◌, ◌≤◌, ◌<◌, ◌+◌, ◌-◌, true, ap, subst, sym, arith}
+use Rattle.std.proofs.lemmas.Bool.{and_parts}
 use Rattle.rv_core.specs.CoreState.{CoreState}
-use Rattle.rv_core.proofs.ByteLoads.{writing_sound}
+use Rattle.rv_core.specs.Step.{is_free}
+use Rattle.rv_core.proofs.Fetches.{unfetched-ready}
+use Rattle.rv_core.proofs.Kept.{writing-keeps}
 use Rattle.rv_core.proofs.state.Core.wrote.Goals as goal
 
 pub invariant_of-self : goal.invariant_of-self
@@ -11,4 +14,6 @@ invariant_of-self c =
     let begins : c.self.inside.memory.base ≤ c.args.addr = omega (arith, base, c.requires.begins) in
     let ends : c.args.addr + 1 + (c.args.left - 1) ≤ c.self.inside.memory.base + c.self.inside.memory.size = omega (arith, base, size, c.requires.ends) in
     let few : c.args.left - 1 < 256 = omega (arith, c.requires.few, some) in
-    (writing_sound _ c.args.addr (c.args.left - 1) c.args.count c.self.invariant.0 begins ends few, (begins, ends, few))
+    let free = subst (λ (s : CoreState). is_free s ≡ true) (sym c.self.view_is) (and_parts (is_free c.args.self.now) _ c.requires.idle).0 in
+    let ready = unfetched-ready _ free c.self.invariant.0 in
+    ((writing-keeps c.args.addr (c.args.left - 1) c.args.count _ ready begins ends few).sound, (begins, ends, few))
