@@ -1,49 +1,90 @@
 -- How many accesses a core has left, and how late it can get.
-use Rattle.std.proofs.Common.{◌≡◌, inl, inr, ℕ, ◌+◌, ◌-◌, ◌^◌, ◌<◌, ◌≤◌, max, nat_lt, true, false, List, [], ◌∷◌, length, Option, Some, None, refl, arith, rules, lit≤}
-use Rattle.std.specs.Prelude.{IfSome}
-use Rattle.std.proofs.lemmas.Bool.{cases_lt}
+use Rattle.std.proofs.Common.{◌≡◌, inl, inr, ℕ, ◌+◌, ◌-◌, ◌^◌, ◌<◌, ◌≤◌, max, nat_lt, Bool, true, false, List, [], ◌∷◌, length, Option, Some, None, refl, ◌∙◌, ap, subst, arith, rules, lit≤}
+use Rattle.std.specs.Prelude.{IfSome, is_none}
+use Rattle.std.proofs.lemmas.Bool.{and_parts, cases_lt}
 use Rattle.zs_num.specs.declared.request.Request.{Request}
+use Rattle.elf_load.specs.MemoryImage.{MemoryImage}
 use Rattle.rv_core.specs.declared.progress.Reply.{Reply}
-use Rattle.rv_core.specs.CoreState.{CoreState, Ending, ToRegister, ToConsole, ToNothing, InProgress}
+use Rattle.rv_core.specs.CoreState.{CoreState, Ending, ToRegister, ToConsole, ToExecution, ToNothing, InProgress}
 use Rattle.rv_core.specs.Effect.{ended, goes_through, goes_to}
-use Rattle.rv_core.specs.Sound.{IsSoundCore}
-use Rattle.rv_core.specs.Step.{after_reply, answered}
-use Rattle.bound_core.specs.TimedCore.{TimedCore}
-use Rattle.bound_core.specs.IntervalBounds.{latest_clock, left_of_instruction, most_accesses}
+use Rattle.rv_core.specs.Sound.{FetchesAlone, IsSoundCore}
+use Rattle.rv_core.specs.Step.{after_reply, answered, is_free, unfetched}
+use Rattle.rv_core.proofs.Executes.{AwaitsNoFetch, IsOfNoFetch, executed-executes}
+use Rattle.bound_core.specs.TimedCore.{TimedCore, after_execution, ran_to}
+use Rattle.bound_core.specs.IntervalBounds.{latest_clock, left_behind, left_behind_fetch, left_of_instruction, most_accesses, most_left}
+use Rattle.bound_core.proofs.Instructions.{asks_or_executes, executed_unfetched, ran_late, ran_within}
 
 -- ---- of an instruction
 
--- an instruction has at most 256 accesses
-left_small : (instruction : Option InProgress) → IfSome instruction (λ now. length now.later < 256) → left_of_instruction instruction ≤ 256
-left_small None few = omega arith
-left_small (Some now) few = omega (arith, few)
+-- what is left of a core that has not fetched
+pub unfetched_left : (core : CoreState) → core.is_fetched ≡ false → most_left core ≡ left_of_instruction core.instruction + left_behind_fetch core.instruction
+unfetched_left core e = rw e refl
 
-pub left_few : (core : CoreState) → IsSoundCore core → left_of_instruction core.instruction ≤ 256
-left_few core sound = left_small core.instruction sound.few
+fetched_left : (core : CoreState) → core.is_fetched ≡ true → most_left core ≡ 256
+fetched_left core e = rw e refl
 
-left_ended : (ending : Ending) (replies : List Reply) (core : CoreState) → core.instruction ≡ None → left_of_instruction (ended ending replies core).instruction ≡ 0
+-- an instruction has at most 256 accesses beside its fetch
+behind_small : (fetching : Bool) (ending : Ending) (later : List Request) → FetchesAlone fetching ending later → length later < 256 → length later + left_behind ending ≤ 256
+behind_small fetching (ToRegister destination) later alone few = omega (arith, few)
+behind_small fetching (ToConsole count) later alone few = omega (arith, few)
+behind_small fetching ToExecution later alone few = let none : length later ≡ 0 = ap length alone.1 in omega (arith, none)
+behind_small fetching ToNothing later alone few = omega (arith, few)
+
+left_small : (fetching : Bool) (instruction : Option InProgress) → IfSome instruction (λ now. length now.later < 256) → IfSome instruction (λ now. FetchesAlone fetching now.ending now.later)
+    → left_of_instruction instruction + left_behind_fetch instruction ≤ 257
+left_small fetching None few alone = omega arith
+left_small fetching (Some now) few alone = omega (arith, behind_small fetching now.ending now.later alone few)
+
+left_by : (core : CoreState) (fetched : Bool) → core.is_fetched ≡ fetched → IsSoundCore core → most_left core ≤ 257
+left_by core true e sound = omega (arith, fetched_left core e)
+left_by core false e sound = omega (arith, unfetched_left core e, left_small core.fetching core.instruction sound.few sound.alone)
+
+pub left_few : (core : CoreState) → IsSoundCore core → most_left core ≤ 257
+left_few core sound = left_by core core.is_fetched refl sound
+
+-- of one that is executed nothing is behind a fetch
+no_fetch_behind : (ending : Ending) → IsOfNoFetch ending → left_behind ending ≡ 0
+no_fetch_behind (ToRegister destination) none = refl
+no_fetch_behind (ToConsole count) none = refl
+no_fetch_behind ToExecution none = absurd none
+no_fetch_behind ToNothing none = refl
+
+executing_small : (instruction : Option InProgress) → AwaitsNoFetch instruction
+    → left_of_instruction instruction + left_behind_fetch instruction ≤ 256
+executing_small None none = omega arith
+executing_small (Some now) none = omega (arith, none.1, no_fetch_behind now.ending none.0)
+
+left_ended : (ending : Ending) (replies : List Reply) (core : CoreState) → core.instruction ≡ None → core.is_fetched ≡ false → most_left (ended ending replies core) ≤ left_behind ending
 unfolding ended goes_to
-left_ended (ToRegister destination) replies core idle = rw idle refl
-left_ended (ToConsole count) replies core idle = rw idle refl
-left_ended ToNothing replies core idle = rw idle refl
+left_ended (ToRegister destination) replies core idle e = rw (idle, e) (lit≤ tt)
+left_ended (ToConsole count) replies core idle e = rw (idle, e) (lit≤ tt)
+left_ended ToExecution replies core idle e = lit≤ tt
+left_ended ToNothing replies core idle e = rw (idle, e) (lit≤ tt)
 
-left_through : (requests : List Request) (replies : List Reply) (ending : Ending) (core : CoreState) → core.instruction ≡ None
-    → left_of_instruction (goes_through requests replies ending core).instruction ≡ length requests
-left_through [] replies ending core idle = left_ended ending replies core idle
-left_through (request ∷ requests) replies ending core idle = refl
+left_through : (requests : List Request) (replies : List Reply) (ending : Ending) (core : CoreState) → core.instruction ≡ None → core.is_fetched ≡ false
+    → most_left (goes_through requests replies ending core) ≤ length requests + left_behind ending
+left_through [] replies ending core idle e = omega (arith, left_ended ending replies core idle e)
+left_through (request ∷ requests) replies ending core idle e = rw e (omega arith)
 
-left_replied : (instruction : Option InProgress) (reply : ℕ) (core : CoreState) → core.instruction ≡ instruction
-    → left_of_instruction (after_reply instruction reply core).instruction + 1 ≤ max (left_of_instruction instruction) 1
-left_replied None reply core e = rw e (lit≤ tt)
-left_replied (Some now) reply core e =
-    let left : left_of_instruction (after_reply (Some now) reply core).instruction ≡ length now.later = left_through now.later _ now.ending _ refl in
+left_replied : (instruction : Option InProgress) (reply : ℕ) (core : CoreState) → core.instruction ≡ instruction → core.is_fetched ≡ false → 1 ≤ left_of_instruction instruction
+    → most_left (after_reply instruction reply core) + 1 ≤ left_of_instruction instruction + left_behind_fetch instruction
+left_replied None reply core is e some = absurd (omega (arith, some))
+left_replied (Some now) reply core is e some =
+    let left : most_left (after_reply (Some now) reply core) ≤ length now.later + left_behind now.ending = left_through now.later _ now.ending _ refl e in
     omega (arith, left)
 
 -- an access is one of those that were left
-pub left_answered : (reply : ℕ) (core : CoreState) → 1 ≤ left_of_instruction core.instruction
-    → left_of_instruction (answered reply core).instruction + 1 ≤ left_of_instruction core.instruction
+pub left_answered : (reply : ℕ) (core : CoreState) → core.is_fetched ≡ false → 1 ≤ left_of_instruction core.instruction → most_left (answered reply core) + 1 ≤ most_left core
 unfolding answered
-left_answered reply core some = let fewer = left_replied core.instruction reply core refl in omega (arith, some, fewer)
+left_answered reply core e some = omega (arith, left_replied core.instruction reply core refl e some, unfetched_left core e)
+
+-- a core that waits for a reply has fetched no instruction that is to be executed
+waiting_by : (core : CoreState) (fetched : Bool) → core.is_fetched ≡ fetched → IsSoundCore core → (core.instruction ≡ None → ⊥) → core.is_fetched ≡ false
+waiting_by core false e sound waits = e
+waiting_by core true e sound waits = absurd (waits (sound.fetched e).1)
+
+pub waiting_unfetched : (core : CoreState) → IsSoundCore core → (core.instruction ≡ None → ⊥) → core.is_fetched ≡ false
+waiting_unfetched core sound waits = waiting_by core core.is_fetched refl sound waits
 
 -- ---- of an interval
 
@@ -51,25 +92,75 @@ most_before : (end : ℕ) (c : TimedCore) → c.clock < end → most_accesses en
 unfolding most_accesses
 most_before end c early = let before : nat_lt c.clock end ≡ true = search rules in rw before refl
 
-most_past : (end : ℕ) (c : TimedCore) → end ≤ c.clock → most_accesses end c ≡ left_of_instruction c.core.instruction
+most_past : (end : ℕ) (c : TimedCore) → end ≤ c.clock → most_accesses end c ≡ most_left c.core
 unfolding most_accesses
 most_past end c late = let past : nat_lt c.clock end ≡ false = search rules in rw past refl
 
-pub most_few : (end : ℕ) (c : TimedCore) → (end ≤ c.clock → left_of_instruction c.core.instruction ≤ 256) → most_accesses end c ≤ end - c.clock + 256
+pub most_few : (end : ℕ) (c : TimedCore) → (end ≤ c.clock → most_left c.core ≤ 257) → most_accesses end c ≤ end - c.clock + 257
 most_few end c few =
     elim (cases_lt c.clock end) [
       | inl early ↦ omega (arith, most_before end c early)
       | inr late ↦ omega (arith, most_past end c late, few late)
     ]
 
+-- what a core's local instructions do to its clock and to the accesses that are left
+pub record RunsLocally (end : ℕ) (before ran : TimedCore) : Type 0 where
+  pub begun : before.clock ≤ ran.clock
+  pub within : ran.clock ≤ max before.clock end + 1
+  -- past the end an instruction is executed only if it was fetched
+  pub late : end ≤ before.clock → most_left ran.core ≤ most_left before.core
+  pub late_clock : end ≤ before.clock → ran.clock ≤ before.clock + most_left before.core
+  pub soon : end ≤ before.clock → ran.clock ≤ before.clock + 1
+
+idle_by : (instruction : Option InProgress) → is_none instruction ≡ true → instruction ≡ None
+idle_by None e = refl
+idle_by (Some now) e = cc
+
+pub executed_left : (image : MemoryImage) (c : TimedCore) → is_free c.core ≡ true → most_left (after_execution image c).core ≤ 256
+executed_left image c free =
+    let next : CoreState = (after_execution image c).core in
+    let idle : c.core.instruction ≡ None = idle_by c.core.instruction (and_parts (is_none c.core.halted) (is_none c.core.instruction) free).1 in
+    let awaits : AwaitsNoFetch next.instruction = (executed-executes image (unfetched c.core)).awaits idle in
+    omega (arith, unfetched_left next (executed_unfetched image c), executing_small next.instruction awaits)
+
+-- past the end a core that fetched an instruction has as many accesses left as any
+late_left : (image : MemoryImage) (end : ℕ) (c : TimedCore) → end ≤ c.clock
+    → (most_left (ran_to image end c).core ≤ most_left c.core) × ((ran_to image end c).clock ≤ c.clock + most_left c.core) × ((ran_to image end c).clock ≤ c.clock + 1)
+late_left image end c late =
+    let ran : TimedCore = ran_to image end c in
+    elim (ran_late image end c late) [
+      | inl same ↦
+          let left : most_left ran.core ≡ most_left c.core = ap (λ (x : TimedCore). most_left x.core) same in
+          let clock : ran.clock ≡ c.clock = ap (λ (x : TimedCore). x.clock) same in
+          (omega (arith, left), omega (arith, clock), omega (arith, clock))
+      | inr one ↦
+          let full : most_left c.core ≡ 256 = fetched_left c.core one.2 in
+          let soon : ran.clock ≤ c.clock + 1 = omega (arith, (ran_within image end c).1, late) in
+          (elim (asks_or_executes image c) [
+            | inl asks ↦
+                let still : ran.core.is_fetched ≡ true = ap (λ (x : TimedCore). x.core.is_fetched) (one.0 ∙ asks) ∙ one.2 in
+                (omega (arith, full, fetched_left ran.core still), omega (arith, full, soon), soon)
+            | inr is ↦
+                let here : ran ≡ after_execution image c = one.0 ∙ is in
+                let left : most_left ran.core ≡ most_left (after_execution image c).core = ap (λ (x : TimedCore). most_left x.core) here in
+                (omega (arith, full, left, executed_left image c one.1), omega (arith, full, soon), soon)
+          ])
+    ]
+
+pub runs_locally : (image : MemoryImage) (end : ℕ) (c : TimedCore) → RunsLocally end c (ran_to image end c)
+runs_locally image end c = record {
+  begun = (ran_within image end c).0;
+  within = (ran_within image end c).1;
+  late = λ late. (late_left image end c late).0;
+  late_clock = λ late. (late_left image end c late).1;
+  soon = λ late. (late_left image end c late).2;
+}
+
 -- what a turn that takes an access does to the clock and to the accesses that are left
 pub record TakesAccess (end : ℕ) (before ran after : TimedCore) : Type 0 where
-  pub begun : before.clock ≤ ran.clock
-  pub within : ran.clock ≤ max before.clock end
-  -- a core at the end or past it does nothing by itself
-  pub late : end ≤ before.clock → left_of_instruction before.core.instruction ≡ left_of_instruction ran.core.instruction
-  pub few : left_of_instruction ran.core.instruction ≤ 256
-  pub left : left_of_instruction after.core.instruction + 1 ≤ left_of_instruction ran.core.instruction
+  pub runs : RunsLocally end before ran
+  pub few : most_left ran.core ≤ 257
+  pub left : most_left after.core + 1 ≤ most_left ran.core
   pub later : ran.clock < after.clock
   pub soon : after.clock ≤ ran.clock + 2 ^ 20
 
@@ -78,36 +169,49 @@ fewer end before ran after t =
     elim (cases_lt before.clock end) [
       | inl early ↦
           (elim (cases_lt after.clock end) [
-            | inl still ↦ omega (arith, most_before end before early, most_before end after still, t.begun, t.later)
-            | inr past ↦ omega (arith, most_before end before early, most_past end after past, t.few, t.left)
+            | inl still ↦ omega (arith, most_before end before early, most_before end after still, t.runs.begun, t.later)
+            | inr past ↦ omega (arith, most_before end before early, most_past end after past, t.few, t.left, early)
           ])
       | inr late ↦
-          let past : end ≤ after.clock = omega (arith, late, t.begun, t.later) in
-          omega (arith, most_past end before late, most_past end after past, t.late late, t.left)
+          let past : end ≤ after.clock = omega (arith, late, t.runs.begun, t.later) in
+          omega (arith, most_past end before late, most_past end after past, t.runs.late late, t.left)
     ]
 
 pub not_later : (end : ℕ) (before ran after : TimedCore) → TakesAccess end before ran after → latest_clock end after ≤ latest_clock end before
 unfolding latest_clock
 not_later end before ran after t =
     elim (cases_lt before.clock end) [
-      | inl early ↦ omega (arith, early, t.within, t.soon, t.few, t.left)
-      | inr late ↦ omega (arith, late, t.within, t.soon, t.late late, t.left)
+      | inl early ↦ omega (arith, early, t.runs.within, t.soon, t.few, t.left)
+      | inr late ↦ omega (arith, late, t.runs.soon late, t.soon, t.runs.late late, t.left)
     ]
 
 -- a core that ends its interval was not later than it could be
-pub ran_not_later : (end : ℕ) (before ran : TimedCore) → ran.clock ≤ max before.clock end → left_of_instruction ran.core.instruction ≡ 0 → latest_clock end ran ≤ latest_clock end before
+pub ran_not_later : (end : ℕ) (before ran : TimedCore) → RunsLocally end before ran → most_left ran.core ≡ 0 → latest_clock end ran ≤ latest_clock end before
 unfolding latest_clock
-ran_not_later end before ran within idle = omega (arith, within, idle)
+ran_not_later end before ran runs idle =
+    elim (cases_lt before.clock end) [
+      | inl early ↦ omega (arith, early, runs.within, idle)
+      | inr late ↦ omega (arith, late, runs.late_clock late, idle)
+    ]
 
 -- the clock is never later than it can get
 pub clock_within : (end : ℕ) (c : TimedCore) → c.clock ≤ latest_clock end c
 unfolding latest_clock
 clock_within end c = omega arith
 
-pub latest_small : (end : ℕ) (c : TimedCore) → left_of_instruction c.core.instruction ≤ 256 → latest_clock end c ≤ max c.clock end + 2 ^ 28
+pub latest_small : (end : ℕ) (c : TimedCore) → most_left c.core ≤ 257 → latest_clock end c ≤ max c.clock end + 2 ^ 30
 unfolding latest_clock
 latest_small end c few = omega (arith, few)
 
 pub end_within : (end : ℕ) (c : TimedCore) → end ≤ latest_clock end c
 unfolding latest_clock
 end_within end c = omega arith
+
+-- a core that has an access starts it no later than it can come
+pub start_within : (end : ℕ) (before ran : TimedCore) → RunsLocally end before ran → 1 ≤ most_left ran.core → ran.clock ≤ latest_clock end before
+unfolding latest_clock
+start_within end before ran runs some =
+    elim (cases_lt before.clock end) [
+      | inl early ↦ omega (arith, early, runs.within)
+      | inr late ↦ omega (arith, late, runs.late_clock late)
+    ]

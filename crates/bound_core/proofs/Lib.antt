@@ -1,5 +1,7 @@
 pub mod Accesses
+pub mod Alike
 pub mod CoreKept
+pub mod FetchedInstructions
 pub mod Histories
 pub mod HistoryTurn
 pub mod InstructionLaws
@@ -10,6 +12,7 @@ pub mod Lists
 pub mod LittleEndian
 pub mod LoadsStores
 pub mod MachineRuns
+pub mod MoreServable
 pub mod NewShards
 pub mod Numbered
 pub mod OwnTurns
@@ -27,3 +30,5 @@ pub mod ShardsTurn
 pub mod Correspondence
 pub mod Turns
 pub mod WholeInstructions
+pub mod FetchSteps
+pub mod TurnSteps

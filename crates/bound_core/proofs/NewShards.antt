@@ -8,10 +8,12 @@ use Rattle.std.proofs.lemmas.Option.{get_or_from_slice_get, slice_get_within}
 use Rattle.elf_load.specs.MemoryImage.{MemoryImage}
 use Rattle.machine_desc.specs.declared.machine.Machine.{Machine}
 use Rattle.machine_desc.specs.Machine.{IsMachine}
-use Rattle.shard.specs.Served.{ShardState, new_shard}
+use Rattle.shard.specs.Served.{ShardState, new_caches_of_shard, new_shard}
 use Rattle.shard.specs.StandsFor.{new_shards}
+use Rattle.shard.specs.HaveL1i.{have_l1i}
 use Rattle.bound_core.specs.ShardPort.{AreShardsOf, base_in, size_in}
 use Rattle.bound_core.specs.ShardWorld.{no_shard, restarted}
+use Rattle.bound_core.proofs.Alike.{alike_by}
 
 module _ (machine : Machine) (image : MemoryImage) where
   again_from : (a n : ℕ) → map restarted (map (λ number. new_shard machine number image) (range_with_len a n)) ≡ map (λ number. new_shard machine number image) (range_with_len a n)
@@ -52,6 +54,8 @@ module _ (machine : Machine) (image : MemoryImage) where
             base_is = ap (λ (s : ShardState). s.base) made;
             size_is = ap (λ (s : ShardState). s.size) made;
           };
+      alike = alike_by (have_l1i (new_caches_of_shard machine)) (new_shards machine image) (omega (arith, new_count, is.l2.banks.0))
+          (λ i shard here. ap (λ (s : ShardState). have_l1i s.caches) (new_each i shard here));
     }
 
     pub are_shards : AreShardsOf machine.cores (new_shards machine image) (base_in (new_shards machine image)) (size_in (new_shards machine image))

@@ -23,7 +23,7 @@ halted_by end c None e some = cc
 halted_by end c (Some why) e some = rw e refl
 
 over_stops : (end : ℕ) (c : TimedCore) → IsOver end c → goes_on_alone end c ≡ false
-over_stops end c over = elim over.over [ inl halted ↦ halted_by end c c.core.halted refl halted | inr late ↦ late_stops end c late ]
+over_stops end c over = elim over.over [ inl halted ↦ halted_by end c c.core.halted refl halted | inr late ↦ late_stops end c late.0 late.1 ]
 
 module _ {World : Type 0} (serve : World → (core start : ℕ) → Request → Entry × World) (time : Entry → ℕ) (image : MemoryImage) (end : ℕ) where
   -- ---- a core whose local instructions are behind it

@@ -60,6 +60,9 @@ module _ (shards : List ShardState) where
     abbrev L1Sets : (many i : ℕ) → ShardState → Type 0
     L1Sets many i s = (core line : ℕ) → bank_of_line many line ≡ i → set_of 1 line (slice_index_or c.l1 core []) ≡ set_of many line (slice_index_or s.caches.l1 core [])
 
+    abbrev L1iSets : (many i : ℕ) → ShardState → Type 0
+    L1iSets many i s = (core line : ℕ) → bank_of_line many line ≡ i → set_of 1 line (slice_index_or c.l1i core []) ≡ set_of many line (slice_index_or s.caches.l1i core [])
+
     abbrev L2Sets : (many i : ℕ) → ShardState → Type 0
     L2Sets many i s = (line : ℕ) → bank_of_line many line ≡ i → set_of 1 line c.l2 ≡ set_of many line s.caches.l2
 
@@ -68,6 +71,9 @@ module _ (shards : List ShardState) where
 
     l1_each : (i : ℕ) (s : ShardState) → slice_get shards i ≡ Some s → L1Sets (length shards) i s
     l1_each i s here core line at = r.l1 core line s (ap (slice_get shards) at ∙ here)
+
+    l1i_each : (i : ℕ) (s : ShardState) → slice_get shards i ≡ Some s → L1iSets (length shards) i s
+    l1i_each i s here core line at = r.l1i core line s (ap (slice_get shards) at ∙ here)
 
     l2_each : (i : ℕ) (s : ShardState) → slice_get shards i ≡ Some s → L2Sets (length shards) i s
     l2_each i s here line at = r.l2 line s (ap (slice_get shards) at ∙ here)
@@ -79,12 +85,17 @@ module _ (shards : List ShardState) where
       marks = r.marks ∙ sym (same_marks shards);
       whole = r.whole;
       l1 = λ core line s keeps. each_again L1Sets (λ many i s is. is) l1_each (bank_of_line (length again) line) s keeps core line refl;
+      l1i = λ core line s keeps. each_again L1iSets (λ many i s is. is) l1i_each (bank_of_line (length again) line) s keeps core line refl;
       l2 = λ line s keeps. each_again L2Sets (λ many i s is. is) l2_each (bank_of_line (length again) line) s keeps line refl;
       l1_sets = λ i core s here. each_again (λ many i s. length (slice_index_or c.l1 core []) ≡ many * length (slice_index_or s.caches.l1 core [])) (λ many i s is. is)
           (λ i s here. r.l1_sets i core s here) i s here;
+      l1i_sets = λ i core s here. each_again (λ many i s. length (slice_index_or c.l1i core []) ≡ many * length (slice_index_or s.caches.l1i core [])) (λ many i s is. is)
+          (λ i s here. r.l1i_sets i core s here) i s here;
       l2_sets = each_again (λ many i s. length c.l2 ≡ many * length s.caches.l2) (λ many i s is. is) r.l2_sets;
       cores = each_again (λ many i s. (length s.caches.l1 ≡ length c.l1) × (length s.marks ≡ length c.l1)) (λ many i s is. is) r.cores;
+      fetchers = each_again (λ many i s. length s.caches.l1i ≡ length c.l1i) (λ many i s is. is) r.fetchers;
       l1_ways = each_again (λ many i s. s.caches.l1_ways ≡ c.l1_ways) (λ many i s is. is) r.l1_ways;
+      l1i_ways = each_again (λ many i s. s.caches.l1i_ways ≡ c.l1i_ways) (λ many i s is. is) r.l1i_ways;
       l2_ways = each_again (λ many i s. s.caches.l2_ways ≡ c.l2_ways) (λ many i s is. is) r.l2_ways;
       coherent = r.coherent;
       room = r.room;

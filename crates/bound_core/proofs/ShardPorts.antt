@@ -1,6 +1,6 @@
 -- Ports over a bare list of shards.
-use Rattle.std.proofs.Common.{mod-lt, length-set, take, drop, ◌++◌, ◌≡◌, ◌≤◌, ◌<◌, ◌+◌, ℕ, zero, suc, max, List, [], ◌∷◌, length, map, get_or, Some, refl, ap, sym, ◌∙◌, subst, arith, false}
-use Rattle.std.specs.Prelude.{◌%◌, slice_get, slice_index, slice_index_or, slice_set, unwrap_or}
+use Rattle.std.proofs.Common.{mod-lt, length-set, take, drop, ◌++◌, ◌≡◌, ◌≤◌, ◌<◌, ◌+◌, ℕ, zero, suc, max, List, [], ◌∷◌, length, map, get_or, Some, refl, ap, sym, ◌∙◌, subst, arith}
+use Rattle.std.specs.Prelude.{◌%◌, Bool, slice_get, slice_index, slice_index_or, slice_set, unwrap_or}
 use Rattle.std.proofs.Math.Seq.{take-append_seam}
 use Rattle.std.proofs.lemmas.Option.{slice_get-get_or}
 use Rattle.std.proofs.lemmas.List.{get_or_default, length-map, map-set}
@@ -8,9 +8,11 @@ use Rattle.zs_num.specs.Request.{line_of, bank_of}
 use Rattle.zs_num.specs.Servable.{IsServable}
 use Rattle.zs_num.specs.declared.entry.Entry.{Entry}
 use Rattle.zs_num.specs.declared.request.Request.{Request}
+use Rattle.shard.specs.HaveL1i.{have_l1i}
 use Rattle.shard.specs.Served.{CanServe, IsServedBy, ShardState, shard_after}
-use Rattle.bound_core.specs.ShardPort.{AreShardsOf, IsShardAt, IsShardPort, ShardPortState, base_in, base_of, greatest, greatest_stamp, size_in, size_of}
+use Rattle.bound_core.specs.ShardPort.{AreShardsOf, IsShardAt, IsShardPort, ShardPortState, base_in, base_of, greatest, greatest_stamp, l1i_in, l1i_of, size_in, size_of}
 use Rattle.bound_core.specs.ShardWorld.{ShardWorld, no_shard, recorded_by_shard, restarted, shard_for, shards_serve}
+use Rattle.bound_core.proofs.Alike.{EachHas, alike_by, first_has}
 use Rattle.bound_core.proofs.HistoryTurn.{recorded_is}
 
 -- ---- lists
@@ -43,12 +45,26 @@ greatest_set (n ∷ ns) (suc i) number = omega (arith, greatest_set ns i number)
 
 -- ---- shards of a machine
 
+some_set : (n : ℕ) (shards : List ShardState) (shard : ShardState) → 0 < length shards → 0 < length (slice_set shards n shard)
+some_set n shards shard some = subst (λ count. 0 < count) (sym (length-set shards n shard)) some
+
+each_has_set : (n : ℕ) (shards : List ShardState) (shard : ShardState) → have_l1i shard.caches ≡ l1i_in shards → EachHas (l1i_in shards) shards
+    → EachHas (l1i_in shards) (slice_set shards n shard)
+each_has_set n shards shard same alike = each_set (λ i x. have_l1i x.caches ≡ l1i_in shards) shards n shard same alike
+
+-- a shard that is set has instruction caches where the others have
+pub l1i_set : (n : ℕ) (shards : List ShardState) (shard : ShardState) → 0 < length shards → have_l1i shard.caches ≡ l1i_in shards → EachHas (l1i_in shards) shards
+    → l1i_in (slice_set shards n shard) ≡ l1i_in shards
+l1i_set n shards shard some same alike =
+    first_has (l1i_in shards) (slice_set shards n shard) (some_set n shards shard some) (each_has_set n shards shard same alike)
+
 pub shards_set : (cores base size n : ℕ) (shards : List ShardState) (shard : ShardState) → AreShardsOf cores shards base size
-    → IsShardAt (length shards) cores n base size shard → AreShardsOf cores (slice_set shards n shard) base size
-shards_set cores base size n shards shard are one = record {
-  some = subst (λ count. 0 < count) (sym (length-set shards n shard)) are.some;
+    → IsShardAt (length shards) cores n base size shard → have_l1i shard.caches ≡ l1i_in shards → AreShardsOf cores (slice_set shards n shard) base size
+shards_set cores base size n shards shard are one same = record {
+  some = some_set n shards shard are.some;
   each = subst (λ count. (i : ℕ) (x : ShardState) → slice_get (slice_set shards n shard) i ≡ Some x → IsShardAt count cores i base size x) (sym (length-set shards n shard))
       (each_set (λ i x. IsShardAt (length shards) cores i base size x) shards n shard one are.each);
+  alike = alike_by (l1i_in shards) (slice_set shards n shard) (some_set n shards shard are.some) (each_has_set n shards shard same are.alike);
 }
 
 -- their memory is that of the first
@@ -66,11 +82,11 @@ port_of w core cores base size are stamps below = let own = own_memory cores bas
 
 -- after an access the shards are still those of the machine
 pub port_set : (p : ShardPortState) (i : ℕ) (left : ShardState) (core stamp : ℕ) → IsShardPort p
-    → IsShardAt (length p.world.shards) (length p.world.stamps) i (base_of p.world) (size_of p.world) left
+    → IsShardAt (length p.world.shards) (length p.world.stamps) i (base_of p.world) (size_of p.world) left → have_l1i left.caches ≡ l1i_of p.world
     → IsShardPort (record { world = record { shards = slice_set p.world.shards i left; stamps = slice_set p.world.stamps core stamp }; core = p.core })
-port_set p i left core stamp port at =
+port_set p i left core stamp port at same =
     port_of (record { shards = slice_set p.world.shards i left; stamps = slice_set p.world.stamps core stamp }) p.core (length p.world.stamps) (base_of p.world) (size_of p.world)
-    (shards_set (length p.world.stamps) (base_of p.world) (size_of p.world) i p.world.shards left port.shards at) (length-set p.world.stamps core stamp) port.core_is
+    (shards_set (length p.world.stamps) (base_of p.world) (size_of p.world) i p.world.shards left port.shards at same) (length-set p.world.stamps core stamp) port.core_is
 
 -- ---- restarted
 
@@ -86,13 +102,24 @@ each_restarted cores count base size from (s ∷ ss) each (suc i) x e =
     subst (λ (k : ℕ). IsShardAt count cores k base size x) (omega arith)
     (each_restarted cores count base size (suc from) ss (λ j y h. subst (λ (k : ℕ). IsShardAt count cores k base size y) (omega arith) (each (suc j) y h)) i x e)
 
+has_restarted : (l1i : Bool) (shards : List ShardState) → EachHas l1i shards → EachHas l1i (map restarted shards)
+has_restarted l1i [] each i x e = each i x e
+has_restarted l1i (s ∷ ss) each zero x e = ap (λ found. have_l1i (unwrap_or found (restarted s)).caches) (sym e) ∙ each 0 s refl
+has_restarted l1i (s ∷ ss) each (suc i) x e = has_restarted l1i ss (λ j y h. each (suc j) y h) i x e
+
 pub shards_restarted : (cores base size : ℕ) (shards : List ShardState) → AreShardsOf cores shards base size → AreShardsOf cores (map restarted shards) base size
 shards_restarted cores base size shards are = record {
   some = subst (λ (count : ℕ). 0 < count) (sym (length-map shards restarted)) are.some;
   each = subst (λ (count : ℕ). (i : ℕ) (x : ShardState) → slice_get (map restarted shards) i ≡ Some x → IsShardAt count cores i base size x) (sym (length-map shards restarted))
       (λ i x e. subst (λ (k : ℕ). IsShardAt (length shards) cores k base size x) (omega arith)
       (each_restarted cores (length shards) base size 0 shards (λ j y h. subst (λ (k : ℕ). IsShardAt (length shards) cores k base size y) (omega arith) (are.each j y h)) i x e));
+  alike = alike_by (l1i_in shards) (map restarted shards) (subst (λ (count : ℕ). 0 < count) (sym (length-map shards restarted)) are.some) (has_restarted (l1i_in shards) shards are.alike);
 }
+
+-- they have instruction caches where they had
+pub restarted_l1i : (cores base size : ℕ) (shards : List ShardState) → AreShardsOf cores shards base size → l1i_in (map restarted shards) ≡ l1i_in shards
+restarted_l1i cores base size shards are =
+    first_has (l1i_in shards) (map restarted shards) (subst (λ (count : ℕ). 0 < count) (sym (length-map shards restarted)) are.some) (has_restarted (l1i_in shards) shards are.alike)
 
 -- the stamps and the last stamps are forgotten
 pub port_restarted : (p : ShardPortState) (shards : List ShardState) (stamps : List ℕ) → IsShardPort p → shards ≡ map restarted p.world.shards → length stamps ≡ length p.world.stamps
@@ -128,12 +155,13 @@ module _ (w : ShardWorld) (core start : ℕ) (request : Request) where
       here ∙ (ap (λ (k : ℕ). get_or w.shards k x) is ∙ get_or_default w.shards n x no_shard (mod-lt (line_of request) some))
 
   -- what a port may be asked can be asked of the shard
-  pub can_serve : IsShardPort (record { world = w; core = core }) → IsServable (base_of w) (size_of w) false request → CanServe (shard_for w.shards request) request
+  pub can_serve : IsShardPort (record { world = w; core = core }) → IsServable (base_of w) (size_of w) (l1i_of w) request → CanServe (shard_for w.shards request) request
   unfolding CanServe
   can_serve port servable =
       let at = port.shards.each n (shard_for w.shards request) (shard_there port.shards.some) in (
-        subst (λ (base : ℕ). IsServable base (shard_for w.shards request).size false request) (sym at.base_is)
-            (subst (λ (size : ℕ). IsServable (base_of w) size false request) (sym at.size_is) servable),
+        subst (λ (l1i : Bool). IsServable (shard_for w.shards request).base (shard_for w.shards request).size l1i request) (sym (port.shards.alike n (shard_for w.shards request) (shard_there port.shards.some)))
+            (subst (λ (base : ℕ). IsServable base (shard_for w.shards request).size (l1i_of w) request) (sym at.base_is)
+            (subst (λ (size : ℕ). IsServable (base_of w) size (l1i_of w) request) (sym at.size_is) servable)),
         ap (λ (count : ℕ). line_of request % count) at.count ∙ sym at.number_is,
       )
 

@@ -1,5 +1,5 @@
 -- One turn over shards and over the machine for which they stand.
-use Rattle.std.proofs.Common.{◌≡◌, ℕ, ◌<◌, List, [], ◌∷◌, map, length, All, Option, Some, refl, sym, ◌∙◌, ap, subst, arith, false}
+use Rattle.std.proofs.Common.{◌≡◌, ℕ, ◌<◌, List, [], ◌∷◌, map, length, All, Option, Some, refl, sym, ◌∙◌, ap, subst, arith, Bool, IsTrue, nat_lt}
 use Rattle.std.specs.Prelude.{slice_get, slice_index, slice_set}
 use Rattle.std.proofs.lemmas.List.{length-map, length-set, map-set}
 use Rattle.std.proofs.lemmas.List.Elements.{All-cons, All-head, All-map, All-nil, All-set, All-tail, All-weaker}
@@ -19,6 +19,8 @@ use Rattle.flat_memory.specs.declared.reservation.Reservation.{Reservation}
 use Rattle.flat_memory.specs.FlatMemory as flat
 use Rattle.shard.specs.Coherence.{outcome_of}
 use Rattle.shard.specs.Coherence as caches
+use Rattle.shard.proofs.Kept.{access_same}
+use Rattle.shard.specs.HaveL1i.{have_l1i}
 use Rattle.shard.specs.Laws.{MarksAreReservations, ShardsStandForAMachine}
 use Rattle.shard.specs.Marks.{MarkedMemory, marked_after, marked_reply}
 use Rattle.shard.specs.Served.{ShardState, met_by, shard_after, shard_reply}
@@ -35,6 +37,7 @@ use Rattle.bound_core.proofs.CoreKept.{CoreLaws, StaysSound, ran_stays_sound, wa
 use Rattle.bound_core.proofs.Histories.{after_last, is_there}
 use Rattle.bound_core.proofs.HistoryTurn.{last_at}
 use Rattle.bound_core.proofs.Lists.{get_set}
+use Rattle.bound_core.proofs.MoreServable.{more_servable}
 use Rattle.bound_core.proofs.Pairings.{core_after, turn_pairings, turn_right, turn_sound}
 use Rattle.bound_core.proofs.Correspondence.{KeptByTurns, same_phases}
 use Rattle.bound_core.proofs.ShardKept.{marks_kept, recorded_outcome, recorded_reply, size_kept}
@@ -44,7 +47,7 @@ same_head x y xs ys same = cc
 
 -- of a core that waits for an access of a sound instruction
 module _ (laws : CoreLaws) (c : CoreState) (sound : IsSoundCore c) (now : InProgress) (is : c.instruction ≡ Some now) where
-  pub waits_served : IsServable c.memory.base c.memory.size false now.next
+  pub waits_served : IsServable c.memory.base c.memory.size c.fetching now.next
   waits_served = let served = sound.served in (rw is at served).0
 
 -- ---- the turn
@@ -57,8 +60,12 @@ module _ (laws : CoreLaws) (step : ShardsStandForAMachine) (marks_law : MarksAre
   within : number < length cores
   within = slice_get_within cores number c here
 
-  is_core : IsCoreOf r.memory.base (length r.memory.bytes) c
-  is_core = subst (IsCoreOf r.memory.base (length r.memory.bytes)) (get_or_from_slice_get cores number c c here) (r.cores_are number c within)
+  -- whether the cores have instruction caches
+  abbrev l1i : Bool
+  l1i = have_l1i m.caches
+
+  is_core : IsCoreOf r.memory.base (length r.memory.bytes) l1i c
+  is_core = subst (IsCoreOf r.memory.base (length r.memory.bytes) l1i) (get_or_from_slice_get cores number c c here) (r.cores_are number c within)
 
   stays : StaysSound c.core ran.core
   stays = ran_stays_sound laws image end c is_core.sound
@@ -66,14 +73,17 @@ module _ (laws : CoreLaws) (step : ShardsStandForAMachine) (marks_law : MarksAre
   waiting : (now : InProgress) × (ran.core.instruction ≡ Some now) × (now.next ≡ request)
   waiting = waits_for ran.core.instruction request asked
 
-  servable : IsServable r.memory.base (length r.memory.bytes) false request
+  servable : IsServable r.memory.base (length r.memory.bytes) l1i request
   servable =
-      let own : IsServable ran.core.memory.base ran.core.memory.size false waiting.0.next = waits_served laws ran.core stays.sound waiting.0 waiting.1 in
+      let may : IsServable ran.core.memory.base ran.core.memory.size ran.core.fetching waiting.0.next = waits_served laws ran.core stays.sound waiting.0 waiting.1 in
+      let own : IsServable ran.core.memory.base ran.core.memory.size l1i waiting.0.next =
+      more_servable ran.core.memory.base ran.core.memory.size ran.core.fetching l1i waiting.0.next (λ fetches. is_core.fetches (subst IsTrue stays.fetching fetches)) may
+      in
       let based : ran.core.memory.base ≡ r.memory.base = ap (λ (x : _). x.base) stays.memory ∙ is_core.base_is in
       let sized : ran.core.memory.size ≡ length r.memory.bytes = ap (λ (x : _). x.size) stays.memory ∙ is_core.size_is in
-      subst (IsServable r.memory.base (length r.memory.bytes) false) waiting.2
-      (subst (λ (n : ℕ). IsServable r.memory.base n false waiting.0.next) sized
-      (subst (λ (n : ℕ). IsServable n ran.core.memory.size false waiting.0.next) based own))
+      subst (IsServable r.memory.base (length r.memory.bytes) l1i) waiting.2
+      (subst (λ (n : ℕ). IsServable r.memory.base n l1i waiting.0.next) sized
+      (subst (λ (n : ℕ). IsServable n ran.core.memory.size l1i waiting.0.next) based own))
 
   -- its shard
   pub there : (shard : ShardState) × (slice_get w.shards (bank_of (length w.shards) request) ≡ Some shard)
@@ -210,21 +220,27 @@ module _ (laws : CoreLaws) (step : ShardsStandForAMachine) (marks_law : MarksAre
       let at : slice_get w_after.shards place ≡ Some (shard_after shard e) = get_set w.shards place shard (shard_after shard e) there.1 in
       sym (stand_after.are.size place (shard_after shard e) at) ∙ size_kept shard e ∙ r.stand.are.size place shard there.1
 
-  core_left : IsCoreOf r.memory.base (length r.memory.bytes) c_after
+  core_left : IsCoreOf r.memory.base (length r.memory.bytes) l1i c_after
   core_left =
       let is : c_after.core ≡ answered e.reply ran.core = core_after time e ran in
       let memory = ap (λ (core : CoreState). core.memory) is ∙ laws.answered_memory e.reply ran.core stays.sound ∙ stays.memory in
+      let fetching = ap (λ (core : CoreState). core.fetching) is ∙ laws.answered_fetching e.reply ran.core stays.sound ∙ stays.fetching in
       record {
         sound = turn_sound laws image end cores number c here is_core.sound request asked time e;
         base_is = ap (λ (x : _). x.base) memory ∙ is_core.base_is;
         size_is = ap (λ (x : _). x.size) memory ∙ is_core.size_is;
+        fetches = λ fetches. is_core.fetches (subst IsTrue fetching fetches);
       }
+
+  -- the cores still have instruction caches, or none
+  same_l1i : have_l1i m_after.caches ≡ l1i
+  same_l1i = ap (nat_lt 0) (access_same m.caches number request).fetchers
 
   pub stands_after : StandForMachine cores_after w_after m_after
   stands_after =
       let many : length cores_after ≡ length cores = length-set cores number c_after in
       let known : All (λ x. length x.marks ≡ length cores) w_after.shards = All-set (λ (x : ShardState). length x.marks ≡ length cores) w.shards place (shard_after shard e) (marks_kept shard e ∙ marks_here) r.cores_known in
-      let are : All (IsCoreOf r.memory.base (length r.memory.bytes)) cores_after = All-set (IsCoreOf r.memory.base (length r.memory.bytes)) cores number c_after core_left r.cores_are in
+      let are : All (IsCoreOf r.memory.base (length r.memory.bytes) l1i) cores_after = All-set (IsCoreOf r.memory.base (length r.memory.bytes) l1i) cores number c_after core_left r.cores_are in
       let last : (shard_after shard e).last ≡ e.stamp = after_last shard e in
       record {
         memory = marked_left;
@@ -232,7 +248,8 @@ module _ (laws : CoreLaws) (step : ShardsStandForAMachine) (marks_law : MarksAre
         flat = flat_after;
         some = omega (arith, length-set w.shards place (shard_after shard e), r.some);
         cores_known = subst (λ (n : ℕ). All (λ (x : ShardState). length x.marks ≡ n) w_after.shards) (sym many) known;
-        cores_are = subst (λ (n : ℕ). All (IsCoreOf r.memory.base n) cores_after) (sym same_size) are;
+        cores_are = subst (λ (has : Bool). All (IsCoreOf r.memory.base (length marked_left.bytes) has) cores_after) (sym same_l1i)
+            (subst (λ (n : ℕ). All (IsCoreOf r.memory.base n l1i) cores_after) (sym same_size) are);
         banks_stamped =
             ap (λ (n : ℕ). slice_set m.stamps.banks n e.stamp) same_bank
             ∙ ap (λ (banks : List ℕ). slice_set banks place e.stamp) r.banks_stamped
@@ -244,28 +261,34 @@ module _ (laws : CoreLaws) (step : ShardsStandForAMachine) (marks_law : MarksAre
 -- ---- the end of the interval
 
 module _ (laws : CoreLaws) (image : MemoryImage) (end : ℕ) where
-  same_pairings : (base size : ℕ) (cores : List TimedCore) → All (IsCoreOf base size) cores → pairings_of (map (ran_to image end) cores) ≡ pairings_of cores
-  same_pairings base size [] are = refl
-  same_pairings base size (c ∷ cores) are =
-      let one : (ran_to image end c).core.pairing ≡ c.core.pairing = (ran_stays_sound laws image end c (All-head (IsCoreOf base size) c cores are).sound).pairing in
-      rw (one, same_pairings base size cores (All-tail (IsCoreOf base size) c cores are)) refl
+  same_pairings : (base size : ℕ) (l1i : Bool) (cores : List TimedCore) → All (IsCoreOf base size l1i) cores → pairings_of (map (ran_to image end) cores) ≡ pairings_of cores
+  same_pairings base size l1i [] are = refl
+  same_pairings base size l1i (c ∷ cores) are =
+      let one : (ran_to image end c).core.pairing ≡ c.core.pairing = (ran_stays_sound laws image end c (All-head (IsCoreOf base size l1i) c cores are).sound).pairing in
+      rw (one, same_pairings base size l1i cores (All-tail (IsCoreOf base size l1i) c cores are)) refl
 
-  ran_core : (base size : ℕ) (c : TimedCore) → IsCoreOf base size c → IsCoreOf base size (ran_to image end c)
-  ran_core base size c is =
+  ran_core : (base size : ℕ) (l1i : Bool) (c : TimedCore) → IsCoreOf base size l1i c → IsCoreOf base size l1i (ran_to image end c)
+  ran_core base size l1i c is =
       let stays = ran_stays_sound laws image end c is.sound in
-      record { sound = stays.sound; base_is = ap (λ (x : _). x.base) stays.memory ∙ is.base_is; size_is = ap (λ (x : _). x.size) stays.memory ∙ is.size_is }
+      record {
+        sound = stays.sound;
+        base_is = ap (λ (x : _). x.base) stays.memory ∙ is.base_is;
+        size_is = ap (λ (x : _). x.size) stays.memory ∙ is.size_is;
+        fetches = λ fetches. is.fetches (subst IsTrue stays.fetching fetches);
+      }
 
   pub stands_at_end : (cores : List TimedCore) (w : ShardWorld) (m : MachineWorld) → StandForMachine cores w m → StandForMachine (map (ran_to image end) cores) w m
   stands_at_end cores w m r =
       let base = r.memory.base in
       let size : ℕ = length r.memory.bytes in
+      let l1i : Bool = have_l1i m.caches in
       record {
         memory = r.memory;
         stand = r.stand;
-        flat = r.flat ∙ ap (flat_for r.memory) (sym (same_pairings base size cores r.cores_are));
+        flat = r.flat ∙ ap (flat_for r.memory) (sym (same_pairings base size l1i cores r.cores_are));
         some = r.some;
         cores_known = subst (λ (n : ℕ). All (λ (x : ShardState). length x.marks ≡ n) w.shards) (sym (length-map cores (ran_to image end))) r.cores_known;
-        cores_are = All-map (IsCoreOf base size) (ran_to image end) cores (All-weaker (IsCoreOf base size) (λ c. IsCoreOf base size (ran_to image end c)) (λ c is. ran_core base size c is) cores r.cores_are);
+        cores_are = All-map (IsCoreOf base size l1i) (ran_to image end) cores (All-weaker (IsCoreOf base size l1i) (λ c. IsCoreOf base size l1i (ran_to image end c)) (λ c is. ran_core base size l1i c is) cores r.cores_are);
         banks_stamped = r.banks_stamped;
         cores_stamped = r.cores_stamped;
       }

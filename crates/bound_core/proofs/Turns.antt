@@ -1,5 +1,5 @@
 -- The turns of a core, one after the other.
-use Rattle.std.proofs.Common.{◌≡◌, ℕ, ◌+◌, ◌-◌, ◌^◌, ◌<◌, ◌≤◌, max, List, [], ◌∷◌, ◌++◌, length, All, Option, Some, None, refl, sym, ◌∙◌, ap, subst, arith}
+use Rattle.std.proofs.Common.{◌≡◌, ℕ, ◌+◌, ◌^◌, ◌<◌, ◌≤◌, List, [], ◌∷◌, ◌++◌, length, All, Option, Some, None, inl, inr, Bool, true, false, is_some, true≢false, refl, sym, ◌∙◌, ap, subst, arith}
 use Rattle.std.proofs.lemmas.List.{append-nil, append_assoc, length-append}
 use Rattle.zs_num.specs.declared.entry.Entry.{Entry}
 use Rattle.zs_num.specs.declared.request.Request.{Request}
@@ -9,9 +9,10 @@ use Rattle.rv_core.specs.Sound.{IsSoundCore}
 use Rattle.rv_core.specs.Step.{answered}
 use Rattle.bound_core.specs.Port.{Gains}
 use Rattle.bound_core.specs.TimedCore.{TimedCore, asks, core_after_access, next_request, ran_to}
-use Rattle.bound_core.specs.IntervalBounds.{latest_clock, left_of_instruction, most_accesses}
-use Rattle.bound_core.specs.Turn.{EndsInterval, RunsToEnd, TakesTurn, TurnsToEnd}
-use Rattle.bound_core.proofs.Accesses.{TakesAccess, left_answered, left_few, most_few}
+use Rattle.bound_core.specs.IntervalBounds.{latest_clock, left_of_instruction, most_accesses, most_left}
+use Rattle.bound_core.specs.Turn.{EndsInterval, IsOver, RunsToEnd, TakesTurn, TurnsToEnd}
+use Rattle.bound_core.proofs.Accesses.{RunsLocally, TakesAccess, left_answered, left_few, runs_locally, start_within, unfetched_left, waiting_unfetched}
+use Rattle.bound_core.proofs.Instructions.{local_instructions_end}
 use Rattle.bound_core.proofs.Lists.{all_and_one, all_none}
 
 -- ---- one turn
@@ -20,16 +21,40 @@ asks_left : (instruction : Option InProgress) (request : Request) → next_reque
 asks_left None request asked = cc
 asks_left (Some now) request asked = omega arith
 
-pub asks_none : (instruction : Option InProgress) → next_request instruction ≡ None → left_of_instruction instruction ≡ 0
+asks_waits : (instruction : Option InProgress) (request : Request) → next_request instruction ≡ Some request → instruction ≡ None → ⊥
+asks_waits None request asked none = cc
+asks_waits (Some now) request asked none = cc
+
+pub asks_none : (instruction : Option InProgress) → next_request instruction ≡ None → instruction ≡ None
 asks_none None asked = refl
 asks_none (Some now) asked = cc
 
--- the accesses of an interval are few, where a core at its end or past it stays as it is
-pub few_before : (end : ℕ) (before ran : TimedCore) → (end ≤ before.clock → ran ≡ before) → IsSoundCore ran.core → most_accesses end before ≤ end - before.clock + 256
-few_before end before ran late sound =
-    most_few end before (λ past.
-    let same : left_of_instruction ran.core.instruction ≡ left_of_instruction before.core.instruction = ap (λ (c : TimedCore). left_of_instruction c.core.instruction) (late past) in
-    omega (arith, same, left_few ran.core sound))
+-- what the code of a turn knows of local instructions
+pub ran_locally : (image : MemoryImage) (end : ℕ) (before ran : TimedCore) → ran ≡ ran_to image end before → RunsLocally end before ran
+ran_locally image end before ran is = subst (RunsLocally end before) (sym is) (runs_locally image end before)
+
+-- a core that has no access then is over
+pub ran_over : (image : MemoryImage) (end : ℕ) (before ran : TimedCore) → ran ≡ ran_to image end before → asks ran ≡ None → IsOver end ran
+ran_over image end before ran is asked =
+    elim (local_instructions_end image end before) [
+      | inl some ↦ absurd (true≢false (sym some ∙ ap is_some (sym (ap asks is) ∙ asked)))
+      | inr over ↦ subst (IsOver end) (sym is) over
+    ]
+
+-- it has fetched no instruction that is to be executed, and has no access left
+unfetched_by : (end : ℕ) (c : TimedCore) (fetched : Bool) → c.core.is_fetched ≡ fetched → IsSoundCore c.core → IsOver end c → c.core.is_fetched ≡ false
+unfetched_by end c false e sound over = e
+unfetched_by end c true e sound over =
+    elim over.over [
+      | inl halted ↦ absurd (true≢false (sym halted ∙ ap is_some (sound.fetched e).2))
+      | inr late ↦ late.0
+    ]
+
+pub over_unfetched : (end : ℕ) (c : TimedCore) → IsSoundCore c.core → IsOver end c → c.core.is_fetched ≡ false
+over_unfetched end c sound over = unfetched_by end c c.core.is_fetched refl sound over
+
+pub over_left : (end : ℕ) (c : TimedCore) → IsSoundCore c.core → IsOver end c → most_left c.core ≡ 0
+over_left end c sound over = let idle = over.idle in unfetched_left c.core (over_unfetched end c sound over) ∙ (rw idle refl)
 
 after_core : (time : Entry → ℕ) (e : Entry) (c : TimedCore) → (core_after_access time e c).core ≡ answered e.reply c.core
 unfolding core_after_access
@@ -37,9 +62,7 @@ after_core time e c = refl
 
 -- what the code of a turn knows of an access
 pub record MakesAccess (time : Entry → ℕ) (end : ℕ) (before ran after : TimedCore) (request : Request) (e : Entry) : Type 0 where
-  pub begun : before.clock ≤ ran.clock
-  pub within : ran.clock ≤ max before.clock end
-  pub late : end ≤ before.clock → ran ≡ before
+  pub runs : RunsLocally end before ran
   pub sound : IsSoundCore ran.core
   pub asked : asks ran ≡ Some request
   pub left : after ≡ core_after_access time e ran
@@ -49,15 +72,20 @@ pub record MakesAccess (time : Entry → ℕ) (end : ℕ) (before ran after : Ti
 pub takes_access : (time : Entry → ℕ) (end : ℕ) (before ran after : TimedCore) (request : Request) (e : Entry) → MakesAccess time end before ran after request e → TakesAccess end before ran after
 takes_access time end before ran after request e m =
     let core : after.core ≡ answered e.reply ran.core = ap (λ (c : TimedCore). c.core) m.left ∙ after_core time e ran in
+    let unfetched : ran.core.is_fetched ≡ false = waiting_unfetched ran.core m.sound (asks_waits ran.core.instruction request m.asked) in
     record {
-      begun = m.begun;
-      within = m.within;
-      late = λ late. ap (λ (c : TimedCore). left_of_instruction c.core.instruction) (sym (m.late late));
+      runs = m.runs;
       few = left_few ran.core m.sound;
-      left = rw core (left_answered e.reply ran.core (asks_left ran.core.instruction request m.asked));
+      left = rw core (left_answered e.reply ran.core unfetched (asks_left ran.core.instruction request m.asked));
       later = m.later;
       soon = m.soon;
     }
+
+-- it starts no later than the core can come
+pub starts_within : (end : ℕ) (before ran : TimedCore) (request : Request) → RunsLocally end before ran → IsSoundCore ran.core → asks ran ≡ Some request → ran.clock ≤ latest_clock end before
+starts_within end before ran request runs sound asked =
+    let unfetched = unfetched_left ran.core (waiting_unfetched ran.core sound (asks_waits ran.core.instruction request asked)) in
+    start_within end before ran runs (omega (arith, unfetched, asks_left ran.core.instruction request asked))
 
 -- ---- many
 

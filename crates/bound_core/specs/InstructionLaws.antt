@@ -3,7 +3,7 @@
 use Rattle.std.specs.Prelude.{◌≡◌, ◌≢◌, ◌⊎◌, ℕ, zero, suc, ◌+◌, ◌-◌, ◌%◌, ◌<◌, ◌≤◌, ◌==◌, Bool, true, false, ◌&&◌, ◌||◌, if◌then◌else◌, IsTrue, List, [], ◌∷◌, length, slice_index, All, Option, Some, None}
 use Rattle.zs_num.specs.Request.{line_at, line_of}
 use Rattle.zs_num.specs.declared.request.Request.{Request}
-use Rattle.zs_num.specs.declared.request.Request.TheVariants.{Store}
+use Rattle.zs_num.specs.declared.request.Request.TheVariants.{Fetch, Store}
 use Rattle.rv_decode.specs.declared.inst.Inst.{Inst}
 use Rattle.rv_decode.specs.declared.name.Name.{Name}
 use Rattle.rv_decode.specs.declared.name.Name.TheVariants as name
@@ -16,7 +16,7 @@ use Rattle.rv_core.specs.CoreState.{CoreState}
 use Rattle.rv_core.specs.Effect.{address, effect, goes_on, register}
 use Rattle.rv_core.specs.Fetch.{fetched_at}
 use Rattle.rv_core.specs.Sound.{IsSoundCore}
-use Rattle.rv_core.specs.Step.{answered, is_free}
+use Rattle.rv_core.specs.Step.{answered, asks_for_instruction, is_free, needs_fetch, unfetched}
 use Rattle.rv_core.specs.Asked.{advanced}
 use Rattle.bound_core.specs.TimedCore.{next_request}
 use Rattle.bound_core.specs.IntervalBounds.{left_of_instruction}
@@ -55,11 +55,19 @@ pub record ComesToNext (s : CoreInMemory) : Type 0 where
   pub size : s.core.memory.size ≡ length s.memory.bytes
   pub bytes : All (λ byte. byte < 256) s.memory.bytes
 
--- A whole instruction is the core's step at an address where the program has it, and then its accesses.
+-- after the fetch of the core's next instruction, where the core has to fetch it
+abbrev pub after_fetching : (number : ℕ) → MemoryImage → CoreInMemory → CoreInMemory
+after_fetching number image s =
+    if needs_fetch image s.core then after_request number (Some (Fetch s.core.pc)) (record s { core = asks_for_instruction s.core }) else s
+
+-- A whole instruction is the core's step at an address where the program has it, behind its fetch if it has to be
+-- fetched, and then its accesses.
 abbrev pub InstructionsAreSteps : Type 0
 InstructionsAreSteps = (number : ℕ) (image : MemoryImage) (inst : Inst) (s : CoreInMemory)
     → IsTrue (is_free s.core) → fetched_at image s.core.pc ≡ Instruction inst
-    → after_executing number inst s ≡ after_all_requests number (record s { core = advanced image s.core })
+    → (let fetched = after_fetching number image s in
+    after_executing number inst (record fetched { core = unfetched fetched.core })
+    ≡ after_all_requests number (record fetched { core = advanced image fetched.core }))
 
 -- ---- loads and stores
 

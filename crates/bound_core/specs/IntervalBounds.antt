@@ -1,19 +1,36 @@
 -- How many accesses a core can have before it ends its interval, and how late.
 use Rattle.std.specs.Prelude.{ℕ, suc, ◌+◌, ◌-◌, ◌*◌, ◌^◌, max, nat_lt, if◌then◌else◌, length, Option, Some, None}
-use Rattle.rv_core.specs.CoreState.{InProgress}
+use Rattle.rv_core.specs.CoreState.{CoreState, Ending, InProgress, ToConsole, ToExecution, ToNothing, ToRegister}
 use Rattle.bound_core.specs.TimedCore.{TimedCore}
 
--- how many accesses are left of the instruction in progress
+-- how many accesses are left of the instruction in progress, or of its fetch
 abbrev pub left_of_instruction : Option InProgress → ℕ
 left_of_instruction None = 0
 left_of_instruction (Some now) = suc (length now.later)
 
+-- how many accesses an instruction has at most behind its fetch
+abbrev pub left_behind : Ending → ℕ
+left_behind (ToRegister destination) = 0
+left_behind (ToConsole count) = 0
+left_behind ToExecution = 256
+left_behind ToNothing = 0
+
+abbrev pub left_behind_fetch : Option InProgress → ℕ
+left_behind_fetch None = 0
+left_behind_fetch (Some now) = left_behind now.ending
+
+-- How many accesses are left at most of what the core has begun: one is its instruction in progress; an instruction that
+-- is fetched has 256 at most.
+abbrev pub most_left : CoreState → ℕ
+most_left core = if core.is_fetched then 256 else left_of_instruction core.instruction + left_behind_fetch core.instruction
+
 -- The most accesses that a core can have before it ends its interval. An access costs a cycle at least; an instruction
--- that begins before the end may end behind it, and has 256 accesses at most.
+-- that begins before the end may end behind it, and has 256 accesses at most beside its fetch, which is one of those
+-- before the end.
 unfoldable pub most_accesses : (end : ℕ) → TimedCore → ℕ
-most_accesses end c = if nat_lt c.clock end then end - c.clock + 256 else left_of_instruction c.core.instruction
+most_accesses end c = if nat_lt c.clock end then end - c.clock + 256 else most_left c.core
 
 -- The latest cycle that the clock of a core can come to before the core ends its interval. An access takes 2^20 cycles
--- at most.
+-- at most, and one more where it is the first behind a fetch.
 unfoldable pub latest_clock : (end : ℕ) → TimedCore → ℕ
-latest_clock end c = max (c.clock + 2 ^ 20 * left_of_instruction c.core.instruction) (end + 2 ^ 28)
+latest_clock end c = max (c.clock + 2 ^ 21 * most_left c.core) (end + 2 ^ 30)

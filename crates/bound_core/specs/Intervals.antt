@@ -2,6 +2,7 @@
 use Rattle.std.specs.Prelude.{◌≡◌, List, length, map}
 use Rattle.std.specs.List.{range_with_len}
 use Rattle.elf_load.specs.MemoryImage.{MemoryImage}
+use Rattle.elf_load.specs.SoundImage.{IsSoundImage}
 use Rattle.machine_desc.specs.Machine.{IsMachine}
 use Rattle.machine_desc.specs.declared.machine.Machine.{Machine}
 use Rattle.shard.specs.StandsFor.{new_shards}
@@ -11,9 +12,9 @@ use Rattle.bound_core.specs.MachineWorld.{MachineWorld, first_world}
 use Rattle.bound_core.specs.ShardWorld.{ShardWorld, begun_world, restarted}
 use Rattle.bound_core.specs.TimedCore.{TimedCore, first_core}
 
--- A machine's cores and new shards stand for its first world.
+-- A machine's cores and new shards stand for its first world, where memory is that of an image that can be loaded.
 abbrev pub FirstIntervalBegins : Type 0
-FirstIntervalBegins = (machine : Machine) (image : MemoryImage) → IsMachine machine → image.base ≡ machine.memory.base → image.size ≡ machine.memory.size
+FirstIntervalBegins = (machine : Machine) (image : MemoryImage) → IsMachine machine → IsSoundImage image → image.base ≡ machine.memory.base → image.size ≡ machine.memory.size
     → StandForMachine (map (first_core machine image) (range_with_len 0 machine.cores)) (begun_world machine.cores (new_shards machine image)) (first_world machine image)
 
 -- Between two intervals all last stamps become 0 again, and clocks may move on: the cores' own states are as they were.

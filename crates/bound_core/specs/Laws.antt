@@ -28,7 +28,7 @@ LocalInstructionsEnd = (image : MemoryImage) (end : ℕ) (c : TimedCore) → IsS
 
 -- A core whose accesses can all be served has few of them before it ends its interval.
 abbrev pub AccessesAreFew : Type 0
-AccessesAreFew = (end : ℕ) (c : TimedCore) → IsSoundCore c.core → most_accesses end c ≤ end - c.clock + 256
+AccessesAreFew = (end : ℕ) (c : TimedCore) → IsSoundCore c.core → most_accesses end c ≤ end - c.clock + 257
 
 module _ {World : Type 0} (serve : World → (core start : ℕ) → Request → Entry × World) (time : Entry → ℕ) (image : MemoryImage) (end : ℕ) where
   -- Local instructions touch nothing else: that a core has them behind it changes nothing of a bound phase.

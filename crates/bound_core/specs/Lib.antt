@@ -1,4 +1,5 @@
 pub mod Ahead
+pub mod FetchLaws
 pub mod History
 pub mod HistoryLaws
 pub mod InstructionLaws

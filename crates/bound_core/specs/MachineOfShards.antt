@@ -1,12 +1,13 @@
 -- When cores and shards with marks stand for the machine of one thread: one flat memory with a reservation for each
 -- core, and one list for each set of the caches.
-use Rattle.std.specs.Prelude.{◌≡◌, ℕ, ◌<◌, List, [], length, map, All, Option, Ok}
+use Rattle.std.specs.Prelude.{◌≡◌, ℕ, ◌<◌, Bool, List, [], length, map, All, IsTrue, Option, Ok}
 use Rattle.zs_num.specs.declared.entry.Entry.{Entry}
 use Rattle.elf_load.specs.MemoryImage.{MemoryImage}
 use Rattle.zs_num.specs.declared.pairing.Pairing.{Pairing}
 use Rattle.rv_core.specs.Sound.{IsSoundCore}
 use Rattle.shard.specs.Marks.{MarkedMemory}
 use Rattle.shard.specs.Served.{ShardState}
+use Rattle.shard.specs.HaveL1i.{have_l1i}
 use Rattle.shard.specs.StandsFor.{StandFor, flat_for}
 use Rattle.access_log.specs.RecordedOrder.{recorded_order}
 use Rattle.bound_core.specs.History.{IsHistory, after_history}
@@ -22,11 +23,12 @@ use Rattle.bound_core.specs.TimedCore.{TimedCore}
 abbrev pub pairings_of : List TimedCore → List (Option Pairing)
 pairings_of cores = map (λ c. c.core.pairing) cores
 
--- the core is sound, and its memory is this
-pub record IsCoreOf (base size : ℕ) (c : TimedCore) : Type 0 where
+-- the core is sound, and its memory is this; it fetches only where the cores have instruction caches
+pub record IsCoreOf (base size : ℕ) (l1i : Bool) (c : TimedCore) : Type 0 where
   pub sound : IsSoundCore c.core
   pub base_is : c.core.memory.base ≡ base
   pub size_is : c.core.memory.size ≡ size
+  pub fetches : IsTrue c.core.fetching → IsTrue l1i
 
 -- The memory and the caches are those for which the shards stand: a core has reserved the bytes of its pairing, where
 -- they are marked in their shard. The stamps are the same.
@@ -36,7 +38,7 @@ pub record StandForMachine (cores : List TimedCore) (w : ShardWorld) (m : Machin
   pub flat : m.memory ≡ flat_for memory (pairings_of cores)
   pub some : 0 < length w.shards
   pub cores_known : All (λ shard. length shard.marks ≡ length cores) w.shards
-  pub cores_are : All (IsCoreOf memory.base (length memory.bytes)) cores
+  pub cores_are : All (IsCoreOf memory.base (length memory.bytes) (have_l1i m.caches)) cores
   pub banks_stamped : m.stamps.banks ≡ map (λ shard. shard.last) w.shards
   pub cores_stamped : m.stamps.cores ≡ w.stamps
 

@@ -1,5 +1,6 @@
 -- What a port over a bare list of shards is seen as.
-use Rattle.std.specs.Prelude.{◌≡◌, ◌<◌, ℕ, ◌-◌, ◌^◌, max, List, [], ◌∷◌, length, map, slice_get, slice_index_or, Some}
+use Rattle.std.specs.Prelude.{◌≡◌, ◌<◌, ℕ, Bool, ◌-◌, ◌^◌, max, List, [], ◌∷◌, length, map, slice_get, slice_index_or, Some}
+use Rattle.shard.specs.HaveL1i.{have_l1i}
 use Rattle.shard.specs.Served.{ShardState}
 use Rattle.bound_core.specs.ShardWorld.{ShardWorld, no_shard}
 
@@ -15,11 +16,18 @@ base_in shards = (slice_index_or shards 0 no_shard).base
 abbrev pub size_in : List ShardState → ℕ
 size_in shards = (slice_index_or shards 0 no_shard).size
 
+-- and so are its instruction caches
+abbrev pub l1i_in : List ShardState → Bool
+l1i_in shards = have_l1i (slice_index_or shards 0 no_shard).caches
+
 abbrev pub base_of : ShardWorld → ℕ
 base_of w = base_in w.shards
 
 abbrev pub size_of : ShardWorld → ℕ
 size_of w = size_in w.shards
+
+abbrev pub l1i_of : ShardWorld → Bool
+l1i_of w = l1i_in w.shards
 
 -- the greatest of numbers, and 0 of none
 abbrev pub greatest : List ℕ → ℕ
@@ -41,10 +49,12 @@ pub record IsShardAt (shards cores number base size : ℕ) (shard : ShardState) 
   pub base_is : shard.base ≡ base
   pub size_is : shard.size ≡ size
 
--- The shards of one machine, in order of their numbers, of which there is one at least.
+-- The shards of one machine, in order of their numbers, of which there is one at least. All have instruction caches, or
+-- none has.
 pub record AreShardsOf (cores : ℕ) (shards : List ShardState) (base size : ℕ) : Type 0 where
   pub some : 0 < length shards
   pub each : (number : ℕ) (shard : ShardState) → slice_get shards number ≡ Some shard → IsShardAt (length shards) cores number base size shard
+  pub alike : (number : ℕ) (shard : ShardState) → slice_get shards number ≡ Some shard → have_l1i shard.caches ≡ l1i_in shards
 
 -- what a port keeps
 pub record IsShardPort (p : ShardPortState) : Type 0 where

@@ -23,7 +23,7 @@ restarted shard = record shard { last = 0 }
 
 -- it stands where there is no shard
 abbrev pub no_shard : ShardState
-no_shard = record { number = 0; base = 0; size = 0; caches = empty_caches 0 0 0 0 0 0; bytes = []; marks = []; last = 0 }
+no_shard = record { number = 0; base = 0; size = 0; caches = empty_caches 0 0 0 0 0 0 0 0 0; bytes = []; marks = []; last = 0 }
 
 -- the shard of a request: that of its bank
 abbrev pub shard_for : List ShardState → Request → ShardState

@@ -1,5 +1,5 @@
 -- What the turns of one core leave.
-use Rattle.std.specs.Prelude.{◌≡◌, ◌≤◌, ◌⊎◌, ℕ, List, [], ◌∷◌, length, All, Option, Some, None, IsSome}
+use Rattle.std.specs.Prelude.{◌≡◌, ◌≤◌, ◌⊎◌, ℕ, false, List, [], ◌∷◌, length, All, Option, Some, None, IsSome}
 use Rattle.zs_num.specs.declared.entry.Entry.{Entry}
 use Rattle.zs_num.specs.declared.request.Request.{Request}
 use Rattle.elf_load.specs.MemoryImage.{MemoryImage}
@@ -14,10 +14,11 @@ abbrev pub IfTook : Turned → (Entry → Type 0) → Type 0
 IfTook (Took e) P = P e
 IfTook Ended P = Unit {0}
 
--- the core has halted, or come to the interval's end with no instruction in progress
+-- the core has halted, or come to the interval's end with no instruction in progress: no reply is waited for, and none
+-- was fetched that is to be executed
 pub record IsOver (end : ℕ) (c : TimedCore) : Type 0 where
   pub idle : c.core.instruction ≡ None
-  pub over : IsSome c.core.halted ⊎ (end ≤ c.clock)
+  pub over : IsSome c.core.halted ⊎ ((c.core.is_fetched ≡ false) × (end ≤ c.clock))
 
 -- The core has no access before it ends its interval, and the port is as it was.
 pub record EndsInterval {Port : Type 0} (image : MemoryImage) (end : ℕ) (port port_after : Port) (before after : TimedCore) : Type 0 where

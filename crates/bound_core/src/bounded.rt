@@ -1,5 +1,6 @@
 //! One core in an interval.
 ghost use Rattle.std.specs.Prelude.{◌≡◌, ◌+◌, ◌-◌, ◌≤◌, ◌<◌, ◌^◌, max, false, ◌∷◌, [], Some, None, IfOk, OnOk, IsTrue, if◌then◌else◌};
+ghost use Rattle.machine_desc.specs.InstructionCaches.{has_l1i};
 ghost use Rattle.zs_num.specs.Servable.{IsServable};
 ghost use Rattle.machine_desc.specs.Machine.{IsMachine};
 ghost use Rattle.rv_core.specs.Sound.{IsSoundCore};
@@ -14,7 +15,7 @@ use crate::{Port, Turned};
 use elf_load::Image;
 use event_graph::Expand;
 use machine_desc::Machine;
-use rv_core::{Core, Program, Why};
+use rv_core::{Core, Program, Stepped, Why};
 use std::alloc::Global;
 use std::marker::Model;
 use zs_num::{Cycle, Entry, NoMemory, Request};
@@ -59,7 +60,10 @@ impl BoundCore {
         ensures number { IfOk result (λ b. b.number ≡ number) }
         ensures base { IfOk result (λ b. b.timed.core.memory.base ≡ machine.now.memory.base) }
         ensures size { IfOk result (λ b. b.timed.core.memory.size ≡ machine.now.memory.size) }
+        ensures fetching { IfOk result (λ b. b.timed.core.fetching ≡ has_l1i machine.now) }
     {
+        // The address of the first instruction is a multiple of 4, as that of every image.
+        let _sound = image.base();
         let memory = &machine.memory;
         let sp = memory.base + memory.size - u64::from(number) * memory.stack;
         let core = Core::new(
@@ -69,6 +73,7 @@ impl BoundCore {
             sp,
             memory.base,
             memory.size,
+            machine.l1i.is_some(),
         );
         Ok(BoundCore {
             core,
@@ -161,6 +166,7 @@ impl BoundCore {
         requires core { Q.core port.old ≡ self.old.number }
         requires base { Q.base port.old ≡ self.old.timed.core.memory.base }
         requires size { Q.size port.old ≡ self.old.timed.core.memory.size }
+        requires l1i { IsTrue self.old.timed.core.fetching → IsTrue (Q.l1i port.old) }
         requires room { 1 ≤ Q.room port.old }
         requires spare { 1 ≤ self.old.spare }
         requires clock { self.old.timed.clock ≤ 2 ^ 61 }
@@ -170,19 +176,22 @@ impl BoundCore {
         ensures core { IfTook result (λ e. e.core ≡ self.old.number) }
         ensures start { IfTook result (λ e. e.start ≡ (ran_to (P.image program.now) end self.old.timed).clock) }
         ensures request { IfTook result (λ e. asks (ran_to (P.image program.now) end self.old.timed) ≡ Some e.request) }
-        ensures starts { IfTook result (λ e. e.start ≤ max self.old.timed.clock end) }
+        ensures starts { IfTook result (λ e. e.start ≤ max self.old.timed.clock end + 1) }
+        ensures begins { IfTook result (λ e. e.start ≤ latest_clock end self.old.timed) }
         ensures fewer { IfTook result (λ e. most_accesses end self.new.timed < most_accesses end self.old.timed) }
-        ensures few { most_accesses end self.old.timed ≤ end - self.old.timed.clock + 256 }
+        ensures few { most_accesses end self.old.timed ≤ end - self.old.timed.clock + 257 }
         ensures begun { self.old.timed.clock ≤ self.new.timed.clock }
-        ensures within { self.new.timed.clock ≤ max self.old.timed.clock end + 2 ^ 20 }
+        ensures within { self.new.timed.clock ≤ max self.old.timed.clock end + 2 ^ 20 + 1 }
         ensures latest { latest_clock end self.new.timed ≤ latest_clock end self.old.timed }
         ensures number { self.new.number ≡ self.old.number }
         ensures memory { self.new.timed.core.memory ≡ self.old.timed.core.memory }
+        ensures fetching { self.new.timed.core.fetching ≡ self.old.timed.core.fetching }
         ensures spare { self.old.spare ≤ self.new.spare + 1 }
         ensures same_spare { result ≡ Turned.Ended → self.new.spare ≡ self.old.spare }
         ensures port_core { Q.core port.new ≡ Q.core port.old }
         ensures port_base { Q.base port.new ≡ Q.base port.old }
         ensures port_size { Q.size port.new ≡ Q.size port.old }
+        ensures port_l1i { Q.l1i port.new ≡ Q.l1i port.old }
         ensures port_room { Q.room port.old ≤ Q.room port.new + 1 }
         ensures port_logged { IfTook result (λ e. Gains (Q.logged port.old) (e ∷ []) (Q.logged port.new)) }
     {
@@ -205,22 +214,25 @@ impl BoundCore {
         requires core { Q.core port.old ≡ self.old.number }
         requires base { Q.base port.old ≡ self.old.timed.core.memory.base }
         requires size { Q.size port.old ≡ self.old.timed.core.memory.size }
+        requires l1i { IsTrue self.old.timed.core.fetching → IsTrue (Q.l1i port.old) }
         requires room { end - self.old.timed.clock + beside_cycles ≤ Q.room port.old }
         requires spare { end - self.old.timed.clock + beside_cycles ≤ self.old.spare }
         requires clock { self.old.timed.clock ≤ 2 ^ 60 }
         requires end { end ≤ 2 ^ 60 }
         ensures turns { RunsToEnd (X.time expansion.now) (P.image program.now) end Q.gives Q.logged self.old.number port.old port.new self.old.timed self.new.timed }
         ensures over { IsOver end self.new.timed }
-        ensures few { most_accesses end self.old.timed ≤ end - self.old.timed.clock + 256 }
+        ensures few { most_accesses end self.old.timed ≤ end - self.old.timed.clock + 257 }
         ensures begun { self.old.timed.clock ≤ self.new.timed.clock }
-        ensures within { self.new.timed.clock ≤ max self.old.timed.clock end + 2 ^ 28 }
+        ensures within { self.new.timed.clock ≤ max self.old.timed.clock end + 2 ^ 30 }
         ensures latest { latest_clock end self.new.timed ≤ latest_clock end self.old.timed }
         ensures number { self.new.number ≡ self.old.number }
         ensures memory { self.new.timed.core.memory ≡ self.old.timed.core.memory }
+        ensures fetching { self.new.timed.core.fetching ≡ self.old.timed.core.fetching }
         ensures spare { self.old.spare ≤ self.new.spare + most_accesses end self.old.timed }
         ensures port_core { Q.core port.new ≡ Q.core port.old }
         ensures port_base { Q.base port.new ≡ Q.base port.old }
         ensures port_size { Q.size port.new ≡ Q.size port.old }
+        ensures port_l1i { Q.l1i port.new ≡ Q.l1i port.old }
         ensures port_room { Q.room port.old ≤ Q.room port.new + most_accesses end self.old.timed }
     {
         self.keeps_sound();
@@ -238,7 +250,7 @@ impl BoundCore {
         requires room { 1 ≤ Q.room port.old }
         requires spare { 1 ≤ self.old.spare }
         requires clock { self.old.timed.clock ≤ 2 ^ 62 }
-        requires servable { IsServable (Q.base port.old) (Q.size port.old) false request }
+        requires servable { IsServable (Q.base port.old) (Q.size port.old) (Q.l1i port.old) request }
         ensures given { Q.gives port.old self.old.timed.clock request result port.new }
         ensures left { self.new.timed ≡ core_after_access (X.time expansion.now) result self.old.timed }
         ensures core { result.core ≡ self.old.number }
@@ -248,11 +260,13 @@ impl BoundCore {
         ensures within { self.new.timed.clock ≤ self.old.timed.clock + 2 ^ 20 }
         ensures number { self.new.number ≡ self.old.number }
         ensures memory { self.new.timed.core.memory ≡ self.old.timed.core.memory }
+        ensures fetching { self.new.timed.core.fetching ≡ self.old.timed.core.fetching }
         ensures sound { IsSoundCore self.new.timed.core }
         ensures spare { self.old.spare ≤ self.new.spare + 1 }
         ensures port_core { Q.core port.new ≡ Q.core port.old }
         ensures port_base { Q.base port.new ≡ Q.base port.old }
         ensures port_size { Q.size port.new ≡ Q.size port.old }
+        ensures port_l1i { Q.l1i port.new ≡ Q.l1i port.old }
         ensures port_room { Q.room port.old ≤ Q.room port.new + 1 }
         ensures port_logged { Gains (Q.logged port.old) (result ∷ []) (Q.logged port.new) }
     {
@@ -267,13 +281,32 @@ impl BoundCore {
     /// Executes its local instructions: up to an access, a halt or the end of the interval.
     #[inline(always)]
     fn run_local<P: Program>(&mut self, program: &P, end: Cycle)
+        requires { max self.old.timed.clock end < 2 ^ 63 }
         ensures value { self.new.timed ≡ ran_to (P.image program.now) end self.old.timed }
-        ensures stopped { goes_on_alone end self.new.timed ≡ false }
-        ensures late { end ≤ self.old.timed.clock → self.new.timed ≡ self.old.timed }
+        ensures sound { IsSoundCore self.old.timed.core }
         ensures begun { self.old.timed.clock ≤ self.new.timed.clock }
-        ensures within { self.new.timed.clock ≤ max self.old.timed.clock end }
+        ensures within { self.new.timed.clock ≤ max self.old.timed.clock end + 1 }
         ensures number { self.new.number ≡ self.old.number }
         ensures memory { self.new.timed.core.memory ≡ self.old.timed.core.memory }
+        ensures fetching { self.new.timed.core.fetching ≡ self.old.timed.core.fetching }
+        ensures spare { self.new.spare ≡ self.old.spare }
+    {
+        if self.core.is_fetching() {
+            self.run_fetching(program, end);
+        } else {
+            self.run_executing(program, end);
+        }
+    }
+
+    /// Those of a core that does not fetch.
+    #[inline(always)]
+    fn run_executing<P: Program>(&mut self, program: &P, end: Cycle)
+        requires fetching { self.old.timed.core.fetching ≡ false }
+        requires unfetched { self.old.timed.core.is_fetched ≡ false }
+        ensures value { self.new.timed ≡ ran_to (P.image program.now) end self.old.timed }
+        ensures number { self.new.number ≡ self.old.number }
+        ensures memory { self.new.timed.core.memory ≡ self.old.timed.core.memory }
+        ensures fetching { self.new.timed.core.fetching ≡ false }
         ensures spare { self.new.spare ≡ self.old.spare }
     {
         let most = end.saturating_sub(self.clock);
@@ -286,19 +319,59 @@ impl BoundCore {
         self.instructions += counted;
     }
 
+    /// Those of a core that fetches. One that has fetched an instruction executes it also behind the
+    /// end.
+    #[inline(never)]
+    fn run_fetching<P: Program>(&mut self, program: &P, end: Cycle)
+        requires fetching { IsTrue self.old.timed.core.fetching }
+        requires clock { max self.old.timed.clock end < 2 ^ 63 }
+        ensures value { self.new.timed ≡ ran_to (P.image program.now) end self.old.timed }
+        ensures number { self.new.number ≡ self.old.number }
+        ensures memory { self.new.timed.core.memory ≡ self.old.timed.core.memory }
+        ensures fetching { IsTrue self.new.timed.core.fetching }
+        ensures spare { self.new.spare ≡ self.old.spare }
+    {
+        while self.core.is_free() && (self.core.is_fetched() || self.clock < end) {
+            self.step_fetching(program);
+        }
+    }
+
+    /// The next step of a core that fetches: it asks for its next instruction, or executes it and
+    /// counts it.
+    #[tactic(auto, unfolding(crate::specs::TimedCore::after_instruction))]
+    fn step_fetching<P: Program>(&mut self, program: &P)
+        requires free { IsTrue (is_free self.old.timed.core) }
+        requires fetching { IsTrue self.old.timed.core.fetching }
+        requires clock { self.old.timed.clock < 2 ^ 64 - 1 }
+        ensures value { self.new.timed ≡ after_instruction (P.image program.now) self.old.timed }
+        ensures number { self.new.number ≡ self.old.number }
+        ensures memory { self.new.timed.core.memory ≡ self.old.timed.core.memory }
+        ensures fetching { IsTrue self.new.timed.core.fetching }
+        ensures spare { self.new.spare ≡ self.old.spare }
+    {
+        if let Stepped::Executed { .. } = self.core.step_fetching(program) {
+            if is_counted(self.core.halted()) {
+                self.clock += 1;
+                self.instructions += 1;
+            }
+        }
+    }
+
     /// Executes one instruction, up to its first access if it has one, and counts it. It answers
     /// whether the core comes to a next instruction. The clock and the count of instructions stay
     /// behind, by what was counted: so the loop has them at hand, and not in memory.
     #[inline(always)]
-    #[tactic(auto, unfolding(crate::specs::TimedCore::after_instruction))]
+    #[tactic(auto, unfolding(crate::specs::TimedCore::after_instruction, rv_core::specs::Step::needs_fetch))]
     fn step<P: Program>(&mut self, program: &P, counted: &mut u64) -> bool
         requires free { IsTrue (is_free self.old.timed.core) }
+        requires fetching { self.old.timed.core.fetching ≡ false }
         requires few { counted.old < 2 ^ 64 - 1 }
         ensures value { ahead counted.new self.new.timed ≡ after_instruction (P.image program.now) (ahead counted.old self.old.timed) }
         ensures free { result ≡ is_free self.new.timed.core }
         ensures clock { self.new.timed.clock ≡ self.old.timed.clock }
         ensures number { self.new.number ≡ self.old.number }
         ensures memory { self.new.timed.core.memory ≡ self.old.timed.core.memory }
+        ensures fetching { self.new.timed.core.fetching ≡ false }
         ensures spare { self.new.spare ≡ self.old.spare }
     {
         let goes_on = self.core.step(program);

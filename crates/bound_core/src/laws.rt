@@ -3,6 +3,7 @@ ghost use Rattle.std.specs.Prelude.{◌≡◌, ℕ, List};
 ghost use Rattle.zs_num.specs.declared.entry.Entry.{Entry};
 ghost use Rattle.zs_num.specs.declared.request.Request.{Request};
 ghost use Rattle.elf_load.specs.MemoryImage.{MemoryImage};
+ghost use Rattle.bound_core.specs.FetchLaws.{FetchesChangeTimesAndOutcomesAlone, LinesAreFetchedOnce, TurnsAreSteps};
 ghost use Rattle.bound_core.specs.HistoryLaws.{HistoriesArePhases, PhasesAreHistories, RecordedOrderIsHistory, TurnsAreTheCoresOwn, TurnsMakeAHistory};
 ghost use Rattle.bound_core.specs.Intervals.{FirstIntervalBegins, NextIntervalBegins};
 ghost use Rattle.bound_core.specs.Laws.{AccessesAreFew, EndsWhereAllAreOver, LocalInstructionsAreAlone, LocalInstructionsEnd, TurnIsScheduled, TurnsAreScheduled};
@@ -72,7 +73,8 @@ pub fn local_instructions_end()
     ensures { LocalInstructionsEnd }
 {}
 
-/// A core has at most 256 accesses more than cycles before it ends its interval.
+/// A core has at most 257 accesses more than cycles before it ends its interval: those of the
+/// instruction in progress, and its fetch.
 pub fn accesses_are_few()
     ensures { AccessesAreFew }
 {}
@@ -189,4 +191,24 @@ pub fn intervals_begin()
 {
     rv_core::laws::reached_cores_are_sound();
     shard::laws::new_shards_stand();
+}
+
+/// Behind the fetch of a line its instruction is executed: it is not fetched again.
+pub fn lines_are_fetched_once()
+    ensures { LinesAreFetchedOnce }
+{}
+
+/// A turn of the machine of one thread is steps of its core, the last of which makes the access.
+pub fn turns_are_steps()
+    ensures { TurnsAreSteps }
+{}
+
+/// Whatever the order in which cores step, a machine without instruction caches does the same by
+/// the same steps, but for those that fetch: replies, registers, consoles and memory are the same.
+/// Fetches change times, and how the caches meet accesses.
+pub fn fetches_change_times_and_outcomes_alone()
+    ensures { FetchesChangeTimesAndOutcomesAlone }
+{
+    rv_core::laws::reached_cores_are_sound();
+    rv_core::laws::cores_stay_sound();
 }

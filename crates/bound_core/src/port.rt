@@ -1,5 +1,5 @@
 //! What serves the accesses of a core.
-ghost use Rattle.std.specs.Prelude.{◌≡◌, ◌+◌, ◌≤◌, ℕ, List, [], ◌∷◌, Option, false};
+ghost use Rattle.std.specs.Prelude.{◌≡◌, ◌+◌, ◌≤◌, ℕ, Bool, List, [], ◌∷◌, Option};
 ghost use Rattle.zs_num.specs.declared.entry.Entry.{Entry};
 ghost use Rattle.zs_num.specs.declared.request.Request.{Request};
 ghost use Rattle.zs_num.specs.Servable.{IsServable};
@@ -17,6 +17,9 @@ pub trait Port {
 
     ghost size: { Self → ℕ };
 
+    /// Whether the cores of its machine have instruction caches, so that they can fetch.
+    ghost l1i: { Self → Bool };
+
     /// For how many accesses there is room at least.
     ghost room: { Self → ℕ };
 
@@ -29,7 +32,7 @@ pub trait Port {
     /// Serves an access that starts then.
     fn access(&mut self, start: Cycle, request: Request) -> Entry
         requires room { 1 ≤ room self.old }
-        requires servable { IsServable (base self.old) (size self.old) false request }
+        requires servable { IsServable (base self.old) (size self.old) (l1i self.old) request }
         ensures gives { gives self.old start request result self.new }
         ensures core { result.core ≡ core self.old }
         ensures start { result.start ≡ start }
@@ -37,6 +40,7 @@ pub trait Port {
         ensures same_core { core self.new ≡ core self.old }
         ensures same_base { base self.new ≡ base self.old }
         ensures same_size { size self.new ≡ size self.old }
+        ensures same_l1i { l1i self.new ≡ l1i self.old }
         ensures room { room self.old ≤ room self.new + 1 }
         ensures logged { Gains (logged self.old) (result ∷ []) (logged self.new) };
 }

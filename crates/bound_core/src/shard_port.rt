@@ -1,6 +1,6 @@
 //! The accesses of cores to a bare list of shards.
 ghost use Rattle.std.specs.Prelude.{◌≡◌, ◌<◌, ◌≤◌, ◌-◌, ◌^◌, length, map, replicate, IfOk, IfErr, OnErr};
-ghost use Rattle.bound_core.specs.ShardPort.{base_in, base_of, room_of, size_in, size_of, AreShardsOf};
+ghost use Rattle.bound_core.specs.ShardPort.{base_in, base_of, l1i_of, room_of, size_in, size_of, AreShardsOf};
 ghost use Rattle.bound_core.specs.ShardWorld.{begun_world, restarted, shards_serve};
 
 use crate::Port;
@@ -100,6 +100,8 @@ impl Port for ShardPort {
     ghost base = { λ p. base_of p.world };
 
     ghost size = { λ p. size_of p.world };
+
+    ghost l1i = { λ p. l1i_of p.world };
 
     ghost room = { λ p. room_of p.world };
 

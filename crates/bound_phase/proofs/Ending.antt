@@ -259,7 +259,7 @@ module _ (time : Entry → ℕ) (image : MemoryImage) (end : ℕ) (t : TableStat
     pub have_ended : (m : Machine) → t.cores ≡ m.cores → t.room ≡ m.interval + beside_cycles → HaveEndedInterval m end first (map (λ m. m.core) now) entries
     have_ended m cores_are room_is = record {
       over = each_left (IsOver end) (λ i n at. (was i n at).4.over);
-      starts = all_recorded (λ (e : Entry). e.start ≤ end + 2 ^ 28) (entries_of_seats seats_now) (each_entry (λ (e : Entry). e.start ≤ end + 2 ^ 28) (λ i n at. (was i n at).4.starts));
+      starts = all_recorded (λ (e : Entry). e.start ≤ end + 2 ^ 30) (entries_of_seats seats_now) (each_entry (λ (e : Entry). e.start ≤ end + 2 ^ 30) (λ i n at. (was i n at).4.starts));
       few =
           subst (λ (k : ℕ). length entries ≤ k * (m.interval + beside_cycles)) cores_are
           (subst (λ (k : ℕ). length entries ≤ t.cores * k) room_is (subst (λ (k : ℕ). k ≤ t.cores * t.room) (sym (length_recorded (entries_of_seats seats_now))) few_entries));
@@ -267,7 +267,7 @@ module _ (time : Entry → ℕ) (image : MemoryImage) (end : ℕ) (t : TableStat
           let n = some_at now core (omega (arith, below, size, cores_are)) in
           let few : length (of_core core entries) ≤ t.room = subst (λ (es : List Entry). length es ≤ t.room) (sym (own core n.0 n.1)) (was core n.0 n.1).4.few in
           subst (λ (k : ℕ). length (of_core core entries) ≤ k) room_is few;
-      clocks = λ most late clocks. each_left (λ (c : TimedCore). c.clock ≤ most + 2 ^ 28) (λ i n at.
+      clocks = λ most late clocks. each_left (λ (c : TimedCore). c.clock ≤ most + 2 ^ 30) (λ i n at.
           let b = was i n at in
           let there : slice_get cores_first i ≡ Some b.0.core.timed = ap (λ xs. slice_get xs i) (sym timed) ∙ mapped_at (λ (x : NumberedCore). x.timed) cores i b.0.core b.1 in
           let early = all_here (λ (c : TimedCore). c.clock ≤ most) cores_first i b.0.core.timed clocks there in

@@ -13,7 +13,7 @@ use Rattle.bound_core.specs.History.{AreTurnsOf, after_turn}
 use Rattle.bound_core.specs.HistoryLaws.{TurnsAreTheCoresOwn}
 use Rattle.bound_core.specs.TimedCore.{TimedCore, asks, next_request, ran_to}
 use Rattle.bound_core.specs.NumberedCores.{NumberedCore}
-use Rattle.bound_core.specs.IntervalBounds.{latest_clock, left_of_instruction, most_accesses}
+use Rattle.bound_core.specs.IntervalBounds.{latest_clock, most_accesses, most_left}
 use Rattle.bound_core.specs.Port.{Gains}
 use Rattle.bound_core.specs.Turn.{IsOver, RunsToEnd, TurnsToEnd}
 use Rattle.bound_core.proofs.Accesses.{latest_small}
@@ -42,25 +42,25 @@ rests time image end t m halted idle new = record {
       sym (stays image end m.core.timed halted) ∙ ap (λ (es : List Entry). ran_to image end (fold (after_turn time image end) m.core.timed es)) (sym new);
   few = subst (λ (es : List Entry). length es ≤ t.room) (sym new) (omega arith);
   over = record { idle = idle; over = inl halted };
-  starts = subst (All (λ (e : Entry). e.start ≤ end + 2 ^ 28)) (sym new) (λ k d below. absurd (omega (arith, below)));
+  starts = subst (All (λ (e : Entry). e.start ≤ end + 2 ^ 30)) (sym new) (λ k d below. absurd (omega (arith, below)));
   clock = omega arith;
 }
 
 -- ---- none of its accesses is late
 
-none_past : (end : ℕ) (c : TimedCore) → end ≤ c.clock → c.core.instruction ≡ None → most_accesses end c ≡ 0
+none_past : (end : ℕ) (c : TimedCore) → end ≤ c.clock → c.core.instruction ≡ None → c.core.is_fetched ≡ false → most_accesses end c ≡ 0
 unfolding most_accesses
-none_past end c late idle = let past : nat_lt c.clock end ≡ false = search rules in rw (past, idle) refl
+none_past end c late idle unfetched = let past : nat_lt c.clock end ≡ false = search rules in rw (past, idle, unfetched) refl
 
 -- a core that has come past the end has none
-starts_soon : (end : ℕ) (c : TimedCore) (entries : List Entry) → c.core.instruction ≡ None → All (λ e. e.start ≤ latest_clock end c) entries → length entries ≤ most_accesses end c
-    → All (λ e. e.start ≤ end + 2 ^ 28) entries
-starts_soon end c entries idle starts few = λ k d below.
-    let none : left_of_instruction c.core.instruction ≡ 0 = ap left_of_instruction idle in
-    let small : latest_clock end c ≤ max c.clock end + 2 ^ 28 = latest_small end c (omega (arith, none)) in
+starts_soon : (end : ℕ) (c : TimedCore) (entries : List Entry) → c.core.instruction ≡ None → c.core.is_fetched ≡ false → All (λ e. e.start ≤ latest_clock end c) entries → length entries ≤ most_accesses end c
+    → All (λ e. e.start ≤ end + 2 ^ 30) entries
+starts_soon end c entries idle unfetched starts few = λ k d below.
+    let none : most_left c.core ≡ 0 = rw (idle, unfetched) refl in
+    let small : latest_clock end c ≤ max c.clock end + 2 ^ 30 = latest_small end c (omega (arith, none)) in
     elim (cases_lt c.clock end) [
       | inl early ↦ omega (arith, starts k d below, small, early)
-      | inr late ↦ absurd (omega (arith, below, few, none_past end c late idle))
+      | inr late ↦ absurd (omega (arith, below, few, none_past end c late idle unfetched))
     ]
 
 -- ---- a core that ran
@@ -76,9 +76,9 @@ module _ {Port : Type 0} (gives : Port → (start : ℕ) → Request → Entry �
   -- the seat's list is what the turns took, and these are the core's
   pub ran : TurnsAreTheCoresOwn gives → (t : TableState) (p q : Port) (seat seat' : SeatState) (c d : NumberedCore) → logged p ≡ Some seat.entries → logged q ≡ Some seat'.entries
       → IsSeatOf t seat → IsSeatOf (table q) seat' → t ≡ table p → seat'.core ≡ seat.core → d.number ≡ c.number → seat.entries ≡ [] → length seat'.entries ≤ (table q).room
-      → c.timed.core.instruction ≡ None → IsOver end d.timed → d.timed.clock ≤ max c.timed.clock end + 2 ^ 28
+      → c.timed.core.instruction ≡ None → c.timed.core.is_fetched ≡ false → IsOver end d.timed → d.timed.clock ≤ max c.timed.clock end + 2 ^ 30
       → RunsToEnd time image end gives logged c.number p q c.timed d.timed → HasRun time image end t (record { core = c; seat = seat }) (record { core = d; seat = seat' })
-  ran own t p q seat seat' c d logged_p logged_q of_t of_q table_p core_is number new few idle over clock run =
+  ran own t p q seat seat' c d logged_p logged_q of_t of_q table_p core_is number new few idle unfetched over clock run =
       let stays : table q ≡ t = same_table run.entries p q c.timed d.timed run.turns ∙ sym table_p in
       let after : IsSeatOf t seat' = subst (λ (x : TableState). IsSeatOf x seat') stays of_q in
       let gained : logged q ≡ Some (seat.entries ++ run.entries) = logged_more (logged p) (logged q) seat.entries run.entries logged_p run.logged in
@@ -91,7 +91,7 @@ module _ {Port : Type 0} (gives : Port → (start : ℕ) → Request → Entry �
         left = mine.1 ∙ ap (λ (es : List Entry). ran_to image end (fold (after_turn time image end) c.timed es)) (sym list);
         few = subst (λ (x : TableState). length seat'.entries ≤ x.room) stays few;
         over = over;
-        starts = subst (All (λ (e : Entry). e.start ≤ end + 2 ^ 28)) (sym list) (starts_soon end c.timed run.entries idle run.starts run.few);
+        starts = subst (All (λ (e : Entry). e.start ≤ end + 2 ^ 30)) (sym list) (starts_soon end c.timed run.entries idle unfetched run.starts run.few);
         clock = clock;
       }
     where

@@ -24,7 +24,7 @@ module _ (m : Machine) (end : ℕ) (t : TableState) (cores : List NumberedCore) 
       let low = at_below cores i c at in
       let n = seated.count in
       let same : i ≡ 0 + i = omega arith in
-      (r.0, r.1, r.2 ∙ same, (let here : 0 + i < t.cores = omega (arith, low, n) in here)))
+      (r.0, r.1, r.2 ∙ same, (let here : 0 + i < t.cores = omega (arith, low, n) in here), r.3))
       (λ i s at. let e = seated.seats_new.1 i s at in let same : i ≡ 0 + i = omega arith in (e.0, e.1 ∙ same, e.2))
 
   pub members_in_order : AreInOrder (mates cores seats)

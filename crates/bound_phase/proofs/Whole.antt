@@ -9,12 +9,12 @@ use Rattle.zs_num.specs.declared.entry.Entry.{Entry}
 use Rattle.machine_desc.specs.declared.machine.Machine.{Machine}
 use Rattle.elf_load.specs.MemoryImage.{MemoryImage}
 use Rattle.shard_table.specs.Access.{IsSeatOf, SeatState, TableState}
-use Rattle.bound_core.specs.ShardPort.{AreShardsOf}
+use Rattle.bound_core.specs.ShardPort.{AreShardsOf, l1i_in}
 use Rattle.bound_core.specs.TimedCore.{beside_cycles}
 use Rattle.bound_core.specs.NumberedCores.{NumberedCore}
 use Rattle.bound_phase.specs.declared.crew.Crew.{Crew}
 use Rattle.bound_phase.specs.declared.member.Member.{Member}
-use Rattle.bound_phase.specs.Bounds.{HasConsoleRoom, IsBeforeInterval}
+use Rattle.bound_phase.specs.Bounds.{FetchesIn, HasConsoleRoom, IsBeforeInterval}
 use Rattle.bound_phase.specs.Crew.{HasWorked, HaveRun}
 use Rattle.bound_phase.specs.Member.{CanRun, HasRun}
 use Rattle.bound_phase.specs.Shares.{AreInOrder, HaveShares, HaveSizes, SharesHaveRun, mates, share_of, size_of_share}
@@ -49,7 +49,7 @@ module _ (m : Machine) (end : ℕ) (t : TableState) (shards : AreShardsOf t.core
 
   -- a core that can run, but for its seat
   abbrev Ready : NumberedCore → ℕ → Type 0
-  Ready c number = IsBeforeInterval m end c × HasConsoleRoom (m.interval + beside_cycles) c × (c.number ≡ number) × (number < t.cores)
+  Ready c number = IsBeforeInterval m end c × HasConsoleRoom (m.interval + beside_cycles) c × (c.number ≡ number) × (number < t.cores) × FetchesIn (l1i_in t.shards) c
 
   pub can_all : (base : ℕ) (cores : List NumberedCore) (seats : List SeatState) → ((i : ℕ) (c : NumberedCore) → slice_get cores i ≡ Some c → Ready c (base + i))
       → ((i : ℕ) (s : SeatState) → slice_get seats i ≡ Some s → IsSeatOf t s × (s.core ≡ base + i) × (s.entries ≡ [])) → All Can (mates cores seats)
@@ -66,6 +66,8 @@ module _ (m : Machine) (end : ℕ) (t : TableState) (shards : AreShardsOf t.core
         core_is = seat.1 ∙ sym one.2;
         new = seat.2;
         idle = start.idle;
+        unfetched = start.unfetched;
+        fetches = one.4;
         base = start.base;
         size = start.size;
         shards = shards;

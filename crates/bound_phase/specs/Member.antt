@@ -1,12 +1,12 @@
 -- What one core of a worker does in an interval.
-use Rattle.std.specs.Prelude.{◌≡◌, ℕ, ◌+◌, ◌-◌, ◌^◌, ◌<◌, ◌≤◌, max, [], length, None, IsNone}
+use Rattle.std.specs.Prelude.{◌≡◌, ℕ, ◌+◌, ◌-◌, ◌^◌, ◌<◌, ◌≤◌, max, false, [], length, None, IsNone, IsTrue}
 use Rattle.std.specs.List.{All, fold}
 use Rattle.zs_num.specs.declared.entry.Entry.{Entry}
 use Rattle.machine_desc.specs.declared.machine.Memory.{Memory}
 use Rattle.elf_load.specs.MemoryImage.{MemoryImage}
 use Rattle.shard_table.specs.Access.{IsSameSeat, IsSeatOf, TableState}
 use Rattle.bound_core.specs.History.{AreTurnsOf, after_turn}
-use Rattle.bound_core.specs.ShardPort.{AreShardsOf}
+use Rattle.bound_core.specs.ShardPort.{AreShardsOf, l1i_in}
 use Rattle.bound_core.specs.TimedCore.{beside_cycles, ran_to}
 use Rattle.bound_core.specs.Turn.{IsOver}
 use Rattle.bound_phase.specs.declared.member.Member.{Member}
@@ -17,6 +17,8 @@ pub record CanRun (t : TableState) (memory : Memory) (end : ℕ) (m : Member) : 
   pub core_is : m.seat.core ≡ m.core.number
   pub new : m.seat.entries ≡ []
   pub idle : m.core.timed.core.instruction ≡ None
+  pub unfetched : m.core.timed.core.is_fetched ≡ false
+  pub fetches : IsTrue m.core.timed.core.fetching → IsTrue (l1i_in t.shards)
   pub base : m.core.timed.core.memory.base ≡ memory.base
   pub size : m.core.timed.core.memory.size ≡ memory.size
   pub shards : AreShardsOf t.cores t.shards memory.base memory.size
@@ -34,5 +36,5 @@ pub record HasRun (time : Entry → ℕ) (image : MemoryImage) (end : ℕ) (t : 
   pub left : after.core.timed ≡ ran_to image end (fold (after_turn time image end) before.core.timed after.seat.entries)
   pub few : length after.seat.entries ≤ t.room
   pub over : IsOver end after.core.timed
-  pub starts : All (λ e. e.start ≤ end + 2 ^ 28) after.seat.entries
-  pub clock : after.core.timed.clock ≤ max before.core.timed.clock end + 2 ^ 28
+  pub starts : All (λ e. e.start ≤ end + 2 ^ 30) after.seat.entries
+  pub clock : after.core.timed.clock ≤ max before.core.timed.clock end + 2 ^ 30

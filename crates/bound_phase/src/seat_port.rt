@@ -28,12 +28,15 @@ pub(crate) struct SeatPort<'a, R: Wait, G: Gate> {
 
 impl<'a, R: Wait, G: Gate> Port for SeatPort<'a, R, G> {
     ghost use Rattle.std.specs.Prelude.{◌≡◌, ◌-◌, length, Some};
+    ghost use Rattle.bound_core.specs.ShardPort.{l1i_in};
 
     ghost core = { λ p. p.seat.core };
 
     ghost base = { λ p. p.base };
 
     ghost size = { λ p. p.size };
+
+    ghost l1i = { λ p. l1i_in p.table.now.shards };
 
     ghost room = { λ p. p.table.now.room - length p.seat.entries };
 

@@ -1,5 +1,5 @@
 -- The bound phase of an interval by several workers is that of the run.
-use Rattle.std.proofs.Common.{◌≡◌, ℕ, ◌^◌, ◌<◌, ◌≤◌, List, length, map, All, Option, Some, None, refl, sym, ◌∙◌, ap, subst, arith}
+use Rattle.std.proofs.Common.{◌≡◌, ℕ, ◌^◌, ◌<◌, ◌≤◌, List, [], ◌∷◌, length, map, All, Option, Some, None, refl, sym, ◌∙◌, ap, subst, arith}
 use Rattle.std.specs.Prelude.{IsNone}
 use Rattle.std.proofs.lemmas.List.{length-map, length-replicate}
 use Rattle.zs_num.specs.declared.entry.Entry.{Entry}
@@ -10,14 +10,14 @@ use Rattle.shard.specs.Served.{ShardState}
 use Rattle.bound_core.specs.History.{after_history}
 use Rattle.bound_core.specs.HistoryLaws.{HistoriesArePhases}
 use Rattle.bound_core.specs.ReferenceMachine.{BoundState}
-use Rattle.bound_core.specs.ShardPort.{AreShardsOf, base_in, size_in}
+use Rattle.bound_core.specs.ShardPort.{AreShardsOf, base_in, l1i_in, size_in}
 use Rattle.bound_core.specs.ShardWorld.{ShardWorld, begun_world, restarted}
 use Rattle.bound_core.specs.NumberedCores.{NumberedCore, timed_of}
 use Rattle.bound_core.specs.Turn.{IsOver}
 use Rattle.bound_core.proofs.Lists.{map_again}
 use Rattle.bound_core.proofs.ShardPorts.{own_memory, shards_restarted}
 use Rattle.bound_core.proofs.ShardsStay.{shards_after}
-use Rattle.bound_phase.specs.Bounds.{CanBound, HaveEndedInterval, IsBeforeInterval, IsBound}
+use Rattle.bound_phase.specs.Bounds.{CanBound, FetchesIn, HaveEndedInterval, IsBeforeInterval, IsBound}
 use Rattle.bound_phase.proofs.Ending.{all_at}
 use Rattle.bound_phase.proofs.Whole.{agreed_at}
 use Rattle.replay.specs.declared.simulation.Simulation.{Simulation}
@@ -29,6 +29,11 @@ is_none : (halted : Option Why) → IsNone halted → halted ≡ None
 is_none None none = refl
 is_none (Some why) none = cc
 
+-- instruction caches are there as they were
+same_l1i : (shards : List ShardState) → l1i_in (map restarted shards) ≡ l1i_in shards
+same_l1i [] = refl
+same_l1i (shard ∷ shards) = refl
+
 module _ (machine : Machine) (end : ℕ) (p : Simulation) (room : HasRoomForInterval machine end p) where
   abbrev was : List ShardState
   was = map restarted p.port.world.shards
@@ -39,9 +44,10 @@ module _ (machine : Machine) (end : ℕ) (p : Simulation) (room : HasRoomForInte
   memory_is : (base_in was ≡ machine.memory.base) × (size_in was ≡ machine.memory.size)
   memory_is = own_memory machine.cores machine.memory.base machine.memory.size was were
 
-  starts_at : (c : NumberedCore) → CanRunInterval machine end (base_in was) (size_in was) c.timed → IsBeforeInterval machine end c
+  starts_at : (c : NumberedCore) → CanRunInterval machine end (base_in was) (size_in was) (l1i_in was) c.timed → IsBeforeInterval machine end c
   starts_at c ready = record {
     idle = ready.idle;
+    unfetched = ready.unfetched;
     base = ready.base_is ∙ memory_is.0;
     size = ready.size_is ∙ memory_is.1;
     near = λ runs. let left = ready.left (is_none c.timed.core.halted runs) in omega (arith, left);
@@ -55,6 +61,7 @@ module _ (machine : Machine) (end : ℕ) (p : Simulation) (room : HasRoomForInte
     at_start = all_at (IsBeforeInterval machine end) p.cores.items (λ i c here. starts_at c (room.ready i c here));
     shards_are = room.shards;
     banks = room.banks;
+    fetches = all_at (FetchesIn (l1i_in p.port.world.shards)) p.cores.items (λ i c here fetching. sym (same_l1i p.port.world.shards) ∙ (room.ready i c here).fetches fetching);
   }
 
   module _ (image : MemoryImage) (cores : List NumberedCore) (shards : List ShardState) (entries : List Entry)

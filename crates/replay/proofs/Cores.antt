@@ -57,7 +57,7 @@ over_later end by c over = record {
   idle = over.idle;
   over = elim over.over [
     | inl halted ↦ inl halted
-    | inr late ↦ inr (omega (arith, late))
+    | inr late ↦ inr (late.0, omega (arith, late.1))
   ];
 }
 

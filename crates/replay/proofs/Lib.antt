@@ -6,6 +6,7 @@ pub mod HandedOn
 pub mod IntervalWeave
 pub mod LegalSchedules
 pub mod NextInterval
+pub mod OneCoreEnds
 pub mod OneSchedule
 pub mod PortTurns
 pub mod RecordedOrder

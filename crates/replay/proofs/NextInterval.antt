@@ -1,6 +1,6 @@
 -- A run goes on interval by interval.
-use Rattle.std.proofs.Common.{◌≡◌, ◌≢◌, ◌⊎◌, ℕ, zero, suc, ◌+◌, ◌*◌, ◌^◌, ◌==◌, ◌<◌, ◌≤◌, nat_lt, get_or, false, ◌||◌, List, [], ◌∷◌, ◌++◌, length, map, Option, Some, None, Result, Ok, Err, All, refl, sym, ◌∙◌, ap, subst, inl, inr, arith}
-use Rattle.std.specs.Prelude.{IsSome, slice_get}
+use Rattle.std.proofs.Common.{◌≡◌, ◌≢◌, ◌⊎◌, ℕ, zero, suc, ◌+◌, ◌*◌, ◌^◌, ◌==◌, ◌<◌, ◌≤◌, nat_lt, get_or, Bool, true, false, ◌||◌, List, [], ◌∷◌, ◌++◌, length, map, Option, Some, None, Result, Ok, Err, All, refl, sym, ◌∙◌, ap, subst, inl, inr, arith}
+use Rattle.std.specs.Prelude.{IsSome, IsTrue, is_some, slice_get}
 use Rattle.std.specs.List.{list_any, enumerate_from, fold, range_with_len}
 use Rattle.std.proofs.lemmas.Bool.{or_parts}
 use Rattle.std.proofs.lemmas.Bool.Decides.{nat_tests}
@@ -24,6 +24,7 @@ use Rattle.stats.specs.Added.{added}
 use Rattle.stats.specs.Laws.{CountersAreSums, SumsFit, WasRun}
 use Rattle.rv_core.specs.declared.why.Why.{Why}
 use Rattle.rv_core.specs.Step.{initial_core}
+use Rattle.shard.specs.HaveL1i.{have_l1i}
 use Rattle.shard.specs.Served.{ShardState, shard_after}
 use Rattle.bound_core.specs.History.{after_history}
 use Rattle.bound_core.specs.Intervals.{NextIntervalBegins}
@@ -32,7 +33,7 @@ use Rattle.bound_core.specs.HistoryLaws.{PhasesAreHistories}
 use Rattle.bound_core.specs.MachineOfShards.{IsCoreOf, ShardsDoAsTheMachine, StandForMachine}
 use Rattle.bound_core.specs.MachineWorld.{MachineWorld, serve}
 use Rattle.bound_core.specs.ReferenceMachine.{BoundState, bound_phase}
-use Rattle.bound_core.specs.ShardPort.{AreShardsOf, base_of, size_of}
+use Rattle.bound_core.specs.ShardPort.{AreShardsOf, base_of, l1i_of, size_of}
 use Rattle.bound_core.specs.ShardWorld as served
 use Rattle.bound_core.specs.ShardWorld.{ShardWorld, begun_world, no_shard, restarted}
 use Rattle.bound_core.specs.Correspondence.{AreRelated, EndAlike}
@@ -100,10 +101,16 @@ goes_on machine s on =
     below_limits machine (length s.intervals) (total_accesses s.intervals) s.cores s.comps (or_parts (have_halted s.cores) limit on).1
 
 -- a core that is not halted has come to the end of the last interval
-came : (halted : Option Why) (from clock : ℕ) → halted ≡ None → IsSome halted ⊎ (from ≤ clock) → from ≤ clock
-came None from clock is (inl some) = cc
-came None from clock is (inr here) = here
-came (Some why) from clock is come = cc
+came : (halted : Option Why) (fetched : Bool) (from clock : ℕ) → halted ≡ None → IsSome halted ⊎ ((fetched ≡ false) × (from ≤ clock)) → from ≤ clock
+came None fetched from clock is (inl some) = cc
+came None fetched from clock is (inr here) = here.1
+came (Some why) fetched from clock is come = cc
+
+-- a core that has come there, or has halted, has fetched nothing that is to be executed
+none_fetched : (halted : Option Why) (fetched : Bool) (from clock : ℕ) → (IsTrue fetched → halted ≡ None) → IsSome halted ⊎ ((fetched ≡ false) × (from ≤ clock)) → fetched ≡ false
+none_fetched halted false from clock runs come = refl
+none_fetched halted true from clock runs (inr here) = here.0
+none_fetched halted true from clock runs (inl some) = let none : halted ≡ None = runs refl in absurd (let not : is_some halted ≡ false = ap is_some none in cc)
 
 pub counted_cores : (cores : ℕ) (comps : List Comp) (intervals : List Interval) → length (counts_of cores comps intervals).core_counts ≡ cores
 unfolding counts_of
@@ -134,18 +141,24 @@ module _ (machine : Machine) (end : ℕ) (s : RunState) (p : Simulation) (g : Ha
   each : (P : TimedCore → Type 0) → All P s.cores → (i : ℕ) (c : NumberedCore) → slice_get p.cores.items i ≡ Some c → P c.timed
   each P all i c here = each_timed P p.cores.items (subst (All P) g.come.cores all) i c here (slice_get_within p.cores.items i c here)
 
-  pub is_ready : (i : ℕ) (c : NumberedCore) → slice_get p.cores.items i ≡ Some c → CanRunInterval machine end (base_of (begun_shards machine p)) (size_of (begun_shards machine p)) c.timed
+  l1i_is : l1i_of (begun_shards machine p) ≡ have_l1i s.caches
+  l1i_is = ap (λ (n : ℕ). nat_lt 0 n) (g.come.stand.stand.fetchers 0 (get_or shards 0 no_shard) first_shard)
+
+  pub is_ready : (i : ℕ) (c : NumberedCore) → slice_get p.cores.items i ≡ Some c
+      → CanRunInterval machine end (base_of (begun_shards machine p)) (size_of (begun_shards machine p)) (l1i_of (begun_shards machine p)) c.timed
   is_ready i c here =
       let over = each (IsOver (length s.intervals * machine.interval)) g.come.over i c here in
-      let own = each (IsCoreOf g.come.stand.memory.base (length g.come.stand.memory.bytes)) g.come.stand.cores_are i c here in
+      let own = each (IsCoreOf g.come.stand.memory.base (length g.come.stand.memory.bytes) (have_l1i s.caches)) g.come.stand.cores_are i c here in
       record {
         idle = over.idle;
+        unfetched = none_fetched c.timed.core.halted c.timed.core.is_fetched (length s.intervals * machine.interval) c.timed.clock (λ fetched. (own.sound.fetched fetched).2) over.over;
         clock = each (λ t. t.clock ≤ 2 ^ 56) below.clocks_left i c here;
         left = λ running.
-            let from : length s.intervals * machine.interval ≤ c.timed.clock = came c.timed.core.halted (length s.intervals * machine.interval) c.timed.clock running over.over in
+            let from : length s.intervals * machine.interval ≤ c.timed.clock = came c.timed.core.halted c.timed.core.is_fetched (length s.intervals * machine.interval) c.timed.clock running over.over in
             omega (arith, from, g.ends);
         base_is = own.base_is ∙ sym base_is;
         size_is = own.size_is ∙ sym size_is;
+        fetches = λ fetching. l1i_is ∙ own.fetches fetching;
       }
 
   pub has_room : HasRoomForInterval machine end p
@@ -414,7 +427,7 @@ first_counted machine image comps fresh = record {
 
 first_over : (machine : Machine) (image : MemoryImage) (number : ℕ) → IsOver 0 (first_core machine image number)
 unfolding initial_core
-first_over machine image number = record { idle = refl; over = inr (omega arith) }
+first_over machine image number = record { idle = refl; over = inr (refl, omega arith) }
 
 pub all_first_over : (machine : Machine) (image : MemoryImage) → All (IsOver (0 * machine.interval)) (map (first_core machine image) (range_with_len 0 machine.cores))
 all_first_over machine image =

@@ -1,7 +1,6 @@
 -- A run of one core has one legal schedule.
-use Rattle.std.proofs.Common.{◌≡◌, ℕ, zero, suc, ◌+◌, ◌-◌, ◌≤◌, Bool, true, false, if◌then◌else◌, List, [], ◌∷◌, ◌++◌, length, map, Option, Some, None, Result, Ok, Err, inl, inr, refl, sym, ◌∙◌, ap, arith, subst}
+use Rattle.std.proofs.Common.{◌≡◌, ℕ, zero, suc, ◌+◌, ◌-◌, ◌≤◌, Bool, true, false, if◌then◌else◌, List, [], ◌∷◌, ◌++◌, length, map, Option, Some, None, Result, Ok, Err, refl, sym, ◌∙◌, ap, arith, subst}
 use Rattle.std.specs.List.{range_with_len}
-use Rattle.std.proofs.lemmas.Bool.{cases_lt}
 use Rattle.std.proofs.lemmas.List.{length-append}
 use Rattle.zs_num.specs.declared.entry.Entry.{Entry}
 use Rattle.zs_num.specs.declared.request.Request.{Request}
@@ -12,60 +11,20 @@ use Rattle.component.specs.declared.comp.Comp.{Comp}
 use Rattle.component.specs.Components.{AreFresh}
 use Rattle.event_graph.specs.AccessPaths.{path_of}
 use Rattle.event_graph.specs.PlainLaws.{plain_time_at_least_one}
-use Rattle.rv_core.specs.CoreState.{InProgress}
 use Rattle.bound_core.specs.MachineWorld.{MachineWorld, serve}
-use Rattle.bound_core.specs.ReferenceMachine.{BoundState, access_served, bound_from}
-use Rattle.bound_core.specs.TimedCore.{TimedCore, core_after_access, after_instruction, after_instructions, asks, goes_on_alone, first_core, next_request, ran_to}
-use Rattle.bound_core.specs.IntervalBounds.{left_of_instruction}
-use Rattle.bound_core.proofs.Accesses.{left_answered}
-use Rattle.bound_core.proofs.Instructions.{cycle_at_most, late_stops, ran_stays}
+use Rattle.bound_core.specs.ReferenceMachine.{BoundState, bound_from}
+use Rattle.bound_core.specs.TimedCore.{TimedCore, asks, core_after_access, first_core, ran_to}
 use Rattle.access_log.specs.RecordedOrder.{recorded_order}
 use Rattle.replay.specs.ReferenceRun.{Illegal, IsRunOf, RunState, after_interval, after_intervals, after_weave, all_delayed, begun_interval, continued, end_of, first_state, has_ended, next_place, reference_run, results_at, run_results, time_of, world_of, woven_after, woven_interval}
 use Rattle.replay.specs.Results.{Results}
 use Rattle.replay.proofs.NextInterval.{goes_on}
-
--- a bound phase of one core
-abbrev pub one_core : TimedCore → MachineWorld → List Entry → BoundState MachineWorld
-one_core c w entries = record { cores = c ∷ []; world = w; entries = entries }
+use Rattle.replay.proofs.OneCoreEnds.{ends_here, one_core, turned, turns_there}
 
 -- ---- the list of an interval
-
--- time does not go back, and an access takes a cycle at least
-later_if : (running : Bool) (c d : TimedCore) → c.clock ≤ d.clock → c.clock ≤ (if running then d else c).clock
-later_if true c d after = after
-later_if false c d after = omega arith
-
-later_on : (n : ℕ) (image : MemoryImage) (end : ℕ) (c : TimedCore) → c.clock ≤ (after_instructions n image end c).clock
-later_on zero image end c = omega arith
-later_on (suc n) image end c =
-    let next = after_instruction image c in
-    later_if (goes_on_alone end c) c (after_instructions n image end next) (omega (arith, (cycle_at_most image c).0, later_on n image end next))
-
-access_clock : (time : Entry → ℕ) (e : Entry) (c : TimedCore) → (core_after_access time e c).clock ≡ c.clock + time e
-unfolding core_after_access
-access_clock time e c = refl
-
-some_left : (instruction : Option InProgress) (request : Request) → next_request instruction ≡ Some request → 1 ≤ left_of_instruction instruction
-some_left None request e = cc
-some_left (Some now) request e = omega arith
-
-access_left : (time : Entry → ℕ) (e : Entry) (c : TimedCore) (request : Request) → asks c ≡ Some request
-    → left_of_instruction (core_after_access time e c).core.instruction + 1 ≤ left_of_instruction c.core.instruction
-unfolding core_after_access
-access_left time e c request asked = left_answered e.reply c.core (some_left c.core.instruction request asked)
 
 module _ (time : Entry → ℕ) (image : MemoryImage) (end : ℕ) where
   abbrev phase : (place : ℕ) → List ℕ → BoundState MachineWorld → Result (BoundState MachineWorld) ℕ
   phase = bound_from serve time image end
-
-  -- after the turn of a core that asks for this
-  abbrev after_turn : TimedCore → MachineWorld → List Entry → Request → BoundState MachineWorld
-  after_turn c w es request = let ran = ran_to image end c in
-      access_served serve time image end (one_core c w es) 0 ran (serve w 0 ran.clock request)
-
-  turned : (place : ℕ) (numbers : List ℕ) (c : TimedCore) (w : MachineWorld) (es : List Entry) (request : Request) → asks (ran_to image end c) ≡ Some request
-      → phase place (0 ∷ numbers) (one_core c w es) ≡ phase (place + 1) numbers (after_turn c w es request)
-  turned place numbers c w es request asked = rw asked refl
 
   stuck : (place number : ℕ) (numbers : List ℕ) (c : TimedCore) (w : MachineWorld) (es : List Entry) → asks (ran_to image end c) ≡ None
       → phase place (number ∷ numbers) (one_core c w es) ≡ Err place
@@ -75,10 +34,6 @@ module _ (time : Entry → ℕ) (image : MemoryImage) (end : ℕ) where
   other_core : (place number : ℕ) (numbers : List ℕ) (c : TimedCore) (w : MachineWorld) (es : List Entry)
       → phase place (suc number ∷ numbers) (one_core c w es) ≡ Err place
   other_core place number numbers c w es = refl
-
-  ends_here : (place : ℕ) (c : TimedCore) (w : MachineWorld) (es : List Entry) → asks (ran_to image end c) ≡ None
-      → phase place [] (one_core c w es) ≡ Ok (one_core (ran_to image end c) w es)
-  ends_here place c w es asked = rw asked refl
 
   too_short : (place : ℕ) (c : TimedCore) (w : MachineWorld) (es : List Entry) (request : Request) → asks (ran_to image end c) ≡ Some request
       → phase place [] (one_core c w es) ≡ Err place
@@ -103,70 +58,12 @@ module _ (time : Entry → ℕ) (image : MemoryImage) (end : ℕ) where
       let answer = serve w 0 ran.clock request in
       let next = core_after_access time answer.0 ran in
       let rest : ns ≡ ms = one_list_by (asks (ran_to image end next)) (place + 1) next answer.1 (es ++ answer.0 ∷ []) refl ns ms b d
-      (sym (turned place ns c w es request is) ∙ e) (sym (turned place ms c w es request is) ∙ f) in
+      (sym (turned time image end place ns c w es request is) ∙ e) (sym (turned time image end place ms c w es request is) ∙ f) in
       ap (λ (list : List ℕ). 0 ∷ list) rest
 
   pub one_list : (c : TimedCore) (w : MachineWorld) (es : List Entry) (turns others : List ℕ) (b d : BoundState MachineWorld)
       → phase 0 turns (one_core c w es) ≡ Ok b → phase 0 others (one_core c w es) ≡ Ok d → turns ≡ others
   one_list c w es = one_list_by (asks (ran_to image end c)) 0 c w es refl
-
--- turns that end an interval, and where they lead
-pub record Turns (time : Entry → ℕ) (image : MemoryImage) (end place : ℕ) (c : TimedCore) (w : MachineWorld) (es : List Entry) : Type 0 where
-  pub turns : List ℕ
-  pub core : TimedCore
-  pub world : MachineWorld
-  pub entries : List Entry
-  pub legal : bound_from serve time image end place turns (one_core c w es) ≡ Ok (one_core core world entries)
-
-module _ (time : Entry → ℕ) (some : (e : Entry) → 1 ≤ time e) (image : MemoryImage) (end : ℕ) where
-  -- A turn, if there is one, and the turns after it: the clock is later, and where the end of the interval was reached
-  -- before, fewer accesses are left.
-  turn_or_end : (place : ℕ) (c : TimedCore) (w : MachineWorld) (es : List Entry)
-      → ((d : TimedCore) (v : MachineWorld) (fs : List Entry) → c.clock + 1 ≤ d.clock → (end ≤ c.clock → left_of_instruction d.core.instruction + 1 ≤ left_of_instruction c.core.instruction) → Turns time image end (place + 1) d v fs)
-      → (asked : Option Request) → asks (ran_to image end c) ≡ asked → Turns time image end place c w es
-  turn_or_end place c w es further None is = record {
-    turns = [];
-    core = ran_to image end c;
-    world = w;
-    entries = es;
-    legal = ends_here time image end place c w es is;
-  }
-  turn_or_end place c w es further (Some request) is =
-      let ran = ran_to image end c in
-      let answer = serve w 0 ran.clock request in
-      let next = core_after_access time answer.0 ran in
-      let clock = access_clock time answer.0 ran in
-      let takes = some answer.0 in
-      let from : c.clock ≤ ran.clock = later_on (suc (end - c.clock)) image end c in
-      let fewer = access_left time answer.0 ran request is in
-      let left_past : end ≤ c.clock → left_of_instruction next.core.instruction + 1 ≤ left_of_instruction c.core.instruction = λ late.
-      let same : ran ≡ c = ran_stays image end c (late_stops end c late) in
-      subst (λ (d : TimedCore). left_of_instruction next.core.instruction + 1 ≤ left_of_instruction d.core.instruction) same fewer
-      in
-      let rest = further next answer.1 (es ++ answer.0 ∷ []) (omega (arith, clock, takes, from)) left_past in
-      record {
-        turns = 0 ∷ rest.turns;
-        core = rest.core;
-        world = rest.world;
-        entries = rest.entries;
-        legal = turned time image end place rest.turns c w es request is ∙ rest.legal;
-      }
-
-  -- past the end of the interval: the accesses of the instruction in progress
-  turns_past : (m place : ℕ) (c : TimedCore) (w : MachineWorld) (es : List Entry) → end ≤ c.clock → left_of_instruction c.core.instruction ≤ m → Turns time image end place c w es
-  turns_past zero place c w es late few =
-      turn_or_end place c w es (λ d v fs clock left. absurd (omega (arith, few, left late))) (asks (ran_to image end c)) refl
-  turns_past (suc m) place c w es late few =
-      turn_or_end place c w es (λ d v fs clock left. turns_past m (place + 1) d v fs (omega (arith, late, clock)) (omega (arith, few, left late))) (asks (ran_to image end c)) refl
-
-  -- there are turns that end an interval: each access brings the core nearer to its end
-  pub turns_there : (n place : ℕ) (c : TimedCore) (w : MachineWorld) (es : List Entry) → end - c.clock ≤ n → Turns time image end place c w es
-  turns_there zero place c w es near = turns_past (left_of_instruction c.core.instruction) place c w es (omega (arith, near)) (omega arith)
-  turns_there (suc n) place c w es near =
-      elim (cases_lt c.clock end) [
-        | inl early ↦ turn_or_end place c w es (λ d v fs clock left. turns_there n (place + 1) d v fs (omega (arith, near, clock, early))) (asks (ran_to image end c)) refl
-        | inr late ↦ turns_past (left_of_instruction c.core.instruction) place c w es late (omega arith)
-      ]
 
 takes_a_cycle : (machine : Machine) → IsMachine machine → (e : Entry) → 1 ≤ time_of machine e
 takes_a_cycle machine is e = plain_time_at_least_one (path_of machine) (record { l1 = is.l1; l1i = is.l1i; l2 = is.l2; controllers = is.controllers }) e
@@ -200,7 +97,7 @@ weave_keeps machine s c w es = ((_, refl), length-append s.intervals (woven_inte
 next_interval : (machine : Machine) (image : MemoryImage) → IsMachine machine → (s : RunState) → IsOneCore s → NextInterval machine image s
 next_interval machine image is s one =
     let end = end_of machine s in
-    let found = turns_there (time_of machine) (takes_a_cycle machine is) image end (end - one.0.clock) 0 one.0 (world_of machine s) [] (omega arith) in
+    let found = turns_there (time_of machine) (takes_a_cycle machine is) image end (end - one.0.clock) one.0 (omega arith) 0 (world_of machine s) [] in
     let kept = weave_keeps machine s found.core found.world found.entries in
     let legal : phase_at machine image s found.turns (begun_interval machine s) ≡ Ok (one_core found.core found.world found.entries) =
     ap (phase_at machine image s found.turns) (begun_one machine s one.0 one.1) ∙ found.legal

@@ -6,17 +6,18 @@ use Rattle.std.proofs.lemmas.List.{append-nil, length-set}
 use Rattle.zs_num.specs.declared.entry.Entry.{Entry}
 use Rattle.zs_num.specs.declared.request.Request.{Request}
 use Rattle.elf_load.specs.MemoryImage.{MemoryImage}
+use Rattle.rv_core.specs.CoreState.{CoreState}
 use Rattle.machine_desc.specs.declared.machine.Machine.{Machine}
 use Rattle.event_graph.specs.declared.plain.Plain.{Plain}
 use Rattle.event_graph.specs.Timing.{access_time}
 use Rattle.bound_core.specs.Laws.{AnswersAsWorld, moved}
 use Rattle.bound_core.specs.Reaching.{Reaches}
 use Rattle.bound_core.specs.ReferenceMachine.{BoundState}
-use Rattle.bound_core.specs.ShardPort.{base_of, room_of, size_of}
+use Rattle.bound_core.specs.ShardPort.{base_of, l1i_of, room_of, size_of}
 use Rattle.bound_core.specs.ShardWorld.{ShardWorld, shards_serve}
 use Rattle.bound_core.specs.TimedCore.{TimedCore}
 use Rattle.bound_core.specs.NumberedCores.{NumberedCore}
-use Rattle.bound_core.specs.IntervalBounds.{latest_clock, left_of_instruction, most_accesses}
+use Rattle.bound_core.specs.IntervalBounds.{latest_clock, most_accesses, most_left}
 use Rattle.bound_core.specs.Turn.{IsOver, RunsToEnd, TurnsToEnd}
 use Rattle.bound_core.proofs.Accesses.{clock_within, latest_small}
 use Rattle.bound_core.proofs.Lists.{set_same}
@@ -90,26 +91,30 @@ same_times machine plain is = ap (λ path. let times : Entry → ℕ = λ e. acc
 
 -- ---- a core that waits for nothing
 
-none_past : (end : ℕ) (c : TimedCore) → end ≤ c.clock → c.core.instruction ≡ None → most_accesses end c ≡ 0
-unfolding most_accesses
-none_past end c late idle = let past : nat_lt c.clock end ≡ false = search rules in rw (past, idle) refl
+none_left : (core : CoreState) → core.instruction ≡ None → core.is_fetched ≡ false → most_left core ≡ 0
+none_left core idle unfetched = rw (unfetched, idle) refl
 
-pub latest_idle : (end : ℕ) (c : TimedCore) → c.core.instruction ≡ None → latest_clock end c ≤ max c.clock end + 2 ^ 28
-latest_idle end c idle =
-    let none : left_of_instruction c.core.instruction ≡ 0 = ap left_of_instruction idle in
+none_past : (end : ℕ) (c : TimedCore) → end ≤ c.clock → c.core.instruction ≡ None → c.core.is_fetched ≡ false → most_accesses end c ≡ 0
+unfolding most_accesses
+none_past end c late idle unfetched =
+    let past : nat_lt c.clock end ≡ false = search rules in rw past (none_left c.core idle unfetched)
+
+pub latest_idle : (end : ℕ) (c : TimedCore) → c.core.instruction ≡ None → c.core.is_fetched ≡ false → latest_clock end c ≤ max c.clock end + 2 ^ 30
+latest_idle end c idle unfetched =
+    let none : most_left c.core ≡ 0 = none_left c.core idle unfetched in
     latest_small end c (omega (arith, none))
 
-starts_small : (end : ℕ) (c : TimedCore) (entries : List Entry) → c.core.instruction ≡ None → end ≤ 2 ^ 34 → All (λ e. e.start ≤ latest_clock end c) entries → length entries ≤ most_accesses end c
+starts_small : (end : ℕ) (c : TimedCore) (entries : List Entry) → c.core.instruction ≡ None → c.core.is_fetched ≡ false → end ≤ 2 ^ 34 → All (λ e. e.start ≤ latest_clock end c) entries → length entries ≤ most_accesses end c
     → All (λ e. e.start ≤ 2 ^ 36) entries
-starts_small end c entries idle small starts few = λ k d below.
+starts_small end c entries idle unfetched small starts few = λ k d below.
     elim (cases_lt c.clock end) [
-      | inl early ↦ omega (arith, starts k d below, latest_idle end c idle, early, small)
-      | inr late ↦ absurd (omega (arith, below, few, none_past end c late idle))
+      | inl early ↦ omega (arith, starts k d below, latest_idle end c idle unfetched, early, small)
+      | inr late ↦ absurd (omega (arith, below, few, none_past end c late idle unfetched))
     ]
 
 -- ---- a core in an interval
 
-module _ (machine : Machine) (image : MemoryImage) (end : ℕ) (core : NumberedCore) (port : LoggedPortState) (ready : CanRunInterval machine end (base_of port.world) (size_of port.world) core.timed) where
+module _ (machine : Machine) (image : MemoryImage) (end : ℕ) (core : NumberedCore) (port : LoggedPortState) (ready : CanRunInterval machine end (base_of port.world) (size_of port.world) (l1i_of port.world) core.timed) where
   -- one that has halted does nothing
   module _ (s t : BoundState ShardWorld) (here : slice_get t.cores core.number ≡ Some core.timed) (same : t.world ≡ port.world) where
     not_moved : t ≡ moved t core.number core.timed port.world []
@@ -136,6 +141,7 @@ module _ (machine : Machine) (image : MemoryImage) (end : ℕ) (core : NumberedC
     number = refl;
     base = refl;
     size = refl;
+    l1i = refl;
     stamps = refl;
     room = omega arith;
   }
@@ -143,11 +149,11 @@ module _ (machine : Machine) (image : MemoryImage) (end : ℕ) (core : NumberedC
   pub ran_to_end : end ≤ 2 ^ 34 → core.timed.core.halted ≡ None → (chosen last : LoggedPortState) (after : NumberedCore) → chosen.world ≡ port.world → chosen.entries ≡ port.entries → chosen.room ≡ port.room
       → RunsToEnd (time_of machine) image end gives logged core.number chosen last core.timed after.timed
       → IsOver end after.timed → latest_clock end after.timed ≤ latest_clock end core.timed → after.number ≡ core.number
-      → most_accesses end core.timed ≤ end - core.timed.clock + 256
-      → base_of last.world ≡ base_of chosen.world → size_of last.world ≡ size_of chosen.world
+      → most_accesses end core.timed ≤ end - core.timed.clock + 257
+      → base_of last.world ≡ base_of chosen.world → size_of last.world ≡ size_of chosen.world → l1i_of last.world ≡ l1i_of chosen.world
       → min (room_of chosen.world) chosen.room ≤ min (room_of last.world) last.room + most_accesses end core.timed
       → HasRunThroughPort machine image end core after port last
-  ran_to_end small running chosen last after same_world same_entries same_room ran over not_later number most base size room =
+  ran_to_end small running chosen last after same_world same_entries same_room ran over not_later number most base size l1i room =
       let left : end - core.timed.clock ≤ machine.interval = ready.left running in
       let gained : last.entries ≡ chosen.entries ++ ran.entries = cc in
       let before : min (room_of chosen.world) chosen.room ≡ min (room_of port.world) port.room =
@@ -158,13 +164,14 @@ module _ (machine : Machine) (image : MemoryImage) (end : ℕ) (core : NumberedC
         gained = gained ∙ ap (λ (entries : List Entry). entries ++ ran.entries) same_entries;
         leads = λ s t numbers reaches here same.
             by_turns gives world shards_serve (time_of machine) image end s t numbers chosen last core.timed after.timed reaches answers core.number ran.entries here (same ∙ sym same_world) ran.cores ran.turns;
-        starts = starts_small end core.timed ran.entries ready.idle small ran.starts ran.few;
+        starts = starts_small end core.timed ran.entries ready.idle ready.unfetched small ran.starts ran.few;
         few = omega (arith, ran.few, most, left);
         over = over;
-        clock = omega (arith, clock_within end after.timed, not_later, latest_idle end core.timed ready.idle, ready.clock, small);
+        clock = omega (arith, clock_within end after.timed, not_later, latest_idle end core.timed ready.idle ready.unfetched, ready.clock, small);
         number = number;
         base = base ∙ ap base_of same_world;
         size = size ∙ ap size_of same_world;
+        l1i = l1i ∙ ap l1i_of same_world;
         stamps = stamps_stay (time_of machine) image end ran.entries chosen last core.timed after.timed ran.turns ∙ ap (λ (w : ShardWorld). length w.stamps) same_world;
         room = omega (arith, room, before, most, left);
       }

@@ -12,7 +12,7 @@ use Rattle.machine_desc.specs.declared.machine.Machine.{Machine}
 use Rattle.bound_core.specs.Laws.{moved}
 use Rattle.bound_core.specs.Reaching.{Reaches}
 use Rattle.bound_core.specs.ReferenceMachine.{BoundState}
-use Rattle.bound_core.specs.ShardPort.{base_of, size_of}
+use Rattle.bound_core.specs.ShardPort.{base_of, l1i_of, size_of}
 use Rattle.bound_core.specs.ShardWorld.{ShardWorld, shards_serve}
 use Rattle.bound_core.specs.TimedCore.{TimedCore}
 use Rattle.bound_core.specs.NumberedCores.{NumberedCore, timed_of}
@@ -64,6 +64,7 @@ none_ran machine image end cores port numbered none = record {
   rest = λ i from. refl;
   base = refl;
   size = refl;
+  l1i = refl;
   stamps = refl;
   room = omega arith;
 }
@@ -111,17 +112,22 @@ module _ (machine : Machine) (image : MemoryImage) (end ran : ℕ) (cores now : 
     rest = λ i from. get_other now ran i core_after (λ (same : i ≡ ran). absurd (omega (arith, from, same))) ∙ h.rest i (omega (arith, from));
     base = r.base ∙ h.base;
     size = r.size ∙ h.size;
+    l1i = r.l1i ∙ h.l1i;
     stamps = r.stamps ∙ h.stamps;
     room = omega (arith, h.room, r.room, more_room ran (core_room machine));
   }
 
--- a core is as ready as it was: other cores' accesses change neither the place nor the size of memory
-pub at_start : (machine : Machine) (end : ℕ) (core : NumberedCore) (port port_now : LoggedPortState) → base_of port_now.world ≡ base_of port.world → size_of port_now.world ≡ size_of port.world
-    → CanRunInterval machine end (base_of port.world) (size_of port.world) core.timed → CanRunInterval machine end (base_of port_now.world) (size_of port_now.world) core.timed
-at_start machine end core port port_now base size ready = record {
+-- a core is as ready as it was: other cores' accesses change neither the place nor the size of memory, nor whether there are
+-- instruction caches
+pub at_start : (machine : Machine) (end : ℕ) (core : NumberedCore) (port port_now : LoggedPortState) → base_of port_now.world ≡ base_of port.world → size_of port_now.world ≡ size_of port.world → l1i_of port_now.world ≡ l1i_of port.world
+    → CanRunInterval machine end (base_of port.world) (size_of port.world) (l1i_of port.world) core.timed
+    → CanRunInterval machine end (base_of port_now.world) (size_of port_now.world) (l1i_of port_now.world) core.timed
+at_start machine end core port port_now base size l1i ready = record {
   idle = ready.idle;
+  unfetched = ready.unfetched;
   clock = ready.clock;
   left = ready.left;
   base_is = ready.base_is ∙ sym base;
   size_is = ready.size_is ∙ sym size;
+  fetches = λ fetching. l1i ∙ ready.fetches fetching;
 }

@@ -12,7 +12,7 @@ use Rattle.elf_load.specs.MemoryImage.{MemoryImage}
 use Rattle.bound_core.specs.Laws.{moved, with_core}
 use Rattle.bound_core.specs.Reaching.{Reaches}
 use Rattle.bound_core.specs.ReferenceMachine.{BoundState, are_done, bound_from, bound_phase}
-use Rattle.bound_core.specs.ShardPort.{base_of, room_of, size_of}
+use Rattle.bound_core.specs.ShardPort.{base_of, l1i_of, room_of, size_of}
 use Rattle.bound_core.specs.ShardWorld.{ShardWorld, shards_serve}
 use Rattle.bound_core.specs.TimedCore.{TimedCore, asks, goes_on_alone, next_request, ran_to}
 use Rattle.bound_core.specs.NumberedCores.{NumberedCore, timed_of}
@@ -37,7 +37,7 @@ halted_stops end c (Some why) e some = rw e refl
 
 over_asks : (image : MemoryImage) (end : ℕ) (c : TimedCore) → IsOver end c → asks (ran_to image end c) ≡ None
 over_asks image end c over =
-    let stops : goes_on_alone end c ≡ false = elim over.over [ inl halted ↦ halted_stops end c c.core.halted refl halted | inr late ↦ late_stops end c late ] in
+    let stops : goes_on_alone end c ≡ false = elim over.over [ inl halted ↦ halted_stops end c c.core.halted refl halted | inr late ↦ late_stops end c late.0 late.1 ] in
     ap asks (ran_stays image end c stops) ∙ ap next_request over.idle
 
 not_both : {A : Type 0} (o : Option A) (x : A) → o ≡ None → o ≡ Some x → ⊥
@@ -57,7 +57,7 @@ module _ (time : Entry → ℕ) (image : MemoryImage) (end most : ℕ) (first : 
   left_here : slice_get h.left number ≡ Some own_left
   left_here = slice_get-get_or h.left number 0 left_below
 
-  way : IsOnItsWay end (base_of port.world) (size_of port.world) own_left core
+  way : IsOnItsWay end (base_of port.world) (size_of port.world) (l1i_of port.world) own_left core
   way = h.each number own_left core left_here here
 
   own_number : core.number ≡ number
@@ -73,16 +73,16 @@ module _ (time : Entry → ℕ) (image : MemoryImage) (end most : ℕ) (first : 
   timed_here = get_mapped (λ (c : NumberedCore). c.timed) cores number core here
 
   -- a core whose turn it was not is where it was
-  other_way : (i n : ℕ) (c : NumberedCore) → base_of port_after.world ≡ base_of port.world → size_of port_after.world ≡ size_of port.world
-      → slice_get h.left i ≡ Some n → slice_get cores i ≡ Some c → IsOnItsWay end (base_of port_after.world) (size_of port_after.world) n c
-  other_way i n c base size left there =
+  other_way : (i n : ℕ) (c : NumberedCore) → base_of port_after.world ≡ base_of port.world → size_of port_after.world ≡ size_of port.world → l1i_of port_after.world ≡ l1i_of port.world
+      → slice_get h.left i ≡ Some n → slice_get cores i ≡ Some c → IsOnItsWay end (base_of port_after.world) (size_of port_after.world) (l1i_of port_after.world) n c
+  other_way i n c base size l1i left there =
       let was = h.each i n c left there in
-      record { few = was.few; clock = was.clock; spare = was.spare; base_is = was.base_is ∙ sym base; size_is = was.size_is ∙ sym size }
+      record { few = was.few; clock = was.clock; spare = was.spare; base_is = was.base_is ∙ sym base; size_is = was.size_is ∙ sym size; fetches = λ fetching. l1i ∙ was.fetches fetching }
 
   -- ---- it took an access
 
   module _ (e : Entry) (t : TakesAccess time image end chosen port_after core after e) where
-    near : (most_accesses end core.timed ≤ own_left) × (latest_clock end core.timed ≤ end + 2 ^ 28)
+    near : (most_accesses end core.timed ≤ own_left) × (latest_clock end core.timed ≤ end + 2 ^ 30)
     near = elim way.few [ inl over ↦ absurd (not_both (asks (ran_to image end core.timed)) t.turn.request (over_asks image end core.timed over) t.turn.asked) | inr few ↦ few ]
 
     gained : port_after.entries ≡ port.entries ++ e ∷ []
@@ -94,26 +94,30 @@ module _ (time : Entry → ℕ) (image : MemoryImage) (end most : ℕ) (first : 
     size : size_of port_after.world ≡ size_of port.world
     size = t.size ∙ ap size_of world_is
 
+    l1i : l1i_of port_after.world ≡ l1i_of port.world
+    l1i = t.l1i ∙ ap l1i_of world_is
+
     abbrev left_after : List ℕ
     left_after = slice_set h.left number (own_left - 1)
 
-    own_way : IsOnItsWay end (base_of port_after.world) (size_of port_after.world) (own_left - 1) after
+    own_way : IsOnItsWay end (base_of port_after.world) (size_of port_after.world) (l1i_of port_after.world) (own_left - 1) after
     own_way = record {
       few = inr (omega (arith, t.fewer, near.0), omega (arith, t.not_later, near.1));
       clock = omega (arith, t.not_later, way.clock);
       spare = omega (arith, t.spare, way.spare, t.fewer, near.0);
       base_is = ap (λ memory. memory.base) t.memory ∙ way.base_is ∙ sym base;
       size_is = ap (λ memory. memory.size) t.memory ∙ way.size_is ∙ sym size;
+      fetches = λ fetching. l1i ∙ way.fetches (sym t.fetching ∙ fetching);
     }
 
-    each_way : (i n : ℕ) (c : NumberedCore) → slice_get left_after i ≡ Some n → slice_get cores_after i ≡ Some c → IsOnItsWay end (base_of port_after.world) (size_of port_after.world) n c
+    each_way : (i n : ℕ) (c : NumberedCore) → slice_get left_after i ≡ Some n → slice_get cores_after i ≡ Some c → IsOnItsWay end (base_of port_after.world) (size_of port_after.world) (l1i_of port_after.world) n c
     each_way i n c left there =
-        set_cases cores number i core after c here there (λ x. IsOnItsWay end (base_of port_after.world) (size_of port_after.world) n x)
+        set_cases cores number i core after c here there (λ x. IsOnItsWay end (base_of port_after.world) (size_of port_after.world) (l1i_of port_after.world) n x)
         (λ same.
         let own : slice_get left_after number ≡ Some n = ap (slice_get left_after) (sym same) ∙ left in
         let is : own_left - 1 ≡ n = same_Some (own_left - 1) n (sym (get_set h.left number own_left (own_left - 1) left_here) ∙ own) in
-        subst (λ (k : ℕ). IsOnItsWay end (base_of port_after.world) (size_of port_after.world) k after) is own_way)
-        (λ apart was. other_way i n c base size (sym (get_other h.left number i (own_left - 1) apart) ∙ left) was)
+        subst (λ (k : ℕ). IsOnItsWay end (base_of port_after.world) (size_of port_after.world) (l1i_of port_after.world) k after) is own_way)
+        (λ apart was. other_way i n c base size l1i (sym (get_other h.left number i (own_left - 1) apart) ∙ left) was)
 
     moved_is : moved (phase_of cores port) e.core after.timed port_after.world (e ∷ []) ≡ phase_of cores_after port_after
     moved_is =
@@ -161,18 +165,20 @@ module _ (time : Entry → ℕ) (image : MemoryImage) (end most : ℕ) (first : 
       let room_same : port_after.room ≡ port.room = ap (λ (p : LoggedPortState). p.room) t.ends.same ∙ room_is in
       let base = ap base_of world_same in
       let size = ap size_of world_same in
+      let l1i : l1i_of port_after.world ≡ l1i_of port.world = ap l1i_of world_same in
       let led = by_itself shards_serve time image end first (phase_of cores port) turns number core.timed after.timed h.reaches timed_here t.ends.left in
       let to : with_core (phase_of cores port) number after.timed ≡ phase_of cores_after port_after =
       ap (λ (cs : List TimedCore). let s : BoundState ShardWorld = record { cores = cs; world = port.world; entries = port.entries } in s) (sym (map-set (λ (c : NumberedCore). c.timed) cores number after))
       ∙ ap (λ (w : ShardWorld). let s : BoundState ShardWorld = record { cores = timed_of cores_after; world = w; entries = port.entries } in s) (sym world_same)
       ∙ ap (λ (es : List Entry). let s : BoundState ShardWorld = record { cores = timed_of cores_after; world = port_after.world; entries = es } in s) (sym entries_same)
       in
-      let own : IsOnItsWay end (base_of port_after.world) (size_of port_after.world) own_left after = record {
+      let own : IsOnItsWay end (base_of port_after.world) (size_of port_after.world) (l1i_of port_after.world) own_left after = record {
         few = inl t.over;
         clock = omega (arith, t.not_later, way.clock);
         spare = omega (arith, t.spare, way.spare);
         base_is = ap (λ memory. memory.base) t.memory ∙ way.base_is ∙ sym base;
         size_is = ap (λ memory. memory.size) t.memory ∙ way.size_is ∙ sym size;
+        fetches = λ fetching. l1i ∙ way.fetches (sym t.fetching ∙ fetching);
       }
       in
       let room : min (room_of port_after.world) port_after.room ≡ min (room_of port.world) port.room =
@@ -183,11 +189,11 @@ module _ (time : Entry → ℕ) (image : MemoryImage) (end most : ℕ) (first : 
         left = h.left;
         count = h.count ∙ sym (length-set cores number after);
         each = λ i n c left there.
-            set_cases cores number i core after c here there (λ x. IsOnItsWay end (base_of port_after.world) (size_of port_after.world) n x)
+            set_cases cores number i core after c here there (λ x. IsOnItsWay end (base_of port_after.world) (size_of port_after.world) (l1i_of port_after.world) n x)
             (λ same.
             let is : own_left ≡ n = same_Some own_left n (sym left_here ∙ ap (slice_get h.left) (sym same) ∙ left) in
-            subst (λ (k : ℕ). IsOnItsWay end (base_of port_after.world) (size_of port_after.world) k after) is own)
-            (λ apart was. other_way i n c base size left was);
+            subst (λ (k : ℕ). IsOnItsWay end (base_of port_after.world) (size_of port_after.world) (l1i_of port_after.world) k after) is own)
+            (λ apart was. other_way i n c base size l1i left was);
         few = omega (arith, ap length entries_same, h.few);
         room = omega (arith, ap length entries_same, h.room, room);
         numbered = all_numbered t.number;

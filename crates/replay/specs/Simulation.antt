@@ -1,6 +1,6 @@
 -- A run between two intervals as the code keeps it: its shards stand for memory and the caches, and its counts for the
 -- intervals, which it does not keep.
-use Rattle.std.specs.Prelude.{◌≡◌, ℕ, ◌+◌, ◌-◌, ◌*◌, ◌^◌, ◌<◌, ◌≤◌, min, false, List, [], ◌∷◌, ◌++◌, length, map, slice_get, Some, None, Ok, All}
+use Rattle.std.specs.Prelude.{◌≡◌, ℕ, ◌+◌, ◌-◌, ◌*◌, ◌^◌, ◌<◌, ◌≤◌, min, Bool, false, IsTrue, List, [], ◌∷◌, ◌++◌, length, map, slice_get, Some, None, Ok, All}
 use Rattle.zs_num.specs.declared.entry.Entry.{Entry}
 use Rattle.elf_load.specs.MemoryImage.{MemoryImage}
 use Rattle.machine_desc.specs.declared.machine.Machine.{Machine}
@@ -15,7 +15,7 @@ use Rattle.bound_core.specs.MachineOfShards.{StandForMachine}
 use Rattle.bound_core.specs.Laws.{moved}
 use Rattle.bound_core.specs.Reaching.{Reaches}
 use Rattle.bound_core.specs.ReferenceMachine.{BoundState, bound_phase}
-use Rattle.bound_core.specs.ShardPort.{AreShardsOf, base_of, room_of, size_of}
+use Rattle.bound_core.specs.ShardPort.{AreShardsOf, base_of, l1i_of, room_of, size_of}
 use Rattle.bound_core.specs.ShardWorld.{ShardWorld, begun_world, restarted, shards_serve}
 use Rattle.bound_core.specs.TimedCore.{TimedCore, beside_cycles}
 use Rattle.bound_core.specs.NumberedCores.{NumberedCore, timed_of}
@@ -78,14 +78,16 @@ pub record HasNextInterval (machine : Machine) (end : ℕ) (s : RunState) (p : S
 
 -- ---- an interval
 
--- What the bound phase asks of a core, with this memory: a core that is not halted has come to the end of the last
--- interval.
-pub record CanRunInterval (machine : Machine) (end base size : ℕ) (c : TimedCore) : Type 0 where
+-- What the bound phase asks of a core, with this memory, and with instruction caches or none: a core that is not halted
+-- has come to the end of the last interval.
+pub record CanRunInterval (machine : Machine) (end base size : ℕ) (l1i : Bool) (c : TimedCore) : Type 0 where
   pub idle : c.core.instruction ≡ None
+  pub unfetched : c.core.is_fetched ≡ false
   pub clock : c.clock ≤ 2 ^ 56
   pub left : c.core.halted ≡ None → end - c.clock ≤ machine.interval
   pub base_is : c.core.memory.base ≡ base
   pub size_is : c.core.memory.size ≡ size
+  pub fetches : IsTrue c.core.fetching → IsTrue l1i
 
 -- a bound phase on its way, with these cores and this port
 abbrev pub phase_of : List NumberedCore → LoggedPortState → BoundState ShardWorld
@@ -111,6 +113,7 @@ pub record HasRunThroughPort (machine : Machine) (image : MemoryImage) (end : �
   pub number : core_after.number ≡ core.number
   pub base : base_of port_after.world ≡ base_of port.world
   pub size : size_of port_after.world ≡ size_of port.world
+  pub l1i : l1i_of port_after.world ≡ l1i_of port.world
   pub stamps : length port_after.world.stamps ≡ length port.world.stamps
   pub room : min (room_of port.world) port.room ≤ min (room_of port_after.world) port_after.room + core_room machine
 
@@ -126,12 +129,13 @@ pub record HaveRunThroughPort (machine : Machine) (image : MemoryImage) (end ran
   pub rest : (i : ℕ) → ran ≤ i → slice_get cores_after i ≡ slice_get cores i
   pub base : base_of port_after.world ≡ base_of port.world
   pub size : size_of port_after.world ≡ size_of port.world
+  pub l1i : l1i_of port_after.world ≡ l1i_of port.world
   pub stamps : length port_after.world.stamps ≡ length port.world.stamps
   pub room : min (room_of port.world) port.room ≤ min (room_of port_after.world) port_after.room + ran * core_room machine
 
 -- what an interval asks of the numbers of a run that goes on
 pub record HasRoomForInterval (machine : Machine) (end : ℕ) (p : Simulation) : Type 0 where
-  pub ready : (i : ℕ) (c : NumberedCore) → slice_get p.cores.items i ≡ Some c → CanRunInterval machine end (base_of (begun_shards machine p)) (size_of (begun_shards machine p)) c.timed
+  pub ready : (i : ℕ) (c : NumberedCore) → slice_get p.cores.items i ≡ Some c → CanRunInterval machine end (base_of (begun_shards machine p)) (size_of (begun_shards machine p)) (l1i_of (begun_shards machine p)) c.timed
   pub count : length p.cores.items ≡ machine.cores
   pub numbered : AreNumbered p.cores.items
   pub stamps : length p.port.world.stamps ≡ machine.cores

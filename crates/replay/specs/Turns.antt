@@ -1,5 +1,5 @@
 -- What the turns of an interval keep, in whatever order the cores take them.
-use Rattle.std.specs.Prelude.{◌≡◌, ◌⊎◌, ℕ, ◌+◌, ◌^◌, ◌<◌, ◌≤◌, max, min, List, [], ◌∷◌, ◌++◌, length, slice_get, sum_by, Some, Ok, All}
+use Rattle.std.specs.Prelude.{◌≡◌, ◌⊎◌, ℕ, ◌+◌, ◌^◌, ◌<◌, ◌≤◌, max, min, Bool, IsTrue, List, [], ◌∷◌, ◌++◌, length, slice_get, sum_by, Some, Ok, All}
 use Rattle.zs_num.specs.declared.entry.Entry.{Entry}
 use Rattle.elf_load.specs.MemoryImage.{MemoryImage}
 use Rattle.machine_desc.specs.declared.machine.Machine.{Machine}
@@ -7,7 +7,7 @@ use Rattle.event_graph.specs.declared.plain.Plain.{Plain}
 use Rattle.event_graph.specs.Timing.{access_time}
 use Rattle.bound_core.specs.Reaching.{Reaches}
 use Rattle.bound_core.specs.ReferenceMachine.{BoundState, bound_phase}
-use Rattle.bound_core.specs.ShardPort.{base_of, room_of, size_of}
+use Rattle.bound_core.specs.ShardPort.{base_of, l1i_of, room_of, size_of}
 use Rattle.bound_core.specs.ShardWorld.{ShardWorld, shards_serve}
 use Rattle.bound_core.specs.NumberedCores.{NumberedCore, timed_of}
 use Rattle.bound_core.specs.IntervalBounds.{latest_clock, most_accesses}
@@ -20,13 +20,15 @@ use Rattle.replay.specs.Simulation.{AreNumbered, phase_of}
 abbrev pub time_by_plain : Plain → Entry → ℕ
 time_by_plain plain e = access_time plain.path e
 
--- A core on its way through an interval: it is over, or it has at most so many accesses left, and none of them is late.
-pub record IsOnItsWay (end base size left : ℕ) (c : NumberedCore) : Type 0 where
-  pub few : IsOver end c.timed ⊎ ((most_accesses end c.timed ≤ left) × (latest_clock end c.timed ≤ end + 2 ^ 28))
+-- A core on its way through an interval, with this memory, and with instruction caches or none: it is over, or it has at
+-- most so many accesses left, and none of them is late.
+pub record IsOnItsWay (end base size : ℕ) (l1i : Bool) (left : ℕ) (c : NumberedCore) : Type 0 where
+  pub few : IsOver end c.timed ⊎ ((most_accesses end c.timed ≤ left) × (latest_clock end c.timed ≤ end + 2 ^ 30))
   pub clock : latest_clock end c.timed ≤ 2 ^ 57
   pub spare : left < c.spare
   pub base_is : c.timed.core.memory.base ≡ base
   pub size_is : c.timed.core.memory.size ≡ size
+  pub fetches : IsTrue c.timed.core.fetching → IsTrue l1i
 
 -- These turns lead from the first state to where cores and port are now. The port had room for more than so many
 -- accesses, and together the cores have no more.
@@ -34,7 +36,7 @@ pub record HaveTaken (time : Entry → ℕ) (image : MemoryImage) (end most : �
   pub reaches : Reaches shards_serve time image end first turns (phase_of cores port)
   pub left : List ℕ
   pub count : length left ≡ length cores
-  pub each : (i n : ℕ) (c : NumberedCore) → slice_get left i ≡ Some n → slice_get cores i ≡ Some c → IsOnItsWay end (base_of port.world) (size_of port.world) n c
+  pub each : (i n : ℕ) (c : NumberedCore) → slice_get left i ≡ Some n → slice_get cores i ≡ Some c → IsOnItsWay end (base_of port.world) (size_of port.world) (l1i_of port.world) n c
   pub few : length port.entries + sum_by (λ n. n) left ≤ most
   pub room : most < min (room_of port.world) port.room + length port.entries
   pub numbered : AreNumbered cores
@@ -51,14 +53,16 @@ chosen port number = record port { core = number }
 pub record TakesAccess (time : Entry → ℕ) (image : MemoryImage) (end : ℕ) (port port_after : LoggedPortState) (core after : NumberedCore) (e : Entry) : Type 0 where
   pub turn : TakesTurn time image end gives port port_after core.timed after.timed e
   pub own : e.core ≡ core.number
-  pub start : e.start ≤ max core.timed.clock end
+  pub start : e.start ≤ max core.timed.clock end + 1
   pub fewer : most_accesses end after.timed < most_accesses end core.timed
   pub not_later : latest_clock end after.timed ≤ latest_clock end core.timed
   pub number : after.number ≡ core.number
   pub memory : after.timed.core.memory ≡ core.timed.core.memory
+  pub fetching : after.timed.core.fetching ≡ core.timed.core.fetching
   pub spare : core.spare ≤ after.spare + 1
   pub base : base_of port_after.world ≡ base_of port.world
   pub size : size_of port_after.world ≡ size_of port.world
+  pub l1i : l1i_of port_after.world ≡ l1i_of port.world
   pub room : min (room_of port.world) port.room ≤ min (room_of port_after.world) port_after.room + 1
   pub logged : port_after.entries ≡ port.entries ++ e ∷ []
 
@@ -69,6 +73,7 @@ pub record TakesNone (image : MemoryImage) (end : ℕ) (port port_after : Logged
   pub not_later : latest_clock end after.timed ≤ latest_clock end core.timed
   pub number : after.number ≡ core.number
   pub memory : after.timed.core.memory ≡ core.timed.core.memory
+  pub fetching : after.timed.core.fetching ≡ core.timed.core.fetching
   pub spare : after.spare ≡ core.spare
 
 -- ---- all turns of an interval

@@ -17,7 +17,7 @@ pub struct GatedPort<'a, G: Gate> {
 
 impl<'a, G: Gate> Port for GatedPort<'a, G> {
     ghost use Rattle.std.specs.Prelude.{min, Some};
-    ghost use Rattle.bound_core.specs.ShardPort.{base_of, room_of, size_of};
+    ghost use Rattle.bound_core.specs.ShardPort.{base_of, l1i_of, room_of, size_of};
     ghost use Rattle.replay.specs.Port.{gives};
 
     ghost core = { λ p. p.port.core };
@@ -25,6 +25,8 @@ impl<'a, G: Gate> Port for GatedPort<'a, G> {
     ghost base = { λ p. base_of p.port.world };
 
     ghost size = { λ p. size_of p.port.world };
+
+    ghost l1i = { λ p. l1i_of p.port.world };
 
     ghost room = { λ p. min (room_of p.port.world) p.port.room };
 

@@ -4,7 +4,7 @@ ghost use Rattle.machine_desc.specs.Machine.{IsMachine};
 ghost use Rattle.shard.specs.StandsFor.{new_shards};
 ghost use Rattle.access_log.specs.Logs.{HaveDistinctKeys};
 ghost use Rattle.access_log.specs.RecordedOrder.{recorded_order};
-ghost use Rattle.bound_core.specs.ShardPort.{AreShardsOf, base_in, base_of, room_of, size_in, size_of};
+ghost use Rattle.bound_core.specs.ShardPort.{AreShardsOf, base_in, base_of, l1i_of, room_of, size_in, size_of};
 ghost use Rattle.bound_core.specs.ShardWorld.{begun_world, restarted};
 ghost use Rattle.replay.specs.Port.{gives};
 
@@ -111,6 +111,8 @@ impl Port for LoggedPort {
     ghost base = { λ p. base_of p.world };
 
     ghost size = { λ p. size_of p.world };
+
+    ghost l1i = { λ p. l1i_of p.world };
 
     ghost room = { λ p. min (room_of p.world) p.room };
 

@@ -8,7 +8,7 @@ ghost use Rattle.elf_load.specs.MemoryImage.{MemoryImage};
 ghost use Rattle.component.specs.ComponentStep.{free_of};
 ghost use Rattle.bound_core.specs.History.{begun_over_shards};
 ghost use Rattle.bound_core.specs.ReferenceMachine.{bound_phase};
-ghost use Rattle.bound_core.specs.ShardPort.{base_of, room_of, size_of};
+ghost use Rattle.bound_core.specs.ShardPort.{base_of, l1i_of, room_of, size_of};
 ghost use Rattle.bound_core.specs.ShardWorld.{restarted, shards_serve};
 ghost use Rattle.bound_core.specs.TimedCore.{beside_cycles, first_core};
 ghost use Rattle.bound_core.specs.NumberedCores.{NumberedCore, timed_of};
@@ -62,6 +62,8 @@ impl Simulation {
     {
         stats::laws::nothing_is_counted_first();
         bound_core::laws::intervals_begin();
+        // The address of the first instruction is a multiple of 4, as that of every image.
+        let _sound = image.base();
         Ok(Simulation {
             cores: first_cores(alloc, machine, image)?,
             port: LoggedPort::new(alloc, machine, image)?,
@@ -464,7 +466,7 @@ fn run_cores<G: Gate>(
     requires plain { IsPlainOf machine.now plain.now }
     requires end { end ≤ 2 ^ 34 }
     requires count { length cores.old ≡ machine.now.cores }
-    requires ready { (i : ℕ) (c : NumberedCore) → slice_get cores.old i ≡ Some c → CanRunInterval machine.now end (base_of port.world) (size_of port.world) c.timed }
+    requires ready { (i : ℕ) (c : NumberedCore) → slice_get cores.old i ≡ Some c → CanRunInterval machine.now end (base_of port.world) (size_of port.world) (l1i_of port.world) c.timed }
     requires numbered { AreNumbered cores.old }
     requires stamps { length port.world.stamps ≡ machine.now.cores }
     requires none { port.entries ≡ [] }
@@ -500,7 +502,7 @@ fn run_core<G: Gate>(
     requires machine { IsMachine machine.now }
     requires plain { IsPlainOf machine.now plain.now }
     requires end { end ≤ 2 ^ 34 }
-    requires ready { CanRunInterval machine.now end (base_of port.world) (size_of port.world) core.old.timed }
+    requires ready { CanRunInterval machine.now end (base_of port.world) (size_of port.world) (l1i_of port.world) core.old.timed }
     requires number { core.old.number ≡ number }
     requires known { number < length port.world.stamps }
     requires room { machine.now.interval + beside_cycles ≤ min (room_of port.world) port.room }
@@ -539,7 +541,7 @@ fn run_turns(
     requires known { All (λ number. number < machine.now.cores) turns.now }
     requires few { length turns.now < 2 ^ 32 }
     requires count { length cores.old ≡ machine.now.cores }
-    requires ready { (i : ℕ) (c : NumberedCore) → slice_get cores.old i ≡ Some c → CanRunInterval machine.now end (base_of port.old.world) (size_of port.old.world) c.timed }
+    requires ready { (i : ℕ) (c : NumberedCore) → slice_get cores.old i ≡ Some c → CanRunInterval machine.now end (base_of port.old.world) (size_of port.old.world) (l1i_of port.old.world) c.timed }
     requires numbered { AreNumbered cores.old }
     requires stamps { length port.old.world.stamps ≡ machine.now.cores }
     requires none { port.old.entries ≡ [] }

@@ -3,7 +3,7 @@ ghost use Rattle.std.specs.Prelude.{◌≡◌, ◌<◌, ◌≤◌, ◌^◌, ℕ,
 ghost use Rattle.zs_num.specs.declared.entry.Entry.{Entry};
 ghost use Rattle.bound_core.specs.ReferenceMachine.{BoundState, bound_phase};
 ghost use Rattle.bound_core.specs.ShardWorld.{ShardWorld, shards_serve};
-ghost use Rattle.bound_core.specs.ShardPort.{base_of, room_of, size_of};
+ghost use Rattle.bound_core.specs.ShardPort.{base_of, l1i_of, room_of, size_of};
 ghost use Rattle.bound_core.specs.NumberedCores.{timed_of};
 ghost use Rattle.bound_core.specs.Turn.{IsOver};
 ghost use Rattle.replay.specs.Simulation.{phase_of};
@@ -88,7 +88,7 @@ fn take_turn(
     requires number { core.old.number ≡ number }
     requires known { number < length port.old.world.stamps }
     requires room { 1 ≤ min (room_of port.old.world) port.old.room }
-    requires way { (left : ℕ) × IsOnItsWay end (base_of port.old.world) (size_of port.old.world) left core.old }
+    requires way { (left : ℕ) × IsOnItsWay end (base_of port.old.world) (size_of port.old.world) (l1i_of port.old.world) left core.old }
     ensures took { result ≡ true → (e : Entry) × TakesAccess (time_by_plain plain.now) program.now end (chosen port.old number) port.new core.old core.new e }
     ensures none { result ≡ false → TakesNone program.now end (chosen port.old number) port.new core.old core.new }
 {

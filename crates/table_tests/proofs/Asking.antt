@@ -1,5 +1,5 @@
 -- What the cores of the tests can ask of the shards of their table, and what can be asked of these when it is closed.
-use Rattle.std.proofs.Common.{◌≡◌, ℕ, ◌%◌, ◌<◌, ◌++◌, List, [], ◌∷◌, length, Option, None, Some, slice_get, get_or, refl, sym, ◌∙◌, ap, subst, arith, zero, suc, mod-lt, false}
+use Rattle.std.proofs.Common.{◌≡◌, ℕ, ◌%◌, ◌<◌, ◌++◌, Bool, List, [], ◌∷◌, length, Option, None, Some, slice_get, get_or, refl, sym, ◌∙◌, ap, subst, arith, zero, suc, mod-lt, false, true≢false}
 use Rattle.std.proofs.lemmas.List.{length-map, length-replicate}
 use Rattle.std.proofs.lemmas.List.Elements.{All-cons, All-nil}
 use Rattle.std.proofs.lemmas.Option.{same_Some, none-some}
@@ -13,10 +13,12 @@ use Rattle.zs_num.specs.declared.entry.Entry.{Entry}
 use Rattle.zs_num.specs.declared.request.Request.{Request}
 use Rattle.access_log.specs.History.{bank_of_entry, each_after, of_number}
 use Rattle.access_log.specs.Laws.{EachHasItsOwn}
+use Rattle.shard.specs.HaveL1i.{have_l1i}
 use Rattle.shard.specs.Laws.{StillServes}
 use Rattle.shard.specs.Served.{CanServe, ShardState, new_shard, resumed, shard_after}
 use Rattle.shard_table.specs.Access.{AreAllSeats, AreNewSeats, IsSameSeat, IsSeatOf, SeatState, TableState, restarted_shards}
 use Rattle.shard_table.specs.Lives.{MayAsk}
+use Rattle.bound_core.proofs.MoreServable.{more_servable}
 use Rattle.table_tests.specs.Tested.{AreOf, IsAt, IsOf, IsTested}
 
 some_at : (xs : List ShardState) (i : ℕ) → i < length xs → (x : ShardState) × (slice_get xs i ≡ Some x)
@@ -64,13 +66,18 @@ one_more_of banks shards one are is number shard at = here (IsOf banks) shards a
     here P (x ∷ xs) each last zero h = each 0 shard h
     here P (x ∷ xs) each last (suc n) h = here (λ m. P (suc m)) xs (λ m s g. each (suc m) s g) last n h
 
+-- what can be asked where no core fetches can be asked of any shard
+of_any : (l1i : Bool) (request : Request) → IsServable 65536 1048576 false request → IsServable 65536 1048576 l1i request
+of_any l1i request can = more_servable 65536 1048576 false l1i request (λ is. absurd (true≢false (sym is))) can
+
 module _ (banks : ℕ) (table : TableState) (is : IsTested banks table) where
   can_serve : 0 < banks → (number : ℕ) (shard : ShardState) (request : Request) → slice_get table.shards number ≡ Some shard → IsServable 65536 1048576 false request → line_of request % banks ≡ number
       → CanServe shard request
   unfolding CanServe
   can_serve some number shard request at can own =
       let of = is.shards number shard at in (
-        subst (λ (base : ℕ). IsServable base shard.size false request) (sym of.base) (subst (λ (size : ℕ). IsServable 65536 size false request) (sym of.size) can),
+        subst (λ (base : ℕ). IsServable base shard.size (have_l1i shard.caches) request) (sym of.base)
+            (subst (λ (size : ℕ). IsServable 65536 size (have_l1i shard.caches) request) (sym of.size) (of_any (have_l1i shard.caches) request can)),
         ap (λ (n : ℕ). line_of request % n) of.banks_are ∙ (own ∙ sym of.number_is),
       )
 

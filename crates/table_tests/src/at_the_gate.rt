@@ -1,9 +1,11 @@
 //! Who passes the gate before which access, by several workers.
 ghost use Rattle.std.specs.Prelude.{◌<◌, ◌≤◌};
+ghost use Rattle.machine_desc.specs.Machine.{IsMachine};
 
 use crate::first_interval::first_interval;
 use crate::gates::{CountingGate, TurnsGate};
-use crate::given::{RACE, machine};
+use crate::given::{RACE, fetching_machine, machine};
+use machine_desc::Machine;
 use std::alloc::Global;
 use std::process::Abort;
 use std::sync::Wait;
@@ -11,39 +13,50 @@ use std::test::Fail;
 use std::thread::Threads;
 use zs_num::Entry;
 
-/// Checks that each of five cores passed a hundred times, by the worker whose it is: worker w of W
-/// has the cores whose number is w modulo W.
-fn have_passed(rt: &impl Abort, gate: &CountingGate, workers: u16)
+/// Checks that each of five cores passed so often, by the worker whose it is: worker w of W has the
+/// cores whose number is w modulo W.
+fn have_passed(rt: &impl Abort, gate: &CountingGate, workers: u16, times: u64)
     requires { 0 < workers }
 {
     for worker in 0..workers {
         for core in 0..5u16 {
-            let wanted = if core % workers == worker { 100 } else { 0 };
+            let wanted = if core % workers == worker { times } else { 0 };
             assert!(rt; gate.passes(worker, core) == wanted);
         }
     }
 }
 
-/// Each of five cores makes a hundred accesses, by so many workers.
+/// Each of five cores makes so many accesses, by so many workers.
 fn count_passes<R: Abort + Threads + Wait + Sync>(
     rt: &R,
     alloc: Global,
+    machine: &Machine,
     workers: u16,
+    times: u64,
 ) -> Result<(), Fail>
-    requires { (0 < workers) × (workers ≤ 5) }
+    requires machine { IsMachine machine.now }
+    requires workers { (0 < workers) × (workers ≤ 5) }
 {
-    let machine = machine(alloc, 5, 1)?;
     let gate = CountingGate::new(alloc, workers, 5)?;
-    let _bounded = first_interval(rt, alloc, &machine, &RACE, workers, &gate)?;
-    have_passed(rt, &gate, workers);
+    let _bounded = first_interval(rt, alloc, machine, &RACE, workers, &gate)?;
+    have_passed(rt, &gate, workers, times);
     Ok(())
 }
 
 #[test]
 fn the_worker_of_a_core_passes_once_for_each_access(rt: HostRuntime) -> Result<(), Fail> {
-    count_passes(&rt, rt.alloc(), 1)?;
-    count_passes(&rt, rt.alloc(), 3)?;
-    count_passes(&rt, rt.alloc(), 5)
+    let machine = machine(rt.alloc(), 5, 1)?;
+    count_passes(&rt, rt.alloc(), &machine, 1, 100)?;
+    count_passes(&rt, rt.alloc(), &machine, 3, 100)?;
+    count_passes(&rt, rt.alloc(), &machine, 5, 100)
+}
+
+/// All instructions lie in one line, so each core fetches once.
+#[test]
+fn a_worker_passes_for_a_fetch_too(rt: HostRuntime) -> Result<(), Fail> {
+    let machine = fetching_machine(rt.alloc(), 5, 1)?;
+    count_passes(&rt, rt.alloc(), &machine, 1, 101)?;
+    count_passes(&rt, rt.alloc(), &machine, 3, 101)
 }
 
 /// Checks the cores of the first three accesses.

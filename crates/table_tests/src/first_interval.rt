@@ -1,8 +1,9 @@
 //! The bound phase of the first interval, by several workers.
 ghost use Rattle.std.specs.Prelude.{◌≡◌, ◌<◌, ◌≤◌, ℕ, All, IfOk, Some, length, slice_get};
+ghost use Rattle.machine_desc.specs.InstructionCaches.{has_l1i};
 ghost use Rattle.machine_desc.specs.Machine.{IsMachine};
 ghost use Rattle.shard.specs.StandsFor.{new_shards};
-ghost use Rattle.bound_core.specs.ShardPort.{AreShardsOf};
+ghost use Rattle.bound_core.specs.ShardPort.{AreShardsOf, l1i_in};
 ghost use Rattle.bound_core.specs.NumberedCores.{NumberedCore};
 ghost use Rattle.bound_phase.specs.Bounds.{IsBeforeInterval};
 
@@ -28,6 +29,7 @@ fn first_cores(alloc: Global, machine: &Machine, image: &Image) -> Result<Vec<Bo
     ensures count { IfOk result (λ cores. length cores.items ≡ machine.now.cores) }
     ensures numbers { IfOk result (λ cores. (number : ℕ) (c : NumberedCore) → slice_get cores.items number ≡ Some c → c.number ≡ number) }
     ensures at_start { IfOk result (λ cores. All (IsBeforeInterval machine.now machine.now.interval) cores.items) }
+    ensures fetching { IfOk result (λ cores. All (λ c. c.timed.core.fetching ≡ has_l1i machine.now) cores.items) }
 {
     let mut cores = Vec::new(alloc);
     for number in 0..machine.cores {
@@ -43,6 +45,7 @@ fn first_shards(alloc: Global, machine: &Machine, image: &Image) -> Result<Vec<S
     requires size { image.now.size ≡ machine.now.memory.size }
     ensures are { IfOk result (λ shards. AreShardsOf machine.now.cores shards.items machine.now.memory.base machine.now.memory.size) }
     ensures count { IfOk result (λ shards. length shards.items ≡ machine.now.l2.banks) }
+    ensures l1i { IfOk result (λ shards. l1i_in shards.items ≡ has_l1i machine.now) }
 {
     let shards = shards_of(alloc, machine, image)?;
     Ok(shards)

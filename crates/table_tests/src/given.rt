@@ -101,6 +101,22 @@ pub(crate) fn machine(alloc: Global, cores: u16, banks: u16) -> Result<Machine, 
     })
 }
 
+/// Such a machine whose cores fetch, through instruction caches that are as the L1s.
+pub(crate) fn fetching_machine(alloc: Global, cores: u16, banks: u16) -> Result<Machine, NoMemory>
+    requires some_cores { 1 ≤ cores }
+    requires few_cores { cores ≤ 64 }
+    requires some_banks { 1 ≤ banks }
+    requires few_banks { banks ≤ 64 }
+    requires l1 { 2 % banks ≡ 0 }
+    requires l2 { 4 % banks ≡ 0 }
+    ensures { IfOk result IsMachine }
+{
+    let mut machine = machine(alloc, cores, banks)?;
+    machine.version = 2;
+    machine.l1i = Some(machine.l1);
+    Ok(machine)
+}
+
 /// The image of eight words in the machine's memory.
 pub(crate) fn image_of(alloc: Global, machine: &Machine, words: &[u32; 8]) -> Result<Image, Fail>
     requires { IsMachine machine.now }

@@ -8,9 +8,11 @@ returns c =
       advanced_sound = c.cores_stay_sound.ensures.advanced;
       advanced_memory = c.cores_stay_sound.ensures.advanced_memory;
       advanced_pairing = c.cores_stay_sound.ensures.advanced_pairing;
+      advanced_fetching = c.cores_stay_sound.ensures.advanced_fetching;
       answered_sound = c.cores_stay_sound.ensures.answered;
       answered_memory = c.cores_stay_sound.ensures.answered_memory;
       answered_pairing = c.cores_stay_sound.ensures.answered_pairing;
+      answered_fetching = c.cores_stay_sound.ensures.answered_fetching;
       paired_right = c.accesses_are_paired_right.ensures.next;
     } in
     record {

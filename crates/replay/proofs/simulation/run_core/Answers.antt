@@ -44,6 +44,6 @@ returns g c =
     ran_to_end machine image end core port c.requires.ready c.requires.end running chosen last after
     (ap (λ (p : LoggedPortState). p.world) is) (ap (λ (p : LoggedPortState). p.entries) is) (ap (λ (p : LoggedPortState). p.room) is)
     own ran.over (subst (λ (t : TimedCore). latest_clock end after.timed ≤ latest_clock end t) timed ran.latest) (ran.number ∙ number)
-    (subst (λ (t : TimedCore). most_accesses end t ≤ end - t.clock + 256) timed ran.few)
-    ran.port_base ran.port_size
+    (subst (λ (t : TimedCore). most_accesses end t ≤ end - t.clock + 257) timed ran.few)
+    ran.port_base ran.port_size ran.port_l1i
     (subst (λ (t : TimedCore). min (room_of chosen.world) chosen.room ≤ min (room_of last.world) last.room + most_accesses end t) timed ran.port_room)

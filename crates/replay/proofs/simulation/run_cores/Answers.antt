@@ -14,7 +14,7 @@ run_core-requires-clause-ready g c κs within =
     let below : n < length c.loop-number.cores = omega (arith, c.loop-number-test.true, c.loop-number.auto.number-end, c.loop-number.auto.cores) in
     let here : slice_get c.loop-number.cores n ≡ Some core = slice_get-get_or c.loop-number.cores n c.index-cores-number.result below in
     let was : slice_get c.args.cores.now n ≡ Some core = sym (h.rest n (omega arith)) ∙ here in
-    at_start machine c.args.end core c.args.port c.loop-number.port h.base h.size (c.requires.ready n core was)
+    at_start machine c.args.end core c.args.port c.loop-number.port h.base h.size h.l1i (c.requires.ready n core was)
 
 pub run_core-requires-clause-number : goal.run_core-requires-clause-number
 run_core-requires-clause-number g c κs within =

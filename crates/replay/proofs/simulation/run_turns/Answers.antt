@@ -2,7 +2,7 @@ use Rattle.std.proofs.Common.{◌≡◌, ◌≤◌, ◌<◌, ◌^◌, ℕ, List,
 use Rattle.std.proofs.lemmas.Option.{slice_get-get_or, slice_get_within}
 use Rattle.zs_num.specs.declared.entry.Entry.{Entry}
 use Rattle.bound_core.specs.ReferenceMachine.{BoundState, bound_phase}
-use Rattle.bound_core.specs.ShardPort.{base_of, size_of}
+use Rattle.bound_core.specs.ShardPort.{base_of, l1i_of, size_of}
 use Rattle.bound_core.specs.ShardWorld.{ShardWorld, shards_serve}
 use Rattle.bound_core.specs.TimedCore.{TimedCore}
 use Rattle.bound_core.proofs.Accesses.{clock_within}
@@ -30,7 +30,7 @@ take_turns-requires-clause-begins c =
     let did = c.in_ok-reserve_all.ensures in (
       all_most machine,
       turns_begin (time_by_plain c.args.plain.now) machine c.args.program.now c.args.end cores port c.requires.machine c.requires.end
-          (ready_again (CanRunInterval machine c.args.end (base_of port.world) (size_of port.world)) c.args.cores.now cores did.timed c.requires.ready)
+          (ready_again (CanRunInterval machine c.args.end (base_of port.world) (size_of port.world) (l1i_of port.world)) c.args.cores.now cores did.timed c.requires.ready)
           did.spare (c.reserve_all.auto.cores ∙ c.requires.count) (did.numbered c.requires.numbered) c.requires.stamps c.requires.none c.requires.room,
     )
 
@@ -52,7 +52,7 @@ returns-in-Ok-clause-turned c =
     in
     let most = all_most machine in
     let first = turns_begin (time_by_plain plain) machine image end cores port c.requires.machine c.requires.end
-    (ready_again (CanRunInterval machine end (base_of port.world) (size_of port.world)) c.args.cores.now cores reserved.timed c.requires.ready)
+    (ready_again (CanRunInterval machine end (base_of port.world) (size_of port.world) (l1i_of port.world)) c.args.cores.now cores reserved.timed c.requires.ready)
     reserved.spare (c.reserve_all.auto.cores ∙ c.requires.count) (reserved.numbered c.requires.numbered) c.requires.stamps c.requires.none c.requires.room
     in
     let h : HaveTaken (time_by_plain plain) image end most (phase_of cores port) turns after last = did.taken most first in

@@ -1,5 +1,5 @@
 use Rattle.std.proofs.Common.{refl, sym, ◌∙◌, ap, subst, arith}
-use Rattle.bound_core.specs.ShardPort.{base_of, size_of}
+use Rattle.bound_core.specs.ShardPort.{base_of, l1i_of, size_of}
 use Rattle.bound_core.proofs.Accesses.{clock_within}
 use Rattle.replay.specs.Port.{LoggedPortState}
 use Rattle.replay.specs.Turns.{TakesAccess, TakesNone, time_by_plain}
@@ -10,6 +10,9 @@ turn-requires-clause-base c = ap (λ (p : LoggedPortState). base_of p.world) c.c
 
 pub turn-requires-clause-size : goal.turn-requires-clause-size
 turn-requires-clause-size c = ap (λ (p : LoggedPortState). size_of p.world) c.choose.ensures ∙ sym c.requires.way.1.size_is
+
+pub turn-requires-clause-l1i : goal.turn-requires-clause-l1i
+turn-requires-clause-l1i c = λ fetching. ap (λ (p : LoggedPortState). l1i_of p.world) c.choose.ensures ∙ c.requires.way.1.fetches fetching
 
 pub turn-requires-clause-spare : goal.turn-requires-clause-spare
 turn-requires-clause-spare c = omega (arith, c.requires.way.1.spare)
@@ -33,9 +36,11 @@ returns-in-Took-clause-took c = λ is.
       not_later = did.latest;
       number = did.number;
       memory = did.memory;
+      fetching = did.fetching;
       spare = did.spare;
       base = did.port_base;
       size = did.port_size;
+      l1i = did.port_l1i;
       room = did.port_room;
       logged = cc;
     }
@@ -54,6 +59,7 @@ returns-in-Ended-clause-none c = λ is.
       not_later = did.latest;
       number = did.number;
       memory = did.memory;
+      fetching = did.fetching;
       spare = did.same_spare refl;
     }
     in

@@ -2,6 +2,7 @@ use Rattle.std.proofs.Common.{◌≡◌, ℕ, List, ◌∷◌, [], length, All, 
 use Rattle.std.specs.Prelude.{Some, slice_get}
 use Rattle.std.proofs.lemmas.List.{length-append}
 use Rattle.std.proofs.lemmas.List.Elements.{All-push}
+use Rattle.machine_desc.specs.InstructionCaches.{has_l1i}
 use Rattle.bound_core.specs.NumberedCores.{NumberedCore}
 use Rattle.bound_phase.specs.Bounds.{IsBeforeInterval}
 use Rattle.table_tests.proofs.FirstCores.{each_pushed, starts_first}
@@ -21,4 +22,5 @@ loop-number-preserved c =
           (each_pushed (λ i x. x.number ≡ i) was one before.numbers (made.number ∙ sym before.count));
       at_start = subst (All (IsBeforeInterval machine machine.interval)) (sym items)
           (All-push (IsBeforeInterval machine machine.interval) was one before.at_start (starts_first machine c.args.image.now c.loop-number.number one made.timed made.base made.size));
+      fetching = subst (All (λ (x : NumberedCore). x.timed.core.fetching ≡ has_l1i machine)) (sym items) (All-push (λ (x : NumberedCore). x.timed.core.fetching ≡ has_l1i machine) was one before.fetching made.fetching);
     }

@@ -18,10 +18,12 @@ invariant-loop-entry g l =
       latest : latest_clock l.end l.self.timed ≤ latest_clock l.end first.timed;
       number : l.self.number ≡ first.number;
       memory : l.self.timed.core.memory ≡ first.timed.core.memory;
+      fetching : l.self.timed.core.fetching ≡ first.timed.core.fetching;
       spare_left : first.spare + most_accesses l.end l.self.timed ≤ l.self.spare + most_accesses l.end first.timed;
       port_core : g.Q.Port.core l.port ≡ g.Q.Port.core l.initial.port;
       port_base : g.Q.Port.base l.port ≡ g.Q.Port.base l.initial.port;
       port_size : g.Q.Port.size l.port ≡ g.Q.Port.size l.initial.port;
+      port_l1i : g.Q.Port.l1i l.port ≡ g.Q.Port.l1i l.initial.port;
       room_left : g.Q.Port.room l.initial.port + most_accesses l.end l.self.timed ≤ g.Q.Port.room l.port + most_accesses l.end first.timed;
     }
 

@@ -1,9 +1,10 @@
-use Rattle.std.proofs.Common.{rules, ◌≡◌, ◌≤◌, ◌+◌, ℕ, length, sym, ap, ◌∙◌, subst, arith, false}
+use Rattle.std.proofs.Common.{rules, ◌≡◌, ◌≤◌, ◌+◌, ℕ, length, sym, ap, ◌∙◌, subst, arith}
 use Rattle.std.specs.Prelude.{slice_index, slice_set}
 use Rattle.zs_num.specs.Servable.{IsServable}
 use Rattle.zs_num.specs.declared.entry.Entry.{Entry}
-use Rattle.bound_core.specs.ShardPort.{IsShardAt, IsShardPort, ShardPortState, base_of, greatest_stamp, room_of, size_of}
+use Rattle.bound_core.specs.ShardPort.{IsShardAt, IsShardPort, ShardPortState, base_of, greatest_stamp, l1i_of, room_of, size_of}
 use Rattle.bound_core.specs.ShardWorld.{ShardWorld, shard_for, shards_serve}
+use Rattle.shard.specs.HaveL1i.{have_l1i}
 use Rattle.shard.specs.Served.{CanServe, IsServedBy, ShardState, shard_after}
 use Rattle.bound_core.proofs.ShardPorts.{at_most_greatest, can_serve, greatest_after, last_at_most, port_set, served_is, shard_is, shard_there, stamp_is}
 use Rattle.bound_core.proofs.shard_port.ShardPortPort.access.Goals as goal
@@ -16,7 +17,9 @@ serve-entry-requires-clause-can c =
     let is : c.index_mut.result.now ≡ shard_for w.shards c.args.request =
     shard_is w c.self.inside.core c.args.start c.args.request c.index_mut.result.now _ port.shards.some (search rules) c.index_mut.ensures.value
     in
-    let servable : IsServable (base_of w) (size_of w) false c.args.request = subst (λ (p : ShardPortState). IsServable (base_of p.world) (size_of p.world) false c.args.request) (sym c.self.view_is) c.requires.servable in
+    let servable : IsServable (base_of w) (size_of w) (l1i_of w) c.args.request =
+    subst (λ (p : ShardPortState). IsServable (base_of p.world) (size_of p.world) (l1i_of p.world) c.args.request) (sym c.self.view_is) c.requires.servable
+    in
     subst (λ (s : ShardState). CanServe s c.args.request) (sym is) (can_serve w c.self.inside.core c.args.start c.args.request port servable)
 
 pub serve-entry-requires-clause-own_stamp : goal.serve-entry-requires-clause-own_stamp
@@ -53,7 +56,9 @@ invariant_of-self c =
       base_is = kept.base ∙ (ap (λ (s : ShardState). s.base) is ∙ at.base_is);
       size_is = kept.size ∙ (ap (λ (s : ShardState). s.size) is ∙ at.size_is);
     } in
-    port_set (record { world = w; core = c.self.inside.core }) _ c.serve-entry.new.self c.from-core.result c.serve-entry.result.stamp port left
+    let alike = port.shards.alike (bank_of (length w.shards) c.args.request) (shard_for w.shards c.args.request) (shard_there w c.self.inside.core c.args.start c.args.request port.shards.some) in
+    let l1i : have_l1i c.serve-entry.new.self.caches ≡ l1i_of w = kept.l1i ∙ (ap (λ (s : ShardState). have_l1i s.caches) is ∙ alike) in
+    port_set (record { world = w; core = c.self.inside.core }) _ c.serve-entry.new.self c.from-core.result c.serve-entry.result.stamp port left l1i
 
 pub returns-clause-gives : goal.returns-clause-gives
 returns-clause-gives c =

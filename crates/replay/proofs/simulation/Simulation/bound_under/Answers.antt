@@ -4,7 +4,7 @@ use Rattle.std.specs.Vec.{with_items}
 use Rattle.std.proofs.lemmas.List.{with_items_is}
 use Rattle.bound_core.specs.History.{begun_over_shards}
 use Rattle.bound_core.specs.ReferenceMachine.{bound_phase}
-use Rattle.bound_core.specs.ShardPort.{base_of, room_of, size_of}
+use Rattle.bound_core.specs.ShardPort.{base_of, l1i_of, room_of, size_of}
 use Rattle.bound_core.specs.ShardWorld.{ShardWorld, begun_world, restarted, shards_serve}
 use Rattle.bound_core.specs.NumberedCores.{NumberedCore, timed_of}
 use Rattle.replay.specs.declared.simulation.Simulation.{Simulation}
@@ -22,7 +22,7 @@ run_turns-requires-clause-ready c = λ i core here.
     c.in_ok-begin.ensures.world ∙ ap (λ (n : ℕ). begun_world n (map restarted p.port.world.shards)) c.requires.room.stamps
     in
     let there : slice_get p.cores.items i ≡ Some core = ap (λ (cores : List NumberedCore). slice_get cores i) (sym c.deref_mut.ensures.value) ∙ here in
-    subst (λ (w : ShardWorld). CanRunInterval machine c.args.end (base_of w) (size_of w) core.timed) (sym begun) (c.requires.room.ready i core there)
+    subst (λ (w : ShardWorld). CanRunInterval machine c.args.end (base_of w) (size_of w) (l1i_of w) core.timed) (sym begun) (c.requires.room.ready i core there)
 
 pub run_turns-requires-clause-room : goal.run_turns-requires-clause-room
 run_turns-requires-clause-room c =

@@ -25,7 +25,7 @@ returns c =
     let new : List ShardState = new_shards machine image in
     let shards : map restarted (map restarted new) ≡ new = ap (map restarted) (new_again machine image) ∙ new_again machine image in
     let stand : StandForMachine (map (first_core machine image) (range_with_len 0 machine.cores)) (begun_world machine.cores new) (first_world machine image) =
-    c.intervals_begin.ensures.first machine image c.requires.machine c.requires.base c.requires.size
+    c.intervals_begin.ensures.first machine image c.requires.machine c.base-sound.ensures.sound c.requires.base c.requires.size
     in
     let at : map restarted (c.in_ok-new.field-0).world.shards ≡ new = ap (λ (w : ShardWorld). map restarted w.shards) world ∙ shards in (
       comps,

@@ -1,16 +1,18 @@
 -- what is left to run leads to the same end
-use Rattle.std.proofs.Common.{◌≡◌, ◌≤◌, ◌+◌, ◌-◌, ◌*◌}
+use Rattle.std.proofs.Common.{◌≡◌, ◌≤◌, ◌+◌, ◌-◌, ◌*◌, false}
 use Rattle.rv_core.specs.Step.{is_free}
 use Rattle.bound_core.specs.TimedCore.{ran_to}
 use Rattle.bound_core.specs.Ahead.{ahead}
 use Rattle.bound_core.proofs.Instructions.{going}
-use Rattle.bound_core.proofs.bounded.BoundCore.run_local.Given as goal
+use Rattle.bound_core.proofs.bounded.BoundCore.run_executing.Given as goal
 
 abbrev pub invariant-loop-goes_on : goal.invariant-loop-goes_on
 invariant-loop-goes_on g l =
     let image = g.P.Program.image l.program in
     record {
       free : l.goes_on ≡ is_free l.self.timed.core;
+      fetching : l.self.timed.core.fetching ≡ false;
+      unfetched : l.self.timed.core.is_fetched ≡ false;
       same_end : ran_to image l.end (ahead l.counted l.self.timed) ≡ ran_to image l.end l.initial.self.timed;
       few : l.counted ≤ l.most;
       most : l.most ≡ l.end - l.initial.self.timed.clock;
