@@ -143,6 +143,7 @@ class Core:
         self.pc = image.entry
         self.clock = self.instructions = self.delay = 0
         self.halt = self.instruction = self.request = None
+        self.fetches, self.line = "l1i" in machine, None
         self.console = bytearray()
 
     def count(self):
@@ -165,6 +166,9 @@ class Core:
         w = self.image.word(self.pc)
         if w is None:
             raise Halt(f"fetch {self.pc:016x}")
+        if self.fetches and self.line != self.pc // 64:
+            yield "fetch", self.pc, 4, 0
+            self.line = self.pc // 64
         opcode, rd, funct3, funct7 = w & 0x7F, w >> 7 & 31, w >> 12 & 7, w >> 25
         a, b = self.x[w >> 15 & 31], self.x[w >> 20 & 31]
         immediate = signed(w >> 20, 12)
@@ -273,6 +277,7 @@ class Core:
         return self.request
 
     def go_on(self, reply):
+        """Goes on with the instruction in progress, also behind the end: one that was fetched is executed."""
         try:
             self.request = self.instruction.send(reply)
         except StopIteration:
@@ -290,10 +295,12 @@ class Machine:
     def __init__(self, machine, file):
         self.machine = machine
         self.l1, self.l2, self.controllers = machine["l1"], machine["l2"], machine["controllers"]
+        self.l1i = machine.get("l1i")
         self.image = Image(file, machine["memory"]["base"], machine["memory"]["size"])
         self.cores = [Core(number, machine, self.image) for number in range(machine["cores"])]
         self.reservations = [None] * len(self.cores)
         self.own = [{} for _ in self.cores]  # of each core: the lines of each set, [line, letter], most recent first
+        self.instructions = [{} for _ in self.cores]  # of each core: the lines of each set of its instruction cache
         self.shared = {}  # the lines of each set, [line, dirty]
         components = self.l2["banks"] + self.controllers["count"]
         self.free, self.served, self.waited = [0] * components, [0] * components, [0] * components
@@ -307,6 +314,8 @@ class Machine:
         kind, address, width, value = request
         place, line = address - self.image.base, address // 64
         old = int.from_bytes(self.image.memory[place : place + width], "little")
+        if kind == "fetch":
+            return 0
         if kind == "load":
             return old
         if kind == LR:
@@ -344,7 +353,31 @@ class Machine:
             if copy:
                 dirty = dirty or copy[1] == "M"
                 self.own_set(core, line).remove(copy)
+            if self.l1i and line in self.instruction_set(core, line):
+                self.instruction_set(core, line).remove(line)
         return dirty
+
+    def instruction_set(self, core, line):
+        return self.instructions[core].setdefault(line % self.l1i["sets"], [])
+
+    def fetch(self, core, line):
+        """Returns the outcome of a fetch, and whether a dirty line leaves."""
+        own, entry = self.instruction_set(core, line), self.shared_entry(line)
+        lines = self.shared[line % self.l2["sets"]]
+        if line in own:
+            outcome = "hits", False
+            own.remove(line)
+        elif entry:
+            outcome = "l2hits", False
+            lines.remove(entry)
+            lines.insert(0, entry)
+        else:
+            outcome = "misses", len(lines) == self.l2["ways"] and self.evict(lines)
+            lines.insert(0, [line, False])
+        if len(own) == self.l1i["ways"]:
+            own.pop()
+        own.insert(0, line)
+        return outcome
 
     def meet(self, core, line, writes):
         """Returns the outcome of an access, and whether others have to change, or a dirty line leaves."""
@@ -386,8 +419,12 @@ class Machine:
     def memory_time(self, dirty_victim):
         return max(self.controllers["read"], self.controllers["write"] if dirty_victim else 0)
 
-    def time(self, outcome, flag):
-        time = self.l1["latency"]
+    def head(self, kind):
+        """Returns the time that an access takes first, in a cache of the core's own."""
+        return (self.l1i if kind == "fetch" else self.l1)["latency"]
+
+    def time(self, kind, outcome, flag):
+        time = self.head(kind)
         if outcome == "hits":
             return time
         time += self.l2["latency"]
@@ -402,14 +439,17 @@ class Machine:
         request, start = core.request, core.clock
         kind, line = request[0], request[1] // 64
         bank = line % self.l2["banks"]
-        outcome, flag = self.meet(core.number, line, kind not in ("load", LR))
+        if kind == "fetch":
+            outcome, flag = self.fetch(core.number, line)
+        else:
+            outcome, flag = self.meet(core.number, line, kind not in ("load", LR))
         stamp = max(stamps["bank", bank], stamps["core", core.number]) + 1
         stamps["bank", bank] = stamps["core", core.number] = stamp
-        entries.append((stamp, core.number, start, bank, outcome, flag))
+        entries.append((stamp, core.number, start, bank, self.head(kind), outcome, flag))
         counts = self.counts[core.number]
-        counts[{"load": "loads", "store": "stores"}.get(kind, "atomics")] += 1
+        counts[{"load": "loads", "store": "stores", "fetch": "fetches"}.get(kind, "atomics")] += 1
         counts[outcome] += 1
-        core.clock += self.time(outcome, flag)
+        core.clock += self.time(kind, outcome, flag)
         core.go_on(self.reply(core.number, request))
 
     def bound(self, end, turns):
@@ -438,10 +478,10 @@ class Machine:
             events.append((core, component, latency, start, parents))
             return len(events) - 1
 
-        for _, core, start, bank, outcome, flag in entries:
+        for _, core, start, bank, head, outcome, flag in entries:
             if outcome == "hits":
                 continue
-            start += self.l1["latency"]
+            start += head
             remote = self.l2["remote"] if flag and outcome != "misses" else 0
             first = add(core, bank, self.l2["latency"] + remote, start, [last[core]] if core in last else [])
             last[core] = first
@@ -512,7 +552,7 @@ class Machine:
         return self.is_over()
 
 
-COUNTS = ["loads", "stores", "atomics", "hits", "upgrades", "l2hits", "misses"]
+COUNTS = ["loads", "stores", "atomics", "fetches", "hits", "upgrades", "l2hits", "misses"]
 
 
 def report(run, brief):
@@ -526,10 +566,12 @@ def report(run, brief):
         "accesses": run.accesses,
         "events": run.events,
     }
-    lines = ["zsim report 1", *(f"{label} {number}" for label, number in summary.items())]
+    version = run.machine["version"]
+    lines = [f"zsim report {version}", *(f"{label} {number}" for label, number in summary.items())]
     if not brief:
         for core in cores:
-            counts = " ".join(f"{label} {number}" for label, number in run.counts[core.number].items())
+            told = [label for label in COUNTS if label != "fetches" or version > 1]
+            counts = " ".join(f"{label} {run.counts[core.number][label]}" for label in told)
             front = f"core {core.number} instructions {core.instructions} cycles {core.clock} delay {core.delay}"
             lines.append(f"{front} {counts} halt {core.halt or 'running'}")
             lines.append(f'core {core.number} console {len(core.console)} "{escaped(core.console)}"')
@@ -821,7 +863,8 @@ def machine_of(machine, name, names):
     try:
         description = tomllib.loads(built_in() if machine == "plain" else names.read(machine).decode())
         file = generated(int(name[4:])) if name.startswith("gen:") else names.read(name)
-        if set(description) != set(tomllib.loads(built_in())) or file[:4] != b"\x7fELF":
+        keys = set(tomllib.loads(built_in())) | ({"l1i"} if description["version"] == 2 else set())
+        if set(description) != keys or file[:4] != b"\x7fELF":
             raise Untold
         return Machine(description, file)
     except (tomllib.TOMLDecodeError, UnicodeDecodeError, KeyError, TypeError, struct.error) as wrong:

@@ -48,17 +48,26 @@ abbrev pub labelled : List (List ℕ × ℕ) → List ℕ
 labelled [] = []
 labelled (field ∷ fields) = field.0 ++ (decimal field.1 ++ labelled fields)
 
+-- whether the reports of a version of the machine's description count fetches: from version 2 on
+abbrev pub counts_fetches : (version : ℕ) → Bool
+counts_fetches version = nat_le 2 version
+
+-- how many fetches, where they are counted
+abbrev pub fetches_text : (counted : Bool) → (fetches : ℕ) → List ℕ
+fetches_text counted fetches = if counted then labelled ((codes " fetches ", fetches) ∷ []) else []
+
 -- the counts of a core
-unfoldable pub count_text : CoreCount → List ℕ
-count_text c = labelled (
-    (codes " delay ", c.delay) ∷ (codes " loads ", c.loads) ∷ (codes " stores ", c.stores) ∷ (codes " atomics ", c.atomics)
-    ∷ (codes " hits ", c.hits) ∷ (codes " upgrades ", c.upgrades) ∷ (codes " l2hits ", c.l2hits) ∷ (codes " misses ", c.misses) ∷ [])
+unfoldable pub count_text : (version : ℕ) → CoreCount → List ℕ
+count_text version c =
+    labelled ((codes " delay ", c.delay) ∷ (codes " loads ", c.loads) ∷ (codes " stores ", c.stores) ∷ (codes " atomics ", c.atomics) ∷ [])
+    ++ (fetches_text (counts_fetches version) c.fetches
+    ++ labelled ((codes " hits ", c.hits) ∷ (codes " upgrades ", c.upgrades) ∷ (codes " l2hits ", c.l2hits) ∷ (codes " misses ", c.misses) ∷ []))
 
 -- the first line of a core
-unfoldable pub core_line : ℕ → TimedCore → CoreCount → List ℕ
-core_line n c count =
+unfoldable pub core_line : (version : ℕ) → ℕ → TimedCore → CoreCount → List ℕ
+core_line version n c count =
     labelled ((codes "core ", n) ∷ (codes " instructions ", c.instructions) ∷ (codes " cycles ", c.clock) ∷ [])
-    ++ (count_text count ++ (codes " halt " ++ (halt_text c.core.halted ++ codes "\n")))
+    ++ (count_text version count ++ (codes " halt " ++ (halt_text c.core.halted ++ codes "\n")))
 
 -- the second line of a core: how many bytes it wrote on its console, and the bytes
 unfoldable pub console_line : ℕ → List ℕ → List ℕ
@@ -66,8 +75,8 @@ console_line n console =
     labelled ((codes "core ", n) ∷ (codes " console ", length console) ∷ []) ++ (codes " \"" ++ (printed console ++ codes "\"\n"))
 
 -- the two lines of a core, with what was counted of it
-abbrev pub core_lines : ℕ → TimedCore × CoreCount → List ℕ
-core_lines n (c, count) = core_line n c count ++ console_line n c.console
+abbrev pub core_lines : (version : ℕ) → ℕ → TimedCore × CoreCount → List ℕ
+core_lines version n (c, count) = core_line version n c count ++ console_line n c.console
 
 -- the line of a bank or a controller
 unfoldable pub component_line : List ℕ → ℕ → CompCount → List ℕ
@@ -89,25 +98,25 @@ abbrev pub greatest_clock : List TimedCore → ℕ
 greatest_clock [] = 0
 greatest_clock (c ∷ cs) = max c.clock (greatest_clock cs)
 
--- the seven lines of the summary, but for the last newline
-unfoldable pub summary : (cores intervals instructions cycles accesses events : ℕ) → List ℕ
-summary cores intervals instructions cycles accesses events = labelled (
-    (codes "zsim report 1\ncores ", cores) ∷ (codes "\nintervals ", intervals) ∷ (codes "\ninstructions ", instructions)
+-- The seven lines of the summary, but for the last newline. The first has the version of the machine's description.
+unfoldable pub summary : (version cores intervals instructions cycles accesses events : ℕ) → List ℕ
+summary version cores intervals instructions cycles accesses events = labelled (
+    (codes "zsim report ", version) ∷ (codes "\ncores ", cores) ∷ (codes "\nintervals ", intervals) ∷ (codes "\ninstructions ", instructions)
     ∷ (codes "\ncycles ", cycles) ∷ (codes "\naccesses ", accesses) ∷ (codes "\nevents ", events) ∷ [])
 
 -- the summary of a run, from what was counted, its cores at the end, and how many intervals were run
-abbrev pub summary_of : Counts → List TimedCore → (intervals : ℕ) → List ℕ
-summary_of counts cores intervals =
-    summary (length cores) intervals (all_instructions cores) (greatest_clock cores) counts.accesses counts.events
+abbrev pub summary_of : (version : ℕ) → Counts → List TimedCore → (intervals : ℕ) → List ℕ
+summary_of version counts cores intervals =
+    summary version (length cores) intervals (all_instructions cores) (greatest_clock cores) counts.accesses counts.events
 
 -- what follows the summary: the cores, and of the components first the banks and then the controllers
 abbrev pub details : Machine → Counts → List TimedCore → List ℕ
 details machine counts cores =
-    numbered_lines core_lines 0 (zip cores counts.core_counts)
+    numbered_lines (core_lines machine.version) 0 (zip cores counts.core_counts)
     ++ numbered_lines (component_line (codes "bank")) 0 (take machine.l2.banks counts.comp_counts)
     ++ numbered_lines (component_line (codes "controller")) 0 (drop machine.l2.banks counts.comp_counts)
 
 -- the report: the summary, and then the rest, unless it is to be brief
 abbrev pub report_text : Machine → Counts → List TimedCore → (intervals : ℕ) → (brief : Bool) → List ℕ
 report_text machine counts cores intervals brief =
-    summary_of counts cores intervals ++ codes "\n" ++ (if brief then [] else details machine counts cores)
+    summary_of machine.version counts cores intervals ++ codes "\n" ++ (if brief then [] else details machine counts cores)

@@ -8,18 +8,21 @@ use stats::Counters;
 use std::alloc::AllocError;
 use zs_num::Cycle;
 
-/// Writes the summary, but for its last newline.
+/// Writes the summary, but for its last newline. Its first line has the version of the machine's
+/// description.
 pub fn write_summary(
     text: &mut String,
+    version: u32,
     counters: &Counters,
     cores: &[BoundCore],
     intervals: u32,
 ) -> Result<(), AllocError>
     ensures { OnOk result (string_bytes text.new ≡ string_bytes text.old
-        ++ summary_of counters.now (map (λ c. c.timed) cores.now) intervals) }
+        ++ summary_of version counters.now (map (λ c. c.timed) cores.now) intervals) }
 {
     write_numbers(
         text,
+        u128::from(version),
         cores.len() as u128,
         u128::from(intervals),
         all_instructions(cores),
@@ -32,6 +35,7 @@ pub fn write_summary(
 #[tactic(auto, unfolding(crate::specs::ReportText::summary))]
 fn write_numbers(
     text: &mut String,
+    version: u128,
     cores: u128,
     intervals: u128,
     instructions: u128,
@@ -40,10 +44,11 @@ fn write_numbers(
     events: u128,
 ) -> Result<(), AllocError>
     ensures { OnOk result (string_bytes text.new ≡ string_bytes text.old
-        ++ summary cores intervals instructions cycles accesses events) }
+        ++ summary version cores intervals instructions cycles accesses events) }
 {
     let fields = [
-        ("zsim report 1\ncores ", cores),
+        ("zsim report ", version),
+        ("\ncores ", cores),
         ("\nintervals ", intervals),
         ("\ninstructions ", instructions),
         ("\ncycles ", cycles),

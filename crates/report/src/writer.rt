@@ -29,7 +29,7 @@ pub fn text(
         (map (λ c. c.timed) cores.now) intervals brief) }
 {
     let mut text = String::new(alloc);
-    write_summary(&mut text, counters, cores, intervals)?;
+    write_summary(&mut text, machine.version, counters, cores, intervals)?;
     text.push_str("\n")?;
     if !brief {
         write_details(&mut text, machine, counters, cores)?;
@@ -52,7 +52,7 @@ fn write_details(
 {
     let counts = counters.comp_counts();
     let (banks, controllers) = counts.split_at(usize::from(machine.l2.banks));
-    write_cores(text, machine.cores, cores, counters)?;
+    write_cores(text, machine.version, machine.cores, cores, counters)?;
     write_components(text, "bank", banks)?;
     write_components(text, "controller", controllers)
 }

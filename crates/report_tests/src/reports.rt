@@ -1,6 +1,6 @@
 //! Reports of small programs on one core, with texts made by hand. The words are from the tables of
 //! the RISC-V Unprivileged ISA manual.
-ghost use Rattle.std.specs.Prelude.{◌≡◌, ◌+◌, ◌≤◌, ◌^◌, ⊤, None, length};
+ghost use Rattle.std.specs.Prelude.{◌≡◌, ◌+◌, ◌≤◌, ◌^◌, ⊤, None, length, true};
 ghost use Rattle.machine_desc.specs.Machine.{IsMachine};
 
 use crate::machines::{machine, no_counters};
@@ -59,6 +59,8 @@ impl Port for WrittenBytes {
     ghost base = { λ p. p.base };
 
     ghost size = { λ p. p.size };
+
+    ghost l1i = { λ p. true };
 
     ghost room = { λ p. 2 ^ 20 };
 

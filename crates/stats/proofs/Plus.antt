@@ -7,22 +7,23 @@ use Rattle.stats.specs.CountsFit.{CoreFits, CompFits}
 use Rattle.stats.specs.Counted.{core_plus, no_core_count, comp_plus, no_comp_count}
 
 -- counts of the same numbers are the same
-abbrev core_of : (delay loads stores atomics hits upgrades l2hits misses : ℕ) → CoreCount
-core_of delay loads stores atomics hits upgrades l2hits misses = record {
+abbrev core_of : (delay loads stores atomics fetches hits upgrades l2hits misses : ℕ) → CoreCount
+core_of delay loads stores atomics fetches hits upgrades l2hits misses = record {
   delay = delay;
   loads = loads;
   stores = stores;
   atomics = atomics;
+  fetches = fetches;
   hits = hits;
   upgrades = upgrades;
   l2hits = l2hits;
   misses = misses;
 }
 
-pub same_core : (a b : CoreCount) → a.delay ≡ b.delay → a.loads ≡ b.loads → a.stores ≡ b.stores → a.atomics ≡ b.atomics
+pub same_core : (a b : CoreCount) → a.delay ≡ b.delay → a.loads ≡ b.loads → a.stores ≡ b.stores → a.atomics ≡ b.atomics → a.fetches ≡ b.fetches
     → a.hits ≡ b.hits → a.upgrades ≡ b.upgrades → a.l2hits ≡ b.l2hits → a.misses ≡ b.misses → a ≡ b
-same_core a b delay loads stores atomics hits upgrades l2hits misses =
-    let same : core_of a.delay a.loads a.stores a.atomics a.hits a.upgrades a.l2hits a.misses ≡ core_of b.delay b.loads b.stores b.atomics b.hits b.upgrades b.l2hits b.misses = cc in
+same_core a b delay loads stores atomics fetches hits upgrades l2hits misses =
+    let same : core_of a.delay a.loads a.stores a.atomics a.fetches a.hits a.upgrades a.l2hits a.misses ≡ core_of b.delay b.loads b.stores b.atomics b.fetches b.hits b.upgrades b.l2hits b.misses = cc in
     same
 
 abbrev comp_of : (events waited free : ℕ) → CompCount
@@ -34,12 +35,12 @@ same_comp a b events waited free = let same : comp_of a.events a.waited a.free �
 pub core_plus-assoc : (a b c : CoreCount) → core_plus a (core_plus b c) ≡ core_plus (core_plus a b) c
 unfolding core_plus
 core_plus-assoc a b c =
-    same_core _ _ (omega arith) (omega arith) (omega arith) (omega arith) (omega arith) (omega arith) (omega arith) (omega arith)
+    same_core _ _ (omega arith) (omega arith) (omega arith) (omega arith) (omega arith) (omega arith) (omega arith) (omega arith) (omega arith)
 
 pub core_plus-none : (a b : CoreCount) → core_plus a (core_plus no_core_count b) ≡ core_plus a b
 unfolding core_plus
 core_plus-none a b =
-    same_core _ _ (omega arith) (omega arith) (omega arith) (omega arith) (omega arith) (omega arith) (omega arith) (omega arith)
+    same_core _ _ (omega arith) (omega arith) (omega arith) (omega arith) (omega arith) (omega arith) (omega arith) (omega arith) (omega arith)
 
 pub comp_plus-assoc : (a b c : CompCount) → comp_plus a (comp_plus b c) ≡ comp_plus (comp_plus a b) c
 comp_plus-assoc a b c = same_comp _ _ (omega arith) (omega arith) refl
@@ -61,6 +62,7 @@ core_fewer c more fits =
     let loads = fits.loads in
     let stores = fits.stores in
     let atomics = fits.atomics in
+    let fetches = fits.fetches in
     let hits = fits.hits in
     let upgrades = fits.upgrades in
     let l2hits = fits.l2hits in
@@ -70,6 +72,7 @@ core_fewer c more fits =
       loads = omega arith;
       stores = omega arith;
       atomics = omega arith;
+      fetches = omega arith;
       hits = omega arith;
       upgrades = omega arith;
       l2hits = omega arith;

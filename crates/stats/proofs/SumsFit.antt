@@ -28,6 +28,7 @@ record IsCoreWithin (most longest : ℕ) (c : CoreCount) : Type 0 where
   pub loads : c.loads ≤ most
   pub stores : c.stores ≤ most
   pub atomics : c.atomics ≤ most
+  pub fetches : c.fetches ≤ most
   pub hits : c.hits ≤ most
   pub upgrades : c.upgrades ≤ most
   pub l2hits : c.l2hits ≤ most
@@ -42,6 +43,7 @@ core_together a b n d e m c more first second few short =
       loads = omega (arith, first.loads, second.loads);
       stores = omega (arith, first.stores, second.stores);
       atomics = omega (arith, first.atomics, second.atomics);
+      fetches = omega (arith, first.fetches, second.fetches);
       hits = omega (arith, first.hits, second.hits);
       upgrades = omega (arith, first.upgrades, second.upgrades);
       l2hits = omega (arith, first.l2hits, second.l2hits);
@@ -54,6 +56,7 @@ no_core_within = record {
   loads = omega arith;
   stores = omega arith;
   atomics = omega arith;
+  fetches = omega arith;
   hits = omega arith;
   upgrades = omega arith;
   l2hits = omega arith;
@@ -71,6 +74,7 @@ entry_within e = record {
   loads = one_at_most _;
   stores = one_at_most _;
   atomics = one_at_most _;
+  fetches = one_at_most _;
   hits = one_at_most _;
   upgrades = one_at_most _;
   l2hits = one_at_most _;
@@ -84,6 +88,7 @@ delay_within cycles short = record {
   loads = omega arith;
   stores = omega arith;
   atomics = omega arith;
+  fetches = omega arith;
   hits = omega arith;
   upgrades = omega arith;
   l2hits = omega arith;
@@ -96,6 +101,7 @@ core_weaker a b d e c within few short = record {
   loads = omega (arith, within.loads);
   stores = omega (arith, within.stores);
   atomics = omega (arith, within.atomics);
+  fetches = omega (arith, within.fetches);
   hits = omega (arith, within.hits);
   upgrades = omega (arith, within.upgrades);
   l2hits = omega (arith, within.l2hits);
@@ -197,6 +203,7 @@ module _ (intervals : List Interval) (accesses : sum_by (λ i. length i.entries)
         loads = omega (arith, within.loads);
         stores = omega (arith, within.stores);
         atomics = omega (arith, within.atomics);
+        fetches = omega (arith, within.fetches);
         hits = omega (arith, within.hits);
         upgrades = omega (arith, within.upgrades);
         l2hits = omega (arith, within.l2hits);

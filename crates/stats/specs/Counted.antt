@@ -3,6 +3,7 @@ use Rattle.std.specs.Prelude.{◌+◌, ◌-◌, ℕ, Bool, true, false, if◌the
 use Rattle.zs_num.specs.declared.entry.Entry.{Entry}
 use Rattle.zs_num.specs.declared.entry.Outcome.{Outcome}
 use Rattle.zs_num.specs.declared.entry.Outcome.TheVariants.{Hit, Upgrade, L2, Miss}
+use Rattle.zs_num.specs.Request.{is_fetch}
 use Rattle.zs_num.specs.declared.request.Request.{Request}
 use Rattle.zs_num.specs.declared.request.Request.TheVariants.{Load, Store, Lr, Sc, Amo, Fetch}
 use Rattle.event_graph.specs.declared.event.Event.{Event}
@@ -71,6 +72,7 @@ no_core_count = record {
   loads = 0;
   stores = 0;
   atomics = 0;
+  fetches = 0;
   hits = 0;
   upgrades = 0;
   l2hits = 0;
@@ -84,6 +86,7 @@ entry_count e = record {
   loads = one_if (is_load e.request);
   stores = one_if (is_store e.request);
   atomics = one_if (is_atomic e.request);
+  fetches = one_if (is_fetch e.request);
   hits = one_if (is_hit e.outcome);
   upgrades = one_if (is_upgrade e.outcome);
   l2hits = one_if (is_l2hit e.outcome);
@@ -101,6 +104,7 @@ core_plus c more = record {
   loads = c.loads + more.loads;
   stores = c.stores + more.stores;
   atomics = c.atomics + more.atomics;
+  fetches = c.fetches + more.fetches;
   hits = c.hits + more.hits;
   upgrades = c.upgrades + more.upgrades;
   l2hits = c.l2hits + more.l2hits;

@@ -10,6 +10,7 @@ pub record CoreFits (c : CoreCount) : Type 0 where
   pub loads : c.loads < 2 ^ 64
   pub stores : c.stores < 2 ^ 64
   pub atomics : c.atomics < 2 ^ 64
+  pub fetches : c.fetches < 2 ^ 64
   pub hits : c.hits < 2 ^ 64
   pub upgrades : c.upgrades < 2 ^ 64
   pub l2hits : c.l2hits < 2 ^ 64

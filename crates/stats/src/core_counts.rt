@@ -17,8 +17,7 @@ fn count_access(count: &mut CoreCount, entry: &Entry)
         Request::Load { .. } => count.loads += 1,
         Request::Store { .. } => count.stores += 1,
         Request::Lr { .. } | Request::Sc { .. } | Request::Amo { .. } => count.atomics += 1,
-        // No core fetches yet.
-        Request::Fetch { .. } => {}
+        Request::Fetch { .. } => count.fetches += 1,
     }
     match entry.outcome {
         Outcome::Hit => count.hits += 1,

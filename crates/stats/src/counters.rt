@@ -129,6 +129,7 @@ const NO_CORE_COUNT: CoreCount = CoreCount {
     loads: 0,
     stores: 0,
     atomics: 0,
+    fetches: 0,
     hits: 0,
     upgrades: 0,
     l2hits: 0,

@@ -12,7 +12,10 @@ pub struct CoreCount {
     pub stores: u64,
     /// How many load-reserved, store-conditional and read-modify-write accesses.
     pub atomics: u64,
-    /// How many of all these hit the core's own cache, with write permission where it was needed.
+    /// How many fetches of instructions.
+    pub fetches: u64,
+    /// How many of all these hit the core's own cache, with write permission where it was needed; of
+    /// fetches, its instruction cache.
     pub hits: u64,
     /// How many hit it without the write permission that they needed.
     pub upgrades: u64,

@@ -1,10 +1,9 @@
 -- How a call ended: an input was not taken, memory ran out in the run, a schedule was not legal, or the run came to its
 -- end.
-use Rattle.std.proofs.Common.{◌≡◌, ◌⊎◌, ℕ, ◌==◌, pos, codes, Bool, true, false, List, [], Option, Some, None, Ok, Err, Result, option_map, refl, sym, inl, inr, ap, subst}
+use Rattle.std.proofs.Common.{◌≡◌, ◌⊎◌, ℕ, Bool, true, false, List, [], Option, Some, None, Ok, Err, Result, option_map, refl, sym, inl, inr, ap, subst}
 use Rattle.std.specs.Prelude.{IsOk, IsSomeAnd, MatchOption, is_ok, if◌then◌else◌, length, nat_lt}
 use Rattle.access_log.specs.Schedule.{ScheduleState}
 use Rattle.machine_desc.specs.declared.errors.BadMachine.{BadMachine}
-use Rattle.machine_desc.specs.declared.errors.BadMachine.TheVariants.{Range}
 use Rattle.machine_desc.specs.declared.machine.Machine.{Machine}
 use Rattle.machine_desc.specs.Machine.{IsMachine}
 use Rattle.machine_desc.specs.Description.{machine_of}
@@ -32,19 +31,10 @@ use Rattle.zsim.proofs.ScheduleCores.{schedule_cores}
 
 -- ---- which refusals there are
 
--- of a machine whose version is refused
-refused_version : (P : Status → Type 0) → ((bad : BadMachine) → P (status.BadMachine bad))
-    → (machine : Machine) (is_taken : Bool) (s : Status) → (if is_taken then Ok machine else Err (status.BadMachine (Range (codes "version") (pos machine.version)))) ≡ Err s → P s
-refused_version P is_bad machine true s is = absurd cc
-refused_version P is_bad machine false s is =
-    let bad : BadMachine = Range (codes "version") (pos machine.version) in
-    let same : status.BadMachine bad ≡ s = cc in
-    subst P same (is_bad bad)
-
 refused_machine : (P : Status → Type 0) → P (status.TooLong which.Machine) → ((bad : BadMachine) → P (status.BadMachine bad))
     → (long : Bool) (found : Result Machine BadMachine) (s : Status) → (if long then Err (status.TooLong which.Machine) else with_machine found) ≡ Err s → P s
 refused_machine P is_long is_bad true found s is = let same : status.TooLong which.Machine ≡ s = cc in subst P same is_long
-refused_machine P is_long is_bad false (Ok machine) s is = refused_version P is_bad machine (machine.version == 1) s is
+refused_machine P is_long is_bad false (Ok machine) s is = absurd cc
 refused_machine P is_long is_bad false (Err bad) s is = let same : status.BadMachine bad ≡ s = cc in subst P same (is_bad bad)
 
 machine_refuses : (P : Status → Type 0) → P (status.TooLong which.Machine) → ((bad : BadMachine) → P (status.BadMachine bad))

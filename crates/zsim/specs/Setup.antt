@@ -1,9 +1,8 @@
 -- What a call is to run. The steps that decide it are the machine, the executable and, of a replay, the schedule: each
 -- is read, tested for its length and checked, and the first that refuses decides.
-use Rattle.std.specs.Prelude.{ℕ, ◌==◌, pos, codes, nat_lt, if◌then◌else◌, List, length, Option, Some, None, Result, Ok, Err}
+use Rattle.std.specs.Prelude.{ℕ, nat_lt, if◌then◌else◌, List, length, Option, Some, None, Result, Ok, Err}
 use Rattle.access_log.specs.Schedule.{ScheduleState}
 use Rattle.machine_desc.specs.declared.errors.BadMachine.{BadMachine}
-use Rattle.machine_desc.specs.declared.errors.BadMachine.TheVariants.{Range}
 use Rattle.machine_desc.specs.declared.machine.Machine.{Machine}
 use Rattle.machine_desc.specs.Description.{machine_of}
 use Rattle.elf_load.specs.MemoryImage.{MemoryImage}
@@ -25,14 +24,9 @@ pub record Setup : Type 0 where
   pub image : MemoryImage
   pub given : Option ScheduleState
 
--- The cores of version 2 fetch, which none does yet: its number is refused as one out of range.
-abbrev pub version_checked : Machine → Result Machine Status
-version_checked machine =
-    if machine.version == 1 then Ok machine else Err (status.BadMachine (Range (codes "version") (pos machine.version)))
-
 -- the answer of the checks of a machine description
 abbrev pub with_machine : Result Machine BadMachine → Result Machine Status
-with_machine (Ok machine) = version_checked machine
+with_machine (Ok machine) = Ok machine
 with_machine (Err bad) = Err (status.BadMachine bad)
 
 -- The machine of a description, or the refusal of the first check that fails. The first check is of the length.

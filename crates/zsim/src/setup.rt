@@ -4,7 +4,7 @@ ghost use Rattle.machine_desc.specs.Machine.{IsMachine};
 ghost use Rattle.zsim.specs.CommandLine.{exe_file, replay};
 ghost use Rattle.zsim.specs.Ended.{IsExeOf, IsMachineText, IsScheduleFile};
 ghost use Rattle.zsim.specs.Seen.{files_seen, SameNames};
-ghost use Rattle.zsim.specs.Setup.{image_by, machine_by, schedule_by, version_checked};
+ghost use Rattle.zsim.specs.Setup.{image_by, machine_by, schedule_by};
 ghost use Rattle.zsim.specs.Steps.{Checks, Reads, Takes, status_of_read};
 ghost use Rattle.zsim.specs.CommandValue.{exe_value};
 
@@ -14,9 +14,9 @@ use crate::{ScheduleFault, Status, Which};
 use access_log::Schedule;
 use elf_load::{Image, LoadFail, load};
 use gen_prog::generate;
-use machine_desc::{BadMachine, KeyName, Machine, MachineFail, PLAIN};
+use machine_desc::{Machine, MachineFail, PLAIN};
 use schedule_file::ScheduleReadFail;
-use std::alloc::{AllocError, Global};
+use std::alloc::Global;
 use zs_host::{FileFail, Files};
 use zs_num::Bytes;
 
@@ -134,31 +134,9 @@ fn check_machine(alloc: Global, text: &[u8]) -> Result<Machine, Status>
         return Err(Status::TooLong(Which::Machine));
     }
     match machine_desc::read(alloc, text) {
-        Ok(machine) => check_version(alloc, machine),
+        Ok(machine) => Ok(machine),
         Err(MachineFail::Bad(bad)) => Err(Status::BadMachine(bad)),
         Err(MachineFail::NoMemory) => Err(Status::NoMemory),
-    }
-}
-
-/// Refuses a machine whose cores fetch, since none does yet: its version is told as one that is out
-/// of range.
-fn check_version(alloc: Global, machine: Machine) -> Result<Machine, Status>
-    requires { IsMachine machine }
-    ensures answer { Checks result (version_checked machine) }
-    ensures valid { IfOk result IsMachine }
-{
-    if machine.version == 1 {
-        return Ok(machine);
-    }
-    match String::from_str(alloc, "version") {
-        Ok(name) => {
-            let _utf8 = name.as_str();
-            Err(Status::BadMachine(BadMachine::Range {
-                key: KeyName::of(name.into_bytes()),
-                value: i64::from(machine.version),
-            }))
-        }
-        Err(AllocError) => Err(Status::NoMemory),
     }
 }
 

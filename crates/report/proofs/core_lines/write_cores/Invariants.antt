@@ -6,5 +6,5 @@ use Rattle.report.proofs.core_lines.write_cores.Given as goal
 
 abbrev pub invariant-loop-n : goal.invariant-loop-n
 invariant-loop-n l =
-    string_bytes l.text ++ numbered_lines core_lines l.n (zip (map (λ c. c.timed) (drop l.n l.cores)) (drop l.n l.counters.core_counts))
-    ≡ string_bytes l.initial.text ++ numbered_lines core_lines 0 (zip (map (λ c. c.timed) l.cores) l.counters.core_counts)
+    string_bytes l.text ++ numbered_lines (core_lines l.version) l.n (zip (map (λ c. c.timed) (drop l.n l.cores)) (drop l.n l.counters.core_counts))
+    ≡ string_bytes l.initial.text ++ numbered_lines (core_lines l.version) 0 (zip (map (λ c. c.timed) l.cores) l.counters.core_counts)
