@@ -37,11 +37,11 @@ INLINE _Noreturn void exit(int status)
 }
 
 /* The number of this core, from 0 on. It stands in tp; where the C library has its storage there, which
-   is in memory and so not below 64, 16 bytes before that. */
+   is in memory and so not below 256, 16 bytes before that. */
 static inline long core_number(void)
 {
     register long tp __asm__("tp");
-    return tp < 64 ? tp : *(long *)(tp - 16);
+    return tp < 256 ? tp : *(long *)(tp - 16);
 }
 
 #else

@@ -48,9 +48,7 @@ def test_the_checks_refuse_what_zsim_refuses(repository):
     found = [refusal.line for refusal in refusals if refusal]
     stored = (repository / "crates/zsim_tests/stdout").read_text()
     lines = re.findall(r"(?m)^zsim: machine (?!1$).*$", stored)
-    # (the last of these cases is of version 2, which the checks take and zsim refuses)
-    lines = lines[: lines.index("zsim: machine 4 version 2")]
-    assert len(lines) > 15 and found[: len(lines)] == lines
+    assert len(found) > 15 and lines[: len(found)] == found
 
 
 @pytest.mark.parametrize(
@@ -103,12 +101,12 @@ def test_the_machines_of_the_examples_pass(repository):
         ("zsim: machine 4 memory.base 1", "an integer from 0 to 1099511627776, a multiple of 4096"),
         ("zsim: machine 4 domains.banks 3", "has 3 elements, and needs one for each of `l2.banks`, which is 16"),
         ("zsim: machine 2 l1i", "(or have `version = 1`, which has none)"),
-        ("zsim: machine 3 cores", "`cores` (cores) is of another kind than it has to be: an integer from 1 to 64"),
+        ("zsim: machine 3 cores", "`cores` (cores) is of another kind than it has to be: an integer from 1 to 256"),
         ("zsim: machine 5 l1.way", "`l1.way` is no key of a description; is it `l1.ways`?"),
         ("zsim: machine 5 colour", "`colour` is no key of a description"),
         ("zsim: machine 5 l1i", "Version 1 has no instruction caches"),
         ("zsim: machine 7 17", "Element 1 of `domains.controllers` is 1, and has to be from 0 to 7"),
-        ("zsim: machine 4 version 2", "this zsim has no cores that fetch"),
+        ("zsim: machine 4 version 3", "`version` is 3, and has to be an integer from 1 to 2"),
         ("zsim: elf 10 1", "Segment 1 of the executable is not in memory"),
         ("zsim: elf 11 0 2", "The segments 0 and 2 of the executable"),
         ("elf 6", "`-march=rv64ima -mabi=lp64`"),

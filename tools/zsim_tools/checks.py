@@ -24,7 +24,7 @@ OWN_CACHE = {"sets": Allowed(1, 4096), "ways": Allowed(1, 16), "latency": Allowe
 TABLES = {
     "": {
         "version": Allowed(1, 2),
-        "cores": Allowed(1, 64),
+        "cores": Allowed(1, 256),
         "interval": Allowed(1, 10000),
         "intervals": Allowed(1, 1048576),
     },

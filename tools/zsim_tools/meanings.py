@@ -57,7 +57,7 @@ LINES = {
     "runs at a time (`--jobs`), or a smaller `memory.size`.",
     "too long: machine": "The machine description has more than 2^20 bytes, so it is none.",
     "too long: executable": "The executable has more than 2^26 bytes. Strip it: link it with `-s`.",
-    "too long: schedule": "The schedule's file has more than 2^27 bytes, so no run wrote it.",
+    "too long: schedule": "The schedule's file has more than 2^28 bytes, so no run wrote it.",
 }
 
 # Why a core halted, by the first word.
@@ -161,9 +161,6 @@ def wrong_kind(key):
 def out_of_range(key, value, values):
     number = int(value)
     allowed = ALLOWED[key]
-    if key == "version" and number == 2:
-        told = "The description is of version 2, with instruction caches, and this zsim has no cores that fetch."
-        return f"{told} Have `version = 1`, and no table `l1i`."
     if isinstance(allowed, str):
         which = f", which is {values[allowed]}" if allowed in values else ""
         return f"`{key}` has {number} elements, and needs one for each of `{allowed}`{which}."
