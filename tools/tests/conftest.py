@@ -4,7 +4,7 @@ import os
 import signal
 import subprocess
 import sys
-from contextlib import contextmanager
+from contextlib import contextmanager, suppress
 from dataclasses import dataclass
 from pathlib import Path
 
@@ -89,6 +89,20 @@ def process_of(words, **options):
             yield process
         finally:
             process.kill()
+
+
+def said_to_terminal(words, **options):
+    """Returns the status of a process and what it says on standard error, which is a terminal."""
+    reader, writer = os.openpty()
+    with process_of(words, stderr=writer, **options) as process:
+        os.close(writer)
+        said = b""
+        with suppress(OSError):  # (which a terminal gives at its end)
+            while part := os.read(reader, 4096):
+                said += part
+        process.wait()
+    os.close(reader)
+    return process.returncode, said
 
 
 @pytest.fixture(scope="session")

@@ -1,13 +1,12 @@
 """One run at a terminal: the time that passes, the consoles as text, the tables, and what went wrong in words."""
 
-import contextlib
 import os
 import re
 import subprocess
 import sys
 
 import pytest
-from conftest import environment, process_of
+from conftest import environment, said_to_terminal
 
 from zsim_tools.report import parse_report
 from zsim_tools.run_once import show_consoles
@@ -86,18 +85,10 @@ def test_the_time_without_a_terminal(command, slow, monkeypatch):
 
 def test_the_time_at_a_terminal(command, slow, twelve):
     slow.write_text(slow.read_text().replace("0.5", "2.5"))
-    reader, writer = os.openpty()
     words = [sys.executable, "-m", "zsim_tools", "run", "plain", "a.elf"]
     variables = environment(str(slow), TERM="xterm")
-    with process_of(words, cwd=twelve, env=variables, stdout=subprocess.DEVNULL, stderr=writer) as process:
-        os.close(writer)
-        said = b""
-        with contextlib.suppress(OSError):  # (which a terminal gives at its end)
-            while part := os.read(reader, 4096):
-                said += part
-        process.wait()
-    os.close(reader)
-    assert process.returncode == 0 and b"zsim has run for 0:00:0" in said and said.endswith(b"\r\x1b[K")
+    status, said = said_to_terminal(words, cwd=twelve, env=variables, stdout=subprocess.DEVNULL)
+    assert status == 0 and b"zsim has run for 0:00:0" in said and said.endswith(b"\r\x1b[K")
 
 
 def test_control_characters_do_not_reach_the_terminal(capsys, worked):

@@ -11,7 +11,7 @@ import time
 from pathlib import Path
 
 import pytest
-from conftest import environment, process_of, without_times
+from conftest import environment, process_of, said_to_terminal, without_times
 
 import zsim_tools
 from zsim_tools.sweeps import Watcher
@@ -144,18 +144,10 @@ def test_an_output_that_is_long(twelve, fake_zsim):
 
 def test_a_terminal_gets_a_bar_and_the_failures_as_they_come(fake_zsim, twelve):
     (twelve / "sweep.toml").write_text(text_of(twelve / "sweep.toml").replace("[1, 2, 4]", "[0, 2, 4]"))
-    reader, writer = os.openpty()
     words = [sys.executable, "-m", "zsim_tools", "sweep", "sweep.toml", "--out", "table.csv", "--jobs", "1"]
     variables = environment(fake_zsim, TERM="xterm", COLUMNS="120")
-    with process_of(words, cwd=twelve, env=variables, stdin=subprocess.DEVNULL, stderr=writer) as process:
-        os.close(writer)
-        said = b""
-        with contextlib.suppress(OSError):  # (which a terminal gives at its end)
-            while part := os.read(reader, 4096):
-                said += part
-        process.wait()
-    os.close(reader)
-    assert process.returncode == 3
+    status, said = said_to_terminal(words, cwd=twelve, env=variables, stdin=subprocess.DEVNULL)
+    assert status == 3
     text = re.sub(r"\x1b\[[0-9;?]*[A-Za-z]", "", said.decode())
     assert "12/12 runs 0:00:" in text and "left 0:00:00" in text
     refusal = text.index("zsim-tools: a.elf l1.sets=2 l1.ways=0: status 6: zsim: machine 4 l1.ways 0")

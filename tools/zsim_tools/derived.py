@@ -6,6 +6,10 @@ A quotient with a divisor of 0 is no number (NaN).
 from math import isnan, nan
 
 
+# The derived numbers of a core, or of all cores, that are accesses per thousand instructions.
+PER_THOUSAND = ("fetches_pki", "hits_pki", "upgrades_pki", "l2hits_pki", "l1_mpki", "l2_mpki")
+
+
 def quotient(part, whole):
     return part / whole if whole else nan
 

@@ -13,14 +13,7 @@ KINDS = {
     "accesses": ("accesses", "loads", "stores", "atomics", "fetches", "hits", "upgrades", "l2hits", "misses"),
     "events": ("events", "bank_events", "controller_events"),
     "instructions": ("instructions",),
-    "accesses per thousand instructions": (
-        "fetches_pki",
-        "hits_pki",
-        "upgrades_pki",
-        "l2hits_pki",
-        "l1_mpki",
-        "l2_mpki",
-    ),
+    "accesses per thousand instructions": derived.PER_THOUSAND,
     "cycles per event": ("wait", "bank_wait", "controller_wait"),
     "one": SHARES,
 }

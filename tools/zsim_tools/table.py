@@ -8,6 +8,7 @@ from contextlib import suppress
 from itertools import chain
 
 from . import inputs
+from .derived import PER_THOUSAND
 from .errors import ToolError, check_ending_of, ending_of, one_line, told
 
 ENDINGS = (".csv", ".parquet")
@@ -20,12 +21,7 @@ NEEDED = ("executable", "status", "line", "halt")
 FRACTIONS = (
     "cpi",
     "waiting",
-    "fetches_pki",
-    "hits_pki",
-    "upgrades_pki",
-    "l2hits_pki",
-    "l1_mpki",
-    "l2_mpki",
+    *PER_THOUSAND,
     "instructions_spread",
     "cycles_spread",
     "cpi_spread",
