@@ -17,6 +17,8 @@ pub fn read(bytes: &[u8], place: usize, width: u8) -> u64
     match width {
         8 => LittleEndian::read_u64(from),
         4 => u64::from(LittleEndian::read_u32(from)),
+        2 => u64::from(LittleEndian::read_u16(from)),
+        1 => u64::from(from[0]),
         _ => LittleEndian::read_uint(from, usize::from(width)),
     }
 }
@@ -33,6 +35,9 @@ pub fn write(bytes: &mut [u8], place: usize, width: u8, value: u64)
     let number = value.to_le_bytes();
     match width {
         8 => put(bytes, place, &number),
+        4 => put(bytes, place, &number[..4]),
+        2 => put(bytes, place, &number[..2]),
+        1 => put(bytes, place, &number[..1]),
         _ => put(bytes, place, &number[..usize::from(width)]),
     }
 }

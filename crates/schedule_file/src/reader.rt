@@ -100,14 +100,14 @@ fn numbers(alloc: Global, list: &[u8], cores: u16, count: usize) -> Result<Vec<u
     ensures count { IfOk result (λ v. vec_len v ≡ count) }
 {
     if is_wide(cores) {
-        pairs(alloc, list, count)
+        two_byte_numbers(alloc, list, count)
     } else {
-        widened(alloc, list)
+        one_byte_numbers(alloc, list)
     }
 }
 
 /// The numbers of a list of bytes, one in each.
-fn widened(alloc: Global, list: &[u8]) -> Result<Vec<u16>, NoMemory>
+fn one_byte_numbers(alloc: Global, list: &[u8]) -> Result<Vec<u16>, NoMemory>
     ensures { IfOk result (λ wide. wide.items ≡ list.now) }
 {
     let wide = list.iter().map(|core| u16::from(*core)).collect(alloc)?;
@@ -115,7 +115,7 @@ fn widened(alloc: Global, list: &[u8]) -> Result<Vec<u16>, NoMemory>
 }
 
 /// So many numbers of two bytes each.
-fn pairs(alloc: Global, list: &[u8], count: usize) -> Result<Vec<u16>, NoMemory>
+fn two_byte_numbers(alloc: Global, list: &[u8], count: usize) -> Result<Vec<u16>, NoMemory>
     requires { length list.now ≡ 2 * count }
     ensures { IfOk result (λ wide. wide.items ≡ numbers_of 2 count list.now) }
 {

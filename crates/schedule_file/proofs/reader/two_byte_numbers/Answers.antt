@@ -3,7 +3,7 @@ use Rattle.std.proofs.lemmas.List.{take_rest}
 use Rattle.byteorder.specs.Endian.{little_number}
 use Rattle.schedule_file.specs.ScheduleFile.{numbers_of}
 use Rattle.schedule_file.proofs.Numbers.{numbers_on}
-use Rattle.schedule_file.proofs.reader.pairs.Goals as goal
+use Rattle.schedule_file.proofs.reader.two_byte_numbers.Goals as goal
 
 pub loop-k-preserved : goal.loop-k-preserved
 loop-k-preserved c =
