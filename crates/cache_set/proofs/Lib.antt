@@ -1,3 +1,11 @@
-pub mod Places
+pub mod ByAge
+pub mod Empty
+pub mod Filled
+pub mod Oldest
+pub mod Pieces
+pub mod Renumbered
 pub mod Rows
 pub mod Sets
+pub mod SetsInArrays
+pub mod StepsInArrays
+pub mod WaysByAge

@@ -1,4 +1,9 @@
+pub mod Ages
+pub mod LetterFacts
 pub mod Letters
+pub mod Lines
+pub mod Pieces
+pub mod Places
 pub mod Rows
 pub mod WaySets
 pub mod Ways

@@ -1,9 +1,10 @@
-//! One set: its tags in one list, the most recently used first, and their marks beside it.
-ghost use Rattle.std.specs.Prelude.{◌≡◌, ◌+◌, ◌<◌, ◌≤◌, ◌↔◌, [], ◌∷◌, length, nat_eq, vec_len, vec_capacity, slice_index_or, option_map, IfOk, IfSome, IsSome, IsNone};
-ghost use Rattle.std.specs.List.{position, remove};
+//! One set: of each way its age, its tag and its mark, at one place of three lists.
+ghost use Rattle.std.specs.Prelude.{◌≡◌, ◌<◌, ◌≤◌, ◌^◌, ◌↔◌, [], length, option_map, IfOk, IsSome, IsNone};
 ghost use Rattle.cache_set.specs.Ways.{kept_of, without, used, filled, changed, victim_of};
 ghost use Rattle.cache_set.specs.WaySets.{IsWaySet, way_of};
+ghost use Rattle.cache_set.specs.Rows.{way_at};
 
+use crate::ages::{next_age, next_place, place_of};
 use std::alloc::Global;
 use std::marker::Model;
 use zs_num::NoMemory;
@@ -22,20 +23,21 @@ pub struct Way {
 #[derive(Drop)]
 pub struct Set {
     ways: usize,
+    tick: u64,
+    ages: Vec<u64>,
     tags: Vec<u64>,
     marks: Vec<u8>,
 }
 
 impl Model for Set {
-    ghost use Rattle.std.specs.Prelude.{vec_capacity};
     ghost use Rattle.cache_set.specs.WaySets.{WaySet};
     ghost use Rattle.cache_set.specs.Rows.{AreRows, rows_view};
 
     ghost Value = { WaySet };
 
-    ghost view = { λ s. rows_view s.ways s.tags.items s.marks.items };
+    ghost view = { λ s. rows_view s.ways s.ages.items s.tags.items s.marks.items };
 
-    ghost invariant = { λ s. AreRows s.ways s.tags.items s.marks.items (vec_capacity s.tags) (vec_capacity s.marks) };
+    ghost invariant = { λ s. AreRows s.ways s.tick s.ages.items s.tags.items s.marks.items };
 }
 
 impl Set {
@@ -44,11 +46,23 @@ impl Set {
         requires { (1 ≤ ways) × (ways ≤ 32) }
         ensures { IfOk result (λ set. set ≡ record { ways = ways; list = [] }) }
     {
+        Set::with_tick(alloc, ways, 0)
+    }
+
+    /// An empty set of this many ways, 1 to 32, whose ages begin after this number, below 2^62.
+    /// Nothing that the set answers depends on it.
+    pub fn with_tick(alloc: Global, ways: u16, tick: u64) -> Result<Self, NoMemory>
+        requires ways { (1 ≤ ways) × (ways ≤ 32) }
+        requires tick { tick < 2 ^ 62 }
+        ensures { IfOk result (λ set. set ≡ record { ways = ways; list = [] }) }
+    {
         let ways = usize::from(ways);
         Ok(Set {
             ways,
-            tags: Vec::with_capacity(alloc, ways)?,
-            marks: Vec::with_capacity(alloc, ways)?,
+            tick,
+            ages: vec![in alloc; 0; ways]?,
+            tags: vec![in alloc; 0; ways]?,
+            marks: vec![in alloc; 0; ways]?,
         })
     }
 
@@ -57,7 +71,7 @@ impl Set {
         ensures mark { result ≡ kept_of line self.now.list }
         ensures is_set { IsWaySet self.now }
     {
-        let place = place_of(&self.tags, line)?;
+        let place = place_of(&self.ages, &self.tags, line)?;
         Some(self.marks[place])
     }
 
@@ -66,9 +80,9 @@ impl Set {
         requires { IsSome (kept_of line self.old.list) }
         ensures { self.new ≡ record self.old { list = used line self.old.list } }
     {
-        if let Some(place) = place_of(&self.tags, line) {
-            to_front(&mut self.tags, place);
-            to_front(&mut self.marks, place);
+        let age = next_age(&mut self.ages, &mut self.tick);
+        if let Some(place) = place_of(&self.ages, &self.tags, line) {
+            self.ages[place] = age;
         }
     }
 
@@ -79,11 +93,12 @@ impl Set {
         ensures victim { result ≡ option_map way_of (victim_of self.old.ways self.old.list) }
         ensures after { self.new ≡ record self.old { list = filled self.old.ways line mark self.old.list } }
     {
-        let victim = self.last_if_full();
-        self.tags.truncate(self.ways - 1);
-        self.marks.truncate(self.ways - 1);
-        put_first(&mut self.tags, line);
-        put_first(&mut self.marks, mark);
+        let age = next_age(&mut self.ages, &mut self.tick);
+        let at = next_place(&self.ages);
+        let victim = way_at(&self.ages, &self.tags, &self.marks, at);
+        self.ages[at] = age;
+        self.tags[at] = line;
+        self.marks[at] = mark;
         victim
     }
 
@@ -92,9 +107,9 @@ impl Set {
         ensures mark { result ≡ kept_of line self.old.list }
         ensures after { self.new ≡ record self.old { list = without line self.old.list } }
     {
-        let place = place_of(&self.tags, line)?;
-        self.tags.remove(place);
-        Some(self.marks.remove(place))
+        let place = place_of(&self.ages, &self.tags, line)?;
+        self.ages[place] = 0;
+        Some(self.marks[place])
     }
 
     /// Gives another mark to a line that is there, and leaves it in its place.
@@ -102,7 +117,7 @@ impl Set {
         requires { IsSome (kept_of line self.old.list) }
         ensures { self.new ≡ record self.old { list = changed line mark self.old.list } }
     {
-        if let Some(place) = place_of(&self.tags, line) {
+        if let Some(place) = place_of(&self.ages, &self.tags, line) {
             self.marks[place] = mark;
         }
     }
@@ -112,44 +127,26 @@ impl Set {
         ensures way { result ≡ option_map way_of (victim_of self.now.ways self.now.list) }
         ensures full { IsSome result ↔ (length self.now.list ≡ self.now.ways) }
     {
-        let last = self.ways - 1;
-        if self.tags.len() == self.ways {
-            Some(Way {
-                line: self.tags[last],
-                mark: self.marks[last],
-            })
-        } else {
-            None
-        }
+        let last = next_place(&self.ages);
+        way_at(&self.ages, &self.tags, &self.marks, last)
     }
 }
 
-/// The place of a line among the tags.
-fn place_of(tags: &[u64], line: u64) -> Option<usize>
-    ensures value { result ≡ position (nat_eq line) tags.now }
-    ensures bound { IfSome result (λ place. place < length tags.now) }
+/// The way at a place. None where it is free.
+#[inline(always)]
+#[tactic(auto, unfolding(crate::specs::Rows::way_at))]
+fn way_at(ages: &[u64], tags: &[u64], marks: &[u8], place: usize) -> Option<Way>
+    requires ages { place < length ages.now }
+    requires tags { place < length tags.now }
+    requires marks { place < length marks.now }
+    ensures { result ≡ way_at ages.now tags.now marks.now place }
 {
-    tags.iter().position(|tag| line == *tag)
-}
-
-/// Moves an item to the front. Those before it move up.
-fn to_front<T: Drop>(list: &mut Vec<T>, place: usize)
-    requires { place < vec_len list.old }
-    ensures items { (d : T) → list.new.items
-        ≡ slice_index_or list.old.items place d ∷ remove list.old.items place }
-    ensures room { vec_capacity list.old ≤ vec_capacity list.new }
-{
-    if place > 0 {
-        let item = list.remove(place);
-        put_first(list, item);
+    if ages[place] == 0 {
+        None
+    } else {
+        Some(Way {
+            line: tags[place],
+            mark: marks[place],
+        })
     }
-}
-
-/// Puts an item before the others, for which there is room.
-fn put_first<T: Drop>(list: &mut Vec<T>, item: T)
-    requires { vec_len list.old < vec_capacity list.old }
-    ensures items { list.new.items ≡ item ∷ list.old.items }
-    ensures room { vec_capacity list.old ≤ vec_capacity list.new }
-{
-    let _inserted = list.insert(0, item);
 }

@@ -1,21 +1,19 @@
-use Rattle.std.proofs.Common.{◌≡◌, length, refl, ◌∙◌, arith}
-use Rattle.cache_set.proofs.Rows.{length_rows, last_some, last_none}
+use Rattle.std.proofs.Common.{ℕ, ◌<◌, sym, ◌∙◌}
+use Rattle.cache_set.proofs.Rows.{full_is, oldest_here, victim_is, way_here, within_here}
 use Rattle.cache_set.proofs.set.Set.last_if_full.Goals as goal
 
-pub returns-then-len-self-clause-way : goal.returns-then-len-self-clause-way
-returns-then-len-self-clause-way c =
-    let full : length c.self.inside.tags.items ≡ c.self.inside.ways = omega arith in
-    rw (← c.self.view_is, last_some c.self.invariant c.index.result.now c.index-then-len-self.result.now full c.index.ensures c.index-then-len-self.ensures) refl
+pub returns-clause-way : goal.returns-clause-way
+returns-clause-way c =
+    let i : ℕ = c.next_place-last.result in
+    let within : i < c.self.inside.ways = within_here i c.self.inside.ways c.deref.ensures.value c.self.invariant.aged.ages_are c.next_place-last.ensures.within in
+    let oldest = oldest_here i c.self.inside.ways c.deref.ensures.value c.self.invariant.aged.ages_are c.next_place-last.ensures.oldest in
+    let is = c.way_at.ensures ∙ way_here i c.deref-2.ensures.value c.deref-3.ensures.value c.deref-4.ensures.value in
+    rw (← c.self.view_is) (is ∙ sym (victim_is c.self.invariant i within oldest))
 
-pub returns-then-len-self-clause-full : goal.returns-then-len-self-clause-full
-returns-then-len-self-clause-full c =
-    let full : length c.self.inside.tags.items ≡ c.self.inside.ways = omega arith in
-    rw (← c.self.view_is) (λ _. length_rows c.self.invariant ∙ full, λ _. refl)
-
-pub returns-else-len-self-clause-way : goal.returns-else-len-self-clause-way
-returns-else-len-self-clause-way c =
-    rw (← c.self.view_is, last_none c.self.invariant (omega arith)) refl
-
-pub returns-else-len-self-clause-full : goal.returns-else-len-self-clause-full
-returns-else-len-self-clause-full c =
-    rw (← c.self.view_is) (λ e. absurd cc, λ e. absurd (omega (arith, length_rows c.self.invariant)))
+pub returns-clause-full : goal.returns-clause-full
+returns-clause-full c =
+    let i : ℕ = c.next_place-last.result in
+    let within : i < c.self.inside.ways = within_here i c.self.inside.ways c.deref.ensures.value c.self.invariant.aged.ages_are c.next_place-last.ensures.within in
+    let oldest = oldest_here i c.self.inside.ways c.deref.ensures.value c.self.invariant.aged.ages_are c.next_place-last.ensures.oldest in
+    let is = c.way_at.ensures ∙ way_here i c.deref-2.ensures.value c.deref-3.ensures.value c.deref-4.ensures.value in
+    rw (← c.self.view_is, is) (full_is c.self.invariant i within oldest)

@@ -1,18 +1,13 @@
-use Rattle.std.proofs.Common.{◌≡◌, Some, None, sym, ◌∙◌}
-use Rattle.std.specs.List.{position}
-use Rattle.std.specs.Prelude.{nat_eq}
-use Rattle.cache_set.proofs.Rows.{kept_none, kept_some}
+use Rattle.std.proofs.Common.{ℕ, Some, sym, ap, ◌∙◌, arith}
+use Rattle.cache_set.proofs.Rows.{place_here, none_here, kept_no, kept_some, value_at}
 use Rattle.cache_set.proofs.set.Set.look.Goals as goal
 
 pub returns-in_err-place-clause-mark : goal.returns-in_err-place-clause-mark
 returns-in_err-place-clause-mark c =
-    let was = c.in_err-place.was in
-    let at : position (nat_eq c.args.line) c.self.inside.tags.items ≡ None = cc in
-    let none = kept_none c.self.invariant c.args.line at in
+    let none = kept_no c.self.invariant c.args.line (none_here c.args.line c.deref.ensures.value c.deref-2.ensures.value c.in_err-place.ensures.none) in
     rw (← c.self.view_is) (c.from_residual.ensures ∙ sym none)
 
 pub returns-clause-mark : goal.returns-clause-mark
 returns-clause-mark c =
-    let was = c.in_ok-place.was in
-    let at : position (nat_eq c.args.line) c.self.inside.tags.items ≡ Some c.in_ok-place.place = cc in
-    rw (← c.self.view_is) (sym (kept_some c.self.invariant c.args.line at c.index.result.now c.index.ensures))
+    let mark = value_at c.self.inside.marks.items c.in_ok-place.place c.index.result.now (omega (arith, c.self.invariant.marks_are, c.self.invariant.aged.tags_are, (place_here c.args.line c.in_ok-place.place c.deref.ensures.value c.deref-2.ensures.value c.in_ok-place.ensures.here).within)) c.index.ensures in
+    rw (← c.self.view_is) (ap (λ (m : ℕ). Some m) (sym mark) ∙ sym (kept_some c.self.invariant c.args.line c.in_ok-place.place (place_here c.args.line c.in_ok-place.place c.deref.ensures.value c.deref-2.ensures.value c.in_ok-place.ensures.here)))
