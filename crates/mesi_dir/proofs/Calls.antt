@@ -2,10 +2,10 @@
 use Rattle.std.proofs.Common.{◌≡◌, ◌≢◌, ℕ, ◌<◌, Bool, true, false, not, ◌&&◌, ◌||◌, List, [], ◌∷◌, Option, Some, None, refl, sym, ap, ◌∙◌, subst, inl, inr}
 use Rattle.std.specs.Prelude.{nat_eq, IsTrue, if◌then◌else◌}
 use Rattle.std.specs.Bool.{then_some}
-use Rattle.std.proofs.lemmas.Bool.{eqb-true, eq-eqb, ne_eqb, cases_eq, and_parts, or_cases, not-true}
-use Rattle.mesi_dir.specs.CoreSets.{has_core, cores_in, HasNone}
-use Rattle.mesi_dir.specs.LineMap.{Sharing, LineMap, nobody, is_among, sharing_of, is_sharer, owner_of, owner_without, HasOther, IsSharing, IsLineMap}
-use Rattle.mesi_dir.proofs.CoreSets.{is_member-cores_in, some_core, cores_in-none, zeros_have_none}
+use Rattle.std.proofs.lemmas.Bool.{eqb-true, eq-eqb, ne_eqb, cases_eq, and_parts, or_cases}
+use Rattle.mesi_dir.specs.CoreSets.{has_core, cores_in}
+use Rattle.mesi_dir.specs.LineMap.{Sharing, LineMap, nobody, is_among, sharing_of, is_sharer, owner_of, owner_without, IsSharing, IsLineMap}
+use Rattle.mesi_dir.proofs.CoreSets.{is_member-cores_in, cores_in-none, zeros_have_none}
 
 abbrev pub sharing_by : (words : List ℕ) → Option ℕ → Sharing
 sharing_by words owner = record { sharers = cores_in words; owner = owner }
@@ -27,12 +27,6 @@ then_some-if false core = refl
 
 none_is_some : {o : ℕ} → None ≡ Some o → ⊥
 none_is_some h = cc
-
-both : (b : Bool) → b ≡ true → b ≡ false → ⊥
-both b t f = cc
-
-apart_from_test : (core c : ℕ) → not (nat_eq core c) ≡ true → c ≡ core → ⊥
-apart_from_test core c h e = both (nat_eq core c) (eq-eqb core c (sym e)) (not-true (nat_eq core c) h)
 
 -- an owner that is left is the one that was, and another core
 owner_kept : (core : ℕ) (owner : Option ℕ) (o : ℕ) → owner_without core owner ≡ Some o → (owner ≡ Some o) × (core ≢ o)
@@ -57,22 +51,6 @@ module _ (m : LineMap) (line : ℕ) (words : List ℕ) (owner : Option ℕ) (row
 
   pub owner_is : owner_of m line ≡ owner
   owner_is = ap (λ (s : Sharing). s.owner) (sym row)
-
-  module _ (core : ℕ) (others : List ℕ) (removed : (c : ℕ) → has_core others c ≡ (not (nat_eq core c) && has_core words c)) where
-    other_from : (c : ℕ) × (has_core others c ≡ true) → HasOther m line core
-    other_from found =
-        let parts = and_parts (not (nat_eq core found.0)) (has_core words found.0) (sym (removed found.0) ∙ found.1) in
-        (found.0, λ e. apart_from_test core found.0 parts.0 e, sharer_is found.0 ∙ parts.1)
-
-    pub some_other : (HasNone others → ⊥) → HasOther m line core
-    some_other h = other_from (some_core others h)
-
-    pub no_other : HasNone others → HasOther m line core → ⊥
-    no_other none other =
-        let has : has_core words other.0 ≡ true = sym (sharer_is other.0) ∙ other.2 in
-        let apart : nat_eq core other.0 ≡ false = ne_eqb core other.0 (λ e. other.1 (sym e)) in
-        let left : has_core others other.0 ≡ true = removed other.0 ∙ rw (apart, has) refl in
-        both (has_core others other.0) left (none other.0)
 
   module _ (is_map : IsLineMap m) (core : ℕ) (within : core < m.cores) where
     -- a core more

@@ -5,6 +5,7 @@ ghost use Rattle.mesi_dir.specs.LineMap.{nobody, sharing_of, is_among, is_sharer
 ghost use Rattle.mesi_dir.specs.Rows.{sharing_in};
 
 use crate::row::DirectoryRow;
+use lanes::find_eq;
 use std::alloc::Global;
 use std::marker::Model;
 use zs_num::NoMemory;
@@ -77,9 +78,7 @@ impl Directory {
         ensures value { IsTrue result ↔ HasOther self.now line core }
         ensures is_map { IsLineMap self.now }
     {
-        let mut others = self.row(line).sharers;
-        others.remove(core);
-        !others.is_empty()
+        self.row(line).sharers.any_other(core)
     }
 
     /// Adds a core to those that have a line. With `own` it may write the line, which no other
@@ -180,5 +179,5 @@ fn place_of(tags: &[u64], line: u64) -> Option<usize>
     ensures value { result ≡ position (nat_eq line) tags.now }
     ensures bound { IfSome result (λ place. place < length tags.now) }
 {
-    tags.iter().position(|tag| line == *tag)
+    find_eq(tags, line)
 }

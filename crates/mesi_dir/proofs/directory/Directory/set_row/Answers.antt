@@ -20,7 +20,7 @@ invariant_of-self c =
 pub returns-in-Some-clause-line : goal.returns-in-Some-clause-line
 returns-in-Some-clause-line c =
     let at : position (nat_eq c.args.line) c.self.inside.tags.items ≡ Some c.in-Some.place = cc in
-    let none : HasNone c.args.row.sharers.words = c.if-is_empty.ensures.0 refl in
+    let none : HasNone c.args.row.sharers.words = c.if-is_empty.ensures.none.0 refl in
     rw (c.remove.ensures.items, c.remove-in-Some.ensures.items)
     (updated_here (row_removed c.self.invariant c.args.line at) ∙ sym (empty_row c.args.self.now.cores c.args.row c.requires.sharing none))
 
@@ -34,7 +34,7 @@ pub invariant_of-self-in-Some-2 : goal.invariant_of-self-in-Some-2
 invariant_of-self-in-Some-2 c =
     let at : position (nat_eq c.args.line) c.self.inside.tags.items ≡ Some c.in-Some.place = cc in
     let sharing : IsSharing c.self.inside.cores (sharing_in c.args.row) = rw (← c.self.view_is) at c.requires.sharing in
-    rows_replaced c.self.invariant c.args.line at c.args.row _ _ (omega arith) (omega arith) sharing (shared_row c.args.row (λ none. not_so (c.if-is_empty.ensures.1 none)))
+    rows_replaced c.self.invariant c.args.line at c.args.row _ _ (omega arith) (omega arith) sharing (shared_row c.args.row (λ none. not_so (c.if-is_empty.ensures.none.1 none)))
 
 pub returns-in-Some-2-clause-line : goal.returns-in-Some-2-clause-line
 returns-in-Some-2-clause-line c =
@@ -50,7 +50,7 @@ returns-in-Some-2-clause-others c =
 pub returns-in-None-clause-line : goal.returns-in-None-clause-line
 returns-in-None-clause-line c =
     let at : position (nat_eq c.args.line) c.self.inside.tags.items ≡ None = cc in
-    let none : HasNone c.args.row.sharers.words = c.if-is_empty-2.ensures.0 refl in
+    let none : HasNone c.args.row.sharers.words = c.if-is_empty-2.ensures.none.0 refl in
     let empty = empty_row c.args.self.now.cores c.args.row c.requires.sharing none in
     rw (empty, ← c.self.view_is) (row_none c.self.invariant c.args.line at)
 
@@ -58,21 +58,21 @@ returns-in-None-clause-line c =
 pub push_reserved-requires : goal.push_reserved-requires
 push_reserved-requires c =
     let at : position (nat_eq c.args.line) c.self.inside.tags.items ≡ None = cc in
-    let shared : (core : ℕ) × IsTrue (is_among (sharing_in c.args.row) core) = shared_row c.args.row (λ none. not_so (c.if-is_empty-2.ensures.1 none)) in
+    let shared : (core : ℕ) × IsTrue (is_among (sharing_in c.args.row) core) = shared_row c.args.row (λ none. not_so (c.if-is_empty-2.ensures.none.1 none)) in
     let room = rw (← c.self.view_is) at (c.requires.room shared.0 shared.1) in
     omega (arith, is_below_room c.self.invariant c.args.line at c.args.row room)
 
 pub push_reserved-requires-in-None-2 : goal.push_reserved-requires-in-None-2
 push_reserved-requires-in-None-2 c =
     let at : position (nat_eq c.args.line) c.self.inside.tags.items ≡ None = cc in
-    let shared : (core : ℕ) × IsTrue (is_among (sharing_in c.args.row) core) = shared_row c.args.row (λ none. not_so (c.if-is_empty-2.ensures.1 none)) in
+    let shared : (core : ℕ) × IsTrue (is_among (sharing_in c.args.row) core) = shared_row c.args.row (λ none. not_so (c.if-is_empty-2.ensures.none.1 none)) in
     let room = rw (← c.self.view_is) at (c.requires.room shared.0 shared.1) in
     omega (arith, is_below_room c.self.invariant c.args.line at c.args.row room)
 
 pub invariant_of-self-in-None-2 : goal.invariant_of-self-in-None-2
 invariant_of-self-in-None-2 c =
     let at : position (nat_eq c.args.line) c.self.inside.tags.items ≡ None = cc in
-    let shared : (core : ℕ) × IsTrue (is_among (sharing_in c.args.row) core) = shared_row c.args.row (λ none. not_so (c.if-is_empty-2.ensures.1 none)) in
+    let shared : (core : ℕ) × IsTrue (is_among (sharing_in c.args.row) core) = shared_row c.args.row (λ none. not_so (c.if-is_empty-2.ensures.none.1 none)) in
     let room = rw (← c.self.view_is) at (c.requires.room shared.0 shared.1) in
     let sharing : IsSharing c.self.inside.cores (sharing_in c.args.row) = rw (← c.self.view_is) at c.requires.sharing in
     rw (c.push_reserved.ensures.items, c.push_reserved-in-None-2.ensures.items)
