@@ -1,0 +1,2 @@
+pub mod L1State
+pub mod Layout
