@@ -1,0 +1,169 @@
+-- What the calls of a home do to its arrays, seen as the lists of its sets.
+use Rattle.std.proofs.Common.{◌≡◌, ℕ, ◌-◌, ◌*◌, ◌^◌, ◌<◌, ◌≤◌, List, [], length, get_or, set, map, Option, Some, None, sym, ap, ◌∙◌, arith}
+use Rattle.std.specs.Option.{option_map_or}
+use Rattle.std.specs.Prelude.{IsSome}
+use Rattle.std.proofs.lemmas.List.{get_or-map, length-map, length-set, map-set, set-get_or}
+use Rattle.cache_set.specs.Lines.{in_set_of, set_number, set_of}
+use Rattle.cache_set.specs.Pieces.{IsSameOrder, sets_in}
+use Rattle.cache_set.specs.Places.{IsNext, StandsAt, StandsNowhere, set_number_in}
+use Rattle.cache_set.specs.Ways.{kept_of, used, filled, changed, victim_of}
+use Rattle.cache_set.proofs.Pieces.{within_pieces}
+use Rattle.cache_set.proofs.SetsInArrays.{aged_sets_anew, sets_anew}
+use Rattle.cache_set.proofs.StepsInArrays.{aged_filled, aged_used_at, n_within, next_free, next_full, nowhere_kept, sets_changed, sets_filled, sets_used, somewhere_kept, within_all}
+use Rattle.home.specs.declared.row.Row.{Row}
+use Rattle.flat_memory.specs.declared.reservation.Reservation.{Reservation}
+use Rattle.home.specs.HomeState.{HomeLine, HomeState, nobody}
+use Rattle.home.specs.Layout.{AreHome}
+use Rattle.home.specs.Rows.{line_in}
+
+-- a home with these sets
+abbrev pub home_with : (number shards base size ways : ℕ) → (bytes : List ℕ) → (marks : List (Option Reservation)) → List (List (ℕ × HomeLine)) → HomeState
+home_with number shards base size ways bytes marks sets = record {
+  number = number;
+  shards = shards;
+  base = base;
+  size = size;
+  ways = ways;
+  sets = sets;
+  bytes = bytes;
+  marks = marks;
+}
+
+pub is_some_none : {X : Type 0} (o : Option X) → IsSome o → o ≡ None → ⊥
+is_some_none o some none = let bad = rw none at some in absurd cc
+
+pub same_home : (number : ℕ) {shards s base b size z ways w : ℕ} {sets l : List (List (ℕ × HomeLine))} {bytes y : List ℕ} {marks m : List (Option Reservation)}
+    → shards ≡ s → base ≡ b → size ≡ z → ways ≡ w → sets ≡ l → bytes ≡ y → marks ≡ m
+    → home_with number shards base size ways bytes marks sets ≡ home_with number s b z w y m l
+same_home number {shards} {s} {base} {b} {size} {z} {ways} {w} {sets} {l} {bytes} {y} {marks} {m} e0 e1 e2 e3 e4 e5 e6 =
+    ap (λ (x : ℕ). home_with number x base size ways bytes marks sets) e0
+    ∙ (ap (λ (x : ℕ). home_with number s x size ways bytes marks sets) e1
+    ∙ (ap (λ (x : ℕ). home_with number s b x ways bytes marks sets) e2
+    ∙ (ap (λ (x : ℕ). home_with number s b z x bytes marks sets) e3
+    ∙ (ap (λ (x : List (List (ℕ × HomeLine))). home_with number s b z w bytes marks x) e4
+    ∙ (ap (λ (x : List ℕ). home_with number s b z w x marks l) e5
+    ∙ ap (λ (x : List (Option Reservation)). home_with number s b z w y x l) e6)))))
+
+module _ {shards below base sets ways tick : ℕ} {ages tags : List ℕ} {rows : List Row} (h : AreHome shards below base sets ways tick ages tags rows) where
+  abbrev lines : List HomeLine
+  lines = map line_in rows
+
+  abbrev lists : List (List (ℕ × HomeLine))
+  lists = sets_in sets ways ages tags lines
+
+  lines_are : length lines ≡ sets * ways
+  lines_are = length-map rows line_in ∙ h.rows_are
+
+  -- ---- ages that are written anew, or not
+  module _ (age : ℕ) (anew : List ℕ) (order : IsSameOrder sets ways ages anew) (long : length anew ≡ sets * ways)
+      (later : (p : ℕ) → p < sets * ways → get_or anew p 0 < age) (early : age < 2 ^ 62) where
+    pub lists_anew : sets_in sets ways anew tags lines ≡ lists
+    lists_anew = sets_anew sets ways ages anew tags lines order
+
+    pub age_later : age - 1 < age
+    age_later = omega (arith, later 0 (omega (arith, within_pieces sets ways 0 h.sets_are.0, h.ways_are.some h.sets_are.0)))
+
+    pub home_anew : AreHome shards below base sets ways (age - 1) anew tags rows
+    home_anew = record {
+      shards_are = h.shards_are;
+      sets_are = h.sets_are;
+      below_are = h.below_are;
+      ways_are = record {
+        few = h.ways_are.few;
+        some = h.ways_are.some;
+        early = omega (arith, early);
+        aged = aged_sets_anew (age - 1) anew h.ways_are.aged (long ∙ sym h.ways_are.aged.ages_are) (λ p l. omega (arith, later p (omega (arith, l, h.ways_are.aged.ages_are)))) order;
+      };
+      rows_are = h.rows_are;
+    }
+
+  module _ (line : ℕ) where
+    abbrev now : List (ℕ × HomeLine)
+    now = set_of shards line lists
+
+    -- ---- no way has the line
+    module _ (none : StandsNowhere ways ages tags (set_number_in shards sets line) line) where
+      pub row_nowhere : kept_of line now ≡ None
+      row_nowhere = nowhere_kept h.ways_are.aged h.sets_are.0 shards line lines lines_are nobody none
+
+      pub same_nowhere : (change : HomeLine → HomeLine) → in_set_of shards line (λ found. option_map_or (λ row. changed line (change row) found) (kept_of line found) found) lists ≡ lists
+      same_nowhere change =
+          ap (λ (o : Option HomeLine). in_set_of shards line (λ _. option_map_or (λ row. changed line (change row) now) o now) lists) row_nowhere
+          ∙ set-get_or lists (set_number shards line lists) []
+
+    -- ---- a way has it
+    module _ (p : ℕ) (at : StandsAt ways ages tags (set_number_in shards sets line) line p) where
+      pub row_standing : kept_of line now ≡ Some (get_or lines p nobody)
+      row_standing = somewhere_kept h.ways_are.aged h.sets_are.0 shards line lines lines_are nobody p at
+
+      pub p_within : p < length rows
+      p_within = omega (arith, h.rows_are, within_all h.ways_are.aged h.sets_are.0 shards line p at)
+
+      pub line_there : (row : Row) → row ≡ get_or rows p row → get_or lines p nobody ≡ line_in row
+      line_there row e = get_or-map line_in rows p row nobody p_within ∙ sym (ap line_in e)
+
+      pub used_there : (age : ℕ) → tick < age → sets_in sets ways (set ages p age) tags lines ≡ in_set_of shards line (used line) lists
+      used_there age later = sets_used h.ways_are.aged h.sets_are.0 shards line lines lines_are nobody p at age later
+
+      pub home_used : (age : ℕ) → tick < age → age < 2 ^ 62 → AreHome shards below base sets ways age (set ages p age) tags rows
+      home_used age later early = record {
+        shards_are = h.shards_are;
+        sets_are = h.sets_are;
+        below_are = h.below_are;
+        ways_are = record { few = h.ways_are.few; some = h.ways_are.some; early = early; aged = aged_used_at h.ways_are.aged h.sets_are.0 shards line p at age later };
+        rows_are = h.rows_are;
+      }
+
+      pub row_set : (row : Row) → sets_in sets ways ages tags (map line_in (set rows p row))
+          ≡ in_set_of shards line (λ found. option_map_or (λ _. changed line (line_in row) found) (kept_of line found) found) lists
+      row_set row =
+          ap (λ (l : List HomeLine). sets_in sets ways ages tags l) (map-set line_in rows p row)
+          ∙ (sets_changed h.ways_are.aged h.sets_are.0 shards line lines lines_are nobody p at (line_in row)
+          ∙ sym (ap (λ (o : Option HomeLine). in_set_of shards line (λ _. option_map_or (λ _. changed line (line_in row) now) o now) lists) row_standing))
+
+      pub home_set : (row : Row) → AreHome shards below base sets ways tick ages tags (set rows p row)
+      home_set row = record {
+        shards_are = h.shards_are;
+        sets_are = h.sets_are;
+        below_are = h.below_are;
+        ways_are = h.ways_are;
+        rows_are = length-set rows p row ∙ h.rows_are;
+      }
+
+    -- ---- the way that the next line takes
+    module _ (p : ℕ) (next : IsNext ways ages (set_number_in shards sets line) p) where
+      some : 1 ≤ ways
+      some = h.ways_are.some h.sets_are.0
+
+      pub next_within : p < sets * ways
+      next_within =
+          omega (arith, next.to, within_pieces sets ways (set_number_in shards sets line) (n_within h.ways_are.aged h.sets_are.0 shards line lines lines_are nobody))
+
+      pub no_victim : get_or ages p 0 ≡ 0 → victim_of ways now ≡ None
+      no_victim free = next_free h.ways_are.aged h.sets_are.0 shards line lines lines_are nobody p some next free
+
+      pub the_victim : (row : Row) → row ≡ get_or rows p row → 0 < get_or ages p 0 → victim_of ways now ≡ Some (get_or tags p 0, line_in row)
+      the_victim row e live =
+          next_full h.ways_are.aged h.sets_are.0 shards line lines lines_are nobody p some next live
+          ∙ ap (λ (x : HomeLine). Some (get_or tags p 0, x)) (get_or-map line_in rows p row nobody (omega (arith, next_within, h.rows_are)) ∙ sym (ap line_in e))
+
+      pub filled_there : (age : ℕ) (row : Row) → tick < age → line_in row ≡ nobody
+          → sets_in sets ways (set ages p age) (set tags p line) (map line_in (set rows p row)) ≡ in_set_of shards line (filled ways line nobody) lists
+      filled_there age row later is =
+          ap (λ (l : List HomeLine). sets_in sets ways (set ages p age) (set tags p line) l) (map-set line_in rows p row ∙ ap (set lines p) is)
+          ∙ sets_filled h.ways_are.aged h.sets_are.0 shards line lines lines_are nobody p some next age nobody later
+
+      pub home_filled : (age : ℕ) (row : Row) → tick < age → age < 2 ^ 62 → kept_of line now ≡ None
+          → AreHome shards below base sets ways age (set ages p age) (set tags p line) (set rows p row)
+      home_filled age row later early none = record {
+        shards_are = h.shards_are;
+        sets_are = h.sets_are;
+        below_are = h.below_are;
+        ways_are = record {
+          few = h.ways_are.few;
+          some = h.ways_are.some;
+          early = early;
+          aged = aged_filled h.ways_are.aged h.sets_are.0 shards line lines lines_are nobody p some next age later none;
+        };
+        rows_are = length-set rows p row ∙ h.rows_are;
+      }

@@ -1,0 +1,4 @@
+pub mod Changes
+pub mod FirstBytes
+pub mod Homes
+pub mod Unmarked

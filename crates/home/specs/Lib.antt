@@ -1,0 +1,5 @@
+pub mod FirstBytes
+pub mod HomeState
+pub mod Layout
+pub mod NewHome
+pub mod Rows

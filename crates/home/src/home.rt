@@ -1,0 +1,282 @@
+//! A home.
+ghost use Rattle.std.specs.Prelude.{◌≡◌, ◌+◌, ◌<◌, ◌≤◌, ◌%◌, ◌++◌, take, drop, length, option_map, slice_index_or, slice_set, IfOk, IsSome, IsNone, Some, None};
+ghost use Rattle.zs_num.specs.Request.{line_bytes};
+ghost use Rattle.flat_memory.specs.FlatMemory.{after_write, is_reservation};
+ghost use Rattle.home.specs.HomeState.{KeepsLine, brought_in, bytes_at, dropped_in, evicted_by, fetched_in, granted_in, is_marked_by_others, looked_up_in, marked_dirty_in, owned_in, row_at, unfetched_in, with_bytes_at, with_row_in, line_place};
+ghost use Rattle.home.specs.NewHome.{new_home};
+ghost use Rattle.home.specs.Rows.{evicted_in, line_in};
+
+use crate::filling::first_bytes;
+use crate::marks::Marks;
+use crate::row::Row;
+use cache_set::{Tags, next_age};
+use division::quotient;
+use elf_load::Image;
+use mesi_dir::CoreSet;
+use std::alloc::Global;
+use std::marker::Model;
+use zs_num::{LINE, NoMemory};
+
+/// The lines of one bank at home: which of them the L2 has, and of each of these which cores'
+/// caches have it; the bytes of all; and by core what it has marked of them. Contracts see the sets
+/// of the L2 as lists, the most recently used line first. The bytes of a line that a core has in M
+/// are old.
+#[derive(Drop)]
+pub struct Home {
+    number: u16,
+    shards: u64,
+    /// How many of the bank's lines lie below memory.
+    below: u64,
+    base: u64,
+    size: u64,
+    ways: Tags,
+    rows: Vec<Row>,
+    bytes: Vec<u8>,
+    marks: Marks,
+}
+
+impl Model for Home {
+    ghost use Rattle.home.specs.HomeState.{HomeState};
+    ghost use Rattle.home.specs.Layout.{AreHome, home_view};
+
+    ghost Value = { HomeState };
+
+    ghost view = { λ h. home_view h.number h.shards h.base h.size h.ways.sets h.ways.ways h.ways.ages.items h.ways.tags.items h.rows.items h.bytes.items h.marks };
+
+    ghost invariant = { λ h. AreHome h.shards h.below h.base h.ways.sets h.ways.ways h.ways.tick h.ways.ages.items h.ways.tags.items h.rows.items };
+}
+
+impl Home {
+    /// The home of one of so many banks before the first access, for cores that are numbered from
+    /// 0: 1 to 65536 sets of 1 to 32 ways are the bank's.
+    pub fn new(
+        alloc: Global,
+        number: u16,
+        shards: u16,
+        sets: u32,
+        ways: u16,
+        cores: u16,
+        image: &Image,
+    ) -> Result<Self, NoMemory>
+        requires number { number < shards }
+        requires sets { (1 ≤ sets) × (sets ≤ 65536) }
+        requires ways { (1 ≤ ways) × (ways ≤ 32) }
+        requires base { image.now.base % line_bytes ≡ 0 }
+        requires size { image.now.size % line_bytes ≡ 0 }
+        requires some { 0 < image.now.size }
+        ensures { IfOk result (λ home. home ≡ new_home number shards sets ways cores image.now) }
+    {
+        let tags = Tags::new(alloc, sets, ways)?;
+        let rows = vec![in alloc; Row::nobody(); sets as usize * usize::from(ways)]?;
+        let bytes = first_bytes(alloc, u64::from(shards), number, image)?;
+        Ok(Home {
+            number,
+            shards: u64::from(shards),
+            below: image.base() / LINE / u64::from(shards),
+            base: image.base(),
+            size: image.size(),
+            ways: tags,
+            rows,
+            bytes,
+            marks: Marks::new(alloc, cores)?,
+        })
+    }
+
+    /// What is kept of a line, where the L2 has it.
+    pub fn row(&self, line: u64) -> Option<Row>
+        ensures { option_map line_in result ≡ row_at self.now line }
+    {
+        match self.ways.find(self.shards, line) {
+            Some(place) => Some(self.rows[place]),
+            None => None,
+        }
+    }
+
+    /// The line that the L2 evicts for this one, with its row. None where it has room.
+    pub fn evicted(&self, line: u64) -> Option<(u64, Row)>
+        ensures { option_map evicted_in result ≡ evicted_by self.now line }
+    {
+        match self.ways.victim(self.shards, line) {
+            Some(place) => Some((self.ways.tags[place], self.rows[place])),
+            None => None,
+        }
+    }
+
+    /// A line that the L2 has is used.
+    pub fn look_up(&mut self, line: u64)
+        requires { IsSome (row_at self.old line) }
+        ensures { self.new ≡ looked_up_in line self.old }
+    {
+        let age = next_age(
+            &mut self.ways.ages,
+            &mut self.ways.tick,
+            self.ways.sets,
+            self.ways.ways,
+        );
+        if let Some(place) = self.ways.find(self.shards, line) {
+            self.ways.ages[place] = age;
+        }
+    }
+
+    /// A line comes into the L2, clean. No core has it. What is evicted for it has left before.
+    pub fn bring(&mut self, line: u64)
+        requires { row_at self.old line ≡ None }
+        ensures { self.new ≡ brought_in line self.old }
+    {
+        let (place, _had) = self.ways.put_in(self.shards, line);
+        self.rows[place] = Row::nobody();
+    }
+
+    /// Memory has other bytes of a line than the L2, if this has it.
+    pub fn mark_dirty(&mut self, line: u64)
+        ensures { self.new ≡ marked_dirty_in line self.old }
+    {
+        if let Some(row) = self.row(line) {
+            self.set_row(line, row.with_dirty());
+        }
+    }
+
+    /// A core's L1 has a line of the L2 too: it alone, or not.
+    pub fn grant(&mut self, line: u64, core: u16, alone: bool)
+        requires { core < 256 }
+        ensures { self.new ≡ granted_in line core alone self.old }
+    {
+        if let Some(row) = self.row(line) {
+            self.set_row(line, row.with_sharer(core, alone));
+        }
+    }
+
+    /// A core's L1 has a line of the L2, in M or E, and no other has it any more.
+    pub fn own(&mut self, line: u64, core: u16)
+        requires { core < 256 }
+        ensures { self.new ≡ owned_in line core self.old }
+    {
+        if let Some(row) = self.row(line) {
+            self.set_row(line, row.with_owner(core));
+        }
+    }
+
+    /// A core's L1 has a line of the L2 no more.
+    pub fn drop_core(&mut self, line: u64, core: u16)
+        requires { core < 256 }
+        ensures { self.new ≡ dropped_in line core self.old }
+    {
+        if let Some(row) = self.row(line) {
+            self.set_row(line, row.without_sharer(core));
+        }
+    }
+
+    /// A core's instruction cache has a line of the L2 too.
+    pub fn fetch(&mut self, line: u64, core: u16)
+        requires { core < 256 }
+        ensures { self.new ≡ fetched_in line core self.old }
+    {
+        if let Some(row) = self.row(line) {
+            self.set_row(line, row.with_fetcher(core));
+        }
+    }
+
+    /// A core's instruction cache has a line of the L2 no more.
+    pub fn drop_fetcher(&mut self, line: u64, core: u16)
+        requires { core < 256 }
+        ensures { self.new ≡ unfetched_in line core self.old }
+    {
+        if let Some(row) = self.row(line) {
+            self.set_row(line, row.without_fetcher(core));
+        }
+    }
+
+    /// Gives a line that the L2 has another row.
+    fn set_row(&mut self, line: u64, row: Row)
+        ensures { self.new ≡ with_row_in line (line_in row) self.old }
+    {
+        if let Some(place) = self.ways.find(self.shards, line) {
+            self.rows[place] = row;
+        }
+    }
+
+    /// The bytes of a line.
+    pub fn line_bytes(&self, line: u64) -> &[u8]
+        requires { KeepsLine self.now line }
+        ensures { result.now ≡ bytes_at self.now line }
+    {
+        let place = self.line_place(line);
+        &self.bytes[place..place + LINE as usize]
+    }
+
+    /// The bytes of a line come home.
+    pub fn write_back(&mut self, line: u64, from: &[u8])
+        requires kept { KeepsLine self.old line }
+        requires whole { length from.now ≡ line_bytes }
+        ensures { self.new ≡ with_bytes_at line from.now self.old }
+    {
+        let place = self.line_place(line);
+        put_line(&mut self.bytes, place, from);
+    }
+
+    /// Where a line's bytes stand.
+    #[inline(always)]
+    fn line_place(&self, line: u64) -> usize
+        requires { KeepsLine self.now line }
+        ensures place { result ≡ line_place self.now line }
+        ensures kept { KeepsLine self.now line }
+    {
+        (quotient(line, self.shards).saturating_sub(self.below) * LINE) as usize
+    }
+
+    /// Whether a core has marked these bytes by a load-reserved.
+    pub fn has_mark(&self, core: u16, addr: u64, width: u8) -> bool
+        requires { core < length self.now.marks }
+        ensures { result ≡ is_reservation (slice_index_or self.now.marks core None) addr width }
+    {
+        self.marks.has(core, addr, width)
+    }
+
+    /// Marks these bytes for a core.
+    pub fn mark(&mut self, core: u16, addr: u64, width: u8)
+        requires { core < length self.old.marks }
+        ensures { self.new ≡ record self.old { marks = slice_set self.old.marks core (Some (record { addr = addr; width = width })) } }
+    {
+        self.marks.mark(core, addr, width);
+    }
+
+    /// Ends the mark of a core.
+    pub fn end_mark(&mut self, core: u16)
+        requires { core < length self.old.marks }
+        ensures { self.new ≡ record self.old { marks = slice_set self.old.marks core None } }
+    {
+        self.marks.end(core);
+    }
+
+    /// Ends the marks of the other cores in the line that a core wrote to.
+    #[inline(always)]
+    pub fn end_other_marks(&mut self, core: u16, addr: u64)
+        ensures { self.new ≡ record self.old { marks = after_write core addr self.old.marks } }
+    {
+        self.marks.end_others(core, addr);
+    }
+
+    /// Whether another core has a mark on a line.
+    #[inline(always)]
+    pub fn is_marked_by_others(&self, core: u16, line: u64) -> bool
+        ensures { result ≡ is_marked_by_others self.now.marks core line }
+    {
+        self.marks.others_on(core, line)
+    }
+}
+
+/// Puts the bytes of a line at a place.
+fn put_line(bytes: &mut [u8], place: usize, from: &[u8])
+    requires within { place + length from.now ≤ length bytes.old }
+    ensures value { bytes.new ≡ take place bytes.old ++ (from.now ++ drop (place + length from.now) bytes.old) }
+    ensures length { length bytes.new ≡ length bytes.old }
+{
+    copy_line(&mut bytes[place..place + from.len()], from);
+}
+
+fn copy_line(line: &mut [u8], from: &[u8])
+    requires { length line.old ≡ length from.now }
+    ensures { line.new ≡ from.now }
+{
+    line.copy_from_slice(from);
+}

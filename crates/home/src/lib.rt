@@ -1,0 +1,11 @@
+//! The home of a bank's lines: the bank's part of the L2 with a directory of it, the bytes of its
+//! lines, and what the cores have marked in them.
+#![tactic(auto)]
+
+mod filling;
+mod home;
+mod marks;
+mod row;
+
+pub use home::Home;
+pub use row::Row;
