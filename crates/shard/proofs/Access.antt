@@ -10,7 +10,7 @@ use Rattle.cache_set.specs.declared.letter.Letter.TheVariants.{M, E, S, I}
 use Rattle.cache_set.specs.Ways.{kept_of, without, used, changed}
 use Rattle.shard.specs.CacheSteps.{ChangesOne, DropsAll, DropsOthers, LeavesFree, EvictsCopies, EvictsOwn, copies_at}
 use Rattle.shard.specs.Coherence.{Caches, after_at, dirty_at, in_own_set_of, instructions_recalled, is_alone, is_valid, is_modified, l2_victim, letter_at, looked_up, marked_dirty, on_others, other_after, others_changed, own_after, own_victim, recalled, copies_evicted, some_other, filled_into_l1, filled_into_l2, written_back}
-use Rattle.shard.specs.Lines.{in_set_of, set_number, set_of}
+use Rattle.cache_set.specs.Lines.{in_set_of, set_number, set_of}
 use Rattle.shard.proofs.Entries.{still_there, used_kept}
 use Rattle.shard.proofs.Others.{fills, has_left}
 use Rattle.shard.proofs.SomeCores.{some_other_same}

@@ -12,7 +12,7 @@ use Rattle.mesi_dir.specs.LineMap.{LineMap, Sharing, HasOther, KeepsOthers, is_a
 use Rattle.shard.specs.CacheLayout.{AreLists, ChangesLetter, CoreLines, HasCopies, IsCore, IsShared, SharedLines, SaysLetters, SetsLetter, copies_of, is_owner, lists_view, no_lines, own_letter, shared_of, sharing_at, sharing_without}
 use Rattle.shard.specs.CacheSteps.{ChangesOne, HaveCopies}
 use Rattle.shard.specs.Coherence.{Caches, is_alone, is_valid, letter_at, dirty_at, empty_caches, filled_into_l2, in_own_set_of, l2_victim, looked_up, marked_dirty, own_after, own_victim, some_other}
-use Rattle.shard.specs.Lines.{in_set_of, set_number, set_of}
+use Rattle.cache_set.specs.Lines.{in_set_of, set_number, set_of}
 use Rattle.shard.proofs.SomeCores.{some_other_false, some_other_true}
 
 -- ---- letters and sharing, as functions

@@ -6,7 +6,7 @@ use Rattle.cache_set.specs.declared.letter.Letter.{Letter}
 use Rattle.cache_set.specs.declared.letter.Letter.TheVariants.{M, E, S, I}
 use Rattle.cache_set.specs.Ways.{filled, without}
 use Rattle.shard.specs.Coherence.{Caches, after_at, copies_evicted, dirty_at, filled_into_l1, filled_into_l2, in_own_set_of, instructions_recalled, is_alone, is_dirty_victim, is_modified, is_valid, kept_first, l2_victim, letter_at, looked_up, marked_dirty, met_at, on_l2, on_others, on_own, other_after, others_changed, outcome_by, own_after, own_victim, recalled, some_other, written_back}
-use Rattle.shard.specs.Lines.{in_set_of}
+use Rattle.cache_set.specs.Lines.{in_set_of}
 
 abbrev pub Instructions : Type 0
 Instructions = List (List (List (ℕ × Unit {0})))

@@ -2,7 +2,7 @@
 use Rattle.std.proofs.Common.{◌≡◌, ◌≢◌, ℕ, ◌<◌, Bool, true, false, cond, length, Option, Some, None, is_some, refl, sym, ◌∙◌, subst, arith, inl, inr, ◌⊎◌}
 use Rattle.std.proofs.lemmas.Bool.{cases_eq}
 use Rattle.zs_num.specs.Request.{is_fetch, line_of}
-use Rattle.zs_num.specs.declared.entry.Outcome.TheVariants.{L2, Miss}
+use Rattle.zs_num.specs.declared.entry.Outcome.TheVariants.{L2, Miss, Upgrade}
 use Rattle.zs_num.specs.declared.request.Request.{Request}
 use Rattle.cache_set.specs.declared.letter.Letter.{Letter}
 use Rattle.cache_set.specs.declared.letter.Letter.TheVariants.{M, E, S, I}
@@ -14,7 +14,8 @@ use Rattle.shard.proofs.CoherentInstructions.{holds_fetched, holds_filled_other,
 use Rattle.shard.proofs.CoherentLetters.{letter_fetched, letter_instructions, letter_looked_up, letter_on_l1i, letter_recalled_other, letter_recalled_same}
 use Rattle.shard.proofs.CoherentPlaced.{Keeps, access_keeps, l2_step, room_keeps}
 use Rattle.shard.proofs.CoherentSets.{fit_of_sets, placed_of_sets, sets_of_fit}
-use Rattle.shard.proofs.Fits.{Fits, access_fits, fetched_fits, room_fits}
+use Rattle.shard.proofs.Fits.{Fits, access_fits, fetched_fits, looked_fits, room_fits}
+use Rattle.shard.proofs.L2Laws.{L2Laws}
 use Rattle.shard.proofs.Kept.{access_same, l2_same, room_same}
 use Rattle.shard.proofs.CoherentSettled.{Settles, held_or_lost, lost, lost_alone, settled, single_by}
 use Rattle.shard.proofs.CoherentRows.{IsReady, comes, found, hit, room_after, upgrade}
@@ -192,3 +193,17 @@ coherent_stays c core request h room known =
     let keeps : Keeps c d = access_keeps c core request in
     let sets : HaveSets d = sets_of_fit d (access_fits c core request (fit_of_sets c h.sets)) (keeps.placed (placed_of_sets c h.sets)) in
     (settled c d (line_of request) h (access_settles c core request h room known) sets, room_after c d (access_same c core request) keeps room, keeps.cores, keeps.fetchers)
+
+-- ---- what an access does to the L2, before it does anything to an L1
+pub l2_laws : L2Laws
+l2_laws = record {
+  looked = λ c line h room known there.
+      let d : Caches = looked_up line c in
+      let keeps : Keeps c d = l2_step (Upgrade false) line c in
+      let sets : HaveSets d = sets_of_fit d (looked_fits line c (fit_of_sets c h.sets)) (keeps.placed (placed_of_sets c h.sets)) in
+      (settled c d line h (unchanged c 0 line h known room d (letter_looked_up line c) (dirty_looked_up line c) (holds_looked_up line c) there) sets, room_after c d (l2_same (Upgrade false) line c) keeps room);
+  filled = λ c line h room known out.
+      let d : Caches = filled_into_l2 line (copies_evicted (l2_victim c line) c) in
+      let ready : IsReady c d 0 line M = missed c 0 line h known room M out in
+      (settled c d line h (ready_settles c 0 line h known room d ready) ready.sets, ready.room);
+}

@@ -1,5 +1,5 @@
 -- Where the L2 has the line of an access, a fetch leaves the L1s as they are, and any other access the instruction
--- caches. What a core fetches is in its instruction cache.
+-- caches. Right after a core's fetch the line is in its instruction cache.
 use Rattle.std.proofs.Common.{◌≡◌, ◌≢◌, ℕ, ◌<◌, Bool, true, false, cond, length, Option, Some, None, is_some, refl, ◌∙◌, arith}
 use Rattle.std.specs.Prelude.{IfSome, nat_lt}
 use Rattle.std.proofs.lemmas.Bool.{lt-ltb}
@@ -10,7 +10,7 @@ use Rattle.zs_num.specs.declared.request.Request.TheVariants.{Fetch}
 use Rattle.cache_set.specs.declared.letter.Letter.{Letter}
 use Rattle.cache_set.specs.declared.letter.Letter.TheVariants.{M, E, S, I}
 use Rattle.shard.specs.Coherence.{Caches, after_at, caches_after, copies_evicted, filled_into_l2, met_at, recalled, dirty_at, fetch_holds, fetch_outcome_by, filled_into_l1, filled_into_l1i, is_alone, is_dirty_victim, is_modified, is_valid, is_write, kept_first, l2_victim, letter_at, looked_up, marked_dirty, on_l1i, on_l2, on_others, on_own, other_after, others_changed, outcome_by, own_after, own_victim, some_other, used_in_l1i, written_back}
-use Rattle.shard.specs.Laws.{FetchesChangeNoLetter, FetchesStay, FetchesTakeOneLetter, WritesLeaveInstructions, WritesTakeOneInstruction}
+use Rattle.shard.specs.Laws.{FetchedLinesAreThere, FetchesChangeNoLetter, FetchesTakeLettersOfOneLine, OthersLeaveInstructionCaches, OthersTakeOneLine}
 use Rattle.shard.specs.StandsFor.{HaveRoomForLines}
 use Rattle.shard.proofs.CoherentInstructions.{holds_fetched, holds_filled_same, holds_first, holds_instructions_other, holds_looked_up, holds_marked, holds_others, holds_recalled, holds_taken, holds_used}
 use Rattle.shard.proofs.CoherentLetters.{letter_fetched, letter_instructions, letter_looked_up, letter_on_l1i, letter_recalled_other}
@@ -94,9 +94,9 @@ l1i_of_access c core line write there =
     l1i_own own core line (own_after write own has) (on_others outcome write core line (on_l2 outcome line c))
     ∙ l1i_of_row core line c own write in_l2 alone has dirty there
 
-pub writes_leave_instructions : WritesLeaveInstructions
+pub others_leave_instruction_caches : OthersLeaveInstructionCaches
 unfolding caches_after
-writes_leave_instructions c core request reads there =
+others_leave_instruction_caches c core request reads there =
     let line : ℕ = line_of request in
     let write : Bool = is_write request in
     rw reads (l1i_of_access c core line write there)
@@ -114,9 +114,9 @@ letter_of_fetch core line c false false dirty a l apart =
     let made : Caches = copies_evicted (l2_victim c line) c in
     letter_on_l1i false core line (filled_into_l2 line made) a l ∙ letter_fetched line made a l ∙ letter_evicted (l2_victim c line) c a l apart
 
-pub fetches_take_one_letter : FetchesTakeOneLetter
+pub fetches_take_letters_of_one_line : FetchesTakeLettersOfOneLine
 unfolding caches_after
-fetches_take_one_letter c core addr other l apart =
+fetches_take_letters_of_one_line c core addr other l apart =
     let line : ℕ = line_of (Fetch addr) in
     letter_of_fetch core line c (fetch_holds c core line) (is_some (dirty_at c line)) (is_dirty_victim c (l2_victim c line)) other l apart
 
@@ -158,12 +158,12 @@ holds_of_access c core line write a l apart =
     ∙ holds_on_others outcome write core line first a l
     ∙ holds_on_l2 outcome line c a l apart
 
-pub writes_take_one_instruction : WritesTakeOneInstruction
+pub others_take_one_line : OthersTakeOneLine
 unfolding caches_after
-writes_take_one_instruction c core request other l reads apart =
+others_take_one_line c core request other l reads apart =
     rw reads (holds_of_access c core (line_of request) (is_write request) other l apart)
 
--- ---- what a core fetched it has
+-- ---- right after a fetch the line is there
 fetched_stays : (c : Caches) → HaveRoomForLines c → (core line : ℕ) → core < length c.l1i → (held in_l2 dirty : Bool) → fetch_holds c core line ≡ held
     → fetch_holds (on_l1i held core line (on_l2 (fetch_outcome_by held in_l2 dirty) line c)) core line ≡ true
 fetched_stays c room core line known true in_l2 dirty e = holds_used core line c core line ∙ e
@@ -178,8 +178,8 @@ fetched_stays c room core line known false in_l2 dirty e =
     have : (n k : ℕ) → k < n → nat_lt 0 n ≡ true
     have n k l = lt-ltb 0 n (omega (arith, l))
 
-pub fetches_stay : FetchesStay
+pub fetched_lines_are_there : FetchedLinesAreThere
 unfolding caches_after
-fetches_stay c core addr room known =
+fetched_lines_are_there c core addr room known =
     let line : ℕ = line_of (Fetch addr) in
     fetched_stays c room core line known (fetch_holds c core line) (is_some (dirty_at c line)) (is_dirty_victim c (l2_victim c line)) refl

@@ -6,7 +6,7 @@ use Rattle.std.proofs.lemmas.List.{get_or-set_same, length-set}
 use Rattle.cache_set.specs.declared.letter.Letter.{Letter}
 use Rattle.cache_set.specs.Ways.{used, filled, changed}
 use Rattle.shard.specs.Coherence.{Caches, dirty_at, filled_into_l1i, instructions_recalled, on_l1i, used_in_l1i, is_modified, kept_first, l2_victim, looked_up, marked_dirty, others_changed, own_victim, recalled, copies_evicted, filled_into_l1, filled_into_l2, written_back}
-use Rattle.shard.specs.Lines.{set_of, set_number}
+use Rattle.cache_set.specs.Lines.{set_of, set_number}
 use Rattle.shard.specs.StandsFor.{HaveSets, IsSet}
 use Rattle.shard.proofs.CoherentLetters.{at_victim, kept_here}
 use Rattle.shard.proofs.CoherentLines.{kept_changed_other, kept_changed_same, kept_elsewhere, kept_filled_other, kept_filled_room, kept_filled_same, kept_filled_victim, kept_used, set_same}

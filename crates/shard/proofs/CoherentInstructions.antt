@@ -6,7 +6,7 @@ use Rattle.std.proofs.lemmas.List.Elements.{All-nil}
 use Rattle.cache_set.specs.declared.letter.Letter.{Letter}
 use Rattle.cache_set.specs.Ways.{kept_of, without, used, filled}
 use Rattle.shard.specs.Coherence.{Caches, fetch_holds, filled_into_l1, filled_into_l1i, filled_into_l2, instructions_recalled, is_modified, kept_first, l1i_lines_at, looked_up, marked_dirty, others_changed, own_victim, recalled, used_in_l1i, written_back}
-use Rattle.shard.specs.Lines.{set_of, in_set_of, set_number}
+use Rattle.cache_set.specs.Lines.{set_of, in_set_of, set_number}
 use Rattle.shard.specs.StandsFor.{HaveSets, IsSet}
 use Rattle.shard.proofs.CoherentLetters.{kept_here}
 use Rattle.shard.proofs.CoherentLines.{kept_elsewhere, kept_filled_same, kept_front_other, kept_used, kept_without_other, kept_without_same, set_same}

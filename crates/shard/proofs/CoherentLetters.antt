@@ -12,7 +12,7 @@ use Rattle.cache_set.specs.declared.letter.Letter.{Letter}
 use Rattle.cache_set.specs.declared.letter.Letter.TheVariants.{M, E, S, I}
 use Rattle.cache_set.specs.Ways.{kept_of, without, filled, victim_of}
 use Rattle.shard.specs.Coherence.{Caches, filled_into_l1i, in_own_set_of, instructions_recalled, is_modified, kept_first, on_l1i, used_in_l1i, letter_at, letter_in, looked_up, marked_dirty, others_changed, own_victim, recalled, filled_into_l1, filled_into_l2, with_letter, written_back}
-use Rattle.shard.specs.Lines.{set_of, in_set_of, set_number}
+use Rattle.cache_set.specs.Lines.{set_of, in_set_of, set_number}
 use Rattle.shard.specs.StandsFor.{HaveSets, IsSet}
 use Rattle.shard.proofs.CoherentLines.{kept_changed_other, kept_changed_same, kept_elsewhere, kept_filled_other, kept_filled_room, kept_filled_same, kept_filled_victim, kept_front_other, kept_front_same, kept_without_other, kept_without_same, set_same}
 use Rattle.shard.proofs.CoherentLists.{mapped_at, numbered_at, set_read}

@@ -9,7 +9,7 @@ use Rattle.std.proofs.lemmas.List.{get_or-set_same, get_or-set_other, length-set
 use Rattle.std.proofs.lemmas.Map.Keys.{IsDistinct-head, IsDistinct-tail}
 use Rattle.cache_set.proofs.Sets.{Lacks, lacks-others}
 use Rattle.cache_set.specs.Ways.{kept_of, without, used, filled, changed, victim_of}
-use Rattle.shard.specs.Lines.{set_of, in_set_of, set_number}
+use Rattle.cache_set.specs.Lines.{set_of, in_set_of, set_number}
 use Rattle.shard.proofs.CoherentLists.{set_read}
 
 -- ---- all sets, of which the one of a line changes

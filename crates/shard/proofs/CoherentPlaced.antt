@@ -13,7 +13,7 @@ use Rattle.cache_set.specs.declared.letter.Letter.TheVariants.{M, E, S, I}
 use Rattle.cache_set.specs.Ways.{without, used, filled, changed}
 use Rattle.shard.specs.Coherence.{Caches, after_at, after_fetch_at, caches_after, empty_caches, fetch_holds, fetch_met_at, filled_into_l1i, instructions_recalled, met_at, on_l1i, used_in_l1i, is_valid, is_modified, is_write, kept_first, l2_victim, letter_at, letter_in, looked_up, marked_dirty, on_l2, on_others, on_own, other_after, others_changed, own_after, own_victim, recalled, copies_evicted, some_other, filled_into_l1, filled_into_l2, with_letter, written_back}
 use Rattle.shard.specs.Accesses.{caches_after_all}
-use Rattle.shard.specs.Lines.{set_of, in_set_of, set_number}
+use Rattle.cache_set.specs.Lines.{set_of, in_set_of, set_number}
 use Rattle.shard.proofs.CoherentLists.{mapped_at, numbered_at, set_read}
 use Rattle.shard.proofs.CoherentStand.{AllStand, Stand, empty_stands, none_stand, stand_changed, stand_in_set, stand_take, stand_used, stand_without}
 

@@ -10,7 +10,7 @@ use Rattle.cache_set.specs.declared.letter.Letter.{Letter}
 use Rattle.cache_set.specs.declared.letter.Letter.TheVariants.{I}
 use Rattle.shard.specs.Coherence.{Caches, caches_after, empty_caches, fetch_holds, is_valid, letter_at}
 use Rattle.shard.specs.Accesses.{caches_after_all}
-use Rattle.shard.specs.Lines.{set_of}
+use Rattle.cache_set.specs.Lines.{set_of}
 use Rattle.shard.specs.StandsFor.{AreCoherent, HaveRoomForLines}
 use Rattle.shard.proofs.Coherent.{coherent_stays}
 use Rattle.shard.proofs.CoherentLists.{empty_at}

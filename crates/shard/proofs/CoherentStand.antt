@@ -6,7 +6,7 @@ use Rattle.std.proofs.lemmas.Bool.{cases_eq, cases_lt}
 use Rattle.std.proofs.lemmas.List.{get_or-set_same, get_or-set_other, get_or_past, length-set}
 use Rattle.std.proofs.lemmas.List.Elements.{All-nil, All-cons}
 use Rattle.cache_set.specs.Ways.{kept_of, without, used, changed}
-use Rattle.shard.specs.Lines.{set_of, in_set_of, set_number}
+use Rattle.cache_set.specs.Lines.{set_of, in_set_of, set_number}
 use Rattle.shard.proofs.CoherentLists.{empty_at}
 
 -- ---- one set, of so many, with its number

@@ -15,7 +15,7 @@ use Rattle.cache_set.specs.declared.set.Way.{Way}
 use Rattle.cache_set.proofs.Sets.{set-without, set-used, set-changed, set-filled}
 use Rattle.shard.specs.CacheLayout.{AreCoreSets, HasCopies, IsCoreSet, copies_in, copies_of, core_view, letter_without, own_letter}
 use Rattle.shard.specs.Coherence.{is_valid, letter_in}
-use Rattle.shard.specs.Lines.{in_set_of, set_number, set_of}
+use Rattle.cache_set.specs.Lines.{in_set_of, set_number, set_of}
 use Rattle.shard.proofs.Entries.{kept_without, kept-without, kept-changed, kept-first, kept-filled, last_kept, kept-as, without-as, changed-as, filled-as, last-as, first_changed, each_as, take-as, without_last}
 
 -- ---- letters of marks

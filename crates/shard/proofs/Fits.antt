@@ -18,7 +18,7 @@ use Rattle.cache_set.specs.Ways.{kept_of, without, used, filled, changed}
 use Rattle.cache_set.proofs.Sets.{lacks-absent, lacks-take, distinct-without, lacks-others, length-without, length-without_some}
 use Rattle.shard.specs.Coherence.{Caches, letter_in, letter_at, dirty_at, fetch_holds, l1i_lines_at, outcome_by, is_write, is_alone, is_dirty_victim, some_other, is_valid, is_modified, own_after, own_victim, on_l2, on_others, on_own, l2_victim, copies_evicted, written_back, after_at, after_fetch_at, fetch_outcome_by, caches_after, empty_caches, recalled, instructions_recalled, marked_dirty, filled_into_l2, looked_up, other_after, others_changed, kept_first, filled_into_l1, filled_into_l1i, on_l1i, used_in_l1i, with_letter}
 use Rattle.shard.specs.Accesses.{caches_after_all}
-use Rattle.shard.specs.Lines.{set_of, in_set_of, set_number}
+use Rattle.cache_set.specs.Lines.{set_of, in_set_of, set_number}
 use Rattle.shard.specs.StandsFor.{IsSet}
 
 -- ---- one set

@@ -9,7 +9,7 @@ use Rattle.cache_set.specs.Ways.{kept_of, without, used, filled}
 use Rattle.shard.specs.CacheLayout.{AreInstructionCaches, CoreLines, HasCopies, IsCore, copies_of, instructions_view, lines_in, lines_recalled, own_letter}
 use Rattle.shard.specs.Coherence.{is_valid, letter_in}
 use Rattle.shard.specs.InstructionSteps.{InstructionState, holds_line, in_set_of_core}
-use Rattle.shard.specs.Lines.{in_set_of, set_number, set_of}
+use Rattle.cache_set.specs.Lines.{in_set_of, set_number, set_of}
 use Rattle.shard.proofs.Entries.{filled-as, kept-as, without-as}
 
 abbrev there : Letter → Unit {0}

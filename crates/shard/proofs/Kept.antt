@@ -14,7 +14,7 @@ use Rattle.flat_memory.specs.declared.reservation.Reservation.{Reservation}
 use Rattle.flat_memory.specs.FlatMemory.{after_write}
 use Rattle.shard.specs.Coherence.{Caches, letter_at, is_write, some_other, is_valid, is_modified, own_after, own_victim, on_l2, on_others, on_own, on_l1i, l2_victim, copies_evicted, written_back, after_at, after_fetch_at, caches_after, recalled, instructions_recalled, marked_dirty, filled_into_l2, looked_up, other_after, others_changed, kept_first, filled_into_l1, used_in_l1i, filled_into_l1i, met_at, fetch_met_at, fetch_holds}
 use Rattle.cache_set.specs.Ways.{without, used, filled, changed}
-use Rattle.shard.specs.Lines.{in_set_of}
+use Rattle.cache_set.specs.Lines.{in_set_of}
 use Rattle.shard.specs.Marks.{marks_after, does_store}
 
 -- the number of shards, the cores and the ways of two caches are the same
@@ -169,7 +169,7 @@ shards_stay c core request = (access_same c core request).shards
 
 -- ---- marks
 
-length-after_write : (core addr : ℕ) (marks : List (Option Reservation)) → length (after_write core addr marks) ≡ length marks
+pub length-after_write : (core addr : ℕ) (marks : List (Option Reservation)) → length (after_write core addr marks) ≡ length marks
 unfolding after_write
 length-after_write core addr marks = length-map (enumerate_from 0 marks) _ ∙ length-enumerate_from 0 marks
 

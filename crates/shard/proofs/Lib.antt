@@ -1,5 +1,9 @@
 pub mod Access
 pub mod AllCaches
+pub mod BankAsks
+pub mod BankMet
+pub mod BankReady
+pub mod BankSteps
 pub mod Beside
 pub mod Coherent
 pub mod CoherentApart
@@ -18,8 +22,10 @@ pub mod CoreSets
 pub mod Entries
 pub mod FirstBytes
 pub mod Fits
+pub mod HomesAndL1s
 pub mod Instructions
 pub mod Kept
+pub mod L2Laws
 pub mod LaidOut
 pub mod Others
 pub mod Reservations

@@ -13,7 +13,7 @@ use Rattle.cache_set.specs.Ways.{kept_of, without, changed, filled, victim_of}
 use Rattle.shard.specs.CacheLayout.{is_owner}
 use Rattle.shard.specs.CacheSteps.{ChangesOne, DropsAll, DropsOthers, HaveCopies, copies_at}
 use Rattle.shard.specs.Coherence.{Caches, in_own_set_of, is_alone, is_modified, letter_at, letter_in, other_after, others_changed, own_victim, recalled, some_core, with_letter}
-use Rattle.shard.specs.Lines.{in_set_of, set_number, set_of}
+use Rattle.cache_set.specs.Lines.{in_set_of, set_number, set_of}
 use Rattle.shard.proofs.Entries.{changed_same, without_absent}
 use Rattle.shard.proofs.SomeCores.{some_core_false, some_core_true}
 

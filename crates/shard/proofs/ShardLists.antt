@@ -14,7 +14,7 @@ use Rattle.shard.specs.CacheLayout.{lines_recalled}
 use Rattle.shard.specs.Coherence.{Caches, after_at, after_fetch_at, caches_after, copies_evicted, dirty_at, fetch_holds, fetch_met_at, filled_into_l1i, filled_into_l2, instructions_recalled, is_dirty_victim, is_write, l2_victim, letter_at, looked_up, met_at, on_l1i, on_l2, outcome_of, recalled, used_in_l1i}
 use Rattle.shard.specs.HaveL1i.{have_l1i}
 use Rattle.shard.specs.InstructionSteps.{InstructionState, holds_line, in_set_of_core}
-use Rattle.shard.specs.Lines.{in_set_of, set_number, set_of}
+use Rattle.cache_set.specs.Lines.{in_set_of, set_number, set_of}
 use Rattle.shard.specs.ShardLayout.{AreShardCaches, all_caches}
 use Rattle.shard.proofs.Beside.{Instructions, after_beside, beside, dirty_beside, dirty_victim_beside, l2_beside, left_of, letter_beside, met_beside, none_come, none_filled}
 use Rattle.shard.proofs.CoherentLists.{mapped_at, set_read}

@@ -11,7 +11,7 @@ use Rattle.cache_set.specs.declared.letter.Letter.{Letter}
 use Rattle.cache_set.specs.declared.letter.Letter.TheVariants.{M, E, S, I}
 use Rattle.cache_set.specs.Ways.{without, used, filled, changed}
 use Rattle.shard.specs.Coherence.{Caches, after_at, after_fetch_at, caches_after, fetch_holds, fetch_met_at, filled_into_l1i, in_l1i_set_of, in_own_set_of, instructions_recalled, is_valid, is_modified, is_write, kept_first, l2_victim, letter_at, letter_in, looked_up, marked_dirty, met_at, on_l1i, on_l2, on_others, on_own, other_after, others_changed, own_after, own_victim, recalled, copies_evicted, some_other, filled_into_l1, filled_into_l2, used_in_l1i, with_letter, written_back}
-use Rattle.shard.specs.Lines.{in_set_of, set_number}
+use Rattle.cache_set.specs.Lines.{in_set_of, set_number}
 use Rattle.shard.proofs.CoherentLetters.{at_victim}
 use Rattle.shard.proofs.CoherentLists.{mapped_at, numbered_at, set_read}
 use Rattle.shard.proofs.CoherentPlaced.{Keeps, Placed, if_other, l2_step, none_other, others_step}

@@ -7,7 +7,7 @@ use Rattle.zs_num.specs.declared.request.Request.{Request}
 use Rattle.cache_set.specs.declared.letter.Letter.{Letter}
 use Rattle.cache_set.specs.Ways.{kept_of}
 use Rattle.shard.specs.Coherence.{Caches, dirty_at, fetch_holds, fetch_met_at, fetch_outcome_by, is_alone, is_dirty_victim, is_valid, is_modified, is_write, l2_victim, letter_at, letter_in, met_at, outcome_by, outcome_of, own_victim, some_core, some_other}
-use Rattle.shard.specs.Lines.{set_of, set_number}
+use Rattle.cache_set.specs.Lines.{set_of, set_number}
 use Rattle.shard.proofs.CoherentLetters.{at_victim}
 use Rattle.shard.proofs.CoherentPlaced.{Placed}
 use Rattle.shard.proofs.CoherentStand.{stand_all}

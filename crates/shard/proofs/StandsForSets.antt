@@ -5,7 +5,7 @@ use Rattle.std.proofs.Math.Nat.{div-one, mod-zero, mul_comm}
 use Rattle.std.proofs.lemmas.Bool.{cases_eq, cases_lt}
 use Rattle.std.proofs.lemmas.List.{length-set}
 use Rattle.std.proofs.lemmas.Nat.{div-mul-add, mod-mul-add}
-use Rattle.shard.specs.Lines.{set_of, in_set_of, set_number}
+use Rattle.cache_set.specs.Lines.{set_of, in_set_of, set_number}
 use Rattle.shard.proofs.CoherentLines.{set_other, set_same_at}
 
 -- ---- the number of a set among all, and among those of one shard

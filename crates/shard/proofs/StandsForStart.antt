@@ -20,7 +20,8 @@ use Rattle.shard.specs.Laws.{NewShardsStand}
 use Rattle.zs_num.specs.PairedRight.{pairing_of}
 use Rattle.zs_num.specs.Request.{line_at}
 use Rattle.zs_num.specs.declared.pairing.Pairing.{Pairing}
-use Rattle.shard.specs.Served.{ShardState, first_bytes, lines_below, lines_kept, new_shard, place_of}
+use Rattle.shard.specs.Served.{ShardState, new_shard, place_of}
+use Rattle.home.specs.FirstBytes.{first_bytes, lines_below, lines_kept}
 use Rattle.shard.specs.StandsFor.{StandFor, flat_for, new_memory, new_shards, reserved_by}
 use Rattle.shard.specs.NewCaches.{new_caches}
 use Rattle.shard.proofs.CoherentLists.{empty_at}

@@ -9,7 +9,7 @@ use Rattle.cache_set.specs.Ways.{kept_of, without}
 use Rattle.cache_set.specs.WaySets.{WaySet, IsWaySet}
 use Rattle.mesi_dir.specs.LineMap.{LineMap, Sharing, KeepsOthers, is_among, is_sharer, nobody, owner_of, sharing_of}
 use Rattle.shard.specs.Coherence.{Caches, is_alone, is_valid, letter_at, letter_in}
-use Rattle.shard.specs.Lines.{in_set_of, set_of}
+use Rattle.cache_set.specs.Lines.{in_set_of, set_of}
 
 -- ---- the cache of one core
 

@@ -4,7 +4,7 @@ use Rattle.cache_set.specs.declared.letter.Letter.{Letter}
 use Rattle.cache_set.specs.declared.letter.Letter.TheVariants.{I}
 use Rattle.cache_set.specs.Ways.{filled, kept_of}
 use Rattle.shard.specs.Coherence.{Caches, dirty_at, filled_into_l1, in_own_set_of, is_alone, is_valid, l2_victim, letter_at, own_victim}
-use Rattle.shard.specs.Lines.{set_of}
+use Rattle.cache_set.specs.Lines.{set_of}
 
 -- a line with the letter I has no copy in its set
 abbrev pub HaveCopies : Caches → Type 0

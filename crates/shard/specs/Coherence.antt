@@ -12,8 +12,9 @@ use Rattle.zs_num.specs.declared.request.Request.{Request}
 use Rattle.zs_num.specs.declared.request.Request.TheVariants.{Load, Store, Lr, Sc, Amo, Fetch}
 use Rattle.cache_set.specs.declared.letter.Letter.{Letter}
 use Rattle.cache_set.specs.declared.letter.Letter.TheVariants.{M, E, S, I}
+pub use Rattle.cache_set.specs.LetterFacts.{is_valid, is_alone, is_modified}
 use Rattle.cache_set.specs.Ways.{kept_of, without, used, filled, changed, victim_of}
-use Rattle.shard.specs.Lines.{set_of, in_set_of}
+use Rattle.cache_set.specs.Lines.{set_of, in_set_of}
 
 -- The lines in each set, the most recently used first. With one shard these are the caches of a whole machine, and else
 -- those of one shard.
@@ -57,25 +58,6 @@ letter_at c core line = letter_in line (set_of c.shards line (slice_index_or c.l
 -- whether the line is dirty in the L2, where the L2 holds it
 unfoldable pub dirty_at : Caches → (line : ℕ) → Option Bool
 dirty_at c line = kept_of line (set_of c.shards line c.l2)
-
-abbrev pub is_valid : Letter → Bool
-is_valid M = true
-is_valid E = true
-is_valid S = true
-is_valid I = false
-
--- a core with this letter is the only one that has the line
-abbrev pub is_alone : Letter → Bool
-is_alone M = true
-is_alone E = true
-is_alone S = false
-is_alone I = false
-
-abbrev pub is_modified : Letter → Bool
-is_modified M = true
-is_modified E = false
-is_modified S = false
-is_modified I = false
 
 -- a core's letter for the line passes the test
 abbrev pub some_core : (Letter → Bool) → Caches → (line : ℕ) → Bool

@@ -49,22 +49,23 @@ HitsAreAllowed = (c : Caches) (core : ℕ) (request : Request) → (outcome_of c
 abbrev pub FetchesChangeNoLetter : Type 0
 FetchesChangeNoLetter = (c : Caches) (core addr : ℕ) → IsSome (dirty_at c (line_at addr)) → (caches_after c core (Fetch addr)).l1 ≡ c.l1
 
-abbrev pub WritesLeaveInstructions : Type 0
-WritesLeaveInstructions = (c : Caches) (core : ℕ) (request : Request) → is_fetch request ≡ false → IsSome (dirty_at c (line_of request))
+abbrev pub OthersLeaveInstructionCaches : Type 0
+OthersLeaveInstructionCaches = (c : Caches) (core : ℕ) (request : Request) → is_fetch request ≡ false → IsSome (dirty_at c (line_of request))
     → (caches_after c core request).l1i ≡ c.l1i
 
--- and else a fetch changes letters, and another access instruction caches, for the line alone that the L2 evicts
-abbrev pub FetchesTakeOneLetter : Type 0
-FetchesTakeOneLetter = (c : Caches) (core addr other line : ℕ) → IfSome (l2_victim c (line_at addr)) (λ victim. line ≢ victim.0)
+-- And else a fetch changes letters for the line alone that the L2 evicts, and any other access instruction caches for
+-- that line alone.
+abbrev pub FetchesTakeLettersOfOneLine : Type 0
+FetchesTakeLettersOfOneLine = (c : Caches) (core addr other line : ℕ) → IfSome (l2_victim c (line_at addr)) (λ victim. line ≢ victim.0)
     → letter_at (caches_after c core (Fetch addr)) other line ≡ letter_at c other line
 
-abbrev pub WritesTakeOneInstruction : Type 0
-WritesTakeOneInstruction = (c : Caches) (core : ℕ) (request : Request) (other line : ℕ) → is_fetch request ≡ false → IfSome (l2_victim c (line_of request)) (λ victim. line ≢ victim.0)
+abbrev pub OthersTakeOneLine : Type 0
+OthersTakeOneLine = (c : Caches) (core : ℕ) (request : Request) (other line : ℕ) → is_fetch request ≡ false → IfSome (l2_victim c (line_of request)) (λ victim. line ≢ victim.0)
     → fetch_holds (caches_after c core request) other line ≡ fetch_holds c other line
 
--- a line that a core fetched is in its instruction cache
-abbrev pub FetchesStay : Type 0
-FetchesStay = (c : Caches) (core addr : ℕ) → HaveRoomForLines c → core < length c.l1i → IsTrue (fetch_holds (caches_after c core (Fetch addr)) core (line_at addr))
+-- right after a core's fetch the line is in its instruction cache
+abbrev pub FetchedLinesAreThere : Type 0
+FetchedLinesAreThere = (c : Caches) (core addr : ℕ) → HaveRoomForLines c → core < length c.l1i → IsTrue (fetch_holds (caches_after c core (Fetch addr)) core (line_at addr))
 
 -- whatever is accessed, from empty caches on, no set has a line twice or more lines than ways, each line stands in its
 -- own set, and no L1 has a line with the letter I

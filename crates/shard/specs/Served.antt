@@ -1,16 +1,16 @@
 -- A shard, and what it does with an access. All is said by functions of the shard and the recorded entry, so that a
 -- list of entries is at once the list of requests, of replies and of stamps.
-use Rattle.std.specs.Prelude.{◌≡◌, ℕ, ◌+◌, ◌-◌, ◌*◌, ◌/◌, ◌%◌, ◌<◌, List, [], ◌∷◌, length, max, replicate, Option, None}
-use Rattle.std.specs.List.{flat_map, range_with_len}
-use Rattle.zs_num.specs.Request.{addr_of, line_bytes, line_of, line_at, bank_of_line}
+use Rattle.std.specs.Prelude.{◌≡◌, ℕ, ◌+◌, ◌-◌, ◌*◌, ◌/◌, ◌%◌, ◌<◌, List, [], ◌∷◌, length, max, replicate, slice_index_or, Option, None}
+use Rattle.zs_num.specs.Request.{addr_of, bank_of_line, line_at, line_bytes, line_of}
 use Rattle.zs_num.specs.Servable.{IsServable}
 use Rattle.zs_num.specs.declared.entry.Entry.{Entry}
 use Rattle.zs_num.specs.declared.entry.Outcome.{Outcome}
 use Rattle.zs_num.specs.declared.request.Request.{Request}
-use Rattle.elf_load.specs.MemoryImage.{MemoryImage, bytes_from}
+use Rattle.elf_load.specs.MemoryImage.{MemoryImage}
 use Rattle.machine_desc.specs.declared.machine.Machine.{Machine}
 use Rattle.machine_desc.specs.InstructionCaches.{fetchers_of, l1i_sets_of, l1i_ways_of}
 use Rattle.flat_memory.specs.declared.reservation.Reservation.{Reservation}
+use Rattle.home.specs.FirstBytes.{lines_below, first_bytes}
 use Rattle.shard.specs.Coherence.{Caches, caches_after, empty_caches, outcome_of}
 use Rattle.shard.specs.HaveL1i.{have_l1i}
 use Rattle.shard.specs.Marks.{bytes_after, marks_after, reply_from}
@@ -28,10 +28,6 @@ pub record ShardState : Type 0 where
   pub marks : List (Option Reservation)
   -- the stamp of the latest access
   pub last : ℕ
-
--- how many of a shard's lines lie below memory: as many in each shard
-abbrev pub lines_below : (shards base : ℕ) → ℕ
-lines_below shards base = line_at base / shards
 
 -- where a byte of the shard stands among its bytes
 abbrev pub place_of : (shards base addr : ℕ) → ℕ
@@ -82,17 +78,21 @@ AreServedBy shard (e ∷ entries) = (e.reply ≡ shard_reply shard e) × (e.outc
 abbrev pub resumed : ShardState → (last : ℕ) → ShardState
 resumed shard last = record shard { last = last }
 
+-- ---- shards in order of their numbers
+
+-- it stands where there is no shard
+abbrev pub no_shard : ShardState
+no_shard = record { number = 0; base = 0; size = 0; caches = empty_caches 0 0 0 0 0 0 0 0 0; bytes = []; marks = []; last = 0 }
+
+-- the shard that keeps a line: that of its bank
+abbrev pub shard_of_line : List ShardState → (line : ℕ) → ShardState
+shard_of_line shards line = slice_index_or shards (bank_of_line (length shards) line) no_shard
+
+-- that of a request's line
+abbrev pub shard_for : List ShardState → Request → ShardState
+shard_for shards request = shard_of_line shards (line_of request)
+
 -- ---- before the first access
-
--- how many lines each shard keeps, so that it keeps those of its own that memory has
-abbrev pub lines_kept : (shards base size : ℕ) → ℕ
-lines_kept shards base size = line_at (base + size - 1) / shards - lines_below shards base + 1
-
--- the bytes of a shard's lines
-unfoldable pub first_bytes : (shards number : ℕ) → MemoryImage → List ℕ
-first_bytes shards number image =
-    flat_map (λ line. bytes_from image.segments (line_bytes * (line * shards + number)) line_bytes)
-    (range_with_len (lines_below shards image.base) (lines_kept shards image.base image.size))
 
 -- the caches of one shard's lines, empty
 abbrev pub new_caches_of_shard : Machine → Caches

@@ -14,7 +14,7 @@ use Rattle.flat_memory.specs.declared.reservation.Reservation.{Reservation}
 use Rattle.flat_memory.specs.FlatMemory.{MemoryState, is_reservation}
 use Rattle.shard.specs.Coherence.{Caches, dirty_at, fetch_holds, is_alone, is_valid, letter_at}
 use Rattle.shard.specs.HaveL1i.{have_l1i}
-use Rattle.shard.specs.Lines.{set_number, set_of}
+use Rattle.cache_set.specs.Lines.{set_number, set_of}
 use Rattle.shard.specs.Marks.{MarkedMemory}
 use Rattle.shard.specs.Served.{ShardState, met_by, new_shard, place_of, shard_after, shard_reply}
 

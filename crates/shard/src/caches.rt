@@ -1,7 +1,7 @@
 //! The data caches of a shard's lines: a cache for each core (L1), and one that all share (L2).
 ghost use Rattle.std.specs.Prelude.{◌≡◌, ℕ, ◌<◌, ◌≤◌, [], IfOk, length, replicate, None};
 ghost use Rattle.shard.specs.Coherence.{Caches, dirty_at, empty_caches, letter_at};
-ghost use Rattle.shard.specs.Lines.{set_number};
+ghost use Rattle.cache_set.specs.Lines.{set_number};
 
 mod copies;
 pub(crate) mod core_cache;

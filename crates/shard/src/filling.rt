@@ -3,14 +3,14 @@ ghost use Rattle.std.specs.Prelude.{◌≡◌, ◌+◌, ◌-◌, ◌*◌, ◌/�
 ghost use Rattle.std.specs.List.{flat_map, range_with_len};
 ghost use Rattle.zs_num.specs.Request.{line_at, line_bytes};
 ghost use Rattle.elf_load.specs.MemoryImage.{bytes_from};
-ghost use Rattle.shard.specs.Served.{first_bytes, lines_kept};
+ghost use Rattle.home.specs.FirstBytes.{first_bytes, lines_kept};
 
 use elf_load::Image;
 use std::alloc::Global;
 use zs_num::{LINE, NoMemory};
 
 /// What an executable left in the lines of one of so many shards.
-#[tactic(auto, unfolding(crate::specs::Served::first_bytes))]
+#[tactic(auto, unfolding(home::specs::FirstBytes::first_bytes))]
 pub(crate) fn first_bytes(
     alloc: Global,
     shards: u64,

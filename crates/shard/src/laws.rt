@@ -1,5 +1,7 @@
 //! Laws over the definitions alone, each the contract of a function that does nothing.
-ghost use Rattle.shard.specs.Laws.{CoherentStays, CoresStay, EntriesAreOfOneMachine, FetchesChangeNoLetter, FetchesStay, FetchesTakeOneLetter, HitsAreAllowed, Inclusion, InstructionsInclusion, LastIsStamp, MarksAreReservations, NewShardsAreOneMachine, NewShardsStand, NumberStays, ReadAfterWrite, SetsStaySound, ShardsAnswer, ShardsStandForAMachine, SingleWriter, StillServes, WritesLeaveInstructions, WritesTakeOneInstruction};
+ghost use Rattle.shard.specs.Laws.{CoherentStays, CoresStay, EntriesAreOfOneMachine, FetchedLinesAreThere, FetchesChangeNoLetter, FetchesTakeLettersOfOneLine, HitsAreAllowed, Inclusion, InstructionsInclusion, LastIsStamp, MarksAreReservations, NewShardsAreOneMachine, NewShardsStand, NumberStays, OthersLeaveInstructionCaches, OthersTakeOneLine, ReadAfterWrite, SetsStaySound, ShardsAnswer, ShardsStandForAMachine, SingleWriter, StillServes};
+ghost use Rattle.shard.specs.NewParts.{NewBanksAreShards, NewPartsAreShards};
+ghost use Rattle.shard.specs.PartsLaws.{OtherBank, OwnBank, PrivateIsOfOneL1, RunsAreOfShards, UntouchedIsApart};
 
 /// An access leaves a shard its number.
 pub fn number_stays()
@@ -61,13 +63,14 @@ pub fn inclusion()
 
 /// Where the L2 has the line, a fetch changes no letter, and no other access changes an instruction
 /// cache: also a write leaves the line there. Where the L2 does not have it, they change these for
-/// the line alone that the L2 evicts. What a core fetched is in its instruction cache.
+/// the line alone that the L2 evicts. Right after a core's fetch the line is in its instruction
+/// cache.
 pub fn instructions_are_apart()
     ensures letters { FetchesChangeNoLetter }
-    ensures instructions { WritesLeaveInstructions }
-    ensures letter { FetchesTakeOneLetter }
-    ensures instruction { WritesTakeOneInstruction }
-    ensures stays { FetchesStay }
+    ensures instructions { OthersLeaveInstructionCaches }
+    ensures letter { FetchesTakeLettersOfOneLine }
+    ensures instruction { OthersTakeOneLine }
+    ensures there { FetchedLinesAreThere }
 {}
 
 /// What a shard does with an access to a line of its own is what one machine does, and the shards
@@ -104,4 +107,43 @@ pub fn read_after_write()
 /// Shards that stand for a machine answer whatever its cores ask of its memory.
 pub fn shards_answer()
     ensures { ShardsAnswer }
+{}
+
+/// The bank of an access does what its shard does: the reply and the outcome are the shard's, and
+/// the home and the L1s are seen after it as the shard after it. They fit together as before.
+pub fn own_bank()
+    ensures { OwnBank }
+{}
+
+/// The other banks see nothing of an access, where each L1 has the sets of all banks, and fit
+/// together as before.
+pub fn other_bank()
+    ensures { OtherBank }
+{}
+
+/// What homes and whole L1s answer to accesses of their cores, one after the other, is what the
+/// shards answer for which they stand, bank by bank.
+pub fn runs_are_of_shards()
+    ensures { RunsAreOfShards }
+{}
+
+/// A new home and new L1s, of all lines or of its own alone, are seen as a new shard, and fit
+/// together.
+pub fn new_banks_are_shards()
+    ensures { NewBanksAreShards }
+{}
+
+/// All new homes, with whole L1s, are seen as the new shards of the machine.
+pub fn new_parts_are_shards()
+    ensures { NewPartsAreShards }
+{}
+
+/// A private access hits. It changes nothing but its core's L1, which answers it.
+pub fn private_is_of_one_l1()
+    ensures { PrivateIsOfOneL1 }
+{}
+
+/// An access commutes with whatever changes an L1 that it does not touch.
+pub fn untouched_is_apart()
+    ensures { UntouchedIsApart }
 {}

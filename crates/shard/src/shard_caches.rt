@@ -104,7 +104,7 @@ impl ShardCaches {
         ensures outcome { result ≡ met_at self.old core line write }
         ensures after { self.new ≡ after_at self.old core line write }
     {
-        let victim = self.lists.l2_victim(line);
+        let victim = self.lists.victim_if_missed(core, line);
         let outcome = self.lists.meet_line(core, line, write);
         if matches!(outcome, Outcome::Miss { .. }) {
             self.recall_instructions(victim);

@@ -2,7 +2,7 @@
 ghost use Rattle.std.specs.Prelude.{◌≡◌, ℕ, ◌<◌, ◌≤◌, ◌∷◌, [], IfOk, IfSome, IsSome, IsTrue, take, ◌-◌, None, length, if◌then◌else◌, nat_eq, replicate};
 ghost use Rattle.cache_set.specs.Ways.{kept_of, without, filled, changed, victim_of};
 ghost use Rattle.shard.specs.Coherence.{is_valid, letter_in};
-ghost use Rattle.shard.specs.Lines.{in_set_of, set_number};
+ghost use Rattle.cache_set.specs.Lines.{in_set_of, set_number};
 ghost use Rattle.shard.specs.CacheLayout.{ChangesLetter, HasCopies, copies_of, letter_without, own_letter};
 
 use cache_set::{Letter, Set};

@@ -3,7 +3,7 @@ ghost use Rattle.std.specs.Prelude.{◌≡◌, ◌≢◌, ℕ, ◌<◌, ◌-◌,
 ghost use Rattle.cache_set.specs.Ways.{without};
 ghost use Rattle.shard.specs.CacheSteps.{EvictsOwn, copies_at};
 ghost use Rattle.shard.specs.Coherence.{dirty_at, is_alone, is_valid, letter_at, own_after, own_victim, some_other, filled_into_l1, written_back};
-ghost use Rattle.shard.specs.Lines.{set_number};
+ghost use Rattle.cache_set.specs.Lines.{set_number};
 
 use super::CacheLists;
 use cache_set::Letter;

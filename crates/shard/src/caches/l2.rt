@@ -1,9 +1,10 @@
 //! What an access does to the L2.
 ghost use Rattle.std.specs.Prelude.{◌≡◌, ℕ, Bool, [], IsSome};
-ghost use Rattle.shard.specs.Coherence.{dirty_at, l2_victim, letter_at, looked_up, marked_dirty, filled_into_l2};
+ghost use Rattle.shard.specs.Coherence.{dirty_at, l2_victim, letter_at, looked_up, marked_dirty, met_at, filled_into_l2};
 
 use super::CacheLists;
 use cache_set::Letter;
+use zs_num::Outcome;
 
 impl CacheLists {
     /// A line of the L2 is the most recently used of its set.
@@ -31,6 +32,18 @@ impl CacheLists {
         ensures data_alone { self.now.l1i ≡ [] }
     {
         self.l2[self.place(line)].victim()
+    }
+
+    /// The line that an access of a core evicts from the L2, if it misses. It says nothing where the
+    /// core has the line, so that a hit does not look at the L2.
+    #[inline(always)]
+    pub(crate) fn victim_if_missed(&self, core: u16, line: u64) -> Option<(u64, bool)>
+        ensures { (write dirty : Bool) → met_at self.now core line write ≡ Outcome.Miss dirty → result ≡ l2_victim self.now line }
+    {
+        match self.letter(core, line) {
+            Letter::I => self.l2_victim(line),
+            _ => None,
+        }
     }
 
     /// A line comes into the L2, clean. No core has a copy of the line that is evicted for it.

@@ -1,7 +1,7 @@
 -- The list that was filled has as many bytes as before.
 use Rattle.std.proofs.Common.{◌≡◌, ◌++◌, length, take, drop, ap, ◌∙◌, arith}
 use Rattle.std.proofs.Math.Seq.{take-append_seam}
-use Rattle.shard.specs.Served.{first_bytes}
+use Rattle.home.specs.FirstBytes.{first_bytes}
 use Rattle.shard.proofs.filling.first_bytes.Goals as goal
 
 pub returns : goal.returns

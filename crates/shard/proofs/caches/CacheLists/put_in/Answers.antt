@@ -5,7 +5,7 @@ use Rattle.std.specs.Prelude.{IsSome, nat_eq}
 use Rattle.cache_set.specs.declared.letter.Letter.{Letter}
 use Rattle.cache_set.specs.Ways.{filled, victim_of}
 use Rattle.shard.specs.CacheLayout.{ChangesLetter, CoreLines, SharedLines, SetsLetter, copies_of, letter_without, own_letter}
-use Rattle.shard.specs.Lines.{in_set_of}
+use Rattle.cache_set.specs.Lines.{in_set_of}
 use Rattle.shard.proofs.AllCaches.{both_are, both_view, core_is, dirty_is, letter_is, no_other, own_victim_is, some_other_not, said_new}
 use Rattle.shard.proofs.caches.CacheLists.put_in.Goals as goal
 

@@ -20,7 +20,8 @@ returns-then-matches-clause-after c =
     elim c.match-matches.branch [
       | in-Miss w ↦
           rw (← c.self.view_is) (c.recall_instructions.ensures
-          ∙ missed c.self.inside.l1i c.self.inside.lists c.meet_line-outcome.new.self c.args.core c.args.line c.args.write c.meet_line-outcome.ensures.after c.self.invariant w.in-Miss.dirty_victim (sym c.meet_line-outcome.ensures.outcome ∙ w.in-Miss.is) c.l2_victim-victim.result c.l2_victim-victim.ensures.victim)
+          ∙ missed c.self.inside.l1i c.self.inside.lists c.meet_line-outcome.new.self c.args.core c.args.line c.args.write c.meet_line-outcome.ensures.after c.self.invariant w.in-Miss.dirty_victim (sym c.meet_line-outcome.ensures.outcome ∙ w.in-Miss.is) c.victim_if_missed-victim.result
+          (c.victim_if_missed-victim.ensures c.args.write w.in-Miss.dirty_victim (sym c.meet_line-outcome.ensures.outcome ∙ w.in-Miss.is)))
       | in_default w ↦ absurd cc
     ]
 

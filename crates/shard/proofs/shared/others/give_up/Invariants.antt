@@ -1,0 +1,17 @@
+use Rattle.std.proofs.Common.{◌≡◌, ℕ, length}
+use Rattle.home.specs.HomeState.{KeepsLine}
+use Rattle.mesi_dir.specs.CoreSets.{cores_in}
+use Rattle.shard.specs.BankSteps.{bank_with, AreKnown}
+use Rattle.shard.specs.SharedStep.{given_up_by}
+use Rattle.shard.proofs.shared.others.give_up.Given as goal
+
+abbrev pub decreases-loop-core : goal.decreases-loop-core
+decreases-loop-core l = length (cores_in l.cores.words)
+
+abbrev pub invariant-loop-core : goal.invariant-loop-core
+invariant-loop-core l = record {
+  kept : KeepsLine l.home l.line;
+  known : AreKnown (cores_in l.cores.words) l.l1s;
+  cores : length l.l1s ≡ length l.initial.l1s;
+  after : given_up_by l.line (cores_in l.cores.words) (bank_with l.home l.l1s) ≡ given_up_by l.line (cores_in l.initial.cores.words) (bank_with l.initial.home l.initial.l1s);
+}

@@ -1,0 +1,7 @@
+use Rattle.home.specs.HomeState.{bytes_at}
+use Rattle.l1_cache.specs.L1State.{copy_at, newer_bytes}
+use Rattle.shard.proofs.BankSteps.{kept_still}
+use Rattle.shard.proofs.shared.others.share_at.Goals as goal
+
+pub returns-clause-kept : goal.returns-clause-kept
+returns-clause-kept c = kept_still c.args.home.now c.collect.new.home c.args.line _ c.collect.ensures.after c.collect.ensures.long c.requires.kept

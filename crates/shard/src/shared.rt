@@ -1,0 +1,243 @@
+//! What an access of a core does to the home of its line and to the L1s of the cores.
+ghost use Rattle.std.specs.Prelude.{◌≡◌, ◌+◌, ◌<◌, ◌≤◌, IfSome, Some, false, true, if◌then◌else◌, is_some, length, slice_index_or};
+ghost use Rattle.zs_num.specs.Request.{addr_of, line_bytes, width_of};
+ghost use Rattle.home.specs.HomeState.{evicted_by, row_at};
+ghost use Rattle.home.specs.Rows.{line_in};
+ghost use Rattle.l1_cache.specs.L1State.{has_instructions, is_private, no_l1, place_in_line, private_after, private_reply};
+ghost use Rattle.shard.specs.BankSteps.{bank_with, line_met, AsksFor};
+ghost use Rattle.shard.specs.Coherence.{fetch_outcome_by, is_write, own_after};
+ghost use Rattle.shard.specs.PartsLaws.{AreParts, IsAsked};
+ghost use Rattle.shard.specs.SharedStep.{bank_after, bank_reply, fetched_from, is_dirty_here, met_at_bank, own_letter, ready_by, ready_from_home, ready_from_l2, ready_where_shared, shared_after, shared_reply, with_l1};
+ghost use Rattle.shard.specs.Seen.{no_home};
+
+mod answer;
+mod others;
+mod own;
+
+use answer::answer;
+use cache_set::Letter;
+use home::{Home, Row};
+use l1_cache::L1;
+use others::{bring_home, has_other, leave_others, letter_at, share_others};
+use own::{bring_instruction, bring_own, keep_at};
+use zs_num::{Outcome, Request};
+
+/// Serves an access of a core to a line of the home, whose bank the L1s are parts of or whole. The
+/// answer is the reply, and how the access was met.
+#[inline(always)]
+pub(crate) fn meet(home: &mut Home, l1s: &mut [L1], core: u16, request: Request) -> (u64, Outcome)
+    requires parts { AreParts (bank_with home.old l1s.old) }
+    requires asked { IsAsked (bank_with home.old l1s.old) core request }
+    ensures after { bank_with home.new l1s.new ≡ bank_after (bank_with home.old l1s.old) core request }
+    ensures reply { result.0 ≡ bank_reply (bank_with home.old l1s.old) core request }
+    ensures outcome { result.1 ≡ met_at_bank (bank_with home.old l1s.old) core request }
+    ensures cores { length l1s.new ≡ length l1s.old }
+{
+    if let Some(reply) = serve_alone_at(l1s, core, request) {
+        return (reply, Outcome::Hit);
+    }
+    meet_shared(home, l1s, core, request)
+}
+
+/// Serves one that the core's own L1 can serve alone, or changes nothing.
+#[inline(always)]
+fn serve_alone_at(l1s: &mut [L1], core: u16, request: Request) -> Option<u64>
+    requires core { core < length l1s.old }
+    requires some { 1 ≤ width_of request }
+    requires few { width_of request ≤ 8 }
+    requires within { place_in_line (addr_of request) + width_of request ≤ line_bytes }
+    ensures private { is_some result ≡ is_private (slice_index_or l1s.old core no_l1) request }
+    ensures reply { IfSome result (λ reply. reply ≡ private_reply (slice_index_or l1s.old core no_l1) request) }
+    ensures after { bank_with no_home l1s.new ≡ with_l1 core (λ l1. if is_private l1 request then private_after l1 request else l1) (bank_with no_home l1s.old) }
+    ensures cores { length l1s.new ≡ length l1s.old }
+{
+    l1s[usize::from(core)].serve_alone(request)
+}
+
+/// Serves one that the core's own L1 can't serve alone.
+#[inline(never)]
+fn meet_shared(home: &mut Home, l1s: &mut [L1], core: u16, request: Request) -> (u64, Outcome)
+    requires parts { AreParts (bank_with home.old l1s.old) }
+    requires asked { IsAsked (bank_with home.old l1s.old) core request }
+    requires shared { is_private (slice_index_or l1s.old core no_l1) request ≡ false }
+    ensures after { bank_with home.new l1s.new ≡ shared_after (bank_with home.old l1s.old) core request }
+    ensures reply { result.0 ≡ shared_reply (bank_with home.old l1s.old) core request }
+    ensures outcome { result.1 ≡ met_at_bank (bank_with home.old l1s.old) core request }
+    ensures cores { length l1s.new ≡ length l1s.old }
+{
+    let line = request.line();
+    if request.is_fetch() {
+        return (0, meet_fetch(home, l1s, core, line));
+    }
+    let outcome = make_ready(home, l1s, core, line, is_write(&request));
+    (answer(home, l1s, core, request), outcome)
+}
+
+/// A line comes into a core's instruction cache.
+fn meet_fetch(home: &mut Home, l1s: &mut [L1], core: u16, line: u64) -> Outcome
+    requires parts { AreParts (bank_with home.old l1s.old) }
+    requires asks { AsksFor (bank_with home.old l1s.old) core line }
+    requires absent { has_instructions (slice_index_or l1s.old core no_l1) line ≡ false }
+    ensures after { bank_with home.new l1s.new ≡ fetched_from core line (row_at home.old line) (bank_with home.old l1s.old) }
+    ensures outcome { result ≡ fetch_outcome_by false (is_some (row_at home.old line)) (is_dirty_here (bank_with home.old l1s.old) (evicted_by home.old line)) }
+    ensures cores { length l1s.new ≡ length l1s.old }
+{
+    match home.row(line) {
+        Some(_) => {
+            home.look_up(line);
+            bring_instruction(home, l1s, core, line);
+            Outcome::L2 { others: false }
+        }
+        None => {
+            let dirty_victim = bring_home(home, l1s, line);
+            bring_instruction(home, l1s, core, line);
+            Outcome::Miss { dirty_victim }
+        }
+    }
+}
+
+/// A line stands first in a core's L1, with the letter that a read or a write leaves.
+fn make_ready(home: &mut Home, l1s: &mut [L1], core: u16, line: u64, write: bool) -> Outcome
+    requires parts { AreParts (bank_with home.old l1s.old) }
+    requires asks { AsksFor (bank_with home.old l1s.old) core line }
+    ensures after { bank_with home.new l1s.new ≡ ready_by (own_letter (bank_with home.old l1s.old) core line) write core line (bank_with home.old l1s.old) }
+    ensures outcome { result ≡ line_met (bank_with home.old l1s.old) core line write }
+    ensures cores { length l1s.new ≡ length l1s.old }
+{
+    match letter_at(l1s, core, line) {
+        Letter::M => {
+            keep_at(l1s, core, line, Letter::M);
+            Outcome::Hit
+        }
+        Letter::E => {
+            keep_at(l1s, core, line, letter_kept(write));
+            Outcome::Hit
+        }
+        Letter::S => meet_copy(home, l1s, core, line, write),
+        Letter::I => bring(home, l1s, core, line, write),
+    }
+}
+
+/// The core has the line in S.
+fn meet_copy(home: &mut Home, l1s: &mut [L1], core: u16, line: u64, write: bool) -> Outcome
+    requires parts { AreParts (bank_with home.old l1s.old) }
+    requires asks { AsksFor (bank_with home.old l1s.old) core line }
+    requires own { own_letter (bank_with home.old l1s.old) core line ≡ Letter.S }
+    ensures after { bank_with home.new l1s.new ≡ ready_where_shared write core line (bank_with home.old l1s.old) }
+    ensures outcome { result ≡ line_met (bank_with home.old l1s.old) core line write }
+    ensures cores { length l1s.new ≡ length l1s.old }
+{
+    if write {
+        upgrade(home, l1s, core, line)
+    } else {
+        keep_at(l1s, core, line, Letter::S);
+        Outcome::Hit
+    }
+}
+
+/// The core has the line in S, and writes it.
+fn upgrade(home: &mut Home, l1s: &mut [L1], core: u16, line: u64) -> Outcome
+    requires parts { AreParts (bank_with home.old l1s.old) }
+    requires asks { AsksFor (bank_with home.old l1s.old) core line }
+    requires own { own_letter (bank_with home.old l1s.old) core line ≡ Letter.S }
+    ensures after { bank_with home.new l1s.new ≡ ready_where_shared true core line (bank_with home.old l1s.old) }
+    ensures outcome { result ≡ line_met (bank_with home.old l1s.old) core line true }
+    ensures cores { length l1s.new ≡ length l1s.old }
+{
+    match home.row(line) {
+        Some(row) => {
+            home.look_up(line);
+            leave_others(home, l1s, core, line, row);
+            keep_at(l1s, core, line, Letter::M);
+            home.own(line, core);
+            Outcome::Upgrade {
+                others: has_other(row, core),
+            }
+        }
+        None => Outcome::Hit,
+    }
+}
+
+/// The core doesn't have the line.
+fn bring(home: &mut Home, l1s: &mut [L1], core: u16, line: u64, write: bool) -> Outcome
+    requires parts { AreParts (bank_with home.old l1s.old) }
+    requires asks { AsksFor (bank_with home.old l1s.old) core line }
+    requires own { own_letter (bank_with home.old l1s.old) core line ≡ Letter.I }
+    ensures after { bank_with home.new l1s.new ≡ ready_from_home write core line (row_at home.old line) (bank_with home.old l1s.old) }
+    ensures outcome { result ≡ line_met (bank_with home.old l1s.old) core line write }
+    ensures cores { length l1s.new ≡ length l1s.old }
+{
+    match home.row(line) {
+        Some(row) => bring_from_l2(home, l1s, core, line, write, row),
+        None => {
+            let dirty_victim = bring_home(home, l1s, line);
+            bring_own(home, l1s, core, line, letter_after(write, false));
+            home.own(line, core);
+            Outcome::Miss { dirty_victim }
+        }
+    }
+}
+
+/// The core doesn't have the line, and the L2 has it.
+fn bring_from_l2(
+    home: &mut Home,
+    l1s: &mut [L1],
+    core: u16,
+    line: u64,
+    write: bool,
+    row: Row,
+) -> Outcome
+    requires parts { AreParts (bank_with home.old l1s.old) }
+    requires asks { AsksFor (bank_with home.old l1s.old) core line }
+    requires own { own_letter (bank_with home.old l1s.old) core line ≡ Letter.I }
+    requires row { row_at home.old line ≡ Some (line_in row) }
+    ensures after { bank_with home.new l1s.new ≡ ready_from_l2 write core line (line_in row) (bank_with home.old l1s.old) }
+    ensures outcome { result ≡ line_met (bank_with home.old l1s.old) core line write }
+    ensures cores { length l1s.new ≡ length l1s.old }
+{
+    home.look_up(line);
+    if write {
+        leave_others(home, l1s, core, line, row);
+        bring_own(home, l1s, core, line, Letter::M);
+        home.own(line, core);
+        Outcome::L2 {
+            others: has_other(row, core),
+        }
+    } else {
+        let alone = row.sharers.is_empty();
+        share_others(home, l1s, line, row);
+        bring_own(home, l1s, core, line, letter_after(false, !alone));
+        home.grant(line, core, alone);
+        Outcome::L2 {
+            others: row.alone && has_other(row, core),
+        }
+    }
+}
+
+/// The letter of a line that a core had in E.
+fn letter_kept(write: bool) -> Letter
+    ensures { result ≡ own_after write Letter.E false }
+{
+    if write { Letter::M } else { Letter::E }
+}
+
+/// The letter of a line that a core didn't have, where another core has it, or none has.
+fn letter_after(write: bool, has: bool) -> Letter
+    ensures { result ≡ own_after write Letter.I has }
+{
+    match (write, has) {
+        (true, _) => Letter::M,
+        (false, true) => Letter::S,
+        (false, false) => Letter::E,
+    }
+}
+
+/// Whether an access writes. A store-conditional does also where it stores nothing.
+fn is_write(request: &Request) -> bool
+    ensures { result ≡ is_write request.now }
+{
+    matches!(
+        request,
+        Request::Store { .. } | Request::Sc { .. } | Request::Amo { .. }
+    )
+}
