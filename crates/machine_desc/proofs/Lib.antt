@@ -1,6 +1,7 @@
 pub mod Accepted
 pub mod Documents
 pub mod Least
+pub mod Links
 pub mod Naturals
 pub mod Passed
 pub mod PlainText

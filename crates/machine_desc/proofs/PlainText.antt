@@ -9,7 +9,7 @@ use Rattle.toml.proofs.OnLiterals.{toml_on_literals}
 use Rattle.machine_desc.specs.declared.plain.TheConstants.{PLAIN}
 use Rattle.machine_desc.specs.Keys.{top_checks, memory_checks, own_cache_checks, l2_checks, controller_checks, domain_checks}
 use Rattle.machine_desc.specs.Text.{table_at, value_at, integer_at, integers_at, full_name}
-use Rattle.machine_desc.specs.Description.{checks_of, ratios_of, bad_value, check_refusal, table_refusal, written_domains, domain_refusal, document_refusal, memory_of, own_cache_of, l1i_of, l2_of, controllers_of, domains_of, numbers_of}
+use Rattle.machine_desc.specs.Description.{checks_of, ratios_of, bad_value, check_refusal, table_refusal, written_domains, domain_refusal, document_refusal, memory_of, own_cache_of, l1i_of, l2_of, controllers_of, domains_of, mesh_of, dram_of, pipe_of, numbers_of}
 use Rattle.machine_desc.specs.Plain.{plain_text, plain_machine}
 
 -- its bytes, one by one
@@ -51,5 +51,5 @@ unfolding checks_of top_checks memory_checks own_cache_checks l2_checks controll
 no_refusal = refl
 
 pub same_numbers : numbers_of plain_document ≡ plain_machine
-unfolding table_at value_at integer_at integers_at memory_of own_cache_of l1i_of l2_of controllers_of domains_of numbers_of
+unfolding table_at value_at integer_at integers_at memory_of own_cache_of l1i_of l2_of controllers_of domains_of mesh_of dram_of pipe_of numbers_of
 same_numbers = refl

@@ -6,9 +6,9 @@ use Rattle.std.proofs.lemmas.Bool.{and_parts, cases_Bool}
 use Rattle.std.specs.List.{find, position_from}
 use Rattle.std.proofs.lemmas.Iterator.Adapters.{position_from-zero}
 use Rattle.toml.specs.Data.{Data, Members, as_integer}
-use Rattle.machine_desc.specs.Keys.{KeyPath, Range, Check, Ratio, is_integer, is_share, is_array}
+use Rattle.machine_desc.specs.Keys.{KeyPath, Range, Check, Ratio, is_integer, is_share, is_at_least, is_array}
 use Rattle.machine_desc.specs.Text.{natural, integer_at, natural_of, integers_at, array_integers, value_at}
-use Rattle.machine_desc.specs.Description.{is_in_range, is_share_of, unless, bad_integer, bad_array, bad_value, refusal_of, check_refusal, checks_refusal, ratio_refusal, ratios_refusal, is_below}
+use Rattle.machine_desc.specs.Description.{is_in_range, is_share_of, is_no_less, unless, bad_integer, bad_array, bad_value, refusal_of, check_refusal, checks_refusal, ratio_refusal, ratios_refusal, is_below}
 use Rattle.machine_desc.specs.Answers.{passed_unless}
 use Rattle.machine_desc.specs.declared.checks.BadValue.{BadValue}
 use Rattle.machine_desc.specs.declared.checks.BadValue.TheVariants.{OtherKind, OutOfRange}
@@ -91,6 +91,14 @@ unfolding check_refusal bad_value integer_at
 share_holds document key range times whole h =
     let (z, passes) = value_passes (λ z. is_in_range range z && is_share_of (integer_at document times) (integer_at document whole) z) (refusal_of key) _ (value_at document key) h in
     let (inside, share) = and_parts _ _ passes.0 in
+    rw passes.1 (from_range range z inside, grind (arith, nat_tests))
+
+pub at_least_holds : (document : Members) (key : KeyPath) (range : Range) (least : KeyPath) → check_refusal document (record { key = key; rule = is_at_least range least }) ≡ None
+    → IsInItsRange range (integer_at document key) × (integer_at document least ≤ integer_at document key)
+unfolding check_refusal bad_value integer_at
+at_least_holds document key range least h =
+    let (z, passes) = value_passes (λ z. is_in_range range z && is_no_less (integer_at document least) z) (refusal_of key) _ (value_at document key) h in
+    let (inside, no_less) = and_parts _ _ passes.0 in
     rw passes.1 (from_range range z inside, grind (arith, nat_tests))
 
 array_long : (count : ℕ) (o : Option (List ℤ)) → option_map_or (λ zs. unless (length zs == count) (OutOfRange (pos (length zs)))) o (Some OtherKind) ≡ None → length (unwrap_or o []) ≡ count

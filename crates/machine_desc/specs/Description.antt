@@ -1,11 +1,11 @@
 -- The machine that a description is, or the first check that fails.
-use Rattle.std.specs.Prelude.{if◌then◌else◌, ℕ, ◌*◌, ◌%◌, ℤ, pos, negsuc, nat_le, nat_lt, Bool, true, false, not, ◌==◌, ◌&&◌, List, [], ◌∷◌, ◌++◌, length, map, position, codes, Option, Some, None, option_map, is_some, Result, Ok, Err, bytes_eq}
+use Rattle.std.specs.Prelude.{if◌then◌else◌, ℕ, ◌*◌, ◌%◌, ℤ, pos, negsuc, nat_le, nat_lt, Bool, true, false, not, ◌==◌, ◌&&◌, ◌||◌, List, [], ◌∷◌, ◌++◌, length, map, position, codes, Option, Some, None, option_map, is_some, Result, Ok, Err, bytes_eq}
 use Rattle.std.specs.List.{list_any}
 use Rattle.std.specs.Cmp.Lexicographic.{slice_cmp}
 use Rattle.std.specs.Ordering.{nat_cmp, is_lt}
 use Rattle.std.specs.Option.{option_or, option_map_or}
 use Rattle.toml.specs.Data.{Data, Members, no_members, member, as_integer, as_table}
-use Rattle.machine_desc.specs.Keys.{KeyPath, Range as Bounds, Rule, is_table, is_integer, is_share, is_array, Check, Ratio, top, at, version_check, top_checks, memory_checks, l1_checks, l1i_checks, l2_checks, controller_checks, domain_checks, sets_ratio}
+use Rattle.machine_desc.specs.Keys.{KeyPath, Range as Bounds, Rule, is_table, is_integer, is_share, is_at_least, is_array, Check, Ratio, top, at, version_check, top_checks, memory_checks, l1_checks, l1i_checks, l2_checks, controller_checks, domain_checks, mesh_checks, dram_checks, pipe_checks, sets_ratio}
 use Rattle.machine_desc.specs.Text.{document_of, table_at, value_at, integer_at, version_of, natural, array_integers, integers_at, full_name}
 use Rattle.machine_desc.specs.declared.errors.BadMachine.{BadMachine}
 use Rattle.machine_desc.specs.declared.errors.BadMachine.TheVariants.{Text, Missing, Kind, Range, Unknown, Ratio as BadRatio, Domain}
@@ -16,15 +16,34 @@ use Rattle.machine_desc.specs.declared.machine.L1.{L1}
 use Rattle.machine_desc.specs.declared.machine.L2.{L2}
 use Rattle.machine_desc.specs.declared.machine.Controllers.{Controllers}
 use Rattle.machine_desc.specs.declared.machine.Domains.{Domains}
+use Rattle.machine_desc.specs.declared.machine.Mesh.{Mesh}
+use Rattle.machine_desc.specs.declared.machine.Dram.{Dram}
+use Rattle.machine_desc.specs.declared.machine.Pipe.{Pipe}
 use Rattle.machine_desc.specs.declared.machine.Machine.{Machine}
 
 -- the versions that there are
 abbrev pub is_version : ℕ → Bool
-is_version version = nat_le 1 version && nat_le version 2
+is_version version = nat_le 1 version && nat_le version 3
 
--- whether the machine of a document has instruction caches: those of version 1 have none
+-- whether a document of version 3 has a table that it may have: something stands at its name
+abbrev pub has_optional : Members → (table : List ℕ) → Bool
+has_optional document table = (version_of document == 3) && is_some (value_at document (top table))
+
+-- whether the machine of a document has instruction caches: in version 1 it has none, in version 2 it has them, and in
+-- version 3 it may
 abbrev pub has_l1i : Members → Bool
-has_l1i document = nat_lt 1 (version_of document)
+has_l1i document = (version_of document == 2) || has_optional document (codes "l1i")
+
+-- whether its cores have pipelines
+abbrev pub has_pipe : Members → Bool
+has_pipe document = has_optional document (codes "pipe")
+
+-- Whether it has a mesh, and open rows. In no version it has: the tables of these names are unknown.
+abbrev pub has_mesh : Members → Bool
+has_mesh document = false
+
+abbrev pub has_dram : Members → Bool
+has_dram document = false
 
 -- the checks of a table, where it is there to be checked
 abbrev pub checks_if : Bool → List Check → List Check
@@ -36,6 +55,7 @@ unfoldable pub checks_of : Members → List Check
 checks_of document =
     if is_version (version_of document)
     then top_checks ++ memory_checks ++ l1_checks ++ checks_if (has_l1i document) l1i_checks ++ l2_checks ++ controller_checks ++ domain_checks
+    ++ checks_if (has_mesh document) mesh_checks ++ checks_if (has_dram document) dram_checks ++ checks_if (has_pipe document) pipe_checks
     else version_check ∷ []
 
 -- its ratios, in the order in which they are checked
@@ -59,6 +79,10 @@ unless false wrong = Some wrong
 abbrev pub is_share_of : (times whole : ℕ) → ℤ → Bool
 is_share_of times whole z = nat_le (times * natural z) whole
 
+-- the integer is no less than the least
+abbrev pub is_no_less : (least : ℕ) → ℤ → Bool
+is_no_less least z = nat_le least (natural z)
+
 -- what is wrong with an integer, with the length of an array, and with a value: nothing, its kind or its range
 abbrev pub bad_integer : (ℤ → Bool) → Data → Option BadValue
 bad_integer is_good d = option_map_or (λ z. unless (is_good z) (OutOfRange z)) (as_integer d) (Some OtherKind)
@@ -72,6 +96,8 @@ bad_value document is_table d = unless (is_some (as_table d)) OtherKind
 bad_value document (is_integer range) d = bad_integer (is_in_range range) d
 bad_value document (is_share range times whole) d =
     bad_integer (λ z. is_in_range range z && is_share_of (integer_at document times) (integer_at document whole) z) d
+bad_value document (is_at_least range least) d =
+    bad_integer (λ z. is_in_range range z && is_no_less (integer_at document least) z) d
 bad_value document (is_array count) d = bad_array (integer_at document count) d
 
 -- the refusal of a key's value
@@ -216,6 +242,41 @@ domains_of document = record {
   controllers = map natural (integers_at document (at (codes "domains") (codes "controllers")));
 }
 
+unfoldable pub mesh_numbers : Members → Mesh
+mesh_numbers document = record {
+  width = integer_at document (at (codes "mesh") (codes "width"));
+  height = integer_at document (at (codes "mesh") (codes "height"));
+  hop = integer_at document (at (codes "mesh") (codes "hop"));
+  occupancy = integer_at document (at (codes "mesh") (codes "occupancy"));
+}
+
+unfoldable pub dram_numbers : Members → Dram
+dram_numbers document = record {
+  banks = integer_at document (at (codes "dram") (codes "banks"));
+  row_lines = integer_at document (at (codes "dram") (codes "row_lines"));
+  hit = integer_at document (at (codes "dram") (codes "hit"));
+  closed = integer_at document (at (codes "dram") (codes "closed"));
+  conflict = integer_at document (at (codes "dram") (codes "conflict"));
+}
+
+unfoldable pub pipe_numbers : Members → Pipe
+pipe_numbers document = record {
+  mul = integer_at document (at (codes "pipe") (codes "mul"));
+  div = integer_at document (at (codes "pipe") (codes "div"));
+  entries = integer_at document (at (codes "pipe") (codes "entries"));
+  penalty = integer_at document (at (codes "pipe") (codes "penalty"));
+}
+
+-- the mesh, the open rows and the pipelines, where there are any
+unfoldable pub mesh_of : Members → Option Mesh
+mesh_of document = if has_mesh document then Some (mesh_numbers document) else None
+
+unfoldable pub dram_of : Members → Option Dram
+dram_of document = if has_dram document then Some (dram_numbers document) else None
+
+unfoldable pub pipe_of : Members → Option Pipe
+pipe_of document = if has_pipe document then Some (pipe_numbers document) else None
+
 -- the machine with the numbers of a document
 unfoldable pub numbers_of : Members → Machine
 numbers_of document = record {
@@ -229,6 +290,9 @@ numbers_of document = record {
   l2 = l2_of document;
   controllers = controllers_of document;
   domains = domains_of document;
+  mesh = mesh_of document;
+  dram = dram_of document;
+  pipe = pipe_of document;
 }
 
 -- the machine of a document, or the first check that fails

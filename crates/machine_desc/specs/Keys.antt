@@ -14,11 +14,13 @@ pub record Range : Type 0 where
   pub step : ℕ
 
 -- What a value has to be: a table; an integer in a range; such an integer that, as often as the number at `times`
--- says, is at most the number at `whole`; an array of integers, as many as the number at a key says.
+-- says, is at most the number at `whole`; such an integer that is no less than the number at `least`; an array of
+-- integers, as many as the number at a key says.
 pub data Rule : Type 0 where
   is_table : Rule
   is_integer : Range → Rule
   is_share : Range → (times whole : KeyPath) → Rule
+  is_at_least : Range → (least : KeyPath) → Rule
   is_array : (count : KeyPath) → Rule
 
 -- a key that has to be there, and what its value has to be
@@ -46,12 +48,15 @@ range_check key low high = record { key = key; rule = is_integer (record { low =
 abbrev pub pages_check : KeyPath → (low high : ℕ) → Check
 pages_check key low high = record { key = key; rule = is_integer (record { low = low; high = high; step = 4096 }) }
 
+abbrev pub at_least_check : KeyPath → (low high : ℕ) → (least : KeyPath) → Check
+at_least_check key low high least = record { key = key; rule = is_at_least (record { low = low; high = high; step = 1 }) least }
+
 abbrev pub array_check : KeyPath → KeyPath → Check
 array_check key count = record { key = key; rule = is_array count }
 
--- the first check of every description: there are two versions
+-- the first check of every description: there are three versions
 abbrev pub version_check : Check
-version_check = range_check (top (codes "version")) 1 2
+version_check = range_check (top (codes "version")) 1 3
 
 unfoldable pub top_checks : List Check
 top_checks =
@@ -115,6 +120,35 @@ domain_checks =
     ∷ range_check (at (codes "domains") (codes "count")) 1 64
     ∷ array_check (at (codes "domains") (codes "banks")) (at (codes "l2") (codes "banks"))
     ∷ array_check (at (codes "domains") (codes "controllers")) (at (codes "controllers") (codes "count"))
+    ∷ []
+
+unfoldable pub mesh_checks : List Check
+mesh_checks =
+    table_check (codes "mesh")
+    ∷ range_check (at (codes "mesh") (codes "width")) 1 8
+    ∷ range_check (at (codes "mesh") (codes "height")) 1 8
+    ∷ range_check (at (codes "mesh") (codes "hop")) 1 256
+    ∷ range_check (at (codes "mesh") (codes "occupancy")) 1 256
+    ∷ []
+
+-- a read of the open row takes no longer than one where no row is open, and that no longer than one of another row
+unfoldable pub dram_checks : List Check
+dram_checks =
+    table_check (codes "dram")
+    ∷ range_check (at (codes "dram") (codes "banks")) 1 16
+    ∷ range_check (at (codes "dram") (codes "row_lines")) 1 4096
+    ∷ range_check (at (codes "dram") (codes "hit")) 1 65536
+    ∷ at_least_check (at (codes "dram") (codes "closed")) 1 65536 (at (codes "dram") (codes "hit"))
+    ∷ at_least_check (at (codes "dram") (codes "conflict")) 1 65536 (at (codes "dram") (codes "closed"))
+    ∷ []
+
+unfoldable pub pipe_checks : List Check
+pipe_checks =
+    table_check (codes "pipe")
+    ∷ range_check (at (codes "pipe") (codes "mul")) 1 64
+    ∷ range_check (at (codes "pipe") (codes "div")) 1 128
+    ∷ range_check (at (codes "pipe") (codes "entries")) 1 4096
+    ∷ range_check (at (codes "pipe") (codes "penalty")) 0 64
     ∷ []
 
 -- the sets of the cache with this table are dealt to the banks of the L2, as many to each

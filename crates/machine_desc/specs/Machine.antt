@@ -1,10 +1,13 @@
 -- What holds of the numbers of every machine that was read from a description.
-use Rattle.std.specs.Prelude.{◌≡◌, ◌<◌, ◌≤◌, ◌*◌, ◌%◌, ◌^◌, ℕ, nat_lt, length, All, IfSome, is_some}
+use Rattle.std.specs.Prelude.{◌≡◌, ◌<◌, ◌≤◌, ◌*◌, ◌%◌, ◌^◌, ℕ, nat_lt, length, All, None, IfSome, is_some}
 use Rattle.machine_desc.specs.declared.machine.Memory.{Memory}
 use Rattle.machine_desc.specs.declared.machine.L1.{L1}
 use Rattle.machine_desc.specs.declared.machine.L2.{L2}
 use Rattle.machine_desc.specs.declared.machine.Controllers.{Controllers}
 use Rattle.machine_desc.specs.declared.machine.Domains.{Domains}
+use Rattle.machine_desc.specs.declared.machine.Mesh.{Mesh}
+use Rattle.machine_desc.specs.declared.machine.Dram.{Dram}
+use Rattle.machine_desc.specs.declared.machine.Pipe.{Pipe}
 use Rattle.machine_desc.specs.declared.machine.Machine.{Machine}
 
 -- a number from low to high
@@ -49,16 +52,42 @@ pub record IsDomains (banks controllers : ℕ) (d : Domains) : Type 0 where
   pub controllers_length : length d.controllers ≡ controllers
   pub controllers_below : All (λ domain. domain < d.count) d.controllers
 
+pub record IsMesh (mesh : Mesh) : Type 0 where
+  pub width : IsBetween 1 mesh.width 8
+  pub height : IsBetween 1 mesh.height 8
+  pub hop : IsBetween 1 mesh.hop 256
+  pub occupancy : IsBetween 1 mesh.occupancy 256
+
+pub record IsDram (d : Dram) : Type 0 where
+  pub banks : IsBetween 1 d.banks 16
+  pub row_lines : IsBetween 1 d.row_lines 4096
+  pub hit : IsBetween 1 d.hit 65536
+  pub closed : IsBetween d.hit d.closed 65536
+  pub conflict : IsBetween d.closed d.conflict 65536
+
+pub record IsPipe (p : Pipe) : Type 0 where
+  pub mul : IsBetween 1 p.mul 64
+  pub div : IsBetween 1 p.div 128
+  pub entries : IsBetween 1 p.entries 4096
+  pub penalty : p.penalty ≤ 64
+
 pub record IsMachine (m : Machine) : Type 0 where
-  pub version : IsBetween 1 m.version 2
+  pub version : IsBetween 1 m.version 3
   pub cores : IsBetween 1 m.cores 256
   pub interval : IsBetween 1 m.interval 10000
   pub intervals : IsBetween 1 m.intervals (2 ^ 20)
   pub memory : IsMemory m.cores m.memory
   pub l1 : IsL1 m.l2.banks m.l1
-  -- the instruction caches, where there are any: version 1 has none, and version 2 has them
+  -- the instruction caches, where there are any: version 1 has none, version 2 has them, and version 3 may
   pub l1i : IfSome m.l1i (IsL1 m.l2.banks)
-  pub has_l1i : is_some m.l1i ≡ nat_lt 1 m.version
+  pub has_l1i : m.version < 3 → is_some m.l1i ≡ nat_lt 1 m.version
   pub l2 : IsL2 m.l2
   pub controllers : IsControllers m.controllers
   pub domains : IsDomains m.l2.banks m.controllers.count m.domains
+  -- what version 3 may have, and no version before it: pipelines. A mesh and open rows no version has yet.
+  pub mesh : IfSome m.mesh IsMesh
+  pub dram : IfSome m.dram IsDram
+  pub pipe : IfSome m.pipe IsPipe
+  pub without_mesh : m.mesh ≡ None
+  pub without_dram : m.dram ≡ None
+  pub without_pipe : m.version < 3 → m.pipe ≡ None

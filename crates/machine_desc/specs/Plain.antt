@@ -57,4 +57,7 @@ plain_machine = record {
   l2 = record { banks = 1; sets = 4; ways = 2; latency = 10; remote = 5; fill = 2; occupancy = 4 };
   controllers = record { count = 1; read = 100; write = 40; occupancy = 20 };
   domains = record { count = 2; banks = 0 ∷ []; controllers = 1 ∷ [] };
+  mesh = None;
+  dram = None;
+  pipe = None;
 }

@@ -1,5 +1,5 @@
 -- What the rows of the program's tables say.
-use Rattle.machine_desc.specs.Keys.{KeyPath, Range, Rule, is_table, is_integer, is_share, is_array, Check, Ratio}
+use Rattle.machine_desc.specs.Keys.{KeyPath, Range, Rule, is_table, is_integer, is_share, is_at_least, is_array, Check, Ratio}
 use Rattle.machine_desc.specs.declared.keys.KeyPath.{KeyPath as KeyRow}
 use Rattle.machine_desc.specs.declared.keys.Range.{Range as RangeRow}
 use Rattle.machine_desc.specs.declared.keys.Rule.{Rule as RuleRow}
@@ -17,6 +17,7 @@ abbrev pub rule_of : RuleRow → Rule
 rule_of row.Table = is_table
 rule_of (row.Integer range) = is_integer (range_of range)
 rule_of (row.Share range times whole) = is_share (range_of range) (key_path_of times) (key_path_of whole)
+rule_of (row.AtLeast range least) = is_at_least (range_of range) (key_path_of least)
 rule_of (row.Array count) = is_array (key_path_of count)
 
 abbrev pub check_of : CheckRow → Check

@@ -2,7 +2,7 @@
 ghost use Rattle.std.specs.Prelude.{◌≡◌, ◌&&◌, map, IfOk, is_some};
 ghost use Rattle.toml.specs.Data.{as_table};
 ghost use Rattle.toml.specs.View.{view, table_view};
-ghost use Rattle.machine_desc.specs.Description.{is_in_range, is_share_of, unless, bad_integer, bad_array, bad_value, refusal_of, check_refusal, checks_refusal};
+ghost use Rattle.machine_desc.specs.Description.{is_in_range, is_share_of, is_no_less, unless, bad_integer, bad_array, bad_value, refusal_of, check_refusal, checks_refusal};
 ghost use Rattle.machine_desc.specs.Answers.{Answers, passed_unless};
 ghost use Rattle.machine_desc.specs.Rows.{key_path_of, range_of, rule_of, check_of};
 ghost use Rattle.machine_desc.specs.Text.{integer_at};
@@ -88,6 +88,10 @@ fn bad_value(
             let whole = integer_at(document, whole.table, whole.name);
             Ok(bad_share(range, times, whole, value))
         }
+        Rule::AtLeast { range, least } => {
+            let least = integer_at(document, least.table, least.name);
+            Ok(bad_at_least(range, least, value))
+        }
         Rule::Array(count) => {
             let count = integer_at(document, count.table, count.name);
             bad_array(alloc, count, value)
@@ -133,6 +137,17 @@ fn is_share(times: u64, whole: u64, integer: i64) -> bool
     match times.checked_mul(natural(integer)) {
         Some(product) => product <= whole,
         None => false,
+    }
+}
+
+fn bad_at_least(range: &Range, least: u64, value: &Value) -> Option<BadValue>
+    ensures { result ≡ bad_integer
+        (λ z. is_in_range (range_of range.now) z && is_no_less least z) (view value.now) }
+{
+    match value.as_integer() {
+        Some(integer) if range.contains(integer) && least <= natural(integer) => None,
+        Some(integer) => Some(BadValue::OutOfRange(integer)),
+        None => Some(BadValue::OtherKind),
     }
 }
 

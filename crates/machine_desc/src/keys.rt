@@ -1,16 +1,13 @@
-//! The checks of a description as data, one list for each table. A later version of the description
-//! adds lists, of which a document has some.
-ghost use Rattle.std.specs.Prelude.{◌≡◌, ◌∷◌, [], ◌++◌, map, IfOk, OnOk, string_bytes};
-ghost use Rattle.toml.specs.View.{table_view};
-ghost use Rattle.machine_desc.specs.Description.{is_in_range, is_version, has_l1i, checks_of, ratios_of};
-ghost use Rattle.machine_desc.specs.Keys.{at, version_check, top_checks, memory_checks, l1_checks, l1i_checks, l2_checks, controller_checks, domain_checks};
+//! The checks of a description as data, one list for each table.
+ghost use Rattle.std.specs.Prelude.{◌≡◌, ◌∷◌, [], map, codes, IfOk, string_bytes};
+ghost use Rattle.machine_desc.specs.Description.{is_in_range};
+ghost use Rattle.machine_desc.specs.Keys.{at, version_check, top_checks, memory_checks, l1_checks, l1i_checks, l2_checks, controller_checks, domain_checks, mesh_checks, dram_checks, pipe_checks, sets_ratio};
 ghost use Rattle.machine_desc.specs.Rows.{range_of, check_of, ratio_of};
-ghost use Rattle.machine_desc.specs.Text.{full_name, version_of};
+ghost use Rattle.machine_desc.specs.Text.{full_name};
 
 use crate::KeyName;
-use crate::document::{integer_at, natural};
+use crate::document::natural;
 use std::alloc::{AllocError, Global};
-use toml::Table;
 
 /// Where a value stands: the name of its table, which is empty at the top level, and its own name.
 #[derive(Clone, Copy)]
@@ -52,6 +49,11 @@ pub(crate) enum Rule {
         range: Range,
         times: KeyPath,
         whole: KeyPath,
+    },
+    /// An integer in the range that is no less than the number at `least`.
+    AtLeast {
+        range: Range,
+        least: KeyPath,
     },
     /// An array of integers, as many as the number at the key says.
     Array(KeyPath),
@@ -111,6 +113,18 @@ macro_rules! integer {
     };
 }
 
+macro_rules! at_least {
+    ($table:literal, $name:literal, $low:literal, $high:literal, $least:literal) => {
+        Check {
+            key: key!($table, $name),
+            rule: Rule::AtLeast {
+                range: range!($low, $high, 1),
+                least: key!($table, $least),
+            },
+        }
+    };
+}
+
 macro_rules! array {
     ($table:literal, $name:literal, $count:expr) => {
         Check {
@@ -143,7 +157,7 @@ macro_rules! sets_ratio {
 // The keys of each table, in the order in which they are checked.
 
 static TOP: [Check; 4] = [
-    integer!("", "version", 1, 2),
+    integer!("", "version", 1, 3),
     integer!("", "cores", 1, 256),
     integer!("", "interval", 1, 10000),
     integer!("", "intervals", 1, 1048576),
@@ -193,123 +207,123 @@ static DOMAINS: [Check; 4] = [
     array!("domains", "controllers", key!("controllers", "count")),
 ];
 
+static MESH: [Check; 5] = [
+    table!("mesh"),
+    integer!("mesh", "width", 1, 8),
+    integer!("mesh", "height", 1, 8),
+    integer!("mesh", "hop", 1, 256),
+    integer!("mesh", "occupancy", 1, 256),
+];
+
+static DRAM: [Check; 6] = [
+    table!("dram"),
+    integer!("dram", "banks", 1, 16),
+    integer!("dram", "row_lines", 1, 4096),
+    integer!("dram", "hit", 1, 65536),
+    at_least!("dram", "closed", 1, 65536, "hit"),
+    at_least!("dram", "conflict", 1, 65536, "closed"),
+];
+
+static PIPE: [Check; 5] = [
+    table!("pipe"),
+    integer!("pipe", "mul", 1, 64),
+    integer!("pipe", "div", 1, 128),
+    integer!("pipe", "entries", 1, 4096),
+    integer!("pipe", "penalty", 0, 64),
+];
+
 static DATA_RATIOS: [Ratio; 2] = [sets_ratio!("l1"), sets_ratio!("l2")];
 
 static ALL_RATIOS: [Ratio; 3] = [sets_ratio!("l1"), sets_ratio!("l1i"), sets_ratio!("l2")];
 
-/// The checks of a document, in order: those of its version. Of a version that there is not, the
-/// check of the version alone, which fails.
-#[tactic(auto, unfolding(crate::specs::Description::checks_of))]
-pub(crate) fn checks(alloc: Global, document: &Table) -> Result<Vec<Check>, AllocError>
-    ensures { IfOk result (λ checks. map check_of checks.items ≡ checks_of (table_view document.now)) }
-{
-    if !is_version(version(document)) {
-        return Vec::from_slice(alloc, version_check());
-    }
-    let mut checks = Vec::from_slice(alloc, top_checks())?;
-    add(&mut checks, memory_checks())?;
-    add(&mut checks, l1_checks())?;
-    if has_l1i(document) {
-        add(&mut checks, l1i_checks())?;
-    }
-    add(&mut checks, l2_checks())?;
-    add(&mut checks, controller_checks())?;
-    add(&mut checks, domain_checks())?;
-    Ok(checks)
-}
-
-/// Adds the checks of a table to those of the tables before it.
-fn add(checks: &mut Vec<Check>, more: &[Check]) -> Result<(), AllocError>
-    ensures { OnOk result (map check_of checks.new.items ≡ map check_of checks.old.items ++ map check_of more.now) }
-{
-    checks.extend_from_slice(more)
-}
-
-/// The ratios of a document, in order.
-#[tactic(auto, unfolding(crate::specs::Description::ratios_of))]
-pub(crate) fn ratios(document: &Table) -> &'static [Ratio]
-    ensures { map ratio_of result.now ≡ ratios_of (table_view document.now) }
-{
-    match has_l1i(document) {
-        true => &ALL_RATIOS,
-        false => &DATA_RATIOS,
-    }
-}
-
-/// Whether the machine of a document has instruction caches.
-pub(crate) fn has_l1i(document: &Table) -> bool
-    ensures { result ≡ has_l1i (table_view document.now) }
-{
-    version(document) > 1
-}
-
-/// Whether there is such a version.
-fn is_version(version: u64) -> bool
-    ensures { result ≡ is_version version }
-{
-    1 <= version && version <= 2
-}
-
-/// The version that a document says it is of: 0 where it says none.
-fn version(document: &Table) -> u64
-    ensures { result ≡ version_of (table_view document.now) }
-{
-    integer_at(document, "", "version")
-}
-
-fn version_check() -> &'static [Check]
+pub(crate) fn version_check() -> &'static [Check]
     ensures { map check_of result.now ≡ version_check ∷ [] }
 {
     &TOP[..1]
 }
 
 #[tactic(auto, unfolding(crate::specs::Keys::top_checks))]
-fn top_checks() -> &'static [Check]
+pub(crate) fn top_checks() -> &'static [Check]
     ensures { map check_of result.now ≡ top_checks }
 {
     &TOP
 }
 
 #[tactic(auto, unfolding(crate::specs::Keys::memory_checks))]
-fn memory_checks() -> &'static [Check]
+pub(crate) fn memory_checks() -> &'static [Check]
     ensures { map check_of result.now ≡ memory_checks }
 {
     &MEMORY
 }
 
 #[tactic(auto, unfolding(crate::specs::Keys::own_cache_checks))]
-fn l1_checks() -> &'static [Check]
+pub(crate) fn l1_checks() -> &'static [Check]
     ensures { map check_of result.now ≡ l1_checks }
 {
     &L1
 }
 
 #[tactic(auto, unfolding(crate::specs::Keys::own_cache_checks))]
-fn l1i_checks() -> &'static [Check]
+pub(crate) fn l1i_checks() -> &'static [Check]
     ensures { map check_of result.now ≡ l1i_checks }
 {
     &L1I
 }
 
 #[tactic(auto, unfolding(crate::specs::Keys::l2_checks))]
-fn l2_checks() -> &'static [Check]
+pub(crate) fn l2_checks() -> &'static [Check]
     ensures { map check_of result.now ≡ l2_checks }
 {
     &L2
 }
 
 #[tactic(auto, unfolding(crate::specs::Keys::controller_checks))]
-fn controller_checks() -> &'static [Check]
+pub(crate) fn controller_checks() -> &'static [Check]
     ensures { map check_of result.now ≡ controller_checks }
 {
     &CONTROLLERS
 }
 
 #[tactic(auto, unfolding(crate::specs::Keys::domain_checks))]
-fn domain_checks() -> &'static [Check]
+pub(crate) fn domain_checks() -> &'static [Check]
     ensures { map check_of result.now ≡ domain_checks }
 {
     &DOMAINS
+}
+
+#[tactic(auto, unfolding(crate::specs::Keys::mesh_checks))]
+pub(crate) fn mesh_checks() -> &'static [Check]
+    ensures { map check_of result.now ≡ mesh_checks }
+{
+    &MESH
+}
+
+#[tactic(auto, unfolding(crate::specs::Keys::dram_checks))]
+pub(crate) fn dram_checks() -> &'static [Check]
+    ensures { map check_of result.now ≡ dram_checks }
+{
+    &DRAM
+}
+
+#[tactic(auto, unfolding(crate::specs::Keys::pipe_checks))]
+pub(crate) fn pipe_checks() -> &'static [Check]
+    ensures { map check_of result.now ≡ pipe_checks }
+{
+    &PIPE
+}
+
+/// The ratios of a machine without instruction caches, in order.
+pub(crate) fn data_ratios() -> &'static [Ratio]
+    ensures { map ratio_of result.now ≡ sets_ratio (codes "l1") ∷ sets_ratio (codes "l2") ∷ [] }
+{
+    &DATA_RATIOS
+}
+
+/// Those of a machine with them.
+pub(crate) fn all_ratios() -> &'static [Ratio]
+    ensures { map ratio_of result.now ≡ sets_ratio (codes "l1") ∷ sets_ratio (codes "l1i") ∷ sets_ratio (codes "l2") ∷ [] }
+{
+    &ALL_RATIOS
 }
 
 /// The name of a key as it stands in a refusal: `table.key`, and at the top level `key`.

@@ -15,10 +15,11 @@ mod plain;
 mod ratios;
 mod reader;
 mod unknown;
+mod versions;
 
-pub use components::{component_count, domain_of};
+pub use components::{component_count, domain_of, link_count, node_count};
 pub use errors::{BadMachine, MachineFail};
 pub use lists::{KeyName, Places};
-pub use machine::{Controllers, Domains, L1, L2, Machine, Memory};
+pub use machine::{Controllers, Domains, Dram, L1, L2, Machine, Memory, Mesh, Pipe};
 pub use plain::PLAIN;
 pub use reader::read;

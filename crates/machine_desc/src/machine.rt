@@ -66,10 +66,52 @@ pub struct Domains {
     pub controllers: Places,
 }
 
+/// A mesh of nodes, on which the cores, the banks and the controllers are. From each node a link
+/// leads in each of four directions.
+#[derive(Clone, Copy, PartialEq, Eq)]
+pub struct Mesh {
+    /// How many nodes it has along x: 1 to 8.
+    pub width: u16,
+    /// How many nodes it has along y: 1 to 8.
+    pub height: u16,
+    /// The time from a node to the next, in cycles: 1 to 256.
+    pub hop: u32,
+    /// For how long an event keeps a link busy, in cycles: 1 to 256.
+    pub occupancy: u32,
+}
+
+/// The banks of memory behind each controller, each of which keeps a row open. Times are in cycles.
+#[derive(Clone, Copy, PartialEq, Eq)]
+pub struct Dram {
+    /// How many banks there are behind a controller: 1 to 16.
+    pub banks: u16,
+    /// How many lines a row has: 1 to 4096.
+    pub row_lines: u32,
+    /// The time to read a line of the open row: 1 to 65536.
+    pub hit: u32,
+    /// The time to read a line where the bank has no open row: `hit` to 65536.
+    pub closed: u32,
+    /// The time to read a line where another row is open: `closed` to 65536.
+    pub conflict: u32,
+}
+
+/// The pipeline of each core. Times are in cycles.
+#[derive(Clone, Copy, PartialEq, Eq)]
+pub struct Pipe {
+    /// The time until a product is ready: 1 to 64.
+    pub mul: u32,
+    /// The time until a quotient or a remainder is ready: 1 to 128.
+    pub div: u32,
+    /// How many counters predict the branches: 1 to 4096.
+    pub entries: u32,
+    /// What a wrong prediction costs, and each JALR: 0 to 64.
+    pub penalty: u32,
+}
+
 /// A machine.
 #[derive(Drop)]
 pub struct Machine {
-    /// The version of the description: 1 or 2.
+    /// The version of the description: 1 to 3.
     pub version: u32,
     /// How many cores it has: 1 to 256.
     pub cores: u16,
@@ -80,10 +122,17 @@ pub struct Machine {
     pub memory: Memory,
     /// Each core's data cache.
     pub l1: L1,
-    /// Each core's instruction cache, if the cores have one: those of version 1 have none, and
-    /// those of version 2 have one.
+    /// Each core's instruction cache, if the cores have one: those of version 1 have none, those of
+    /// version 2 have one, and those of version 3 may.
     pub l1i: Option<L1>,
     pub l2: L2,
     pub controllers: Controllers,
     pub domains: Domains,
+    /// The mesh that accesses cross, if there is one. No description gives a mesh or open rows yet:
+    /// this and the next are `None` in every machine that is read.
+    pub mesh: Option<Mesh>,
+    /// The banks of memory behind each controller, if they keep rows open.
+    pub dram: Option<Dram>,
+    /// The pipeline of each core, if the cores have one, which those of version 3 may.
+    pub pipe: Option<Pipe>,
 }

@@ -1,14 +1,14 @@
 //! The machine with the numbers of a document that passed the checks.
 ghost use Rattle.std.specs.Prelude.{◌≡◌, ◌<◌, ◌^◌, All, IfOk, IfSome, length, map, codes};
 ghost use Rattle.toml.specs.View.{table_view};
-ghost use Rattle.machine_desc.specs.Description.{memory_of, own_cache_of, l1i_of, l2_of, controllers_of, domains_of, numbers_of};
+ghost use Rattle.machine_desc.specs.Description.{memory_of, own_cache_of, l1i_of, l2_of, controllers_of, domains_of, mesh_numbers, mesh_of, dram_numbers, dram_of, pipe_numbers, pipe_of, numbers_of};
 ghost use Rattle.machine_desc.specs.Keys.{at};
-ghost use Rattle.machine_desc.specs.Machine.{IsL1, IsL2, IsControllers, IsDomains, IsMachine};
+ghost use Rattle.machine_desc.specs.Machine.{IsL1, IsL2, IsControllers, IsDomains, IsMesh, IsDram, IsPipe, IsMachine};
 ghost use Rattle.machine_desc.specs.Text.{natural, integer_at, integers_at};
 
 use crate::document::{integer_at, integers_at, natural};
-use crate::keys::has_l1i;
-use crate::{Controllers, Domains, L1, L2, Machine, Memory, Places};
+use crate::versions::{has_dram, has_l1i, has_mesh, has_pipe};
+use crate::{Controllers, Domains, Dram, L1, L2, Machine, Memory, Mesh, Pipe, Places};
 use std::alloc::{AllocError, Global};
 use toml::Table;
 
@@ -29,6 +29,9 @@ pub(crate) fn numbers(alloc: Global, document: &Table) -> Result<Machine, AllocE
         l2: l2(document),
         controllers: controllers(document),
         domains: domains(alloc, document)?,
+        mesh: mesh(document),
+        dram: dram(document),
+        pipe: pipe(document),
     })
 }
 
@@ -148,4 +151,83 @@ fn shorts(alloc: Global, integers: &[i64]) -> Result<Vec<u16>, AllocError>
         shorts.push(natural(*integer) as u16)?;
     }
     Ok(shorts)
+}
+
+/// The mesh, if the machine has one.
+#[tactic(auto, unfolding(crate::specs::Description::mesh_of))]
+fn mesh(document: &Table) -> Option<Mesh>
+    requires { IfSome (mesh_of (table_view document.now)) IsMesh }
+    ensures { result ≡ mesh_of (table_view document.now) }
+{
+    if has_mesh(document) {
+        Some(mesh_numbers(document))
+    } else {
+        None
+    }
+}
+
+#[tactic(auto, unfolding(crate::specs::Description::mesh_numbers))]
+fn mesh_numbers(document: &Table) -> Mesh
+    requires { IsMesh (mesh_numbers (table_view document.now)) }
+    ensures { result ≡ mesh_numbers (table_view document.now) }
+{
+    Mesh {
+        width: short(document, "mesh", "width"),
+        height: short(document, "mesh", "height"),
+        hop: small(document, "mesh", "hop"),
+        occupancy: small(document, "mesh", "occupancy"),
+    }
+}
+
+/// The open rows, if the machine has them.
+#[tactic(auto, unfolding(crate::specs::Description::dram_of))]
+fn dram(document: &Table) -> Option<Dram>
+    requires { IfSome (dram_of (table_view document.now)) IsDram }
+    ensures { result ≡ dram_of (table_view document.now) }
+{
+    if has_dram(document) {
+        Some(dram_numbers(document))
+    } else {
+        None
+    }
+}
+
+#[tactic(auto, unfolding(crate::specs::Description::dram_numbers))]
+fn dram_numbers(document: &Table) -> Dram
+    requires { IsDram (dram_numbers (table_view document.now)) }
+    ensures { result ≡ dram_numbers (table_view document.now) }
+{
+    Dram {
+        banks: short(document, "dram", "banks"),
+        row_lines: small(document, "dram", "row_lines"),
+        hit: small(document, "dram", "hit"),
+        closed: small(document, "dram", "closed"),
+        conflict: small(document, "dram", "conflict"),
+    }
+}
+
+/// The pipeline of each core, if the cores have one.
+#[tactic(auto, unfolding(crate::specs::Description::pipe_of))]
+fn pipe(document: &Table) -> Option<Pipe>
+    requires { IfSome (pipe_of (table_view document.now)) IsPipe }
+    ensures { result ≡ pipe_of (table_view document.now) }
+{
+    if has_pipe(document) {
+        Some(pipe_numbers(document))
+    } else {
+        None
+    }
+}
+
+#[tactic(auto, unfolding(crate::specs::Description::pipe_numbers))]
+fn pipe_numbers(document: &Table) -> Pipe
+    requires { IsPipe (pipe_numbers (table_view document.now)) }
+    ensures { result ≡ pipe_numbers (table_view document.now) }
+{
+    Pipe {
+        mul: small(document, "pipe", "mul"),
+        div: small(document, "pipe", "div"),
+        entries: small(document, "pipe", "entries"),
+        penalty: small(document, "pipe", "penalty"),
+    }
 }

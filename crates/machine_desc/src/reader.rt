@@ -8,15 +8,15 @@ ghost use Rattle.machine_desc.specs.Answers.{Answers, passed_unless};
 use crate::checks::check_keys;
 use crate::document::parse;
 use crate::domains::check_domains;
-use crate::keys::{checks, ratios};
 use crate::numbers::numbers;
 use crate::ratios::check_ratios;
 use crate::unknown::check_names;
+use crate::versions::{checks, ratios};
 use crate::{Machine, MachineFail};
 use std::alloc::Global;
 use toml::Table;
 
-/// Reads a machine description, of version 1 or 2: the machine of the text, or the first check that
+/// Reads a machine description, of version 1 to 3: the machine of the text, or the first check that
 /// fails.
 #[tactic(auto, unfolding(crate::specs::Description::machine_of))]
 pub fn read(alloc: Global, text: &[u8]) -> Result<Machine, MachineFail>
