@@ -1,4 +1,5 @@
 mod FreshAreOne
 mod FreshAreThere
+mod Gathered
 mod SameState
 mod Stepped

@@ -1,10 +1,11 @@
--- Banks and controllers with the same numbers are the same: what their types keep says nothing more.
+-- Banks, controllers and links with the same numbers are the same: what their types keep says nothing more.
 use Rattle.std.proofs.Common.{◌≡◌, ◌+◌, ◌≤◌, ℕ, max, subst}
 use Rattle.std.proofs.Math.Bridge.{le_prop}
 use Rattle.component.specs.declared.kind.Kind.{Kind}
 use Rattle.component.specs.declared.bank.Bank.{Bank}
 use Rattle.component.specs.declared.controller.Controller.{Controller}
-use Rattle.component.specs.ComponentStep.{bank_step, bank_latency, controller_step, controller_latency}
+use Rattle.component.specs.declared.link.Link.{Link}
+use Rattle.component.specs.ComponentStep.{bank_step, bank_latency, controller_step, controller_latency, link_step, link_latency}
 
 pub bank_with_free : (b : Bank) (kind : Kind) (start : ℕ) (p : 1 ≤ b.lookup) (q : 1 ≤ b.remote) (r : 1 ≤ b.fill)
     → (let made : Bank = record { lookup = b.lookup; remote = b.remote; fill = b.fill; occupancy = b.occupancy; free = max start b.free + b.occupancy; lookup_at_least_one = p; remote_at_least_one = q; fill_at_least_one = r } in (made, max start b.free + bank_latency b kind)) ≡ bank_step b kind start
@@ -15,6 +16,10 @@ pub controller_with_free : (c : Controller) (kind : Kind) (start : ℕ) (p : 1 �
     → (let made : Controller = record { read = c.read; write = c.write; occupancy = c.occupancy; free = max start c.free + c.occupancy; read_at_least_one = p; write_at_least_one = q } in (made, max start c.free + controller_latency c kind)) ≡ controller_step c kind start
 controller_with_free c kind start p q =
     cc (le_prop p c.read_at_least_one, le_prop q c.write_at_least_one)
+
+pub link_with_free : (l : Link) (kind : Kind) (start : ℕ) (p : 1 ≤ l.hop)
+    → (let made : Link = record { hop = l.hop; occupancy = l.occupancy; free = max start l.free + l.occupancy; hop_at_least_one = p } in (made, max start l.free + link_latency l kind)) ≡ link_step l kind start
+link_with_free l kind start p = cc (le_prop p l.hop_at_least_one)
 
 pub same_bank : (a b : Bank) → a.lookup ≡ b.lookup → a.remote ≡ b.remote → a.fill ≡ b.fill → a.occupancy ≡ b.occupancy → a.free ≡ b.free → a ≡ b
 same_bank a b lookup remote fill occupancy free =
@@ -45,3 +50,9 @@ same_controller a b read write occupancy free =
     subst (λ n. (p : 1 ≤ a.read) (q : 1 ≤ n) → a ≡ made a.read n b.occupancy b.free p q) write own
     in
     subst (λ n. (p : 1 ≤ n) (q : 1 ≤ b.write) → a ≡ made n b.write b.occupancy b.free p q) read with_write b.read_at_least_one b.write_at_least_one
+
+pub same_link : (a b : Link) → a.hop ≡ b.hop → a.occupancy ≡ b.occupancy → a.free ≡ b.free → a ≡ b
+same_link a b hop occupancy free =
+    let made : (h o e : ℕ) → 1 ≤ h → Link = λ h o e p. record { hop = h; occupancy = o; free = e; hop_at_least_one = p } in
+    let own : (p : 1 ≤ a.hop) → made a.hop a.occupancy a.free a.hop_at_least_one ≡ made a.hop b.occupancy b.free p = λ p. cc (le_prop p a.hop_at_least_one) in
+    subst (λ n. (p : 1 ≤ n) → a ≡ made n b.occupancy b.free p) hop own b.hop_at_least_one

@@ -1,23 +1,36 @@
 -- That the components of a machine stay its components while they serve events.
-use Rattle.std.specs.Prelude.{◌≡◌, ◌<◌, ℕ, List, length, slice_set, slice_index_or, slice_get, Some}
+use Rattle.std.specs.Prelude.{◌≡◌, ◌+◌, ◌<◌, ℕ, List, length, slice_set, slice_index_or, slice_get, Option, None, Some}
 use Rattle.std.specs.List.{AllWithin}
 use Rattle.std.proofs.Common.{ap, ◌∙◌, sym, subst, inl, inr, length-set, get_or-set_same, get_or-set_other}
 use Rattle.std.proofs.lemmas.Bool.{cases_eq}
 use Rattle.std.proofs.lemmas.Option.{slice_get_within, get_or_from_slice_get}
+use Rattle.machine_desc.specs.declared.machine.Mesh.{Mesh}
 use Rattle.machine_desc.specs.declared.machine.Machine.{Machine}
 use Rattle.component.specs.declared.kind.Kind.{Kind}
+use Rattle.component.specs.declared.link.Link.{Link}
 use Rattle.component.specs.declared.comp.Comp.{Comp}
-use Rattle.component.specs.declared.comp.Comp.TheVariants.{Bank as ABank, Controller as AController}
-use Rattle.component.specs.ComponentStep.{comp_step}
-use Rattle.component.specs.Components.{AreComponents, IsBankOf, IsControllerOf}
+use Rattle.component.specs.declared.comp.Comp.TheVariants.{Bank as ABank, Controller as AController, Link as ALink}
+use Rattle.component.specs.ComponentStep.{comp_step, link_step}
+use Rattle.component.specs.Components.{AreComponents, IsBankOf, IsControllerOf, IsLinkIn, IsLinkOf}
 
 bank_stays : (m : Machine) (c : Comp) (kind : Kind) (start : ℕ) → IsBankOf m c → IsBankOf m (comp_step c kind start).0
 bank_stays m (ABank b) kind start is = record { lookup = is.lookup; remote = is.remote; fill = is.fill; occupancy = is.occupancy }
 bank_stays m (AController c) kind start is = is
+bank_stays m (ALink l) kind start is = is
 
 controller_stays : (m : Machine) (c : Comp) (kind : Kind) (start : ℕ) → IsControllerOf m c → IsControllerOf m (comp_step c kind start).0
 controller_stays m (ABank b) kind start is = is
 controller_stays m (AController c) kind start is = record { read = is.read; write = is.write; occupancy = is.occupancy }
+controller_stays m (ALink l) kind start is = is
+
+link_in_stays : (mesh : Option Mesh) (l : Link) (kind : Kind) (start : ℕ) → IsLinkIn mesh l → IsLinkIn mesh (link_step l kind start).0
+link_in_stays None l kind start is = is
+link_in_stays (Some mesh) l kind start is = record { hop = is.hop; occupancy = is.occupancy }
+
+link_stays : (m : Machine) (c : Comp) (kind : Kind) (start : ℕ) → IsLinkOf m c → IsLinkOf m (comp_step c kind start).0
+link_stays m (ABank b) kind start is = is
+link_stays m (AController c) kind start is = is
+link_stays m (ALink l) kind start is = link_in_stays m.mesh l kind start is
 
 -- a range of elements, after a write that keeps what is true of the element
 within_set : {X : Type 0} (P : X → Type 0) (xs : List X) (i : ℕ) (old new : X) → slice_get xs i ≡ Some old → (P old → P new) → (low high : ℕ)
@@ -36,10 +49,12 @@ within_set P xs i old new at' keeps low high all k d from below =
 pub components_stay : (m : Machine) (comps : List Comp) (i : ℕ) (c : Comp) (kind : Kind) (start : ℕ) → AreComponents m comps → slice_get comps i ≡ Some c
     → AreComponents m (slice_set comps i (comp_step c kind start).0)
 components_stay m comps i c kind start are at' =
-    let long = length-set comps i (comp_step c kind start).0 in
+    let after = (comp_step c kind start).0 in
+    let past = m.l2.banks + m.controllers.count in
+    let long = length-set comps i after in
     record {
       count = long ∙ are.count;
-      banks = within_set (IsBankOf m) comps i c (comp_step c kind start).0 at' (bank_stays m c kind start) 0 m.l2.banks are.banks;
-      controllers = subst (AllWithin (IsControllerOf m) (slice_set comps i (comp_step c kind start).0) m.l2.banks) (sym long)
-          (within_set (IsControllerOf m) comps i c (comp_step c kind start).0 at' (controller_stays m c kind start) m.l2.banks (length comps) are.controllers);
+      banks = within_set (IsBankOf m) comps i c after at' (bank_stays m c kind start) 0 m.l2.banks are.banks;
+      controllers = within_set (IsControllerOf m) comps i c after at' (controller_stays m c kind start) m.l2.banks past are.controllers;
+      links = subst (AllWithin (IsLinkOf m) (slice_set comps i after) past) (sym long) (within_set (IsLinkOf m) comps i c after at' (link_stays m c kind start) past (length comps) are.links);
     }

@@ -39,7 +39,7 @@ impl Component for Bank {
     fn serves(&self, kind: Kind) -> bool {
         match kind {
             Kind::Lookup | Kind::Remote | Kind::Fill => true,
-            Kind::Read | Kind::Write => false,
+            Kind::Read | Kind::Write | Kind::Hop => false,
         }
     }
 
@@ -48,7 +48,7 @@ impl Component for Bank {
             Kind::Lookup => self.lookup,
             Kind::Remote => self.remote,
             Kind::Fill => self.fill,
-            Kind::Read | Kind::Write => 0,
+            Kind::Read | Kind::Write | Kind::Hop => 0,
         }
     }
 

@@ -1,12 +1,13 @@
-//! A component of this machine: a bank or a controller.
-use crate::{Bank, Component, Controller, Kind};
+//! A component of this machine: a bank, a controller or a link.
+use crate::{Bank, Component, Controller, Kind, Link};
 use zs_num::Cycle;
 
-/// A bank of the shared cache or a memory controller.
+/// A bank of the shared cache, a memory controller, or a link of the mesh.
 #[derive(Drop)]
 pub enum Comp {
     Bank(Bank),
     Controller(Controller),
+    Link(Link),
 }
 
 impl Comp {
@@ -20,6 +21,7 @@ impl Comp {
         match self {
             Comp::Bank(bank) => bank.free,
             Comp::Controller(controller) => controller.free,
+            Comp::Link(link) => link.free,
         }
     }
 }
@@ -41,6 +43,7 @@ impl Component for Comp {
         match self {
             Comp::Bank(bank) => bank.serves(kind),
             Comp::Controller(controller) => controller.serves(kind),
+            Comp::Link(link) => link.serves(kind),
         }
     }
 
@@ -48,6 +51,7 @@ impl Component for Comp {
         match self {
             Comp::Bank(bank) => bank.floor(kind),
             Comp::Controller(controller) => controller.floor(kind),
+            Comp::Link(link) => link.floor(kind),
         }
     }
 
@@ -55,6 +59,7 @@ impl Component for Comp {
         match self {
             Comp::Bank(bank) => bank.step(kind, start),
             Comp::Controller(controller) => controller.step(kind, start),
+            Comp::Link(link) => link.step(kind, start),
         }
     }
 

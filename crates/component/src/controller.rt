@@ -35,7 +35,7 @@ impl Component for Controller {
     fn serves(&self, kind: Kind) -> bool {
         match kind {
             Kind::Read | Kind::Write => true,
-            Kind::Lookup | Kind::Remote | Kind::Fill => false,
+            Kind::Lookup | Kind::Remote | Kind::Fill | Kind::Hop => false,
         }
     }
 
@@ -43,7 +43,7 @@ impl Component for Controller {
         match kind {
             Kind::Read => self.read,
             Kind::Write => self.write,
-            Kind::Lookup | Kind::Remote | Kind::Fill => 0,
+            Kind::Lookup | Kind::Remote | Kind::Fill | Kind::Hop => 0,
         }
     }
 

@@ -1,27 +1,61 @@
 //! The components of a machine.
-ghost use Rattle.std.specs.Prelude.{◌≡◌, IfOk};
-ghost use Rattle.machine_desc.specs.Machine.{IsMachine, IsL2, IsControllers};
-ghost use Rattle.component.specs.Components.{AreFresh, HasBankTimes, HasControllerTimes};
+ghost use Rattle.std.specs.Prelude.{◌≡◌, IfOk, OnOk};
+ghost use Rattle.machine_desc.specs.Components.{links_of};
+ghost use Rattle.machine_desc.specs.Machine.{IsMachine, IsL2, IsControllers, IsMesh};
+ghost use Rattle.component.specs.Components.{AreFresh, HasBankTimes, HasControllerTimes, HasLinkTimes, IsBankOf, IsControllerOf, IsLinkOf};
+ghost use Rattle.component.specs.Gained.{Gains};
 
-use crate::{Bank, Comp, Comps, Controller};
-use machine_desc::{Controllers, L2, Machine};
+use crate::{Bank, Comp, Comps, Controller, Link};
+use machine_desc::{Controllers, L2, Machine, Mesh, node_count};
 use std::alloc::Global;
 use zs_num::NoMemory;
 
-/// The components of a machine in order of their numbers, all free: the banks and then the
-/// controllers.
+/// The components of a machine in order of their numbers, all free: the banks, then the
+/// controllers, and then the links.
 pub fn components(alloc: Global, machine: &Machine) -> Result<Comps<Comp>, NoMemory>
     requires { IsMachine machine.now }
     ensures { IfOk result (AreFresh machine.now) }
 {
     let mut list = Vec::new(alloc);
-    'banks: for _bank in 0..machine.l2.banks {
+    add_banks(&mut list, machine)?;
+    add_controllers(&mut list, machine)?;
+    add_links(&mut list, machine)?;
+    Ok(Comps::of(list))
+}
+
+/// Adds the banks of a machine.
+fn add_banks(list: &mut Vec<Comp>, machine: &Machine) -> Result<(), NoMemory>
+    requires { IsMachine machine.now }
+    ensures { OnOk result (Gains (IsBankOf machine.now) machine.now.l2.banks list.old.items list.new.items) }
+{
+    for _bank in 0..machine.l2.banks {
         list.push(Comp::Bank(fresh_bank(&machine.l2)))?;
     }
-    'controllers: for _controller in 0..machine.controllers.count {
+    Ok(())
+}
+
+/// Adds its controllers.
+fn add_controllers(list: &mut Vec<Comp>, machine: &Machine) -> Result<(), NoMemory>
+    requires { IsMachine machine.now }
+    ensures { OnOk result (Gains (IsControllerOf machine.now) machine.now.controllers.count list.old.items list.new.items) }
+{
+    for _controller in 0..machine.controllers.count {
         list.push(Comp::Controller(fresh_controller(&machine.controllers)))?;
     }
-    Ok(Comps::of(list))
+    Ok(())
+}
+
+/// Adds its links, where it has a mesh.
+fn add_links(list: &mut Vec<Comp>, machine: &Machine) -> Result<(), NoMemory>
+    requires { IsMachine machine.now }
+    ensures { OnOk result (Gains (IsLinkOf machine.now) (links_of machine.now) list.old.items list.new.items) }
+{
+    if let Some(mesh) = &machine.mesh {
+        for _link in 0..4 * node_count(mesh) {
+            list.push(Comp::Link(fresh_link(mesh)))?;
+        }
+    }
+    Ok(())
 }
 
 /// A bank before its first event.
@@ -49,6 +83,19 @@ fn fresh_controller(controllers: &Controllers) -> Controller
         read: u64::from(controllers.read),
         write: u64::from(controllers.write),
         occupancy: u64::from(controllers.occupancy),
+        free: 0,
+    }
+}
+
+/// A link before its first event.
+fn fresh_link(mesh: &Mesh) -> Link
+    requires { IsMesh mesh.now }
+    ensures times { HasLinkTimes mesh.now result }
+    ensures free { result.free ≡ 0 }
+{
+    Link {
+        hop: u64::from(mesh.hop),
+        occupancy: u64::from(mesh.occupancy),
         free: 0,
     }
 }

@@ -13,4 +13,6 @@ pub enum Kind {
     Read,
     /// A controller writes a line back.
     Write,
+    /// A link carries an access from a node to the next.
+    Hop,
 }

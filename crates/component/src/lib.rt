@@ -1,5 +1,5 @@
-//! The components whose busy times the weave finds: the banks of the shared cache and the memory
-//! controllers.
+//! The components whose busy times the weave finds: the banks of the shared cache, the memory
+//! controllers, and the links of the mesh.
 #![tactic(auto)]
 
 mod bank;
@@ -10,6 +10,7 @@ mod controller;
 mod fresh;
 mod kind;
 pub mod laws;
+mod link;
 
 pub use bank::Bank;
 pub use comp::Comp;
@@ -18,3 +19,4 @@ pub use comps::Comps;
 pub use controller::Controller;
 pub use fresh::components;
 pub use kind::Kind;
+pub use link::Link;
