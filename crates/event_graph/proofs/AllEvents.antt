@@ -25,7 +25,7 @@ mapped_some f None y is = cc
 mapped_some f (Some x) y is = (x, refl, cc)
 
 -- an element of a joined list stands in one of the two
-joined : {X : Type 0} (xs ys : List X) (i : ℕ) (x : X) → slice_get (xs ++ ys) i ≡ Some x
+pub joined : {X : Type 0} (xs ys : List X) (i : ℕ) (x : X) → slice_get (xs ++ ys) i ≡ Some x
     → (slice_get xs i ≡ Some x) ⊎ ((j : ℕ) × (i ≡ length xs + j) × (slice_get ys j ≡ Some x))
 joined xs ys i x is = elim (cases_lt i (length xs)) [
   | inl below ↦ inl (sym (slice_get_left xs ys i below) ∙ is)
@@ -35,7 +35,7 @@ joined xs ys i x is = elim (cases_lt i (length xs)) [
 ]
 
 -- an event of an access is that of a piece
-of_access : (before : List Event) (e : Entry) (pieces : List Piece) (k : ℕ) (ev : Event) → slice_get (access_events before e pieces) k ≡ Some ev
+pub of_access : (before : List Event) (e : Entry) (pieces : List Piece) (k : ℕ) (ev : Event) → slice_get (access_events before e pieces) k ≡ Some ev
     → (p : Piece) × (slice_get pieces k ≡ Some p) × (ev ≡ event_at before e pieces k p)
 of_access before e pieces k ev is =
     let at_place : ℕ × Piece → Event = λ at. event_at before e pieces at.0 at.1 in
@@ -166,7 +166,7 @@ module _ (pieces : Entry → List Piece) (law : (e : Entry) → ParentsComeBefor
       inner_below (length before) e (zero_load_start e p) (suc k) p.first par (λ i from. (law e).first (suc k) p i at' from)
       (sym (cond-false (suc k == 0) (earlier_parent before e.core (zero_load_start e p)) (inner_parent (length before) e (pieces e) (zero_load_start e p) p.first) later) ∙ is)
 
-  numbered_more : (before : List Event) (e : Entry) → IsNumbered before → IsNumbered (before ++ access_events before e (pieces e))
+  pub numbered_more : (before : List Event) (e : Entry) → IsNumbered before → IsNumbered (before ++ access_events before e (pieces e))
   numbered_more before e numbered = record {
     number = λ i ev is. elim (joined before (access_events before e (pieces e)) i ev is) [
       | inl old ↦ numbered.number i ev old

@@ -9,7 +9,8 @@ use Rattle.zs_num.specs.declared.entry.Outcome.{Outcome}
 use Rattle.zs_num.specs.declared.entry.Outcome.TheVariants.{Hit, Upgrade, L2 as FoundInL2, Miss}
 use Rattle.event_graph.specs.declared.access_path.AccessPath.{AccessPath}
 use Rattle.event_graph.specs.AccessPaths.{head_time}
-use Rattle.event_graph.specs.Timing.{pieces_by, pieces_of, bank_component, controller_component}
+use Rattle.event_graph.specs.Timing.{bank_component, controller_component}
+use Rattle.event_graph.specs.PlainTiming.{pieces_by, pieces_of}
 
 few_by : (head : ℕ) (l2 : L2) (controllers : Controllers) (bank controller : ℕ) (o : Outcome) → length (pieces_by head l2 controllers bank controller o) ≤ 4
 few_by head l2 controllers bank controller Hit = omega arith

@@ -7,14 +7,15 @@ use Rattle.machine_desc.specs.declared.machine.Machine.{Machine}
 use Rattle.machine_desc.specs.Machine.{IsMachine}
 use Rattle.zs_num.specs.declared.entry.Entry.{Entry}
 use Rattle.component.specs.declared.kind.Kind.{Kind}
-use Rattle.component.specs.declared.kind.Kind.TheVariants.{Lookup, Remote, Fill, Read, Write}
+use Rattle.component.specs.declared.kind.Kind.TheVariants.{Lookup, Remote, Fill, Read, Write, Hop}
 use Rattle.component.specs.declared.comp.Comp.{Comp}
-use Rattle.component.specs.declared.comp.Comp.TheVariants.{Bank as ABank, Controller as AController}
+use Rattle.component.specs.declared.comp.Comp.TheVariants.{Bank as ABank, Controller as AController, Link as ALink}
 use Rattle.component.specs.Serving.{comp_serves, comp_latency}
 use Rattle.component.specs.Components.{AreComponents, IsBankOf, IsControllerOf}
 use Rattle.event_graph.specs.Fits.{GraphFits}
 use Rattle.event_graph.specs.AccessPaths.{path_of}
-use Rattle.event_graph.specs.Timing.{pieces_of, look_up_time}
+use Rattle.event_graph.specs.Timing.{look_up_time}
+use Rattle.event_graph.specs.PlainTiming.{pieces_of}
 use Rattle.event_graph.specs.Floors.{plain_floor, is_bank, is_controller}
 use Rattle.event_graph.specs.PlainLaws.{plain_floors_are_times}
 use Rattle.event_graph.specs.FloorsServed.{ServesWith}
@@ -45,7 +46,7 @@ module _ (m : Machine) (comps : List Comp) (are : AreComponents m comps) where
       let low : component < m.l2.banks + m.controllers.count = ltb-true component (m.l2.banks + m.controllers.count) parts.1 in
       let below : component < length comps = omega (arith, are.count) in
       let found = stands component below in
-      (found.0, found.1, subst (IsControllerOf m) found.2 (are.controllers component found.0 from below))
+      (found.0, found.1, subst (IsControllerOf m) found.2 (are.controllers component found.0 from low))
 
   of_bank : (component : ℕ) (c : Comp) → slice_get comps component ≡ Some c → IsBankOf m c
       → ServesWith comp_serves comp_latency comps component Lookup (look_up_time m.l2 false) × ServesWith comp_serves comp_latency comps component Remote (look_up_time m.l2 true) × ServesWith comp_serves comp_latency comps component Fill m.l2.fill
@@ -55,6 +56,7 @@ module _ (m : Machine) (comps : List Comp) (are : AreComponents m comps) where
     record { component = ABank b; there = at'; served = refl; floor_is = times.fill },
   )
   of_bank component (AController c) at' times = absurd times
+  of_bank component (ALink l) at' times = absurd times
 
   of_controller : (component : ℕ) (c : Comp) → slice_get comps component ≡ Some c → IsControllerOf m c
       → ServesWith comp_serves comp_latency comps component Read m.controllers.read × ServesWith comp_serves comp_latency comps component Write m.controllers.write
@@ -63,6 +65,7 @@ module _ (m : Machine) (comps : List Comp) (are : AreComponents m comps) where
     record { component = AController c; there = at'; served = refl; floor_is = times.read },
     record { component = AController c; there = at'; served = refl; floor_is = times.write },
   )
+  of_controller component (ALink l) at' times = absurd times
 
   pub plain_floors : (component : ℕ) (kind : Kind) (floor : ℕ) → plain_floor m.l2 m.controllers component kind ≡ Some floor → ServesWith comp_serves comp_latency comps component kind floor
   plain_floors component Lookup floor is =
@@ -85,8 +88,9 @@ module _ (m : Machine) (comps : List Comp) (are : AreComponents m comps) where
       let floors = floor_if (is_controller m.l2 m.controllers component) m.controllers.write floor is in
       let found = controller_at component floors.0 in
       subst (ServesWith comp_serves comp_latency comps component Write) floors.1 (of_controller component found.0 found.1 found.2).1
+  plain_floors component Hop floor is = absurd cc
 
   pub plain_fits : IsMachine m → (entries : List Entry) → GraphFits comp_serves comp_latency (all_events (pieces_of (path_of m)) entries) comps
   plain_fits ok entries =
-      floors_fit (pieces_of (path_of m)) (plain_floor m.l2 m.controllers) (plain_floors_are_times (path_of m) (record { l1 = ok.l1; l1i = ok.l1i; l2 = ok.l2; controllers = ok.controllers }))
+      floors_fit (pieces_of (path_of m)) (plain_floor m.l2 m.controllers) (plain_floors_are_times (path_of m) (record { l1 = ok.l1; l1i = ok.l1i; l2 = ok.l2; controllers = ok.controllers; mesh = ok.mesh; dram = ok.dram }))
       comp_serves comp_latency comps plain_floors entries

@@ -91,3 +91,7 @@ module _ {C : Type 0} (serves : C → Kind → Bool) (stepped : C → Kind → �
     );
     finishes = held.turns;
   }
+
+  pub solves-sorted : solves.sorted ≡ (weave stepped events comps).fired
+  unfolding solves
+  solves-sorted = refl

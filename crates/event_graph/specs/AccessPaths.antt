@@ -1,4 +1,5 @@
--- What an access goes through: the cores' own caches, the shared cache, and the memory controllers.
+-- What an access goes through: the cores' own caches, the shared cache, and the memory controllers; a mesh and open
+-- rows where the machine has them.
 use Rattle.std.specs.Prelude.{ℕ, if◌then◌else◌, unwrap_or}
 use Rattle.machine_desc.specs.declared.machine.L1.{L1}
 use Rattle.machine_desc.specs.declared.machine.Machine.{Machine}
@@ -8,7 +9,7 @@ use Rattle.event_graph.specs.declared.access_path.AccessPath.{AccessPath}
 
 -- the path of a machine
 abbrev pub path_of : Machine → AccessPath
-path_of m = record { l1 = m.l1; l1i = m.l1i; l2 = m.l2; controllers = m.controllers }
+path_of m = record { l1 = m.l1; l1i = m.l1i; l2 = m.l2; controllers = m.controllers; mesh = m.mesh; dram = m.dram }
 
 -- the cache that an access comes to first: a fetch to the instruction cache, where there is one, and every other access
 -- to the data cache

@@ -16,7 +16,7 @@ use Rattle.event_graph.specs.Near.{AreNear}
 use Rattle.event_graph.specs.Numbered.{IsNumbered}
 use Rattle.event_graph.specs.OneListWeave.{comps_after}
 use Rattle.event_graph.specs.SmallSteps.{AreSmallSteps}
-use Rattle.event_graph.specs.Timing.{pieces_of}
+use Rattle.event_graph.specs.PlainTiming.{pieces_of}
 use Rattle.event_graph.specs.Floors.{plain_floor}
 use Rattle.event_graph.specs.FloorsServed.{AreFloorsOf}
 use Rattle.event_graph.specs.EventGraph.{all_events}

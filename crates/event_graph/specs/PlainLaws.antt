@@ -16,7 +16,8 @@ use Rattle.event_graph.specs.declared.piece.Piece.{Piece}
 use Rattle.event_graph.specs.AccessPaths.{head_time}
 use Rattle.event_graph.specs.PathInRange.{IsAccessPath}
 use Rattle.event_graph.specs.Expansion.{ParentsComeBefore, OnlyFirstStartsAlone, ParentsFinishBefore, EndsAt, HaveFloors}
-use Rattle.event_graph.specs.Timing.{access_time, time_by, pieces_by, pieces_of, bank_component, controller_component, look_up, read, write, fill}
+use Rattle.event_graph.specs.Timing.{bank_component, controller_component}
+use Rattle.event_graph.specs.PlainTiming.{access_time, time_by, pieces_by, pieces_of, look_up, read, write, fill}
 use Rattle.event_graph.specs.Floors.{is_bank, is_controller, plain_floor}
 
 -- the head of an access takes a cycle at least, and not long

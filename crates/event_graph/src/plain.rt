@@ -4,7 +4,6 @@ ghost use Rattle.event_graph.specs.PathInRange.{IsAccessPath};
 
 use crate::{AccessPath, Expand, Piece};
 use component::Kind;
-use division::remainder;
 use machine_desc::Machine;
 use zs_num::{Entry, Outcome};
 
@@ -19,7 +18,8 @@ impl Plain {
     ghost use Rattle.std.specs.Prelude.{◌≡◌, ◌<◌};
     ghost use Rattle.machine_desc.specs.Machine.{IsMachine};
     ghost use Rattle.event_graph.specs.AccessPaths.{head_time, path_of};
-    ghost use Rattle.event_graph.specs.Timing.{bank_component, controller_component, memory_time, look_up, read, write, fill};
+    ghost use Rattle.event_graph.specs.Timing.{bank_component, controller_component};
+    ghost use Rattle.event_graph.specs.PlainTiming.{memory_time, look_up, read, write, fill};
 
     /// The expansion of this machine.
     pub fn of(machine: &Machine) -> Plain
@@ -31,41 +31,14 @@ impl Plain {
         }
     }
 
-    /// The time that an access takes first: in the instruction cache, if it is a fetch and there is
-    /// one, and else in the data cache.
-    fn head(&self, entry: &Entry) -> u64
-        ensures { result ≡ head_time self.now.path entry.now.request }
-    {
-        u64::from(match self.path.l1i {
-            Some(l1i) if entry.request.is_fetch() => l1i.latency,
-            _ => self.path.l1.latency,
-        })
-    }
-
-    /// The bank that has the line of an access.
-    fn bank(&self, entry: &Entry) -> u16
-        ensures { result ≡ bank_component self.now.path.l2 entry.now }
-    {
-        remainder(entry.request.line(), u64::from(self.path.l2.banks)) as u16
-    }
-
-    /// The controller behind the bank of an access.
-    fn controller(&self, entry: &Entry) -> u16
-        ensures { result ≡ controller_component self.now.path.l2 self.now.path.controllers entry.now }
-    {
-        let count = u64::from(self.path.controllers.count);
-        let number = remainder(u64::from(self.bank(entry)), count);
-        self.path.l2.banks + number as u16
-    }
-
     fn look_up(&self, entry: &Entry, others: bool) -> Piece
         ensures { result ≡ look_up (head_time self.now.path entry.now.request) self.now.path.l2 self.now.path.controllers (bank_component self.now.path.l2 entry.now) (controller_component self.now.path.l2 self.now.path.controllers entry.now) others }
     {
         let latency = u64::from(self.path.l2.latency);
         Piece {
-            component: self.bank(entry),
+            component: self.path.bank(entry),
             kind: if others { Kind::Remote } else { Kind::Lookup },
-            offset: self.head(entry),
+            offset: self.path.head(entry),
             time: if others {
                 latency + u64::from(self.path.l2.remote)
             } else {
@@ -80,9 +53,9 @@ impl Plain {
         ensures { result ≡ read (head_time self.now.path entry.now.request) self.now.path.l2 self.now.path.controllers (bank_component self.now.path.l2 entry.now) (controller_component self.now.path.l2 self.now.path.controllers entry.now) }
     {
         Piece {
-            component: self.controller(entry),
+            component: self.path.controller(entry),
             kind: Kind::Read,
-            offset: self.head(entry) + u64::from(self.path.l2.latency),
+            offset: self.path.head(entry) + u64::from(self.path.l2.latency),
             time: u64::from(self.path.controllers.read),
             first: Some(0),
             second: None,
@@ -93,9 +66,9 @@ impl Plain {
         ensures { result ≡ write (head_time self.now.path entry.now.request) self.now.path.l2 self.now.path.controllers (bank_component self.now.path.l2 entry.now) (controller_component self.now.path.l2 self.now.path.controllers entry.now) }
     {
         Piece {
-            component: self.controller(entry),
+            component: self.path.controller(entry),
             kind: Kind::Write,
-            offset: self.head(entry) + u64::from(self.path.l2.latency),
+            offset: self.path.head(entry) + u64::from(self.path.l2.latency),
             time: u64::from(self.path.controllers.write),
             first: Some(0),
             second: None,
@@ -117,9 +90,11 @@ impl Plain {
         ensures { result ≡ fill (head_time self.now.path entry.now.request) self.now.path.l2 self.now.path.controllers (bank_component self.now.path.l2 entry.now) (controller_component self.now.path.l2 self.now.path.controllers entry.now) dirty }
     {
         Piece {
-            component: self.bank(entry),
+            component: self.path.bank(entry),
             kind: Kind::Fill,
-            offset: self.head(entry) + u64::from(self.path.l2.latency) + self.memory_time(dirty),
+            offset: self.path.head(entry)
+                + u64::from(self.path.l2.latency)
+                + self.memory_time(dirty),
             time: u64::from(self.path.l2.fill),
             first: Some(1),
             second: if dirty { Some(2) } else { None },
@@ -129,7 +104,8 @@ impl Plain {
 
 impl Expand for Plain {
     ghost use Rattle.event_graph.specs.AccessPaths.{head_time};
-    ghost use Rattle.event_graph.specs.Timing.{access_time, bank_component, controller_component, pieces_of};
+    ghost use Rattle.event_graph.specs.Timing.{bank_component, controller_component};
+    ghost use Rattle.event_graph.specs.PlainTiming.{access_time, pieces_of};
     ghost use Rattle.event_graph.specs.Floors.{plain_floor};
     ghost use Rattle.event_graph.specs.PlainLaws.{plain_time_at_least_one, plain_time_small, plain_parents_come_before, plain_only_first_starts_alone, plain_parents_finish_before, plain_ends_with_access, plain_floors_are_times};
 
@@ -164,7 +140,7 @@ impl Expand for Plain {
     }
 
     fn time(&self, entry: &Entry) -> u64 {
-        let head = self.head(entry);
+        let head = self.path.head(entry);
         let latency = u64::from(self.path.l2.latency);
         match entry.outcome {
             Outcome::Hit => head,
