@@ -3,6 +3,7 @@ use Rattle.std.specs.Prelude.{◌≡◌, ◌<◌, ◌==◌, ◌++◌, ℕ, if◌
 use Rattle.std.specs.List.{All, filter, flat_map}
 use Rattle.std.specs.Option.{option_map_or}
 use Rattle.machine_desc.specs.declared.machine.Machine.{Machine}
+use Rattle.machine_desc.specs.ComponentDomains.{component_domains}
 use Rattle.event_graph.specs.declared.event.Event.{Event}
 use Rattle.event_graph.specs.declared.event.Parent.{Parent}
 use Rattle.domain_map.specs.declared.crossing.Crossing.{Crossing}
@@ -65,6 +66,6 @@ pub record IsPartition (events : List Event) (p : Partition) : Type 0 where
 
 -- the partition of these events by the domains of a machine
 pub record IsSplit (events : List Event) (m : Machine) (p : Partition) : Type 0 where
-  pub places : p.places ≡ m.domains.banks ++ m.domains.controllers
+  pub places : p.places ≡ component_domains m
   pub domains : length p.events ≡ m.domains.count
   pub partitions : IsPartition events p

@@ -9,7 +9,7 @@ ghost use Rattle.domain_map.specs.Inside.{lists_of, with_event_number, with_even
 
 use crate::{Crossing, Parts};
 use event_graph::{Event, Graph, Parent};
-use machine_desc::Machine;
+use machine_desc::{Machine, component_count, domain_of};
 use std::alloc::Global;
 use zs_num::NoMemory;
 
@@ -35,8 +35,10 @@ pub fn component_domains(alloc: Global, machine: &Machine) -> Result<Vec<u16>, N
     ensures count { IfOk result (λ places. length places.items ≡ component_count machine.now) }
     ensures below { IfOk result (λ places. All (λ domain. domain < machine.now.domains.count) places.items) }
 {
-    let mut places = Vec::from_slice(alloc, machine.domains.banks.as_slice())?;
-    places.extend_from_slice(machine.domains.controllers.as_slice())?;
+    let mut places = Vec::new(alloc);
+    for component in 0..component_count(machine) {
+        places.push(domain_of(machine, component))?;
+    }
     Ok(places)
 }
 
