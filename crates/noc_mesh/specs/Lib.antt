@@ -1,0 +1,11 @@
+pub mod Laws
+pub mod Lists
+pub mod NetFloors
+pub mod NetLaws
+pub mod NetTiming
+pub mod PassageLaws
+pub mod Passages
+pub mod RouteFacts
+pub mod RouteLaws
+pub mod Routes
+pub mod Standings

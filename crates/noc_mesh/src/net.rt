@@ -1,0 +1,77 @@
+//! The events of an access in a machine whose components a mesh joins, or none.
+ghost use Rattle.std.proofs.Props.{props};
+ghost use Rattle.event_graph.specs.PathInRange.{IsAccessPath};
+
+use crate::{course, events};
+use event_graph::{AccessPath, Expand, Piece};
+use machine_desc::Machine;
+use zs_num::{Entry, Outcome};
+
+/// The expansion of accesses into events where they cross the mesh of the machine, if it has one.
+#[derive(Drop)]
+pub struct Net {
+    pub path: AccessPath,
+    pub ghost in_range: { IsAccessPath path } by { Prim.hlevel props },
+}
+
+impl Net {
+    ghost use Rattle.std.specs.Prelude.{◌≡◌};
+    ghost use Rattle.machine_desc.specs.Machine.{IsMachine};
+    ghost use Rattle.event_graph.specs.AccessPaths.{path_of};
+
+    /// The expansion of this machine.
+    pub fn of(machine: &Machine) -> Net
+        requires { IsMachine machine.now }
+        ensures { result.path ≡ path_of machine.now }
+    {
+        Net {
+            path: AccessPath::of(machine),
+        }
+    }
+}
+
+impl Expand for Net {
+    ghost use Rattle.noc_mesh.specs.NetTiming.{net_pieces, net_time};
+    ghost use Rattle.noc_mesh.specs.NetFloors.{net_floor};
+    ghost use Rattle.noc_mesh.specs.NetLaws.{net_time_at_least_one, net_time_small, net_parents_come_before, net_only_first_starts_alone, net_parents_finish_before, net_ends_with_access, net_floors_are_times};
+
+    ghost pieces = { λ x e. net_pieces x.path e };
+
+    ghost time = { λ x e. net_time x.path e };
+
+    ghost floors = { λ x. net_floor x.path };
+
+    fn count(&self, entry: &Entry) -> u16 {
+        course::ended(&self.path, entry).events
+    }
+
+    fn piece(&self, entry: &Entry, place: u16) -> Piece {
+        match entry.outcome {
+            Outcome::Hit => unreachable!(),
+            Outcome::Upgrade { others } | Outcome::L2 { others } => {
+                events::answered(&self.path, entry, others, place)
+            }
+            Outcome::Miss { dirty_victim } => {
+                events::missed(&self.path, entry, dirty_victim, place)
+            }
+        }
+    }
+
+    fn time(&self, entry: &Entry) -> u64 {
+        course::ended(&self.path, entry).end
+    }
+
+    ghost time_at_least_one = { λ x e. net_time_at_least_one x.path x.in_range e };
+
+    ghost time_small = { λ x e. net_time_small x.path x.in_range e };
+
+    ghost parents_come_before = { λ x e. net_parents_come_before x.path x.in_range e };
+
+    ghost only_first_starts_alone = { λ x e. net_only_first_starts_alone x.path x.in_range e };
+
+    ghost parents_finish_before = { λ x e. net_parents_finish_before x.path x.in_range e };
+
+    ghost ends_with_access = { λ x e. net_ends_with_access x.path x.in_range e };
+
+    ghost floors_are_times = { λ x e. net_floors_are_times x.path x.in_range e };
+}
