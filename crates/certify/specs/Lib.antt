@@ -1,0 +1,9 @@
+pub mod Answers
+pub mod CanBeFiled
+pub mod EventsFile
+pub mod Laws
+pub mod Records
+pub mod ShortTimes
+pub mod SoFar
+pub mod Verdict
+pub mod Woven
