@@ -1,0 +1,2 @@
+pub mod Soon
+mod Written
