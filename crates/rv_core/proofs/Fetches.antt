@@ -1,5 +1,5 @@
 -- A core that goes on by itself asks for its instruction, or executes it: what it keeps before either.
-use Rattle.std.proofs.Common.{◌≡◌, Bool, true, false, not, Option, Some, None, refl, ap, sym, ◌∙◌, true≢false}
+use Rattle.std.proofs.Common.{◌≡◌, Bool, true, false, not, ◌&&◌, Option, Some, None, refl, ap, sym, ◌∙◌, true≢false}
 use Rattle.std.specs.Prelude.{IsTrue, is_none, is_some}
 use Rattle.std.proofs.lemmas.Bool.{and_parts, eq-eqb, not-true}
 use Rattle.zs_num.specs.Request.{line_at}
@@ -32,6 +32,10 @@ other-unfetched core s other true e =
     let latest : is_latest core.fetched_line (line_at core.pc) ≡ true = rw line (eq-eqb _ _ refl) in
     absurd (true≢false (sym latest ∙ other))
 other-unfetched core s other false e = e
+
+none-and : (b : Bool) → (b && false) ≡ false
+none-and true = refl
+none-and false = refl
 
 none-of : {A : Type 0} (o : Option A) → is_none o ≡ true → o ≡ None
 none-of None e = refl
@@ -69,10 +73,18 @@ unfetched-ready core free s =
       fetched = refl;
     }
 
--- a core that does not fetch, and of which no instruction was fetched, executes
-pub stepped-unfetching : (image : MemoryImage) (core : CoreState) → core.fetching ≡ false → core.is_fetched ≡ false → executed image core ≡ stepped image core
+-- a core that does not fetch has none to fetch
+pub never-needs : (image : MemoryImage) (core : CoreState) → core.fetching ≡ false → needs_fetch image core ≡ false
 unfolding needs_fetch
-stepped-unfetching image core fetching fetched =
-    let needs : needs_fetch image core ≡ false = rw fetching refl in
+never-needs image core fetching = rw fetching refl
+
+-- nor has one whose next instruction stands in the line of its latest fetch
+pub latest-needs : (image : MemoryImage) (core : CoreState) → is_latest core.fetched_line (line_at core.pc) ≡ true → needs_fetch image core ≡ false
+unfolding needs_fetch
+latest-needs image core latest = rw latest (ap (λ b. b && is_some (fetched_word image.segments core.pc) && is_in_memory core.memory core.pc 4) (none-and core.fetching))
+
+-- a core that does not have to fetch, and of which no instruction was fetched, executes
+pub stepped-unfetching : (image : MemoryImage) (core : CoreState) → needs_fetch image core ≡ false → core.is_fetched ≡ false → executed image core ≡ stepped image core
+stepped-unfetching image core needs fetched =
     let same : unfetched core ≡ core = ap (λ (b : Bool). record core { is_fetched = b }) (sym fetched) in
     rw needs (ap (executed image) (sym same))

@@ -10,7 +10,8 @@ use Rattle.elf_load.specs.declared.segment.Segment.{Segment}
 use Rattle.rv_core.specs.Accesses.{is_in_memory}
 use Rattle.rv_decode.specs.declared.inst.Inst.{Inst}
 use Rattle.rv_decode.specs.InstructionTable.{decoded}
-use Rattle.rv_core.specs.declared.program.Fetched.TheVariants.{Outside}
+use Rattle.rv_core.specs.declared.program.Fetched.{Fetched}
+use Rattle.rv_core.specs.declared.program.Fetched.TheVariants.{Outside, NoInstruction, Instruction}
 use Rattle.rv_core.specs.Fetch.{fetched_at, of_decoded, of_word}
 use Rattle.rv_core.specs.Laws.{FetchesWhereAWordIs}
 use Rattle.rv_core.specs.Step.{is_latest, needs_fetch}
@@ -36,6 +37,15 @@ no-word-outside image pc e = none-outside (fetched_word image.segments pc) e
 pub a-word-inside : (image : MemoryImage) (pc : ℕ) → (fetched_at image pc ≡ Outside → ⊥) → is_some (fetched_word image.segments pc) ≡ true
 unfolding fetched_at
 a-word-inside image pc inside = some-inside (fetched_word image.segments pc) inside
+
+instruction-inside : (fetched : Fetched) (inst : Inst) → fetched ≡ Instruction inst → fetched ≡ Outside → ⊥
+instruction-inside Outside inst e outside = cc
+instruction-inside (NoInstruction word) inst e outside = cc
+instruction-inside (Instruction other) inst e outside = cc
+
+-- where the program has an instruction there is a word
+pub an-instruction-inside : (image : MemoryImage) (pc : ℕ) (inst : Inst) → fetched_at image pc ≡ Instruction inst → is_some (fetched_word image.segments pc) ≡ true
+an-instruction-inside image pc inst e = a-word-inside image pc (instruction-inside (fetched_at image pc) inst e)
 
 -- ---- in a sound image
 

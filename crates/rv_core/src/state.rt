@@ -2,7 +2,7 @@
 ghost use Rattle.std.specs.Prelude.{◌≡◌, ◌+◌, ◌%◌, ◌<◌, ◌≤◌, ◌^◌, ◌++◌, [], ◌∷◌, false, None, IsTrue, IsSome, IfSome, option_map, option_to_list};
 ghost use Rattle.zs_num.specs.PairedRight.{ArePairedRight, IsPairedRight};
 ghost use Rattle.zs_num.specs.Pairing.{is_paired};
-ghost use Rattle.zs_num.specs.Request.{width_of};
+ghost use Rattle.zs_num.specs.Request.{line_at, width_of};
 ghost use Rattle.rv_core.specs.Accesses.{byte_loads, is_in_memory};
 ghost use Rattle.rv_core.specs.Sound.{IsServableIn, EndsInRegister, IsSoundCore};
 ghost use Rattle.rv_core.specs.CoreState.{ToConsole};
@@ -163,6 +163,16 @@ impl Core {
         let _ = &self.fetching;
     }
 
+    /// Whether the next instruction stands in the line of the latest fetch, so that it does not have
+    /// to be fetched.
+    #[inline(always)]
+    pub fn is_in_latest_line(&self) -> bool
+        ensures value { result ≡ is_latest self.now.fetched_line (line_at self.now.pc) }
+        ensures sound { IsSoundCore self.now }
+    {
+        self.has_line(self.pc / LINE)
+    }
+
     /// Whether an instruction is in progress: it needs a further access, or was fetched and is to be
     /// executed.
     #[inline(always)]
@@ -182,9 +192,9 @@ impl Core {
         program.decoded_at(self.near, self.pc)
     }
 
-    /// What the program has at pc.
+    /// What the program has at pc, where the instruction stands that comes next.
     #[inline(always)]
-    pub(crate) fn fetch<P: Program>(&mut self, program: &P) -> Fetched
+    pub fn upcoming<P: Program>(&mut self, program: &P) -> Fetched
         ensures value { result ≡ fetched_at (P.image program.now) self.old.pc }
         ensures registers { HasRegisters result }
         ensures same { self.new ≡ self.old }
@@ -267,7 +277,8 @@ impl Core {
     }
 
     /// Whether a line is that of the latest fetch.
-    pub(crate) fn has_line(&self, line: u64) -> bool
+    #[inline(always)]
+    fn has_line(&self, line: u64) -> bool
         ensures value { result ≡ is_latest self.now.fetched_line line }
         ensures sound { IsSoundCore self.now }
     {

@@ -11,7 +11,6 @@ ghost use Rattle.rv_core.specs.Asked.{advanced, asked, is_idle, stepped};
 use crate::{Ask, Core, Fetched, Program, Why};
 use elf_load::Image;
 use rv_decode::Inst;
-use zs_num::LINE;
 
 /// What a core that fetches did in a step.
 #[derive(Clone, Copy)]
@@ -22,6 +21,11 @@ pub enum Stepped {
     /// to another one.
     Executed { goes_on: bool },
 }
+
+/// What [`Core::next`] and [`Core::step_fetching`] take in place of a loop's type (see [`Core::step`]).
+struct Asking;
+
+struct Fetching;
 
 impl Core {
     /// Executes the next instruction, up to its next access, of which its fetch is the first if it
@@ -39,7 +43,8 @@ impl Core {
             if self.is_fetching() {
                 self.step_fetching(program);
             } else {
-                self.step(program);
+                self.has_none_fetched();
+                self.step::<P, Asking>(program);
             }
         }
         self.ask()
@@ -58,22 +63,24 @@ impl Core {
         }
     }
 
-    /// Executes the next instruction of a core that does not fetch, up to its first access if it has
-    /// one. It answers whether the core comes to a next instruction: it has not halted, and has no
-    /// access to make.
+    /// Executes the next instruction, which does not have to be fetched first, up to its first access
+    /// if it has one. It answers whether the core comes to a next instruction: it has not halted, and
+    /// has no access to make. The type `T` means nothing: each loop over instructions takes one of its
+    /// own, and the compiler then sets into it what executes an instruction.
     #[inline(always)]
-    pub fn step<P: Program>(&mut self, program: &P) -> bool
+    pub fn step<P: Program, T>(&mut self, program: &P) -> bool
         requires free { IsTrue (is_free self.old) }
-        requires fetching { self.old.fetching ≡ false }
+        requires unfetched { self.old.is_fetched ≡ false }
+        requires there { needs_fetch (P.image program.now) self.old ≡ false }
         ensures value { self.new ≡ stepped (P.image program.now) self.old }
         ensures free { result ≡ is_free self.new }
+        ensures unfetched { self.new.is_fetched ≡ false }
         ensures sound { IsSoundCore self.new }
         ensures memory { self.new.memory ≡ self.old.memory }
-        ensures fetching { self.new.fetching ≡ false }
+        ensures fetching { self.new.fetching ≡ self.old.fetching }
     {
         rv_decode::laws::fields_are_in_range();
-        self.has_none_fetched();
-        self.fetch_and_execute(program)
+        self.fetch_and_execute::<P, T>(program)
     }
 
     /// The next step of a core that fetches: it asks for its next instruction, where it has to, or
@@ -85,6 +92,7 @@ impl Core {
         ensures value { self.new ≡ stepped (P.image program.now) self.old }
         ensures fetches { result ≡ Stepped.Fetches → IsTrue (needs_fetch (P.image program.now) self.old) }
         ensures executes { (goes_on : Bool) → result ≡ Stepped.Executed goes_on → (needs_fetch (P.image program.now) self.old ≡ false) × (goes_on ≡ is_free self.new) }
+        ensures unfetched { self.new.is_fetched ≡ false }
         ensures sound { IsSoundCore self.new }
         ensures memory { self.new.memory ≡ self.old.memory }
         ensures fetching { self.new.fetching ≡ self.old.fetching }
@@ -96,7 +104,7 @@ impl Core {
         }
         self.begin_execution();
         Stepped::Executed {
-            goes_on: self.fetch_and_execute(program),
+            goes_on: self.fetch_and_execute::<P, Fetching>(program),
         }
     }
 
@@ -111,28 +119,41 @@ impl Core {
         ensures same { self.new ≡ self.old }
         ensures sound { IsSoundCore self.old }
     {
-        let pc = self.pc();
-        !self.has_line(pc / LINE) && self.has_word(program) && self.has(pc, 4)
+        !self.is_in_latest_line() && self.has_word(program) && self.has(self.pc(), 4)
     }
 
     /// Whether the four bytes at pc are in one executable segment.
+    #[inline(always)]
     fn has_word<P: Program>(&mut self, program: &P) -> bool
         ensures value { result ≡ is_some (fetched_word (P.image program.now).segments self.old.pc) }
         ensures same { self.new ≡ self.old }
         ensures sound { IsSoundCore self.old }
     {
-        !matches!(self.fetch(program), Fetched::Outside)
+        match self.decoded(program) {
+            Some(_) => true,
+            None => self.has_undecoded_word(program),
+        }
+    }
+
+    /// The same, where the program does not have them decoded.
+    #[inline(never)]
+    fn has_undecoded_word<P: Program>(&mut self, program: &P) -> bool
+        ensures value { result ≡ is_some (fetched_word (P.image program.now).segments self.old.pc) }
+        ensures same { self.new ≡ self.old }
+        ensures sound { IsSoundCore self.old }
+    {
+        !matches!(self.upcoming(program), Fetched::Outside)
     }
 
     #[inline(always)]
-    fn fetch_and_execute<P: Program>(&mut self, program: &P) -> bool
+    fn fetch_and_execute<P: Program, T>(&mut self, program: &P) -> bool
         requires { IsTrue (is_idle self.old) }
         ensures value { self.new ≡ executed (P.image program.now) self.old }
         ensures free { result ≡ is_free self.new }
         ensures sound { IsSoundCore self.old }
     {
         match self.decoded(program) {
-            Some(inst) => self.execute::<P>(inst),
+            Some(inst) => self.execute::<(P, T)>(inst),
             None => match self.decode(program) {
                 Some(inst) => self.execute_apart(&inst),
                 None => false,
@@ -163,7 +184,7 @@ impl Core {
         ensures halts { IfNone result (self.new ≡ executed (P.image program.now) self.old) }
         ensures stops { IfNone result (is_free self.new ≡ false) }
     {
-        match self.fetch(program) {
+        match self.upcoming(program) {
             Fetched::Instruction(inst) => return Some(inst),
             Fetched::NoInstruction { word } => self.halt(Why::Illegal { word }),
             Fetched::Outside => self.halt(Why::Fetch { addr: self.pc() }),

@@ -1,14 +1,6 @@
-use Rattle.std.proofs.Common.{◌∙◌, not, ap, sym}
-use Rattle.rv_core.proofs.Words.{a-word-inside, no-word-outside}
-use Rattle.rv_core.proofs.state.Core.has_word.Goals.{in-Outside, in_default}
+use Rattle.std.proofs.Common.{sym}
+use Rattle.rv_core.proofs.Words.{an-instruction-inside}
 use Rattle.rv_core.proofs.state.Core.has_word.Goals as goal
 
-pub returns : goal.returns
-returns g c = record {
-  value = elim c.match-matches.branch [
-    | in-Outside w ↦ ap not w.matches-is ∙ sym (no-word-outside _ _ (sym c.fetch.ensures.value ∙ w.in-Outside.is))
-    | in_default w ↦ ap not w.matches-is ∙ sym (a-word-inside _ _ (λ outside. w.in_default.not-Outside (c.fetch.ensures.value ∙ outside)))
-  ];
-  same = c.fetch.ensures.same;
-  sound = c.fetch.ensures.sound;
-}
+pub returns-in-Some-clause-value : goal.returns-in-Some-clause-value
+returns-in-Some-clause-value g c = sym (an-instruction-inside _ _ _ c.in-Some.ensures.value)

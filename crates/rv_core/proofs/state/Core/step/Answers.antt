@@ -1,25 +1,31 @@
 use Rattle.std.proofs.Common.{◌∙◌, ap, subst, sym}
 use Rattle.rv_core.specs.CoreState.{CoreState}
 use Rattle.rv_core.specs.Sound.{IsSoundCore}
+use Rattle.rv_core.proofs.Executes.{executed-executes}
 use Rattle.rv_core.proofs.Fetches.{stepped-unfetching}
 use Rattle.rv_core.proofs.Reached.{stepped-keeps}
 use Rattle.rv_core.proofs.state.Core.step.Goals as goal
 
 pub returns-clause-value : goal.returns-clause-value
 returns-clause-value g c =
-    c.fetch_and_execute.ensures.value ∙ stepped-unfetching (g.P.Program.image c.args.program.now) c.args.self.now c.requires.fetching c.has_none_fetched.ensures.fetched
+    c.fetch_and_execute.ensures.value ∙ stepped-unfetching (g.P.Program.image c.args.program.now) c.args.self.now c.requires.there c.requires.unfetched
+
+pub returns-clause-unfetched : goal.returns-clause-unfetched
+returns-clause-unfetched g c =
+    let image = g.P.Program.image c.args.program.now in
+    ap (λ (core : CoreState). core.is_fetched) c.fetch_and_execute.ensures.value ∙ (executed-executes image c.args.self.now).fetched ∙ c.requires.unfetched
 
 pub returns-clause-sound : goal.returns-clause-sound
 returns-clause-sound g c =
-    let keeps = stepped-keeps c.fields_are_in_range.ensures.registers (g.P.Program.image c.args.program.now) c.args.self.now c.requires.free c.has_none_fetched.ensures.sound in
+    let keeps = stepped-keeps c.fields_are_in_range.ensures.registers (g.P.Program.image c.args.program.now) c.args.self.now c.requires.free c.fetch_and_execute.ensures.sound in
     subst IsSoundCore (sym (returns-clause-value g c)) keeps.sound
 
 pub returns-clause-memory : goal.returns-clause-memory
 returns-clause-memory g c =
-    let keeps = stepped-keeps c.fields_are_in_range.ensures.registers (g.P.Program.image c.args.program.now) c.args.self.now c.requires.free c.has_none_fetched.ensures.sound in
+    let keeps = stepped-keeps c.fields_are_in_range.ensures.registers (g.P.Program.image c.args.program.now) c.args.self.now c.requires.free c.fetch_and_execute.ensures.sound in
     ap (λ (core : CoreState). core.memory) (returns-clause-value g c) ∙ keeps.memory
 
 pub returns-clause-fetching : goal.returns-clause-fetching
 returns-clause-fetching g c =
-    let keeps = stepped-keeps c.fields_are_in_range.ensures.registers (g.P.Program.image c.args.program.now) c.args.self.now c.requires.free c.has_none_fetched.ensures.sound in
-    ap (λ (core : CoreState). core.fetching) (returns-clause-value g c) ∙ keeps.fetching ∙ c.requires.fetching
+    let keeps = stepped-keeps c.fields_are_in_range.ensures.registers (g.P.Program.image c.args.program.now) c.args.self.now c.requires.free c.fetch_and_execute.ensures.sound in
+    ap (λ (core : CoreState). core.fetching) (returns-clause-value g c) ∙ keeps.fetching

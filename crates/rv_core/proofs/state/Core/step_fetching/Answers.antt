@@ -2,6 +2,7 @@ use Rattle.std.proofs.Common.{◌∙◌, ap, subst, sym}
 use Rattle.rv_core.specs.CoreState.{CoreState}
 use Rattle.rv_core.specs.Sound.{IsSoundCore}
 use Rattle.rv_core.specs.Step.{asks_for_instruction, executed, unfetched}
+use Rattle.rv_core.proofs.Executes.{executed-executes}
 use Rattle.rv_core.proofs.Reached.{asking-keeps, executing-keeps}
 use Rattle.rv_core.proofs.state.Core.step_fetching.Goals as goal
 
@@ -18,6 +19,13 @@ returns-clause-sound g c =
     let value = c.fetch_and_execute.ensures.value ∙ ap (executed image) unfetched_is in
     let keeps = executing-keeps c.fields_are_in_range.ensures.registers image c.args.self.now c.requires.free c.needs_fetch.ensures.sound in
     subst IsSoundCore (sym value) keeps.sound
+
+pub returns-clause-unfetched : goal.returns-clause-unfetched
+returns-clause-unfetched g c =
+    let image = g.P.Program.image c.args.program.now in
+    let unfetched_is = c.begin_execution.ensures.value ∙ ap unfetched c.needs_fetch.ensures.same in
+    let value = c.fetch_and_execute.ensures.value ∙ ap (executed image) unfetched_is in
+    ap (λ (core : CoreState). core.is_fetched) value ∙ (executed-executes image (unfetched c.args.self.now)).fetched
 
 pub returns-clause-memory : goal.returns-clause-memory
 returns-clause-memory g c =
