@@ -1,5 +1,5 @@
 -- How many accesses a core has left, and how late it can get.
-use Rattle.std.proofs.Common.{◌≡◌, inl, inr, ℕ, ◌+◌, ◌-◌, ◌^◌, ◌<◌, ◌≤◌, max, nat_lt, Bool, true, false, List, [], ◌∷◌, length, Option, Some, None, refl, ◌∙◌, ap, subst, arith, rules, lit≤}
+use Rattle.std.proofs.Common.{◌≡◌, inl, inr, ℕ, ◌+◌, ◌-◌, ◌^◌, ◌<◌, ◌≤◌, max, nat_lt, Bool, true, false, List, [], ◌∷◌, length, Option, Some, None, refl, ◌∙◌, ap, arith, rules, lit≤}
 use Rattle.std.specs.Prelude.{IfSome, is_none}
 use Rattle.std.proofs.lemmas.Bool.{and_parts, cases_lt}
 use Rattle.zs_num.specs.declared.request.Request.{Request}
@@ -11,8 +11,9 @@ use Rattle.rv_core.specs.Sound.{FetchesAlone, IsSoundCore}
 use Rattle.rv_core.specs.Step.{after_reply, answered, is_free, unfetched}
 use Rattle.rv_core.proofs.Executes.{AwaitsNoFetch, IsOfNoFetch, executed-executes}
 use Rattle.bound_core.specs.TimedCore.{TimedCore, after_execution, ran_to}
+use Rattle.bound_core.specs.Pacing.{IsSoon}
 use Rattle.bound_core.specs.IntervalBounds.{latest_clock, left_behind, left_behind_fetch, left_of_instruction, most_accesses, most_left}
-use Rattle.bound_core.proofs.Instructions.{asks_or_executes, executed_unfetched, ran_late, ran_within}
+use Rattle.bound_core.proofs.Instructions.{asks_or_executes, executed_unfetched, ran_late, ran_later, ran_within}
 
 -- ---- of an instruction
 
@@ -106,11 +107,11 @@ most_few end c few =
 -- what a core's local instructions do to its clock and to the accesses that are left
 pub record RunsLocally (end : ℕ) (before ran : TimedCore) : Type 0 where
   pub begun : before.clock ≤ ran.clock
-  pub within : ran.clock ≤ max before.clock end + 1
+  pub within : ran.clock ≤ max before.clock end + 192
   -- past the end an instruction is executed only if it was fetched
   pub late : end ≤ before.clock → most_left ran.core ≤ most_left before.core
   pub late_clock : end ≤ before.clock → ran.clock ≤ before.clock + most_left before.core
-  pub soon : end ≤ before.clock → ran.clock ≤ before.clock + 1
+  pub soon : end ≤ before.clock → ran.clock ≤ before.clock + 192
 
 idle_by : (instruction : Option InProgress) → is_none instruction ≡ true → instruction ≡ None
 idle_by None e = refl
@@ -124,9 +125,9 @@ executed_left image c free =
     omega (arith, unfetched_left next (executed_unfetched image c), executing_small next.instruction awaits)
 
 -- past the end a core that fetched an instruction has as many accesses left as any
-late_left : (image : MemoryImage) (end : ℕ) (c : TimedCore) → end ≤ c.clock
-    → (most_left (ran_to image end c).core ≤ most_left c.core) × ((ran_to image end c).clock ≤ c.clock + most_left c.core) × ((ran_to image end c).clock ≤ c.clock + 1)
-late_left image end c late =
+late_left : (image : MemoryImage) (end : ℕ) (c : TimedCore) → IsSoon c → end ≤ c.clock
+    → (most_left (ran_to image end c).core ≤ most_left c.core) × ((ran_to image end c).clock ≤ c.clock + most_left c.core) × ((ran_to image end c).clock ≤ c.clock + 192)
+late_left image end c paced late =
     let ran : TimedCore = ran_to image end c in
     elim (ran_late image end c late) [
       | inl same ↦
@@ -135,7 +136,7 @@ late_left image end c late =
           (omega (arith, left), omega (arith, clock), omega (arith, clock))
       | inr one ↦
           let full : most_left c.core ≡ 256 = fetched_left c.core one.2 in
-          let soon : ran.clock ≤ c.clock + 1 = omega (arith, (ran_within image end c).1, late) in
+          let soon : ran.clock ≤ c.clock + 192 = omega (arith, (ran_within image end c paced).within, late) in
           (elim (asks_or_executes image c) [
             | inl asks ↦
                 let still : ran.core.is_fetched ≡ true = ap (λ (x : TimedCore). x.core.is_fetched) (one.0 ∙ asks) ∙ one.2 in
@@ -147,13 +148,13 @@ late_left image end c late =
           ])
     ]
 
-pub runs_locally : (image : MemoryImage) (end : ℕ) (c : TimedCore) → RunsLocally end c (ran_to image end c)
-runs_locally image end c = record {
-  begun = (ran_within image end c).0;
-  within = (ran_within image end c).1;
-  late = λ late. (late_left image end c late).0;
-  late_clock = λ late. (late_left image end c late).1;
-  soon = λ late. (late_left image end c late).2;
+pub runs_locally : (image : MemoryImage) (end : ℕ) (c : TimedCore) → IsSoon c → RunsLocally end c (ran_to image end c)
+runs_locally image end c soon = record {
+  begun = ran_later image end c;
+  within = (ran_within image end c soon).within;
+  late = λ late. (late_left image end c soon late).0;
+  late_clock = λ late. (late_left image end c soon late).1;
+  soon = λ late. (late_left image end c soon late).2;
 }
 
 -- what a turn that takes an access does to the clock and to the accesses that are left

@@ -3,9 +3,8 @@ use Rattle.std.proofs.Common.{◌≡◌, ℕ, ◌<◌, Bool, List, length, Some,
 use Rattle.std.specs.Prelude.{slice_get, slice_index_or}
 use Rattle.std.proofs.lemmas.Option.{slice_get-get_or}
 use Rattle.shard.specs.HaveL1i.{have_l1i}
-use Rattle.shard.specs.Served.{ShardState}
+use Rattle.shard.specs.Served.{ShardState, no_shard}
 use Rattle.bound_core.specs.ShardPort.{l1i_in}
-use Rattle.bound_core.specs.ShardWorld.{no_shard}
 
 -- each shard has instruction caches, or each has none
 abbrev pub EachHas : (l1i : Bool) → List ShardState → Type 0

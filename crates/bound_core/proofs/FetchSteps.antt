@@ -1,6 +1,6 @@
 -- A machine whose cores fetch does what it does without instruction caches, but for times and outcomes.
-use Rattle.std.proofs.Common.{arith, rules, ◌≡◌, ℕ, zero, suc, ◌+◌, ◌%◌, ◌==◌, ◌<◌, Bool, true, false, cond, get_or, not, ◌&&◌, List, [], ◌∷◌, ◌++◌, map, length, Option, Some, None, refl, sym, ◌∙◌, ap, subst, inl, inr}
-use Rattle.std.specs.Prelude.{min, if◌then◌else◌, ◌||◌, filter, slice_get, slice_set, is_none, option_to_list, All, IfSome, IsTrue}
+use Rattle.std.proofs.Common.{arith, ◌≡◌, ℕ, ◌+◌, ◌%◌, ◌==◌, Bool, true, false, cond, get_or, not, ◌&&◌, List, [], ◌∷◌, ◌++◌, map, Option, Some, None, refl, sym, ◌∙◌, ap, subst, inl, inr}
+use Rattle.std.specs.Prelude.{min, if◌then◌else◌, ◌||◌, filter, slice_get, slice_set, is_none, option_to_list, All, IfSome}
 use Rattle.std.specs.Option.{option_map, option_map_or}
 use Rattle.std.specs.List.{range_with_len}
 use Rattle.std.proofs.lemmas.Bool.{and_parts, cases_Bool}
@@ -8,8 +8,8 @@ use Rattle.std.proofs.lemmas.List.{append-nil, map-append, map-set}
 use Rattle.std.proofs.lemmas.List.Elements.{All-cons, All-get_or, All-nil, All-set, filter-append}
 use Rattle.std.proofs.lemmas.Option.{get_or_from_slice_get, slice_get-map, slice_get_within}
 use Rattle.std.proofs.Math.Seq.{map-set_same}
-use Rattle.zs_num.specs.Request.{is_fetch, line_at}
-use Rattle.zs_num.specs.Servable.{IsServable, MayFetch}
+use Rattle.zs_num.specs.Request.{is_fetch}
+use Rattle.zs_num.specs.Servable.{MayFetch}
 use Rattle.zs_num.specs.declared.entry.Entry.{Entry}
 use Rattle.zs_num.specs.declared.request.Request.{Request}
 use Rattle.zs_num.specs.declared.request.Request.TheVariants as request
@@ -24,18 +24,17 @@ use Rattle.rv_core.specs.Accesses.{is_in_memory}
 use Rattle.rv_core.specs.CoreState.{CoreState, Ending, ToRegister, ToConsole, ToExecution, ToNothing, InProgress}
 use Rattle.rv_core.specs.Effect.{accesses, atomic, branches, calls, effect, ended, following, goes_through, goes_to, jumps, register, relative, writes}
 use Rattle.rv_core.specs.Fetch.{fetched_at}
-use Rattle.rv_core.specs.Step.{after_fetch, answered, executed, is_free}
-use Rattle.rv_core.specs.declared.memory_range.MemoryRange.{MemoryRange}
+use Rattle.rv_core.specs.Step.{after_fetch, answered, asks_for_instruction, console_byte, cost, executed, initial_core, is_free, needs_fetch, unfetched}
 use Rattle.rv_core.specs.Asked.{advanced}
 use Rattle.rv_core.specs.Laws.{IsReached, starts}
 use Rattle.rv_core.specs.Sound.{AreServableIn, FetchesAlone, IsSoundCore, left_of}
-use Rattle.rv_core.specs.Step.{asks_for_instruction, byte_of, console_byte, cost, initial_core, is_latest, needs_fetch, unfetched}
 use Rattle.flat_memory.specs.FlatMemory.{MemoryState, memory_after, memory_reply}
 use Rattle.machine_desc.specs.declared.machine.Machine.{Machine}
 use Rattle.machine_desc.specs.Machine.{IsMachine}
-use Rattle.bound_core.specs.FetchLaws.{Answered, LinesAreFetchedOnce, Done, after_step, after_steps, answered_in, answers_to, at_start, begun_step, done_by, HaveDoneTheSame, is_fetch_step, other_steps, step_at, without_fetching, without_l1i}
+use Rattle.bound_core.specs.FetchLaws.{Answered, Done, answered_in, answers_to, done_by, HaveDoneTheSame, is_fetch_step, other_steps, without_fetching, without_l1i}
 use Rattle.bound_core.specs.MachineWorld.{MachineWorld, serve}
 use Rattle.bound_core.specs.ReferenceMachine.{BoundState, access_served}
+use Rattle.bound_core.specs.Steps.{after_step, after_steps, at_start, begun_step, step_at}
 use Rattle.bound_core.specs.TimedCore.{TimedCore, after_execution, after_instruction, asks, core_after_access, first_core, next_request}
 
 -- ---- a core that forgets that it fetches does the same
@@ -424,7 +423,6 @@ module _ (laws : SoundLaws) (time time_without : Entry → ℕ) (image : MemoryI
     -- a core that does not fetch executes its instruction
     executes_both : (c d : TimedCore) → DidTheSame c d → is_free c.core ≡ true → DidTheSame (after_execution image c) (after_execution image d)
     executes_both c d did free =
-        let is_same : without_fetching c.core ≡ without_fetching d.core = ap (λ (x : Done). x.core) did.same in
         let advances : advanced image (without_fetching c.core) ≡ executed image (without_fetching c.core) =
         rw (free, fetches_not image c.core) refl in
         let unfetched_d : unfetched d.core ≡ without_fetching d.core = ap unfetched did.plain in
@@ -545,16 +543,3 @@ pub done_the_same : (laws : SoundLaws) (m : Machine) (image : MemoryImage) (time
 done_the_same laws m image time time_without numbers is reached =
     let both = all_steps laws time time_without image numbers (at_start m image) (at_start (without_l1i m) image) (same_at_start m image (λ number. first_sound m image number is reached)) in
     record { cores = both.done; replies = both.replies; memory = both.memory }
-
--- ---- a line is fetched once
-
-is_its_own : (line : ℕ) → is_latest (Some line) line ≡ true
-is_its_own line = search rules
-
-never : (fetching a b : Bool) → (fetching && false && a && b) ≡ false
-never true a b = refl
-never false a b = refl
-
-pub fetched_once : LinesAreFetchedOnce
-unfolding needs_fetch answered ended
-fetched_once image core reply = rw (is_its_own (line_at core.pc)) (never core.fetching _ _)

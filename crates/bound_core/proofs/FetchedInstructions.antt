@@ -20,7 +20,7 @@ use Rattle.bound_core.specs.InstructionLaws.{CoreInMemory, after_all_requests, a
 abbrev pub fetched_core : CoreState → CoreState
 fetched_core core = record core { instruction = None; fetched_line = Some (line_at core.pc); is_fetched = true }
 
-behind_fetch : (reply : ℕ) (core : CoreState) → answered reply (asks_for_instruction core) ≡ fetched_core core
+pub behind_fetch : (reply : ℕ) (core : CoreState) → answered reply (asks_for_instruction core) ≡ fetched_core core
 unfolding answered ended
 behind_fetch reply core = refl
 

@@ -5,12 +5,12 @@ use Rattle.std.proofs.lemmas.Option.{get_or_from_slice_get}
 use Rattle.zs_num.specs.declared.entry.Entry.{Entry}
 use Rattle.zs_num.specs.declared.entry.Outcome.{Outcome}
 use Rattle.elf_load.specs.MemoryImage.{MemoryImage}
-use Rattle.shard.specs.Served.{ShardState, met_by, shard_after, shard_reply}
+use Rattle.shard.specs.Served.{ShardState, met_by, no_shard, shard_after, shard_for, shard_reply}
 use Rattle.access_log.specs.History.{bank_of_entry}
 use Rattle.access_log.specs.RecordedOrder.{Stamps}
 use Rattle.bound_core.specs.History.{after_turn}
 use Rattle.bound_core.specs.ReferenceMachine.{BoundState, turn}
-use Rattle.bound_core.specs.ShardWorld.{ShardWorld, no_shard, recorded_by_shard, shard_for, shards_serve}
+use Rattle.bound_core.specs.ShardWorld.{ShardWorld, recorded_by_shard, shards_serve}
 use Rattle.bound_core.specs.TimedCore.{TimedCore, asks, ran_to}
 
 -- the stamps of a world

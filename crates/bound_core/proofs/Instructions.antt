@@ -1,14 +1,22 @@
 -- A core goes on to the end of an interval instruction by instruction.
-use Rattle.std.proofs.Common.{◌≡◌, ◌⊎◌, inl, inr, ℕ, zero, suc, ◌+◌, ◌-◌, ◌*◌, ◌<◌, ◌≤◌, ◌&&◌, ◌||◌, cond, nat_lt, Bool, true, false, IsTrue, true≢false, Option, Some, None, max, refl, sym, ◌∙◌, ap, arith, rules}
-use Rattle.std.specs.Prelude.{is_none, is_some, IsSome}
+use Rattle.std.proofs.Common.{◌≡◌, ◌⊎◌, inl, inr, ℕ, zero, suc, ◌+◌, ◌-◌, ◌*◌, ◌<◌, ◌≤◌, ◌&&◌, ◌||◌, cond, nat_lt, Bool, true, false, IsTrue, true≢false, Option, Some, None, max, refl, sym, ◌∙◌, ap, subst, arith, rules}
+use Rattle.std.specs.Prelude.{is_none, is_some, IfSome, IsSome}
 use Rattle.std.proofs.lemmas.Bool.{and_parts, cases_Bool, cases_lt}
 use Rattle.elf_load.specs.MemoryImage.{MemoryImage}
+use Rattle.pipe_core.specs.Pace.{PaceState}
+use Rattle.pipe_core.specs.PaceLaws.{GoesOnFrom}
+use Rattle.pipe_core.proofs.Soon.{costs_a_cycle, issues_are_soon}
+use Rattle.rv_core.specs.declared.program.Fetched.{Fetched}
+use Rattle.rv_core.specs.declared.program.Fetched.TheVariants.{Outside, NoInstruction, Instruction}
 use Rattle.rv_core.specs.declared.why.Why.{Why}
 use Rattle.rv_core.specs.declared.why.Why.TheVariants.{Exit, Illegal, Misaligned, AtomicAlign, Fetch, Access, Break}
 use Rattle.rv_core.specs.CoreState.{CoreState, InProgress}
-use Rattle.rv_core.specs.Step.{asks_for_instruction, cost, is_free, needs_fetch, unfetched}
+use Rattle.rv_core.specs.Fetch.{fetched_at}
+use Rattle.rv_core.specs.Step.{asks_for_instruction, cost, executed, is_free, needs_fetch, unfetched}
 use Rattle.rv_core.proofs.Executes.{executed-executes}
-use Rattle.bound_core.specs.TimedCore.{TimedCore, after_execution, after_instruction, after_instructions, asks, goes_on_alone, next_request, ran_to}
+use Rattle.bound_core.specs.Ahead.{going}
+use Rattle.bound_core.specs.Pacing.{IsSoon}
+use Rattle.bound_core.specs.TimedCore.{TimedCore, after_execution, after_instruction, after_instructions, asks, goes_on_alone, next_request, paced, ran_to, takes}
 use Rattle.bound_core.specs.Turn.{IsOver}
 
 -- an instruction costs a cycle, or it halts the core
@@ -22,6 +30,82 @@ costs_or_halts (Some (Fetch addr)) = inr (refl, refl)
 costs_or_halts (Some (Access addr)) = inr (refl, refl)
 costs_or_halts (Some Break) = inr (refl, refl)
 
+cost_small : (halted : Option Why) → cost halted ≤ 1
+cost_small halted = elim (costs_or_halts halted) [ inl one ↦ omega (arith, one) | inr none ↦ omega (arith, none.0) ]
+
+-- ---- what an instruction costs
+
+-- one that is counted costs a cycle at least
+pub paced_grows : (pace : Option PaceState) (fetched : Fetched) (pc : ℕ) (taken : Bool) (clock : ℕ) → clock + 1 ≤ (paced pace 1 fetched pc taken clock).clock
+paced_grows None fetched pc taken clock = omega arith
+paced_grows (Some pace) Outside pc taken clock = omega arith
+paced_grows (Some pace) (NoInstruction word) pc taken clock = omega arith
+paced_grows (Some pace) (Instruction inst) pc taken clock = costs_a_cycle pace inst pc clock taken
+
+-- one that is not costs nothing
+paced_stays : (pace : Option PaceState) (fetched : Fetched) (pc : ℕ) (taken : Bool) (clock : ℕ) → (paced pace 0 fetched pc taken clock).clock ≡ clock
+paced_stays None fetched pc taken clock = omega arith
+paced_stays (Some pace) fetched pc taken clock = refl
+
+-- a pace goes on from any later clock, too
+later_goes_on : (clock later : ℕ) (pace : PaceState) → clock ≤ later → GoesOnFrom clock pace → GoesOnFrom later pace
+later_goes_on clock later pace late goes_on = record {
+  is = goes_on.is;
+  soon = λ register d below. let before = goes_on.soon register d below in omega arith;
+}
+
+-- how late a core is behind an instruction, whose pipeline goes on from its clock
+pub record IsSoonBy (latest : ℕ) (clock : ℕ) (pace : Option PaceState) : Type 0 where
+  pub within : clock ≤ latest
+  pub soon : IfSome pace (GoesOnFrom clock)
+
+-- an instruction costs 192 cycles at most where the pace goes on from the clock, and the pace goes on from the clock behind it
+pub paced_soon : (pace : Option PaceState) (counted : ℕ) (fetched : Fetched) (pc : ℕ) (taken : Bool) (clock : ℕ) → counted ≤ 1 → IfSome pace (GoesOnFrom clock)
+    → IsSoonBy (clock + 192) (paced pace counted fetched pc taken clock).clock (paced pace counted fetched pc taken clock).pace
+paced_soon None counted fetched pc taken clock one soon = record { within = omega (arith, one); soon = tt }
+paced_soon (Some pace) zero fetched pc taken clock one soon = record { within = omega arith; soon = soon }
+paced_soon (Some pace) (suc n) Outside pc taken clock one soon = record { within = omega arith; soon = later_goes_on clock (clock + 1) pace (omega arith) soon }
+paced_soon (Some pace) (suc n) (NoInstruction word) pc taken clock one soon = record { within = omega arith; soon = later_goes_on clock (clock + 1) pace (omega arith) soon }
+paced_soon (Some pace) (suc n) (Instruction inst) pc taken clock one soon =
+    let is = issues_are_soon pace inst pc clock taken soon in record { within = is.within; soon = is.goes_on }
+
+-- the clock behind what stands at pc, where so many instructions of it are counted
+executed_counts : (image : MemoryImage) (c : TimedCore) (counted : ℕ) → cost (after_execution image c).core.halted ≡ counted
+    → (after_execution image c).clock ≡ (paced c.pace counted (fetched_at image c.core.pc) c.core.pc (takes c.core (fetched_at image c.core.pc)) c.clock).clock
+executed_counts image c counted is =
+    ap (λ n. (paced c.pace n (fetched_at image c.core.pc) c.core.pc (takes c.core (fetched_at image c.core.pc)) c.clock).clock) is
+
+-- an instruction that is counted takes a core a cycle on at least, and one that halts it by a fault takes it nowhere
+executed_grows : (image : MemoryImage) (c : TimedCore) → cost (after_execution image c).core.halted ≡ 1 → c.clock + 1 ≤ (after_execution image c).clock
+executed_grows image c is =
+    omega (arith, executed_counts image c 1 is, paced_grows c.pace (fetched_at image c.core.pc) c.core.pc (takes c.core (fetched_at image c.core.pc)) c.clock)
+
+executed_stays : (image : MemoryImage) (c : TimedCore) → cost (after_execution image c).core.halted ≡ 0 → (after_execution image c).clock ≡ c.clock
+executed_stays image c is =
+    executed_counts image c 0 is ∙ paced_stays c.pace (fetched_at image c.core.pc) c.core.pc (takes c.core (fetched_at image c.core.pc)) c.clock
+
+pub executed_later : (image : MemoryImage) (c : TimedCore) → c.clock ≤ (after_execution image c).clock
+executed_later image c =
+    elim (costs_or_halts (after_execution image c).core.halted) [
+      | inl one ↦ omega (arith, executed_grows image c one)
+      | inr none ↦ omega (arith, executed_stays image c none.0)
+    ]
+
+executed_soon : (image : MemoryImage) (c : TimedCore) → IsSoon c → IsSoonBy (c.clock + 192) (after_execution image c).clock (after_execution image c).pace
+executed_soon image c soon =
+    paced_soon c.pace (cost (after_execution image c).core.halted) (fetched_at image c.core.pc) c.core.pc (takes c.core (fetched_at image c.core.pc)) c.clock (cost_small (after_execution image c).core.halted) soon
+
+-- a core without a pipeline costs what it counts
+pub plain_execution : (image : MemoryImage) (c : TimedCore) → c.pace ≡ None
+    → after_execution image c ≡ record c {
+      core = executed image (unfetched c.core);
+      clock = c.clock + cost (executed image (unfetched c.core)).halted;
+      instructions = c.instructions + cost (executed image (unfetched c.core)).halted;
+    }
+plain_execution image c none = rw none refl
+
+-- ---- an instruction, or its fetch
+
 -- the core that asks for its next instruction
 abbrev asking : TimedCore → TimedCore
 asking c = record c { core = asks_for_instruction c.core }
@@ -34,11 +118,6 @@ either false one other = inr refl
 pub asks_or_executes : (image : MemoryImage) (c : TimedCore) → (after_instruction image c ≡ asking c) ⊎ (after_instruction image c ≡ after_execution image c)
 unfolding after_instruction
 asks_or_executes image c = either (needs_fetch image c.core) (asking c) (after_execution image c)
-
--- a core that does not fetch executes it
-pub executes : (image : MemoryImage) (c : TimedCore) → c.core.fetching ≡ false → after_instruction image c ≡ after_execution image c
-unfolding after_instruction needs_fetch
-executes image c never = rw never refl
 
 -- a core that has executed an instruction has fetched none since
 pub executed_unfetched : (image : MemoryImage) (c : TimedCore) → (after_execution image c).core.is_fetched ≡ false
@@ -84,27 +163,45 @@ free_by end c true e stops early = let goes_on : goes_on_alone end c ≡ true = 
 free_or_late : (end : ℕ) (c : TimedCore) → goes_on_alone end c ≡ false → c.clock < end → is_free c.core ≡ false
 free_or_late end c stops early = free_by end c (is_free c.core) refl stops early
 
--- after an instruction a core stands a cycle later and has fetched none since, or it does not go on
+-- after an instruction a core stands a cycle later at least and has fetched none since, or it does not go on
 pub cycle_or_stops : (image : MemoryImage) (end : ℕ) (c : TimedCore)
-    → (((after_instruction image c).clock ≡ c.clock + 1) × ((after_instruction image c).core.is_fetched ≡ false))
+    → ((c.clock + 1 ≤ (after_instruction image c).clock) × ((after_instruction image c).core.is_fetched ≡ false))
     ⊎ (((after_instruction image c).clock ≡ c.clock) × (goes_on_alone end (after_instruction image c) ≡ false))
 cycle_or_stops image end c =
     elim (asks_or_executes image c) [
       | inl asks ↦ inr (ap (λ (x : TimedCore). x.clock) asks, ap (goes_on_alone end) asks ∙ held_stops end (asking c) (asking_held c.core))
       | inr is ↦
           let next : TimedCore = after_execution image c in
-          let clock : (after_instruction image c).clock ≡ c.clock + cost next.core.halted = ap (λ (x : TimedCore). x.clock) is in
+          let clock : (after_instruction image c).clock ≡ next.clock = ap (λ (x : TimedCore). x.clock) is in
           (elim (costs_or_halts next.core.halted) [
-            | inl one ↦ inl (omega (arith, clock, one), ap (λ (x : TimedCore). x.core.is_fetched) is ∙ executed_unfetched image c)
-            | inr halted ↦ inr (omega (arith, clock, halted.0), ap (goes_on_alone end) is ∙ halted_stops end next halted.1)
+            | inl one ↦ inl (omega (arith, clock, executed_grows image c one), ap (λ (x : TimedCore). x.core.is_fetched) is ∙ executed_unfetched image c)
+            | inr halted ↦ inr (clock ∙ executed_stays image c halted.0, ap (goes_on_alone end) is ∙ halted_stops end next halted.1)
           ])
     ]
 
-pub cycle_at_most : (image : MemoryImage) (c : TimedCore) → (c.clock ≤ (after_instruction image c).clock) × ((after_instruction image c).clock ≤ c.clock + 1)
-cycle_at_most image c =
-    elim (cycle_or_stops image 0 c) [
-      | inl one ↦ (omega (arith, one.0), omega (arith, one.0))
-      | inr none ↦ (omega (arith, none.0), omega (arith, none.0))
+-- an instruction never takes a core back
+pub not_earlier : (image : MemoryImage) (c : TimedCore) → c.clock ≤ (after_instruction image c).clock
+not_earlier image c = elim (cycle_or_stops image 0 c) [ inl one ↦ omega (arith, one.0) | inr none ↦ omega (arith, none.0) ]
+
+-- and not far
+pub soon_at_most : (image : MemoryImage) (c : TimedCore) → IsSoon c → IsSoonBy (c.clock + 192) (after_instruction image c).clock (after_instruction image c).pace
+soon_at_most image c soon =
+    let By : TimedCore → Type 0 = λ next. IsSoonBy (c.clock + 192) next.clock next.pace in
+    elim (asks_or_executes image c) [
+      | inl asks ↦ subst By (sym asks) (record { within = omega arith; soon = soon })
+      | inr is ↦ subst By (sym is) (executed_soon image c soon)
+    ]
+
+-- that of a core without a pipeline takes it a cycle on at most
+pub cycle_at_most : (image : MemoryImage) (c : TimedCore) → c.pace ≡ None → (c.clock ≤ (after_instruction image c).clock) × ((after_instruction image c).clock ≤ c.clock + 1)
+cycle_at_most image c none =
+    let next : TimedCore = after_instruction image c in
+    elim (asks_or_executes image c) [
+      | inl asks ↦ let clock : next.clock ≡ c.clock = ap (λ (x : TimedCore). x.clock) asks in (omega (arith, clock), omega (arith, clock))
+      | inr is ↦
+          let clock : next.clock ≡ c.clock + cost (executed image (unfetched c.core)).halted = ap (λ (x : TimedCore). x.clock) (is ∙ plain_execution image c none) in
+          let small = cost_small (executed image (unfetched c.core)).halted in
+          (omega (arith, clock), omega (arith, clock, small))
     ]
 
 -- a core that does not go on stays as it is
@@ -123,13 +220,43 @@ fetched_by end c false e on late = let off : goes_on_alone end c ≡ false = lat
 pub late_fetched : (end : ℕ) (c : TimedCore) → goes_on_alone end c ≡ true → end ≤ c.clock → c.core.is_fetched ≡ true
 late_fetched end c on late = fetched_by end c c.core.is_fetched refl on late
 
--- a core that goes on past the end stops after one instruction
-late_by_one : (image : MemoryImage) (end : ℕ) (c : TimedCore) → end ≤ c.clock → goes_on_alone end (after_instruction image c) ≡ false
-late_by_one image end c late =
+-- a core that an instruction takes to the end or past it stops there
+past_stops : (image : MemoryImage) (end : ℕ) (c : TimedCore) → end ≤ (after_instruction image c).clock → goes_on_alone end (after_instruction image c) ≡ false
+past_stops image end c past =
     elim (cycle_or_stops image end c) [
-      | inl one ↦ late_stops end (after_instruction image c) one.1 (omega (arith, one.0, late))
+      | inl one ↦ late_stops end (after_instruction image c) one.1 past
       | inr stops ↦ stops.1
     ]
+
+-- a core that goes on past the end stops after one instruction
+late_by_one : (image : MemoryImage) (end : ℕ) (c : TimedCore) → end ≤ c.clock → goes_on_alone end (after_instruction image c) ≡ false
+late_by_one image end c late = past_stops image end c (omega (arith, not_earlier image c, late))
+
+-- two numbers of instructions that are more than the cycles that are left lead to the same end
+same_by : (n m : ℕ) (image : MemoryImage) (end : ℕ) (c : TimedCore) (goes_on : Bool) → goes_on_alone end c ≡ goes_on → end - c.clock < suc n → end - c.clock < suc m
+    → ((later : TimedCore) → end - later.clock < n → end - later.clock < m → after_instructions n image end later ≡ after_instructions m image end later)
+    → after_instructions (suc n) image end c ≡ after_instructions (suc m) image end c
+same_by n m image end c false e one other rest = stays (suc n) image end c e ∙ sym (stays (suc m) image end c e)
+same_by n m image end c true e one other rest =
+    let next = after_instruction image c in
+    let stop : goes_on_alone end next ≡ false → after_instructions n image end next ≡ after_instructions m image end next =
+    λ stops. stays n image end next stops ∙ sym (stays m image end next stops)
+    in
+    let both : after_instructions n image end next ≡ after_instructions m image end next = elim (cases_lt c.clock end) [
+      | inl early ↦
+          (elim (cycle_or_stops image end c) [
+            | inl grows ↦ rest next (omega (arith, grows.0, one, early)) (omega (arith, grows.0, other, early))
+            | inr stops ↦ stop stops.1
+          ])
+      | inr late ↦ stop (late_by_one image end c late)
+    ] in
+    goes n image end c e ∙ both ∙ sym (goes m image end c e)
+
+enough : (n m : ℕ) (image : MemoryImage) (end : ℕ) (c : TimedCore) → end - c.clock < n → end - c.clock < m → after_instructions n image end c ≡ after_instructions m image end c
+enough zero m image end c one other = absurd (omega (arith, one))
+enough (suc n) zero image end c one other = absurd (omega (arith, other))
+enough (suc n) (suc m) image end c one other =
+    same_by n m image end c (goes_on_alone end c) refl one other (λ later more still. enough n m image end later more still)
 
 -- after one instruction the rest of the interval leads to the same end
 pub same_end : (image : MemoryImage) (end : ℕ) (c : TimedCore) → goes_on_alone end c ≡ true → ran_to image end (after_instruction image c) ≡ ran_to image end c
@@ -142,18 +269,11 @@ same_end image end c goes_on =
     elim (cases_lt c.clock end) [
       | inl early ↦
           (elim (cycle_or_stops image end c) [
-            | inl one ↦
-                let left : suc (end - next.clock) ≡ end - c.clock = omega (arith, one.0, early) in
-                ap (λ n. after_instructions n image end next) left ∙ sym whole
+            | inl one ↦ enough (suc (end - next.clock)) (end - c.clock) image end next (omega arith) (omega (arith, one.0, early)) ∙ sym whole
             | inr stops ↦ stop stops.1
           ])
       | inr late ↦ stop (late_by_one image end c late)
     ]
-
--- whether the core still goes on, as a number
-abbrev pub going : Bool → ℕ
-going true = 1
-going false = 0
 
 going_small : (goes_on : Bool) → going goes_on ≤ 1
 going_small true = omega arith
@@ -222,30 +342,37 @@ local_instructions_end image end c =
 
 -- ---- how far a core comes by itself
 
--- it stands no earlier than before, and a cycle past the end at most, unless it stood there
-ran_within_by : (n : ℕ) (image : MemoryImage) (end : ℕ) (c : TimedCore)
-    → (c.clock ≤ (after_instructions n image end c).clock) × ((after_instructions n image end c).clock ≤ max c.clock end + 1)
-ran_within_by zero image end c = (omega arith, omega arith)
-ran_within_by (suc n) image end c =
-    elim (cases_Bool (goes_on_alone end c)) as (λ _. (c.clock ≤ (after_instructions (suc n) image end c).clock) × ((after_instructions (suc n) image end c).clock ≤ max c.clock end + 1)) [
-      | inl on ↦
-          let next : TimedCore = after_instruction image c in
-          let one = cycle_at_most image c in
-          let left : TimedCore = after_instructions n image end next in
-          let is : (after_instructions (suc n) image end c).clock ≡ left.clock = ap (λ (x : TimedCore). x.clock) (goes n image end c on) in
-          (elim (cases_lt c.clock end) [
-            | inl early ↦ let rest = ran_within_by n image end next in (omega (arith, is, one, rest), omega (arith, is, one, rest, early))
-            | inr late ↦
-                let same : left.clock ≡ next.clock = ap (λ (x : TimedCore). x.clock) (stays n image end next (late_by_one image end c late)) in
-                (omega (arith, is, one, same), omega (arith, is, one, same))
-          ])
-      | inr off ↦
-          let is : (after_instructions (suc n) image end c).clock ≡ c.clock = ap (λ (x : TimedCore). x.clock) (stays (suc n) image end c off) in
-          (omega (arith, is), omega (arith, is))
+-- it stands no earlier than before
+ran_later_by : (n : ℕ) (image : MemoryImage) (end : ℕ) (c : TimedCore) → c.clock ≤ (after_instructions n image end c).clock
+ran_later_by zero image end c = omega arith
+ran_later_by (suc n) image end c =
+    let Later : TimedCore → Type 0 = λ ran. c.clock ≤ ran.clock in
+    elim (cases_Bool (goes_on_alone end c)) as (λ _. Later (after_instructions (suc n) image end c)) [
+      | inl on ↦ let next : TimedCore = after_instruction image c in subst Later (sym (goes n image end c on)) (omega (arith, not_earlier image c, ran_later_by n image end next))
+      | inr off ↦ subst Later (sym (stays (suc n) image end c off)) (omega arith)
     ]
 
-pub ran_within : (image : MemoryImage) (end : ℕ) (c : TimedCore) → (c.clock ≤ (ran_to image end c).clock) × ((ran_to image end c).clock ≤ max c.clock end + 1)
-ran_within image end c = ran_within_by (suc (end - c.clock)) image end c
+pub ran_later : (image : MemoryImage) (end : ℕ) (c : TimedCore) → c.clock ≤ (ran_to image end c).clock
+ran_later image end c = ran_later_by (suc (end - c.clock)) image end c
+
+-- and an instruction past the end at most, unless it stood there
+ran_within_by : (n : ℕ) (image : MemoryImage) (end : ℕ) (c : TimedCore) → IsSoon c → IsSoonBy (max c.clock end + 192) (after_instructions n image end c).clock (after_instructions n image end c).pace
+ran_within_by zero image end c soon = record { within = omega arith; soon = soon }
+ran_within_by (suc n) image end c soon =
+    let By : TimedCore → Type 0 = λ ran. IsSoonBy (max c.clock end + 192) ran.clock ran.pace in
+    elim (cases_Bool (goes_on_alone end c)) as (λ _. By (after_instructions (suc n) image end c)) [
+      | inl on ↦
+          let next : TimedCore = after_instruction image c in
+          let one = soon_at_most image c soon in
+          subst By (sym (goes n image end c on)) (elim (cases_lt next.clock end) [
+            | inl early ↦ let rest = ran_within_by n image end next one.soon in record { within = omega (arith, rest.within, early); soon = rest.soon }
+            | inr past ↦ subst By (sym (stays n image end next (past_stops image end c past))) (record { within = omega (arith, one.within); soon = one.soon })
+          ])
+      | inr off ↦ subst By (sym (stays (suc n) image end c off)) (record { within = omega arith; soon = soon })
+    ]
+
+pub ran_within : (image : MemoryImage) (end : ℕ) (c : TimedCore) → IsSoon c → IsSoonBy (max c.clock end + 192) (ran_to image end c).clock (ran_to image end c).pace
+ran_within image end c soon = ran_within_by (suc (end - c.clock)) image end c soon
 
 -- a core at the end or past it stays as it is, or it executes the one instruction that it has fetched
 pub ran_late : (image : MemoryImage) (end : ℕ) (c : TimedCore) → end ≤ c.clock
@@ -275,13 +402,13 @@ nearer image end c free early =
 
 -- ---- a core that fetches
 
--- how late a core can be, which executes past this cycle only what it has fetched before
+-- how late a core without a pipeline can be, which executes past this cycle only what it has fetched before
 pub record IsWithin (most : ℕ) (c : TimedCore) : Type 0 where
   pub clock : c.clock ≤ most + 1
   pub fetched : IsTrue c.core.is_fetched → c.clock ≤ most
 
-pub next_within : (image : MemoryImage) (end most : ℕ) (c : TimedCore) → end ≤ most → (c.core.is_fetched ≡ true) ⊎ (c.clock < end) → IsWithin most c → IsWithin most (after_instruction image c)
-next_within image end most c last on within =
+pub next_within : (image : MemoryImage) (end most : ℕ) (c : TimedCore) → c.pace ≡ None → end ≤ most → (c.core.is_fetched ≡ true) ⊎ (c.clock < end) → IsWithin most c → IsWithin most (after_instruction image c)
+next_within image end most c none last on within =
     let next : TimedCore = after_instruction image c in
     let before : c.clock ≤ most = elim on [ inl fetched ↦ within.fetched fetched | inr early ↦ omega (arith, early, last) ] in
     elim (asks_or_executes image c) [
@@ -290,7 +417,7 @@ next_within image end most c last on within =
           record { clock = omega (arith, clock, before); fetched = λ fetched. omega (arith, clock, before) }
       | inr is ↦
           let unfetched : next.core.is_fetched ≡ false = ap (λ (x : TimedCore). x.core.is_fetched) is ∙ executed_unfetched image c in
-          record { clock = omega (arith, (cycle_at_most image c).1, before); fetched = λ fetched. absurd (true≢false (sym fetched ∙ unfetched)) }
+          record { clock = omega (arith, (cycle_at_most image c none).1, before); fetched = λ fetched. absurd (true≢false (sym fetched ∙ unfetched)) }
     ]
 
 -- a step brings it nearer to its stop
@@ -307,19 +434,32 @@ nearer_fetching image end c free on =
           let same : going next.core.is_fetched ≡ going c.core.is_fetched = ap (λ (x : TimedCore). going x.core.is_fetched) asks in
           omega (arith, clock, held, same, was)
       | inr is ↦
-          let executed : TimedCore = after_execution image c in
-          let clock : next.clock ≡ c.clock + cost executed.core.halted = ap (λ (x : TimedCore). x.clock) is in
+          let behind : TimedCore = after_execution image c in
+          let clock : next.clock ≡ behind.clock = ap (λ (x : TimedCore). x.clock) is in
           let unfetched : going next.core.is_fetched ≡ 0 = ap (λ (x : TimedCore). going x.core.is_fetched) is ∙ ap going (executed_unfetched image c) in
           let small : going (is_free next.core) ≤ 1 = going_small (is_free next.core) in
-          (elim (costs_or_halts executed.core.halted) [
+          (elim (costs_or_halts behind.core.halted) [
             | inl one ↦
                 (elim on [
-                  | inl fetched ↦ let full : going c.core.is_fetched ≡ 1 = ap going fetched in omega (arith, clock, one, unfetched, small, was, full)
-                  | inr early ↦ omega (arith, clock, one, unfetched, small, was, early)
+                  | inl fetched ↦ let full : going c.core.is_fetched ≡ 1 = ap going fetched in omega (arith, clock, executed_grows image c one, unfetched, small, was, full)
+                  | inr early ↦ omega (arith, clock, executed_grows image c one, unfetched, small, was, early)
                 ])
             | inr halted ↦
-                let still : is_free executed.core ≡ false = halted_free executed.core halted.1 in
+                let still : is_free behind.core ≡ false = halted_free behind.core halted.1 in
                 let none : going (is_free next.core) ≡ 0 = ap (λ (x : TimedCore). going (is_free x.core)) is ∙ ap going still in
-                omega (arith, clock, halted.0, unfetched, none, was)
+                omega (arith, clock, executed_stays image c halted.0, unfetched, none, was)
           ])
     ]
+
+-- one that goes on stands before the end, or has fetched an instruction
+alone_on : (end : ℕ) (c : TimedCore) → goes_on_alone end c ≡ true → (c.core.is_fetched ≡ true) ⊎ (c.clock < end)
+alone_on end c goes = elim (cases_lt c.clock end) [ inl early ↦ inr early | inr late ↦ inl (late_fetched end c goes late) ]
+
+pub not_past : (end most : ℕ) (c : TimedCore) → end ≤ most → (IsTrue c.core.is_fetched → c.clock ≤ most) → goes_on_alone end c ≡ true → c.clock ≤ most
+not_past end most c last fetched goes = elim (alone_on end c goes) [ inl is ↦ fetched is | inr early ↦ omega (arith, early, last) ]
+
+pub nearer_alone : (image : MemoryImage) (end : ℕ) (c : TimedCore) → goes_on_alone end c ≡ true
+    → 2 * (end - (after_instruction image c).clock) + (going (is_free (after_instruction image c).core) + going (after_instruction image c).core.is_fetched)
+    < 2 * (end - c.clock) + (going (is_free c.core) + going c.core.is_fetched)
+nearer_alone image end c goes =
+    nearer_fetching image end c (and_parts (is_free c.core) (c.core.is_fetched || nat_lt c.clock end) goes).0 (alone_on end c goes)

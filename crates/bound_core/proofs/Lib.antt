@@ -1,5 +1,7 @@
 pub mod Accesses
 pub mod Alike
+mod AllShards
+pub mod Branches
 pub mod CoreKept
 pub mod FetchedInstructions
 pub mod Histories
@@ -19,6 +21,7 @@ pub mod OwnTurns
 pub mod PairedPhases
 pub mod Pairings
 pub mod Pairs
+pub mod PartsPorts
 pub mod Phase
 pub mod PhaseHistories
 pub mod Reaching
@@ -32,3 +35,4 @@ pub mod Turns
 pub mod WholeInstructions
 pub mod FetchSteps
 pub mod TurnSteps
+pub mod SamePath

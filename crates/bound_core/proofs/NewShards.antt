@@ -8,11 +8,11 @@ use Rattle.std.proofs.lemmas.Option.{get_or_from_slice_get, slice_get_within}
 use Rattle.elf_load.specs.MemoryImage.{MemoryImage}
 use Rattle.machine_desc.specs.declared.machine.Machine.{Machine}
 use Rattle.machine_desc.specs.Machine.{IsMachine}
-use Rattle.shard.specs.Served.{ShardState, new_caches_of_shard, new_shard}
+use Rattle.shard.specs.Served.{ShardState, new_caches_of_shard, new_shard, no_shard}
 use Rattle.shard.specs.StandsFor.{new_shards}
 use Rattle.shard.specs.HaveL1i.{have_l1i}
 use Rattle.bound_core.specs.ShardPort.{AreShardsOf, base_in, size_in}
-use Rattle.bound_core.specs.ShardWorld.{no_shard, restarted}
+use Rattle.bound_core.specs.ShardWorld.{restarted}
 use Rattle.bound_core.proofs.Alike.{alike_by}
 
 module _ (machine : Machine) (image : MemoryImage) where

@@ -7,9 +7,9 @@ use Rattle.std.proofs.lemmas.Option.{get_or_from_slice_get, same_Some, slice_get
 use Rattle.zs_num.specs.declared.entry.Entry.{Entry}
 use Rattle.zs_num.specs.declared.request.Request.{Request}
 use Rattle.elf_load.specs.MemoryImage.{MemoryImage}
-use Rattle.shard.specs.Served.{ShardState, met_by, shard_reply}
+use Rattle.shard.specs.Served.{ShardState, met_by, no_shard, shard_for, shard_reply}
 use Rattle.bound_core.specs.ReferenceMachine.{BoundState, are_done, at_end, bound_from, turn}
-use Rattle.bound_core.specs.ShardWorld.{ShardWorld, no_shard, recorded_by_shard, shard_for, shards_serve}
+use Rattle.bound_core.specs.ShardWorld.{ShardWorld, recorded_by_shard, shards_serve}
 use Rattle.bound_core.specs.TimedCore.{TimedCore, asks, ran_to}
 use Rattle.bound_core.proofs.Histories.{Follows, IsReady, is_there, left, next_left, next_ready, none_left, whole_follows}
 use Rattle.bound_core.proofs.HistoryTurn.{IsNext, next, takes_next}

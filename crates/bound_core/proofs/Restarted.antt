@@ -6,7 +6,7 @@ use Rattle.std.proofs.lemmas.List.{length-map}
 use Rattle.std.proofs.lemmas.Option.{same_Some, slice_get-map}
 use Rattle.shard.specs.Coherence.{Caches}
 use Rattle.zs_num.specs.Request.{line_at, bank_of_line}
-use Rattle.shard.specs.Lines.{set_of}
+use Rattle.cache_set.specs.Lines.{set_of}
 use Rattle.shard.specs.Marks.{MarkedMemory}
 use Rattle.shard.specs.Served.{ShardState, place_of}
 use Rattle.shard.specs.StandsFor.{AreShards, StandFor}

@@ -1,7 +1,6 @@
 -- Ports over a bare list of shards.
-use Rattle.std.proofs.Common.{mod-lt, length-set, take, drop, ◌++◌, ◌≡◌, ◌≤◌, ◌<◌, ◌+◌, ℕ, zero, suc, max, List, [], ◌∷◌, length, map, get_or, Some, refl, ap, sym, ◌∙◌, subst, arith}
+use Rattle.std.proofs.Common.{mod-lt, length-set, ◌≡◌, ◌≤◌, ◌<◌, ◌+◌, ℕ, zero, suc, max, List, [], ◌∷◌, length, map, get_or, Some, refl, ap, sym, ◌∙◌, subst, arith}
 use Rattle.std.specs.Prelude.{◌%◌, Bool, slice_get, slice_index, slice_index_or, slice_set, unwrap_or}
-use Rattle.std.proofs.Math.Seq.{take-append_seam}
 use Rattle.std.proofs.lemmas.Option.{slice_get-get_or}
 use Rattle.std.proofs.lemmas.List.{get_or_default, length-map, map-set}
 use Rattle.zs_num.specs.Request.{line_of, bank_of}
@@ -9,9 +8,9 @@ use Rattle.zs_num.specs.Servable.{IsServable}
 use Rattle.zs_num.specs.declared.entry.Entry.{Entry}
 use Rattle.zs_num.specs.declared.request.Request.{Request}
 use Rattle.shard.specs.HaveL1i.{have_l1i}
-use Rattle.shard.specs.Served.{CanServe, IsServedBy, ShardState, shard_after}
+use Rattle.shard.specs.Served.{CanServe, IsServedBy, ShardState, no_shard, shard_after, shard_for}
 use Rattle.bound_core.specs.ShardPort.{AreShardsOf, IsShardAt, IsShardPort, ShardPortState, base_in, base_of, greatest, greatest_stamp, l1i_in, l1i_of, size_in, size_of}
-use Rattle.bound_core.specs.ShardWorld.{ShardWorld, no_shard, recorded_by_shard, restarted, shard_for, shards_serve}
+use Rattle.bound_core.specs.ShardWorld.{ShardWorld, recorded_by_shard, restarted, shards_serve}
 use Rattle.bound_core.proofs.Alike.{EachHas, alike_by, first_has}
 use Rattle.bound_core.proofs.HistoryTurn.{recorded_is}
 
@@ -129,17 +128,6 @@ port_restarted p shards stamps port is same =
     (subst (λ (ss : List ShardState). AreShardsOf (length p.world.stamps) ss (base_of p.world) (size_of p.world)) (sym is)
     (shards_restarted (length p.world.stamps) (base_of p.world) (size_of p.world) p.world.shards port.shards)) same port.core_is
 
-pub whole_again : {A : Type 0} (n : ℕ) (new old : List A) → length new ≡ length old → n ≡ length old → take n (new ++ drop (length new) old) ≡ new
-whole_again n new old same is = ap (λ (k : ℕ). take k (new ++ drop (length new) old)) (is ∙ sym same) ∙ take-append_seam new (drop (length new) old)
-
-pub all_restarted : (before after : List ShardState) → length after ≡ length before
-    → ((i : ℕ) → i < length before → get_or after i no_shard ≡ restarted (get_or before i no_shard)) → after ≡ map restarted before
-all_restarted [] [] same h = refl
-all_restarted [] (y ∷ ys) same h = absurd (omega (arith, same))
-all_restarted (x ∷ xs) [] same h = absurd (omega (arith, same))
-all_restarted (x ∷ xs) (y ∷ ys) same h =
-    ap (λ z. z ∷ ys) (h 0 (omega arith)) ∙ ap (λ zs. restarted x ∷ zs) (all_restarted xs ys (omega (arith, same)) (λ i below. h (suc i) (omega (arith, below))))
-
 -- ---- an access
 
 module _ (w : ShardWorld) (core start : ℕ) (request : Request) where
@@ -148,11 +136,6 @@ module _ (w : ShardWorld) (core start : ℕ) (request : Request) where
 
   pub shard_there : 0 < length w.shards → slice_get w.shards n ≡ Some (shard_for w.shards request)
   shard_there some = slice_get-get_or w.shards n no_shard (mod-lt (line_of request) some)
-
-  -- the element at the shard's number is the shard
-  pub shard_is : (x : ShardState) (i : ℕ) → 0 < length w.shards → i ≡ n → x ≡ get_or w.shards i x → x ≡ shard_for w.shards request
-  shard_is x i some is here =
-      here ∙ (ap (λ (k : ℕ). get_or w.shards k x) is ∙ get_or_default w.shards n x no_shard (mod-lt (line_of request) some))
 
   -- what a port may be asked can be asked of the shard
   pub can_serve : IsShardPort (record { world = w; core = core }) → IsServable (base_of w) (size_of w) (l1i_of w) request → CanServe (shard_for w.shards request) request

@@ -18,7 +18,7 @@ use Rattle.bound_core.proofs.Alike.{alike_by, first_has}
 use Rattle.bound_core.proofs.ShardKept.{marks_kept}
 
 module _ (count cores number base size : ℕ) where
-  one_stays : (shard : ShardState) (e : Entry) → IsShardAt count cores number base size shard → IsShardAt count cores number base size (shard_after shard e)
+  pub one_stays : (shard : ShardState) (e : Entry) → IsShardAt count cores number base size shard → IsShardAt count cores number base size (shard_after shard e)
   unfolding shard_after
   one_stays shard e at = record {
     number_is = at.number_is;
@@ -33,7 +33,7 @@ module _ (count cores number base size : ℕ) where
   all_stay (e ∷ entries) shard at = all_stay entries (shard_after shard e) (one_stays shard e at)
 
 -- a shard keeps its instruction caches, or has none
-one_has : (shard : ShardState) (e : Entry) → have_l1i (shard_after shard e).caches ≡ have_l1i shard.caches
+pub one_has : (shard : ShardState) (e : Entry) → have_l1i (shard_after shard e).caches ≡ have_l1i shard.caches
 unfolding shard_after
 one_has shard e = ap (nat_lt 0) (access_same shard.caches e.core e.request).fetchers
 

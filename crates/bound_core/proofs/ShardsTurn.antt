@@ -23,7 +23,7 @@ use Rattle.shard.proofs.Kept.{access_same}
 use Rattle.shard.specs.HaveL1i.{have_l1i}
 use Rattle.shard.specs.Laws.{MarksAreReservations, ShardsStandForAMachine}
 use Rattle.shard.specs.Marks.{MarkedMemory, marked_after, marked_reply}
-use Rattle.shard.specs.Served.{ShardState, met_by, shard_after, shard_reply}
+use Rattle.shard.specs.Served.{ShardState, met_by, no_shard, shard_after, shard_reply}
 use Rattle.shard.specs.StandsFor.{StandFor, flat_for}
 use Rattle.access_log.specs.RecordedOrder.{next_stamp}
 use Rattle.bound_core.specs.MachineOfShards.{IsCoreOf, StandForMachine, pairings_of}
@@ -31,7 +31,7 @@ use Rattle.bound_core.specs.MachineWorld as machine
 use Rattle.bound_core.specs.MachineWorld.{MachineWorld}
 use Rattle.bound_core.specs.ReferenceMachine.{BoundState, bound_from}
 use Rattle.bound_core.specs.Correspondence.{AreRelated, EndAlike}
-use Rattle.bound_core.specs.ShardWorld.{ShardWorld, no_shard, recorded_by_shard, shards_serve}
+use Rattle.bound_core.specs.ShardWorld.{ShardWorld, recorded_by_shard, shards_serve}
 use Rattle.bound_core.specs.TimedCore.{TimedCore, asks, core_after_access, ran_to}
 use Rattle.bound_core.proofs.CoreKept.{CoreLaws, StaysSound, ran_stays_sound, waits_for}
 use Rattle.bound_core.proofs.Histories.{after_last, is_there}
@@ -268,7 +268,7 @@ module _ (laws : CoreLaws) (image : MemoryImage) (end : ℕ) where
       rw (one, same_pairings base size l1i cores (All-tail (IsCoreOf base size l1i) c cores are)) refl
 
   ran_core : (base size : ℕ) (l1i : Bool) (c : TimedCore) → IsCoreOf base size l1i c → IsCoreOf base size l1i (ran_to image end c)
-  ran_core base size l1i c is =
+  ran_core base size _ c is =
       let stays = ran_stays_sound laws image end c is.sound in
       record {
         sound = stays.sound;

@@ -1,19 +1,17 @@
 -- A turn of the machine of one thread is steps of its core.
-use Rattle.std.proofs.Common.{◌≡◌, ℕ, zero, suc, ◌-◌, ◌||◌, nat_lt, Bool, true, false, List, [], ◌∷◌, ◌++◌, Option, Some, None, refl, sym, ◌∙◌, ap, subst, inl, inr, get_or}
+use Rattle.std.proofs.Common.{◌≡◌, ℕ, zero, suc, ◌-◌, ◌||◌, nat_lt, Bool, true, false, List, [], ◌∷◌, Option, Some, None, refl, sym, ◌∙◌, ap, subst, inl, inr}
 use Rattle.std.specs.Prelude.{◌&&◌, replicate, slice_get, slice_set, is_none}
-use Rattle.std.specs.Option.{option_and_then, option_map, option_map_or}
+use Rattle.std.specs.Option.{option_and_then, option_map}
 use Rattle.std.proofs.lemmas.Bool.{and_parts, cases_Bool}
-use Rattle.std.proofs.lemmas.List.{set-get_or}
-use Rattle.std.proofs.lemmas.Option.{get_or_from_slice_get, slice_get_within}
 use Rattle.event_graph.proofs.Lists.{get-set_same}
 use Rattle.zs_num.specs.declared.entry.Entry.{Entry}
 use Rattle.zs_num.specs.declared.request.Request.{Request}
 use Rattle.elf_load.specs.MemoryImage.{MemoryImage}
 use Rattle.rv_core.specs.CoreState.{InProgress}
 use Rattle.rv_core.specs.Step.{is_free}
-use Rattle.bound_core.specs.FetchLaws.{after_step, after_steps, begun_step, step_at}
 use Rattle.bound_core.specs.MachineWorld.{MachineWorld, serve}
 use Rattle.bound_core.specs.ReferenceMachine.{BoundState, access_served, turn, turn_at}
+use Rattle.bound_core.specs.Steps.{after_step, after_steps, begun_step}
 use Rattle.bound_core.specs.TimedCore.{TimedCore, after_instruction, after_instructions, asks, core_after_access, goes_on_alone, next_request, ran_to}
 
 -- a core that waits for an access is not free

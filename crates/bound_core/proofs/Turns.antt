@@ -9,6 +9,7 @@ use Rattle.rv_core.specs.Sound.{IsSoundCore}
 use Rattle.rv_core.specs.Step.{answered}
 use Rattle.bound_core.specs.Port.{Gains}
 use Rattle.bound_core.specs.TimedCore.{TimedCore, asks, core_after_access, next_request, ran_to}
+use Rattle.bound_core.specs.Pacing.{IsSoon}
 use Rattle.bound_core.specs.IntervalBounds.{latest_clock, left_of_instruction, most_accesses, most_left}
 use Rattle.bound_core.specs.Turn.{EndsInterval, IsOver, RunsToEnd, TakesTurn, TurnsToEnd}
 use Rattle.bound_core.proofs.Accesses.{RunsLocally, TakesAccess, left_answered, left_few, runs_locally, start_within, unfetched_left, waiting_unfetched}
@@ -30,8 +31,8 @@ asks_none None asked = refl
 asks_none (Some now) asked = cc
 
 -- what the code of a turn knows of local instructions
-pub ran_locally : (image : MemoryImage) (end : ℕ) (before ran : TimedCore) → ran ≡ ran_to image end before → RunsLocally end before ran
-ran_locally image end before ran is = subst (RunsLocally end before) (sym is) (runs_locally image end before)
+pub ran_locally : (image : MemoryImage) (end : ℕ) (before ran : TimedCore) → IsSoon before → ran ≡ ran_to image end before → RunsLocally end before ran
+ran_locally image end before ran soon is = subst (RunsLocally end before) (sym is) (runs_locally image end before soon)
 
 -- a core that has no access then is over
 pub ran_over : (image : MemoryImage) (end : ℕ) (before ran : TimedCore) → ran ≡ ran_to image end before → asks ran ≡ None → IsOver end ran

@@ -19,8 +19,8 @@ abbrev pub left_behind_fetch : Option InProgress → ℕ
 left_behind_fetch None = 0
 left_behind_fetch (Some now) = left_behind now.ending
 
--- How many accesses are left at most of what the core has begun: one is its instruction in progress; an instruction that
--- is fetched has 256 at most.
+-- How many accesses are left at most of what the core has begun: those of the instruction in progress; where one is
+-- being fetched, its fetch and 256 more; where one was fetched that is still to be executed, 256.
 abbrev pub most_left : CoreState → ℕ
 most_left core = if core.is_fetched then 256 else left_of_instruction core.instruction + left_behind_fetch core.instruction
 
@@ -30,7 +30,8 @@ most_left core = if core.is_fetched then 256 else left_of_instruction core.instr
 unfoldable pub most_accesses : (end : ℕ) → TimedCore → ℕ
 most_accesses end c = if nat_lt c.clock end then end - c.clock + 256 else most_left c.core
 
--- The latest cycle that the clock of a core can come to before the core ends its interval. An access takes 2^20 cycles
--- at most, and one more where it is the first behind a fetch.
+-- A cycle that the clock of a core does not pass before the core ends its interval. An access takes 2^20 cycles at
+-- most, and an instruction 192, where the access is the first behind a fetch; 2^21 is more than both. Where an
+-- instruction was fetched and has no access, its 192 cycles are fewer than the 256 accesses that it might have had.
 unfoldable pub latest_clock : (end : ℕ) → TimedCore → ℕ
 latest_clock end c = max (c.clock + 2 ^ 21 * most_left c.core) (end + 2 ^ 30)

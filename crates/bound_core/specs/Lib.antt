@@ -9,12 +9,15 @@ pub mod Laws
 pub mod MachineOfShards
 pub mod MachineWorld
 pub mod NumberedCores
+pub mod Pacing
 pub mod PairedPhases
 pub mod Port
 pub mod Reaching
 pub mod ReferenceMachine
+pub mod SamePath
 pub mod ShardPort
 pub mod ShardWorld
+pub mod Steps
 pub mod Correspondence
 pub mod TimedCore
 pub mod Turn

@@ -1,8 +1,8 @@
 -- What a port over a bare list of shards is seen as.
 use Rattle.std.specs.Prelude.{◌≡◌, ◌<◌, ℕ, Bool, ◌-◌, ◌^◌, max, List, [], ◌∷◌, length, map, slice_get, slice_index_or, Some}
 use Rattle.shard.specs.HaveL1i.{have_l1i}
-use Rattle.shard.specs.Served.{ShardState}
-use Rattle.bound_core.specs.ShardWorld.{ShardWorld, no_shard}
+use Rattle.shard.specs.Served.{ShardState, no_shard}
+use Rattle.bound_core.specs.ShardWorld.{ShardWorld}
 
 pub record ShardPortState : Type 0 where
   pub world : ShardWorld

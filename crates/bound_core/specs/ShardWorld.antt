@@ -1,10 +1,9 @@
 -- What serves the accesses of cores to shards: each access goes to the shard of its line.
-use Rattle.std.specs.Prelude.{ℕ, ◌+◌, max, List, [], length, replicate, slice_index, slice_index_or, slice_set}
+use Rattle.std.specs.Prelude.{ℕ, ◌+◌, max, List, length, replicate, slice_index, slice_set}
 use Rattle.zs_num.specs.declared.entry.Entry.{Entry}
 use Rattle.zs_num.specs.declared.entry.Outcome.TheVariants.{Hit}
 use Rattle.zs_num.specs.declared.request.Request.{Request}
-use Rattle.shard.specs.Coherence.{empty_caches}
-use Rattle.shard.specs.Served.{ShardState, met_by, shard_after, shard_reply}
+use Rattle.shard.specs.Served.{ShardState, met_by, shard_after, shard_for, shard_reply}
 use Rattle.zs_num.specs.Request.{bank_of}
 
 pub record ShardWorld : Type 0 where
@@ -20,14 +19,6 @@ begun_world cores shards = record { shards = shards; stamps = replicate cores 0 
 -- a shard whose last stamp is 0
 abbrev pub restarted : ShardState → ShardState
 restarted shard = record shard { last = 0 }
-
--- it stands where there is no shard
-abbrev pub no_shard : ShardState
-no_shard = record { number = 0; base = 0; size = 0; caches = empty_caches 0 0 0 0 0 0 0 0 0; bytes = []; marks = []; last = 0 }
-
--- the shard of a request: that of its bank
-abbrev pub shard_for : List ShardState → Request → ShardState
-shard_for shards request = slice_index_or shards (bank_of (length shards) request) no_shard
 
 -- an access that has its stamp and is not served yet
 abbrev pub unserved_entry : (core stamp start : ℕ) → Request → Entry

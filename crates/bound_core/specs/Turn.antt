@@ -14,8 +14,8 @@ abbrev pub IfTook : Turned → (Entry → Type 0) → Type 0
 IfTook (Took e) P = P e
 IfTook Ended P = Unit {0}
 
--- the core has halted, or come to the interval's end with no instruction in progress: no reply is waited for, and none
--- was fetched that is to be executed
+-- the core has halted, or come to the interval's end with no instruction in progress: no reply is waited for, and no
+-- instruction was fetched that is still to be executed
 pub record IsOver (end : ℕ) (c : TimedCore) : Type 0 where
   pub idle : c.core.instruction ≡ None
   pub over : IsSome c.core.halted ⊎ ((c.core.is_fetched ≡ false) × (end ≤ c.clock))

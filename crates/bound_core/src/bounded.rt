@@ -1,20 +1,24 @@
 //! One core in an interval.
-ghost use Rattle.std.specs.Prelude.{◌≡◌, ◌+◌, ◌-◌, ◌≤◌, ◌<◌, ◌^◌, max, false, ◌∷◌, [], Some, None, IfOk, OnOk, IsTrue, if◌then◌else◌};
+ghost use Rattle.std.specs.Prelude.{◌≡◌, ◌+◌, ◌-◌, ◌*◌, ◌≤◌, ◌<◌, ◌^◌, max, false, ◌∷◌, [], Some, None, IfOk, OnOk, IsTrue, if◌then◌else◌};
 ghost use Rattle.machine_desc.specs.InstructionCaches.{has_l1i};
 ghost use Rattle.zs_num.specs.Servable.{IsServable};
 ghost use Rattle.machine_desc.specs.Machine.{IsMachine};
 ghost use Rattle.rv_core.specs.Sound.{IsSoundCore};
-ghost use Rattle.rv_core.specs.Step.{cost, is_free};
+ghost use Rattle.rv_core.specs.Step.{cost, is_free, needs_fetch};
 ghost use Rattle.bound_core.specs.Port.{Gains};
 ghost use Rattle.bound_core.specs.TimedCore.{after_instruction, asks, beside_cycles, core_after_access, delayed, first_core, goes_on_alone, ran_to};
+ghost use Rattle.bound_core.specs.Pacing.{IsSoon};
 ghost use Rattle.bound_core.specs.IntervalBounds.{latest_clock, most_accesses};
-ghost use Rattle.bound_core.specs.Ahead.{ahead};
+ghost use Rattle.bound_core.specs.Ahead.{ahead, going};
 ghost use Rattle.bound_core.specs.Turn.{IfTook, IsOver, RunsToEnd, TurnsAs};
 
+use crate::loops::{Unfetched, WithinLine};
+use crate::paced::{behind, executes, first_pace, takes};
 use crate::{Port, Turned};
 use elf_load::Image;
 use event_graph::Expand;
 use machine_desc::Machine;
+use pipe_core::Pace;
 use rv_core::{Core, Program, Stepped, Why};
 use std::alloc::Global;
 use std::marker::Model;
@@ -24,7 +28,8 @@ use zs_num::{Cycle, Entry, NoMemory, Request};
 /// it writes: `beside_cycles`.
 pub const BESIDE_CYCLES: u64 = 258;
 
-/// A core in time: its state, its clock in cycles, and the bytes that it wrote on its console.
+/// A core in time: its state, its clock in cycles, the bytes that it wrote on its console, and the
+/// pace of its pipeline, if it has one.
 #[derive(Drop)]
 pub struct BoundCore {
     core: Core,
@@ -32,17 +37,19 @@ pub struct BoundCore {
     clock: Cycle,
     instructions: u64,
     console: Vec<u8>,
+    pace: Option<Pace>,
 }
 
 impl Model for BoundCore {
-    ghost use Rattle.std.specs.Prelude.{◌≤◌, ◌-◌, vec_len, vec_capacity};
+    ghost use Rattle.std.specs.Prelude.{◌≤◌, ◌-◌, IfSome, vec_len, vec_capacity};
+    ghost use Rattle.pipe_core.specs.PaceLaws.{GoesOnFrom};
     ghost use Rattle.bound_core.specs.NumberedCores.{NumberedCore};
 
     ghost Value = { NumberedCore };
 
-    ghost view = { λ b. record { number = b.number; timed = record { core = b.core; clock = b.clock; instructions = b.instructions; console = b.console.items }; spare = vec_capacity b.console - vec_len b.console } };
+    ghost view = { λ b. record { number = b.number; timed = record { core = b.core; clock = b.clock; instructions = b.instructions; console = b.console.items; pace = b.pace }; spare = vec_capacity b.console - vec_len b.console } };
 
-    ghost invariant = { λ b. b.instructions ≤ b.clock };
+    ghost invariant = { λ b. (b.instructions ≤ b.clock) × IfSome b.pace (GoesOnFrom b.clock) };
 }
 
 impl BoundCore {
@@ -81,6 +88,7 @@ impl BoundCore {
             clock: 0,
             instructions: 0,
             console: Vec::new(alloc),
+            pace: first_pace(alloc, &machine.pipe)?,
         })
     }
 
@@ -144,10 +152,11 @@ impl BoundCore {
         &self.core
     }
 
-    /// All that the core asks for can be served.
+    /// All that the core asks for can be served, and its pipeline goes on from its clock.
     #[inline(always)]
     fn keeps_sound(&self)
-        ensures { IsSoundCore self.now.timed.core }
+        ensures sound { IsSoundCore self.now.timed.core }
+        ensures soon { IsSoon self.now.timed }
     {
         let _request = self.core.request();
     }
@@ -176,12 +185,12 @@ impl BoundCore {
         ensures core { IfTook result (λ e. e.core ≡ self.old.number) }
         ensures start { IfTook result (λ e. e.start ≡ (ran_to (P.image program.now) end self.old.timed).clock) }
         ensures request { IfTook result (λ e. asks (ran_to (P.image program.now) end self.old.timed) ≡ Some e.request) }
-        ensures starts { IfTook result (λ e. e.start ≤ max self.old.timed.clock end + 1) }
-        ensures begins { IfTook result (λ e. e.start ≤ latest_clock end self.old.timed) }
+        ensures starts { IfTook result (λ e. e.start ≤ max self.old.timed.clock end + 192) }
+        ensures starts_by_latest { IfTook result (λ e. e.start ≤ latest_clock end self.old.timed) }
         ensures fewer { IfTook result (λ e. most_accesses end self.new.timed < most_accesses end self.old.timed) }
         ensures few { most_accesses end self.old.timed ≤ end - self.old.timed.clock + 257 }
         ensures begun { self.old.timed.clock ≤ self.new.timed.clock }
-        ensures within { self.new.timed.clock ≤ max self.old.timed.clock end + 2 ^ 20 + 1 }
+        ensures within { self.new.timed.clock ≤ max self.old.timed.clock end + 2 ^ 20 + 192 }
         ensures latest { latest_clock end self.new.timed ≤ latest_clock end self.old.timed }
         ensures number { self.new.number ≡ self.old.number }
         ensures memory { self.new.timed.core.memory ≡ self.old.timed.core.memory }
@@ -281,58 +290,170 @@ impl BoundCore {
     /// Executes its local instructions: up to an access, a halt or the end of the interval.
     #[inline(always)]
     fn run_local<P: Program>(&mut self, program: &P, end: Cycle)
-        requires { max self.old.timed.clock end < 2 ^ 63 }
+        requires { max self.old.timed.clock end ≤ 2 ^ 61 }
         ensures value { self.new.timed ≡ ran_to (P.image program.now) end self.old.timed }
         ensures sound { IsSoundCore self.old.timed.core }
+        ensures soon { IsSoon self.old.timed }
         ensures begun { self.old.timed.clock ≤ self.new.timed.clock }
-        ensures within { self.new.timed.clock ≤ max self.old.timed.clock end + 1 }
+        ensures within { self.new.timed.clock ≤ max self.old.timed.clock end + 192 }
         ensures number { self.new.number ≡ self.old.number }
         ensures memory { self.new.timed.core.memory ≡ self.old.timed.core.memory }
         ensures fetching { self.new.timed.core.fetching ≡ self.old.timed.core.fetching }
         ensures spare { self.new.spare ≡ self.old.spare }
     {
-        if self.core.is_fetching() {
+        self.keeps_sound();
+        if self.pace.is_some() {
+            self.run_paced(program, end);
+        } else if self.core.is_fetching() {
             self.run_fetching(program, end);
         } else {
-            self.run_executing(program, end);
+            self.run_on::<P, Unfetched>(program, end, false);
         }
     }
 
-    /// Those of a core that does not fetch.
-    #[inline(always)]
-    fn run_executing<P: Program>(&mut self, program: &P, end: Cycle)
-        requires fetching { self.old.timed.core.fetching ≡ false }
-        requires unfetched { self.old.timed.core.is_fetched ≡ false }
+    /// Those of a core with a pipeline.
+    #[inline(never)]
+    fn run_paced<P: Program>(&mut self, program: &P, end: Cycle)
+        requires { max self.old.timed.clock end ≤ 2 ^ 61 }
         ensures value { self.new.timed ≡ ran_to (P.image program.now) end self.old.timed }
         ensures number { self.new.number ≡ self.old.number }
         ensures memory { self.new.timed.core.memory ≡ self.old.timed.core.memory }
-        ensures fetching { self.new.timed.core.fetching ≡ false }
+        ensures fetching { self.new.timed.core.fetching ≡ self.old.timed.core.fetching }
         ensures spare { self.new.spare ≡ self.old.spare }
     {
-        let most = end.saturating_sub(self.clock);
-        let mut counted = 0;
-        let mut goes_on = self.core.is_free();
-        while goes_on && counted < most {
-            goes_on = self.step(program, &mut counted);
+        while self.goes_on(end) {
+            self.step_paced(program);
         }
-        self.clock += counted;
-        self.instructions += counted;
+    }
+
+    /// Whether it goes on by itself: it comes to an instruction before the interval ends, or has
+    /// fetched one.
+    #[inline(always)]
+    fn goes_on(&self, end: Cycle) -> bool
+        ensures { result ≡ goes_on_alone end self.now.timed }
+    {
+        self.core.is_free() && (self.core.is_fetched() || self.clock < end)
     }
 
     /// Those of a core that fetches. One that has fetched an instruction executes it also behind the
     /// end.
-    #[inline(never)]
+    #[inline(always)]
     fn run_fetching<P: Program>(&mut self, program: &P, end: Cycle)
         requires fetching { IsTrue self.old.timed.core.fetching }
         requires clock { max self.old.timed.clock end < 2 ^ 63 }
+        requires pace { self.old.timed.pace ≡ None }
         ensures value { self.new.timed ≡ ran_to (P.image program.now) end self.old.timed }
         ensures number { self.new.number ≡ self.old.number }
         ensures memory { self.new.timed.core.memory ≡ self.old.timed.core.memory }
         ensures fetching { IsTrue self.new.timed.core.fetching }
         ensures spare { self.new.spare ≡ self.old.spare }
+        ensures pace { self.new.timed.pace ≡ None }
+    {
+        self.run_in_line(program, end);
+        self.run_past_line(program, end);
+    }
+
+    /// Those from where the next instruction was fetched, or has to be.
+    #[inline(always)]
+    fn run_past_line<P: Program>(&mut self, program: &P, end: Cycle)
+        requires fetching { IsTrue self.old.timed.core.fetching }
+        requires clock { max self.old.timed.clock end < 2 ^ 63 }
+        requires pace { self.old.timed.pace ≡ None }
+        ensures value { self.new.timed ≡ ran_to (P.image program.now) end self.old.timed }
+        ensures number { self.new.number ≡ self.old.number }
+        ensures memory { self.new.timed.core.memory ≡ self.old.timed.core.memory }
+        ensures fetching { IsTrue self.new.timed.core.fetching }
+        ensures spare { self.new.spare ≡ self.old.spare }
+        ensures pace { self.new.timed.pace ≡ None }
     {
         while self.core.is_free() && (self.core.is_fetched() || self.clock < end) {
             self.step_fetching(program);
+            self.run_in_line(program, end);
+        }
+    }
+
+    /// Those that stand in the line of its latest fetch, unless an instruction was fetched that is
+    /// still to be executed.
+    #[inline(never)]
+    fn run_in_line<P: Program>(&mut self, program: &P, end: Cycle)
+        requires fetching { IsTrue self.old.timed.core.fetching }
+        requires pace { self.old.timed.pace ≡ None }
+        ensures same_end { ran_to (P.image program.now) end self.new.timed ≡ ran_to (P.image program.now) end self.old.timed }
+        ensures fetched { self.new.timed.core.is_fetched ≡ self.old.timed.core.is_fetched }
+        ensures begun { self.old.timed.clock ≤ self.new.timed.clock }
+        ensures within { self.new.timed.clock ≤ max self.old.timed.clock end }
+        ensures nearer { 2 * (end - self.new.timed.clock) + going (is_free self.new.timed.core) ≤ 2 * (end - self.old.timed.clock) + going (is_free self.old.timed.core) }
+        ensures number { self.new.number ≡ self.old.number }
+        ensures memory { self.new.timed.core.memory ≡ self.old.timed.core.memory }
+        ensures fetching { IsTrue self.new.timed.core.fetching }
+        ensures spare { self.new.spare ≡ self.old.spare }
+        ensures pace { self.new.timed.pace ≡ None }
+    {
+        if !self.core.is_fetched() {
+            self.run_on::<P, WithinLine>(program, end, true);
+        }
+    }
+
+    /// Executes instructions that do not have to be fetched: of a core that fetches, those that stand
+    /// in the line of its latest fetch.
+    #[inline(always)]
+    fn run_on<P: Program, T>(&mut self, program: &P, end: Cycle, fetching: bool)
+        requires fetching { self.old.timed.core.fetching ≡ fetching }
+        requires unfetched { self.old.timed.core.is_fetched ≡ false }
+        requires pace { self.old.timed.pace ≡ None }
+        ensures same_end { ran_to (P.image program.now) end self.new.timed ≡ ran_to (P.image program.now) end self.old.timed }
+        ensures stops { fetching ≡ false → goes_on_alone end self.new.timed ≡ false }
+        ensures unfetched { self.new.timed.core.is_fetched ≡ false }
+        ensures begun { self.old.timed.clock ≤ self.new.timed.clock }
+        ensures within { self.new.timed.clock ≤ max self.old.timed.clock end }
+        ensures nearer { 2 * (end - self.new.timed.clock) + going (is_free self.new.timed.core) ≤ 2 * (end - self.old.timed.clock) + going (is_free self.old.timed.core) }
+        ensures number { self.new.number ≡ self.old.number }
+        ensures memory { self.new.timed.core.memory ≡ self.old.timed.core.memory }
+        ensures fetching { self.new.timed.core.fetching ≡ fetching }
+        ensures spare { self.new.spare ≡ self.old.spare }
+        ensures pace { self.new.timed.pace ≡ None }
+    {
+        let most = end.saturating_sub(self.clock);
+        let mut counted = 0;
+        let mut goes_on = self.core.is_free();
+        while goes_on && counted < most && self.is_there(program, fetching) {
+            goes_on = self.step::<P, T>(program, &mut counted);
+        }
+        self.clock += counted;
+        self.instructions += counted;
+    }
+
+    /// Whether the next instruction does not have to be fetched, by the line in which it stands.
+    #[inline(always)]
+    fn is_there<P: Program>(&self, _program: &P, fetching: bool) -> bool
+        requires { self.now.timed.core.fetching ≡ fetching }
+        ensures there { IsTrue result → needs_fetch (P.image _program.now) self.now.timed.core ≡ false }
+        ensures never { fetching ≡ false → IsTrue result }
+    {
+        !fetching || self.core.is_in_latest_line()
+    }
+
+    /// The next step of a core with a pipeline: it asks for its next instruction, or executes it,
+    /// counts it and lets it issue. The registers are read before it is executed.
+    #[inline(always)]
+    #[tactic(auto, unfolding(crate::specs::TimedCore::after_instruction))]
+    fn step_paced<P: Program>(&mut self, program: &P)
+        requires free { IsTrue (is_free self.old.timed.core) }
+        requires clock { self.old.timed.clock ≤ 2 ^ 61 }
+        ensures value { self.new.timed ≡ after_instruction (P.image program.now) self.old.timed }
+        ensures unfetched { self.new.timed.core.is_fetched ≡ false }
+        ensures within { self.new.timed.clock ≤ self.old.timed.clock + 192 }
+        ensures number { self.new.number ≡ self.old.number }
+        ensures memory { self.new.timed.core.memory ≡ self.old.timed.core.memory }
+        ensures fetching { self.new.timed.core.fetching ≡ self.old.timed.core.fetching }
+        ensures spare { self.new.spare ≡ self.old.spare }
+    {
+        let pc = self.core.pc();
+        let upcoming = self.core.upcoming(program);
+        let taken = takes(&self.core, upcoming);
+        if executes(&mut self.core, program) && is_counted(self.core.halted()) {
+            self.clock = behind(&mut self.pace, upcoming, pc, taken, self.clock);
+            self.instructions += 1;
         }
     }
 
@@ -343,11 +464,14 @@ impl BoundCore {
         requires free { IsTrue (is_free self.old.timed.core) }
         requires fetching { IsTrue self.old.timed.core.fetching }
         requires clock { self.old.timed.clock < 2 ^ 64 - 1 }
+        requires pace { self.old.timed.pace ≡ None }
         ensures value { self.new.timed ≡ after_instruction (P.image program.now) self.old.timed }
+        ensures unfetched { self.new.timed.core.is_fetched ≡ false }
         ensures number { self.new.number ≡ self.old.number }
         ensures memory { self.new.timed.core.memory ≡ self.old.timed.core.memory }
         ensures fetching { IsTrue self.new.timed.core.fetching }
         ensures spare { self.new.spare ≡ self.old.spare }
+        ensures pace { self.new.timed.pace ≡ None }
     {
         if let Stepped::Executed { .. } = self.core.step_fetching(program) {
             if is_counted(self.core.halted()) {
@@ -361,20 +485,24 @@ impl BoundCore {
     /// whether the core comes to a next instruction. The clock and the count of instructions stay
     /// behind, by what was counted: so the loop has them at hand, and not in memory.
     #[inline(always)]
-    #[tactic(auto, unfolding(crate::specs::TimedCore::after_instruction, rv_core::specs::Step::needs_fetch))]
-    fn step<P: Program>(&mut self, program: &P, counted: &mut u64) -> bool
+    #[tactic(auto, unfolding(crate::specs::TimedCore::after_instruction))]
+    fn step<P: Program, T>(&mut self, program: &P, counted: &mut u64) -> bool
         requires free { IsTrue (is_free self.old.timed.core) }
-        requires fetching { self.old.timed.core.fetching ≡ false }
+        requires unfetched { self.old.timed.core.is_fetched ≡ false }
+        requires there { needs_fetch (P.image program.now) self.old.timed.core ≡ false }
         requires few { counted.old < 2 ^ 64 - 1 }
+        requires pace { self.old.timed.pace ≡ None }
         ensures value { ahead counted.new self.new.timed ≡ after_instruction (P.image program.now) (ahead counted.old self.old.timed) }
         ensures free { result ≡ is_free self.new.timed.core }
+        ensures unfetched { self.new.timed.core.is_fetched ≡ false }
         ensures clock { self.new.timed.clock ≡ self.old.timed.clock }
         ensures number { self.new.number ≡ self.old.number }
         ensures memory { self.new.timed.core.memory ≡ self.old.timed.core.memory }
-        ensures fetching { self.new.timed.core.fetching ≡ false }
+        ensures fetching { self.new.timed.core.fetching ≡ self.old.timed.core.fetching }
         ensures spare { self.new.spare ≡ self.old.spare }
+        ensures pace { self.new.timed.pace ≡ None }
     {
-        let goes_on = self.core.step(program);
+        let goes_on = self.core.step::<P, T>(program);
         if goes_on || is_counted(self.core.halted()) {
             *counted += 1;
         }

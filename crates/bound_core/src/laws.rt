@@ -3,13 +3,14 @@ ghost use Rattle.std.specs.Prelude.{◌≡◌, ℕ, List};
 ghost use Rattle.zs_num.specs.declared.entry.Entry.{Entry};
 ghost use Rattle.zs_num.specs.declared.request.Request.{Request};
 ghost use Rattle.elf_load.specs.MemoryImage.{MemoryImage};
-ghost use Rattle.bound_core.specs.FetchLaws.{FetchesChangeTimesAndOutcomesAlone, LinesAreFetchedOnce, TurnsAreSteps};
+ghost use Rattle.bound_core.specs.FetchLaws.{FetchesAreExecuted, FetchesChangeTimesAndOutcomesAlone, TurnsAreSteps};
 ghost use Rattle.bound_core.specs.HistoryLaws.{HistoriesArePhases, PhasesAreHistories, RecordedOrderIsHistory, TurnsAreTheCoresOwn, TurnsMakeAHistory};
 ghost use Rattle.bound_core.specs.Intervals.{FirstIntervalBegins, NextIntervalBegins};
 ghost use Rattle.bound_core.specs.Laws.{AccessesAreFew, EndsWhereAllAreOver, LocalInstructionsAreAlone, LocalInstructionsEnd, TurnIsScheduled, TurnsAreScheduled};
 ghost use Rattle.bound_core.specs.MachineOfShards.{HistoriesAreRunsOfTheMachine, ShardsDoAsTheMachine};
 ghost use Rattle.bound_core.specs.PairedPhases.{HistoriesArePaired, PhasesArePaired};
 ghost use Rattle.bound_core.specs.Reaching.{BeginsAtItself, GoesOnByATurn, GoesOnByLocalInstructions, GoesOnToTheEnd, IsThePhaseAtTheEnd};
+ghost use Rattle.bound_core.specs.SamePath.{AccessesTakeAsLongWhenever, PipelinesAreNoFaster, PipelinesChangeTimesAlone};
 ghost use Rattle.rv_decode.specs.declared.inst.Inst.{Inst};
 ghost use Rattle.bound_core.specs.InstructionLaws.{CoreInMemory, InstructionsAreSteps, LoadsAreWhole, OtherBytesStay, PairAloneStores, PairStores, StoreBetweenEndsPair, StoredIsLoaded, StoresAreWhole, WriteBetweenEndsPair};
 
@@ -193,12 +194,13 @@ pub fn intervals_begin()
     shard::laws::new_shards_stand();
 }
 
-/// Behind the fetch of a line its instruction is executed: it is not fetched again.
-pub fn lines_are_fetched_once()
-    ensures { LinesAreFetchedOnce }
+/// Right behind its fetch an instruction is executed, whatever the reply: the core does not ask for
+/// it again.
+pub fn fetches_are_executed()
+    ensures { FetchesAreExecuted }
 {}
 
-/// A turn of the machine of one thread is steps of its core, the last of which makes the access.
+/// A turn of the machine of one thread is steps of its core.
 pub fn turns_are_steps()
     ensures { TurnsAreSteps }
 {}
@@ -212,3 +214,13 @@ pub fn fetches_change_times_and_outcomes_alone()
     rv_core::laws::reached_cores_are_sound();
     rv_core::laws::cores_stay_sound();
 }
+
+/// Whatever the order in which cores step, machines that differ in their pipelines alone do the
+/// same by the same steps: registers, consoles, replies, outcomes, memory and cache lists are the
+/// same. And no clock is earlier than without pipelines. Both hold where the time of an access does
+/// not depend on when it starts, which `times` says of every machine.
+pub fn same_path()
+    ensures path { PipelinesChangeTimesAlone }
+    ensures clocks { PipelinesAreNoFaster }
+    ensures times { AccessesTakeAsLongWhenever }
+{}

@@ -1,5 +1,5 @@
 use Rattle.std.proofs.Common.{arith}
-use Rattle.bound_core.proofs.ShardPorts.{all_restarted}
+use Rattle.bound_core.proofs.AllShards.{all_restarted}
 use Rattle.bound_core.proofs.shard_port.restart_all.Goals as goal
 
 pub returns : goal.returns

@@ -1,40 +1,5 @@
-use Rattle.std.proofs.Common.{◌≡◌, ◌<◌, ◌∙◌, ◌⊎◌, ap, inl, inr, max, arith, true, rules}
-use Rattle.rv_core.specs.Step.{is_free}
-use Rattle.bound_core.specs.TimedCore.{TimedCore, after_instruction, goes_on_alone, ran_to}
-use Rattle.bound_core.proofs.Instructions.{IsWithin, going, goes_on_by, goes_on_fetched, nearer_fetching, next_within, same_end}
+use Rattle.std.proofs.Common.{◌∙◌}
 use Rattle.bound_core.proofs.bounded.BoundCore.run_fetching.Goals as goal
-use Rattle.bound_core.proofs.bounded.BoundCore.run_fetching.Goals.{then-is_fetched, else-is_fetched}
 
-pub loop-self-smaller : goal.loop-self-smaller
-loop-self-smaller g c =
-    let image = g.P.Program.image c.args.program.now in
-    let core = c.loop-self.self.timed in
-    let after = c.step_fetching.new.self.timed in
-    let next : after ≡ after_instruction image core = c.step_fetching.ensures.value in
-    let free : is_free core.core ≡ true = search rules in
-    let on : (core.core.is_fetched ≡ true) ⊎ (core.clock < c.args.end) = elim c.if-is_fetched.branch [ then-is_fetched w ↦ inl (search rules) | else-is_fetched w ↦ inr (search rules) ] in
-    let clock : after.clock ≡ (after_instruction image core).clock = ap (λ (t : TimedCore). t.clock) next in
-    let frees : going (is_free after.core) ≡ going (is_free (after_instruction image core).core) = ap (λ (t : TimedCore). going (is_free t.core)) next in
-    let fetched : going after.core.is_fetched ≡ going (after_instruction image core).core.is_fetched = ap (λ (t : TimedCore). going t.core.is_fetched) next in
-    omega (arith, clock, frees, fetched, nearer_fetching image c.args.end core free on)
-
-pub loop-self-preserved : goal.loop-self-preserved
-loop-self-preserved g c =
-    let image = g.P.Program.image c.args.program.now in
-    let was = c.loop-self.invariant in
-    let core = c.loop-self.self.timed in
-    let most = max c.args.self.now.timed.clock c.args.end in
-    let next : c.step_fetching.new.self.timed ≡ after_instruction image core = c.step_fetching.ensures.value in
-    let free : is_free core.core ≡ true = search rules in
-    let on : (core.core.is_fetched ≡ true) ⊎ (core.clock < c.args.end) = elim c.if-is_fetched.branch [ then-is_fetched w ↦ inl (search rules) | else-is_fetched w ↦ inr (search rules) ] in
-    let goes : goes_on_alone c.args.end core ≡ true = elim on [ inl fetched ↦ goes_on_fetched c.args.end core free fetched | inr early ↦ goes_on_by c.args.end core free early ] in
-    let within : IsWithin most (after_instruction image core) = next_within image c.args.end most core (omega arith) on (record { clock = was.clock; fetched = was.fetched }) in
-    record {
-      same_end = ap (ran_to image c.args.end) next ∙ same_end image c.args.end core goes ∙ was.same_end;
-      fetching = c.step_fetching.ensures.fetching;
-      clock = rw next within.clock;
-      fetched = rw next within.fetched;
-      number = c.step_fetching.ensures.number ∙ was.number;
-      memory = c.step_fetching.ensures.memory ∙ was.memory;
-      spare = c.step_fetching.ensures.spare ∙ was.spare;
-    }
+pub returns-clause-value : goal.returns-clause-value
+returns-clause-value g c = c.run_past_line.ensures.value ∙ c.run_in_line.ensures.same_end

@@ -8,7 +8,7 @@ pub loop-entry-init : goal.loop-entry-init
 loop-entry-init g c =
     let end = c.args.end in
     let core = c.args.self.now.timed in
-    let few : most_accesses end core ≤ end - core.clock + 257 = most_few end core (λ late. left_few core.core c.keeps_sound.ensures) in
+    let few : most_accesses end core ≤ end - core.clock + 257 = most_few end core (λ late. left_few core.core c.keeps_sound.ensures.sound) in
     record {
       taken = none_taken (g.X.Expand.time c.args.expansion.now) (g.P.Program.image c.args.program.now) end g.Q.Port.gives g.Q.Port.logged c.args.self.now.number c.args.port.now core;
       core = c.requires.core;
@@ -33,7 +33,7 @@ pub turn-requires-clause-clock : goal.turn-requires-clause-clock
 turn-requires-clause-clock g c =
     let end = c.args.end in
     let first = c.args.self.now.timed in
-    let small : latest_clock end first ≤ max first.clock end + 2 ^ 30 = latest_small end first (left_few first.core c.keeps_sound.ensures) in
+    let small : latest_clock end first ≤ max first.clock end + 2 ^ 30 = latest_small end first (left_few first.core c.keeps_sound.ensures.sound) in
     omega (arith, clock_within end c.loop-entry.self.timed, c.loop-entry.invariant.latest, small, c.requires.clock, c.requires.end)
 
 pub turn-requires-clause-l1i : goal.turn-requires-clause-l1i
@@ -48,7 +48,7 @@ loop-entry-preserved g c =
     let now = c.loop-entry.self.timed in
     let was = c.loop-entry.invariant in
     let did = c.in-Took.ensures in
-    let start : c.in-Took._entry.start ≤ latest_clock end first = omega (arith, did.begins, was.latest) in
+    let start : c.in-Took._entry.start ≤ latest_clock end first = omega (arith, did.starts_by_latest, was.latest) in
     record {
       taken = one_more (g.X.Expand.time c.args.expansion.now) (g.P.Program.image c.args.program.now) end g.Q.Port.gives g.Q.Port.logged c.args.self.now.number c.args.port.now c.loop-entry.port c.turn.new.port first now c.turn.new.self.timed c.in-Took._entry
           was.taken did.turn (did.core ∙ was.number) start did.fewer did.port_logged;
@@ -82,11 +82,11 @@ returns-clause-spare g c =
 pub returns-clause-few : goal.returns-clause-few
 returns-clause-few g c =
     let core = c.args.self.now.timed in
-    most_few c.args.end core (λ late. left_few core.core c.keeps_sound.ensures)
+    most_few c.args.end core (λ late. left_few core.core c.keeps_sound.ensures.sound)
 
 pub returns-clause-within : goal.returns-clause-within
 returns-clause-within g c =
     let end = c.args.end in
     let first = c.args.self.now.timed in
-    let small : latest_clock end first ≤ max first.clock end + 2 ^ 30 = latest_small end first (left_few first.core c.keeps_sound.ensures) in
+    let small : latest_clock end first ≤ max first.clock end + 2 ^ 30 = latest_small end first (left_few first.core c.keeps_sound.ensures.sound) in
     omega (arith, clock_within end c.turn.new.self.timed, c.in_default.ensures.latest, c.loop-entry.invariant.latest, small)

@@ -7,13 +7,13 @@ use Rattle.bound_core.proofs.Accesses.{fewer, left_few, most_few, not_later, ran
 use Rattle.bound_core.proofs.Turns.{over_left, ran_locally, ran_over, starts_within, takes_access, MakesAccess}
 use Rattle.bound_core.proofs.bounded.BoundCore.turn.Goals as goal
 
-pub returns-in-Some-clause-begins : goal.returns-in-Some-clause-begins
-returns-in-Some-clause-begins g c =
+pub returns-in-Some-clause-starts_by_latest : goal.returns-in-Some-clause-starts_by_latest
+returns-in-Some-clause-starts_by_latest g c =
     let before = c.args.self.now.timed in
     let ran = c.run_local.new.self.timed in
     let sound : IsSoundCore ran.core = search rules in
     let asked : asks ran ≡ Some c.in-Some.request = search rules in
-    let runs = ran_locally (g.P.Program.image c.args.program.now) c.args.end before ran c.run_local.ensures.value in
+    let runs = ran_locally (g.P.Program.image c.args.program.now) c.args.end before ran c.run_local.ensures.soon c.run_local.ensures.value in
     let start : ran.clock ≤ latest_clock c.args.end before = starts_within c.args.end before ran c.in-Some.request runs sound asked in
     omega (arith, start, c.access.ensures.start)
 
@@ -25,7 +25,7 @@ returns-in-Some-clause-fewer g c =
     let sound : IsSoundCore ran.core = search rules in
     let asked : asks ran ≡ Some c.in-Some.request = search rules in
     let access : MakesAccess time c.args.end before ran c.access.new.self.timed c.in-Some.request c.access.result = record {
-      runs = ran_locally (g.P.Program.image c.args.program.now) c.args.end before ran c.run_local.ensures.value;
+      runs = ran_locally (g.P.Program.image c.args.program.now) c.args.end before ran c.run_local.ensures.soon c.run_local.ensures.value;
       sound = sound;
       asked = asked;
       left = c.access.ensures.left;
@@ -47,7 +47,7 @@ returns-in-Some-clause-latest g c =
     let sound : IsSoundCore ran.core = search rules in
     let asked : asks ran ≡ Some c.in-Some.request = search rules in
     let access : MakesAccess time c.args.end before ran c.access.new.self.timed c.in-Some.request c.access.result = record {
-      runs = ran_locally (g.P.Program.image c.args.program.now) c.args.end before ran c.run_local.ensures.value;
+      runs = ran_locally (g.P.Program.image c.args.program.now) c.args.end before ran c.run_local.ensures.soon c.run_local.ensures.value;
       sound = sound;
       asked = asked;
       left = c.access.ensures.left;
@@ -75,4 +75,4 @@ returns-in-None-clause-latest g c =
     let asked : asks ran ≡ None = search rules in
     let image = g.P.Program.image c.args.program.now in
     let over : IsOver c.args.end ran = ran_over image c.args.end before ran c.run_local.ensures.value asked in
-    ran_not_later c.args.end before ran (ran_locally image c.args.end before ran c.run_local.ensures.value) (over_left c.args.end ran sound over)
+    ran_not_later c.args.end before ran (ran_locally image c.args.end before ran c.run_local.ensures.soon c.run_local.ensures.value) (over_left c.args.end ran sound over)

@@ -3,10 +3,11 @@ use Rattle.std.specs.Prelude.{slice_index, slice_set}
 use Rattle.zs_num.specs.Servable.{IsServable}
 use Rattle.zs_num.specs.declared.entry.Entry.{Entry}
 use Rattle.bound_core.specs.ShardPort.{IsShardAt, IsShardPort, ShardPortState, base_of, greatest_stamp, l1i_of, room_of, size_of}
-use Rattle.bound_core.specs.ShardWorld.{ShardWorld, shard_for, shards_serve}
+use Rattle.bound_core.specs.ShardWorld.{ShardWorld, shards_serve}
 use Rattle.shard.specs.HaveL1i.{have_l1i}
-use Rattle.shard.specs.Served.{CanServe, IsServedBy, ShardState, shard_after}
-use Rattle.bound_core.proofs.ShardPorts.{at_most_greatest, can_serve, greatest_after, last_at_most, port_set, served_is, shard_is, shard_there, stamp_is}
+use Rattle.shard.specs.Served.{CanServe, IsServedBy, ShardState, shard_after, shard_for}
+use Rattle.bound_core.proofs.AllShards.{shard_at}
+use Rattle.bound_core.proofs.ShardPorts.{at_most_greatest, can_serve, greatest_after, last_at_most, port_set, served_is, shard_there, stamp_is}
 use Rattle.bound_core.proofs.shard_port.ShardPortPort.access.Goals as goal
 use Rattle.zs_num.specs.Request.{bank_of}
 
@@ -15,7 +16,7 @@ serve-entry-requires-clause-can c =
     let w : ShardWorld = record { shards = c.self.inside.shards.items; stamps = c.self.inside.stamps.items } in
     let port : IsShardPort (record { world = w; core = c.self.inside.core }) = record { shards = c.self.invariant.shards; core_is = c.self.invariant.core_is } in
     let is : c.index_mut.result.now ≡ shard_for w.shards c.args.request =
-    shard_is w c.self.inside.core c.args.start c.args.request c.index_mut.result.now _ port.shards.some (search rules) c.index_mut.ensures.value
+    shard_at w.shards c.args.request c.index_mut.result.now _ port.shards.some (search rules) c.index_mut.ensures.value
     in
     let servable : IsServable (base_of w) (size_of w) (l1i_of w) c.args.request =
     subst (λ (p : ShardPortState). IsServable (base_of p.world) (size_of p.world) (l1i_of p.world) c.args.request) (sym c.self.view_is) c.requires.servable
@@ -26,7 +27,7 @@ pub serve-entry-requires-clause-own_stamp : goal.serve-entry-requires-clause-own
 serve-entry-requires-clause-own_stamp c =
     let w : ShardWorld = record { shards = c.self.inside.shards.items; stamps = c.self.inside.stamps.items } in
     let is : c.index_mut.result.now ≡ shard_for w.shards c.args.request =
-    shard_is w c.self.inside.core c.args.start c.args.request c.index_mut.result.now _ c.self.invariant.shards.some (search rules) c.index_mut.ensures.value
+    shard_at w.shards c.args.request c.index_mut.result.now _ c.self.invariant.shards.some (search rules) c.index_mut.ensures.value
     in
     let room : 1 ≤ room_of w = subst (λ (p : ShardPortState). 1 ≤ room_of p.world) (sym c.self.view_is) c.requires.room in
     let last : c.index_mut.result.now.last ≡ (shard_for w.shards c.args.request).last = ap (λ (s : ShardState). s.last) is in
@@ -45,7 +46,7 @@ invariant_of-self c =
     let port : IsShardPort (record { world = w; core = c.self.inside.core }) = record { shards = c.self.invariant.shards; core_is = c.self.invariant.core_is } in
     let number : c.remainder-bank.result ≡ bank_of (length w.shards) c.args.request = search rules in
     let is : c.index_mut.result.now ≡ shard_for w.shards c.args.request =
-    shard_is w c.self.inside.core c.args.start c.args.request c.index_mut.result.now _ port.shards.some number c.index_mut.ensures.value
+    shard_at w.shards c.args.request c.index_mut.result.now _ port.shards.some number c.index_mut.ensures.value
     in
     let at = port.shards.each (bank_of (length w.shards) c.args.request) (shard_for w.shards c.args.request) (shard_there w c.self.inside.core c.args.start c.args.request port.shards.some) in
     let kept = c.serve-entry.ensures in
@@ -66,7 +67,7 @@ returns-clause-gives c =
     let core = c.self.inside.core in
     let number : c.remainder-bank.result ≡ bank_of (length w.shards) c.args.request = search rules in
     let is : c.index_mut.result.now ≡ shard_for w.shards c.args.request =
-    shard_is w core c.args.start c.args.request c.index_mut.result.now _ c.self.invariant.shards.some number c.index_mut.ensures.value
+    shard_at w.shards c.args.request c.index_mut.result.now _ c.self.invariant.shards.some number c.index_mut.ensures.value
     in
     let entry = c.serve-entry.result in
     let stamp : c.index.result.now ≡ slice_index w.stamps core = stamp_is w.stamps core c.from-core.result c.index.result.now c.self.invariant.core_is c.from-core.ensures c.index.ensures in
@@ -89,7 +90,7 @@ returns-clause-room c =
     let core = c.self.inside.core in
     let number : c.remainder-bank.result ≡ bank_of (length w.shards) c.args.request = search rules in
     let is : c.index_mut.result.now ≡ shard_for w.shards c.args.request =
-    shard_is w core c.args.start c.args.request c.index_mut.result.now _ c.self.invariant.shards.some number c.index_mut.ensures.value
+    shard_at w.shards c.args.request c.index_mut.result.now _ c.self.invariant.shards.some number c.index_mut.ensures.value
     in
     let entry = c.serve-entry.result in
     let stamp : c.index.result.now ≡ slice_index w.stamps core = stamp_is w.stamps core c.from-core.result c.index.result.now c.self.invariant.core_is c.from-core.ensures c.index.ensures in

@@ -1,25 +1,26 @@
 -- what is left to run leads to the same end
-use Rattle.std.proofs.Common.{◌≡◌, ◌≤◌, ◌+◌, ◌-◌, ◌*◌, false}
+use Rattle.std.proofs.Common.{◌≡◌, ◌≤◌, ◌+◌, ◌-◌, ◌*◌, false, None}
 use Rattle.rv_core.specs.Step.{is_free}
 use Rattle.bound_core.specs.TimedCore.{ran_to}
-use Rattle.bound_core.specs.Ahead.{ahead}
-use Rattle.bound_core.proofs.Instructions.{going}
-use Rattle.bound_core.proofs.bounded.BoundCore.run_executing.Given as goal
+use Rattle.bound_core.specs.Ahead.{ahead, going}
+use Rattle.bound_core.proofs.bounded.BoundCore.run_on.Given as goal
 
 abbrev pub invariant-loop-goes_on : goal.invariant-loop-goes_on
 invariant-loop-goes_on g l =
     let image = g.P.Program.image l.program in
     record {
       free : l.goes_on ≡ is_free l.self.timed.core;
-      fetching : l.self.timed.core.fetching ≡ false;
+      fetching : l.self.timed.core.fetching ≡ l.fetching;
       unfetched : l.self.timed.core.is_fetched ≡ false;
       same_end : ran_to image l.end (ahead l.counted l.self.timed) ≡ ran_to image l.end l.initial.self.timed;
+      nearer : 2 * (l.most - l.counted) + going l.goes_on ≤ 2 * l.most + going (is_free l.initial.self.timed.core);
       few : l.counted ≤ l.most;
       most : l.most ≡ l.end - l.initial.self.timed.clock;
       clock : l.self.timed.clock ≡ l.initial.self.timed.clock;
       number : l.self.number ≡ l.initial.self.number;
       memory : l.self.timed.core.memory ≡ l.initial.self.timed.core.memory;
       spare : l.self.spare ≡ l.initial.self.spare;
+      pace : l.self.timed.pace ≡ None;
     }
 
 abbrev pub decreases-loop-goes_on : goal.decreases-loop-goes_on

@@ -1,9 +1,9 @@
 -- what is left to run leads to the same end
-use Rattle.std.proofs.Common.{◌≡◌, ◌≤◌, ◌+◌, ◌-◌, ◌*◌, IsTrue, max}
+use Rattle.std.proofs.Common.{◌≡◌, ◌≤◌, ◌+◌, ◌-◌, ◌*◌, IsTrue, None, max}
 use Rattle.rv_core.specs.Step.{is_free}
 use Rattle.bound_core.specs.TimedCore.{ran_to}
-use Rattle.bound_core.proofs.Instructions.{going}
-use Rattle.bound_core.proofs.bounded.BoundCore.run_fetching.Given as goal
+use Rattle.bound_core.specs.Ahead.{going}
+use Rattle.bound_core.proofs.bounded.BoundCore.run_past_line.Given as goal
 
 abbrev pub invariant-loop-self : goal.invariant-loop-self
 invariant-loop-self g l =
@@ -16,6 +16,7 @@ invariant-loop-self g l =
       number : l.self.number ≡ l.initial.self.number;
       memory : l.self.timed.core.memory ≡ l.initial.self.timed.core.memory;
       spare : l.self.spare ≡ l.initial.self.spare;
+      pace : l.self.timed.pace ≡ None;
     }
 
 abbrev pub decreases-loop-self : goal.decreases-loop-self
