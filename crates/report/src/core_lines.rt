@@ -1,7 +1,7 @@
 //! The two lines of each core: what was counted of it, and its console.
 ghost use Rattle.std.specs.Prelude.{◌≡◌, ◌++◌, ◌∷◌, [], OnOk, codes, length, map, string_bytes};
 ghost use Rattle.std.specs.List.{zip};
-ghost use Rattle.report.specs.ReportText.{console_line, core_line, core_lines, count_text, fetches_text, halt_text, labelled, numbered_lines};
+ghost use Rattle.report.specs.ReportText.{console_line, core_line, core_lines, count_text, counts_fetches, fetches_text, halt_text, labelled, numbered_lines};
 
 use crate::fields::{write_hexadecimal, write_labelled};
 use crate::printed::write_printed;
@@ -73,8 +73,15 @@ fn write_count(text: &mut String, version: u32, count: &CoreCount) -> Result<(),
     ensures { OnOk result (string_bytes text.new ≡ string_bytes text.old ++ count_text version count.now) }
 {
     write_accesses(text, count)?;
-    write_fetches(text, version >= 2, count.fetches)?;
+    write_fetches(text, counts_fetches(version), count.fetches)?;
     write_outcomes(text, count)
+}
+
+/// Whether fetches are counted on the machine of a description of this version.
+fn counts_fetches(version: u32) -> bool
+    ensures { result ≡ counts_fetches version }
+{
+    version >= 2
 }
 
 /// Writes the delay and what a core asked of memory, but for fetches.

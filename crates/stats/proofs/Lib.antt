@@ -1,5 +1,6 @@
 mod Added
 mod Events
+mod Orders
 mod Plus
 mod Steps
 mod Sums
