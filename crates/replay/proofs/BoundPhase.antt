@@ -20,7 +20,10 @@ use Rattle.bound_core.specs.NumberedCores.{NumberedCore, timed_of}
 use Rattle.bound_core.specs.Turn.{IsOver}
 use Rattle.bound_core.proofs.Reaching.{whole_phase}
 use Rattle.bound_phase.proofs.RecordedOrder.{all_recorded, length_recorded}
+use Rattle.replay.specs.declared.memory.Memory.{Memory}
+use Rattle.replay.specs.declared.memory.Memory.TheVariants as memory
 use Rattle.replay.specs.declared.simulation.Simulation.{Simulation}
+use Rattle.replay.specs.Memory.{IsForCores, shards_in}
 use Rattle.replay.specs.Port.{LoggedPortState}
 use Rattle.replay.specs.ReferenceRun.{access_room, time_of}
 use Rattle.replay.specs.Simulation.{AreNumbered, HaveRunThroughPort, IsBoundPhase, cores_of, phase_of}
@@ -36,6 +39,14 @@ pub record OrderLaws (time : Entry → ℕ) (image : MemoryImage) (end : ℕ) : 
   pub rise : StampsRise
   pub keep : RecordedOrderKeepsTheStamps
   pub decide : CoresDecideTheOrder
+
+-- one worker's port, made ready for its first access
+pub begun_alone : (cores : ℕ) (m : Memory) (port begun : LoggedPortState) → m ≡ memory.Alone port → IsForCores cores m
+    → begun.world ≡ begun_world (length port.world.stamps) (map restarted port.world.shards) → begun.world ≡ begun_world cores (map restarted (shards_in m))
+begun_alone cores m port begun is for_cores begins =
+    begins
+    ∙ (ap (λ (n : ℕ). begun_world n (map restarted port.world.shards)) (subst (IsForCores cores) is for_cores)
+    ∙ ap (λ (x : Memory). begun_world cores (map restarted (shards_in x))) (sym is))
 
 -- the bound phase begins, with a port that is ready for its first access
 pub from_start : (cores : List NumberedCore) (was : List ShardState) (port : LoggedPortState) (count : ℕ) → port.world ≡ begun_world count (map restarted was) → port.entries ≡ [] → length cores ≡ count
@@ -83,17 +94,18 @@ module _ (machine : Machine) (image : MemoryImage) (end : ℕ) (cores after : Li
 
   pub bounded : All (λ e. e.start ≤ 2 ^ 36) last.entries → length last.entries ≤ access_room machine → All (λ c. c.clock ≤ 2 ^ 57) (timed_of after)
       → length after ≡ machine.cores → AreNumbered after → All (IsOver end) (timed_of after)
-      → (p q : Simulation) → p.cores.items ≡ cores → p.port.world.shards ≡ was → q.cores.items ≡ after → q.port.world ≡ last.world
+      → (p q : Simulation) → p.cores.items ≡ cores → shards_in p.memory ≡ was → q.cores.items ≡ after
+      → (port : LoggedPortState) → q.memory ≡ memory.Alone port → port.world ≡ last.world
       → (entries : List Entry) → entries ≡ recorded_order last.entries → IsBoundPhase machine image end p turns q entries
-  bounded starts few clocks all_after numbered over p q cores_are shards_are after_are world_is entries sorted =
+  bounded starts few clocks all_after numbered over p q cores_are shards_are after_are port memory_is world_is entries sorted =
       let taken : List Entry = last.entries in
       record {
         left = phase_of after last;
-        phase = ap (λ (cs : List NumberedCore). bound_phase shards_serve (time_of machine) image end turns (begun_over_shards (timed_of cs) (map restarted p.port.world.shards))) cores_are
+        phase = ap (λ (cs : List NumberedCore). bound_phase shards_serve (time_of machine) image end turns (begun_over_shards (timed_of cs) (map restarted (shards_in p.memory)))) cores_are
             ∙ ap (λ (ss : List ShardState). bound_phase shards_serve (time_of machine) image end turns (begun_over_shards (timed_of cores) (map restarted ss))) shards_are
             ∙ phase;
         cores_are = ap timed_of after_are;
-        shards_are = ap (λ (w : ShardWorld). map restarted w.shards) world_is;
+        shards_are = ap (λ (m : Memory). map restarted (shards_in m)) memory_is ∙ ap (λ (w : ShardWorld). map restarted w.shards) world_is;
         in_order = sorted;
         cores = subst (All (λ (e : Entry). e.core < machine.cores)) (sym sorted) (all_recorded (λ (e : Entry). e.core < machine.cores) taken known);
         starts = subst (All (λ (e : Entry). e.start ≤ 2 ^ 36)) (sym sorted) (all_recorded (λ (e : Entry). e.start ≤ 2 ^ 36) taken starts);
@@ -102,19 +114,19 @@ module _ (machine : Machine) (image : MemoryImage) (end : ℕ) (cores after : Li
         count = ap length after_are ∙ all_after;
         numbered = subst AreNumbered (sym after_are) numbered;
         over = subst (λ (cs : List NumberedCore). All (IsOver end) (timed_of cs)) (sym after_are) over;
-        stamps = ap (λ (w : ShardWorld). length w.stamps) world_is ∙ stamps_many;
+        stamps = subst (IsForCores machine.cores) (sym memory_is) (ap (λ (w : ShardWorld). length w.stamps) world_is ∙ stamps_many);
       }
 
 -- the turns in recorded order lead there too
-pub in_recorded_order : (machine : Machine) (image : MemoryImage) (end : ℕ) (p q : Simulation) (turns : List ℕ) (entries : List Entry) → 0 < length p.port.world.shards
+pub in_recorded_order : (machine : Machine) (image : MemoryImage) (end : ℕ) (p q : Simulation) (turns : List ℕ) (entries : List Entry) → 0 < length (shards_in p.memory)
     → OrderLaws (time_of machine) image end → IsBoundPhase machine image end p turns q entries → IsBoundPhase machine image end p (map (λ e. e.core) entries) q entries
 in_recorded_order machine image end p q turns entries some laws b =
     let cores = cores_of p in
-    let shards = map restarted p.port.world.shards in
+    let shards = map restarted (shards_in p.memory) in
     let time = time_of machine in
-    let some_shard : 0 < length shards = omega (arith, some, length-map p.port.world.shards restarted) in
+    let some_shard : 0 < length shards = omega (arith, some, length-map (shards_in p.memory) restarted) in
     let taken : List Entry = b.left.entries in
-    let found = laws.histories cores shards turns b.left some_shard (All-map (λ (shard : ShardState). shard.last ≡ 0) restarted p.port.world.shards (λ k d below. refl)) b.phase in
+    let found = laws.histories cores shards turns b.left some_shard (All-map (λ (shard : ShardState). shard.last ≡ 0) restarted (shards_in p.memory) (λ k d below. refl)) b.phase in
     let sorted = laws.recorded cores shards taken found.0 in
     let left : BoundState ShardWorld = record { cores = b.left.cores; world = b.left.world; entries = entries } in
     let phase : bound_phase shards_serve time image end (map (λ e. e.core) (recorded_order taken)) (begun_over_shards cores shards) ≡ Ok (record b.left { entries = recorded_order taken }) =

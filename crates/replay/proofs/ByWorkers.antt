@@ -1,7 +1,7 @@
 -- The bound phase of an interval by several workers is that of the run.
 use Rattle.std.proofs.Common.{◌≡◌, ℕ, ◌^◌, ◌<◌, ◌≤◌, List, [], ◌∷◌, length, map, All, Option, Some, None, refl, sym, ◌∙◌, ap, subst, arith}
 use Rattle.std.specs.Prelude.{IsNone}
-use Rattle.std.proofs.lemmas.List.{length-map, length-replicate}
+use Rattle.std.proofs.lemmas.List.{length-map}
 use Rattle.zs_num.specs.declared.entry.Entry.{Entry}
 use Rattle.elf_load.specs.MemoryImage.{MemoryImage}
 use Rattle.machine_desc.specs.declared.machine.Machine.{Machine}
@@ -11,16 +11,15 @@ use Rattle.bound_core.specs.History.{after_history}
 use Rattle.bound_core.specs.HistoryLaws.{HistoriesArePhases}
 use Rattle.bound_core.specs.ReferenceMachine.{BoundState}
 use Rattle.bound_core.specs.ShardPort.{AreShardsOf, base_in, l1i_in, size_in}
-use Rattle.bound_core.specs.ShardWorld.{ShardWorld, begun_world, restarted}
+use Rattle.bound_core.specs.ShardWorld.{ShardWorld, restarted}
 use Rattle.bound_core.specs.NumberedCores.{NumberedCore, timed_of}
 use Rattle.bound_core.specs.Turn.{IsOver}
-use Rattle.bound_core.proofs.Lists.{map_again}
 use Rattle.bound_core.proofs.ShardPorts.{own_memory, shards_restarted}
-use Rattle.bound_core.proofs.ShardsStay.{shards_after}
 use Rattle.bound_phase.specs.Bounds.{CanBound, FetchesIn, HaveEndedInterval, IsBeforeInterval, IsBound}
 use Rattle.bound_phase.proofs.Ending.{all_at}
 use Rattle.bound_phase.proofs.Whole.{agreed_at}
 use Rattle.replay.specs.declared.simulation.Simulation.{Simulation}
+use Rattle.replay.specs.Memory.{IsForCores, shards_in}
 use Rattle.replay.specs.ReferenceRun.{time_of}
 use Rattle.replay.specs.Simulation.{AreNumbered, CanRunInterval, HasRoomForInterval, IsBoundPhase, cores_of}
 use Rattle.replay.proofs.Cores.{all_timed}
@@ -36,10 +35,10 @@ same_l1i (shard ∷ shards) = refl
 
 module _ (machine : Machine) (end : ℕ) (p : Simulation) (room : HasRoomForInterval machine end p) where
   abbrev was : List ShardState
-  was = map restarted p.port.world.shards
+  was = map restarted (shards_in p.memory)
 
   were : AreShardsOf machine.cores was machine.memory.base machine.memory.size
-  were = shards_restarted machine.cores machine.memory.base machine.memory.size p.port.world.shards room.shards
+  were = shards_restarted machine.cores machine.memory.base machine.memory.size (shards_in p.memory) room.shards
 
   memory_is : (base_in was ≡ machine.memory.base) × (size_in was ≡ machine.memory.size)
   memory_is = own_memory machine.cores machine.memory.base machine.memory.size was were
@@ -54,32 +53,20 @@ module _ (machine : Machine) (end : ℕ) (p : Simulation) (room : HasRoomForInte
     clock = (let early = ready.clock in omega (arith, early));
   }
 
-  pub can_bound : CanBound machine end p.cores.items p.port.world.shards
+  pub can_bound : CanBound machine end p.cores.items (shards_in p.memory)
   can_bound = record {
     count = room.count;
     numbers = room.numbered;
     at_start = all_at (IsBeforeInterval machine end) p.cores.items (λ i c here. starts_at c (room.ready i c here));
     shards_are = room.shards;
     banks = room.banks;
-    fetches = all_at (FetchesIn (l1i_in p.port.world.shards)) p.cores.items (λ i c here fetching. sym (same_l1i p.port.world.shards) ∙ (room.ready i c here).fetches fetching);
+    fetches = all_at (FetchesIn (l1i_in (shards_in p.memory))) p.cores.items (λ i c here fetching. sym (same_l1i (shards_in p.memory)) ∙ (room.ready i c here).fetches fetching);
   }
 
   module _ (image : MemoryImage) (cores : List NumberedCore) (shards : List ShardState) (entries : List Entry)
-      (bound : IsBound (time_of machine) image end p.cores.items p.port.world.shards cores shards entries) where
+      (bound : IsBound (time_of machine) image end p.cores.items (shards_in p.memory) cores shards entries) where
     abbrev left : BoundState ShardWorld
     left = after_history (time_of machine) image end (cores_of p) was entries
-
-    shards_left : AreShardsOf machine.cores shards machine.memory.base machine.memory.size
-    shards_left =
-        subst (λ (ss : List ShardState). AreShardsOf machine.cores ss machine.memory.base machine.memory.size) (sym bound.shards_are)
-        (shards_after machine.cores machine.memory.base machine.memory.size was were entries)
-
-    -- they make a port
-    pub left_shards : AreShardsOf machine.cores shards (base_in shards) (size_in shards)
-    left_shards =
-        let own = own_memory machine.cores machine.memory.base machine.memory.size shards shards_left in
-        subst (λ (base : ℕ). AreShardsOf machine.cores shards base (size_in shards)) (sym own.0)
-        (subst (λ (size : ℕ). AreShardsOf machine.cores shards machine.memory.base size) (sym own.1) shards_left)
 
     many : length cores ≡ machine.cores
     many =
@@ -103,14 +90,13 @@ module _ (machine : Machine) (end : ℕ) (p : Simulation) (room : HasRoomForInte
         subst (λ (n : ℕ). All (λ (e : Entry). e.core < n) entries) (length-map p.cores.items (λ (c : NumberedCore). c.timed) ∙ room.count) bound.history.known
 
     pub bounded : HistoriesArePhases (time_of machine) image end → HaveEndedInterval machine end p.cores.items cores entries → end ≤ 2 ^ 34
-        → (q : Simulation) → q.cores.items ≡ cores → q.port.world ≡ begun_world machine.cores (map restarted shards)
+        → (q : Simulation) → q.cores.items ≡ cores → shards_in q.memory ≡ shards → IsForCores machine.cores q.memory
         → IsBoundPhase machine image end p (map (λ e. e.core) entries) q entries
-    bounded phases ended small q cores_now world = record {
+    bounded phases ended small q cores_now shards_now for_cores = record {
       left = left;
       phase = phases (cores_of p) was entries bound.history;
       cores_are = ap timed_of cores_now ∙ bound.cores_are;
-      shards_are =
-          ap (λ (w : ShardWorld). map restarted w.shards) world ∙ map_again restarted (λ shard. refl) shards ∙ ap (map restarted) bound.shards_are;
+      shards_are = ap (map restarted) (shards_now ∙ bound.shards_are);
       in_order = sym bound.in_order;
       cores = known;
       starts = λ k d below. (let start = ended.starts k d below in omega (arith, start, small));
@@ -119,5 +105,5 @@ module _ (machine : Machine) (end : ℕ) (p : Simulation) (room : HasRoomForInte
       count = ap length cores_now ∙ many;
       numbered = subst AreNumbered (sym cores_now) in_order;
       over = subst (λ (cs : List NumberedCore). All (IsOver end) (timed_of cs)) (sym cores_now) ended.over;
-      stamps = ap (λ (w : ShardWorld). length w.stamps) world ∙ length-replicate machine.cores 0;
+      stamps = for_cores;
     }

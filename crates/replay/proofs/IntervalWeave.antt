@@ -19,7 +19,7 @@ use Rattle.event_graph.specs.Numbered.{IsNumbered}
 use Rattle.event_graph.specs.OneListWeave.{fired_of, woven}
 use Rattle.event_graph.specs.SmallSteps.{AreSmallSteps}
 use Rattle.event_graph.specs.AccessPaths.{path_of}
-use Rattle.event_graph.specs.Timing.{pieces_of}
+use Rattle.event_graph.specs.PlainTiming.{pieces_of}
 use Rattle.feedback.specs.FeedbackDelay.{feedback_delays}
 use Rattle.stats.specs.Counts.{Interval}
 use Rattle.replay.specs.IntervalWeave.{IsPlainOf}

@@ -10,6 +10,7 @@ pub mod OneCoreEnds
 pub mod OneSchedule
 pub mod PortTurns
 pub mod RecordedOrder
+pub mod Rising
 pub mod RunCores
 pub mod RunEnds
 pub mod RunSoFar

@@ -25,7 +25,7 @@ use Rattle.stats.specs.Laws.{CountersAreSums, SumsFit, WasRun}
 use Rattle.rv_core.specs.declared.why.Why.{Why}
 use Rattle.rv_core.specs.Step.{initial_core}
 use Rattle.shard.specs.HaveL1i.{have_l1i}
-use Rattle.shard.specs.Served.{ShardState, shard_after}
+use Rattle.shard.specs.Served.{ShardState, no_shard, shard_after}
 use Rattle.bound_core.specs.History.{after_history}
 use Rattle.bound_core.specs.Intervals.{NextIntervalBegins}
 use Rattle.bound_core.specs.History as history
@@ -35,7 +35,7 @@ use Rattle.bound_core.specs.MachineWorld.{MachineWorld, serve}
 use Rattle.bound_core.specs.ReferenceMachine.{BoundState, bound_phase}
 use Rattle.bound_core.specs.ShardPort.{AreShardsOf, base_of, l1i_of, size_of}
 use Rattle.bound_core.specs.ShardWorld as served
-use Rattle.bound_core.specs.ShardWorld.{ShardWorld, begun_world, no_shard, restarted}
+use Rattle.bound_core.specs.ShardWorld.{ShardWorld, begun_world, restarted}
 use Rattle.bound_core.specs.Correspondence.{AreRelated, EndAlike}
 use Rattle.bound_core.specs.TimedCore.{TimedCore, first_core}
 use Rattle.bound_core.specs.NumberedCores.{NumberedCore}
@@ -43,8 +43,9 @@ use Rattle.bound_core.specs.Turn.{IsOver}
 use Rattle.access_log.specs.History.{bank_of_entry, each_after, of_number}
 use Rattle.access_log.specs.RecordedOrder.{no_stamps, recorded_order}
 use Rattle.replay.specs.Limits.{access_limit, cycle_limit}
+use Rattle.replay.specs.declared.memory.Memory.{Memory}
 use Rattle.replay.specs.declared.simulation.Simulation.{Simulation}
-use Rattle.replay.specs.Port.{LoggedPortState}
+use Rattle.replay.specs.Memory.{IsForCores, shards_in}
 use Rattle.replay.specs.ReferenceRun.{RunState, access_room, after_interval, after_weave, all_delayed, at_limit, begun_interval, end_of, first_state, has_ended, have_halted, recorded_turns, time_of, world_of, woven_after, woven_interval}
 use Rattle.replay.specs.Simulation.{AreNumbered, CanRunInterval, HasNextInterval, HasRoomForInterval, IsBoundPhase, IsCounted, LeadsTo, StandsFor, begun_shards, cores_of}
 use Rattle.bound_core.proofs.ShardPorts.{shards_restarted}
@@ -123,7 +124,7 @@ counted_comps cores comps intervals =
 
 module _ (machine : Machine) (end : ℕ) (s : RunState) (p : Simulation) (g : HasNextInterval machine end s p) where
   abbrev shards : List ShardState
-  shards = map restarted p.port.world.shards
+  shards = map restarted (shards_in p.memory)
 
   first_shard : slice_get shards 0 ≡ Some (get_or shards 0 no_shard)
   first_shard = slice_get-get_or shards 0 no_shard g.come.stand.some
@@ -250,7 +251,7 @@ err_alike place (Err other) related = ap Err related
 -- the bound phase of the next interval, over the shards and on the machine
 module _ (machine : Machine) (image : MemoryImage) (end : ℕ) (s : RunState) (p : Simulation) (g : HasNextInterval machine end s p) (turns : List ℕ) where
   abbrev before : List ShardState
-  before = map restarted p.port.world.shards
+  before = map restarted (shards_in p.memory)
 
   abbrev shard_phase : Result (BoundState ShardWorld) ℕ
   shard_phase = bound_phase served.shards_serve (time_of machine) image end turns (history.begun_over_shards (cores_of p) before)
@@ -326,35 +327,35 @@ module _ (machine : Machine) (ok : IsMachine machine) (image : MemoryImage) (end
   -- ---- its shards
 
   abbrev was : List ShardState
-  was = map restarted p.port.world.shards
+  was = map restarted (shards_in p.memory)
 
   world_is : (after_history (time_of machine) image end (cores_of p) was b.left.entries).world ≡ b.left.world
   world_is =
-      let found = laws.histories (cores_of p) was turns b.left g.come.stand.some (All-map (λ (shard : ShardState). shard.last ≡ 0) restarted p.port.world.shards (λ k d below. refl)) b.phase in
+      let found = laws.histories (cores_of p) was turns b.left g.come.stand.some (All-map (λ (shard : ShardState). shard.last ≡ 0) restarted (shards_in p.memory) (λ k d below. refl)) b.phase in
       ap (λ (state : BoundState ShardWorld). state.world) (sym found.2)
 
   left_shards : length b.left.world.shards ≡ machine.l2.banks
   left_shards =
       ap (λ (w : ShardWorld). length w.shards) (sym world_is)
       ∙ each_many shard_after (bank_of_entry (length was)) b.left.entries was
-      ∙ length-map p.port.world.shards restarted ∙ g.come.banks
+      ∙ length-map (shards_in p.memory) restarted ∙ g.come.banks
 
-  shards_many : length q.port.world.shards ≡ machine.l2.banks
+  shards_many : length (shards_in q.memory) ≡ machine.l2.banks
   shards_many =
-      sym (length-map q.port.world.shards restarted) ∙ ap length b.shards_are ∙ length-map b.left.world.shards restarted ∙ left_shards
+      sym (length-map (shards_in q.memory) restarted) ∙ ap length b.shards_are ∙ length-map b.left.world.shards restarted ∙ left_shards
 
-  shards_placed : AreShardsOf machine.cores q.port.world.shards machine.memory.base machine.memory.size
+  shards_placed : AreShardsOf machine.cores (shards_in q.memory) machine.memory.base machine.memory.size
   shards_placed =
       let base = machine.memory.base in
       let size = machine.memory.size in
-      let began : AreShardsOf machine.cores was base size = shards_restarted machine.cores base size p.port.world.shards g.come.placed in
+      let began : AreShardsOf machine.cores was base size = shards_restarted machine.cores base size (shards_in p.memory) g.come.placed in
       let left : AreShardsOf machine.cores b.left.world.shards base size =
       subst (λ (w : ShardWorld). AreShardsOf machine.cores w.shards base size) world_is (shards_after machine.cores base size was began b.left.entries)
       in
-      whatever_stamps machine.cores base size q.port.world.shards
+      whatever_stamps machine.cores base size (shards_in q.memory)
       (subst (λ (shards : List ShardState). AreShardsOf machine.cores shards base size) (sym b.shards_are) (shards_restarted machine.cores base size b.left.world.shards left))
 
-  stands_next : StandForMachine next.cores (begun_world machine.cores (map restarted q.port.world.shards)) (world_of machine next)
+  stands_next : StandForMachine next.cores (begun_world machine.cores (map restarted (shards_in q.memory))) (world_of machine next)
   stands_next =
       let later = all_delayed i.delays came_to.cores in
       let left : ShardWorld = b.left.world in
@@ -387,10 +388,10 @@ module _ (machine : Machine) (ok : IsMachine machine) (image : MemoryImage) (end
       let over : All (IsOver end) came_to.cores = subst (All (IsOver end)) (sym cores_are) b.over in
       subst (λ (n : ℕ). All (IsOver n) next.cores) end_is (delayed_over end i.delays came_to.cores over)
 
-  pub leads_on : (r : Simulation) → cores_of r ≡ all_delayed i.delays (cores_of q) → AreNumbered r.cores.items → r.port ≡ q.port
+  pub leads_on : (r : Simulation) → cores_of r ≡ all_delayed i.delays (cores_of q) → AreNumbered r.cores.items → r.memory ≡ q.memory
       → r.comps ≡ comps_after comp_step i.events s.comps → r.counters ≡ added p.counters i r.comps
       → (leads : LeadsTo machine image s turns r) × (leads.entries ≡ entries)
-  leads_on r cores numbered port comps counters =
+  leads_on r cores numbered memory comps counters =
       let are_next : AreComponents machine r.comps = subst (AreComponents machine) (sym comps) are in
       let leads_to : LeadsTo machine image s turns r = record {
         state = next;
@@ -402,10 +403,10 @@ module _ (machine : Machine) (ok : IsMachine machine) (image : MemoryImage) (end
           cores = ap (all_delayed i.delays) cores_are ∙ sym cores;
           count = later_many;
           numbered = numbered;
-          stamps = ap (λ (x : LoggedPortState). length x.world.stamps) port ∙ b.stamps;
-          banks = ap (λ (x : LoggedPortState). length x.world.shards) port ∙ shards_many;
-          placed = subst (λ (x : LoggedPortState). AreShardsOf machine.cores x.world.shards machine.memory.base machine.memory.size) (sym port) shards_placed;
-          stand = subst (λ (x : LoggedPortState). StandForMachine next.cores (begun_world machine.cores (map restarted x.world.shards)) (world_of machine next)) (sym port) stands_next;
+          stamps = subst (IsForCores machine.cores) (sym memory) b.stamps;
+          banks = ap (λ (m : Memory). length (shards_in m)) memory ∙ shards_many;
+          placed = subst (λ (m : Memory). AreShardsOf machine.cores (shards_in m) machine.memory.base machine.memory.size) (sym memory) shards_placed;
+          stand = subst (λ (m : Memory). StandForMachine next.cores (begun_world machine.cores (map restarted (shards_in m))) (world_of machine next)) (sym memory) stands_next;
           comps = comps;
           counters = counters ∙ summed machine ok end s p g i was_run few_events few laws.sums r.comps are_next ∙ ap (λ (parts : List Comp). counts_of machine.cores parts (s.intervals ++ i ∷ [])) comps;
           over = next_over;

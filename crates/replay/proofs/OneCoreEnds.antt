@@ -1,5 +1,5 @@
 -- Whatever one core does, turns of it end an interval.
-use Rattle.std.proofs.Common.{◌≡◌, ℕ, zero, suc, ◌+◌, ◌-◌, ◌≤◌, Bool, true, false, ◌&&◌, ◌==◌, List, [], ◌∷◌, ◌++◌, Option, Some, None, Ok, inl, inr, refl, sym, ◌∙◌, ap, arith, subst}
+use Rattle.std.proofs.Common.{◌≡◌, ℕ, zero, suc, ◌+◌, ◌-◌, ◌≤◌, Bool, true, false, ◌&&◌, List, [], ◌∷◌, ◌++◌, Option, Some, None, Ok, inl, inr, refl, sym, ◌∙◌, ap, arith, subst}
 use Rattle.std.specs.Prelude.{is_none}
 use Rattle.std.proofs.lemmas.Bool.{cases_lt, eq-eqb}
 use Rattle.zs_num.specs.Request.{line_at}
@@ -10,12 +10,12 @@ use Rattle.elf_load.specs.MemoryImage.{MemoryImage}
 use Rattle.rv_core.specs.declared.progress.Reply.{Reply}
 use Rattle.rv_core.specs.CoreState.{CoreState, Ending, InProgress, ToConsole, ToExecution, ToNothing, ToRegister}
 use Rattle.rv_core.specs.Effect.{ended, goes_to}
-use Rattle.rv_core.specs.Step.{after_reply, answered, asks_for_instruction, cost, is_free, is_latest, needs_fetch, unfetched}
+use Rattle.rv_core.specs.Step.{after_reply, answered, asks_for_instruction, is_free, is_latest, needs_fetch, unfetched}
 use Rattle.rv_core.proofs.Executes.{AwaitsNoFetch, IsOfNoFetch, executed-executes}
 use Rattle.bound_core.specs.MachineWorld.{MachineWorld, serve}
 use Rattle.bound_core.specs.ReferenceMachine.{BoundState, access_served, bound_from}
 use Rattle.bound_core.specs.TimedCore.{TimedCore, after_execution, after_instruction, asks, core_after_access, goes_on_alone, next_request, ran_to}
-use Rattle.bound_core.proofs.Instructions.{asks_or_executes, executed_unfetched, late_stops, ran_late, ran_stays, ran_within}
+use Rattle.bound_core.proofs.Instructions.{asks_or_executes, executed_later, executed_unfetched, late_stops, ran_late, ran_later, ran_stays}
 
 -- a bound phase of one core
 abbrev pub one_core : TimedCore → MachineWorld → List Entry → BoundState MachineWorld
@@ -205,8 +205,7 @@ module _ (time : Entry → ℕ) (some : (e : Entry) → 1 ≤ time e) (image : M
   executing : (c : TimedCore) → end ≤ c.clock → c.core.instruction ≡ None → EndsAfterAccess (after_execution image c)
   executing c late idle =
       let next : TimedCore = after_execution image c in
-      let clock : next.clock ≡ c.clock + cost next.core.halted = refl in
-      executed_by next next.core.instruction refl (omega (arith, late, clock)) (executed_unfetched image c) ((executed-executes image (unfetched c.core)).awaits idle)
+      executed_by next next.core.instruction refl (omega (arith, late, executed_later image c)) (executed_unfetched image c) ((executed-executes image (unfetched c.core)).awaits idle)
 
   -- one that has fetched an instruction
   fetched_ends : (c : TimedCore) → end ≤ c.clock → c.core.instruction ≡ None → c.core.fetched_line ≡ Some (line_at c.core.pc) → Ends c
@@ -243,6 +242,6 @@ module _ (time : Entry → ℕ) (some : (e : Entry) → 1 ≤ time e) (image : M
       elim (cases_lt c.clock end) as (λ _. Ends c) [
         | inl early ↦ by_access c (λ e request asked.
             let ran = ran_to image end c in
-            turns_there n (core_after_access time e ran) (omega (arith, near, early, (ran_within image end c).0, access_clock time e ran, some e)))
+            turns_there n (core_after_access time e ran) (omega (arith, near, early, ran_later image end c, access_clock time e ran, some e)))
         | inr late ↦ past_by c c.core.instruction refl late
       ]

@@ -66,7 +66,7 @@ module _ (time : Entry → ℕ) (image : MemoryImage) (end : ℕ) where
   one_list c w es = one_list_by (asks (ran_to image end c)) 0 c w es refl
 
 takes_a_cycle : (machine : Machine) → IsMachine machine → (e : Entry) → 1 ≤ time_of machine e
-takes_a_cycle machine is e = plain_time_at_least_one (path_of machine) (record { l1 = is.l1; l1i = is.l1i; l2 = is.l2; controllers = is.controllers }) e
+takes_a_cycle machine is e = plain_time_at_least_one (path_of machine) (record { l1 = is.l1; l1i = is.l1i; l2 = is.l2; controllers = is.controllers; mesh = is.mesh; dram = is.dram }) e
 
 -- ---- the schedule of a run
 

@@ -9,7 +9,7 @@ use Rattle.elf_load.specs.MemoryImage.{MemoryImage}
 use Rattle.rv_core.specs.CoreState.{CoreState}
 use Rattle.machine_desc.specs.declared.machine.Machine.{Machine}
 use Rattle.event_graph.specs.declared.plain.Plain.{Plain}
-use Rattle.event_graph.specs.Timing.{access_time}
+use Rattle.event_graph.specs.PlainTiming.{access_time}
 use Rattle.bound_core.specs.Laws.{AnswersAsWorld, moved}
 use Rattle.bound_core.specs.Reaching.{Reaches}
 use Rattle.bound_core.specs.ReferenceMachine.{BoundState}

@@ -17,7 +17,7 @@ use Rattle.event_graph.specs.Fits.{GraphFits}
 use Rattle.event_graph.specs.Numbered.{IsNumbered}
 use Rattle.event_graph.specs.OneListWeave.{comps_after, fired_of, woven}
 use Rattle.event_graph.specs.SmallSteps.{AreSmallSteps}
-use Rattle.event_graph.specs.Timing.{pieces_of}
+use Rattle.event_graph.specs.PlainTiming.{pieces_of}
 use Rattle.event_graph.specs.Timely.{AreTimely}
 use Rattle.stats.specs.Counts.{Interval}
 use Rattle.replay.specs.declared.weaving.WovenInterval.{WovenInterval}

@@ -1,5 +1,6 @@
 pub mod Results
 pub mod Limits
+pub mod Memory
 pub mod Port
 pub mod ReferenceRun
 pub mod Replay

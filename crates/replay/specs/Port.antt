@@ -1,7 +1,8 @@
 -- What a port to the shards that logs its accesses is seen as.
-use Rattle.std.specs.Prelude.{◌≡◌, ℕ, List}
+use Rattle.std.specs.Prelude.{◌≡◌, ℕ, Bool, true, List}
 use Rattle.zs_num.specs.declared.entry.Entry.{Entry}
 use Rattle.zs_num.specs.declared.request.Request.{Request}
+use Rattle.access_log.specs.History.{AreRising, latest_of}
 use Rattle.bound_core.specs.ShardWorld.{ShardWorld, shards_serve}
 
 pub record LoggedPortState : Type 0 where
@@ -16,3 +17,8 @@ pub record LoggedPortState : Type 0 where
 -- what comes of a request of the chosen core: the shard of its line serves it
 abbrev pub gives : LoggedPortState → (start : ℕ) → Request → Entry → LoggedPortState → Type 0
 gives p start request e q = (e, q.world) ≡ shards_serve p.world p.core start request
+
+-- what it knows of the accesses so far: the latest stamp, and whether all stamps have risen
+pub record KnowsItsOrder (last : ℕ) (rises : Bool) (entries : List Entry) : Type 0 where
+  pub latest : last ≡ latest_of entries
+  pub rising : rises ≡ true → AreRising 0 entries

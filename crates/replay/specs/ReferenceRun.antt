@@ -11,7 +11,7 @@ use Rattle.component.specs.Components.{AreFresh}
 use Rattle.event_graph.specs.EventGraph.{all_events}
 use Rattle.event_graph.specs.OneListWeave.{comps_after, fired_of, woven}
 use Rattle.event_graph.specs.AccessPaths.{path_of}
-use Rattle.event_graph.specs.Timing.{access_time, pieces_of}
+use Rattle.event_graph.specs.PlainTiming.{access_time, pieces_of}
 use Rattle.feedback.specs.FeedbackDelay.{feedback_delays}
 use Rattle.stats.specs.Counts.{Interval, counts_of, total_accesses}
 use Rattle.replay.specs.Limits.{access_limit, cycle_limit}

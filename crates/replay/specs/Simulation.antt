@@ -25,6 +25,7 @@ use Rattle.stats.specs.Counts.{counts_of, total_accesses, total_events}
 use Rattle.stats.specs.Laws.{WasRun}
 use Rattle.replay.specs.declared.simulation.Simulation.{Simulation}
 use Rattle.replay.specs.IntervalWeave.{HaveFired}
+use Rattle.replay.specs.Memory.{IsForCores, shards_in}
 use Rattle.replay.specs.Port.{LoggedPortState}
 use Rattle.replay.specs.ReferenceRun.{RunState, access_room, after_interval, end_of, first_state, has_ended, recorded_turns, time_of, world_of}
 
@@ -40,7 +41,7 @@ AreNumbered cores = (i : ℕ) (c : NumberedCore) → slice_get cores i ≡ Some 
 
 -- the shards before the first access of an interval
 abbrev pub begun_shards : Machine → Simulation → ShardWorld
-begun_shards machine p = begun_world machine.cores (map restarted p.port.world.shards)
+begun_shards machine p = begun_world machine.cores (map restarted (shards_in p.memory))
 
 -- ---- between two intervals
 
@@ -57,9 +58,9 @@ pub record StandsFor (machine : Machine) (s : RunState) (p : Simulation) : Type 
   pub cores : s.cores ≡ cores_of p
   pub count : length s.cores ≡ machine.cores
   pub numbered : AreNumbered p.cores.items
-  pub stamps : length p.port.world.stamps ≡ machine.cores
-  pub banks : length p.port.world.shards ≡ machine.l2.banks
-  pub placed : AreShardsOf machine.cores p.port.world.shards machine.memory.base machine.memory.size
+  pub stamps : IsForCores machine.cores p.memory
+  pub banks : length (shards_in p.memory) ≡ machine.l2.banks
+  pub placed : AreShardsOf machine.cores (shards_in p.memory) machine.memory.base machine.memory.size
   pub stand : StandForMachine s.cores (begun_shards machine p) (world_of machine s)
   pub comps : p.comps ≡ s.comps
   pub counters : p.counters ≡ counts_of machine.cores s.comps s.intervals
@@ -138,9 +139,9 @@ pub record HasRoomForInterval (machine : Machine) (end : ℕ) (p : Simulation) :
   pub ready : (i : ℕ) (c : NumberedCore) → slice_get p.cores.items i ≡ Some c → CanRunInterval machine end (base_of (begun_shards machine p)) (size_of (begun_shards machine p)) (l1i_of (begun_shards machine p)) c.timed
   pub count : length p.cores.items ≡ machine.cores
   pub numbered : AreNumbered p.cores.items
-  pub stamps : length p.port.world.stamps ≡ machine.cores
-  pub shards : AreShardsOf machine.cores p.port.world.shards machine.memory.base machine.memory.size
-  pub banks : length p.port.world.shards ≡ machine.l2.banks
+  pub stamps : IsForCores machine.cores p.memory
+  pub shards : AreShardsOf machine.cores (shards_in p.memory) machine.memory.base machine.memory.size
+  pub banks : length (shards_in p.memory) ≡ machine.l2.banks
   pub free : All (λ c. free_of c ≤ 2 ^ 56) p.comps
   pub components : AreComponents machine p.comps
   pub cores : length p.counters.core_counts ≡ machine.cores
@@ -151,9 +152,9 @@ pub record HasRoomForInterval (machine : Machine) (end : ℕ) (p : Simulation) :
 pub record IsBoundPhase (machine : Machine) (image : MemoryImage) (end : ℕ) (before : Simulation) (turns : List ℕ) (after : Simulation) (entries : List Entry) : Type 0 where
   -- what it comes to
   pub left : BoundState ShardWorld
-  pub phase : bound_phase shards_serve (time_of machine) image end turns (begun_over_shards (cores_of before) (map restarted before.port.world.shards)) ≡ Ok left
+  pub phase : bound_phase shards_serve (time_of machine) image end turns (begun_over_shards (cores_of before) (map restarted (shards_in before.memory))) ≡ Ok left
   pub cores_are : cores_of after ≡ left.cores
-  pub shards_are : map restarted after.port.world.shards ≡ map restarted left.world.shards
+  pub shards_are : map restarted (shards_in after.memory) ≡ map restarted left.world.shards
   pub in_order : entries ≡ recorded_order left.entries
   pub cores : All (λ e. e.core < machine.cores) entries
   pub starts : All (λ e. e.start ≤ 2 ^ 36) entries
@@ -162,7 +163,7 @@ pub record IsBoundPhase (machine : Machine) (image : MemoryImage) (end : ℕ) (b
   pub count : length after.cores.items ≡ machine.cores
   pub numbered : AreNumbered after.cores.items
   pub over : All (IsOver end) (cores_of after)
-  pub stamps : length after.port.world.stamps ≡ machine.cores
+  pub stamps : IsForCores machine.cores after.memory
 
 -- The run has the bound phase of its next interval behind it, under these turns and with these entries. No event has
 -- fired, and nothing is counted.

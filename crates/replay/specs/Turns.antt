@@ -4,7 +4,7 @@ use Rattle.zs_num.specs.declared.entry.Entry.{Entry}
 use Rattle.elf_load.specs.MemoryImage.{MemoryImage}
 use Rattle.machine_desc.specs.declared.machine.Machine.{Machine}
 use Rattle.event_graph.specs.declared.plain.Plain.{Plain}
-use Rattle.event_graph.specs.Timing.{access_time}
+use Rattle.event_graph.specs.PlainTiming.{access_time}
 use Rattle.bound_core.specs.Reaching.{Reaches}
 use Rattle.bound_core.specs.ReferenceMachine.{BoundState, bound_phase}
 use Rattle.bound_core.specs.ShardPort.{base_of, l1i_of, room_of, size_of}
@@ -53,7 +53,7 @@ chosen port number = record port { core = number }
 pub record TakesAccess (time : Entry → ℕ) (image : MemoryImage) (end : ℕ) (port port_after : LoggedPortState) (core after : NumberedCore) (e : Entry) : Type 0 where
   pub turn : TakesTurn time image end gives port port_after core.timed after.timed e
   pub own : e.core ≡ core.number
-  pub start : e.start ≤ max core.timed.clock end + 1
+  pub start : e.start ≤ max core.timed.clock end + 192
   pub fewer : most_accesses end after.timed < most_accesses end core.timed
   pub not_later : latest_clock end after.timed ≤ latest_clock end core.timed
   pub number : after.number ≡ core.number

@@ -9,6 +9,7 @@ pub mod laws;
 mod limits;
 mod list_gate;
 mod logged_port;
+mod memory;
 mod own_program;
 mod replay_fail;
 mod replaying;

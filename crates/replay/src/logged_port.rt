@@ -1,65 +1,65 @@
-//! A port through which cores access the shards, and which logs what they do.
-ghost use Rattle.std.specs.Prelude.{◌≡◌, ◌≤◌, ◌<◌, [], length, map, min, Some, IfOk, OnOk};
+//! A port through which cores access caches and memory, and which logs what they do.
+ghost use Rattle.std.specs.Prelude.{◌≡◌, ◌≤◌, ◌<◌, ◌&&◌, [], length, map, min, nat_lt, true, Some, IfOk, OnOk};
 ghost use Rattle.machine_desc.specs.Machine.{IsMachine};
 ghost use Rattle.shard.specs.StandsFor.{new_shards};
+ghost use Rattle.access_log.specs.History.{AreRising};
 ghost use Rattle.access_log.specs.Logs.{HaveDistinctKeys};
 ghost use Rattle.access_log.specs.RecordedOrder.{recorded_order};
-ghost use Rattle.bound_core.specs.ShardPort.{AreShardsOf, base_in, base_of, l1i_of, room_of, size_in, size_of};
+ghost use Rattle.bound_core.specs.ShardPort.{base_of, l1i_of, room_of, size_of};
 ghost use Rattle.bound_core.specs.ShardWorld.{begun_world, restarted};
 ghost use Rattle.replay.specs.Port.{gives};
 
 use access_log::sort;
-use bound_core::{Port, ShardPort};
+use bound_core::{PartsPort, Port};
 use elf_load::Image;
 use machine_desc::Machine;
-use shard::Shard;
+use shard::Parts;
 use std::alloc::Global;
 use std::marker::Model;
 use std::mem;
-use zs_num::{Cycle, Entries, Entry, NoMemory, Request};
+use zs_num::{Cycle, Entries, Entry, NoMemory, Request, Stamp};
 
-/// The shards of a machine, and the accesses that they have served in the interval so far, in the
-/// order of the turns.
+/// The caches and the memory of a machine, and the accesses that they have served in the interval
+/// so far, in the order of the turns. It knows whether the stamps of these have risen from each to
+/// the next: then the order of the turns is the recorded order.
 #[derive(Drop)]
 pub struct LoggedPort {
-    port: ShardPort,
+    port: PartsPort,
     entries: Vec<Entry>,
+    // The stamp of the latest access, 0 before the first.
+    last: Stamp,
+    rises: bool,
 }
 
 impl Model for LoggedPort {
     ghost use Rattle.std.specs.Prelude.{◌-◌, vec_len, vec_capacity};
-    ghost use Rattle.replay.specs.Port.{LoggedPortState};
+    ghost use Rattle.replay.specs.Port.{KnowsItsOrder, LoggedPortState};
 
     ghost Value = { LoggedPortState };
 
     ghost view = { λ p. record { world = p.port.world; core = p.port.core; entries = p.entries.items; room = vec_capacity p.entries - vec_len p.entries } };
+
+    ghost invariant = { λ p. KnowsItsOrder p.last p.rises p.entries.items };
 }
 
 impl LoggedPort {
-    /// The shards of a machine into which an executable was loaded, with no room for accesses yet.
+    /// A port for the cores of a machine into which an executable was loaded, before the first
+    /// access of an interval, with no room for accesses yet.
     pub fn new(alloc: Global, machine: &Machine, image: &Image) -> Result<Self, NoMemory>
         requires machine { IsMachine machine.now }
         requires base { image.now.base ≡ machine.now.memory.base }
         requires size { image.now.size ≡ machine.now.memory.size }
         ensures { IfOk result (λ p. p.world ≡ begun_world machine.now.cores (map restarted (new_shards machine.now image.now))) }
     {
-        let shards = shards_of(alloc, machine, image)?;
-        LoggedPort::over(alloc, shards, machine.cores)
-    }
-
-    /// A port for so many cores to these shards, before the first access of an interval, with no
-    /// room for accesses yet.
-    pub fn over(alloc: Global, shards: Vec<Shard>, cores: u16) -> Result<Self, NoMemory>
-        requires some { 0 < cores }
-        requires shards { AreShardsOf cores shards.items (base_in shards.items) (size_in shards.items) }
-        ensures { IfOk result (λ p. p.world ≡ begun_world cores (map restarted shards.items)) }
-    {
-        match ShardPort::new(alloc, shards, cores) {
+        let parts = Parts::new(alloc, machine, image)?;
+        match PartsPort::new(alloc, parts, machine.cores) {
             Ok(port) => Ok(LoggedPort {
                 port,
                 entries: Vec::new(alloc),
+                last: 0,
+                rises: true,
             }),
-            Err((NoMemory, _shards)) => Err(NoMemory),
+            Err((NoMemory, _parts)) => Err(NoMemory),
         }
     }
 
@@ -74,6 +74,8 @@ impl LoggedPort {
         list.reserve(room)?;
         self.port.restart();
         self.entries = list;
+        self.last = 0;
+        self.rises = true;
         Ok(())
     }
 
@@ -85,13 +87,6 @@ impl LoggedPort {
         self.port.choose(core);
     }
 
-    /// Gives the shards back.
-    pub fn into_shards(self) -> Vec<Shard>
-        ensures { result.items ≡ self.world.shards }
-    {
-        self.port.finish()
-    }
-
     /// Hands out the accesses, in recorded order, and keeps none.
     pub fn take_sorted(&mut self, alloc: Global) -> Entries
         requires { HaveDistinctKeys self.old.entries }
@@ -100,7 +95,9 @@ impl LoggedPort {
         ensures world { self.new.world ≡ self.old.world }
     {
         let mut entries = mem::replace(&mut self.entries, Vec::new(alloc));
-        sort(&mut entries);
+        put_in_order(&mut entries, self.rises);
+        self.last = 0;
+        self.rises = true;
         Entries::of(entries)
     }
 }
@@ -123,8 +120,29 @@ impl Port for LoggedPort {
     #[inline(always)]
     fn access(&mut self, start: Cycle, request: Request) -> Entry {
         let entry = self.port.access(start, request);
+        self.rises = rises_to(self.rises, self.last, entry.stamp);
+        self.last = entry.stamp;
         self.entries.push_reserved(anew(&entry));
         anew(&entry)
+    }
+}
+
+/// Whether stamps that rose up to the last one, if they did, have risen with the next one too.
+#[inline(always)]
+fn rises_to(rose: bool, last: Stamp, next: Stamp) -> bool
+    ensures { result ≡ (rose && nat_lt last next) }
+{
+    rose && last < next
+}
+
+/// Puts accesses into recorded order. Where their stamps rise, they stand in it.
+fn put_in_order(entries: &mut Vec<Entry>, rises: bool)
+    requires keys { HaveDistinctKeys entries.old.items }
+    requires rising { rises ≡ true → AreRising 0 entries.old.items }
+    ensures { entries.new.items ≡ recorded_order entries.old.items }
+{
+    if !rises {
+        sort(entries);
     }
 }
 
@@ -142,18 +160,4 @@ fn anew(entry: &Entry) -> Entry
         reply: entry.reply,
         outcome: entry.outcome,
     }
-}
-
-/// The shards of a machine, in order of their numbers.
-fn shards_of(alloc: Global, machine: &Machine, image: &Image) -> Result<Vec<Shard>, NoMemory>
-    requires machine { IsMachine machine.now }
-    requires base { image.now.base ≡ machine.now.memory.base }
-    requires size { image.now.size ≡ machine.now.memory.size }
-    ensures { IfOk result (λ shards. shards.items ≡ new_shards machine.now image.now) }
-{
-    let mut shards = Vec::new(alloc);
-    for number in 0..machine.l2.banks {
-        shards.push(Shard::new(alloc, machine, number, image)?)?;
-    }
-    Ok(shards)
 }

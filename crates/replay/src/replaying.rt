@@ -1,7 +1,8 @@
 //! The run of an executable under a schedule that is handed in.
-ghost use Rattle.std.specs.Prelude.{◌≡◌, IfOk};
+ghost use Rattle.std.specs.Prelude.{◌≡◌, true, IfOk};
 ghost use Rattle.std.specs.List.{range_with_len};
 ghost use Rattle.machine_desc.specs.Machine.{IsMachine};
+ghost use Rattle.replay.specs.Memory.{is_alone};
 ghost use Rattle.replay.specs.Replay.{Replays};
 ghost use Rattle.replay.specs.Results.{HasCounts};
 ghost use Rattle.replay.specs.Simulation.{IsAtStart};
@@ -32,7 +33,7 @@ pub fn replay(
     ensures numbered { IfOk result (λ r. r.numbers ≡ range_with_len 0 machine.now.cores) }
 {
     let program = DecodedProgram::of(alloc, image)?;
-    let simulation = Simulation::new(alloc, machine, image)?;
+    let simulation = Simulation::new(alloc, machine, image, 1)?;
     replay_on(alloc, machine, &program, simulation, schedule)
 }
 
@@ -46,6 +47,7 @@ fn replay_on(
 ) -> Result<Final, ReplayFail>
     requires machine { IsMachine machine.now }
     requires starts { IsAtStart machine.now program.now simulation }
+    requires alone { is_alone simulation.memory ≡ true }
     requires cores { schedule.now.cores ≡ machine.now.cores }
     ensures gives { Replays machine.now program.now schedule.now.lists result }
     ensures counted { IfOk result (HasCounts machine.now) }

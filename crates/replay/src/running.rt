@@ -56,8 +56,8 @@ pub fn run<R: Threads + Wait + Sync, G: Gate>(
     fresh_components_are_there();
     let places = component_domains(alloc, machine)?;
     let program = DecodedProgram::of(alloc, image)?;
-    let simulation = Simulation::new(alloc, machine, image)?;
     let workers = workers.clamp(1, 64);
+    let simulation = Simulation::new(alloc, machine, image, workers.min(machine.cores))?;
     run_on(
         rt, alloc, machine, &program, &places, simulation, workers, gate, schedule,
     )

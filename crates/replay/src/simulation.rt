@@ -1,5 +1,5 @@
 //! A run between two intervals, and how it is taken through the next one.
-ghost use Rattle.std.specs.Prelude.{◌≡◌, ◌+◌, ◌-◌, ◌*◌, ◌<◌, ◌≤◌, ◌^◌, min, ℕ, List, [], All, Some, Err, IfErr, IfOk, OnOk, is_some, length, map, nat_lt, slice_get};
+ghost use Rattle.std.specs.Prelude.{◌≡◌, ◌+◌, ◌-◌, ◌*◌, ◌<◌, ◌≤◌, ◌^◌, min, ℕ, List, [], All, Some, Err, IfErr, IfOk, OnOk, false, is_some, length, map, nat_lt, slice_get, true};
 ghost use Rattle.std.specs.List.{list_all, list_any, range_with_len};
 ghost use Rattle.machine_desc.specs.declared.machine.Machine.{Machine};
 ghost use Rattle.machine_desc.specs.Components.{component_count};
@@ -14,6 +14,7 @@ ghost use Rattle.bound_core.specs.TimedCore.{beside_cycles, first_core};
 ghost use Rattle.bound_core.specs.NumberedCores.{NumberedCore, timed_of};
 ghost use Rattle.replay.specs.ReferenceRun.{RunState, access_room, after_interval, all_delayed, at_limit, has_ended_at, have_halted, run_results, time_of};
 ghost use Rattle.replay.specs.Limits.{cycle_limit};
+ghost use Rattle.replay.specs.Memory.{is_alone, shards_in};
 ghost use Rattle.replay.specs.Replay.{IfIllegal};
 ghost use Rattle.replay.specs.Simulation.{AreNumbered, CanRunInterval, HasNextInterval, HasBound, HasFired, HasRoomForInterval, HasRunThroughPort, HaveRunThroughPort, IsAtStart, IsBoundPhase, LeadsTo, StandsFor, cores_of, phase_of};
 ghost use Rattle.replay.specs.Turns.{HaveTurned};
@@ -23,6 +24,7 @@ use crate::firing::fire_all;
 use crate::gated_port::GatedPort;
 use crate::limits::{ACCESS_LIMIT, CYCLE_LIMIT};
 use crate::logged_port::LoggedPort;
+use crate::memory::Memory;
 use crate::own_program::OwnProgram;
 use crate::turns::take_turns;
 use crate::weaving::{events_of, woven_of};
@@ -42,23 +44,30 @@ use weave_seq::weave_seq;
 use zs_host::Gate;
 use zs_num::{Cycle, Entries, Entry, NoMemory};
 
-/// A run between two intervals: its cores in order of their numbers, their port to the shards, its
+/// A run between two intervals: its cores in order of their numbers, caches and memory, its
 /// components, and what was counted so far.
 #[derive(Drop)]
 pub struct Simulation {
     cores: Vec<BoundCore>,
-    port: LoggedPort,
+    memory: Memory,
     comps: Comps<Comp>,
     counters: Counters,
 }
 
 impl Simulation {
-    /// A run before its first interval.
-    pub fn new(alloc: Global, machine: &Machine, image: &Image) -> Result<Self, NoMemory>
+    /// A run before its first interval, whose cores are run by so many workers. One worker has
+    /// caches and memory alone.
+    pub fn new(
+        alloc: Global,
+        machine: &Machine,
+        image: &Image,
+        workers: u16,
+    ) -> Result<Self, NoMemory>
         requires machine { IsMachine machine.now }
         requires base { image.now.base ≡ machine.now.memory.base }
         requires size { image.now.size ≡ machine.now.memory.size }
-        ensures { IfOk result (IsAtStart machine.now image.now) }
+        ensures starts { IfOk result (IsAtStart machine.now image.now) }
+        ensures alone { workers ≡ 1 → IfOk result (λ run. is_alone run.memory ≡ true) }
     {
         stats::laws::nothing_is_counted_first();
         bound_core::laws::intervals_begin();
@@ -66,7 +75,7 @@ impl Simulation {
         let _sound = image.base();
         Ok(Simulation {
             cores: first_cores(alloc, machine, image)?,
-            port: LoggedPort::new(alloc, machine, image)?,
+            memory: Memory::new(alloc, machine, image, workers)?,
             comps: components(alloc, machine)?,
             counters: Counters::new(alloc, machine)?,
         })
@@ -105,9 +114,10 @@ impl Simulation {
 
     /// Runs the interval that ends at cycle `end`, which is 2^34 at most: first each core to the
     /// interval's end, and then the weave. So many workers do both, but no more of them than there
-    /// are cores, and then domains. `places` has the domain of each component. `domains_are_worth`
-    /// says before the call whether several workers weave by domains, and after it whether that was
-    /// worth it. Answers the run after the interval, and the interval's accesses.
+    /// are cores, and then domains; the cores of a run that one worker has alone it runs by itself.
+    /// `places` has the domain of each component. `domains_are_worth` says before the call whether
+    /// several workers weave by domains, and after it whether that was worth it. Answers the run
+    /// after the interval, and the interval's accesses.
     pub fn interval<R: Threads + Wait + Sync, G: Gate>(
         self,
         rt: &R,
@@ -120,7 +130,7 @@ impl Simulation {
         gate: &G,
         places: &[u16],
         domains_are_worth: &mut bool,
-        memory: &mut PhaseBuffers,
+        buffers: &mut PhaseBuffers,
     ) -> Result<(Self, Entries), NoMemory>
         requires machine { IsMachine machine.now }
         requires plain { IsPlainOf machine.now plain.now }
@@ -134,7 +144,7 @@ impl Simulation {
     {
         let runners = workers.min(machine.cores);
         let (mut simulation, entries) = self.bound(
-            rt, alloc, machine, program, plain, end, runners, gate, memory,
+            rt, alloc, machine, program, plain, end, runners, gate, buffers,
         )?;
         let weavers = workers.min(machine.domains.count);
         simulation.weave(
@@ -151,8 +161,9 @@ impl Simulation {
         Ok((simulation, entries))
     }
 
-    /// Runs this interval, which ends at cycle `end`, 2^34 at most, under a list of turns. Answers
-    /// `list`, whose memory the accesses took, or the first place of the turns that is not legal.
+    /// Runs this interval, which ends at cycle `end`, 2^34 at most, under a list of turns, in a run
+    /// of one worker. Answers `list`, whose memory the accesses took, or the first place of the
+    /// turns that is not legal.
     pub fn interval_under(
         &mut self,
         alloc: Global,
@@ -171,6 +182,8 @@ impl Simulation {
         requires few { length turns.now < 2 ^ 32 }
         requires room { HasRoomForInterval machine.now end self.old }
         requires goes_on { (s : RunState) × HasNextInterval machine.now end s self.old }
+        requires alone { is_alone self.old.memory ≡ true }
+        ensures alone { OnOk result (is_alone self.new.memory ≡ true) }
         ensures leads { OnOk result ((s : RunState) → HasNextInterval machine.now end s self.old → LeadsTo machine.now program.now s turns.now self.new) }
         ensures illegal { IfErr result (λ fail. IfIllegal fail (λ at. (at.interval ≡ interval) × ((s : RunState) → HasNextInterval machine.now end s self.old → after_interval machine.now program.now s turns.now ≡ Err (record { interval = length s.intervals; place = at.place })))) }
     {
@@ -194,7 +207,7 @@ impl Simulation {
         end: Cycle,
         workers: u16,
         gate: &G,
-        memory: &mut PhaseBuffers,
+        buffers: &mut PhaseBuffers,
     ) -> Result<(Self, Entries), NoMemory>
         requires machine { IsMachine machine.now }
         requires plain { IsPlainOf machine.now plain.now }
@@ -205,12 +218,12 @@ impl Simulation {
         ensures comps { IfOk result (λ r. r.0.comps ≡ self.comps) }
         ensures counters { IfOk result (λ r. r.0.counters ≡ self.counters) }
     {
-        if workers == 1 {
-            let list = memory.take_list(alloc);
+        if self.memory.is_alone() {
+            let list = buffers.take_list(alloc);
             return self.bound_alone(alloc, machine, program, plain, end, gate, list);
         }
         self.bound_by(
-            rt, alloc, machine, program, plain, end, workers, gate, memory,
+            rt, alloc, machine, program, plain, end, workers, gate, buffers,
         )
     }
 
@@ -230,6 +243,7 @@ impl Simulation {
         requires plain { IsPlainOf machine.now plain.now }
         requires end { end ≤ 2 ^ 34 }
         requires room { HasRoomForInterval machine.now end self }
+        requires alone { is_alone self.memory ≡ true }
         ensures bounded { IfOk result (λ r. IsBoundPhase machine.now program.now end self (map (λ e. e.core) r.1) r.0 r.1) }
         ensures comps { IfOk result (λ r. r.0.comps ≡ self.comps) }
         ensures counters { IfOk result (λ r. r.0.counters ≡ self.counters) }
@@ -243,16 +257,19 @@ impl Simulation {
         access_log::laws::cores_decide_the_order();
         let Simulation {
             mut cores,
-            mut port,
+            memory,
             comps,
             counters,
         } = self;
+        let Memory::Alone(mut port) = memory else {
+            unreachable!()
+        };
         port.begin(access_room(machine) as usize, list)?;
         let mut port = run_cores(machine, program, plain, end, gate, &mut cores, port)?;
         let entries = port.take_sorted(alloc);
         let simulation = Simulation {
             cores,
-            port,
+            memory: Memory::Alone(port),
             comps,
             counters,
         };
@@ -270,13 +287,14 @@ impl Simulation {
         end: Cycle,
         workers: u16,
         gate: &G,
-        memory: &mut PhaseBuffers,
+        buffers: &mut PhaseBuffers,
     ) -> Result<(Self, Entries), NoMemory>
         requires machine { IsMachine machine.now }
         requires plain { IsPlainOf machine.now plain.now }
         requires end { end ≤ 2 ^ 34 }
         requires workers { (1 ≤ workers) × (workers ≤ 64) }
         requires room { HasRoomForInterval machine.now end self }
+        requires shared { is_alone self.memory ≡ false }
         ensures bounded { IfOk result (λ r. IsBoundPhase machine.now program.now end self (map (λ e. e.core) r.1) r.0 r.1) }
         ensures comps { IfOk result (λ r. r.0.comps ≡ self.comps) }
         ensures counters { IfOk result (λ r. r.0.counters ≡ self.counters) }
@@ -284,23 +302,24 @@ impl Simulation {
         bound_core::laws::histories_are_phases();
         let Simulation {
             cores,
-            port,
+            memory,
             comps,
             counters,
         } = self;
-        let shards = port.into_shards();
+        let Memory::Shared(shards) = memory else {
+            unreachable!()
+        };
         // Wrapped twice, and so of another type than the program of one worker: each of the two
         // loops over instructions is compiled on its own.
         let program = OwnProgram { program };
         let program = OwnProgram { program: &program };
         match bound_in(
-            rt, alloc, memory, machine, &program, plain, cores, shards, end, workers, gate,
+            rt, alloc, buffers, machine, &program, plain, cores, shards, end, workers, gate,
         ) {
             Ok(bounded) => {
-                let port = LoggedPort::over(alloc, bounded.shards, machine.cores)?;
                 let simulation = Simulation {
                     cores: bounded.cores,
-                    port,
+                    memory: Memory::Shared(bounded.shards),
                     comps,
                     counters,
                 };
@@ -328,15 +347,20 @@ impl Simulation {
         requires known { All (λ number. number < machine.now.cores) turns.now }
         requires few { length turns.now < 2 ^ 32 }
         requires room { HasRoomForInterval machine.now end self.old }
+        requires alone { is_alone self.old.memory ≡ true }
+        ensures alone { OnOk result (is_alone self.new.memory ≡ true) }
         ensures bounded { IfOk result (IsBoundPhase machine.now program.now end self.old turns.now self.new) }
-        ensures illegal { IfErr result (λ fail. IfIllegal fail (λ at. (at.interval ≡ interval) × (bound_phase shards_serve (time_of machine.now) program.now end turns.now (begun_over_shards (cores_of self.old) (map restarted self.old.port.world.shards)) ≡ Err at.place))) }
+        ensures illegal { IfErr result (λ fail. IfIllegal fail (λ at. (at.interval ≡ interval) × (bound_phase shards_serve (time_of machine.now) program.now end turns.now (begun_over_shards (cores_of self.old) (map restarted (shards_in self.old.memory))) ≡ Err at.place))) }
         ensures comps { self.new.comps ≡ self.old.comps }
         ensures counters { self.new.counters ≡ self.old.counters }
     {
         bound_core::laws::phases_are_histories();
         access_log::laws::rising_stamps_are_distinct();
         access_log::laws::stamps_rise();
-        self.port.begin(access_room(machine) as usize, list)?;
+        let Memory::Alone(port) = &mut self.memory else {
+            unreachable!()
+        };
+        port.begin(access_room(machine) as usize, list)?;
         run_turns(
             machine,
             program,
@@ -345,9 +369,9 @@ impl Simulation {
             interval,
             turns,
             &mut self.cores,
-            &mut self.port,
+            port,
         )?;
-        Ok(self.port.take_sorted(alloc))
+        Ok(port.take_sorted(alloc))
     }
 
     /// The weave of an interval, after its bound phase: fires the events of its accesses by so many
@@ -402,7 +426,8 @@ impl Simulation {
         requires core_counts { length self.old.counters.core_counts ≡ machine.now.cores }
         requires comp_counts { length self.old.counters.comp_counts ≡ component_count machine.now }
         requires cores { All (λ e. e.core < machine.now.cores) entries.now }
-        ensures { OnOk result ((image : MemoryImage) (s : RunState) (turns : List ℕ) → HasFired machine.now image s turns self.old entries.now graph fired → (leads : LeadsTo machine.now image s turns self.new) × (leads.entries ≡ entries.now)) }
+        ensures memory { OnOk result (self.new.memory ≡ self.old.memory) }
+        ensures leads { OnOk result ((image : MemoryImage) (s : RunState) (turns : List ℕ) → HasFired machine.now image s turns self.old entries.now graph fired → (leads : LeadsTo machine.now image s turns self.new) × (leads.entries ≡ entries.now)) }
     {
         stats::laws::counters_are_sums();
         stats::laws::sums_fit();

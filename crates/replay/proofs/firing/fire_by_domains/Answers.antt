@@ -1,5 +1,9 @@
-use Rattle.std.proofs.Common.{◌≡◌, ◌+◌, ◌∙◌, List, length, ap, arith, subst, sym}
+use Rattle.std.proofs.Common.{◌≡◌, ◌+◌, ◌++◌, ◌∙◌, List, length, map, ap, arith, subst, sym}
+use Rattle.std.specs.List.{range_with_len}
 use Rattle.std.proofs.lemmas.List.{length-append}
+use Rattle.std.proofs.lemmas.List.FromFn.{length-map-range_with_len}
+use Rattle.machine_desc.specs.Components.{links_of}
+use Rattle.machine_desc.specs.ComponentDomains.{domain_of_link}
 use Rattle.component.specs.declared.comp.Comp.{Comp}
 use Rattle.component.specs.Serving.{comp_latency, comp_serves}
 use Rattle.event_graph.specs.Fits.{GraphFits}
@@ -9,8 +13,12 @@ pub weave-requires-clause-partitioned : goal.weave-requires-clause-partitioned
 weave-requires-clause-partitioned g c κs within =
     let machine = c.args.machine.now in
     let split = c.in_ok-parts.ensures in
-    let listed : length c.in_ok-parts.parts.places ≡ length machine.domains.banks + length machine.domains.controllers =
-    ap length split.places ∙ length-append machine.domains.banks machine.domains.controllers
+    let banks = machine.domains.banks in
+    let controllers = machine.domains.controllers in
+    let links = map (domain_of_link machine) (range_with_len 0 (links_of machine)) in
+    let listed : length c.in_ok-parts.parts.places ≡ length banks + length controllers + links_of machine =
+    ap length split.places
+    ∙ omega (arith, length-append banks controllers, length-append (banks ++ controllers) links, length-map-range_with_len (domain_of_link machine) 0 (links_of machine))
     in
     record {
       numbered = c.events-numbered.ensures.numbered;

@@ -16,7 +16,7 @@ returns-in_err-simulation-clause-gives c =
 
 pub replay_on-requires-clause-starts : goal.replay_on-requires-clause-starts
 replay_on-requires-clause-starts c =
-    subst (λ (i : MemoryImage). IsAtStart c.args.machine.now i c.in_ok-simulation.simulation) (sym c.in_ok-program.ensures) c.in_ok-simulation.ensures
+    subst (λ (i : MemoryImage). IsAtStart c.args.machine.now i c.in_ok-simulation.simulation) (sym c.in_ok-program.ensures) c.in_ok-simulation.ensures.starts
 
 pub returns-clause-gives : goal.returns-clause-gives
 returns-clause-gives c =

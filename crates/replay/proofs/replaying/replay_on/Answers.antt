@@ -31,6 +31,7 @@ loop-alloc-init c =
       small = omega arith;
       within = omega arith;
       accesses = omega (arith, accesses);
+      alone = c.requires.alone;
     }
 
 pub interval_under-requires-clause-room : goal.interval_under-requires-clause-room
@@ -120,6 +121,7 @@ loop-alloc-preserved c =
       small = omega (arith, was.small, c.requires.machine.interval);
       within = omega (arith, below);
       accesses = omega (arith, accesses, leads.come.counted.accesses);
+      alone = c.in_ok-list.ensures.alone;
     }
 
 -- the schedule ends, and the run goes on

@@ -26,7 +26,7 @@ returns-in_err-simulation-clause-in_order g c =
 
 pub run_on-requires-clause-starts : goal.run_on-requires-clause-starts
 run_on-requires-clause-starts g c κs within =
-    subst (λ (i : MemoryImage). IsAtStart c.args.machine.now i c.in_ok-simulation.simulation) (sym c.in_ok-program.ensures) c.in_ok-simulation.ensures
+    subst (λ (i : MemoryImage). IsAtStart c.args.machine.now i c.in_ok-simulation.simulation) (sym c.in_ok-program.ensures) c.in_ok-simulation.ensures.starts
 
 pub returns-clause-ok : goal.returns-clause-ok
 returns-clause-ok g c =

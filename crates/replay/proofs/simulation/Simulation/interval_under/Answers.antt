@@ -1,10 +1,11 @@
-use Rattle.std.proofs.Common.{◌≡◌, ◌^◌, ◌≤◌, All, Err, List, length, map, subst, sym}
+use Rattle.std.proofs.Common.{◌≡◌, ◌^◌, ◌≤◌, All, Err, List, length, map, subst, sym, ap, ◌∙◌}
 use Rattle.component.specs.declared.comp.Comp.{Comp}
 use Rattle.component.specs.ComponentStep.{free_of}
 use Rattle.component.specs.Components.{AreComponents}
 use Rattle.bound_core.specs.History.{begun_over_shards}
 use Rattle.bound_core.specs.ReferenceMachine.{bound_phase}
 use Rattle.bound_core.specs.ShardWorld.{restarted, shards_serve}
+use Rattle.replay.specs.Memory.{is_alone, shards_in}
 use Rattle.replay.specs.ReferenceRun.{Illegal, RunState, after_interval, time_of}
 use Rattle.replay.specs.Replay.{IfIllegal}
 use Rattle.replay.specs.Simulation.{HasNextInterval, cores_of}
@@ -23,7 +24,7 @@ returns-in_err-entries-clause-illegal c =
     let turns = c.args.turns.now in
     let before = c.args.self.now in
     let Found : Illegal → Type 0 = λ at.
-    (at.interval ≡ c.args.interval) × (bound_phase shards_serve (time_of machine) image end turns (begun_over_shards (cores_of before) (map restarted before.port.world.shards)) ≡ Err at.place)
+    (at.interval ≡ c.args.interval) × (bound_phase shards_serve (time_of machine) image end turns (begun_over_shards (cores_of before) (map restarted (shards_in before.memory))) ≡ Err at.place)
     in
     let Place : Illegal → Type 0 = λ at.
     (at.interval ≡ c.args.interval) × ((s : RunState) → HasNextInterval machine end s before → after_interval machine image s turns ≡ Err (record { interval = length s.intervals; place = at.place }))
@@ -84,8 +85,11 @@ returns-clause-leads c = λ s g.
     let machine = c.args.machine.now in
     let image = c.args.program.now in
     let ran = c.in_ok-entries.ensures in
-    let leads = c.in_ok-take_in.ensures image s c.args.turns.now
+    let leads = c.in_ok-take_in.ensures.leads image s c.args.turns.now
     (has_fired machine image c.args.end s c.args.turns.now c.args.self.now c.bound_under.new.self c.in_ok-entries.entries c.in_ok-graph.graph c.in_ok-fired.fired c.weave_seq.new.comps
     g ran.bounded ran.comps ran.counters c.requires.room.components c.in_ok-graph.ensures c.in_ok-fired.ensures.fired c.in_ok-fired.ensures.comps)
     in
     leads.0
+
+pub returns-clause-alone : goal.returns-clause-alone
+returns-clause-alone c = ap is_alone c.in_ok-take_in.ensures.memory ∙ c.in_ok-entries.ensures.alone

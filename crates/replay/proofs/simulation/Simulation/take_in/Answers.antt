@@ -84,8 +84,8 @@ add-requires-clause-fits c =
     in
     subst (λ (counts : Counts). CountsFit (added counts i c.args.self.now.comps)) (sym h.counters) fits
 
-pub returns : goal.returns
-returns c = λ image s turns h.
+pub returns-clause-leads : goal.returns-clause-leads
+returns-clause-leads c = λ image s turns h.
     let machine = c.args.machine.now in
     let entries : List Entry = c.args.entries.now in
     let b = h.bounded in
@@ -116,6 +116,6 @@ returns c = λ image s turns h.
     let long : length c.delay_all.new.cores ≡ q.cores.len = omega (arith, c.delay_all.auto.cores, ap length c.deref_mut.ensures.value, q.cores.ok.0) in
     let written = with_items_is q.cores c.delay_all.new.cores long in
     leads_on machine c.requires.machine image h.end s h.before q h.goes_on turns entries b laws i is refl (weave.timely, weave.delays_small) weave.few are
-    (record { cores = with_items q.cores c.delay_all.new.cores; port = q.port; comps = q.comps; counters = c.add.new.self })
+    (record { cores = with_items q.cores c.delay_all.new.cores; memory = q.memory; comps = q.comps; counters = c.add.new.self })
     (ap timed_of written ∙ waited) (subst AreNumbered (sym written) numbered) refl comps
     (c.add.ensures ∙ ap (λ (counts : Counts). added counts i q.comps) h.counters)

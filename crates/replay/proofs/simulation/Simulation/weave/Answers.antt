@@ -49,6 +49,6 @@ take_in-requires-clause-comp_counts g c =
 pub returns : goal.returns
 returns g c = λ image s turns h.
     let machine = c.args.machine.now in
-    c.in_ok-take_in.ensures image s turns
+    c.in_ok-take_in.ensures.leads image s turns
     (has_fired machine image h.end s turns h.before c.args.self.now c.args.entries.now c.in_ok-graph.graph c.in_ok-fired.fired c.fire_all.new.comps
     h.goes_on h.bounded h.comps h.counters (has_room machine h.end s h.before h.goes_on).components c.in_ok-graph.ensures c.in_ok-fired.ensures.fired c.in_ok-fired.ensures.comps)

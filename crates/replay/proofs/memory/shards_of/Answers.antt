@@ -2,7 +2,7 @@ use Rattle.std.proofs.Common.{ℕ, ◌∷◌, [], ◌++◌, List, map, sym, ap, 
 use Rattle.std.specs.List.{range_with_len}
 use Rattle.std.proofs.lemmas.List.FromFn.{map-range_with_len_more}
 use Rattle.shard.specs.Served.{ShardState, new_shard}
-use Rattle.replay.proofs.logged_port.shards_of.Goals as goal
+use Rattle.replay.proofs.memory.shards_of.Goals as goal
 
 pub loop-number-preserved : goal.loop-number-preserved
 loop-number-preserved c =
