@@ -82,3 +82,17 @@ fn a_line_that_is_cleared_has_no_sharer(rt: HostRuntime) -> Result<(), Fail> {
     has(&rt, &directory, 7, 64, (false, false));
     Ok(())
 }
+
+#[test]
+fn another_core_is_found_among_256_and_not_when_it_has_gone(rt: HostRuntime) -> Result<(), Fail> {
+    let mut directory = owned(rt.alloc(), 1, 256, 9, 0)?;
+    shares(&rt, &mut directory, 9, 63);
+    shares(&rt, &mut directory, 9, 64);
+    shares(&rt, &mut directory, 9, 255);
+    has(&rt, &directory, 9, 255, (true, true));
+    loses(&mut directory, 9, 0);
+    loses(&mut directory, 9, 63);
+    loses(&mut directory, 9, 64);
+    has(&rt, &directory, 9, 255, (true, false));
+    Ok(())
+}

@@ -1,11 +1,15 @@
-//! Tests of what accesses leave, through the public calls of their crates: lines in sets and in
-//! directories, shards, logs, and schedules with their files.
+//! Tests of what accesses leave, through the public calls of their crates: lines in sets, in L1s, in
+//! homes and in directories, shards, logs, and schedules with their files.
 #![tactic(auto)]
 
 #[cfg(test)]
 mod checks;
 #[cfg(test)]
 mod directories;
+#[cfg(test)]
+mod homes;
+#[cfg(test)]
+mod l1s;
 #[cfg(test)]
 mod logs;
 #[cfg(test)]
@@ -16,3 +20,5 @@ mod schedule_files;
 mod sets;
 #[cfg(test)]
 mod shards;
+#[cfg(test)]
+mod words;

@@ -65,5 +65,8 @@ pub(crate) fn two_cores(alloc: Global, banks: u16, l1i: Option<L1>) -> Result<Ma
             banks: places(alloc, banks)?,
             controllers: places(alloc, 1)?,
         },
+        mesh: None,
+        dram: None,
+        pipe: None,
     })
 }

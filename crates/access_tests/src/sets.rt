@@ -60,14 +60,24 @@ fn marked(line: u64, mark: Option<u8>) -> Option<Marked> {
 
 /// A new set of two ways answers each call as the row says.
 fn answers(rt: &(impl Abort + AllocGlobal), rows: &[(Act, Option<Marked>)]) -> Result<(), Fail> {
-    let mut set = Set::new(rt.alloc(), 2)?;
+    answers_from(rt, 0, rows)
+}
+
+/// The same of a set whose ages begin after this number.
+fn answers_from(
+    rt: &(impl Abort + AllocGlobal),
+    tick: u64,
+    rows: &[(Act, Option<Marked>)],
+) -> Result<(), Fail> {
+    assert!(rt; tick < 1 << 62);
+    let mut set = Set::with_tick(rt.alloc(), 2, tick)?;
     for &(act, wanted) in rows {
         assert!(rt; answer(rt, &mut set, act) == wanted);
     }
     Ok(())
 }
 
-static FULL: [(Act, Option<Marked>); 9] = [
+static FULL: [(Act, Option<Marked>); 10] = [
     (Put(7, 1), None),
     (LastIfFull, None),
     (Put(8, 2), None),
@@ -77,11 +87,19 @@ static FULL: [(Act, Option<Marked>); 9] = [
     (Look(7), Some((7, 1))),
     (Look(8), None),
     (Look(9), Some((9, 3))),
+    (LastIfFull, Some((7, 1))),
 ];
 
 #[test]
 fn the_least_recently_used_line_is_evicted_from_a_full_set(rt: HostRuntime) -> Result<(), Fail> {
     answers(&rt, &FULL)
+}
+
+#[test]
+fn ages_that_are_written_anew_leave_the_order(rt: HostRuntime) -> Result<(), Fail> {
+    answers_from(&rt, (1 << 62) - 3, &FULL)?;
+    answers_from(&rt, (1 << 62) - 2, &FULL)?;
+    answers_from(&rt, (1 << 62) - 1, &FULL)
 }
 
 static CHANGED: [(Act, Option<Marked>); 8] = [

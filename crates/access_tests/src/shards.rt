@@ -35,7 +35,7 @@ static FILE: [u8; 124] = [
 ];
 
 /// The executable in memory.
-fn image(alloc: Global) -> Result<Image, Fail>
+pub(crate) fn image(alloc: Global) -> Result<Image, Fail>
     ensures base { IfOk result (λ image. image.base ≡ 65536) }
     ensures size { IfOk result (λ image. image.size ≡ 1048576) }
 {

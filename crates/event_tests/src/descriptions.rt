@@ -3,7 +3,7 @@ ghost use Rattle.machine_desc.specs.Machine.{IsMachine};
 
 use crate::machines::{edited, machine_of, small};
 use machine_desc::{
-    BadMachine, Domains, Machine, MachineFail, PLAIN, component_count, domain_of, read,
+    BadMachine, Domains, Machine, MachineFail, PLAIN, Pipe, component_count, domain_of, read,
 };
 use std::process::Abort;
 
@@ -168,8 +168,78 @@ static OF_VERSION_2: [Case; 9] = [
     ),
 ];
 
+/// What a description of version 3 begins with, and the lines of a pipeline at its end.
+const VERSION_3: (&str, &str) = ("version = 1", "version = 3");
+
+const PIPE: (&str, &str) = (
+    "controllers = [1]",
+    "controllers = [1]\n\n[pipe]\nmul = 3\ndiv = 20\nentries = 16\npenalty = 4",
+);
+
+static OF_VERSION_3: [Case; 14] = [
+    (&[PIPE], 5, "pipe", 0),
+    (&[("version = 1", "version = 2"), L1I, PIPE], 5, "pipe", 0),
+    (&[VERSION_3, ("100000", "100000\npipe = 1")], 3, "pipe", 0),
+    (&[VERSION_3, PIPE, ("div = 20\n", "")], 2, "pipe.div", 0),
+    (
+        &[VERSION_3, PIPE, ("mul = 3", "mul = 65")],
+        4,
+        "pipe.mul",
+        65,
+    ),
+    (
+        &[VERSION_3, PIPE, ("div = 20", "div = 129")],
+        4,
+        "pipe.div",
+        129,
+    ),
+    (
+        &[VERSION_3, PIPE, ("entries = 16", "entries = 0")],
+        4,
+        "pipe.entries",
+        0,
+    ),
+    (
+        &[VERSION_3, PIPE, ("penalty = 4", "penalty = 65")],
+        4,
+        "pipe.penalty",
+        65,
+    ),
+    (
+        &[VERSION_3, PIPE, ("mul = 3", "colour = 1\nmul = 3")],
+        5,
+        "pipe.colour",
+        0,
+    ),
+    (
+        &[
+            VERSION_3,
+            PIPE,
+            ("mul = 3", "mul = 0"),
+            ("count = 2", "count = 65"),
+        ],
+        4,
+        "domains.count",
+        65,
+    ),
+    (
+        &[VERSION_3, L1I, ("[l1i]\nsets = 2", "[l1i]\nsets = 0")],
+        4,
+        "l1i.sets",
+        0,
+    ),
+    (&[VERSION_3, ("100000", "100000\nl1i = 2")], 3, "l1i", 0),
+    (
+        &[VERSION_3, ("[l2]", "[mesh]\nwidth = 9\n[l2]")],
+        5,
+        "mesh",
+        0,
+    ),
+    (&[VERSION_3, ("[l2]", "[dram]\n[l2]")], 5, "dram", 0),
+];
+
 static RANGES: [Case; 18] = [
-    (&[("version = 1", "version = 3")], 4, "version", 3),
+    (&[("version = 1", "version = 4")], 4, "version", 4),
     (&[("cores = 1", "cores = 257")], 4, "cores", 257),
     (&[("interval = 10000", "interval = 0")], 4, "interval", 0),
     (
@@ -328,6 +398,7 @@ fn the_first_check_that_fails_is_told(rt: HostRuntime) {
     refuse(&rt, &KINDS);
     refuse(&rt, &RANGES);
     refuse(&rt, &OF_VERSION_2);
+    refuse(&rt, &OF_VERSION_3);
     refuse(&rt, &NAMES);
     refuse(&rt, &RATIOS);
     refuse(&rt, &DOMAINS);
@@ -382,6 +453,39 @@ fn version_2_has_an_instruction_cache(rt: HostRuntime) {
     let machine = fetching(&rt);
     assert!(rt; machine.version == 2);
     assert!(rt; machine.l1i == Some(machine.l1));
+}
+
+/// The built-in machine as version 3, with a pipeline for its core.
+fn pipelined(rt: &(impl Abort + AllocGlobal)) -> Machine {
+    let text = edited(rt, &[VERSION_3, PIPE]);
+    machine_of(rt, text.as_bytes())
+}
+
+#[test]
+fn version_3_may_have_a_pipeline(rt: HostRuntime) {
+    let machine = pipelined(&rt);
+    let pipe = Pipe {
+        mul: 3,
+        div: 20,
+        entries: 16,
+        penalty: 4,
+    };
+    assert!(rt; machine.version == 3);
+    assert!(rt; machine.pipe == Some(pipe));
+    assert!(rt; machine.l1i == None);
+}
+
+/// The same with an instruction cache, and without a pipeline.
+fn fetching_in_version_3(rt: &(impl Abort + AllocGlobal)) -> Machine {
+    let text = edited(rt, &[VERSION_3, L1I]);
+    machine_of(rt, text.as_bytes())
+}
+
+#[test]
+fn version_3_may_have_an_instruction_cache(rt: HostRuntime) {
+    let machine = fetching_in_version_3(&rt);
+    assert!(rt; machine.l1i == Some(machine.l1));
+    assert!(rt; machine.pipe == None);
 }
 
 #[test]

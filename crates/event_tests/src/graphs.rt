@@ -38,7 +38,7 @@ fn accesses_take_their_zero_load_times(rt: HostRuntime) {
 
 /// The core, the component, the kind, the first and last cycle in the bound phase and the parent of
 /// an event, and whether its core waits for it.
-type Row = (u16, u16, Kind, Cycle, Cycle, Option<u32>, bool);
+pub(crate) type Row = (u16, u16, Kind, Cycle, Cycle, Option<u32>, bool);
 
 static SIX_EVENTS: [Row; 6] = [
     (0, 0, Kind::Lookup, 2, 12, None, false),
@@ -75,7 +75,7 @@ fn is_event(rt: &impl Abort, found: &Event, wanted: &Event) {
 }
 
 /// Checks that the events are those of the rows, numbered in their order.
-fn are_events(rt: &impl Abort, events: &[Event], rows: &[Row]) {
+pub(crate) fn are_events(rt: &impl Abort, events: &[Event], rows: &[Row]) {
     assert!(rt; events.len() == rows.len());
     let mut number = 0u32;
     for (event, row) in events.iter().zip(rows) {

@@ -1,4 +1,4 @@
-//! Tests of machines, events and domains through the public calls of their crates.
+//! Tests of machines, events, their files and domains through the public calls of their crates.
 #![tactic(auto)]
 
 #[cfg(test)]
@@ -10,10 +10,18 @@ mod descriptions;
 #[cfg(test)]
 mod domains;
 #[cfg(test)]
+mod events;
+#[cfg(test)]
 mod graphs;
 #[cfg(test)]
 mod loads;
 #[cfg(test)]
 mod machines;
+#[cfg(test)]
+mod meshes;
+#[cfg(test)]
+mod nets;
+#[cfg(test)]
+mod open_rows;
 #[cfg(test)]
 mod queues;

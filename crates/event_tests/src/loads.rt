@@ -1,6 +1,6 @@
 //! Loads as a log has them, and their graph on a small machine.
 ghost use Rattle.std.specs.Prelude.{◌<◌, ◌^◌, All, IsTrue, length, sum_by};
-ghost use Rattle.event_graph.specs.Timing.{pieces_of};
+ghost use Rattle.event_graph.specs.PlainTiming.{pieces_of};
 
 use crate::machines::small;
 use event_graph::{Graph, Plain, build, laws};
@@ -31,7 +31,7 @@ pub(crate) fn entry(load: &Load) -> Entry {
 }
 
 /// Whether all these are entries of two cores, at cycles of a run.
-fn are_of_two_cores(entries: &[Entry]) -> bool
+pub(crate) fn are_of_two_cores(entries: &[Entry]) -> bool
     ensures cores { IsTrue result → All (λ e. e.core < 2) entries.now }
     ensures starts { IsTrue result → All (λ e. e.start < 2 ^ 62) entries.now }
 {
@@ -50,7 +50,7 @@ fn are_few(plain: &Plain, entries: &[Entry]) -> bool
 }
 
 /// The entries of loads.
-fn entries_of(rt: &(impl Abort + AllocGlobal), loads: &[Load]) -> Entries {
+pub(crate) fn entries_of(rt: &(impl Abort + AllocGlobal), loads: &[Load]) -> Entries {
     let mut entries = Vec::new(rt.alloc());
     for load in loads {
         entries.push(entry(load)).expect(rt, "memory");

@@ -84,5 +84,8 @@ pub(crate) fn small(rt: &(impl Abort + AllocGlobal), cores: u16) -> Machine
             banks: place(rt, 0),
             controllers: place(rt, 1),
         },
+        mesh: None,
+        dram: None,
+        pipe: None,
     }
 }

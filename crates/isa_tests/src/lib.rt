@@ -33,6 +33,8 @@ mod memory;
 #[cfg(test)]
 mod numbers;
 #[cfg(test)]
+mod pace;
+#[cfg(test)]
 mod refusals;
 #[cfg(test)]
 mod words;

@@ -70,6 +70,9 @@ pub(crate) fn machine(
             banks: places(rt, banks),
             controllers: places(rt, controllers),
         },
+        mesh: None,
+        dram: None,
+        pipe: None,
     }
 }
 

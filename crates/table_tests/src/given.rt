@@ -57,6 +57,7 @@ pub(crate) fn machine(alloc: Global, cores: u16, banks: u16) -> Result<Machine, 
     requires l1 { 2 % banks ≡ 0 }
     requires l2 { 4 % banks ≡ 0 }
     ensures machine { IfOk result IsMachine }
+    ensures version { IfOk result (λ m. m.version ≡ 1) }
     ensures cores { IfOk result (λ m. m.cores ≡ cores) }
     ensures banks { IfOk result (λ m. m.l2.banks ≡ banks) }
     ensures base { IfOk result (λ m. m.memory.base ≡ 65536) }
@@ -98,6 +99,9 @@ pub(crate) fn machine(alloc: Global, cores: u16, banks: u16) -> Result<Machine, 
             banks: places(alloc, banks)?,
             controllers: places(alloc, 1)?,
         },
+        mesh: None,
+        dram: None,
+        pipe: None,
     })
 }
 

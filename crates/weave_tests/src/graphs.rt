@@ -100,6 +100,9 @@ fn machine(alloc: Global, layout: Layout) -> Option<Machine>
             banks: Places::of(Vec::from_slice(alloc, layout.banks).ok()?),
             controllers: Places::of(Vec::from_slice(alloc, layout.controllers).ok()?),
         },
+        mesh: None,
+        dram: None,
+        pipe: None,
     })
 }
 

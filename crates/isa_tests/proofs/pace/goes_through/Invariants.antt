@@ -1,0 +1,5 @@
+use Rattle.pipe_core.specs.PaceLaws.{GoesOnFrom}
+use Rattle.isa_tests.proofs.pace.goes_through.Given as goal
+
+abbrev pub invariant-loop-name : goal.invariant-loop-name
+invariant-loop-name g l = GoesOnFrom l.clock l.pace
