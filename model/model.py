@@ -131,6 +131,45 @@ class Halt(Exception):
     """A core halts, for the reason that the report tells."""
 
 
+class Pace:
+    """What a pipeline keeps: the cycle from which on each register is ready, and two-bit counters for the branches."""
+
+    def __init__(self, pipe):
+        self.pipe = pipe
+        self.ready, self.counters = [0] * 32, [1] * pipe["entries"]
+
+    def issue(self, w, pc, taken, clock):
+        """Issues an instruction, and returns the clock behind it."""
+        opcode, of_m = w & 0x7F, w >> 25 == 1
+        destination = w >> 7 & 31 if opcode not in NO_DESTINATION else 0
+        issue = max([clock] + [self.ready[register] for register in self.waits_for(w, destination)])
+        if destination:
+            latency = self.pipe["div" if w >> 14 & 1 else "mul"] if opcode in (0x33, 0x3B) and of_m else 1
+            self.ready[destination] = issue + latency
+        wrong = opcode == 0x67 or opcode == 0x63 and self.predicts_wrongly(pc // 4 % len(self.counters), taken)
+        return issue + 1 + (self.pipe["penalty"] if wrong else 0)
+
+    def waits_for(self, w, destination):
+        """Returns the registers for which an instruction waits."""
+        opcode = w & 0x7F
+        if w == ECALL:
+            return range(32)
+        sources = [w >> 15 & 31] if opcode in ONE_SOURCE + TWO_SOURCES else []
+        is_lr = opcode == 0x2F and w >> 27 == LR
+        return [destination, *sources, *([w >> 20 & 31] if opcode in TWO_SOURCES and not is_lr else [])]
+
+    def predicts_wrongly(self, place, taken):
+        """Tells whether a branch goes the other way than its counter says, and moves the counter."""
+        counter = self.counters[place]
+        self.counters[place] = min(3, counter + 1) if taken else max(0, counter - 1)
+        return (counter >= 2) != taken
+
+
+# Branches, stores, FENCE, ECALL and EBREAK have no destination. LUI, AUIPC and JAL have no source.
+NO_DESTINATION = (0x63, 0x23, 0x0F, 0x73)
+ONE_SOURCE, TWO_SOURCES = (0x67, 0x13, 0x1B, 0x03), (0x63, 0x23, 0x33, 0x3B, 0x2F)
+
+
 class Core:
     """A core. Its instructions are generators: each yields the accesses that it makes, and is sent their replies."""
 
@@ -144,11 +183,13 @@ class Core:
         self.clock = self.instructions = self.delay = 0
         self.halt = self.instruction = self.request = None
         self.fetches, self.line = "l1i" in machine, None
+        self.pace = Pace(machine["pipe"]) if "pipe" in machine else None
         self.console = bytearray()
 
-    def count(self):
+    def count(self, w, taken=False):
+        """Counts an instruction, which costs a cycle or what the pipeline makes of it."""
         self.instructions += 1
-        self.clock += 1
+        self.clock = self.pace.issue(w, self.pc, taken, self.clock) if self.pace else self.clock + 1
 
     def set(self, register, number):
         if register:
@@ -172,7 +213,7 @@ class Core:
         opcode, rd, funct3, funct7 = w & 0x7F, w >> 7 & 31, w >> 12 & 7, w >> 25
         a, b = self.x[w >> 15 & 31], self.x[w >> 20 & 31]
         immediate = signed(w >> 20, 12)
-        after, result = (self.pc + 4) & MASK, None
+        after, result, holds = (self.pc + 4) & MASK, None, False
         illegal = Halt(f"illegal {w:08x}")
         if opcode in (0x37, 0x17):
             result = signed(w & 0xFFFFF000, 32) + (self.pc if opcode == 0x17 else 0)
@@ -205,15 +246,15 @@ class Core:
             if result is None:
                 raise illegal
         elif opcode == 0x03 and funct3 != 7:
-            result = yield from self.load((a + immediate) & MASK, 1 << (funct3 & 3), funct3 < 4)
+            result = yield from self.load(w, (a + immediate) & MASK, 1 << (funct3 & 3), funct3 < 4)
         elif opcode == 0x23 and funct3 < 4:
-            yield from self.store((a + signed(w >> 25 << 5 | rd, 12)) & MASK, 1 << funct3, b)
+            yield from self.store(w, (a + signed(w >> 25 << 5 | rd, 12)) & MASK, 1 << funct3, b)
             rd = 0
         elif opcode == 0x2F and funct3 in (2, 3):
             kind = w >> 27
             if kind not in (LR, SC, *ATOMICS) or kind == LR and w >> 20 & 31:
                 raise illegal
-            result = yield from self.atomic(kind, a, 1 << funct3, b)
+            result = yield from self.atomic(w, a, 1 << funct3, b)
         elif w == ECALL:
             yield from self.call()
         elif w == EBREAK:
@@ -221,40 +262,41 @@ class Core:
         elif not (opcode == 0x0F and funct3 == 0):
             raise illegal
         if opcode not in (0x03, 0x23, 0x2F) and w != ECALL:
-            self.count()
+            self.count(w, holds)
         if result is not None:
             self.set(rd, result)
         self.pc = after
 
-    def parts(self, address, width):
+    def parts(self, w, address, width):
         """Returns the parts of a load or a store, one for each line, after it is counted."""
         if not self.in_memory(address, width):
             raise Halt(f"access {address:016x}")
-        self.count()
+        self.count(w)
         first = min(width, 64 - address % 64)
         return [(address, first), (address + first, width - first)][: 1 if first == width else 2]
 
-    def load(self, address, width, extend):
+    def load(self, w, address, width, extend):
         number, bits = 0, 0
-        for part, size in self.parts(address, width):
+        for part, size in self.parts(w, address, width):
             number |= (yield "load", part, size, 0) << bits
             bits += 8 * size
         return signed(number, bits) if extend else number
 
-    def store(self, address, width, number):
-        for part, size in self.parts(address, width):
+    def store(self, w, address, width, number):
+        for part, size in self.parts(w, address, width):
             yield "store", part, size, number & ((1 << 8 * size) - 1)
             number >>= 8 * size
 
-    def atomic(self, kind, address, width, number):
+    def atomic(self, w, address, width, number):
         if address % width:
             raise Halt(f"atomic {address:016x}")
-        self.parts(address, width)
+        self.parts(w, address, width)
+        kind = w >> 27
         reply = yield kind, address, width, number & ((1 << 8 * width) - 1)
         return reply if kind == SC else signed(reply, 8 * width)
 
     def call(self):
-        self.count()
+        self.count(ECALL)
         x = self.x
         if x[17] in (93, 94):
             raise Halt(f"exit {x[10]}")
@@ -858,13 +900,18 @@ def call_on(text, names, cut=(1,)):
     return Ended(*{"ran": (0, ""), "limit": (3, "zsim: stopped at the limit\n")}[ended], output)
 
 
+# What a description of each version has beside the keys of version 1, and what it may have.
+KEYS = {1: (set(), set()), 2: ({"l1i"}, set()), 3: (set(), {"l1i", "pipe"})}
+
+
 def machine_of(machine, name, names):
     """Returns the machine that a word of a command names, with the executable in its memory."""
     try:
         description = tomllib.loads(built_in() if machine == "plain" else names.read(machine).decode())
         file = generated(int(name[4:])) if name.startswith("gen:") else names.read(name)
-        keys = set(tomllib.loads(built_in())) | ({"l1i"} if description["version"] == 2 else set())
-        if set(description) != keys or file[:4] != b"\x7fELF":
+        needs, may_have = KEYS[description["version"]]
+        keys = set(tomllib.loads(built_in())) | needs
+        if not keys <= set(description) <= keys | may_have or file[:4] != b"\x7fELF":
             raise Untold
         return Machine(description, file)
     except (tomllib.TOMLDecodeError, UnicodeDecodeError, KeyError, TypeError, struct.error) as wrong:
