@@ -53,7 +53,7 @@ HEADINGS = [
 # into a caller counts for the caller, as much of the caches for the execution, and much of the weave for the run.
 PARTS = {
     "Execution": ("bound_core::", "rv_core::", "rv_decode::", "rv_alu::"),
-    "Caches": ("shard::", "cache_set::", "mesi_dir::"),
+    "Caches": ("shard::", "cache_set::", "lanes::", "mesi_dir::"),
     "Recorded order": ("access_log::", "core::slice::sort"),
     "Graph": ("event_graph::",),
     "Weave": ("weave_seq::", "component::", "feedback::"),

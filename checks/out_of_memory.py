@@ -52,25 +52,24 @@ class Token:
 class Group:
     """What stands between two brackets."""
 
-    def __init__(self, bracket, line):
+    def __init__(self, bracket, line, is_attribute=False):
         self.text = bracket
         self.line = line
         self.parts = []
+        self.is_attribute = is_attribute
 
 
 def tree(source):
     """Returns the tokens as a tree of groups, without comments, texts and attributes."""
     top = Group("", 0)
     open_groups = [top]
-    attributes = set()
     for match in TOKEN.finditer(source):
         text = match.group()
         line = source.count("\n", 0, match.start()) + 1
         if text.startswith("//"):
             continue
         if text in ("#[", "#!["):
-            group = Group("[", line)
-            attributes.add(id(group))
+            group = Group("[", line, is_attribute=True)
             open_groups[-1].parts.append(group)
             open_groups.append(group)
         elif text in PAIRS:
@@ -80,8 +79,7 @@ def tree(source):
         elif text in PAIRS.values():
             if PAIRS.get(open_groups[-1].text) != text:
                 raise SystemExit(f"line {line}: {text} closes nothing")
-            closed = open_groups.pop()
-            if id(closed) in attributes:
+            if open_groups.pop().is_attribute:
                 open_groups[-1].parts.pop()
         else:
             open_groups[-1].parts.append(Token(text, line))

@@ -3,11 +3,11 @@
 import json
 
 import pytest
-from test_explain import WITH_L1I
+from test_explain import PIPE, VERSION_3, WITH_L1I
 from test_plots import size_of
 
 import zsim_tools
-from zsim_tools.describe import accesses_of, caches_of, controllers_of, notes_of
+from zsim_tools.describe import accesses_of, caches_of, controllers_of, description_of, general_of, notes_of
 from zsim_tools.drawing import draw
 from zsim_tools.machine import parse_machine
 
@@ -41,6 +41,17 @@ def test_a_machine_with_instruction_caches():
         ("fetch: miss, dirty victim", 115),
     ]
     assert [row[0] for row in caches_of(values)] == ["L1", "L1I", "L2"]
+
+
+def test_a_machine_with_pipelines():
+    machine = parse_machine(VERSION_3 + PIPE, "three")
+    assert general_of(machine.values)[-3:] == [
+        ["a product is ready after", "3 cycles"],
+        ["a quotient is ready after", "20 cycles"],
+        ["a wrong prediction costs", "4 cycles; 16 counters predict"],
+    ]
+    assert description_of(machine)["pipeline"] == {"mul": 3, "div": 20, "entries": 16, "penalty": 4}
+    assert description_of(parse_machine(VERSION_3, "three"))["pipeline"] is None
 
 
 def test_what_is_worth_a_second_look():

@@ -12,6 +12,7 @@ import zsim_tools
 from zsim_tools import inputs, plots
 from zsim_tools.labels import KEYS
 from zsim_tools.machine import PLAIN, parse_machine
+from zsim_tools.checks import OPTIONAL
 from zsim_tools.outcomes import judge, numbers_of, row_of
 from zsim_tools.report import parse_report
 from zsim_tools.sweep_file import read_sweep
@@ -37,8 +38,8 @@ def test_plain_is_the_built_in_machine(repository):
 def test_every_key_of_a_machine_has_a_label(repository):
     rows = re.findall(r"(?m)^\| `([a-z0-9.]+)` \| integer \|", (repository / "docs/machine-description.md").read_text())
     assert len(rows) > 20 and set(rows) - {"version"} == set(KEYS)
-    # The built-in machine is of version 1, which has no instruction caches.
-    assert {key for key in KEYS if not key.startswith("l1i.")} < set(zsim_tools.read_machine("plain").values)
+    # The built-in machine is of version 1, which has no instruction caches and no pipelines.
+    assert {key for key in KEYS if key.split(".")[0] not in OPTIONAL} < set(zsim_tools.read_machine("plain").values)
 
 
 def with_l1i(machine):
@@ -82,7 +83,7 @@ def test_what_the_documents_point_to_is_there(repository):
         assert (page.parent / link).exists(), f"{page}: {link}"
 
 
-@pytest.mark.parametrize("name, runs", [("matrix.toml", 48), ("stream.toml", 64)])
+@pytest.mark.parametrize("name, runs", [("matrix.toml", 48), ("stream.toml", 64), ("pipeline.toml", 48)])
 def test_the_sweeps_of_the_examples_are_read(repository, name, runs):
     planned = read_sweep(repository / "examples/sweeps" / name).planned()
     assert len(planned) == runs and len({(run.machine_sha256, run.executable.sha256) for run in planned}) == runs
@@ -118,15 +119,21 @@ PLOTS = {
         "",
         [f"{name}, {banks}" for name in ("stream", "stream_padded") for banks in (1, 2, 4)],
     ),
+    "pipeline.png": (
+        "counters that predict branches",
+        "cycles per instruction",
+        "",
+        [f"{name}, {penalty}" for name in ("sort", "bytecode") for penalty in (3, 12)],
+    ),
 }
 
 
 def test_the_plots_of_the_documents(command, repository, tmp_path, monkeypatch):
     """Draws them as the document says, from stored tables of the sweeps. A person looked at those that stand there."""
     text = (repository / "docs/tools.md").read_text().replace("\\\n", " ")
-    lines = re.findall(r"(?m)^    tools/zsim-tools (plot (?:matrix|stream)\.csv .*)$", text)
+    lines = re.findall(r"(?m)^    tools/zsim-tools (plot (?:matrix|stream|pipeline)\.csv .*)$", text)
     assert len(lines) == len(PLOTS)
-    for name in ("matrix.csv", "stream.csv"):
+    for name in ("matrix.csv", "stream.csv", "pipeline.csv"):
         shutil.copy(HERE / "data" / name, tmp_path)
     figures = []
     monkeypatch.setattr(
@@ -143,7 +150,12 @@ def test_the_plots_of_the_documents(command, repository, tmp_path, monkeypatch):
 
 
 @pytest.mark.parametrize(
-    "name, where", [("matrix", {"l1.sets": 16, "l1.ways": 8}), ("stream", {"controllers.occupancy": 32, "l2.banks": 2})]
+    "name, where",
+    [
+        ("matrix", {"l1.sets": 16, "l1.ways": 8}),
+        ("stream", {"controllers.occupancy": 32, "l2.banks": 2}),
+        ("pipeline", {"pipe.entries": 64, "pipe.penalty": 3}),
+    ],
 )
 def test_the_stored_tables_are_those_of_zsim(built_zsim, repository, tmp_path, name, where):
     """Runs two of the runs of each sweep with the built program, and compares all that they counted."""

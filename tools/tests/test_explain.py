@@ -13,6 +13,8 @@ from zsim_tools.machine import PLAIN
 PLAIN_TEXT = inputs.read_text(PLAIN, inputs.MACHINE)
 L1I = "[l1i]\nsets = 2\nways = 1\nlatency = 1\n[l2]"
 WITH_L1I = PLAIN_TEXT.replace("version = 1", "version = 2").replace("[l2]", L1I)
+PIPE = "\n[pipe]\nmul = 3\ndiv = 20\nentries = 16\npenalty = 4\n"
+VERSION_3 = PLAIN_TEXT.replace("version = 1", "version = 3")
 
 
 def test_the_keys_and_their_ranges_are_those_of_the_document(repository):
@@ -56,7 +58,7 @@ def test_the_checks_refuse_what_zsim_refuses(repository):
     [
         ("cores = 1", "cores =", "1"),
         ("version = 1", "", "2 version"),
-        ("version = 1", "version = 3", "4 version 3"),
+        ("version = 1", "version = 4", "4 version 4"),
         ("[l1]", "[l9]", "2 l1"),
         ("[l1]\nsets = 2\nways = 1\nlatency = 1", "", "2 l1"),
         ("[memory]", "l1 = 5\n[memory]", "1"),
@@ -93,6 +95,21 @@ def test_the_machines_of_the_examples_pass(repository):
     assert refusal_of(WITH_L1I.replace(L1I, L1I.replace("sets = 2\n", ""))).line == "zsim: machine 2 l1i.sets"
 
 
+def test_version_3_has_what_tables_it_may():
+    for text in (VERSION_3, VERSION_3 + PIPE, VERSION_3.replace("[l2]", L1I), VERSION_3.replace("[l2]", L1I) + PIPE):
+        assert refusal_of(text) is None
+    for text, line in (
+        (PLAIN_TEXT + PIPE, "5 pipe"),
+        (WITH_L1I + PIPE, "5 pipe"),
+        (VERSION_3.replace("cores = 1", "cores = 1\npipe = 1"), "3 pipe"),
+        (VERSION_3 + PIPE.replace("div = 20\n", ""), "2 pipe.div"),
+        (VERSION_3 + PIPE.replace("penalty = 4", "penalty = 65"), "4 pipe.penalty 65"),
+        (VERSION_3 + PIPE + "colour = 1", "5 pipe.colour"),
+        (VERSION_3 + "\n[mesh]\n", "5 mesh"),
+    ):
+        assert refusal_of(text).line == f"zsim: machine {line}"
+
+
 @pytest.mark.parametrize(
     "line, told",
     [
@@ -101,12 +118,16 @@ def test_the_machines_of_the_examples_pass(repository):
         ("zsim: machine 4 memory.base 1", "an integer from 0 to 1099511627776, a multiple of 4096"),
         ("zsim: machine 4 domains.banks 3", "has 3 elements, and needs one for each of `l2.banks`, which is 16"),
         ("zsim: machine 2 l1i", "(or have `version = 1`, which has none)"),
+        ("zsim: machine 2 l1i.sets", "(or have no table `l1i`: with `version = 1`, or taken out of one of version 3)"),
         ("zsim: machine 3 cores", "`cores` (cores) is of another kind than it has to be: an integer from 1 to 256"),
         ("zsim: machine 5 l1.way", "`l1.way` is no key of a description; is it `l1.ways`?"),
         ("zsim: machine 5 colour", "`colour` is no key of a description"),
         ("zsim: machine 5 l1i", "Version 1 has no instruction caches"),
+        ("zsim: machine 5 pipe", "Pipelines are of version 3"),
+        ("zsim: machine 2 pipe.div", "Add it: an integer from 1 to 128 (or take the table `pipe` out)"),
+        ("zsim: machine 4 pipe.mul 65", "`pipe.mul` (time of a product) is 65, and has to be an integer from 1 to 64"),
         ("zsim: machine 7 17", "Element 1 of `domains.controllers` is 1, and has to be from 0 to 7"),
-        ("zsim: machine 4 version 3", "`version` is 3, and has to be an integer from 1 to 2"),
+        ("zsim: machine 4 version 4", "`version` is 4, and has to be an integer from 1 to 3"),
         ("zsim: elf 10 1", "Segment 1 of the executable is not in memory"),
         ("zsim: elf 11 0 2", "The segments 0 and 2 of the executable"),
         ("elf 6", "`-march=rv64ima -mabi=lp64`"),

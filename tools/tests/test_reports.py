@@ -11,7 +11,7 @@ from zsim_tools.report import parse_report
 from zsim_tools.sweep_file import Executable, Planned
 from zsim_tools.task import Outcome
 
-HEADER = "zsim report 1\n"
+HEADER = re.compile("zsim report [123]\n")
 LINE = re.compile("(cores|intervals|instructions|cycles|accesses|events|core|bank|controller) ")
 
 
@@ -24,8 +24,8 @@ def reports_in(text):
     lines = iter(text.splitlines(keepends=True))
     for line in lines:
         is_open = found and not found[-1].endswith("\n\n")
-        if line == HEADER:
-            found.append(HEADER)
+        if HEADER.fullmatch(line):
+            found.append(line)
         elif is_open and CUT.match(line):
             found.pop()
         elif is_open and LINE.match(line):
@@ -157,6 +157,8 @@ def test_a_report_of_cores_that_fetch():
     # (20 + 30 and 10 + 20 of 3000 instructions: those of loads, stores and atomics, and of fetches)
     assert report.derived["l1_mpki"] == pytest.approx(80 / 3)
     assert "fetches_pki" not in parse_report(WORKED).derived
+    # A report of version 3 has the same counters.
+    assert parse_report(FETCHING.replace("report 2", "report 3")).core_list == report.core_list
 
 
 def test_without_a_machine_there_is_no_busy_share():
@@ -206,9 +208,9 @@ def test_a_report_cut_in_half_says_so(command, tmp_path):
         ("", "line 1: no report: the file is empty"),
         (
             "\x7fELF\x02\x01\x01",
-            'line 1: no report: it begins with "\\x7fELF\\x02\\x01\\x01", not with "zsim report 1 or 2"',
+            'line 1: no report: it begins with "\\x7fELF\\x02\\x01\\x01", not with "zsim report 1, 2 or 3"',
         ),
-        ("zsim report 3\ncores 1\n", 'line 1: a report of version "3"; these tools read version 1 or 2'),
+        ("zsim report 4\ncores 1\n", 'line 1: a report of version "4"; these tools read version 1, 2 or 3'),
         (WORKED.replace("report 1", "report 2"), "line 8: here belongs the line of core 0, not"),
         (FETCHING.replace("report 2", "report 1"), "line 8: here belongs the line of core 0, not"),
         (FETCHING.replace("fetches 400", "fetches 401"), "line 6: accesses 2400, but the cores below come to 2401"),

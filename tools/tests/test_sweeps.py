@@ -223,7 +223,7 @@ def test_what_failed_for_another_cause_is_tried_again(command, twelve):
     table = table_of(twelve)
     assert list(table["status"]) == [4] * 6 + [0] * 6
     assert set(table["line"][6:]) == {
-        'its output: line 1: no report: it begins with "Segmentation fault", not with "zsim report 1 or 2"'
+        'its output: line 1: no report: it begins with "Segmentation fault", not with "zsim report 1, 2 or 3"'
     }
     assert "table.csv: 12 runs;" in command("sweep", "sweep.toml", "--out", "table.csv").stderr
 

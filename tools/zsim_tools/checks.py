@@ -23,7 +23,7 @@ class Allowed(NamedTuple):
 OWN_CACHE = {"sets": Allowed(1, 4096), "ways": Allowed(1, 16), "latency": Allowed(1, 65536)}
 TABLES = {
     "": {
-        "version": Allowed(1, 2),
+        "version": Allowed(1, 3),
         "cores": Allowed(1, 256),
         "interval": Allowed(1, 10000),
         "intervals": Allowed(1, 1048576),
@@ -51,13 +51,17 @@ TABLES = {
         "occupancy": Allowed(1, 65536),
     },
     "domains": {"count": Allowed(1, 64), "banks": "l2.banks", "controllers": "controllers.count"},
+    "pipe": {
+        "mul": Allowed(1, 64),
+        "div": Allowed(1, 128),
+        "entries": Allowed(1, 4096),
+        "penalty": Allowed(0, 64),
+    },
 }
 ALLOWED = {f"{table}.{key}".lstrip("."): allowed for table, keys in TABLES.items() for key, allowed in keys.items()}
-# The tables of each version.
-VERSIONS = {
-    1: [table for table in TABLES if table != "l1i"],
-    2: list(TABLES),
-}
+# The tables that a version need not have: those that each has beside the others, and those that it may have.
+OPTIONAL = {"l1i", "pipe"}
+VERSIONS = {1: (set(), set()), 2: ({"l1i"}, set()), 3: (set(), {"l1i", "pipe"})}
 RATIOS = ("l1.sets", "l1i.sets", "l2.sets")
 
 
@@ -82,9 +86,17 @@ def refusal_of(text):
     found = wrong_key(document, "version", ALLOWED["version"])
     if found:
         return found
-    tables = VERSIONS[document["version"]]
+    tables = tables_of(document)
     wrong = next(filter(None, (wrong_table(document, table) for table in tables)), None)
     return wrong or unknown_key(document, tables) or wrong_ratio(document) or wrong_domain(document)
+
+
+def tables_of(document):
+    """Returns the tables that a document is checked for: those of its version, and of those that it may have the ones
+    that it has."""
+    needed, possible = VERSIONS[document["version"]]
+    there = needed | (possible & set(document))
+    return [table for table in TABLES if table not in OPTIONAL or table in there]
 
 
 def wrong_table(document, table):

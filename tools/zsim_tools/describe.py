@@ -76,6 +76,17 @@ def caches_of(values):
     return rows
 
 
+def pipeline_of(values):
+    """Returns what the pipeline of a core comes to, where the cores have one: in words, and cycles."""
+    if "pipe.mul" not in values:
+        return []
+    return [
+        ["a product is ready after", f"{values['pipe.mul']} cycles"],
+        ["a quotient is ready after", f"{values['pipe.div']} cycles"],
+        ["a wrong prediction costs", f"{values['pipe.penalty']} cycles; {values['pipe.entries']} counters predict"],
+    ]
+
+
 def controllers_of(values):
     """Returns a row for each controller: its number, its domain, its banks, its bytes a cycle."""
     count, bytes_a_cycle = values["controllers.count"], LINE / values["controllers.occupancy"]
@@ -115,6 +126,7 @@ def description_of(machine):
         "controllers": [
             dict(zip(("controller", "domain", "banks", "bytes_per_cycle"), row)) for row in controllers_of(values)
         ],
+        "pipeline": {key.partition(".")[2]: value for key, value in values.items() if key.startswith("pipe.")} or None,
         "notes": notes_of(values),
     }
 
@@ -149,6 +161,7 @@ def general_of(values):
         ["bytes a cycle of a bank", shown(LINE / values["l2.occupancy"])],
         ["bytes a cycle of memory", shown(whole)],
         ["domains", str(values["domains.count"])],
+        *pipeline_of(values),
     ]
 
 

@@ -27,6 +27,10 @@ KEYS = {
     "controllers.write": "time of a write to memory (cycles)",
     "controllers.occupancy": "occupancy of a controller (cycles per event)",
     "domains.count": "domains",
+    "pipe.mul": "time of a product (cycles)",
+    "pipe.div": "time of a quotient (cycles)",
+    "pipe.entries": "counters that predict branches",
+    "pipe.penalty": "cost of a wrong prediction (cycles)",
 }
 
 NUMBERS = {

@@ -150,7 +150,13 @@ def meaning_of(key):
 
 
 def missing(key):
-    mend = " (or have `version = 1`, which has none)" if key.partition(".")[0] == "l1i" else ""
+    mends = {
+        "l1i": " (or have `version = 1`, which has none)",
+        "l1i.": " (or have no table `l1i`: with `version = 1`, or taken out of one of version 3)",
+        "pipe.": " (or take the table `pipe` out)",
+    }
+    table, dot, _ = key.partition(".")
+    mend = mends.get(table + dot, "")
     return f"`{key}`{meaning_of(key)} is missing. Add it: {wanted(key)}{mend}."
 
 
@@ -174,6 +180,8 @@ def out_of_range(key, value, values):
 def unknown(key):
     if key == "l1i":
         return "Version 1 has no instruction caches. Take out the table `l1i`, or have `version = 2`."
+    if key == "pipe":
+        return "Pipelines are of version 3. Take out the table `pipe`, or have `version = 3`."
     near = difflib.get_close_matches(key, [*ALLOWED, *filter(None, TABLES)], 1)
     hint = f"is it `{near[0]}`?" if near else "take it out."
     return f"`{key}` is no key of a description; {hint}"

@@ -17,6 +17,7 @@ WHAT_IT_FOUND = ("hits", "upgrades", "l2hits", "misses")
 CORE_COUNTERS = {
     "1": (*WHAT_IT_DID, *WHAT_IT_FOUND),
     "2": (*WHAT_IT_DID, "fetches", *WHAT_IT_FOUND),
+    "3": (*WHAT_IT_DID, "fetches", *WHAT_IT_FOUND),
 }
 COMPONENT_COUNTERS = ("events", "waited", "free")
 SUMMARY = ("cores", "intervals", "instructions", "cycles", "accesses", "events")
@@ -197,7 +198,8 @@ def parse_report(text, name="report", machine=None, status=None, seconds=None):
 def take_header(lines, text):
     """Takes the first line, and returns the version of the report."""
     first = text.partition("\n")[0]
-    versions = " or ".join(CORE_COUNTERS)
+    *others, last = CORE_COUNTERS
+    versions = f"{', '.join(others)} or {last}"
     if not text:
         lines.fail("no report: the file is empty")
     if not first.startswith("zsim report "):
