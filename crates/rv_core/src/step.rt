@@ -23,9 +23,9 @@ pub enum Stepped {
 }
 
 /// What [`Core::next`] and [`Core::step_fetching`] take in place of a loop's type (see [`Core::step`]).
-struct Asking;
+pub(crate) struct Asking;
 
-struct Fetching;
+pub(crate) struct Fetching;
 
 impl Core {
     /// Executes the next instruction, up to its next access, of which its fetch is the first if it
