@@ -52,8 +52,8 @@ HEADINGS = [
 # What the names of each part's functions begin with: perf shares a run's user time by them. What the compiler builds
 # into a caller counts for the caller, as much of the caches for the execution, and much of the weave for the run.
 PARTS = {
-    "Execution": ("bound_core::", "rv_core::", "rv_decode::", "rv_alu::"),
-    "Caches": ("shard::", "cache_set::", "lanes::", "mesi_dir::"),
+    "Execution": ("bound_core::", "rv_core::", "rv_decode::", "rv_alu::", "pipe_core::"),
+    "Caches": ("shard::", "home::", "l1_cache::", "cache_set::", "lanes::", "mesi_dir::", "flat_memory::"),
     "Recorded order": ("access_log::", "core::slice::sort"),
     "Graph": ("event_graph::",),
     "Weave": ("weave_seq::", "component::", "feedback::"),
