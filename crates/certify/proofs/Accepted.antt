@@ -12,7 +12,8 @@ use Rattle.component.specs.Serving.{comp_latency, comp_serves}
 use Rattle.event_graph.specs.declared.event.Event.{Event}
 use Rattle.event_graph.specs.Fits.{EventFits}
 use Rattle.event_graph.specs.OneListWeave.{FiredEvent, comps_after, finish_in, start_of, weave}
-use Rattle.event_graph.specs.TimingSolution.{IsSolution, ServesInTurn, after_serving, of_component}
+use Rattle.event_graph.specs.ServedEvents.{after_serving, of_component}
+use Rattle.event_graph.specs.TimingSolution.{IsSolution, ServesInTurn}
 use Rattle.certify.specs.CanBeFiled.{CanBeFiled, IsFitting}
 use Rattle.certify.specs.declared.verdict.Verdict.{Verdict}
 use Rattle.certify.specs.declared.verdict.Verdict.TheVariants.{Yes}

@@ -9,7 +9,7 @@ use Rattle.component.specs.declared.comp.Comp.TheVariants.{Bank as ABank, Contro
 use Rattle.component.specs.declared.kind.Kind.{Kind}
 use Rattle.component.specs.ComponentStep.{comp_step, free_of}
 use Rattle.event_graph.specs.OneListWeave.{FiredEvent}
-use Rattle.event_graph.specs.TimingSolution.{after_serving, of_component}
+use Rattle.event_graph.specs.ServedEvents.{after_serving, of_component}
 use Rattle.certify.specs.Records.{AreRecords}
 use Rattle.certify.specs.ShortTimes.{capped_step}
 use Rattle.certify.specs.Verdict.{finish_by, finish_on, has_right_finish, in_order, served_before}

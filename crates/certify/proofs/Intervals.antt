@@ -12,7 +12,7 @@ use Rattle.component.specs.declared.kind.Kind.{Kind}
 use Rattle.component.specs.ComponentStep.{comp_step}
 use Rattle.component.specs.Serving.{comp_latency, comp_serves}
 use Rattle.event_graph.specs.OneListWeave.{FiredEvent}
-use Rattle.event_graph.specs.TimingSolution.{after_serving, of_component}
+use Rattle.event_graph.specs.ServedEvents.{after_serving, of_component}
 use Rattle.certify.specs.declared.numbers.Numbers.{Numbers}
 use Rattle.certify.specs.EventsFile.{event_in, event_of, events_from, field_at, interval_from, intervals_from, kind_in, known_event, numbers_of, read_event, read_number, served_in, then_read}
 use Rattle.certify.specs.Records.{AreRecords, record_at}

@@ -6,7 +6,7 @@ use Rattle.std.proofs.lemmas.Bool.{cases_eq}
 use Rattle.std.proofs.lemmas.Option.{slice_get-get_or}
 use Rattle.component.specs.declared.comp.Comp.{Comp}
 use Rattle.event_graph.specs.OneListWeave.{FiredEvent}
-use Rattle.event_graph.specs.TimingSolution.{after_serving, of_component}
+use Rattle.event_graph.specs.ServedEvents.{after_serving, of_component}
 use Rattle.certify.specs.Records.{key_of}
 use Rattle.certify.specs.ShortTimes.{capped_step}
 use Rattle.certify.specs.Verdict.{in_order}

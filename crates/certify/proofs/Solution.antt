@@ -11,7 +11,8 @@ use Rattle.std.proofs.lemmas.Option.{slice_get-get_or}
 use Rattle.component.specs.declared.comp.Comp.{Comp}
 use Rattle.component.specs.ComponentStep.{comp_step}
 use Rattle.event_graph.specs.OneListWeave.{FiredEvent, finish_in, is_event_before, start_of}
-use Rattle.event_graph.specs.TimingSolution.{IsInOrder, IsSolution, ServesInTurn, after_serving, of_component}
+use Rattle.event_graph.specs.ServedEvents.{after_serving, of_component}
+use Rattle.event_graph.specs.TimingSolution.{IsInOrder, IsSolution, ServesInTurn}
 use Rattle.certify.specs.Records.{AreRecords, key_of}
 use Rattle.certify.specs.Verdict.{finish_by, finish_on, has_right_finish, has_right_start, in_order, is_wrong}
 use Rattle.certify.proofs.FirstWrong.{none_found, right_of}

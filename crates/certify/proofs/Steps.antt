@@ -8,9 +8,10 @@ use Rattle.component.specs.declared.comp.Comp.TheVariants.{Bank as ABank, Contro
 use Rattle.component.specs.declared.kind.Kind.{Kind}
 use Rattle.component.specs.declared.kind.Kind.TheVariants.{Lookup, Remote, Fill, Read, Write, Hop}
 use Rattle.component.specs.ComponentStep.{comp_step, free_of}
-use Rattle.component.specs.Serving.{comp_greatest, comp_latency, comp_serves}
+use Rattle.component.specs.Greatest.{comp_greatest}
+use Rattle.component.specs.Serving.{comp_latency, comp_serves}
 use Rattle.event_graph.specs.OneListWeave.{FiredEvent}
-use Rattle.event_graph.specs.TimingSolution.{after_serving}
+use Rattle.event_graph.specs.ServedEvents.{after_serving}
 use Rattle.certify.specs.ShortTimes.{HaveShortTimes, capped_step, longest_time}
 
 -- ---- times

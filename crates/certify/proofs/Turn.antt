@@ -6,7 +6,7 @@ use Rattle.std.proofs.lemmas.Option.{get_or_from_slice_get, slice_get_within}
 use Rattle.component.specs.declared.comp.Comp.{Comp}
 use Rattle.component.specs.Serving.{comp_serves}
 use Rattle.event_graph.specs.OneListWeave.{FiredEvent}
-use Rattle.event_graph.specs.TimingSolution.{after_serving, of_component}
+use Rattle.event_graph.specs.ServedEvents.{after_serving, of_component}
 use Rattle.zs_num.specs.declared.time.Key.{Key}
 use Rattle.certify.specs.EventsFile.{kind_in}
 use Rattle.certify.specs.Records.{AreRecords, key_of, record_at}

@@ -10,7 +10,8 @@ use Rattle.event_graph.specs.declared.event.Event.{Event}
 use Rattle.event_graph.specs.Fits.{GraphFits}
 use Rattle.event_graph.specs.Numbered.{IsNumbered}
 use Rattle.event_graph.specs.OneListWeave.{FiredEvent, after_firings, weave, woven}
-use Rattle.event_graph.specs.TimingSolution.{IsInOrder, IsSolution, after_serving, of_component}
+use Rattle.event_graph.specs.ServedEvents.{after_serving, of_component}
+use Rattle.event_graph.specs.TimingSolution.{IsInOrder, IsSolution}
 
 pub record WeaveLaws : Type 0 where
   pub one_solution : (events : List Event) (comps : List Comp) (timed : List FiredEvent) → IsNumbered events → GraphFits comp_serves comp_latency events comps

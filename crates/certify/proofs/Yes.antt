@@ -6,7 +6,7 @@ use Rattle.std.specs.Option.{option_map}
 use Rattle.component.specs.declared.comp.Comp.{Comp}
 use Rattle.component.specs.ComponentStep.{comp_step}
 use Rattle.event_graph.specs.OneListWeave.{FiredEvent, comps_after, weave, woven}
-use Rattle.event_graph.specs.TimingSolution.{after_serving, of_component}
+use Rattle.event_graph.specs.ServedEvents.{after_serving, of_component}
 use Rattle.certify.specs.CanBeFiled.{IsFitting}
 use Rattle.certify.specs.declared.verdict.Verdict.{Verdict}
 use Rattle.certify.specs.declared.verdict.Verdict.TheVariants.{Finish, Start, Yes}

@@ -5,7 +5,7 @@ use Rattle.std.specs.Option.{option_map, option_map_or}
 use Rattle.component.specs.declared.comp.Comp.{Comp}
 use Rattle.component.specs.ComponentStep.{comp_step}
 use Rattle.event_graph.specs.OneListWeave.{FiredEvent, finish_in, is_event_before, start_of}
-use Rattle.event_graph.specs.TimingSolution.{after_serving, of_component}
+use Rattle.event_graph.specs.ServedEvents.{after_serving, of_component}
 use Rattle.certify.specs.declared.bad_events.BadEvents.{BadEvents}
 use Rattle.certify.specs.declared.verdict.Verdict.{Verdict}
 use Rattle.certify.specs.declared.verdict.Verdict.TheVariants.{Yes, Start, Finish}

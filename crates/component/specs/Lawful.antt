@@ -4,7 +4,8 @@ use Rattle.std.proofs.Common.{arith}
 use Rattle.component.specs.declared.kind.Kind.TheVariants.{Lookup, Remote, Fill, Read, Write, Hop}
 use Rattle.component.specs.declared.comp.Comp.TheVariants.{Bank as ABank, Controller as AController, Link as ALink}
 use Rattle.component.specs.ComponentStep.{bank_latency, bank_step, controller_latency, controller_step, link_latency, link_step, comp_step}
-use Rattle.component.specs.Serving.{bank_serves, bank_greatest, controller_serves, controller_greatest, link_serves, link_greatest, comp_serves, comp_latency, comp_greatest}
+use Rattle.component.specs.Greatest.{bank_greatest, controller_greatest, link_greatest, comp_greatest}
+use Rattle.component.specs.Serving.{bank_serves, controller_serves, link_serves, comp_serves, comp_latency}
 use Rattle.component.specs.ComponentLaws.{FloorAtLeastOne, FloorHolds, ServesStays, FloorStays, FinishWithinGreatest}
 
 pub bank_floor_at_least_one : FloorAtLeastOne bank_serves bank_latency

@@ -6,3 +6,4 @@ pub mod Lawful
 pub mod Laws
 pub mod Lending
 pub mod Serving
+pub mod Greatest

@@ -25,7 +25,8 @@ pub struct Bank {
 impl Component for Bank {
     ghost use Rattle.std.specs.Prelude.{◌+◌, max};
     ghost use Rattle.component.specs.ComponentStep.{bank_latency, bank_step};
-    ghost use Rattle.component.specs.Serving.{bank_serves, bank_greatest};
+    ghost use Rattle.component.specs.Greatest.{bank_greatest};
+    ghost use Rattle.component.specs.Serving.{bank_serves};
     ghost use Rattle.component.specs.Lawful.{bank_floor_at_least_one, bank_floor_holds, bank_serves_stays, bank_floor_stays, bank_finish_within_greatest};
 
     ghost serves = { bank_serves };

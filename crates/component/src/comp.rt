@@ -28,7 +28,8 @@ impl Comp {
 
 impl Component for Comp {
     ghost use Rattle.component.specs.ComponentStep.{comp_step};
-    ghost use Rattle.component.specs.Serving.{comp_serves, comp_latency, comp_greatest};
+    ghost use Rattle.component.specs.Greatest.{comp_greatest};
+    ghost use Rattle.component.specs.Serving.{comp_serves, comp_latency};
     ghost use Rattle.component.specs.Lawful.{comp_floor_at_least_one, comp_floor_holds, comp_serves_stays, comp_floor_stays, comp_finish_within_greatest};
 
     ghost serves = { comp_serves };

@@ -21,7 +21,8 @@ pub struct Controller {
 
 impl Component for Controller {
     ghost use Rattle.component.specs.ComponentStep.{controller_latency, controller_step};
-    ghost use Rattle.component.specs.Serving.{controller_serves, controller_greatest};
+    ghost use Rattle.component.specs.Greatest.{controller_greatest};
+    ghost use Rattle.component.specs.Serving.{controller_serves};
     ghost use Rattle.component.specs.Lawful.{controller_floor_at_least_one, controller_floor_holds, controller_serves_stays, controller_floor_stays, controller_finish_within_greatest};
 
     ghost serves = { controller_serves };

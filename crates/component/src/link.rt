@@ -19,7 +19,8 @@ pub struct Link {
 
 impl Component for Link {
     ghost use Rattle.component.specs.ComponentStep.{link_latency, link_step};
-    ghost use Rattle.component.specs.Serving.{link_serves, link_greatest};
+    ghost use Rattle.component.specs.Greatest.{link_greatest};
+    ghost use Rattle.component.specs.Serving.{link_serves};
     ghost use Rattle.component.specs.Lawful.{link_floor_at_least_one, link_floor_holds, link_serves_stays, link_floor_stays, link_finish_within_greatest};
 
     ghost serves = { link_serves };

@@ -10,7 +10,8 @@ use Rattle.event_graph.specs.declared.event.Event.{Event}
 use Rattle.event_graph.specs.declared.event.Parent.{Parent}
 use Rattle.event_graph.specs.Numbered.{IsNumbered}
 use Rattle.event_graph.specs.OneListWeave.{FiredEvent, Weave, finish_in, finish_or_zero, is_event_before, is_fired, is_parent_fired, is_ready, served, start_of}
-use Rattle.event_graph.specs.TimingSolution.{IsInOrder, ServesInTurn, after_serving, of_component}
+use Rattle.event_graph.specs.ServedEvents.{after_serving, of_component}
+use Rattle.event_graph.specs.TimingSolution.{IsInOrder, ServesInTurn}
 use Rattle.event_graph.proofs.FindFired.{AreParentsFired, Extends, IsOneEach, after_first, after_second, find_from_in, extends_from, fired_extends, fired_in, is_fired_from_in, parent_extends, start_extends}
 use Rattle.event_graph.proofs.Least.{IsLeast, ready_from, ready_parts}
 use Rattle.event_graph.proofs.Lists.{In, get-set_other, get-set_same, in_get, in_left, in_push, in_push_cases}

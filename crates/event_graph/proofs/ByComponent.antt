@@ -9,7 +9,8 @@ use Rattle.event_graph.specs.declared.event.Event.{Event}
 use Rattle.event_graph.specs.ComponentOrders.{IsSolutionByComponents, ServesItsEvents}
 use Rattle.event_graph.specs.Numbered.{IsNumbered}
 use Rattle.event_graph.specs.OneListWeave.{FiredEvent, is_event_before}
-use Rattle.event_graph.specs.TimingSolution.{IsInOrder, IsSolution, ServesInTurn, of_component}
+use Rattle.event_graph.specs.ServedEvents.{of_component}
+use Rattle.event_graph.specs.TimingSolution.{IsInOrder, IsSolution, ServesInTurn}
 use Rattle.event_graph.proofs.Lists.{In, contains_in, from_filter, get-map, in_at, in_contains, in_filter, in_get, pairs_from}
 use Rattle.event_graph.proofs.Order.{before_from_not, before_not_after, before_trans, not_before_itself}
 

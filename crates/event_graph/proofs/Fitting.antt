@@ -9,7 +9,7 @@ use Rattle.event_graph.specs.declared.event.Event.{Event}
 use Rattle.event_graph.specs.Fits.{EventFits, GraphFits}
 use Rattle.event_graph.specs.Numbered.{IsNumbered}
 use Rattle.event_graph.specs.OneListWeave.{FiredEvent, after_firings}
-use Rattle.event_graph.specs.TimingSolution.{after_serving, of_component}
+use Rattle.event_graph.specs.ServedEvents.{after_serving, of_component}
 use Rattle.event_graph.proofs.Kept.{after_keeps}
 use Rattle.event_graph.proofs.Lists.{In, from_filter, in_filter}
 use Rattle.event_graph.proofs.Progress.{holds}

@@ -14,7 +14,8 @@ use Rattle.component.specs.declared.link.Link.{Link}
 use Rattle.component.specs.declared.comp.Comp.{Comp}
 use Rattle.component.specs.declared.comp.Comp.TheVariants.{Bank as ABank, Controller as AController, Link as ALink}
 use Rattle.component.specs.ComponentStep.{bank_latency, comp_step, controller_latency, free_of, link_latency}
-use Rattle.component.specs.Serving.{comp_greatest, comp_serves}
+use Rattle.component.specs.Greatest.{comp_greatest}
+use Rattle.component.specs.Serving.{comp_serves}
 use Rattle.component.specs.Components.{AreComponents, IsBankOf, IsControllerOf, IsLinkIn, IsLinkOf}
 use Rattle.event_graph.specs.Growth.{BeginBy, IsPaced}
 use Rattle.event_graph.proofs.Lists.{get_within, read_is}

@@ -13,7 +13,8 @@ use Rattle.event_graph.specs.Fits.{EventFits, GraphFits}
 use Rattle.event_graph.specs.Numbered.{IsNumbered}
 use Rattle.event_graph.specs.OneListWeave.{FiredEvent, after_parent, comps_after, fired_event_in, fired_or_unfired, finish_in, finish_or_zero, start_of, weave, woven}
 use Rattle.event_graph.specs.Renumbering.{AreAlikeAtTies, AreRenumbered, HaveTheTimesOf, renumbered, renumbered_fired, renumbered_parent}
-use Rattle.event_graph.specs.TimingSolution.{IsSolution, ServesInTurn, after_serving, of_component}
+use Rattle.event_graph.specs.ServedEvents.{after_serving, of_component}
+use Rattle.event_graph.specs.TimingSolution.{IsSolution, ServesInTurn}
 use Rattle.event_graph.proofs.BetweenFirings.{IsLawful}
 use Rattle.event_graph.proofs.ByComponent.{AreApart, Before, Climbs, apart_from, filter_apart, from_sorted, in_sorted, sorted_climbs, sorted_of, sum_sorted, climbs_pairs, filter_climbs, is_solution, numbers_are, pairs_climb, same_climb}
 use Rattle.event_graph.proofs.FindFired.{IsOneEach, find_from_in}

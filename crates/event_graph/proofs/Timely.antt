@@ -10,7 +10,7 @@ use Rattle.event_graph.specs.Numbered.{IsNumbered}
 use Rattle.event_graph.specs.OneListWeave.{FiredEvent, find_fired, fired_of, fired_or_unfired, fired_event_in, weave, woven}
 use Rattle.event_graph.specs.SmallSteps.{AreSmallSteps}
 use Rattle.event_graph.specs.Timely.{AreTimely, IsTimely}
-use Rattle.event_graph.specs.TimingSolution.{of_component}
+use Rattle.event_graph.specs.ServedEvents.{of_component}
 use Rattle.event_graph.proofs.Lists.{In, at_in, from_filter, get-map, in_at, in_filter}
 use Rattle.event_graph.proofs.BetweenFirings.{HoldsBetween, IsLawful, IsServed}
 use Rattle.event_graph.proofs.Solves.{timed_at, held, woven-is}

@@ -3,7 +3,8 @@ use Rattle.std.proofs.Common.{◌≡◌, ◌+◌, ◌<◌, ◌≤◌, ℕ, Bool,
 use Rattle.std.specs.Prelude.{IsTrue}
 use Rattle.component.specs.declared.kind.Kind.{Kind}
 use Rattle.event_graph.specs.OneListWeave.{FiredEvent}
-use Rattle.event_graph.specs.TimingSolution.{ServesInTurn, after_serving}
+use Rattle.event_graph.specs.ServedEvents.{after_serving}
+use Rattle.event_graph.specs.TimingSolution.{ServesInTurn}
 use Rattle.event_graph.proofs.Lists.{In}
 
 module _ {C : Type 0} (stepped : C → Kind → ℕ → C × ℕ) where

@@ -10,7 +10,8 @@ use Rattle.event_graph.specs.declared.event.Event.{Event}
 use Rattle.event_graph.specs.declared.event.Parent.{Parent}
 use Rattle.event_graph.specs.Numbered.{IsNumbered}
 use Rattle.event_graph.specs.OneListWeave.{FiredEvent, Weave, after_firings, finish_in, finish_or_zero, fire_least, is_event_before, is_fired, is_parent_fired, least_ready, start_of, fired_event_in, weave, woven}
-use Rattle.event_graph.specs.TimingSolution.{IsSolution, ServesInTurn, after_serving, of_component}
+use Rattle.event_graph.specs.ServedEvents.{after_serving, of_component}
+use Rattle.event_graph.specs.TimingSolution.{IsSolution, ServesInTurn}
 use Rattle.event_graph.proofs.FindFired.{AreParentsFired, Extends, IsOneEach, after_first, after_second, find_from_in, extends_from, fired_in, is_fired_from_in, start_extends}
 use Rattle.event_graph.proofs.Least.{least_is, ready_from, ready_parts}
 use Rattle.event_graph.proofs.Lists.{In, contains_in, from_filter, from_map, get-map, in_at, in_cases, in_contains, in_filter, in_left, in_map, in_right, map_itself, map_map, pairs_from, pairs_front}

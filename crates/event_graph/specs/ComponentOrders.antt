@@ -4,7 +4,8 @@ use Rattle.std.specs.List.{Contains}
 use Rattle.component.specs.declared.kind.Kind.{Kind}
 use Rattle.event_graph.specs.declared.event.Event.{Event}
 use Rattle.event_graph.specs.OneListWeave.{FiredEvent, finish_in, start_of}
-use Rattle.event_graph.specs.TimingSolution.{IsInOrder, ServesInTurn, of_component}
+use Rattle.event_graph.specs.ServedEvents.{of_component}
+use Rattle.event_graph.specs.TimingSolution.{IsInOrder, ServesInTurn}
 
 module _ {C : Type 0} (stepped : C → Kind → ℕ → C × ℕ) where
   -- the component serves its events one after the other, in order of (start, number)

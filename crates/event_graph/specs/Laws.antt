@@ -6,7 +6,8 @@ use Rattle.machine_desc.specs.Machine.{IsMachine}
 use Rattle.zs_num.specs.declared.entry.Entry.{Entry}
 use Rattle.component.specs.declared.comp.Comp.{Comp}
 use Rattle.component.specs.ComponentStep.{comp_step, free_of}
-use Rattle.component.specs.Serving.{comp_serves, comp_latency, comp_greatest}
+use Rattle.component.specs.Greatest.{comp_greatest}
+use Rattle.component.specs.Serving.{comp_serves, comp_latency}
 use Rattle.component.specs.Components.{AreComponents}
 use Rattle.event_graph.specs.declared.access_path.AccessPath.{AccessPath}
 use Rattle.event_graph.specs.declared.event.Event.{Event}

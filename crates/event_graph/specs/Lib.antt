@@ -24,4 +24,5 @@ pub mod Renumbering
 pub mod SmallSteps
 pub mod Timely
 pub mod Timing
+pub mod ServedEvents
 pub mod TimingSolution

@@ -1,23 +1,16 @@
 -- The solutions of the timing rules, which say nothing of an order of execution.
-use Rattle.std.specs.Prelude.{◌≡◌, ◌==◌, ◌↔◌, ℕ, IsTrue, List, [], ◌∷◌, map, slice_get, Some}
-use Rattle.std.specs.List.{AllPairs, Contains, filter, fold}
+use Rattle.std.specs.Prelude.{◌≡◌, ◌↔◌, ℕ, IsTrue, List, [], ◌∷◌, map, slice_get, Some}
+use Rattle.std.specs.List.{AllPairs, Contains}
 use Rattle.component.specs.declared.kind.Kind.{Kind}
 use Rattle.event_graph.specs.declared.event.Event.{Event}
+use Rattle.event_graph.specs.ServedEvents.{of_component}
 use Rattle.event_graph.specs.OneListWeave.{FiredEvent, finish_in, is_event_before, start_of}
-
--- those of the component of this number
-abbrev pub of_component : ℕ → List FiredEvent → List FiredEvent
-of_component number xs = filter (λ x. x.event.component == number) xs
 
 -- each comes before those after it, so none is there twice
 abbrev pub IsInOrder : List FiredEvent → Type 0
 IsInOrder xs = AllPairs (λ x y. IsTrue (is_event_before x.event x.start y.event y.start)) xs
 
 module _ {C : Type 0} (stepped : C → Kind → ℕ → C × ℕ) where
-  -- the component after it served these, one after the other
-  abbrev pub after_serving : C → List FiredEvent → C
-  after_serving c xs = fold (λ before x. (stepped before x.event.kind x.start).0) c xs
-
   -- the finishes are those of a component that serves one event after the other
   abbrev pub ServesInTurn : C → List FiredEvent → Type 0
   ServesInTurn c [] = Unit {0}

@@ -24,7 +24,8 @@ ghost use Rattle.event_graph.specs.Timely.{AreTimely};
 ghost use Rattle.event_graph.specs.declared.access_path.AccessPath.{AccessPath};
 ghost use Rattle.event_graph.specs.declared.piece.Piece.{Piece};
 ghost use Rattle.event_graph.specs.PlainTiming.{pieces_of};
-ghost use Rattle.event_graph.specs.TimingSolution.{IsInOrder, IsSolution, ServesInTurn, after_serving, of_component};
+ghost use Rattle.event_graph.specs.ServedEvents.{after_serving, of_component};
+ghost use Rattle.event_graph.specs.TimingSolution.{IsInOrder, IsSolution, ServesInTurn};
 ghost use Rattle.event_graph.specs.FloorsServed.{AreFloorsOf};
 
 use crate::Expand;

@@ -6,7 +6,8 @@ use Rattle.machine_desc.specs.declared.machine.Machine.{Machine}
 use Rattle.machine_desc.specs.Machine.{IsMachine}
 use Rattle.component.specs.declared.comp.Comp.{Comp}
 use Rattle.component.specs.ComponentStep.{comp_step, free_of}
-use Rattle.component.specs.Serving.{comp_greatest, comp_latency, comp_serves}
+use Rattle.component.specs.Greatest.{comp_greatest}
+use Rattle.component.specs.Serving.{comp_latency, comp_serves}
 use Rattle.component.specs.Components.{AreComponents}
 use Rattle.event_graph.specs.declared.event.Event.{Event}
 use Rattle.event_graph.specs.declared.fired.Fired.{Fired}

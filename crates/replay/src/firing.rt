@@ -2,7 +2,8 @@
 ghost use Rattle.std.specs.Prelude.{◌≡◌, ◌<◌, ◌≤◌, ◌^◌, IfOk, OnErr, OnOk, length, map};
 ghost use Rattle.machine_desc.specs.Machine.{IsMachine};
 ghost use Rattle.component.specs.ComponentStep.{comp_step};
-ghost use Rattle.component.specs.Serving.{comp_greatest, comp_latency, comp_serves};
+ghost use Rattle.component.specs.Greatest.{comp_greatest};
+ghost use Rattle.component.specs.Serving.{comp_latency, comp_serves};
 ghost use Rattle.component.specs.Components.{AreComponents};
 ghost use Rattle.event_graph.specs.Fits.{GraphFits};
 ghost use Rattle.event_graph.specs.OneListWeave.{comps_after, fired_of, woven};

@@ -8,7 +8,7 @@ use Rattle.component.specs.ComponentStep.{free_of}
 use Rattle.event_graph.specs.declared.event.Event.{Event}
 use Rattle.event_graph.specs.declared.fired.Fired.{Fired}
 use Rattle.event_graph.specs.OneListWeave.{FiredEvent, fired_of}
-use Rattle.event_graph.specs.TimingSolution.{of_component}
+use Rattle.event_graph.specs.ServedEvents.{of_component}
 use Rattle.stats.specs.declared.counts.CompCount.{CompCount}
 use Rattle.stats.specs.declared.counts.CoreCount.{CoreCount}
 use Rattle.stats.specs.Added.{added, comp_count_after, core_count_after}

@@ -8,7 +8,7 @@ use Rattle.event_graph.specs.OneListWeave.{FiredEvent, fired_of}
 use Rattle.event_graph.specs.OrderByCore.{HaveTheSameByCore}
 use Rattle.event_graph.specs.Renumbering.{renumbered_fired}
 use Rattle.event_graph.specs.Timely.{AreTimely}
-use Rattle.event_graph.specs.TimingSolution.{of_component}
+use Rattle.event_graph.specs.ServedEvents.{of_component}
 use Rattle.stats.specs.Counts.{Counts, Interval, counts_of, total_accesses, total_events}
 use Rattle.stats.specs.CountsFit.{CountsFit}
 use Rattle.stats.specs.Added.{added, no_counts}

@@ -15,7 +15,7 @@ use Rattle.event_graph.specs.declared.event.Event.{Event}
 use Rattle.event_graph.specs.declared.event.Parent.{Parent}
 use Rattle.event_graph.specs.declared.fired.Fired.{Fired}
 use Rattle.event_graph.specs.OneListWeave.{FiredEvent, after_parent, comps_after, find_fired, finish_in, finish_or_zero, fired_of, fired_or_unfired, is_fired, start_of, fired_event_in, weave, woven}
-use Rattle.event_graph.specs.TimingSolution.{after_serving, of_component}
+use Rattle.event_graph.specs.ServedEvents.{after_serving, of_component}
 use Rattle.domain_map.specs.declared.crossing.Crossing.{Crossing}
 use Rattle.domain_map.specs.Domains.{Partition, domain_at, domain_of_event, domain_of_number}
 use Rattle.weave_core.specs.declared.next.Next.{Next}

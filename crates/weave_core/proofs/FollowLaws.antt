@@ -6,7 +6,8 @@ use Rattle.component.specs.declared.kind.Kind.{Kind}
 use Rattle.event_graph.specs.declared.event.Event.{Event}
 use Rattle.event_graph.specs.declared.fired.Fired.{Fired}
 use Rattle.event_graph.specs.OneListWeave.{FiredEvent, start_of}
-use Rattle.event_graph.specs.TimingSolution.{IsSolution, after_serving, of_component}
+use Rattle.event_graph.specs.ServedEvents.{after_serving, of_component}
+use Rattle.event_graph.specs.TimingSolution.{IsSolution}
 use Rattle.domain_map.specs.Domains.{domain_of_event}
 use Rattle.weave_core.specs.DomainCalls.{DomainValue, Follows, IsFire, comps_in}
 use Rattle.weave_core.specs.DomainMachine.{is_clear, is_ready_in, known_finish}

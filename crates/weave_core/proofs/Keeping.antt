@@ -15,7 +15,8 @@ use Rattle.event_graph.specs.declared.fired.Fired.{Fired}
 use Rattle.event_graph.specs.OneListWeave.{FiredEvent, after_firings, fire, find_fired, finish_in, finish_or_zero, fired_of, least_ready, fire_least, served, weave, woven}
 use Rattle.event_graph.specs.SmallSteps.{IsSmallStep}
 use Rattle.event_graph.specs.Timely.{AreTimely, IsTimely}
-use Rattle.event_graph.specs.TimingSolution.{IsInOrder, IsSolution, after_serving, of_component}
+use Rattle.event_graph.specs.ServedEvents.{after_serving, of_component}
+use Rattle.event_graph.specs.TimingSolution.{IsInOrder, IsSolution}
 use Rattle.domain_map.specs.declared.crossing.Crossing.{Crossing}
 use Rattle.domain_map.specs.Domains.{Partition, domain_of_event}
 use Rattle.weave_core.specs.AtBarrier.{AreSoundDomains, IsFirstLeft, KnowFiredParents, MayGoOn, least_start_of, own_at}

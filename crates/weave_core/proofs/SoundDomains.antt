@@ -4,7 +4,8 @@ use Rattle.std.specs.List.{filter}
 use Rattle.component.specs.declared.kind.Kind.{Kind}
 use Rattle.event_graph.specs.declared.event.Event.{Event}
 use Rattle.event_graph.specs.OneListWeave.{FiredEvent, weave, woven}
-use Rattle.event_graph.specs.TimingSolution.{IsInOrder, IsSolution, after_serving, of_component}
+use Rattle.event_graph.specs.ServedEvents.{after_serving, of_component}
+use Rattle.event_graph.specs.TimingSolution.{IsInOrder, IsSolution}
 use Rattle.domain_map.specs.Domains.{Partition, IsPartition, domain_of_event}
 use Rattle.weave_core.specs.DomainMachine.{DomainState, is_clear, next_in}
 use Rattle.weave_core.specs.Interleavings.{of_domain}

@@ -9,7 +9,7 @@ use Rattle.zs_num.specs.declared.time.Word.TheVariants.{Bound, Exact}
 use Rattle.component.specs.declared.kind.Kind.{Kind}
 use Rattle.event_graph.specs.declared.event.Event.{Event}
 use Rattle.event_graph.specs.OneListWeave.{FiredEvent, find_fired, finish_in, finish_or_zero, is_fired}
-use Rattle.event_graph.specs.TimingSolution.{after_serving, of_component}
+use Rattle.event_graph.specs.ServedEvents.{after_serving, of_component}
 use Rattle.domain_map.specs.declared.crossing.Crossing.{Crossing}
 use Rattle.domain_map.specs.Domains.{Partition, IsPartition, domain_at, domain_of_event}
 use Rattle.weave_core.specs.DomainMachine.{DomainState, MachineState, cycle_of, effect_of, finish_of_parent, fresh_domain, is_allowed, crossing_passes, is_exact, latency_at, latency_of, limit_of, look, may_raise, publish, raise, state_of, word_at}

@@ -10,7 +10,8 @@ use Rattle.component.specs.declared.kind.Kind.{Kind}
 use Rattle.event_graph.specs.declared.event.Event.{Event}
 use Rattle.event_graph.specs.declared.fired.Fired.{Fired}
 use Rattle.event_graph.specs.Fits.{GraphFits}
-use Rattle.event_graph.specs.TimingSolution.{IsSolution, after_serving, of_component}
+use Rattle.event_graph.specs.ServedEvents.{after_serving, of_component}
+use Rattle.event_graph.specs.TimingSolution.{IsSolution}
 use Rattle.weave_core.specs.Interleavings.{IsFront, of_domain}
 use Rattle.weave_core.specs.Soundness.{AreSoundBounds, AreSoundWords}
 use Rattle.event_graph.specs.OneListWeave.{FiredEvent, is_fired}

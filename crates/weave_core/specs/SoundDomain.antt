@@ -3,7 +3,8 @@ use Rattle.std.specs.Prelude.{◌≡◌, ℕ, Bool, true, List, length, Some, sl
 use Rattle.component.specs.declared.kind.Kind.{Kind}
 use Rattle.event_graph.specs.declared.event.Event.{Event}
 use Rattle.event_graph.specs.OneListWeave.{FiredEvent}
-use Rattle.event_graph.specs.TimingSolution.{IsSolution, after_serving, of_component}
+use Rattle.event_graph.specs.ServedEvents.{after_serving, of_component}
+use Rattle.event_graph.specs.TimingSolution.{IsSolution}
 use Rattle.domain_map.specs.Domains.{Partition}
 use Rattle.weave_core.specs.DomainMachine.{DomainState, is_clear, next_in}
 use Rattle.weave_core.specs.Interleavings.{IsPartitioned, IsFront, of_domain}

@@ -8,7 +8,7 @@ use Rattle.std.specs.declared.alloc.Global.{Global}
 use Rattle.component.specs.declared.kind.Kind.{Kind}
 use Rattle.event_graph.specs.declared.event.Event.{Event}
 use Rattle.event_graph.specs.OneListWeave.{FiredEvent, after_firings, comps_after, is_fired}
-use Rattle.event_graph.specs.TimingSolution.{after_serving, of_component}
+use Rattle.event_graph.specs.ServedEvents.{after_serving, of_component}
 use Rattle.domain_map.specs.declared.crossing.Crossing.{Crossing}
 use Rattle.domain_map.specs.Domains.{Partition}
 use Rattle.weave_core.specs.DomainCalls.{DomainValue}

@@ -7,7 +7,7 @@ use Rattle.std.specs.Option.{option_map}
 use Rattle.event_graph.specs.Firing.{FiresNext, IsNext}
 use Rattle.event_graph.specs.Fits.{GraphFits}
 use Rattle.event_graph.specs.OneListWeave.{FiredEvent, after_firings, weave, woven}
-use Rattle.event_graph.specs.TimingSolution.{after_serving, of_component}
+use Rattle.event_graph.specs.ServedEvents.{after_serving, of_component}
 use Rattle.domain_map.specs.Domains.{Partition}
 use Rattle.weave_core.specs.Keeping.{CanWeave}
 use Rattle.weave_core.proofs.FromLaws.{here, order_of, served_of}
