@@ -1,10 +1,7 @@
-pub mod Access
-pub mod AllCaches
 pub mod BankAsks
 pub mod BankMet
 pub mod BankReady
 pub mod BankSteps
-pub mod Beside
 pub mod Coherent
 pub mod CoherentApart
 pub mod CoherentDirty
@@ -18,19 +15,12 @@ pub mod CoherentRuns
 pub mod CoherentSets
 pub mod CoherentSettled
 pub mod CoherentStand
-pub mod CoreSets
-pub mod Entries
-pub mod FirstBytes
 pub mod Fits
 pub mod HomesAndL1s
-pub mod Instructions
 pub mod Kept
 pub mod L2Laws
-pub mod LaidOut
-pub mod Others
 pub mod Reservations
-pub mod ShardLists
-pub mod SharedSets
+pub mod ShardSeen
 pub mod SomeCores
 pub mod StandsForAnswers
 pub mod StandsForApart
@@ -43,4 +33,3 @@ pub mod StandsForShare
 pub mod StandsForStart
 pub mod StandsForStep
 pub mod StandsForSteps
-pub mod Unmarked

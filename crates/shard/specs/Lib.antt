@@ -1,11 +1,8 @@
 pub mod Accesses
 pub mod Allowed
-pub mod CacheLayout
-pub mod CacheSteps
 pub mod BankSteps
 pub mod Coherence
 pub mod HaveL1i
-pub mod InstructionSteps
 pub mod Laws
 pub mod Marks
 pub mod NewCaches

@@ -148,7 +148,7 @@ impl Parts {
 }
 
 /// A byte of a line, where its home has this one: that of the L1 that has it in M, if one has.
-fn newest_byte(l1s: &[L1], line: u64, place: usize, at_home: u8) -> u8
+pub(crate) fn newest_byte(l1s: &[L1], line: u64, place: usize, at_home: u8) -> u8
     requires { place < line_bytes }
     ensures { (bytes : List ℕ) → slice_index bytes place ≡ at_home → slice_index (newest_in line bytes l1s.now) place ≡ result }
 {

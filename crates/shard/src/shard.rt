@@ -1,64 +1,48 @@
 //! One shard, and what is asked of it.
-ghost use Rattle.std.specs.Prelude.{◌≡◌, ◌+◌, ◌-◌, ◌*◌, ◌%◌, ◌^◌, ◌<◌, ◌≤◌, length, slice_index, IfOk};
+ghost use Rattle.std.specs.Prelude.{◌≡◌, ◌+◌, ◌-◌, ◌^◌, ◌<◌, ◌≤◌, length, nat_eq, slice_index, IfOk};
 ghost use Rattle.machine_desc.specs.Machine.{IsMachine};
 ghost use Rattle.shard.specs.Coherence.{dirty_at, fetch_holds, letter_at};
 ghost use Rattle.shard.specs.HaveL1i.{have_l1i};
-ghost use Rattle.zs_num.specs.Request.{line_at, line_bytes, bank_of_line};
+ghost use Rattle.zs_num.specs.Request.{line_at, bank_of_line};
 ghost use Rattle.shard.specs.Served.{new_shard, place_of, resumed, shard_after, CanServe, KnowsCore, IsServedBy};
 
-use crate::filling::first_bytes;
-use crate::marked_bytes::MarkedBytes;
-use crate::marks::Marks;
-use crate::shard_caches::ShardCaches;
+use crate::new_parts::{new_home, new_l1s};
+use crate::parts::newest_byte;
+use crate::shared::meet;
 use cache_set::Letter;
-use division::quotient;
+use division::remainder;
 use elf_load::Image;
+use home::Home;
+use l1_cache::L1;
 use machine_desc::Machine;
 use std::alloc::Global;
 use std::marker::Model;
 use zs_num::{Cycle, Entry, LINE, NoMemory, Request, Stamp};
 
-/// One shard of a machine: the sets of all caches in which its lines can be, and the bytes of these
-/// lines. They are the lines whose number, modulo the number of shards, is the shard's.
+/// One shard of a machine: the home of its lines, and the sets of each core's L1 in which its lines
+/// can be. They are the lines whose number, modulo the number of shards, is the shard's. Contracts
+/// see it as lists, the most recently used line first, and the newest bytes of each line.
 #[derive(Drop)]
 pub struct Shard {
     last: Stamp,
-    memory: MarkedBytes,
+    number: u16,
     // How many shards there are.
     count: u64,
-    // How many lines of this shard lie below memory.
-    below: u64,
-    caches: ShardCaches,
-    base: u64,
-    size: u64,
-    number: u16,
+    home: Home,
+    l1s: Vec<L1>,
 }
 
 impl Model for Shard {
     ghost use Rattle.shard.specs.Served.{ShardState};
+    ghost use Rattle.shard.specs.BankSteps.{bank_with};
+    ghost use Rattle.shard.specs.Seen.{shard_seen};
     ghost use Rattle.shard.specs.ShardLayout.{IsShardLayout};
 
     ghost Value = { ShardState };
 
-    ghost view = { λ s. record {
-      number = s.number;
-      base = s.base;
-      size = s.size;
-      caches = s.caches;
-      bytes = s.memory.bytes.items;
-      marks = s.memory.marks;
-      last = s.last;
-    } };
+    ghost view = { λ s. shard_seen (bank_with s.home s.l1s.items) s.last };
 
-    ghost invariant = { λ s. IsShardLayout s.count s.below (record {
-      number = s.number;
-      base = s.base;
-      size = s.size;
-      caches = s.caches;
-      bytes = s.memory.bytes.items;
-      marks = s.memory.marks;
-      last = s.last;
-    }) };
+    ghost invariant = { λ s. IsShardLayout s.number s.count (bank_with s.home s.l1s.items) };
 }
 
 impl Shard {
@@ -76,21 +60,14 @@ impl Shard {
         requires size { image.now.size ≡ machine.now.memory.size }
         ensures { IfOk result (λ shard. shard ≡ new_shard machine.now number image.now) }
     {
-        let caches = ShardCaches::new(alloc, machine)?;
-        let count = u64::from(machine.l2.banks);
-        let memory = MarkedBytes {
-            bytes: first_bytes(alloc, count, number, image)?,
-            marks: Marks::new(alloc, machine.cores)?,
-        };
+        let home = new_home(alloc, machine, number, image)?;
+        let l1s = new_l1s(alloc, machine, machine.l2.banks, 1)?;
         Ok(Shard {
             last: 0,
-            memory,
-            count,
-            below: image.base() / LINE / count,
-            caches,
-            base: image.base(),
-            size: image.size(),
             number,
+            count: u64::from(machine.l2.banks),
+            home,
+            l1s,
         })
     }
 
@@ -98,7 +75,6 @@ impl Shard {
     /// entry's stamp is one more than this and than the shard's own, so both are asked to be small:
     /// the shard's by `own_stamp`, the core's by `stamp`. A fetch is of a multiple of 4, on a machine
     /// with instruction caches.
-    #[tactic(auto, unfolding(crate::specs::Served::CanServe, crate::specs::Served::shard_reply, crate::specs::Served::met_by, crate::specs::Served::shard_after))]
     #[inline(always)]
     pub fn serve(&mut self, core: u16, start: Cycle, last: Stamp, request: Request) -> Entry
         requires core { KnowsCore self.old core }
@@ -115,17 +91,15 @@ impl Shard {
         ensures cores { length self.new.marks ≡ length self.old.marks }
         ensures last { self.new.last ≡ result.stamp }
     {
-        let place = self.place(request.addr());
-        let outcome = self.caches.meet(core, request);
-        let reply = self.memory.serve(core, place, request);
+        let met = meet(&mut self.home, &mut self.l1s, core, request);
         self.last = self.last.max(last) + 1;
         Entry {
             core,
             stamp: self.last,
             start,
             request,
-            reply,
-            outcome,
+            reply: met.0,
+            outcome: met.1,
         }
     }
 
@@ -133,7 +107,16 @@ impl Shard {
     pub fn letter(&self, core: u16, line: u64) -> Letter
         ensures { result ≡ letter_at self.now.caches core line }
     {
-        self.caches.letter(core, line)
+        match self.l1s.get(usize::from(core)) {
+            Some(l1) => {
+                if self.is_own(line) {
+                    l1.letter(line)
+                } else {
+                    Letter::I
+                }
+            }
+            None => Letter::I,
+        }
     }
 
     /// Whether a core's instruction cache has a line. No core that the shard does not know has one,
@@ -141,14 +124,20 @@ impl Shard {
     pub fn fetch_holds(&self, core: u16, line: u64) -> bool
         ensures { result ≡ fetch_holds self.now.caches core line }
     {
-        self.caches.fetch_holds(core, line)
+        match self.l1s.get(usize::from(core)) {
+            Some(l1) => self.is_own(line) && l1.has_instructions(line),
+            None => false,
+        }
     }
 
     /// Whether a line is dirty in the shared cache: None where the shared cache does not hold it.
     pub fn l2_dirty(&self, line: u64) -> Option<bool>
         ensures { result ≡ dirty_at self.now.caches line }
     {
-        self.caches.l2_dirty(line)
+        match self.home.row(line) {
+            Some(row) => Some(row.dirty),
+            None => None,
+        }
     }
 
     /// The byte at an address of memory whose line is one of the shard's.
@@ -158,7 +147,9 @@ impl Shard {
         requires own { bank_of_line self.now.caches.shards (line_at addr) ≡ self.now.number }
         ensures { result ≡ slice_index self.now.bytes (place_of self.now.caches.shards self.now.base addr) }
     {
-        self.memory.bytes[self.place(addr)]
+        let line = addr / LINE;
+        let place = (addr % LINE) as usize;
+        newest_byte(&self.l1s, line, place, self.home.line_bytes(line)[place])
     }
 
     /// Sets the last stamp to 0, as at the beginning of an interval.
@@ -189,14 +180,11 @@ impl Shard {
         self.last
     }
 
-    /// Where a byte of memory stands among those of the shard, if its line is one of the shard's.
+    /// Whether a line is one of the shard's.
     #[inline(always)]
-    fn place(&self, addr: u64) -> usize
-        requires begins { self.now.base ≤ addr }
-        requires ends { addr < self.now.base + self.now.size }
-        ensures place { result ≡ place_of self.now.caches.shards self.now.base addr }
-        ensures within { result + line_bytes ≤ length self.now.bytes + addr % line_bytes }
+    fn is_own(&self, line: u64) -> bool
+        ensures { result ≡ nat_eq (bank_of_line self.now.caches.shards line) self.now.number }
     {
-        (LINE * (quotient(addr / LINE, self.count) - self.below) + addr % LINE) as usize
+        remainder(line, self.count) == u64::from(self.number)
     }
 }

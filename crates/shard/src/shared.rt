@@ -89,9 +89,11 @@ fn meet_fetch(home: &mut Home, l1s: &mut [L1], core: u16, line: u64) -> Outcome
             Outcome::L2 { others: false }
         }
         None => {
-            let dirty_victim = bring_home(home, l1s, line);
+            let dirty = bring_home(home, l1s, line);
             bring_instruction(home, l1s, core, line);
-            Outcome::Miss { dirty_victim }
+            Outcome::Miss {
+                dirty_victim: dirty,
+            }
         }
     }
 }

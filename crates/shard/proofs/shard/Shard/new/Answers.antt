@@ -1,20 +1,11 @@
--- The parts are those of the machine and of the image.
-use Rattle.std.proofs.Common.{List, None, Option, ap, arith, length, refl, sym, ◌∙◌}
-use Rattle.std.proofs.lemmas.List.{length-replicate}
-use Rattle.flat_memory.specs.declared.reservation.Reservation.{Reservation}
-use Rattle.shard.specs.Coherence.{Caches}
+use Rattle.std.proofs.Common.{ap, ◌∙◌}
+use Rattle.shard.proofs.ShardSeen.{new_shard_is}
 use Rattle.shard.proofs.shard.Shard.new.Goals as goal
 
 pub invariant_of-result : goal.invariant_of-result
 invariant_of-result c =
-    let cores = c.args.machine.now.cores in
-    record {
-      shards = c.from-count.ensures ∙ sym (ap (λ (d : Caches). d.shards) c.in_ok-caches.ensures);
-      some = omega (arith, c.requires.number);
-      first = rw (c.base.ensures.value, c.base-2.ensures.value) refl;
-      cores = ap (λ (d : Caches). length d.l1) c.in_ok-caches.ensures
-          ∙ (length-replicate cores _ ∙ sym (ap (λ (marks : List (Option Reservation)). length marks) c.in_ok-new.ensures ∙ length-replicate cores None));
-      bytes = rw (c.base-2.ensures.value, c.size.ensures) c.in_ok-first_bytes.ensures.size;
-      size = omega (arith, c.requires.machine.memory);
-      reach = omega (arith, c.requires.machine.memory);
-    }
+    (new_shard_is c.args.machine.now c.args.number c.args.image.now c.requires.machine c.requires.number c.requires.base c.requires.size c.in_ok-home.home c.in_ok-l1s.l1s.items c.from.result c.in_ok-home.ensures c.in_ok-l1s.ensures c.from.ensures).1
+
+pub returns : goal.returns
+returns c =
+    (new_shard_is c.args.machine.now c.args.number c.args.image.now c.requires.machine c.requires.number c.requires.base c.requires.size c.in_ok-home.home c.in_ok-l1s.l1s.items c.from.result c.in_ok-home.ensures c.in_ok-l1s.ensures c.from.ensures).0

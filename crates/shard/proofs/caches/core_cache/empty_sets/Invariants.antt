@@ -1,6 +1,0 @@
--- So many sets, all empty.
-use Rattle.std.proofs.Common.{◌≡◌, [], replicate}
-use Rattle.shard.proofs.caches.core_cache.empty_sets.Given as goal
-
-abbrev pub invariant-loop-set : goal.invariant-loop-set
-invariant-loop-set l = l.sets.items ≡ replicate l._set (record { ways = l.ways; list = [] })

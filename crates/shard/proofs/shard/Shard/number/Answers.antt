@@ -1,0 +1,7 @@
+use Rattle.std.proofs.Common.{◌∙◌}
+use Rattle.shard.specs.BankSteps.{bank_with}
+use Rattle.shard.proofs.ShardSeen.{number_is}
+use Rattle.shard.proofs.shard.Shard.number.Goals as goal
+
+pub returns : goal.returns
+returns c = c.self.invariant.number_is ∙ number_is (bank_with c.self.inside.home c.self.inside.l1s.items) c.self.inside.last c.args.self.now c.self.view_is
