@@ -1,5 +1,5 @@
 //! Worked programs at the pace of a pipeline: the clock behind each instruction, by hand.
-ghost use Rattle.std.specs.Prelude.{◌≤◌, ◌<◌, ◌^◌};
+ghost use Rattle.std.specs.Prelude.{◌≡◌, ◌≤◌, ◌<◌, ◌^◌};
 ghost use Rattle.pipe_core.specs.PaceLaws.{GoesOnFrom};
 
 use crate::checks::is_number;
@@ -46,7 +46,8 @@ static OTHERS: [Row; 5] = [
 
 /// The pace at the start of each.
 fn first(rt: &(impl Abort + AllocGlobal)) -> Pace
-    ensures { GoesOnFrom 0 result }
+    ensures goes_on { GoesOnFrom 0 result }
+    ensures entries { result.pipe.entries ≡ 16 }
 {
     laws::issues_are_soon();
     let pipe = Pipe {
@@ -63,14 +64,17 @@ fn behind(pace: &mut Pace, i: Inst, pc: u64, taken: bool, clock: u64) -> u64
     requires registers { (i.rd < 32) × (i.rs1 < 32) × (i.rs2 < 32) }
     requires goes_on { GoesOnFrom clock pace.old }
     requires small { clock ≤ 2 ^ 61 }
-    ensures { GoesOnFrom result pace.new }
+    ensures goes_on { GoesOnFrom result pace.new }
+    ensures pipe { pace.new.pipe ≡ pace.old.pipe }
 {
     laws::issues_are_soon();
     pace.issue(i, pc, taken, clock)
 }
 
-/// Checks the clock behind each instruction of a program.
-fn goes_through(rt: &(impl Abort + AllocGlobal), rows: &[Row]) {
+/// Checks the clock behind each instruction of a program. The answer is the pace behind it.
+fn goes_through(rt: &(impl Abort + AllocGlobal), rows: &[Row]) -> Pace
+    ensures { result.pipe.entries ≡ 16 }
+{
     let mut pace = first(rt);
     let mut clock = 0;
     for &(name, rd, rs1, rs2, pc, taken, wanted) in rows {
@@ -85,6 +89,21 @@ fn goes_through(rt: &(impl Abort + AllocGlobal), rows: &[Row]) {
         clock = behind(&mut pace, i, pc, taken, clock);
         is_number(rt, pc, clock, wanted);
     }
+    pace
+}
+
+/// Checks from which cycle on a register is ready.
+fn is_ready(rt: &impl Abort, pace: &Pace, register: u8, wanted: u64)
+    requires { register < 32 }
+{
+    is_number(rt, u64::from(register), pace.ready(register), wanted);
+}
+
+/// Checks the counter at a place.
+fn has_counted(rt: &impl Abort, pace: &Pace, place: u32, wanted: u8)
+    requires { place < pace.now.pipe.entries }
+{
+    assert!(rt; pace.counter(place) == wanted);
 }
 
 #[test]
@@ -92,4 +111,20 @@ fn instructions_wait_for_registers_and_predictions(rt: HostRuntime) {
     goes_through(&rt, &PRODUCT);
     goes_through(&rt, &LOOP);
     goes_through(&rt, &OTHERS);
+}
+
+#[test]
+fn a_product_is_ready_later_and_x0_always(rt: HostRuntime) {
+    let pace = goes_through(&rt, &PRODUCT);
+    is_ready(&rt, &pace, 6, 4);
+    is_ready(&rt, &pace, 10, 5);
+    is_ready(&rt, &pace, 0, 0);
+}
+
+#[test]
+fn a_branch_moves_its_own_counter_alone(rt: HostRuntime) {
+    let pace = goes_through(&rt, &LOOP);
+    has_counted(&rt, &pace, 2, 2);
+    has_counted(&rt, &pace, 1, 1);
+    has_counted(&rt, &pace, 3, 1);
 }
