@@ -1,0 +1,101 @@
+//! How far the events of a core's accesses have fired.
+ghost use Rattle.std.specs.Prelude.{◌≡◌, ◌-◌, ◌<◌, ◌≤◌, ◌^◌, nat_lt};
+ghost use Rattle.weave_chains.specs.Chains.{after_ended, delay_by, moved_on, start_by, waited_for};
+
+use event_graph::Piece;
+use zs_num::Cycle;
+
+/// How many events an access has at most.
+pub(crate) const MOST: usize = 64;
+
+/// When an event has finished, and when it would have at zero load.
+#[derive(Clone, Copy)]
+pub(crate) struct Ended {
+    pub(crate) finish: Cycle,
+    pub(crate) at_zero_load: Cycle,
+}
+
+/// The chain of a core's events, while they fire.
+#[derive(Clone, Copy)]
+pub(crate) struct Chain {
+    /// The access whose events fire, by its place in the list of all; and where the core's accesses
+    /// end.
+    pub(crate) access: u32,
+    pub(crate) end: u32,
+    /// Which event of the access fires next.
+    pub(crate) place: u16,
+    /// Those of the access that have fired, by their places.
+    pub(crate) ended: [Ended; MOST],
+    /// The last event of the accesses before.
+    pub(crate) last: Option<Ended>,
+}
+
+impl Chain {
+    /// Whether it has an event that can fire.
+    pub(crate) fn goes_on(&self) -> bool
+        ensures { result ≡ nat_lt self.now.access self.now.end }
+    {
+        self.access < self.end
+    }
+
+    /// Its next event has ended so, of an access with so many.
+    pub(crate) fn move_on(&mut self, count: u16, done: Ended)
+        requires place { self.old.place < 64 }
+        requires access { self.old.access < 2 ^ 32 - 1 }
+        ensures { self.new ≡ moved_on count done self.old }
+    {
+        if self.place + 1 < count {
+            self.ended[usize::from(self.place)] = done;
+            self.place += 1;
+        } else {
+            self.access += 1;
+            self.place = 0;
+            self.last = Some(done);
+        }
+    }
+
+    /// When its next event starts, which is this piece of an access and starts then at zero load.
+    pub(crate) fn start(&self, at_zero_load: Cycle, piece: &Piece) -> Cycle
+        requires { start_by self.now at_zero_load piece.now ≤ 2 ^ 62 }
+        ensures { result ≡ start_by self.now at_zero_load piece.now }
+    {
+        let first = if self.place == 0 {
+            self.last
+        } else {
+            self.waited_for(piece.first)
+        };
+        let second = self.waited_for(piece.second);
+        at_zero_load.max(after(at_zero_load, first).max(after(at_zero_load, second)))
+    }
+
+    /// How many cycles the core has waited, whose chain is over.
+    pub(crate) fn delay(&self) -> u64
+        ensures { result ≡ delay_by self.now }
+    {
+        match self.last {
+            Some(last) => last.finish.saturating_sub(last.at_zero_load),
+            None => 0,
+        }
+    }
+
+    /// The event at a place of the access, where it has fired.
+    fn waited_for(&self, place: Option<u16>) -> Option<Ended>
+        ensures { result ≡ waited_for self.now place }
+    {
+        match place {
+            Some(place) => self.ended.get(usize::from(place)).copied(),
+            None => None,
+        }
+    }
+}
+
+/// The earliest start behind an event, of one that starts then at zero load.
+fn after(start: Cycle, ended: Option<Ended>) -> Cycle
+    requires { after_ended start ended ≤ 2 ^ 62 }
+    ensures { result ≡ after_ended start ended }
+{
+    match ended {
+        Some(e) => e.finish + start.saturating_sub(e.at_zero_load),
+        None => 0,
+    }
+}

@@ -1,0 +1,13 @@
+//! The weave of the events of accesses that are listed core by core. A core's events fire in order,
+//! so they are a chain, of which one event can fire next.
+#![tactic(auto)]
+
+mod beginning;
+mod chain;
+mod firing;
+mod kept;
+mod tally;
+mod weave;
+
+pub use kept::Kept;
+pub use weave::{Woven, weave_chains};
