@@ -1,7 +1,7 @@
 -- What the weave answers has the events as they fired.
-use Rattle.std.proofs.Common.{◌≡◌, ◌<◌, ◌≤◌, ℕ, zero, suc, Bool, true, false, List, [], ◌∷◌, map, length, get_or, Some, None, ◌⊎◌, inl, inr, sym, ◌∙◌, ap, subst, refl, arith}
+use Rattle.std.proofs.Common.{◌≡◌, ◌<◌, ◌≤◌, ℕ, true, false, List, map, get_or, Some, inl, inr, sym, ◌∙◌, ap, subst, refl, arith}
 use Rattle.std.specs.Prelude.{IsTrue, slice_get}
-use Rattle.std.specs.List.{AllPairs, Contains}
+use Rattle.std.specs.List.{Contains}
 use Rattle.std.specs.List.Sorted.{IsPermutation}
 use Rattle.std.proofs.lemmas.Bool.{cases_eq, cases_lt, false≢true}
 use Rattle.std.proofs.lemmas.Bool.Decides.{nat_tests}
@@ -11,7 +11,7 @@ use Rattle.component.specs.declared.kind.Kind.{Kind}
 use Rattle.event_graph.specs.declared.event.Event.{Event}
 use Rattle.event_graph.specs.Firing.{FiredByTheRules}
 use Rattle.event_graph.specs.Numbered.{IsNumbered}
-use Rattle.event_graph.specs.OneListWeave.{FiredEvent, find_fired, finish_in, fired_event_in, fired_or_unfired, is_event_before, is_fired, start_of, weave, woven}
+use Rattle.event_graph.specs.OneListWeave.{FiredEvent, finish_in, fired_event_in, fired_or_unfired, is_event_before, is_fired, start_of, weave, woven}
 use Rattle.event_graph.specs.TimingSolution.{IsInOrder}
 use Rattle.event_graph.proofs.FindFired.{IsOneEach, find_from_in, is_fired_from_in}
 use Rattle.event_graph.proofs.Least.{same_event}

@@ -1,13 +1,13 @@
 -- Accesses in another order make as many events.
-use Rattle.std.proofs.Common.{◌≡◌, ◌+◌, ◌==◌, ◌<◌, ◌≤◌, ℕ, zero, suc, Bool, true, false, List, [], ◌∷◌, length, Some, cond, inl, inr, sum_by, sym, ◌∙◌, ap, subst, refl, arith, nat_lt}
+use Rattle.std.proofs.Common.{◌≡◌, ◌+◌, ◌==◌, ◌<◌, ◌≤◌, ℕ, zero, suc, false, List, [], ◌∷◌, length, Some, inl, inr, sum_by, sym, ◌∙◌, ap, subst, refl, arith, nat_lt}
 use Rattle.std.specs.Prelude.{slice_get}
-use Rattle.std.specs.List.{Contains, filter}
-use Rattle.std.proofs.lemmas.Bool.{cases_Bool, cases_eq, cases_lt, cond-false, cond-true, eq-eqb, lt-ltb, ne_eqb}
+use Rattle.std.specs.List.{filter}
+use Rattle.std.proofs.lemmas.Bool.{cases_eq, cases_lt, cond-false, cond-true, eq-eqb, lt-ltb, ne_eqb}
 use Rattle.std.proofs.lemmas.Bool.Decides.{nat_tests}
 use Rattle.std.proofs.lemmas.List.Sums.{sum_by-cons}
 use Rattle.zs_num.specs.declared.entry.Entry.{Entry}
 use Rattle.event_graph.specs.OrderByCore.{HaveTheSameByCore, accesses_of}
-use Rattle.event_graph.proofs.Lists.{In, from_filter, in_at, in_filter}
+use Rattle.event_graph.proofs.Lists.{In, from_filter, in_filter}
 
 not_lt : (a b : ℕ) → b ≤ a → nat_lt a b ≡ false
 not_lt a b h = grind (arith, nat_tests)

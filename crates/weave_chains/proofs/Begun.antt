@@ -1,8 +1,7 @@
 -- The chains before the first event fires.
-use Rattle.std.proofs.Common.{◌≡◌, ◌+◌, ◌<◌, ◌≤◌, ℕ, false, List, [], length, Option, Some, None, inl, inr, sym, ◌∙◌, ap, refl, arith}
+use Rattle.std.proofs.Common.{◌≡◌, ◌<◌, ◌≤◌, ℕ, List, [], length, Option, Some, None, sym, ◌∙◌, ap, refl, arith}
 use Rattle.std.specs.List.{slice_get}
 use Rattle.std.specs.Option.{option_map}
-use Rattle.std.proofs.lemmas.Bool.{cases_lt}
 use Rattle.std.proofs.lemmas.Option.{slice_get_within}
 use Rattle.zs_num.specs.declared.entry.Entry.{Entry}
 use Rattle.event_graph.specs.declared.event.Event.{Event}
@@ -12,7 +11,7 @@ use Rattle.event_graph.specs.EventGraph.{all_events}
 use Rattle.event_graph.specs.OneListWeave.{finish_in}
 use Rattle.event_graph.specs.PlacedEvents.{IsEventOf, events_before, first_number}
 use Rattle.weave_chains.specs.declared.chain.Chain.{Chain}
-use Rattle.weave_chains.specs.Chains.{IsChain, ended_of, next_number}
+use Rattle.weave_chains.specs.Chains.{IsChain, ended_of}
 use Rattle.weave_chains.specs.GraphFacts.{ArePlaced}
 use Rattle.weave_chains.proofs.Popped.{core_is, first_rises}
 

@@ -1,5 +1,5 @@
 -- What the events of a component count, in whatever order they stand.
-use Rattle.std.proofs.Common.{◌≡◌, ◌+◌, ◌==◌, ℕ, Bool, true, cond, List, [], ◌∷◌, map, fold, sum_by, inl, inr, sym, ◌∙◌, ap, subst, refl, arith}
+use Rattle.std.proofs.Common.{◌≡◌, ◌+◌, ◌==◌, ℕ, Bool, cond, List, [], ◌∷◌, map, fold, sum_by, inl, inr, sym, ◌∙◌, ap, refl, arith}
 use Rattle.std.specs.List.{filter, zip}
 use Rattle.std.proofs.lemmas.Bool.{cases_Bool, cond-false, cond-true}
 use Rattle.std.specs.List.Sorted.{IsPermutation}

@@ -1,13 +1,13 @@
 -- The chains once all events have fired.
-use Rattle.std.proofs.Common.{◌≡◌, ◌+◌, ◌-◌, ◌==◌, ◌&&◌, ◌<◌, ◌≤◌, ℕ, zero, suc, Bool, true, false, List, [], ◌∷◌, ◌++◌, map, fold, length, take, drop, Option, Some, None, inl, inr, sym, ◌∙◌, ap, subst, refl, arith, append-nil}
+use Rattle.std.proofs.Common.{◌≡◌, ◌+◌, ◌-◌, ◌==◌, ◌≤◌, ℕ, zero, suc, Bool, true, false, List, [], ◌∷◌, ◌++◌, map, fold, length, take, drop, Option, Some, None, inl, inr, sym, ◌∙◌, ap, refl, arith, append-nil}
 use Rattle.std.specs.Prelude.{slice_get}
-use Rattle.std.specs.List.{Contains, enumerate_from, filter, last_or, range_with_len}
+use Rattle.std.specs.List.{enumerate_from, filter, last_or, range_with_len}
 use Rattle.std.specs.Option.{option_map, option_map_or}
 use Rattle.std.proofs.lemmas.Bool.{cases_Bool, cases_lt, cond-false, eqb-true, false≢true}
 use Rattle.std.proofs.lemmas.List.{take-append-drop}
 use Rattle.std.proofs.lemmas.List.Elements.{filter-append}
 use Rattle.std.proofs.lemmas.List.Sums.{fold-append}
-use Rattle.std.proofs.lemmas.Option.{slice_get-map, slice_get_within}
+use Rattle.std.proofs.lemmas.Option.{slice_get-map}
 use Rattle.zs_num.specs.declared.entry.Entry.{Entry}
 use Rattle.event_graph.specs.declared.event.Event.{Event}
 use Rattle.event_graph.specs.declared.fired.Fired.{Fired}
@@ -15,15 +15,14 @@ use Rattle.event_graph.specs.declared.piece.Piece.{Piece}
 use Rattle.event_graph.specs.Critical.{is_critical_of, last_critical}
 use Rattle.event_graph.specs.EventGraph.{access_events, all_events, event_at}
 use Rattle.event_graph.specs.Firing.{time_so_far}
-use Rattle.event_graph.specs.OneListWeave.{FiredEvent, finish_in, is_fired, start_of}
-use Rattle.event_graph.specs.PlacedEvents.{events_before, first_number}
+use Rattle.event_graph.specs.OneListWeave.{FiredEvent, finish_in, is_fired}
+use Rattle.event_graph.specs.PlacedEvents.{events_before}
 use Rattle.event_graph.proofs.Lists.{In, at_in, from_map, get_some}
 use Rattle.feedback.specs.FeedbackDelay.{delay_of, feedback_delays, fired_finish}
 use Rattle.weave_chains.specs.declared.chain.Chain.{Chain}
 use Rattle.weave_chains.specs.declared.chain.Ended.{Ended}
 use Rattle.weave_chains.specs.Chains.{IsChain, delay_by, ended_of, next_number}
 use Rattle.weave_chains.specs.GraphFacts.{ArePlaced}
-use Rattle.weave_chains.proofs.Popped.{contained}
 
 -- ---- what is left behind the accesses of a core
 

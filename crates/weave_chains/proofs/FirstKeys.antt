@@ -1,7 +1,7 @@
 -- The queue of the first events.
-use Rattle.std.proofs.Common.{◌≡◌, ◌+◌, ◌<◌, ◌≤◌, ◌^◌, ◌*◌, ℕ, List, [], length, Some, ◌⊎◌, inl, inr, sym, ◌∙◌, ap, subst, refl, arith, add-one, suc}
+use Rattle.std.proofs.Common.{◌≡◌, ◌+◌, ◌<◌, ◌≤◌, ℕ, List, [], length, Some, inl, inr, ◌∙◌, ap, subst, refl, arith}
 use Rattle.std.specs.List.{Contains, slice_get}
-use Rattle.std.proofs.lemmas.Bool.{cases_eq, cases_lt}
+use Rattle.std.proofs.lemmas.Bool.{cases_lt}
 use Rattle.std.proofs.lemmas.Option.{slice_get_within}
 use Rattle.zs_num.specs.declared.entry.Entry.{Entry}
 use Rattle.zs_num.specs.declared.time.Key.{Key}
@@ -11,15 +11,14 @@ use Rattle.event_graph.specs.declared.piece.Piece.{Piece}
 use Rattle.event_graph.specs.EventGraph.{all_events, event_at}
 use Rattle.event_graph.specs.Expansion.{ParentsComeBefore}
 use Rattle.event_graph.specs.OneListWeave.{finish_in, start_of}
-use Rattle.event_graph.specs.PlacedEvents.{events_before, first_number}
-use Rattle.event_graph.proofs.Lists.{In, contains_in, in_contains}
+use Rattle.event_graph.specs.PlacedEvents.{events_before}
+use Rattle.event_graph.proofs.Lists.{contains_in, in_contains}
 use Rattle.weave_chains.specs.declared.chain.Chain.{Chain}
 use Rattle.weave_chains.specs.Beginning.{AreFresh, IsFresh}
 use Rattle.weave_chains.specs.Chains.{AreReady, IsChain, IsReady, next_number, start_by}
 use Rattle.weave_chains.specs.GraphFacts.{ArePlaced}
 use Rattle.weave_chains.specs.Rounds.{AreChained}
 use Rattle.weave_chains.proofs.Begun.{begins}
-use Rattle.weave_chains.proofs.Popped.{contained}
 use Rattle.weave_chains.proofs.Rounds.{from_put, in_put, one_more}
 use Rattle.weave_chains.proofs.Starts.{start_is}
 

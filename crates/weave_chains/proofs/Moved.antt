@@ -1,16 +1,14 @@
 -- The chains after the next event has fired.
-use Rattle.std.proofs.Common.{◌≡◌, ◌+◌, ◌-◌, ◌==◌, ◌<◌, ◌≤◌, ℕ, zero, suc, Bool, true, false, List, [], ◌∷◌, ◌++◌, length, max, cond, if◌then◌else◌, Option, Some, None, ◌⊎◌, inl, inr, sym, ◌∙◌, ap, subst, refl, arith, nat_lt, set}
+use Rattle.std.proofs.Common.{◌≡◌, ◌+◌, ◌<◌, ◌≤◌, ℕ, zero, suc, true, false, List, [], ◌∷◌, ◌++◌, length, Option, Some, None, inl, inr, sym, ◌∙◌, ap, subst, refl, arith, nat_lt}
 use Rattle.std.specs.Prelude.{slice_set}
-use Rattle.std.specs.List.{Contains, slice_get}
-use Rattle.std.specs.Option.{option_and_then, option_map}
-use Rattle.std.proofs.lemmas.Bool.{cases_Bool, cases_eq, cases_lt, cond-true, cond-false, cond_both, false≢true, lt-ltb, ltb-true}
+use Rattle.std.specs.List.{slice_get}
+use Rattle.std.specs.Option.{option_map}
+use Rattle.std.proofs.lemmas.Bool.{cases_lt, cond_both, ltb-true}
 use Rattle.std.proofs.lemmas.Bool.Decides.{nat_tests}
 use Rattle.std.proofs.lemmas.Option.{slice_get_within}
 use Rattle.std.proofs.lemmas.List.{length-set}
 use Rattle.zs_num.specs.declared.entry.Entry.{Entry}
-use Rattle.zs_num.specs.declared.time.Key.{Key}
 use Rattle.event_graph.specs.declared.event.Event.{Event}
-use Rattle.event_graph.specs.declared.event.Parent.{Parent}
 use Rattle.event_graph.specs.declared.piece.Piece.{Piece}
 use Rattle.event_graph.specs.Critical.{last_critical}
 use Rattle.event_graph.specs.EventGraph.{all_events, event_at}
@@ -18,10 +16,10 @@ use Rattle.event_graph.specs.OneListWeave.{FiredEvent, finish_in, is_fired, star
 use Rattle.event_graph.specs.PlacedEvents.{IsOfSameCore, events_before, first_number}
 use Rattle.weave_chains.specs.declared.chain.Chain.{Chain}
 use Rattle.weave_chains.specs.declared.chain.Ended.{Ended}
-use Rattle.weave_chains.specs.Chains.{AreReady, AreUnderWay, IsChain, IsReady, ended_of, moved_on, next_number}
+use Rattle.weave_chains.specs.Chains.{IsChain, ended_of, moved_on, next_number}
 use Rattle.weave_chains.specs.GraphFacts.{ArePlaced}
-use Rattle.weave_chains.proofs.Fired.{after, ended_other, finish_itself, fired_itself, fired_other, fired_still, start_other}
-use Rattle.weave_chains.proofs.Popped.{first_rises, get_some}
+use Rattle.weave_chains.proofs.Fired.{ended_other, finish_itself, fired_itself, fired_other, fired_still, start_other}
+use Rattle.weave_chains.proofs.Popped.{get_some}
 
 pub set_same : {X : Type 0} (xs : List X) (i : ℕ) (x : X) → i < length xs → slice_get (slice_set xs i x) i ≡ Some x
 set_same [] i x within = absurd (omega (arith, within))

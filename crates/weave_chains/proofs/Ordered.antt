@@ -1,5 +1,5 @@
 -- The weave of the same accesses in another order.
-use Rattle.std.proofs.Common.{◌≡◌, ◌↔◌, ◌+◌, ◌<◌, ℕ, Bool, List, [], ◌∷◌, map, length, sum_by, Some, sym, ◌∙◌, ap, subst, refl}
+use Rattle.std.proofs.Common.{◌≡◌, ℕ, Bool, List, [], ◌∷◌, map, length, sum_by, Some, sym, ◌∙◌, ap, subst, refl}
 use Rattle.std.specs.Prelude.{slice_get}
 use Rattle.std.specs.List.{Contains, range_with_len}
 use Rattle.component.specs.declared.kind.Kind.{Kind}
@@ -10,7 +10,7 @@ use Rattle.event_graph.specs.EventGraph.{all_events}
 use Rattle.event_graph.specs.Fits.{EventFits, GraphFits}
 use Rattle.event_graph.specs.OneListWeave.{FiredEvent, comps_after, fired_of, woven}
 use Rattle.event_graph.specs.OrderByCore.{AreRenumberedByCore}
-use Rattle.event_graph.specs.Renumbering.{AreAlikeAtTies, AreRenumbered, renumbered, renumbered_fired}
+use Rattle.event_graph.specs.Renumbering.{AreAlikeAtTies, AreRenumbered, renumbered}
 use Rattle.event_graph.specs.TimingSolution.{of_component}
 use Rattle.event_graph.proofs.Lists.{at_in, contains_in, in_at, in_contains, in_map}
 use Rattle.feedback.specs.FeedbackDelay.{feedback_delays}

@@ -1,5 +1,5 @@
 -- The queue's first key is that of the event that fires next.
-use Rattle.std.proofs.Common.{◌≡◌, ◌+◌, ◌-◌, ◌<◌, ◌≤◌, ◌*◌, ℕ, zero, suc, Bool, true, false, List, length, get_or, Option, Some, None, ◌⊎◌, inl, inr, sym, ◌∙◌, ap, subst, refl, arith, nat_lt, ◌==◌, not, ◌&&◌, [], ◌∷◌}
+use Rattle.std.proofs.Common.{◌≡◌, ◌+◌, ◌-◌, ◌<◌, ◌≤◌, ℕ, zero, suc, Bool, true, false, List, length, get_or, Option, Some, None, ◌⊎◌, inl, inr, sym, ◌∙◌, ap, subst, refl, arith, not, ◌&&◌, [], ◌∷◌}
 use Rattle.std.specs.Prelude.{IsTrue}
 use Rattle.std.specs.List.{Contains, slice_get}
 use Rattle.std.proofs.lemmas.Bool.{cases_lt, false≢true}
@@ -17,7 +17,7 @@ use Rattle.event_graph.specs.Firing.{IsNext}
 use Rattle.event_graph.specs.OneListWeave.{FiredEvent, finish_in, is_event_before, is_fired, is_parent_fired, is_ready, start_of}
 use Rattle.event_graph.specs.PlacedEvents.{IsEventOf, IsOfSameCore, events_before, first_number}
 use Rattle.weave_chains.specs.declared.chain.Chain.{Chain}
-use Rattle.weave_chains.specs.Chains.{AreGrouped, AreReady, AreUnderWay, IsChain, IsReady, next_number}
+use Rattle.weave_chains.specs.Chains.{AreGrouped, AreUnderWay, IsChain, IsReady, next_number}
 use Rattle.weave_chains.specs.GraphFacts.{ArePlaced}
 
 pub key_cases : (k other : Key) → is_key_before k other ≡ true → (k.start < other.start) ⊎ ((k.start ≡ other.start) × (k.number < other.number))

@@ -1,10 +1,8 @@
 -- A round of the program, by the laws of the weave.
-use Rattle.std.proofs.Common.{◌≡◌, ◌+◌, ◌-◌, ◌<◌, ◌≤◌, ◌^◌, ◌*◌, ℕ, zero, suc, Bool, true, false, List, [], ◌∷◌, ◌++◌, length, drop, get_or, Option, Some, None, ◌⊎◌, inl, inr, sym, ◌∙◌, ap, subst, refl, arith, nat_lt, All}
+use Rattle.std.proofs.Common.{◌≡◌, ◌+◌, ◌-◌, ◌<◌, ◌≤◌, ◌^◌, ℕ, suc, Bool, true, false, List, [], ◌∷◌, ◌++◌, length, drop, Some, inl, inr, sym, ◌∙◌, ap, subst, arith, All}
 use Rattle.std.specs.Prelude.{IsTrue, IfSome, slice_set}
 use Rattle.std.specs.List.{Contains, slice_get}
-use Rattle.std.proofs.lemmas.Bool.{ltb-true}
-use Rattle.std.proofs.lemmas.Bool.Decides.{nat_tests}
-use Rattle.std.proofs.lemmas.Option.{get_or_from_slice_get, slice_get-get_or, slice_get_within}
+use Rattle.std.proofs.lemmas.Option.{slice_get_within}
 use Rattle.component.specs.declared.kind.Kind.{Kind}
 use Rattle.zs_num.specs.declared.entry.Entry.{Entry}
 use Rattle.zs_num.specs.declared.time.Key.{Key}
@@ -14,9 +12,8 @@ use Rattle.event_graph.specs.declared.piece.Piece.{Piece}
 use Rattle.event_graph.specs.EventGraph.{all_events, event_at}
 use Rattle.event_graph.specs.Expansion.{ParentsComeBefore}
 use Rattle.event_graph.specs.Firing.{FiresNext}
-use Rattle.event_graph.specs.Fits.{GraphFits}
 use Rattle.event_graph.specs.OneListWeave.{FiredEvent, after_firings, finish_in, fired_of, is_event_before, is_fired, start_of}
-use Rattle.event_graph.specs.PlacedEvents.{events_before, first_number}
+use Rattle.event_graph.specs.PlacedEvents.{events_before}
 use Rattle.event_graph.specs.SmallSteps.{AreSmallSteps, IsSmallStep}
 use Rattle.event_graph.proofs.Least.{least_is}
 use Rattle.event_graph.proofs.Lists.{contains_in, in_contains}

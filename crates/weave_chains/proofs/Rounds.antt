@@ -1,5 +1,5 @@
 -- The queue after the next event has fired.
-use Rattle.std.proofs.Common.{◌≡◌, ◌+◌, ◌-◌, ◌<◌, ◌≤◌, ℕ, zero, suc, Bool, true, false, cond, List, [], ◌∷◌, ◌++◌, length, drop, get_or, Some, ◌⊎◌, inl, inr, sym, ◌∙◌, ap, subst, refl, arith}
+use Rattle.std.proofs.Common.{◌≡◌, ◌+◌, ◌-◌, ◌<◌, ◌≤◌, ℕ, zero, suc, true, false, List, [], ◌∷◌, ◌++◌, length, drop, get_or, Some, ◌⊎◌, inl, inr, sym, ◌∙◌, ap, subst, refl, arith}
 use Rattle.std.specs.Prelude.{IsTrue, slice_set}
 use Rattle.std.specs.List.{Contains, slice_get}
 use Rattle.std.proofs.lemmas.Bool.{cases_eq, cond_both}
@@ -11,12 +11,11 @@ use Rattle.zs_num.specs.KeyOrder.{is_key_before}
 use Rattle.domain_queue.specs.SortedKeys.{IsAscending, put}
 use Rattle.event_graph.specs.declared.event.Event.{Event}
 use Rattle.event_graph.specs.declared.piece.Piece.{Piece}
-use Rattle.event_graph.specs.EventGraph.{all_events, event_at}
+use Rattle.event_graph.specs.EventGraph.{all_events}
 use Rattle.event_graph.specs.OneListWeave.{FiredEvent, finish_in, is_fired, start_of}
-use Rattle.event_graph.specs.PlacedEvents.{events_before, first_number}
 use Rattle.event_graph.proofs.Lists.{In, contains_in, in_contains}
 use Rattle.weave_chains.specs.declared.chain.Chain.{Chain}
-use Rattle.weave_chains.specs.Chains.{AreReady, AreUnderWay, IsChain, IsReady, next_number}
+use Rattle.weave_chains.specs.Chains.{AreUnderWay, IsChain, IsReady, next_number}
 use Rattle.weave_chains.specs.GraphFacts.{ArePlaced}
 use Rattle.weave_chains.proofs.Moved.{other_chain, other_start, set_other, set_same}
 use Rattle.weave_chains.proofs.Popped.{contained, event_core_of, key_cases}

@@ -1,10 +1,9 @@
 -- When the event starts with which a chain goes on.
-use Rattle.std.proofs.Common.{◌≡◌, ◌+◌, ◌-◌, ◌==◌, ◌<◌, ◌≤◌, ℕ, Bool, true, false, List, length, max, if◌then◌else◌, Option, Some, None, sym, ◌∙◌, ap, subst, refl, arith}
+use Rattle.std.proofs.Common.{◌≡◌, ◌+◌, ◌==◌, ◌<◌, ℕ, Bool, true, false, List, length, max, if◌then◌else◌, Option, Some, None, sym, ◌∙◌, ap, refl, arith}
 use Rattle.std.specs.List.{slice_get}
-use Rattle.std.specs.Option.{option_and_then, option_map}
+use Rattle.std.specs.Option.{option_map}
 use Rattle.zs_num.specs.declared.entry.Entry.{Entry}
 use Rattle.event_graph.specs.declared.event.Event.{Event}
-use Rattle.event_graph.specs.declared.event.Parent.{Parent}
 use Rattle.event_graph.specs.declared.piece.Piece.{Piece}
 use Rattle.event_graph.specs.Critical.{last_critical}
 use Rattle.event_graph.specs.EventGraph.{all_events, earlier_parent, event_at, inner_parent, parent_of, zero_load_finish, zero_load_start}
@@ -12,8 +11,7 @@ use Rattle.event_graph.specs.Expansion.{ParentsComeBefore}
 use Rattle.event_graph.specs.OneListWeave.{FiredEvent, after_parent, finish_in, start_of}
 use Rattle.event_graph.specs.PlacedEvents.{events_before, first_number}
 use Rattle.weave_chains.specs.declared.chain.Chain.{Chain}
-use Rattle.weave_chains.specs.declared.chain.Ended.{Ended}
-use Rattle.weave_chains.specs.Chains.{IsChain, after_ended, ended_of, next_number, start_by, waited_for}
+use Rattle.weave_chains.specs.Chains.{IsChain, after_ended, ended_of, start_by, waited_for}
 use Rattle.weave_chains.specs.GraphFacts.{ArePlaced}
 use Rattle.weave_chains.proofs.Popped.{get_some}
 

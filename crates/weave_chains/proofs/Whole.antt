@@ -1,5 +1,5 @@
 -- The weave from its beginning to its end.
-use Rattle.std.proofs.Common.{◌≡◌, ◌↔◌, ◌+◌, ◌<◌, ◌≤◌, ℕ, Bool, true, false, List, [], map, length, replicate, Some, None, zero, suc, sym, ◌∙◌, ap, subst, refl, arith}
+use Rattle.std.proofs.Common.{◌≡◌, ◌+◌, ℕ, List, [], map, length, replicate, Some, None, zero, suc, sym, ◌∙◌, ap, subst, refl, arith}
 use Rattle.std.specs.Prelude.{slice_get}
 use Rattle.std.specs.List.{Contains, range_with_len}
 use Rattle.std.specs.List.Sorted.{IsPermutation}
@@ -8,10 +8,9 @@ use Rattle.component.specs.declared.kind.Kind.{Kind}
 use Rattle.zs_num.specs.declared.entry.Entry.{Entry}
 use Rattle.zs_num.specs.declared.time.Key.{Key}
 use Rattle.event_graph.specs.declared.event.Event.{Event}
-use Rattle.event_graph.specs.declared.fired.Fired.{Fired}
 use Rattle.event_graph.specs.declared.piece.Piece.{Piece}
 use Rattle.event_graph.specs.EventGraph.{all_events}
-use Rattle.event_graph.specs.OneListWeave.{FiredEvent, after_firings, comps_after, fired_of, weave, woven}
+use Rattle.event_graph.specs.OneListWeave.{FiredEvent, after_firings, fired_of, weave, woven}
 use Rattle.event_graph.specs.Critical.{last_critical}
 use Rattle.event_graph.specs.Firing.{FiredByTheRules, time_so_far}
 use Rattle.event_graph.specs.TimingSolution.{IsInOrder}

@@ -1,8 +1,6 @@
 -- The chains of the first cores, before an event fires.
-use Rattle.std.specs.Prelude.{◌≡◌, ◌*◌, ◌<◌, ◌≤◌, ℕ, List, [], length, None, Some, slice_get}
+use Rattle.std.specs.Prelude.{◌≡◌, ◌<◌, ◌≤◌, ℕ, List, length, None, Some, slice_get}
 use Rattle.zs_num.specs.declared.entry.Entry.{Entry}
-use Rattle.zs_num.specs.declared.time.Key.{Key}
-use Rattle.event_graph.specs.declared.piece.Piece.{Piece}
 use Rattle.weave_chains.specs.declared.chain.Chain.{Chain}
 
 -- the accesses of a core are these, and none of its events has fired

@@ -1,5 +1,5 @@
 -- What is counted of each component while its events fire.
-use Rattle.std.specs.Prelude.{◌≡◌, ◌+◌, ◌*◌, ◌==◌, ◌&&◌, ◌≤◌, ◌^◌, ℕ, Bool, false, not, List, length, map, Option, None, Some, slice_get}
+use Rattle.std.specs.Prelude.{◌≡◌, ◌+◌, ◌*◌, ◌==◌, ◌&&◌, ◌≤◌, ◌^◌, ℕ, Bool, false, not, List, map, Option, None, Some, slice_get}
 use Rattle.std.specs.List.{Contains}
 use Rattle.component.specs.declared.kind.Kind.{Kind}
 use Rattle.zs_num.specs.declared.entry.Entry.{Entry}

@@ -1,5 +1,5 @@
 -- The accesses so far are of the core.
-use Rattle.std.proofs.Common.{length, ◌-◌, ◌≡◌, ◌<◌, ◌≤◌, ◌*◌, ℕ, Some, slice_get}
+use Rattle.std.proofs.Common.{length, ◌-◌, ◌≡◌, ◌<◌, ◌≤◌, ℕ, Some, slice_get}
 use Rattle.zs_num.specs.declared.entry.Entry.{Entry}
 use Rattle.weave_chains.proofs.beginning.end_of.Given as goal
 

@@ -1,5 +1,5 @@
 -- One key more.
-use Rattle.std.proofs.Common.{◌≡◌, ◌+◌, ◌^◌, ◌<◌, ◌≤◌, ℕ, All, List, length, get_or, None, Some, [], sym, ◌∙◌, ap, subst, arith, add-one, rules, nat_lt, false}
+use Rattle.std.proofs.Common.{◌≡◌, ◌+◌, ◌^◌, ◌≤◌, ℕ, All, List, get_or, None, Some, [], sym, ◌∙◌, ap, subst, arith, nat_lt, false}
 use Rattle.std.specs.List.{Contains, slice_get}
 use Rattle.std.proofs.lemmas.Bool.{ltb-true}
 use Rattle.std.proofs.lemmas.Bool.Decides.{nat_tests}
@@ -8,7 +8,6 @@ use Rattle.zs_num.specs.declared.entry.Outcome.TheVariants.{Hit}
 use Rattle.zs_num.specs.declared.request.Request.TheVariants.{Load}
 use Rattle.event_graph.specs.EventGraph.{all_events}
 use Rattle.event_graph.specs.OneListWeave.{after_firings, finish_in, start_of}
-use Rattle.domain_queue.specs.SortedKeys.{put}
 use Rattle.weave_chains.specs.GraphFacts.{ArePlaced}
 use Rattle.weave_chains.proofs.FirstKeys as F
 use Rattle.weave_chains.proofs.FirstKeys.{HaveKeys}

@@ -1,5 +1,5 @@
 -- The first chains have their keys.
-use Rattle.std.proofs.Common.{◌≡◌, ◌*◌}
+use Rattle.std.proofs.Common.{◌≡◌}
 use Rattle.weave_chains.proofs.FirstKeys.{HaveKeys}
 use Rattle.weave_chains.proofs.beginning.first_keys.Given as goal
 

@@ -1,5 +1,5 @@
 -- One chain more.
-use Rattle.std.proofs.Common.{◌≡◌, ◌+◌, ◌∙◌, sym, ap, subst, refl, arith, add-one, length, suc, zero, rules, replicate, None}
+use Rattle.std.proofs.Common.{◌≡◌, sym, subst, refl, add-one, length, rules, replicate, None}
 use Rattle.weave_chains.specs.Beginning.{AreFresh, IsFresh}
 use Rattle.weave_chains.specs.declared.chain.Chain.{Chain}
 use Rattle.weave_chains.proofs.Fresh.{AreUpTo, fresh, next_up, one_more_fresh}

@@ -1,5 +1,5 @@
 -- The chains of the first cores are there.
-use Rattle.std.proofs.Common.{length, ◌≡◌, ◌≤◌, ◌*◌, vec_len, vec_capacity}
+use Rattle.std.proofs.Common.{◌≡◌, ◌≤◌, vec_len, vec_capacity}
 use Rattle.weave_chains.specs.Beginning.{AreFresh}
 use Rattle.weave_chains.proofs.Fresh.{AreUpTo}
 use Rattle.weave_chains.proofs.beginning.fresh_chains.Given as goal

@@ -1,12 +1,11 @@
 -- Round by round.
-use Rattle.std.proofs.Common.{◌≡◌, ◌+◌, ◌<◌, ◌^◌, ◌∙◌, List, sym, ap, subst, refl, arith, length, get_or, None, Some, false, true}
+use Rattle.std.proofs.Common.{◌≡◌, ◌+◌, ◌<◌, ◌^◌, ◌∙◌, sym, ap, subst, refl, arith, length, get_or, None, Some, false, true}
 use Rattle.std.specs.Prelude.{slice_get, slice_set}
 use Rattle.std.proofs.lemmas.List.{length-set}
 use Rattle.std.proofs.lemmas.Option.{slice_get-get_or}
 use Rattle.event_graph.specs.EventGraph.{all_events}
-use Rattle.event_graph.specs.OneListWeave.{after_firings, weave}
 use Rattle.weave_chains.specs.declared.tally.Tally.{Tally}
-use Rattle.weave_chains.specs.Rounds.{AreChained, HasCome}
+use Rattle.weave_chains.specs.Rounds.{AreChained}
 use Rattle.weave_chains.specs.Tallies.{AreSmall, HaveFired, taken, ties}
 use Rattle.weave_chains.proofs.AllFired as all
 use Rattle.weave_chains.proofs.firing.fire_all.Goals as goal

@@ -1,5 +1,5 @@
 -- So many events have fired.
-use Rattle.std.proofs.Common.{◌≡◌, ◌*◌, ◌≤◌, List, length}
+use Rattle.std.proofs.Common.{◌≡◌, List, length}
 use Rattle.event_graph.specs.EventGraph.{all_events}
 use Rattle.event_graph.specs.Fits.{GraphFits}
 use Rattle.event_graph.specs.SmallSteps.{AreSmallSteps}

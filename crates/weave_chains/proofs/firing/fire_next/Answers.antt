@@ -1,5 +1,5 @@
 -- By the facts of a round.
-use Rattle.std.proofs.Common.{◌≡◌, ◌+◌, ◌-◌, ◌∷◌, ◌++◌, ◌^◌, ◌<◌, ◌≤◌, ℕ, suc, length, get_or, None, Some, [], sym, ◌∙◌, ap, subst, arith, add-one, rules, drop, nat_lt, false}
+use Rattle.std.proofs.Common.{◌≡◌, ◌+◌, ◌-◌, ◌∷◌, ◌++◌, ◌<◌, ◌≤◌, ℕ, suc, length, get_or, None, Some, [], sym, ◌∙◌, ap, subst, arith, add-one, rules, drop, nat_lt, false}
 use Rattle.std.specs.Prelude.{slice_set}
 use Rattle.std.specs.List.{Contains, slice_get}
 use Rattle.std.proofs.lemmas.Bool.{ltb-true}

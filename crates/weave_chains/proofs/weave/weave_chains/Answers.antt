@@ -1,5 +1,5 @@
 -- By the weave of the events in the order in which the accesses are listed.
-use Rattle.std.proofs.Common.{◌≡◌, ◌<◌, ◌∙◌, List, length, sum_by, Option, Some, sym, ap, subst, refl}
+use Rattle.std.proofs.Common.{◌≡◌, ◌<◌, ◌∙◌, length, Option, Some, sym, ap, subst, refl}
 use Rattle.std.specs.Prelude.{IfSome, slice_get}
 use Rattle.zs_num.specs.declared.entry.Entry.{Entry}
 use Rattle.event_graph.specs.EventGraph.{all_events}

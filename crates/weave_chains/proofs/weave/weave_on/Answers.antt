@@ -1,5 +1,5 @@
 -- Fresh chains, and nothing counted.
-use Rattle.std.proofs.Common.{◌≡◌, ◌<◌, ◌^◌, ◌∙◌, [], None, length, replicate, rules, sym, ap, subst, refl, arith}
+use Rattle.std.proofs.Common.{◌≡◌, ◌∙◌, [], None, length, replicate, rules, sym, subst, refl, arith}
 use Rattle.std.specs.Prelude.{IfOk, IfSome}
 use Rattle.event_graph.specs.EventGraph.{all_events}
 use Rattle.event_graph.specs.OneListWeave.{woven}

@@ -1,16 +1,13 @@
 -- From the first event to the last, by the laws of the weave.
-use Rattle.std.proofs.Common.{◌≡◌, ◌<◌, ◌≤◌, ◌^◌, ◌-◌, ◌∙◌, All, List, sym, ap, subst, refl, arith, length, map, rules, sum_by}
+use Rattle.std.proofs.Common.{◌∙◌, All, List, sym, subst, refl, arith, length}
 use Rattle.std.specs.List.{Contains}
-use Rattle.event_graph.specs.Critical.{last_critical}
-use Rattle.event_graph.specs.declared.event.Event.{Event}
 use Rattle.event_graph.specs.EventGraph.{all_events}
 use Rattle.event_graph.specs.Firing.{FiredByTheRules}
 use Rattle.event_graph.specs.OneListWeave.{FiredEvent, weave, woven}
 use Rattle.event_graph.specs.TimingSolution.{IsSolution}
 use Rattle.weave_chains.specs.GraphFacts.{ArePlaced}
-use Rattle.weave_chains.specs.Rounds.{AreChained, HasCome}
+use Rattle.weave_chains.specs.Rounds.{HasCome}
 use Rattle.weave_chains.specs.Tallies.{HaveFired}
-use Rattle.weave_chains.specs.Ties.{HaveTie}
 use Rattle.weave_chains.proofs.Whole as whole
 use Rattle.weave_chains.proofs.AsMany as many
 use Rattle.weave_chains.proofs.weave.weave_over.Goals as goal
