@@ -11,7 +11,7 @@ use Rattle.event_graph.specs.Fits.{EventFits, GraphFits}
 use Rattle.event_graph.specs.OneListWeave.{FiredEvent, comps_after, fired_of, woven}
 use Rattle.event_graph.specs.OrderByCore.{AreRenumberedByCore}
 use Rattle.event_graph.specs.Renumbering.{AreAlikeAtTies, AreRenumbered, renumbered}
-use Rattle.event_graph.specs.TimingSolution.{of_component}
+use Rattle.event_graph.specs.ServedEvents.{of_component}
 use Rattle.event_graph.proofs.Lists.{at_in, contains_in, in_at, in_contains, in_map}
 use Rattle.feedback.specs.FeedbackDelay.{feedback_delays}
 use Rattle.stats.specs.Counts.{comp_count_in}

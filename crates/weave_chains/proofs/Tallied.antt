@@ -10,7 +10,8 @@ use Rattle.std.proofs.lemmas.List.Sums.{fold_push}
 use Rattle.std.proofs.lemmas.Option.{slice_get_within}
 use Rattle.event_graph.specs.declared.event.Event.{Event}
 use Rattle.event_graph.specs.OneListWeave.{FiredEvent, fired_of, is_event_before}
-use Rattle.event_graph.specs.TimingSolution.{IsInOrder, of_component}
+use Rattle.event_graph.specs.ServedEvents.{of_component}
+use Rattle.event_graph.specs.TimingSolution.{IsInOrder}
 use Rattle.event_graph.proofs.Lists.{contains_in, in_contains, in_left, in_push, in_push_cases, pairs_front}
 use Rattle.stats.specs.declared.counts.CompCount.{CompCount}
 use Rattle.stats.specs.Counted.{comp_plus, comp_sum, event_count, no_comp_count}

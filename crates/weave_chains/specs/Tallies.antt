@@ -7,7 +7,7 @@ use Rattle.zs_num.specs.declared.time.Key.{Key}
 use Rattle.event_graph.specs.declared.piece.Piece.{Piece}
 use Rattle.event_graph.specs.EventGraph.{all_events}
 use Rattle.event_graph.specs.OneListWeave.{FiredEvent, after_firings, fired_of}
-use Rattle.event_graph.specs.TimingSolution.{of_component}
+use Rattle.event_graph.specs.ServedEvents.{of_component}
 use Rattle.stats.specs.declared.counts.CompCount.{CompCount}
 use Rattle.stats.specs.Counted.{comp_sum, event_count, wait_of}
 use Rattle.weave_chains.specs.declared.chain.Chain.{Chain}
