@@ -241,8 +241,8 @@ record HasParts (document : Members) : Type 0 where
   pub mesh : IfSome (mesh_of document) IsMesh
   pub dram : IfSome (dram_of document) IsDram
   pub pipe : IfSome (pipe_of document) IsPipe
-  pub without_mesh : mesh_of document ≡ None
-  pub without_dram : dram_of document ≡ None
+  pub without_mesh : version_of document < 3 → mesh_of document ≡ None
+  pub without_dram : version_of document < 3 → dram_of document ≡ None
   pub without_pipe : version_of document < 3 → pipe_of document ≡ None
 
 parts_hold : (document : Members) → Passed document → HasParts document
@@ -252,8 +252,8 @@ parts_hold document p =
       mesh = if_there document IsMesh (mesh_numbers document) mesh_checks (has_mesh document) (mesh_numbers_hold document) p.mesh;
       dram = if_there document IsDram (dram_numbers document) dram_checks (has_dram document) (dram_numbers_hold document) p.dram;
       pipe = if_there document IsPipe (pipe_numbers document) pipe_checks (has_pipe document) (pipe_numbers_hold document) p.pipe;
-      without_mesh = refl;
-      without_dram = refl;
+      without_mesh = λ early. rw (none_early (version_of document) (is_some (value_at document (top (codes "mesh")))) early) refl;
+      without_dram = λ early. rw (none_early (version_of document) (is_some (value_at document (top (codes "dram")))) early) refl;
       without_pipe = λ early. rw (none_early (version_of document) (is_some (value_at document (top (codes "pipe")))) early) refl;
     }
 

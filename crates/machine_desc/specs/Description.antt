@@ -34,16 +34,17 @@ has_optional document table = (version_of document == 3) && is_some (value_at do
 abbrev pub has_l1i : Members → Bool
 has_l1i document = (version_of document == 2) || has_optional document (codes "l1i")
 
+-- whether it has a mesh
+abbrev pub has_mesh : Members → Bool
+has_mesh document = has_optional document (codes "mesh")
+
+-- whether the banks of its memory keep rows open
+abbrev pub has_dram : Members → Bool
+has_dram document = has_optional document (codes "dram")
+
 -- whether its cores have pipelines
 abbrev pub has_pipe : Members → Bool
 has_pipe document = has_optional document (codes "pipe")
-
--- Whether it has a mesh, and open rows. In no version it has: the tables of these names are unknown.
-abbrev pub has_mesh : Members → Bool
-has_mesh document = false
-
-abbrev pub has_dram : Members → Bool
-has_dram document = false
 
 -- the checks of a table, where it is there to be checked
 abbrev pub checks_if : Bool → List Check → List Check

@@ -84,10 +84,10 @@ pub record IsMachine (m : Machine) : Type 0 where
   pub l2 : IsL2 m.l2
   pub controllers : IsControllers m.controllers
   pub domains : IsDomains m.l2.banks m.controllers.count m.domains
-  -- what version 3 may have, and no version before it: pipelines. A mesh and open rows no version has yet.
+  -- what version 3 may have, and no version before it: a mesh, open rows, and pipelines
   pub mesh : IfSome m.mesh IsMesh
   pub dram : IfSome m.dram IsDram
   pub pipe : IfSome m.pipe IsPipe
-  pub without_mesh : m.mesh ≡ None
-  pub without_dram : m.dram ≡ None
+  pub without_mesh : m.version < 3 → m.mesh ≡ None
+  pub without_dram : m.version < 3 → m.dram ≡ None
   pub without_pipe : m.version < 3 → m.pipe ≡ None

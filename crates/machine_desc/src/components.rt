@@ -7,7 +7,7 @@ ghost use Rattle.machine_desc.specs.Machine.{IsBetween, IsMesh, IsMachine};
 
 use crate::{Machine, Mesh};
 
-/// How many components a machine has: 2 to 80. With a mesh it would be up to 336.
+/// How many components a machine has: 2 to 80, and up to 336 with a mesh.
 pub fn component_count(machine: &Machine) -> u16
     requires { IsMachine machine.now }
     ensures { result ≡ component_count machine.now }

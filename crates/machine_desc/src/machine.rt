@@ -128,10 +128,9 @@ pub struct Machine {
     pub l2: L2,
     pub controllers: Controllers,
     pub domains: Domains,
-    /// The mesh that accesses cross, if there is one. No description gives a mesh or open rows yet:
-    /// this and the next are `None` in every machine that is read.
+    /// The mesh that accesses cross, if there is one, which that of version 3 may have.
     pub mesh: Option<Mesh>,
-    /// The banks of memory behind each controller, if they keep rows open.
+    /// The banks of memory behind each controller, if they keep rows open, as those of version 3 may.
     pub dram: Option<Dram>,
     /// The pipeline of each core, if the cores have one, which those of version 3 may.
     pub pipe: Option<Pipe>,

@@ -69,18 +69,18 @@ pub(crate) fn has_l1i(document: &Table) -> bool
     version(document) == 2 || has_optional(document, "l1i")
 }
 
-/// Whether it has a mesh: no version does yet, so a table of this name is unknown.
-pub(crate) fn has_mesh(_document: &Table) -> bool
-    ensures { result ≡ has_mesh (table_view _document.now) }
+/// Whether it has a mesh.
+pub(crate) fn has_mesh(document: &Table) -> bool
+    ensures { result ≡ has_mesh (table_view document.now) }
 {
-    false
+    has_optional(document, "mesh")
 }
 
-/// Whether the banks of its memory keep rows open: in no version yet.
-pub(crate) fn has_dram(_document: &Table) -> bool
-    ensures { result ≡ has_dram (table_view _document.now) }
+/// Whether the banks of its memory keep rows open.
+pub(crate) fn has_dram(document: &Table) -> bool
+    ensures { result ≡ has_dram (table_view document.now) }
 {
-    false
+    has_optional(document, "dram")
 }
 
 /// Whether its cores have pipelines.
