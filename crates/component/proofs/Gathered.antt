@@ -9,29 +9,31 @@ use Rattle.machine_desc.specs.declared.machine.Machine.{Machine}
 use Rattle.machine_desc.specs.Components.{component_count, links_of}
 use Rattle.component.specs.declared.comp.Comp.{Comp}
 use Rattle.component.specs.ComponentStep.{free_of}
-use Rattle.component.specs.Components.{AreFresh, IsBankOf, IsControllerOf, IsLinkOf}
+use Rattle.component.specs.Components.{AreFresh, HasNoOpenRow, IsBankOf, IsControllerOf, IsLinkOf}
 use Rattle.component.specs.Gained.{Gains}
 
 module _ (IsOne : Comp → Type 0) (before : List Comp) where
   pub none_gained : Gains IsOne 0 before before
-  none_gained = record { gained = []; behind = sym (append-nil before); long = refl; are = λ k d below. absurd (omega arith); free = λ k d below. absurd (omega arith) }
+  none_gained = record { gained = []; behind = sym (append-nil before); long = refl; are = λ k d below. absurd (omega arith); free = λ k d below. absurd (omega arith); closed = λ k d below. absurd (omega arith) }
 
-  pub one_more : (n : ℕ) (after : List Comp) (c : Comp) → Gains IsOne n before after → IsOne c → free_of c ≡ 0 → Gains IsOne (n + 1) before (after ++ c ∷ [])
-  one_more n after c so_far is free = record {
+  pub one_more : (n : ℕ) (after : List Comp) (c : Comp) → Gains IsOne n before after → IsOne c → free_of c ≡ 0 → HasNoOpenRow c → Gains IsOne (n + 1) before (after ++ c ∷ [])
+  one_more n after c so_far is free closed = record {
     gained = so_far.gained ++ c ∷ [];
     behind = ap (λ (xs : List Comp). xs ++ c ∷ []) so_far.behind ∙ append_assoc before so_far.gained (c ∷ []);
     long = omega (arith, length_push so_far.gained c, so_far.long);
     are = All-push IsOne so_far.gained c so_far.are is;
     free = All-push (λ z. free_of z ≡ 0) so_far.gained c so_far.free free;
+    closed = All-push HasNoOpenRow so_far.gained c so_far.closed closed;
   }
 
-  pub all_alike : (n : ℕ) (c : Comp) → IsOne c → free_of c ≡ 0 → Gains IsOne n before (before ++ replicate n c)
-  all_alike n c is free = record {
+  pub all_alike : (n : ℕ) (c : Comp) → IsOne c → free_of c ≡ 0 → HasNoOpenRow c → Gains IsOne n before (before ++ replicate n c)
+  all_alike n c is free closed = record {
     gained = replicate n c;
     behind = refl;
     long = length-replicate n c;
     are = All-replicate IsOne n c is;
     free = All-replicate (λ z. free_of z ≡ 0) n c free;
+    closed = All-replicate HasNoOpenRow n c closed;
   }
 
 -- the elements of a list that stands between two others
@@ -48,8 +50,9 @@ between P xs ys zs low high from to all k d past below =
 in_order : (m : Machine) (banks controllers links : List Comp) → length banks ≡ m.l2.banks → length controllers ≡ m.controllers.count → length links ≡ links_of m
     → All (IsBankOf m) banks → All (IsControllerOf m) controllers → All (IsLinkOf m) links
     → All (λ c. free_of c ≡ 0) banks → All (λ c. free_of c ≡ 0) controllers → All (λ c. free_of c ≡ 0) links
+    → All HasNoOpenRow banks → All HasNoOpenRow controllers → All HasNoOpenRow links
     → AreFresh m ((banks ++ controllers) ++ links)
-in_order m banks controllers links b c l are_banks are_controllers are_links free_banks free_controllers free_links =
+in_order m banks controllers links b c l are_banks are_controllers are_links free_banks free_controllers free_links closed_banks closed_controllers closed_links =
     let all : List Comp = (banks ++ controllers) ++ links in
     let two : length (banks ++ controllers) ≡ m.l2.banks + m.controllers.count = omega (arith, length-append banks controllers) in
     let long : length all ≡ component_count m = omega (arith, length-append (banks ++ controllers) links) in
@@ -66,6 +69,7 @@ in_order m banks controllers links b c l are_banks are_controllers are_links fre
         links = subst (λ (xs : List Comp). AllWithin (IsLinkOf m) xs (m.l2.banks + m.controllers.count) (length all)) (append-nil all) last;
       };
       free = All-append free (banks ++ controllers) links (All-append free banks controllers free_banks free_controllers) free_links;
+      closed = All-append HasNoOpenRow (banks ++ controllers) links (All-append HasNoOpenRow banks controllers closed_banks closed_controllers) closed_links;
     }
 
 pub gathered : (m : Machine) (one two three : List Comp) → Gains (IsBankOf m) m.l2.banks [] one → Gains (IsControllerOf m) m.controllers.count one two
@@ -74,4 +78,4 @@ gathered m one two three b c l =
     let whole : three ≡ (b.gained ++ c.gained) ++ l.gained =
     l.behind ∙ ap (λ (xs : List Comp). xs ++ l.gained) (c.behind ∙ ap (λ (xs : List Comp). xs ++ c.gained) b.behind)
     in
-    subst (AreFresh m) (sym whole) (in_order m b.gained c.gained l.gained b.long c.long l.long b.are c.are l.are b.free c.free l.free)
+    subst (AreFresh m) (sym whole) (in_order m b.gained c.gained l.gained b.long c.long l.long b.are c.are l.are b.free c.free l.free b.closed c.closed l.closed)

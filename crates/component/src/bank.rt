@@ -40,7 +40,7 @@ impl Component for Bank {
     fn serves(&self, kind: Kind) -> bool {
         match kind {
             Kind::Lookup | Kind::Remote | Kind::Fill => true,
-            Kind::Read | Kind::Write | Kind::Hop => false,
+            Kind::Read | Kind::Write | Kind::Hop | Kind::RowRead { .. } => false,
         }
     }
 
@@ -49,7 +49,7 @@ impl Component for Bank {
             Kind::Lookup => self.lookup,
             Kind::Remote => self.remote,
             Kind::Fill => self.fill,
-            Kind::Read | Kind::Write | Kind::Hop => 0,
+            Kind::Read | Kind::Write | Kind::Hop | Kind::RowRead { .. } => 0,
         }
     }
 

@@ -1,13 +1,16 @@
-//! A component of this machine: a bank, a controller or a link.
+//! A component of this machine: a bank, a controller, with open rows or without, or a link.
 use crate::{Bank, Component, Controller, Kind, Link};
+use dram_rows::Rows;
 use zs_num::Cycle;
 
-/// A bank of the shared cache, a memory controller, or a link of the mesh.
+/// A bank of the shared cache, a memory controller, a link of the mesh, or a memory controller that
+/// keeps rows open.
 #[derive(Drop)]
 pub enum Comp {
     Bank(Bank),
     Controller(Controller),
     Link(Link),
+    Rows(Rows),
 }
 
 impl Comp {
@@ -22,6 +25,7 @@ impl Comp {
             Comp::Bank(bank) => bank.free,
             Comp::Controller(controller) => controller.free,
             Comp::Link(link) => link.free,
+            Comp::Rows(rows) => rows.free,
         }
     }
 }
@@ -45,6 +49,7 @@ impl Component for Comp {
             Comp::Bank(bank) => bank.serves(kind),
             Comp::Controller(controller) => controller.serves(kind),
             Comp::Link(link) => link.serves(kind),
+            Comp::Rows(rows) => rows.serves(kind),
         }
     }
 
@@ -53,6 +58,7 @@ impl Component for Comp {
             Comp::Bank(bank) => bank.floor(kind),
             Comp::Controller(controller) => controller.floor(kind),
             Comp::Link(link) => link.floor(kind),
+            Comp::Rows(rows) => rows.floor(kind),
         }
     }
 
@@ -61,6 +67,7 @@ impl Component for Comp {
             Comp::Bank(bank) => bank.step(kind, start),
             Comp::Controller(controller) => controller.step(kind, start),
             Comp::Link(link) => link.step(kind, start),
+            Comp::Rows(rows) => rows.step(kind, start),
         }
     }
 

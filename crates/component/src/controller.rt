@@ -36,7 +36,7 @@ impl Component for Controller {
     fn serves(&self, kind: Kind) -> bool {
         match kind {
             Kind::Read | Kind::Write => true,
-            Kind::Lookup | Kind::Remote | Kind::Fill | Kind::Hop => false,
+            Kind::Lookup | Kind::Remote | Kind::Fill | Kind::Hop | Kind::RowRead { .. } => false,
         }
     }
 
@@ -44,7 +44,7 @@ impl Component for Controller {
         match kind {
             Kind::Read => self.read,
             Kind::Write => self.write,
-            Kind::Lookup | Kind::Remote | Kind::Fill | Kind::Hop => 0,
+            Kind::Lookup | Kind::Remote | Kind::Fill | Kind::Hop | Kind::RowRead { .. } => 0,
         }
     }
 

@@ -1,12 +1,15 @@
 //! The components of a machine.
 ghost use Rattle.std.specs.Prelude.{◌≡◌, IfOk, OnOk};
 ghost use Rattle.machine_desc.specs.Components.{links_of};
-ghost use Rattle.machine_desc.specs.Machine.{IsMachine, IsL2, IsControllers, IsMesh};
-ghost use Rattle.component.specs.Components.{AreFresh, HasBankTimes, HasControllerTimes, HasLinkTimes, IsBankOf, IsControllerOf, IsLinkOf};
+ghost use Rattle.machine_desc.specs.Machine.{IsMachine, IsL2, IsControllers, IsDram, IsMesh};
+ghost use Rattle.dram_rows.specs.Conditions.{IsNew};
+ghost use Rattle.component.specs.ComponentStep.{free_of};
+ghost use Rattle.component.specs.Components.{AreFresh, HasBankTimes, HasControllerTimes, HasLinkTimes, HasNoOpenRow, HasRowTimes, IsBankOf, IsControllerOf, IsLinkOf};
 ghost use Rattle.component.specs.Gained.{Gains};
 
 use crate::{Bank, Comp, Comps, Controller, Link};
-use machine_desc::{Controllers, L2, Machine, Mesh, node_count};
+use dram_rows::Rows;
+use machine_desc::{Controllers, Dram, L2, Machine, Mesh, node_count};
 use std::alloc::Global;
 use zs_num::NoMemory;
 
@@ -34,15 +37,28 @@ fn add_banks(list: &mut Vec<Comp>, machine: &Machine) -> Result<(), NoMemory>
     Ok(())
 }
 
-/// Adds its controllers.
+/// Adds its controllers, which keep rows open where its memory has rows.
 fn add_controllers(list: &mut Vec<Comp>, machine: &Machine) -> Result<(), NoMemory>
     requires { IsMachine machine.now }
     ensures { OnOk result (Gains (IsControllerOf machine.now) machine.now.controllers.count list.old.items list.new.items) }
 {
     for _controller in 0..machine.controllers.count {
-        list.push(Comp::Controller(fresh_controller(&machine.controllers)))?;
+        list.push(controller_of(machine))?;
     }
     Ok(())
+}
+
+/// A controller of a machine before its first event.
+fn controller_of(machine: &Machine) -> Comp
+    requires { IsMachine machine.now }
+    ensures controller { IsControllerOf machine.now result }
+    ensures free { free_of result ≡ 0 }
+    ensures closed { HasNoOpenRow result }
+{
+    match &machine.dram {
+        Some(dram) => Comp::Rows(fresh_rows(&machine.controllers, dram)),
+        None => Comp::Controller(fresh_controller(&machine.controllers)),
+    }
 }
 
 /// Adds its links, where it has a mesh.
@@ -98,4 +114,21 @@ fn fresh_link(mesh: &Mesh) -> Link
         occupancy: u64::from(mesh.occupancy),
         free: 0,
     }
+}
+
+/// A controller with open rows before its first event.
+fn fresh_rows(controllers: &Controllers, dram: &Dram) -> Rows
+    requires controllers { IsControllers controllers.now }
+    requires dram { IsDram dram.now }
+    ensures times { HasRowTimes controllers.now dram.now result }
+    ensures new { IsNew result }
+{
+    Rows::new(
+        dram.banks,
+        u64::from(dram.hit),
+        u64::from(dram.closed),
+        u64::from(dram.conflict),
+        u64::from(controllers.write),
+        u64::from(controllers.occupancy),
+    )
 }

@@ -15,4 +15,6 @@ pub enum Kind {
     Write,
     /// A link carries an access from a node to the next.
     Hop,
+    /// A controller that keeps rows open reads a line of this row of one of its banks.
+    RowRead { bank: u16, row: u64 },
 }

@@ -11,6 +11,7 @@ mod fresh;
 mod kind;
 pub mod laws;
 mod link;
+mod rows;
 
 pub use bank::Bank;
 pub use comp::Comp;

@@ -34,14 +34,14 @@ impl Component for Link {
     fn serves(&self, kind: Kind) -> bool {
         match kind {
             Kind::Hop => true,
-            Kind::Lookup | Kind::Remote | Kind::Fill | Kind::Read | Kind::Write => false,
+            _ => false,
         }
     }
 
     fn floor(&self, kind: Kind) -> u64 {
         match kind {
             Kind::Hop => self.hop,
-            Kind::Lookup | Kind::Remote | Kind::Fill | Kind::Read | Kind::Write => 0,
+            _ => 0,
         }
     }
 

@@ -12,7 +12,8 @@ use Rattle.std.proofs.lemmas.List.Sums.{fold_push}
 use Rattle.std.proofs.lemmas.Option.{slice_get-get_or, slice_get_within, get_or_from_slice_get}
 use Rattle.dram_rows.specs.declared.numbers.RowNumbers.{RowNumbers}
 use Rattle.dram_rows.specs.declared.rows.Rows.{Rows}
-use Rattle.dram_rows.specs.OpenRows.{IsNew, open_at, read_time}
+use Rattle.dram_rows.specs.Conditions.{IsNew}
+use Rattle.dram_rows.specs.OpenRows.{open_at, read_time}
 use Rattle.dram_rows.specs.Served.{RowRequest, Read, Write, start_of, step_by, after, read_by, last_row, time_behind, greatest, start_at, served_of, IsOfBank}
 
 -- what a request does to the controller's numbers, and to the cycle from which on it is free

@@ -1,2 +1,3 @@
+pub mod Conditions
 pub mod OpenRows
 pub mod Served

@@ -1,16 +1,7 @@
 -- How a controller with open rows serves requests: one after the other, a read by the open row of its bank.
-use Rattle.std.specs.Prelude.{◌≡◌, ◌≤◌, ◌+◌, ◌==◌, ℕ, max, if◌then◌else◌, Option, Some, None, slice_index_or, slice_set, replicate}
+use Rattle.std.specs.Prelude.{◌+◌, ◌==◌, ℕ, max, if◌then◌else◌, Option, Some, None, slice_index_or, slice_set}
 use Rattle.dram_rows.specs.declared.numbers.RowNumbers.{RowNumbers}
 use Rattle.dram_rows.specs.declared.rows.Rows.{Rows}
-
--- a time that a controller may have, in cycles
-abbrev pub IsTime : ℕ → Type 0
-IsTime n = (1 ≤ n) × (n ≤ 65536)
-
--- a controller before its first request
-pub record IsNew (r : Rows) : Type 0 where
-  pub free : r.free ≡ 0
-  pub closed : r.open_rows ≡ replicate 16 None
 
 -- the cycle at which a request is served: not before its start, and not before the controller is free
 abbrev pub served_at : Rows → (start : ℕ) → ℕ
@@ -39,7 +30,3 @@ read_step r bank row start = (
 -- A write goes through a buffer, and leaves the rows as they are.
 abbrev pub write_step : Rows → (start : ℕ) → Rows × ℕ
 write_step r start = (busy_after r start, served_at r start + r.numbers.write)
-
--- neither the finish of a step nor the cycle from which on the controller is free then is past the limit
-abbrev pub NoSumPasses : (limit : ℕ) → Rows × ℕ → Type 0
-NoSumPasses limit step = (step.0.free ≤ limit) × (step.1 ≤ limit)

@@ -1,6 +1,7 @@
 //! A controller with open rows: one request after the other, and how long each takes.
 ghost use Rattle.std.specs.Prelude.{◌≡◌, ◌<◌, ◌≤◌, ◌^◌, Option};
-ghost use Rattle.dram_rows.specs.OpenRows.{IsNew, IsTime, NoSumPasses, open_at, read_step, read_time, write_step};
+ghost use Rattle.dram_rows.specs.Conditions.{IsNew, IsTime, NoSumPasses};
+ghost use Rattle.dram_rows.specs.OpenRows.{open_at, read_step, read_time, write_step};
 
 use crate::RowNumbers;
 

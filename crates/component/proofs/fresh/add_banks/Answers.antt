@@ -10,7 +10,7 @@ loop-bank-init c = none_gained (IsBankOf c.args.machine.now) c.args.list.now.ite
 
 pub loop-bank-preserved : goal.loop-bank-preserved
 loop-bank-preserved c =
-    rw c.in_ok-push.ensures.items (one_more (IsBankOf c.args.machine.now) c.args.list.now.items c.loop-bank._bank c.loop-bank.list.items (ABank c.fresh_bank.result) c.loop-bank.invariant c.fresh_bank.ensures.times c.fresh_bank.ensures.free)
+    rw c.in_ok-push.ensures.items (one_more (IsBankOf c.args.machine.now) c.args.list.now.items c.loop-bank._bank c.loop-bank.list.items (ABank c.fresh_bank.result) c.loop-bank.invariant c.fresh_bank.ensures.times c.fresh_bank.ensures.free tt)
 
 pub returns : goal.returns
 returns c =

@@ -1,5 +1,4 @@
 use Rattle.std.proofs.Common.{◌≡◌, ℕ, subst, arith}
-use Rattle.component.specs.declared.comp.Comp.TheVariants.{Controller as AController}
 use Rattle.component.specs.Components.{IsControllerOf}
 use Rattle.component.specs.Gained.{Gains}
 use Rattle.component.proofs.Gathered.{none_gained, one_more}
@@ -10,7 +9,7 @@ loop-controller-init c = none_gained (IsControllerOf c.args.machine.now) c.args.
 
 pub loop-controller-preserved : goal.loop-controller-preserved
 loop-controller-preserved c =
-    rw c.in_ok-push.ensures.items (one_more (IsControllerOf c.args.machine.now) c.args.list.now.items c.loop-controller._controller c.loop-controller.list.items (AController c.fresh_controller.result) c.loop-controller.invariant c.fresh_controller.ensures.times c.fresh_controller.ensures.free)
+    rw c.in_ok-push.ensures.items (one_more (IsControllerOf c.args.machine.now) c.args.list.now.items c.loop-controller._controller c.loop-controller.list.items c.controller_of.result c.loop-controller.invariant c.controller_of.ensures.controller c.controller_of.ensures.free c.controller_of.ensures.closed)
 
 pub returns : goal.returns
 returns c =
