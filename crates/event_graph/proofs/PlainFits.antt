@@ -1,17 +1,18 @@
 -- That the components of a machine serve the events of its accesses.
-use Rattle.std.proofs.Common.{◌≡◌, ◌+◌, ◌<◌, ◌≤◌, ℕ, Bool, true, false, List, length, get_or, None, Some, refl, arith, subst, inl, inr, if◌then◌else◌, nat_lt, nat_le}
+use Rattle.std.proofs.Common.{◌≡◌, ◌+◌, ◌<◌, ◌≤◌, ℕ, Bool, true, false, List, length, get_or, Option, None, Some, refl, arith, subst, inl, inr, if◌then◌else◌, nat_lt, nat_le}
 use Rattle.std.specs.List.{slice_get}
 use Rattle.std.proofs.lemmas.Bool.{ltb-true, leb-true, and_parts}
 use Rattle.std.proofs.lemmas.Option.{slice_get_cases}
+use Rattle.machine_desc.specs.declared.machine.Dram.{Dram}
 use Rattle.machine_desc.specs.declared.machine.Machine.{Machine}
 use Rattle.machine_desc.specs.Machine.{IsMachine}
 use Rattle.zs_num.specs.declared.entry.Entry.{Entry}
 use Rattle.component.specs.declared.kind.Kind.{Kind}
-use Rattle.component.specs.declared.kind.Kind.TheVariants.{Lookup, Remote, Fill, Read, Write, Hop}
+use Rattle.component.specs.declared.kind.Kind.TheVariants.{Lookup, Remote, Fill, Read, Write, Hop, RowRead}
 use Rattle.component.specs.declared.comp.Comp.{Comp}
-use Rattle.component.specs.declared.comp.Comp.TheVariants.{Bank as ABank, Controller as AController, Link as ALink}
+use Rattle.component.specs.declared.comp.Comp.TheVariants.{Bank as ABank, Controller as AController, Link as ALink, Rows as ARows}
 use Rattle.component.specs.Serving.{comp_serves, comp_latency}
-use Rattle.component.specs.Components.{AreComponents, IsBankOf, IsControllerOf}
+use Rattle.component.specs.Components.{AreComponents, IsBankOf, IsControllerIn, IsControllerOf, KeepsRowsOf}
 use Rattle.event_graph.specs.Fits.{GraphFits}
 use Rattle.event_graph.specs.AccessPaths.{path_of}
 use Rattle.event_graph.specs.Timing.{look_up_time}
@@ -26,7 +27,7 @@ floor_if : (b : Bool) (x y : ℕ) → (if b then Some x else None) ≡ Some y �
 floor_if true x y is = (refl, cc)
 floor_if false x y is = cc
 
-module _ (m : Machine) (comps : List Comp) (are : AreComponents m comps) where
+module _ (m : Machine) (comps : List Comp) (no_rows : m.dram ≡ None) (are : AreComponents m comps) where
   stands : (component : ℕ) → component < length comps → (c : Comp) × (slice_get comps component ≡ Some c) × (get_or comps component c ≡ c)
   stands component below = elim (slice_get_cases comps component).1 [
     | inl found ↦ (found.0, found.2, found.3)
@@ -57,15 +58,18 @@ module _ (m : Machine) (comps : List Comp) (are : AreComponents m comps) where
   )
   of_bank component (AController c) at' times = absurd times
   of_bank component (ALink l) at' times = absurd times
+  of_bank component (ARows r) at' times = absurd times
 
   of_controller : (component : ℕ) (c : Comp) → slice_get comps component ≡ Some c → IsControllerOf m c
       → ServesWith comp_serves comp_latency comps component Read m.controllers.read × ServesWith comp_serves comp_latency comps component Write m.controllers.write
   of_controller component (ABank b) at' times = absurd times
-  of_controller component (AController c) at' times = (
-    record { component = AController c; there = at'; served = refl; floor_is = times.read },
-    record { component = AController c; there = at'; served = refl; floor_is = times.write },
-  )
+  of_controller component (AController c) at' is =
+      let times = subst (λ (o : Option Dram). IsControllerIn o m.controllers c) no_rows is in (
+        record { component = AController c; there = at'; served = refl; floor_is = times.read },
+        record { component = AController c; there = at'; served = refl; floor_is = times.write },
+      )
   of_controller component (ALink l) at' times = absurd times
+  of_controller component (ARows r) at' is = absurd (subst (λ (o : Option Dram). KeepsRowsOf o m.controllers r) no_rows is)
 
   pub plain_floors : (component : ℕ) (kind : Kind) (floor : ℕ) → plain_floor m.l2 m.controllers component kind ≡ Some floor → ServesWith comp_serves comp_latency comps component kind floor
   plain_floors component Lookup floor is =
@@ -89,6 +93,7 @@ module _ (m : Machine) (comps : List Comp) (are : AreComponents m comps) where
       let found = controller_at component floors.0 in
       subst (ServesWith comp_serves comp_latency comps component Write) floors.1 (of_controller component found.0 found.1 found.2).1
   plain_floors component Hop floor is = absurd cc
+  plain_floors component (RowRead bank row) floor is = absurd cc
 
   pub plain_fits : IsMachine m → (entries : List Entry) → GraphFits comp_serves comp_latency (all_events (pieces_of (path_of m)) entries) comps
   plain_fits ok entries =

@@ -1,7 +1,7 @@
 -- What the expansion of an access takes components to be: which serve an event, and with which floor.
 use Rattle.std.specs.Prelude.{◌+◌, ℕ, Bool, true, false, ◌&&◌, nat_lt, nat_le, if◌then◌else◌, Option, None, Some}
 use Rattle.component.specs.declared.kind.Kind.{Kind}
-use Rattle.component.specs.declared.kind.Kind.TheVariants.{Lookup, Remote, Fill, Read, Write, Hop}
+use Rattle.component.specs.declared.kind.Kind.TheVariants.{Lookup, Remote, Fill, Read, Write, Hop, RowRead}
 use Rattle.machine_desc.specs.declared.machine.L2.{L2}
 use Rattle.machine_desc.specs.declared.machine.Controllers.{Controllers}
 use Rattle.event_graph.specs.Timing.{look_up_time}
@@ -21,3 +21,4 @@ plain_floor l2 controllers component Fill = (if is_bank l2 component then Some l
 plain_floor l2 controllers component Read = (if is_controller l2 controllers component then Some controllers.read else None)
 plain_floor l2 controllers component Write = (if is_controller l2 controllers component then Some controllers.write else None)
 plain_floor l2 controllers component Hop = None
+plain_floor l2 controllers component (RowRead bank row) = None

@@ -1,5 +1,5 @@
 -- What is true of every machine's graphs, and of the weave on its components.
-use Rattle.std.specs.Prelude.{◌+◌, ◌*◌, ◌≤◌, ◌^◌, ℕ, List, length, sum_by}
+use Rattle.std.specs.Prelude.{◌≡◌, ◌+◌, ◌*◌, ◌≤◌, ◌^◌, ℕ, List, None, length, sum_by}
 use Rattle.std.specs.List.{All}
 use Rattle.machine_desc.specs.declared.machine.Machine.{Machine}
 use Rattle.machine_desc.specs.Machine.{IsMachine}
@@ -22,15 +22,15 @@ use Rattle.event_graph.specs.Floors.{plain_floor}
 use Rattle.event_graph.specs.FloorsServed.{AreFloorsOf}
 use Rattle.event_graph.specs.EventGraph.{all_events}
 
--- the components of a machine have the floors that it has without a network
+-- the components of a machine without open rows have the floors that it has without a network
 abbrev pub PlainFloorsAreOfComponents : Type 0
-PlainFloorsAreOfComponents = (m : Machine) (comps : List Comp) → AreComponents m comps
+PlainFloorsAreOfComponents = (m : Machine) (comps : List Comp) → m.dram ≡ None → AreComponents m comps
     → AreFloorsOf (plain_floor m.l2 m.controllers) comp_serves comp_latency comps
 
--- the components of a machine serve all events of its accesses, and each with the event's time at
+-- the components of a machine without open rows serve all events of its accesses, and each with the event's time at
 -- zero load as its floor
 abbrev pub PlainGraphsFit : Type 0
-PlainGraphsFit = (m : Machine) (comps : List Comp) (entries : List Entry) → IsMachine m → AreComponents m comps
+PlainGraphsFit = (m : Machine) (comps : List Comp) (entries : List Entry) → IsMachine m → m.dram ≡ None → AreComponents m comps
     → GraphFits comp_serves comp_latency (all_events (pieces_of (path_of m)) entries) comps
 
 -- an access has four events at most

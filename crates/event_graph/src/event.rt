@@ -30,4 +30,4 @@ pub struct Event {
     pub second: Option<Parent>,
 }
 
-const _: () = prove!(size_of::<Event>() == 80);
+const _: () = prove!(size_of::<Event>() == 96);

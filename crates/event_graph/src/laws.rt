@@ -37,12 +37,13 @@ pub fn graphs_with_their_floors_fit<X: Expand, C: Component>()
     ensures { (x : _) (comps : List _) (entries : List Entry) → AreFloorsOf (X.floors x) C.serves C.floor comps → GraphFits C.serves C.floor (all_events (X.pieces x) entries) comps }
 {}
 
-/// The components of a machine have the floors of its `Plain`.
+/// The components of a machine without open rows have the floors of its `Plain`.
 pub fn plain_floors_are_of_components()
     ensures { PlainFloorsAreOfComponents }
 {}
 
-/// The components of a machine serve all events that `Plain` expands its accesses into.
+/// The components of a machine without open rows serve all events that `Plain` expands its accesses
+/// into.
 pub fn plain_graphs_fit()
     ensures { PlainGraphsFit }
 {}
