@@ -18,23 +18,25 @@ use Rattle.noc_mesh.specs.NetTiming.{passage}
 longer : (before read write : ℕ) → max (before + read) (before + write) ≡ before + max read write
 longer before read write = omega arith
 
-module _ (l1 : L1) (l1i : Option L1) (l2 : L2) (controllers : Controllers) (dram : Option Dram) (e : Entry) where
-  abbrev path : Option Mesh → AccessPath
-  path mesh = record { l1 = l1; l1i = l1i; l2 = l2; controllers = controllers; mesh = mesh; dram = dram }
+module _ (l1 : L1) (l1i : Option L1) (l2 : L2) (controllers : Controllers) (e : Entry) where
+  abbrev path : Option Mesh → Option Dram → AccessPath
+  path mesh dram = record { l1 = l1; l1i = l1i; l2 = l2; controllers = controllers; mesh = mesh; dram = dram }
 
-  pub plain_pieces : (mesh : Option Mesh) (o : Outcome) → mesh ≡ None
-      → (passage (path mesh) e o).pieces ≡ pieces_by (head_time (path mesh) e.request) l2 controllers (bank_component l2 e) (controller_component l2 controllers e) o
-  plain_pieces None Hit none = refl
-  plain_pieces None (Upgrade others) none = refl
-  plain_pieces None (FoundInL2 others) none = refl
-  plain_pieces None (Miss false) none = refl
-  plain_pieces None (Miss true) none = rw (longer (head_time (path None) e.request + l2.latency) controllers.read controllers.write) refl
-  plain_pieces (Some mesh) o none = absurd (cc none)
+  pub plain_pieces : (mesh : Option Mesh) (dram : Option Dram) (o : Outcome) → mesh ≡ None → dram ≡ None
+      → (passage (path mesh dram) e o).pieces ≡ pieces_by (head_time (path mesh dram) e.request) l2 controllers (bank_component l2 e) (controller_component l2 controllers e) o
+  plain_pieces None None Hit none closed = refl
+  plain_pieces None None (Upgrade others) none closed = refl
+  plain_pieces None None (FoundInL2 others) none closed = refl
+  plain_pieces None None (Miss false) none closed = refl
+  plain_pieces None None (Miss true) none closed = rw (longer (head_time (path None None) e.request + l2.latency) controllers.read controllers.write) refl
+  plain_pieces None (Some dram) o none closed = absurd (cc closed)
+  plain_pieces (Some mesh) dram o none closed = absurd (cc none)
 
-  pub plain_times : (mesh : Option Mesh) (o : Outcome) → mesh ≡ None → (passage (path mesh) e o).end ≡ time_by (head_time (path mesh) e.request) l2 controllers o
-  plain_times None Hit none = refl
-  plain_times None (Upgrade others) none = refl
-  plain_times None (FoundInL2 others) none = refl
-  plain_times None (Miss false) none = refl
-  plain_times None (Miss true) none = rw (longer (head_time (path None) e.request + l2.latency) controllers.read controllers.write) refl
-  plain_times (Some mesh) o none = absurd (cc none)
+  pub plain_times : (mesh : Option Mesh) (dram : Option Dram) (o : Outcome) → mesh ≡ None → dram ≡ None → (passage (path mesh dram) e o).end ≡ time_by (head_time (path mesh dram) e.request) l2 controllers o
+  plain_times None None Hit none closed = refl
+  plain_times None None (Upgrade others) none closed = refl
+  plain_times None None (FoundInL2 others) none closed = refl
+  plain_times None None (Miss false) none closed = refl
+  plain_times None None (Miss true) none closed = rw (longer (head_time (path None None) e.request + l2.latency) controllers.read controllers.write) refl
+  plain_times None (Some dram) o none closed = absurd (cc closed)
+  plain_times (Some mesh) dram o none closed = absurd (cc none)

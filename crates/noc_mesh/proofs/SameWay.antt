@@ -1,7 +1,8 @@
 -- That accesses of one core, to one line, with one outcome, have the same way, a fetch as a fetch.
-use Rattle.std.specs.Prelude.{◌≡◌, ◌+◌, ◌-◌, ◌%◌, ℕ, suc, Bool, true, false, if◌then◌else◌, unwrap_or, List, length, map, Option, None, Some, refl}
+use Rattle.std.specs.Prelude.{◌≡◌, ◌+◌, ◌-◌, ◌/◌, ◌%◌, ℕ, suc, Bool, true, false, if◌then◌else◌, unwrap_or, List, length, map, Option, None, Some, refl}
 use Rattle.std.proofs.Common.{◌∙◌, ap, ap₂}
-use Rattle.component.specs.declared.kind.Kind.TheVariants.{Lookup, Remote, Fill, Read, Write}
+use Rattle.component.specs.declared.kind.Kind.TheVariants.{Lookup, Remote, Fill, Read, Write, RowRead}
+use Rattle.machine_desc.specs.declared.machine.Dram.{Dram}
 use Rattle.machine_desc.specs.declared.machine.Mesh.{Mesh}
 use Rattle.machine_desc.specs.Components.{nodes_of}
 use Rattle.zs_num.specs.declared.entry.Entry.{Entry}
@@ -14,7 +15,7 @@ use Rattle.event_graph.specs.Timing.{bank_component, look_up_time}
 use Rattle.noc_mesh.specs.declared.stage.Stage.{Stage}
 use Rattle.noc_mesh.specs.declared.stop.Stop.{Stop}
 use Rattle.noc_mesh.specs.declared.stop.Stop.TheVariants.{Core, Bank, Controller}
-use Rattle.noc_mesh.specs.NetTiming.{node_of, hop_on, hops_in, hops, looks_up, reads, writes, fills, reached, looked_up, answered, missed, read_in, brought, filled, passage}
+use Rattle.noc_mesh.specs.NetTiming.{node_of, hop_on, hops_in, hops, looks_up, reads, reads_from, writes, fills, reached, looked_up, answered, missed, read_in, brought, filled, passage}
 use Rattle.noc_mesh.specs.Passages.{Passage, begun, goes, meets, passes, writes_beside}
 use Rattle.noc_mesh.specs.Routes.{route}
 
@@ -53,8 +54,14 @@ module _ (path : AccessPath) (e other : Entry) (core : e.core ≡ other.core) (l
   missed_same : missed path e ≡ missed path other
   missed_same = ap₂ passes (looked_same false) (hops_same Bank Controller)
 
+  reads_in_same : (dram : Option Dram) → reads_from path e dram ≡ reads_from path other dram
+  reads_in_same None = ap (λ (b : ℕ). let s : Stage = record { component = path.l2.banks + b % path.controllers.count; kind = Read; time = path.controllers.read } in s) bank_same
+  reads_in_same (Some dram) =
+      ap₂ (λ (b n : ℕ). let s : Stage = record { component = path.l2.banks + b % path.controllers.count; kind = RowRead (n / dram.row_lines % dram.banks) (n / dram.row_lines / dram.banks); time = dram.hit } in s)
+      bank_same line
+
   reads_same : reads path e ≡ reads path other
-  reads_same = ap (λ (b : ℕ). let s : Stage = record { component = path.l2.banks + b % path.controllers.count; kind = Read; time = path.controllers.read } in s) bank_same
+  reads_same = reads_in_same path.dram
 
   writes_same : writes path e ≡ writes path other
   writes_same = ap (λ (b : ℕ). let s : Stage = record { component = path.l2.banks + b % path.controllers.count; kind = Write; time = path.controllers.write } in s) bank_same

@@ -30,9 +30,9 @@ NetGraphsFit = (m : Machine) (comps : List Comp) (entries : List Entry) → IsMa
 abbrev pub NetAccessesHaveFewEvents : Type 0
 NetAccessesHaveFewEvents = (path : AccessPath) (entries : List Entry) → IsAccessPath path → sum_by (λ e. length (net_pieces path e)) entries ≤ 60 * length entries
 
--- without a mesh the events and the times are those of banks and controllers that are joined without a network
+-- without a mesh and without open rows the events and the times are those of banks and controllers that are joined without a network
 abbrev pub NetsWithoutAMeshArePlain : Type 0
-NetsWithoutAMeshArePlain = (path : AccessPath) (e : Entry) → path.mesh ≡ None
+NetsWithoutAMeshArePlain = (path : AccessPath) (e : Entry) → path.mesh ≡ None → path.dram ≡ None
     → (net_pieces path e ≡ pieces_of path e) × (net_time path e ≡ access_time path e)
 
 -- Its core, its line, its outcome and whether it is a fetch decide the events of an access and its time: not its start,

@@ -1,17 +1,19 @@
 -- That the events of an access, and its time, are as every expansion has them, in a machine with a mesh or without.
-use Rattle.std.specs.Prelude.{◌≡◌, ◌+◌, ◌*◌, ◌^◌, ◌%◌, ◌<◌, ◌≤◌, ℕ, suc, max, Bool, true, false, if◌then◌else◌, List, [], ◌∷◌, ◌++◌, length, map, Option, None, Some, IfSome, All, slice_get, refl}
+use Rattle.std.specs.Prelude.{◌≡◌, ◌+◌, ◌*◌, ◌^◌, ◌/◌, ◌%◌, ◌<◌, ◌≤◌, ℕ, suc, max, Bool, true, false, if◌then◌else◌, List, [], ◌∷◌, ◌++◌, length, map, Option, None, Some, IfSome, All, slice_get, refl}
 use Rattle.std.proofs.Common.{◌∙◌, sym, ap, arith}
 use Rattle.std.proofs.Math.Nat.{suc-mul}
 use Rattle.std.proofs.lemmas.Bool.{lt-ltb, le-leb, and_from}
 use Rattle.std.proofs.lemmas.Nat.{mod_below}
 use Rattle.std.proofs.lemmas.List.{length-map, length_push}
 use Rattle.component.specs.declared.kind.Kind.TheVariants.{Read, Write, Fill, Hop}
+use Rattle.machine_desc.specs.declared.machine.Dram.{Dram}
 use Rattle.machine_desc.specs.declared.machine.Mesh.{Mesh}
 use Rattle.machine_desc.specs.Components.{nodes_of}
-use Rattle.machine_desc.specs.Machine.{IsMesh}
+use Rattle.machine_desc.specs.Machine.{IsDram, IsMesh}
 use Rattle.zs_num.specs.declared.entry.Entry.{Entry}
 use Rattle.zs_num.specs.declared.entry.Outcome.{Outcome}
 use Rattle.zs_num.specs.declared.entry.Outcome.TheVariants.{Hit, Upgrade, L2 as FoundInL2, Miss}
+use Rattle.zs_num.specs.Request.{line_of}
 use Rattle.event_graph.specs.declared.access_path.AccessPath.{AccessPath}
 use Rattle.event_graph.specs.declared.piece.Piece.{Piece}
 use Rattle.event_graph.specs.AccessPaths.{head_time}
@@ -22,8 +24,8 @@ use Rattle.event_graph.specs.PlainLaws.{head_in_range}
 use Rattle.event_graph.specs.Floors.{is_bank, is_controller}
 use Rattle.noc_mesh.specs.declared.stop.Stop.{Stop}
 use Rattle.noc_mesh.specs.declared.stop.Stop.TheVariants.{Core, Bank, Controller}
-use Rattle.noc_mesh.specs.NetFloors.{hop_floor, links_from, net_floor}
-use Rattle.noc_mesh.specs.NetTiming.{node_of, hop_on, hops_in, hops, looks_up, reads, writes, fills, reached, looked_up, answered, missed, read_in, brought, filled, passage, net_pieces, net_time}
+use Rattle.noc_mesh.specs.NetFloors.{hop_floor, links_from, net_floor, read_floor, row_floor}
+use Rattle.noc_mesh.specs.NetTiming.{node_of, hop_on, hops_in, hops, looks_up, reads, reads_from, writes, fills, reached, looked_up, answered, missed, read_in, brought, filled, passage, net_pieces, net_time}
 use Rattle.noc_mesh.specs.Passages.{Passage, piece_of, begun, goes, passes}
 use Rattle.noc_mesh.specs.PassageLaws.{AreServed, at_push, EndsWithLast, IsUnderWay, begun_ends, begun_under_way, beside_keeps, come_before, ends_at, finish_before, goes_ends, goes_keeps, have_floors, meets_ends, meets_keeps, passes_ends, passes_keeps, passes_later, passes_length, passes_stays, start_alone}
 use Rattle.noc_mesh.specs.RouteFacts.{hops_small, route_below, route_short, some_nodes}
@@ -85,8 +87,27 @@ module _ (path : AccessPath) (ok : IsAccessPath path) (e : Entry) where
   look_served true = if_holds _ (look_up_time path.l2 true) a_bank
   look_served false = if_holds _ (look_up_time path.l2 false) a_bank
 
-  read_served : net_floor path (reads path e).component Read ≡ Some path.controllers.read
-  read_served = if_holds _ path.controllers.read a_controller
+  read_in_served : (dram : Option Dram) → path.dram ≡ dram → IfSome dram IsDram
+      → net_floor path (reads_from path e dram).component (reads_from path e dram).kind ≡ Some (reads_from path e dram).time
+  read_in_served None is in_range =
+      ap (read_floor (is_controller path.l2 path.controllers (controller_component path.l2 path.controllers e)) path.controllers.read) is
+      ∙ if_holds _ path.controllers.read a_controller
+  read_in_served (Some dram) is in_range =
+      let group : ℕ = line_of e.request / dram.row_lines in
+      let bank : ℕ = group % dram.banks in
+      let below : bank < dram.banks = mod_below group dram.banks in_range.banks.0 in
+      ap (λ (o : Option Dram). row_floor (is_controller path.l2 path.controllers (controller_component path.l2 path.controllers e)) o bank) is
+      ∙ if_holds _ dram.hit (and_from _ _ a_controller (lt-ltb bank dram.banks below))
+
+  read_served : net_floor path (reads path e).component (reads path e).kind ≡ Some (reads path e).time
+  read_served = read_in_served path.dram refl ok.dram
+
+  read_small_in : (dram : Option Dram) → IfSome dram IsDram → (reads_from path e dram).time ≤ 65536
+  read_small_in None in_range = ok.controllers.read.1
+  read_small_in (Some dram) in_range = omega (arith, in_range.closed.0, in_range.closed.1)
+
+  read_small : (reads path e).time ≤ 65536
+  read_small = read_small_in path.dram ok.dram
 
   write_served : net_floor path (writes path e).component Write ≡ Some path.controllers.write
   write_served = if_holds _ path.controllers.write a_controller
@@ -228,8 +249,8 @@ module _ (path : AccessPath) (ok : IsAccessPath path) (e : Entry) where
   missed_near = hops_near 15 200192 (looked_up path e false) Bank Controller (looked_near false)
 
   pub read_near : (dirty : Bool) → IsNear 31 269312 (read_in path e dirty)
-  read_near false = record { few = omega (arith, length_push (missed path e).pieces read_piece, missed_near.few); soon = omega (arith, missed_near.soon, ok.controllers.read.1) }
-  read_near true = record { few = omega (arith, read_length, missed_near.few); soon = omega (arith, missed_near.soon, ok.controllers.read.1) }
+  read_near false = record { few = omega (arith, length_push (missed path e).pieces read_piece, missed_near.few); soon = omega (arith, missed_near.soon, read_small) }
+  read_near true = record { few = omega (arith, read_length, missed_near.few); soon = omega (arith, missed_near.soon, read_small) }
 
   pub brought_near : (dirty : Bool) → IsNear 45 272896 (brought path e dirty)
   brought_near dirty = hops_near 31 269312 (read_in path e dirty) Controller Bank (read_near dirty)

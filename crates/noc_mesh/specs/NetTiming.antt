@@ -1,11 +1,14 @@
--- The events of an access and its time where nothing else runs, in a machine with a mesh or without.
-use Rattle.std.specs.Prelude.{◌+◌, ◌-◌, ◌%◌, ℕ, suc, Bool, true, false, if◌then◌else◌, List, [], length, map, Option, None, Some}
-use Rattle.component.specs.declared.kind.Kind.TheVariants.{Lookup, Remote, Fill, Read, Write, Hop}
+-- The events of an access and its time where nothing else runs, in a machine with a mesh or without, and with
+-- open rows or without.
+use Rattle.std.specs.Prelude.{◌+◌, ◌-◌, ◌/◌, ◌%◌, ℕ, suc, Bool, true, false, if◌then◌else◌, List, [], length, map, Option, None, Some}
+use Rattle.component.specs.declared.kind.Kind.TheVariants.{Lookup, Remote, Fill, Read, Write, Hop, RowRead}
+use Rattle.machine_desc.specs.declared.machine.Dram.{Dram}
 use Rattle.machine_desc.specs.declared.machine.Mesh.{Mesh}
 use Rattle.machine_desc.specs.Components.{nodes_of}
 use Rattle.zs_num.specs.declared.entry.Entry.{Entry}
 use Rattle.zs_num.specs.declared.entry.Outcome.{Outcome}
 use Rattle.zs_num.specs.declared.entry.Outcome.TheVariants.{Hit, Upgrade, L2 as FoundInL2, Miss}
+use Rattle.zs_num.specs.Request.{line_of}
 use Rattle.event_graph.specs.declared.access_path.AccessPath.{AccessPath}
 use Rattle.event_graph.specs.declared.piece.Piece.{Piece}
 use Rattle.event_graph.specs.AccessPaths.{head_time}
@@ -43,8 +46,17 @@ module _ (path : AccessPath) (e : Entry) where
     time = look_up_time path.l2 others;
   }
 
+  -- the read of the line: with open rows, of its row in its bank of the memory, which takes as long as where the row is open
+  abbrev pub reads_from : Option Dram → Stage
+  reads_from None = record { component = controller_component path.l2 path.controllers e; kind = Read; time = path.controllers.read }
+  reads_from (Some dram) = let group = line_of e.request / dram.row_lines in record {
+    component = controller_component path.l2 path.controllers e;
+    kind = RowRead (group % dram.banks) (group / dram.banks);
+    time = dram.hit;
+  }
+
   abbrev pub reads : Stage
-  reads = record { component = controller_component path.l2 path.controllers e; kind = Read; time = path.controllers.read }
+  reads = reads_from path.dram
 
   abbrev pub writes : Stage
   writes = record { component = controller_component path.l2 path.controllers e; kind = Write; time = path.controllers.write }

@@ -6,7 +6,7 @@ ghost use Rattle.noc_mesh.specs.NetTiming as timing;
 ghost use Rattle.noc_mesh.specs.Standings.{standing_of};
 
 use crate::hops::past;
-use crate::stage::look_up_time;
+use crate::stage::{look_up_time, reads};
 use crate::{Standing, Stop};
 use event_graph::AccessPath;
 use zs_num::{Entry, Outcome};
@@ -61,7 +61,7 @@ pub(crate) fn read_in(path: &AccessPath, entry: &Entry, dirty: bool) -> Standing
     ensures few { result.events ≤ 60 }
     ensures soon { result.end ≤ 2 ^ 20 }
 {
-    let read = missed(path, entry).behind(u64::from(path.controllers.read));
+    let read = missed(path, entry).behind(reads(path, entry).time);
     if dirty { read.beside() } else { read }
 }
 

@@ -5,8 +5,8 @@ ghost use Rattle.noc_mesh.specs.RouteLaws.{RoutesLead};
 use crate::Net;
 use component::Comp;
 
-/// Every route is a chain of links of the mesh from its source to its target, and no longer than
-/// these are apart.
+/// Every route is a chain of links of the mesh from its source to its target, and as long as these
+/// are apart.
 pub fn routes()
     ensures { RoutesLead }
 {}
@@ -14,9 +14,7 @@ pub fn routes()
 /// The components of a machine have the floors of its `Net`.
 pub fn net_floors_are_of_components()
     ensures { NetFloorsAreOfComponents }
-{
-    event_graph::laws::plain_floors_are_of_components();
-}
+{}
 
 /// The components of a machine serve all events that `Net` expands its accesses into.
 pub fn net_graphs_fit()
@@ -31,7 +29,7 @@ pub fn net_accesses_have_few_events()
     ensures { NetAccessesHaveFewEvents }
 {}
 
-/// `Net` is `Plain` where there is no mesh.
+/// `Net` is `Plain` where there are no mesh and no open rows.
 pub fn nets_without_a_mesh_are_plain()
     ensures { NetsWithoutAMeshArePlain }
 {}

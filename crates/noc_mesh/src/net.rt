@@ -2,8 +2,8 @@
 ghost use Rattle.std.proofs.Props.{props};
 ghost use Rattle.event_graph.specs.PathInRange.{IsAccessPath};
 
-use crate::{course, events};
-use event_graph::{AccessPath, Expand, Piece};
+use crate::{course, events, laws};
+use event_graph::{AccessPath, Expand, Piece, Plain};
 use machine_desc::Machine;
 use zs_num::{Entry, Outcome};
 
@@ -15,9 +15,10 @@ pub struct Net {
 }
 
 impl Net {
-    ghost use Rattle.std.specs.Prelude.{◌≡◌};
+    ghost use Rattle.std.specs.Prelude.{◌≡◌, ◌&&◌, is_none};
     ghost use Rattle.machine_desc.specs.Machine.{IsMachine};
     ghost use Rattle.event_graph.specs.AccessPaths.{path_of};
+    ghost use Rattle.noc_mesh.specs.NetTiming.{net_time};
 
     /// The expansion of this machine.
     pub fn of(machine: &Machine) -> Net
@@ -26,6 +27,33 @@ impl Net {
     {
         Net {
             path: AccessPath::of(machine),
+        }
+    }
+
+    /// Whether it is the plain expansion, which is quicker to ask.
+    fn is_plain(&self) -> bool
+        ensures { result ≡ (is_none self.now.path.mesh && is_none self.now.path.dram) }
+    {
+        self.path.mesh.is_none() && self.path.dram.is_none()
+    }
+
+    /// The plain expansion.
+    fn plain(&self) -> Plain
+        ensures { result.path ≡ self.now.path }
+    {
+        Plain { path: self.path }
+    }
+
+    /// The time of an access, of those too that go on from the core's own cache.
+    #[inline(never)]
+    fn time_beyond(&self, entry: &Entry) -> u64
+        ensures { result ≡ net_time self.now.path entry.now }
+    {
+        laws::nets_without_a_mesh_are_plain();
+        if self.is_plain() {
+            self.plain().time(entry)
+        } else {
+            course::ended(&self.path, entry).end
         }
     }
 }
@@ -42,10 +70,19 @@ impl Expand for Net {
     ghost floors = { λ x. net_floor x.path };
 
     fn count(&self, entry: &Entry) -> u16 {
-        course::ended(&self.path, entry).events
+        laws::nets_without_a_mesh_are_plain();
+        if self.is_plain() {
+            self.plain().count(entry)
+        } else {
+            course::ended(&self.path, entry).events
+        }
     }
 
     fn piece(&self, entry: &Entry, place: u16) -> Piece {
+        laws::nets_without_a_mesh_are_plain();
+        if self.is_plain() {
+            return self.plain().piece(entry, place);
+        }
         match entry.outcome {
             Outcome::Hit => unreachable!(),
             Outcome::Upgrade { others } | Outcome::L2 { others } => {
@@ -57,8 +94,12 @@ impl Expand for Net {
         }
     }
 
+    #[inline(always)]
     fn time(&self, entry: &Entry) -> u64 {
-        course::ended(&self.path, entry).end
+        match entry.outcome {
+            Outcome::Hit => self.path.head(entry),
+            _ => self.time_beyond(entry),
+        }
     }
 
     ghost time_at_least_one = { λ x e. net_time_at_least_one x.path x.in_range e };

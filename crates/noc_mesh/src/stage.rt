@@ -5,6 +5,7 @@ ghost use Rattle.event_graph.specs.Timing.{look_up_time as the_look_up_time};
 ghost use Rattle.noc_mesh.specs.NetTiming as timing;
 
 use component::Kind;
+use division::{quotient, remainder};
 use event_graph::AccessPath;
 use zs_num::Entry;
 
@@ -41,15 +42,29 @@ pub(crate) fn looks_up(path: &AccessPath, entry: &Entry, others: bool) -> Stage
     }
 }
 
-/// The read of the line.
+/// The read of the line: with open rows, of its row in its bank of the memory.
 pub(crate) fn reads(path: &AccessPath, entry: &Entry) -> Stage
     requires { IsAccessPath path.now }
     ensures { result ≡ timing.reads path.now entry.now }
 {
-    Stage {
-        component: path.controller(entry),
-        kind: Kind::Read,
-        time: u64::from(path.controllers.read),
+    match &path.dram {
+        None => Stage {
+            component: path.controller(entry),
+            kind: Kind::Read,
+            time: u64::from(path.controllers.read),
+        },
+        Some(dram) => {
+            let group = quotient(entry.request.line(), u64::from(dram.row_lines));
+            let banks = u64::from(dram.banks);
+            Stage {
+                component: path.controller(entry),
+                kind: Kind::RowRead {
+                    bank: remainder(group, banks) as u16,
+                    row: quotient(group, banks),
+                },
+                time: u64::from(dram.hit),
+            }
+        }
     }
 }
 
