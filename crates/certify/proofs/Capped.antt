@@ -5,8 +5,9 @@ use Rattle.std.specs.Prelude.{slice_get}
 use Rattle.std.specs.Option.{option_map, option_map_or}
 use Rattle.std.proofs.lemmas.Bool.{cases_eq, eqb-true, ltb-false, ltb-true, lt-ltb, ne_eqb}
 use Rattle.component.specs.declared.comp.Comp.{Comp}
-use Rattle.component.specs.declared.comp.Comp.TheVariants.{Bank as ABank, Controller as AController, Link as ALink}
+use Rattle.component.specs.declared.comp.Comp.TheVariants.{Bank as ABank, Controller as AController, Link as ALink, Rows as ARows}
 use Rattle.component.specs.declared.kind.Kind.{Kind}
+use Rattle.component.specs.declared.kind.Kind.TheVariants.{Lookup, Remote, Fill, Read, Write, Hop, RowRead}
 use Rattle.component.specs.ComponentStep.{comp_step, free_of}
 use Rattle.event_graph.specs.OneListWeave.{FiredEvent}
 use Rattle.event_graph.specs.ServedEvents.{after_serving, of_component}
@@ -32,11 +33,25 @@ not_before_free : (c : Comp) (kind : Kind) (start : ℕ) → free_of c ≤ (comp
 not_before_free (ABank b) kind start = omega arith
 not_before_free (AController c) kind start = omega arith
 not_before_free (ALink l) kind start = omega arith
+not_before_free (ARows r) Lookup start = omega arith
+not_before_free (ARows r) Remote start = omega arith
+not_before_free (ARows r) Fill start = omega arith
+not_before_free (ARows r) Read start = omega arith
+not_before_free (ARows r) Write start = omega arith
+not_before_free (ARows r) Hop start = omega arith
+not_before_free (ARows r) (RowRead bank row) start = omega arith
 
 no_earlier : (c : Comp) (kind : Kind) (start : ℕ) → free_of c ≤ free_of (comp_step c kind start).0
 no_earlier (ABank b) kind start = omega arith
 no_earlier (AController c) kind start = omega arith
 no_earlier (ALink l) kind start = omega arith
+no_earlier (ARows r) Lookup start = omega arith
+no_earlier (ARows r) Remote start = omega arith
+no_earlier (ARows r) Fill start = omega arith
+no_earlier (ARows r) Read start = omega arith
+no_earlier (ARows r) Write start = omega arith
+no_earlier (ARows r) Hop start = omega arith
+no_earlier (ARows r) (RowRead bank row) start = omega arith
 
 steps_on : (c : Comp) (kind : Kind) (start : ℕ) → free_of c < 2 ^ 60 → capped_step c kind start ≡ comp_step c kind start
 steps_on c kind start free = rw (lt-ltb (free_of c) (2 ^ 60) free) refl

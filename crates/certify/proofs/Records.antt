@@ -6,12 +6,12 @@ use Rattle.std.proofs.lemmas.Bool.{eqb-true, ltb-true}
 use Rattle.std.proofs.lemmas.List.{drop_all, drop_more}
 use Rattle.byteorder.specs.Endian.{little_bytes, little_number}
 use Rattle.component.specs.declared.kind.Kind.{Kind}
-use Rattle.component.specs.declared.kind.Kind.TheVariants.{Lookup, Remote, Fill, Read, Write, Hop}
+use Rattle.component.specs.declared.kind.Kind.TheVariants.{Lookup, Remote, Fill, Read, Write, Hop, RowRead}
 use Rattle.component.specs.declared.comp.Comp.{Comp}
 use Rattle.component.specs.Serving.{comp_latency, comp_serves}
 use Rattle.event_graph.specs.OneListWeave.{FiredEvent}
 use Rattle.certify.specs.declared.numbers.Numbers.{Numbers}
-use Rattle.certify.specs.EventsFile.{event_in, event_of, flag_if, flags_of, has_first, has_meaning, has_second, is_critical_in, is_cycle, is_parent, kind_code, kind_in, kind_of_code, numbers_of, parent_delay, parent_if, parent_number, record_bytes, served_in}
+use Rattle.certify.specs.EventsFile.{bank_of, event_in, event_of, flag_if, flags_of, has_first, has_meaning, has_second, is_critical_in, is_cycle, is_parent, kind_code, kind_in, kind_of_code, numbers_of, parent_delay, parent_if, parent_number, record_bytes, row_of, served_in}
 use Rattle.certify.proofs.Bytes.{written_at}
 
 -- ---- tests that passed
@@ -155,12 +155,30 @@ kind_written code kind is =
     this : (n : ℕ) (k : Kind) → (code == n) ≡ true → k ≡ kind → kind_code k ≡ n → kind_code kind ≡ code
     this n k test same is = ap kind_code (sym same) ∙ (is ∙ sym (eqb-true code n test))
 
--- no bank and no row
-no_place : (n : Numbers) (kind : Kind) → kind_in n ≡ Some kind → (n.bank ≡ 0) × (n.row ≡ 0) × (kind_of_code n.kind ≡ Some kind)
-no_place n kind is =
-    let passed = some_passed (n.bank == 0 && n.row == 0) (kind_of_code n.kind) kind is in
-    let zeros = both (n.bank == 0) (n.row == 0) passed.0 in
-    (eqb-true n.bank 0 zeros.0, eqb-true n.row 0 zeros.1, passed.1)
+-- a kind that is known by its code alone names no bank and no row
+names_none : (code : ℕ) (kind : Kind) → kind_of_code code ≡ Some kind → (bank_of kind ≡ 0) × (row_of kind ≡ 0)
+names_none code Lookup is = (refl, refl)
+names_none code Remote is = (refl, refl)
+names_none code Fill is = (refl, refl)
+names_none code Read is = (refl, refl)
+names_none code Write is = (refl, refl)
+names_none code Hop is = (refl, refl)
+names_none code (RowRead bank row) is =
+    let six : 6 ≡ code = kind_written code (RowRead bank row) is in
+    let none : kind_of_code 6 ≡ Some (RowRead bank row) = subst (λ c. kind_of_code c ≡ Some (RowRead bank row)) (sym six) is in
+    absurd (cc none)
+
+-- the code, the bank and the row of a kind are those of the numbers that it is read of
+kind_is : (n : Numbers) (kind : Kind) → kind_in n ≡ Some kind → (kind_code kind ≡ n.kind) × (bank_of kind ≡ n.bank) × (row_of kind ≡ n.row)
+kind_is n kind is =
+    elim (either (n.kind == 6) (RowRead n.bank n.row) (if n.bank == 0 && n.row == 0 then kind_of_code n.kind else None) kind is) [
+      | inl named ↦ (ap kind_code (sym named.1) ∙ sym (eqb-true n.kind 6 named.0), ap bank_of (sym named.1), ap row_of (sym named.1))
+      | inr above ↦ (let passed = some_passed (n.bank == 0 && n.row == 0) (kind_of_code n.kind) kind above in
+          let zeros = both (n.bank == 0) (n.row == 0) passed.0 in
+          let code : kind_code kind ≡ n.kind = kind_written n.kind kind passed.1 in
+          let none = names_none n.kind kind passed.1 in
+          (code, none.0 ∙ sym (eqb-true n.bank 0 zeros.0), none.1 ∙ sym (eqb-true n.row 0 zeros.1)))
+    ]
 
 -- ---- read, then written
 
@@ -193,13 +211,12 @@ unfolding record_bytes
 record_written comps place field x low long is =
     let n = numbers_of field in
     let stands = stand_for comps place n x is in
-    let kind = no_place n x.event.kind stands.kind in
-    let code : kind_code x.event.kind ≡ n.kind = kind_written n.kind x.event.kind kind.2 in
+    let kind = kind_is n x.event.kind stands.kind in
     let first = parent_written (has_first n) place n.first n.first_delay stands.meaning.first in
     let second = parent_written (has_second n) place n.second n.second_delay stands.meaning.second in
     let flags : flags_of (event_in place n x.event.kind (comp_latency stands.component x.event.kind)).event ≡ n.flags =
     ap (λ there. flag_number (is_critical_in n) there (is_some (parent_if (has_second n) n.second n.second_delay))) (there_is (has_first n) n.first n.first_delay)
     ∙ (ap (λ there. flag_number (is_critical_in n) (has_first n) there) (there_is (has_second n) n.second n.second_delay) ∙ flags_written n.flags stands.meaning.flags) in
     let written : record_bytes (event_in place n x.event.kind (comp_latency stands.component x.event.kind)) ≡ numbers_bytes n =
-    rw (code, flags, first.0, first.1, second.0, second.1, kind.0, kind.1) refl in
+    rw (kind.0, flags, first.0, first.1, second.0, second.1, kind.1, kind.2) refl in
     ap record_bytes (sym stands.is) ∙ (written ∙ numbers_written field low long)

@@ -1,12 +1,12 @@
 -- The record of an event, read: its numbers stand for the event.
-use Rattle.std.proofs.Common.{◌≡◌, ℕ, ◌+◌, ◌^◌, ◌<◌, Bool, true, List, [], length, drop, Option, Some, None, refl, ap, sym, ◌∙◌, append-nil, arith}
+use Rattle.std.proofs.Common.{◌≡◌, ℕ, ◌+◌, ◌^◌, ◌<◌, ◌==◌, ◌&&◌, if◌then◌else◌, Bool, true, List, [], length, drop, Option, Some, None, refl, ap, sym, ◌∙◌, append-nil, arith}
 use Rattle.std.specs.Prelude.{is_some}
 use Rattle.std.proofs.lemmas.Bool.{lt-ltb}
 use Rattle.std.proofs.lemmas.Option.{slice_get_within}
 use Rattle.byteorder.specs.Endian.{little_bytes, little_number}
 use Rattle.byteorder.specs.Numbers.{little_number-reads_back}
 use Rattle.component.specs.declared.kind.Kind.{Kind}
-use Rattle.component.specs.declared.kind.Kind.TheVariants.{Lookup, Remote, Fill, Read, Write, Hop}
+use Rattle.component.specs.declared.kind.Kind.TheVariants.{Lookup, Remote, Fill, Read, Write, Hop, RowRead}
 use Rattle.component.specs.declared.comp.Comp.{Comp}
 use Rattle.component.specs.Serving.{comp_latency, comp_serves}
 use Rattle.event_graph.specs.declared.event.Event.{Event}
@@ -15,7 +15,7 @@ use Rattle.event_graph.specs.Fits.{EventFits}
 use Rattle.event_graph.specs.OneListWeave.{FiredEvent}
 use Rattle.certify.specs.CanBeFiled.{CanBeWritten}
 use Rattle.certify.specs.declared.numbers.Numbers.{Numbers}
-use Rattle.certify.specs.EventsFile.{event_in, event_of, flags_of, has_meaning, is_parent, kind_code, kind_of_code, numbers_of, parent_delay, parent_if, parent_number, record_bytes}
+use Rattle.certify.specs.EventsFile.{bank_of, event_in, event_of, flags_of, has_meaning, is_parent, kind_code, kind_of_code, numbers_of, parent_delay, parent_if, parent_number, record_bytes, row_of}
 use Rattle.certify.proofs.Records.{flags_back}
 
 -- the numbers of an event
@@ -25,8 +25,8 @@ numbers_written x = record {
   core = x.event.core;
   kind = kind_code x.event.kind;
   flags = flags_of x.event;
-  bank = 0;
-  row = 0;
+  bank = bank_of x.event.kind;
+  row = row_of x.event.kind;
   min_start = x.event.min_start;
   first = parent_number x.event.first;
   second = parent_number x.event.second;
@@ -66,13 +66,15 @@ parent_back : (parent : Option Parent) → parent_if (is_some parent) (parent_nu
 parent_back None = refl
 parent_back (Some p) = refl
 
-kind_back : (kind : Kind) → kind_of_code (kind_code kind) ≡ Some kind
+-- the kind is read again of its code, its bank and its row
+kind_back : (kind : Kind) → (if kind_code kind == 6 then Some (RowRead (bank_of kind) (row_of kind)) else if bank_of kind == 0 && row_of kind == 0 then kind_of_code (kind_code kind) else None) ≡ Some kind
 kind_back Lookup = refl
 kind_back Remote = refl
 kind_back Fill = refl
 kind_back Read = refl
 kind_back Write = refl
 kind_back Hop = refl
+kind_back (RowRead bank row) = refl
 
 numbers_back : (x : FiredEvent) (place : ℕ) → CanBeWritten x → x.event.component < 2 ^ 16 → IsBefore place x.event.first → IsBefore place x.event.second
     → numbers_of (record_bytes x) ≡ numbers_written x
@@ -82,7 +84,9 @@ numbers_back x place can component first second =
     same_numbers (numbers_of bytes) (numbers_written x)
     (little_number-reads_back 2 x.event.component (drop 2 bytes) component)
     (little_number-reads_back 2 x.event.core (drop 4 bytes) can.core)
-    refl refl refl refl
+    refl refl
+    (little_number-reads_back 2 (bank_of x.event.kind) (drop 8 bytes) can.bank)
+    (little_number-reads_back 8 (row_of x.event.kind) (drop 16 bytes) can.row)
     (little_number-reads_back 8 x.event.min_start (drop 24 bytes) (omega (arith, can.min_start)))
     (little_number-reads_back 4 (parent_number x.event.first) (drop 28 bytes) (omega (arith, first.number)))
     (little_number-reads_back 4 (parent_number x.event.second) (drop 32 bytes) (omega (arith, second.number)))

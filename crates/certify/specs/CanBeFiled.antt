@@ -6,10 +6,13 @@ use Rattle.event_graph.specs.declared.event.Parent.{Parent}
 use Rattle.event_graph.specs.Fits.{GraphFits}
 use Rattle.event_graph.specs.Numbered.{IsNumbered}
 use Rattle.event_graph.specs.OneListWeave.{FiredEvent}
+use Rattle.certify.specs.EventsFile.{bank_of, row_of}
 
--- cores of 16 bits, and cycles and delays below 2^60
+-- cores and banks of 16 bits, rows of 64, and cycles and delays below 2^60
 pub record CanBeWritten (x : FiredEvent) : Type 0 where
   pub core : x.event.core < 2 ^ 16
+  pub bank : bank_of x.event.kind < 2 ^ 16
+  pub row : row_of x.event.kind < 2 ^ 64
   pub min_start : x.event.min_start < 2 ^ 60
   pub start : x.start < 2 ^ 60
   pub finish : x.finish < 2 ^ 60

@@ -6,7 +6,7 @@ use Rattle.std.specs.Option.{option_and_then}
 use Rattle.std.specs.Str.{bytes_eq}
 use Rattle.byteorder.specs.Endian.{little_bytes, little_number}
 use Rattle.component.specs.declared.kind.Kind.{Kind}
-use Rattle.component.specs.declared.kind.Kind.TheVariants.{Lookup, Remote, Fill, Read, Write, Hop}
+use Rattle.component.specs.declared.kind.Kind.TheVariants.{Lookup, Remote, Fill, Read, Write, Hop, RowRead}
 use Rattle.component.specs.declared.comp.Comp.{Comp}
 use Rattle.component.specs.Serving.{comp_latency, comp_serves}
 use Rattle.event_graph.specs.declared.event.Event.{Event}
@@ -44,10 +44,29 @@ kind_code Fill = 2
 kind_code Read = 3
 kind_code Write = 4
 kind_code Hop = 5
+kind_code (RowRead bank row) = 6
 
--- the bank and the row that a kind names; the kinds that are here name none
+-- the bank and the row that a kind names, 0 where it names none
+abbrev pub bank_of : Kind → ℕ
+bank_of Lookup = 0
+bank_of Remote = 0
+bank_of Fill = 0
+bank_of Read = 0
+bank_of Write = 0
+bank_of Hop = 0
+bank_of (RowRead bank row) = bank
+
+abbrev pub row_of : Kind → ℕ
+row_of Lookup = 0
+row_of Remote = 0
+row_of Fill = 0
+row_of Read = 0
+row_of Write = 0
+row_of Hop = 0
+row_of (RowRead bank row) = row
+
 abbrev pub place_bytes : Kind → List ℕ
-place_bytes kind = little_bytes 2 0 ++ little_bytes 8 0
+place_bytes kind = little_bytes 2 (bank_of kind) ++ little_bytes 8 (row_of kind)
 
 -- a parent's number and its delay, 0 where there is none
 abbrev pub parent_number : Option Parent → ℕ
@@ -118,7 +137,7 @@ numbers_of bytes = record {
   finish = little_number 8 (drop 56 bytes);
 }
 
--- the kind of a code, which names no bank and no row
+-- the kind of a code, where it names no bank and no row
 abbrev pub kind_of_code : (code : ℕ) → Option Kind
 kind_of_code code =
     if code == 0 then Some Lookup else if code == 1 then Some Remote else if code == 2 then Some Fill else if code == 3 then Some Read
@@ -126,7 +145,8 @@ kind_of_code code =
 
 -- the kind of a record; a bank and a row that have no meaning are 0
 abbrev pub kind_in : Numbers → Option Kind
-kind_in n = if n.bank == 0 && n.row == 0 then kind_of_code n.kind else None
+kind_in n =
+    if n.kind == 6 then Some (RowRead n.bank n.row) else if n.bank == 0 && n.row == 0 then kind_of_code n.kind else None
 
 -- the bits of the flags; there are no others
 abbrev pub is_critical_in : Numbers → Bool

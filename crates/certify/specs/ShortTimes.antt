@@ -1,7 +1,7 @@
 -- What is asked of components, so that no sum of a check is too large, and how far they serve.
 use Rattle.std.specs.Prelude.{◌<◌, ◌^◌, ℕ, max, nat_lt, if◌then◌else◌, List, All}
 use Rattle.component.specs.declared.comp.Comp.{Comp}
-use Rattle.component.specs.declared.comp.Comp.TheVariants.{Bank as ABank, Controller as AController, Link as ALink}
+use Rattle.component.specs.declared.comp.Comp.TheVariants.{Bank as ABank, Controller as AController, Link as ALink, Rows as ARows}
 use Rattle.component.specs.declared.kind.Kind.{Kind}
 use Rattle.component.specs.ComponentStep.{comp_step, free_of}
 
@@ -10,6 +10,7 @@ abbrev pub longest_time : Comp → ℕ
 longest_time (ABank b) = max (max b.lookup b.remote) (max b.fill b.occupancy)
 longest_time (AController c) = max (max c.read c.write) c.occupancy
 longest_time (ALink l) = max l.hop l.occupancy
+longest_time (ARows r) = max (max r.numbers.conflict r.numbers.write) r.numbers.occupancy
 
 -- each time of each component is below 2^60 cycles
 abbrev pub HaveShortTimes : List Comp → Type 0

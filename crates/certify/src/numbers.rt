@@ -14,6 +14,9 @@ use component::{Comp, Component, Kind};
 /// What a cycle or a delay of a file is below.
 pub(crate) const CYCLES: u64 = 1 << 60;
 
+/// The code of the kind that names a bank and a row.
+const ROW_READ: u8 = 6;
+
 /// The numbers in the 64 bytes of an event.
 #[derive(Clone, Copy)]
 pub(crate) struct Numbers {
@@ -104,11 +107,16 @@ impl Numbers {
         4 <= self.flags
     }
 
-    /// Its kind, if its code is that of one. A bank and a row have no meaning, and are 0.
+    /// Its kind, if its code is that of one. A bank and a row that have no meaning are 0.
     pub(crate) fn kind(&self) -> Option<Kind>
         ensures { result ≡ file.kind_in self.now }
     {
-        if self.bank == 0 && self.row == 0 {
+        if self.kind == ROW_READ {
+            Some(Kind::RowRead {
+                bank: self.bank,
+                row: self.row,
+            })
+        } else if self.bank == 0 && self.row == 0 {
             kind_of(self.kind)
         } else {
             None
@@ -161,7 +169,7 @@ fn is_parent(there: bool, place: u32, number: u32, delay: u64) -> bool
     }
 }
 
-/// The kind of a code.
+/// The kind of a code, where it names no bank and no row.
 fn kind_of(code: u8) -> Option<Kind>
     ensures { result ≡ kind_of_code code }
 {

@@ -10,8 +10,7 @@ use event_graph::{Event, Fired, Parent};
 /// How many bytes an event has.
 pub(crate) const RECORD_LEN: usize = 64;
 
-/// The bytes of an event that fired so. No kind names a bank or a row, so the ten bytes of these
-/// are 0.
+/// The bytes of an event that fired so.
 #[tactic(auto, unfolding(crate::specs::EventsFile::record_bytes))]
 pub(crate) fn record_of(event: &Event, fired: &Fired) -> [u8; RECORD_LEN]
     ensures { result ≡ record_bytes (with_time event.now fired.now) }
@@ -21,6 +20,8 @@ pub(crate) fn record_of(event: &Event, fired: &Fired) -> [u8; RECORD_LEN]
     LittleEndian::write_u16(&mut record[2..], event.core);
     record[4] = code_of(event.kind);
     record[5] = flags_of(event);
+    LittleEndian::write_u16(&mut record[6..], bank_of(event.kind));
+    LittleEndian::write_u64(&mut record[8..], row_of(event.kind));
     LittleEndian::write_u64(&mut record[16..], event.min_start);
     LittleEndian::write_u32(&mut record[24..], number_of(event.first));
     LittleEndian::write_u32(&mut record[28..], number_of(event.second));
@@ -42,6 +43,27 @@ fn code_of(kind: Kind) -> u8
         Kind::Read => 3,
         Kind::Write => 4,
         Kind::Hop => 5,
+        Kind::RowRead { .. } => 6,
+    }
+}
+
+/// The bank that a kind names, 0 where it names none.
+fn bank_of(kind: Kind) -> u16
+    ensures { result ≡ file.bank_of kind }
+{
+    match kind {
+        Kind::RowRead { bank, .. } => bank,
+        _ => 0,
+    }
+}
+
+/// The row that a kind names, 0 where it names none.
+fn row_of(kind: Kind) -> u64
+    ensures { result ≡ file.row_of kind }
+{
+    match kind {
+        Kind::RowRead { row, .. } => row,
+        _ => 0,
     }
 }
 
