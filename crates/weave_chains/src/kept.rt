@@ -33,6 +33,7 @@ impl Kept for Comp {
                 occupancy: link.occupancy,
                 free: link.free,
             }),
+            Comp::Rows(rows) => Comp::Rows(*rows),
         }
     }
 }
