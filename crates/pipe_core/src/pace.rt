@@ -47,7 +47,8 @@ impl Pace {
 
     /// The clock behind an instruction that is counted, in cycles, and the pace goes on from there.
     /// `pc` is its address, `clock` the cycle from which on it can issue, and `taken` says of a
-    /// branch whether it is taken; of others it is not read. An instruction that halts its core by
+    /// branch whether it is taken; of others it is not read. Its registers are below 32, as those of
+    /// every decoded instruction are, and no sum passes 2^62. An instruction that halts its core by
     /// a fault does not issue.
     pub fn issue(&mut self, i: Inst, pc: u64, taken: bool, clock: Cycle) -> Cycle
         requires registers { (i.rd < 32) × (i.rs1 < 32) × (i.rs2 < 32) }

@@ -97,7 +97,7 @@ abbrev pub console_byte : Option InProgress → (reply : ℕ) → Option ℕ
 console_byte None reply = None
 console_byte (Some now) reply = byte_of now.ending reply
 
--- an instruction is counted and costs a cycle, unless the core halted by a fault
+-- how many instructions are counted: one, and none where the core halted by a fault
 abbrev pub cost : Option Why → ℕ
 cost None = 1
 cost (Some (Exit number)) = 1
