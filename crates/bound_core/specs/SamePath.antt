@@ -43,16 +43,17 @@ IsNoEarlier s t = (number : ℕ) (c d : TimedCore) → slice_get s.cores number 
 abbrev pub IsWheneverItStarts : (time : Entry → ℕ) → Type 0
 IsWheneverItStarts time = (e : Entry) → time e ≡ time (whenever e)
 
--- So it is of every machine, whatever an access goes through there.
+-- So it is where there is neither a mesh nor open rows, whatever else an access goes through.
 abbrev pub AccessesTakeAsLongWhenever : Type 0
 AccessesTakeAsLongWhenever = (path : AccessPath) → IsWheneverItStarts (access_time path)
 
--- Whatever cores step, one after the other: machines that differ in their pipelines alone go the same path.
+-- Whatever cores step, one after the other, and however long accesses take: machines that differ in their pipelines alone
+-- go the same path.
 abbrev pub PipelinesChangeTimesAlone : Type 0
-PipelinesChangeTimesAlone = (m : Machine) (pipe : Option Pipe) (image : MemoryImage) (time : Entry → ℕ) (numbers : List ℕ) → IsWheneverItStarts time
+PipelinesChangeTimesAlone = (m : Machine) (pipe : Option Pipe) (image : MemoryImage) (time : Entry → ℕ) (numbers : List ℕ)
     → GoTheSamePath (after_steps time image (at_start m image) numbers) (after_steps time image (at_start (with_pipe pipe m) image) numbers)
 
--- And none is earlier than the one without pipelines.
+-- And where an access takes as long whenever it starts, none is earlier than the one without pipelines.
 abbrev pub PipelinesAreNoFaster : Type 0
 PipelinesAreNoFaster = (m : Machine) (image : MemoryImage) (time : Entry → ℕ) (numbers : List ℕ) → IsWheneverItStarts time
     → IsNoEarlier (after_steps time image (at_start m image) numbers) (after_steps time image (at_start (with_pipe None m) image) numbers)

@@ -217,8 +217,9 @@ pub fn fetches_change_times_and_outcomes_alone()
 
 /// Whatever the order in which cores step, machines that differ in their pipelines alone do the
 /// same by the same steps: registers, consoles, replies, outcomes, memory and cache lists are the
-/// same. And no clock is earlier than without pipelines. Both hold where the time of an access does
-/// not depend on when it starts, which `times` says of every machine.
+/// same. And no clock is earlier than without pipelines, where the time of an access does not
+/// depend on when it starts: `times` says that it does not where there is neither a mesh nor open
+/// rows, and a law of replay says it of every machine.
 pub fn same_path()
     ensures path { PipelinesChangeTimesAlone }
     ensures clocks { PipelinesAreNoFaster }
