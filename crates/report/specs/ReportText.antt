@@ -78,7 +78,7 @@ console_line n console =
 abbrev pub core_lines : (version : ℕ) → ℕ → TimedCore × CoreCount → List ℕ
 core_lines version n (c, count) = core_line version n c count ++ console_line n c.console
 
--- the line of a bank or a controller
+-- the line of a bank, a controller or a link
 unfoldable pub component_line : List ℕ → ℕ → CompCount → List ℕ
 component_line kind n c =
     kind ++ (labelled ((codes " ", n) ∷ (codes " events ", c.events) ∷ (codes " waited ", c.waited) ∷ (codes " free ", c.free) ∷ []) ++ codes "\n")
@@ -109,12 +109,13 @@ abbrev pub summary_of : (version : ℕ) → Counts → List TimedCore → (inter
 summary_of version counts cores intervals =
     summary version (length cores) intervals (all_instructions cores) (greatest_clock cores) counts.accesses counts.events
 
--- what follows the summary: the cores, and of the components first the banks and then the controllers
+-- what follows the summary: the cores, and of the components first the banks, then the controllers, and then the links
 abbrev pub details : Machine → Counts → List TimedCore → List ℕ
 details machine counts cores =
     numbered_lines (core_lines machine.version) 0 (zip cores counts.core_counts)
     ++ numbered_lines (component_line (codes "bank")) 0 (take machine.l2.banks counts.comp_counts)
-    ++ numbered_lines (component_line (codes "controller")) 0 (drop machine.l2.banks counts.comp_counts)
+    ++ numbered_lines (component_line (codes "controller")) 0 (take machine.controllers.count (drop machine.l2.banks counts.comp_counts))
+    ++ numbered_lines (component_line (codes "link")) 0 (drop machine.controllers.count (drop machine.l2.banks counts.comp_counts))
 
 -- the report: the summary, and then the rest, unless it is to be brief
 abbrev pub report_text : Machine → Counts → List TimedCore → (intervals : ℕ) → (brief : Bool) → List ℕ

@@ -1,4 +1,4 @@
-//! The line of each bank and of each controller.
+//! The line of each bank, of each controller and of each link.
 ghost use Rattle.std.specs.Prelude.{◌≡◌, ◌++◌, OnOk, string_bytes};
 ghost use Rattle.report.specs.ReportText.{component_line, numbered_lines};
 

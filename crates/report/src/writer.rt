@@ -37,7 +37,8 @@ pub fn text(
     Ok(Bytes::of(text.into_bytes()))
 }
 
-/// Writes what follows the summary: the lines of the cores, of the banks and of the controllers.
+/// Writes what follows the summary: the lines of the cores, of the banks, of the controllers and of
+/// the links, of which a machine without a mesh has none.
 fn write_details(
     text: &mut String,
     machine: &Machine,
@@ -51,8 +52,10 @@ fn write_details(
         ++ details machine.now counters.now (map (λ c. c.timed) cores.now)) }
 {
     let counts = counters.comp_counts();
-    let (banks, controllers) = counts.split_at(usize::from(machine.l2.banks));
+    let (banks, others) = counts.split_at(usize::from(machine.l2.banks));
+    let (controllers, links) = others.split_at(usize::from(machine.controllers.count));
     write_cores(text, machine.version, machine.cores, cores, counters)?;
     write_components(text, "bank", banks)?;
-    write_components(text, "controller", controllers)
+    write_components(text, "controller", controllers)?;
+    write_components(text, "link", links)
 }

@@ -25,7 +25,7 @@ pub struct CoreCount {
     pub misses: u64,
 }
 
-/// What is counted of a bank or a controller.
+/// What is counted of a bank, a controller or a link.
 #[derive(Clone, Copy, PartialEq, Eq)]
 pub struct CompCount {
     /// How many events it served.
