@@ -92,7 +92,7 @@ module _ (machine : Machine) (image : MemoryImage) (end : ℕ) (cores after : Li
   pub keys : RisingStampsAreDistinct → StampsRise → HaveDistinctKeys last.entries
   keys distinct rise = distinct last.entries (rise (length shards) (length (timed_of cores)) last.entries history.some history.known history.stamped).0
 
-  pub bounded : All (λ e. e.start ≤ 2 ^ 36) last.entries → length last.entries ≤ access_room machine → All (λ c. c.clock ≤ 2 ^ 57) (timed_of after)
+  pub bounded : All (λ e. e.start ≤ 2 ^ 34) last.entries → length last.entries ≤ access_room machine → All (λ c. c.clock ≤ 2 ^ 57) (timed_of after)
       → length after ≡ machine.cores → AreNumbered after → All (IsOver end) (timed_of after)
       → (p q : Simulation) → p.cores.items ≡ cores → shards_in p.memory ≡ was → q.cores.items ≡ after
       → (port : LoggedPortState) → q.memory ≡ memory.Alone port → port.world ≡ last.world
@@ -108,7 +108,7 @@ module _ (machine : Machine) (image : MemoryImage) (end : ℕ) (cores after : Li
         shards_are = ap (λ (m : Memory). map restarted (shards_in m)) memory_is ∙ ap (λ (w : ShardWorld). map restarted w.shards) world_is;
         in_order = sorted;
         cores = subst (All (λ (e : Entry). e.core < machine.cores)) (sym sorted) (all_recorded (λ (e : Entry). e.core < machine.cores) taken known);
-        starts = subst (All (λ (e : Entry). e.start ≤ 2 ^ 36)) (sym sorted) (all_recorded (λ (e : Entry). e.start ≤ 2 ^ 36) taken starts);
+        starts = subst (All (λ (e : Entry). e.start ≤ 2 ^ 34)) (sym sorted) (all_recorded (λ (e : Entry). e.start ≤ 2 ^ 34) taken starts);
         few = omega (arith, ap length sorted, length_recorded taken, few);
         clocks = subst (λ (cs : List NumberedCore). All (λ c. c.clock ≤ 2 ^ 57) (timed_of cs)) (sym after_are) clocks;
         count = ap length after_are ∙ all_after;

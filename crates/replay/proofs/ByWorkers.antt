@@ -1,5 +1,5 @@
 -- The bound phase of an interval by several workers is that of the run.
-use Rattle.std.proofs.Common.{◌≡◌, ℕ, ◌^◌, ◌<◌, ◌≤◌, List, [], ◌∷◌, length, map, All, Option, Some, None, refl, sym, ◌∙◌, ap, subst, arith}
+use Rattle.std.proofs.Common.{◌≡◌, ℕ, ◌*◌, ◌^◌, ◌<◌, ◌≤◌, List, [], ◌∷◌, length, map, All, Option, Some, None, refl, sym, ◌∙◌, ap, subst, arith}
 use Rattle.std.specs.Prelude.{IsNone}
 use Rattle.std.proofs.lemmas.List.{length-map}
 use Rattle.zs_num.specs.declared.entry.Entry.{Entry}
@@ -80,7 +80,7 @@ module _ (machine : Machine) (end : ℕ) (p : Simulation) (room : HasRoomForInte
     early : All (λ c. c.clock ≤ 2 ^ 56) (cores_of p)
     early = all_timed (λ c. c.clock ≤ 2 ^ 56) p.cores.items (λ i c here. (room.ready i c here).clock)
 
-    not_late : HaveEndedInterval machine end p.cores.items cores entries → end ≤ 2 ^ 34 → All (λ c. c.clock ≤ 2 ^ 57) (timed_of cores)
+    not_late : HaveEndedInterval machine end p.cores.items cores entries → end ≤ 10 * 2 ^ 30 → All (λ c. c.clock ≤ 2 ^ 57) (timed_of cores)
     not_late ended small = λ k d below.
         let clock = ended.clocks (2 ^ 56) (omega (arith, small)) early k d below in
         omega (arith, clock)
@@ -89,7 +89,7 @@ module _ (machine : Machine) (end : ℕ) (p : Simulation) (room : HasRoomForInte
     known =
         subst (λ (n : ℕ). All (λ (e : Entry). e.core < n) entries) (length-map p.cores.items (λ (c : NumberedCore). c.timed) ∙ room.count) bound.history.known
 
-    pub bounded : HistoriesArePhases (time_of machine) image end → HaveEndedInterval machine end p.cores.items cores entries → end ≤ 2 ^ 34
+    pub bounded : HistoriesArePhases (time_of machine) image end → HaveEndedInterval machine end p.cores.items cores entries → end ≤ 10 * 2 ^ 30
         → (q : Simulation) → q.cores.items ≡ cores → shards_in q.memory ≡ shards → IsForCores machine.cores q.memory
         → IsBoundPhase machine image end p (map (λ e. e.core) entries) q entries
     bounded phases ended small q cores_now shards_now for_cores = record {

@@ -11,8 +11,10 @@ pub mod OneSchedule
 pub mod PortTurns
 pub mod RecordedOrder
 pub mod Rising
+pub mod Recordings
 pub mod RunCores
 pub mod RunEnds
+pub mod RunEventsFile
 pub mod RunSoFar
 pub mod Room
 pub mod TakingTurns

@@ -180,7 +180,7 @@ module _ (machine : Machine) (end : ℕ) (s : RunState) (p : Simulation) (g : Ha
 
 -- an interval that was run, and what it adds to the sums
 module _ (machine : Machine) (ok : IsMachine machine) (end : ℕ) (s : RunState) (p : Simulation) (g : HasNextInterval machine end s p)
-    (i : Interval) (was_run : WasRun i) (few_events : length i.events ≤ 4 * length i.entries) (few : length i.entries ≤ access_room machine) where
+    (i : Interval) (was_run : WasRun i) (few_events : length i.events ≤ 60 * length i.entries) (few : length i.entries ≤ access_room machine) where
   more_accesses : total_accesses (s.intervals ++ i ∷ []) ≡ total_accesses s.intervals + length i.entries
   more_accesses = sum_by_push (λ (j : Interval). length j.entries) s.intervals i
 
@@ -193,7 +193,7 @@ module _ (machine : Machine) (ok : IsMachine machine) (end : ℕ) (s : RunState)
   pub accesses_stay : total_accesses (s.intervals ++ i ∷ []) ≤ 2 ^ 26
   accesses_stay = omega (arith, more_accesses, left, few)
 
-  pub events_stay : total_events (s.intervals ++ i ∷ []) ≤ 4 * total_accesses (s.intervals ++ i ∷ [])
+  pub events_stay : total_events (s.intervals ++ i ∷ []) ≤ 60 * total_accesses (s.intervals ++ i ∷ [])
   events_stay = omega (arith, more_accesses, more_events, g.come.counted.events, few_events)
 
   pub one_longer : length (s.intervals ++ i ∷ []) ≡ length s.intervals + 1
@@ -291,7 +291,7 @@ module _ (machine : Machine) (image : MemoryImage) (end : ℕ) (s : RunState) (p
 -- after its bound phase, the weave and the feedback, the run is an interval further
 module _ (machine : Machine) (ok : IsMachine machine) (image : MemoryImage) (end : ℕ) (s : RunState) (p q : Simulation) (g : HasNextInterval machine end s p)
     (turns : List ℕ) (entries : List Entry) (b : IsBoundPhase machine image end p turns q entries) (laws : Laws (time_of machine) image end)
-    (i : Interval) (is : i ≡ woven_interval machine s.comps entries) (same : i.entries ≡ entries) (was_run : WasRun i) (few_events : length i.events ≤ 4 * length i.entries)
+    (i : Interval) (is : i ≡ woven_interval machine s.comps entries) (same : i.entries ≡ entries) (was_run : WasRun i) (few_events : length i.events ≤ 60 * length i.entries)
     (are : AreComponents machine (comps_after comp_step i.events s.comps)) where
   few : length i.entries ≤ access_room machine
   few = omega (arith, ap length same, b.few)
@@ -399,6 +399,7 @@ module _ (machine : Machine) (ok : IsMachine machine) (image : MemoryImage) (end
         entries = i.entries;
         recorded = map-append recorded_turns s.intervals (i ∷ []);
         longer = one_longer machine ok end s p g i was_run few_events few;
+        gained = ap (λ (j : Interval). s.intervals ++ j ∷ []) (is ∙ ap (woven_interval machine s.comps) (sym same));
         come = record {
           cores = ap (all_delayed i.delays) cores_are ∙ sym cores;
           count = later_many;

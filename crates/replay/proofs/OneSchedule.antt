@@ -10,7 +10,7 @@ use Rattle.machine_desc.specs.Machine.{IsMachine}
 use Rattle.component.specs.declared.comp.Comp.{Comp}
 use Rattle.component.specs.Components.{AreFresh}
 use Rattle.event_graph.specs.AccessPaths.{path_of}
-use Rattle.event_graph.specs.PlainLaws.{plain_time_at_least_one}
+use Rattle.noc_mesh.specs.NetLaws.{net_time_at_least_one}
 use Rattle.bound_core.specs.MachineWorld.{MachineWorld, serve}
 use Rattle.bound_core.specs.ReferenceMachine.{BoundState, bound_from}
 use Rattle.bound_core.specs.TimedCore.{TimedCore, asks, core_after_access, first_core, ran_to}
@@ -66,7 +66,7 @@ module _ (time : Entry → ℕ) (image : MemoryImage) (end : ℕ) where
   one_list c w es = one_list_by (asks (ran_to image end c)) 0 c w es refl
 
 takes_a_cycle : (machine : Machine) → IsMachine machine → (e : Entry) → 1 ≤ time_of machine e
-takes_a_cycle machine is e = plain_time_at_least_one (path_of machine) (record { l1 = is.l1; l1i = is.l1i; l2 = is.l2; controllers = is.controllers; mesh = is.mesh; dram = is.dram }) e
+takes_a_cycle machine is e = net_time_at_least_one (path_of machine) (record { l1 = is.l1; l1i = is.l1i; l2 = is.l2; controllers = is.controllers; mesh = is.mesh; dram = is.dram }) e
 
 -- ---- the schedule of a run
 

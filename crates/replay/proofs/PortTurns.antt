@@ -1,5 +1,5 @@
 -- The turns of a core through a port to the shards.
-use Rattle.std.proofs.Common.{◌≡◌, ℕ, ◌+◌, ◌-◌, ◌^◌, ◌≤◌, max, min, nat_lt, false, List, [], ◌∷◌, ◌++◌, length, All, Option, Some, None, refl, sym, ◌∙◌, ap, subst, inl, inr, arith, rules}
+use Rattle.std.proofs.Common.{◌≡◌, ℕ, ◌+◌, ◌*◌, ◌-◌, ◌^◌, ◌≤◌, max, min, nat_lt, false, List, [], ◌∷◌, ◌++◌, length, All, Option, Some, None, refl, sym, ◌∙◌, ap, subst, inl, inr, arith, rules}
 use Rattle.std.specs.Prelude.{IsSome, slice_get, slice_set}
 use Rattle.std.proofs.lemmas.Bool.{cases_lt}
 use Rattle.std.proofs.lemmas.List.{append-nil, length-set}
@@ -8,8 +8,8 @@ use Rattle.zs_num.specs.declared.request.Request.{Request}
 use Rattle.elf_load.specs.MemoryImage.{MemoryImage}
 use Rattle.rv_core.specs.CoreState.{CoreState}
 use Rattle.machine_desc.specs.declared.machine.Machine.{Machine}
-use Rattle.event_graph.specs.declared.plain.Plain.{Plain}
-use Rattle.event_graph.specs.PlainTiming.{access_time}
+use Rattle.noc_mesh.specs.declared.net.Net.{Net}
+use Rattle.noc_mesh.specs.NetTiming.{net_time}
 use Rattle.bound_core.specs.Laws.{AnswersAsWorld, moved}
 use Rattle.bound_core.specs.Reaching.{Reaches}
 use Rattle.bound_core.specs.ReferenceMachine.{BoundState}
@@ -22,7 +22,7 @@ use Rattle.bound_core.specs.Turn.{IsOver, RunsToEnd, TurnsToEnd}
 use Rattle.bound_core.proofs.Accesses.{clock_within, latest_small}
 use Rattle.bound_core.proofs.Lists.{set_same}
 use Rattle.bound_core.proofs.Reaching.{by_turns}
-use Rattle.replay.specs.IntervalWeave.{IsPlainOf}
+use Rattle.replay.specs.IntervalWeave.{IsNetOf}
 use Rattle.replay.specs.Port.{LoggedPortState, gives}
 use Rattle.replay.specs.ReferenceRun.{time_of}
 use Rattle.replay.specs.Simulation.{CanRunInterval, HasRunThroughPort}
@@ -86,8 +86,8 @@ module _ {Port : Type 0} (outer : Port → (start : ℕ) → Request → Entry �
   }
 
 -- the times of the expansion are those of the machine
-pub same_times : (machine : Machine) (plain : Plain) → IsPlainOf machine plain → (let times : Entry → ℕ = λ e. access_time plain.path e in times) ≡ time_of machine
-same_times machine plain is = ap (λ path. let times : Entry → ℕ = λ e. access_time path e in times) is
+pub same_times : (machine : Machine) (net : Net) → IsNetOf machine net → (let times : Entry → ℕ = λ e. net_time net.path e in times) ≡ time_of machine
+same_times machine net is = ap (λ path. let times : Entry → ℕ = λ e. net_time path e in times) is
 
 -- ---- a core that waits for nothing
 
@@ -104,8 +104,8 @@ latest_idle end c idle unfetched =
     let none : most_left c.core ≡ 0 = none_left c.core idle unfetched in
     latest_small end c (omega (arith, none))
 
-starts_small : (end : ℕ) (c : TimedCore) (entries : List Entry) → c.core.instruction ≡ None → c.core.is_fetched ≡ false → end ≤ 2 ^ 34 → All (λ e. e.start ≤ latest_clock end c) entries → length entries ≤ most_accesses end c
-    → All (λ e. e.start ≤ 2 ^ 36) entries
+starts_small : (end : ℕ) (c : TimedCore) (entries : List Entry) → c.core.instruction ≡ None → c.core.is_fetched ≡ false → end ≤ 10 * 2 ^ 30 → All (λ e. e.start ≤ latest_clock end c) entries → length entries ≤ most_accesses end c
+    → All (λ e. e.start ≤ 2 ^ 34) entries
 starts_small end c entries idle unfetched small starts few = λ k d below.
     elim (cases_lt c.clock end) [
       | inl early ↦ omega (arith, starts k d below, latest_idle end c idle unfetched, early, small)
@@ -146,7 +146,7 @@ module _ (machine : Machine) (image : MemoryImage) (end : ℕ) (core : NumberedC
     room = omega arith;
   }
 
-  pub ran_to_end : end ≤ 2 ^ 34 → core.timed.core.halted ≡ None → (chosen last : LoggedPortState) (after : NumberedCore) → chosen.world ≡ port.world → chosen.entries ≡ port.entries → chosen.room ≡ port.room
+  pub ran_to_end : end ≤ 10 * 2 ^ 30 → core.timed.core.halted ≡ None → (chosen last : LoggedPortState) (after : NumberedCore) → chosen.world ≡ port.world → chosen.entries ≡ port.entries → chosen.room ≡ port.room
       → RunsToEnd (time_of machine) image end gives logged core.number chosen last core.timed after.timed
       → IsOver end after.timed → latest_clock end after.timed ≤ latest_clock end core.timed → after.number ≡ core.number
       → most_accesses end core.timed ≤ end - core.timed.clock + 257

@@ -55,7 +55,7 @@ pub none_ran : (machine : Machine) (image : MemoryImage) (end : ℕ) (cores : Li
 none_ran machine image end cores port numbered none = record {
   reaches = subst (λ (entries : List Entry). Reaches shards_serve (time_of machine) image end (phase_of cores port) (map (λ (e : Entry). e.core) entries) (phase_of cores port)) (sym none)
       (at_itself shards_serve (time_of machine) image end (phase_of cores port));
-  starts = subst (All (λ (e : Entry). e.start ≤ 2 ^ 36)) (sym none) (λ k d below. absurd (omega (arith, below)));
+  starts = subst (All (λ (e : Entry). e.start ≤ 2 ^ 34)) (sym none) (λ k d below. absurd (omega (arith, below)));
   few = omega (arith, ap length none);
   count = refl;
   numbered = numbered;
@@ -103,7 +103,7 @@ module _ (machine : Machine) (image : MemoryImage) (end ran : ℕ) (cores now : 
   pub one_more : HaveRunThroughPort machine image end (ran + 1) cores after port port_after
   one_more = record {
     reaches = reached;
-    starts = subst (All (λ (e : Entry). e.start ≤ 2 ^ 36)) (sym all_entries) (All-append (λ (e : Entry). e.start ≤ 2 ^ 36) port_now.entries r.entries h.starts r.starts);
+    starts = subst (All (λ (e : Entry). e.start ≤ 2 ^ 34)) (sym all_entries) (All-append (λ (e : Entry). e.start ≤ 2 ^ 34) port_now.entries r.entries h.starts r.starts);
     few = omega (arith, ap length all_entries, length-append port_now.entries r.entries, h.few, r.few, more_room ran (core_room machine));
     count = length-set now ran core_after ∙ h.count;
     numbered = λ i c found. set_cases now ran i core core_after c here found (λ x. x.number ≡ i) (λ same. r.number ∙ own_number ∙ sym same) (λ apart was. h.numbered i c was);

@@ -11,7 +11,7 @@ use Rattle.replay.specs.ReferenceRun.{RunState, have_halted, run_results}
 use Rattle.replay.specs.Results.{HasCounts, Results}
 use Rattle.replay.proofs.Cores.{numbers_are}
 use Rattle.replay.proofs.NextInterval.{counts_come}
-use Rattle.replay.proofs.RunSoFar.{accesses_are}
+use Rattle.replay.proofs.RunSoFar.{accesses_are, events_are}
 
 module _ (machine : Machine) (s : RunState) (p : Simulation) (come : StandsFor machine s p) where
   numbers : map (λ (c : NumberedCore). c.number) p.cores.items ≡ range_with_len 0 machine.cores
@@ -38,4 +38,5 @@ module _ (machine : Machine) (s : RunState) (p : Simulation) (come : StandsFor m
         core_counts = ap (λ (c : Counts). length c.core_counts) counts ∙ there.0;
         comp_counts = ap (λ (c : Counts). length c.comp_counts) counts ∙ there.1;
         accesses = omega (arith, ap (λ (c : Counts). c.accesses) counts, accesses_are machine s p come, come.counted.accesses);
+        events = omega (arith, ap (λ (c : Counts). c.events) counts, events_are machine s p come, come.counted.events, come.counted.accesses);
       }

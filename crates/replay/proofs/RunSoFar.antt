@@ -1,11 +1,11 @@
 -- A run from its start up to now.
-use Rattle.std.proofs.Common.{◌≡◌, ◌≢◌, ◌<◌, ◌≤◌, ℕ, ◌+◌, ◌*◌, List, [], ◌∷◌, ◌++◌, length, map, Bool, true, false, if◌then◌else◌, Result, Ok, Err, refl, sym, ◌∙◌, ap, arith}
+use Rattle.std.proofs.Common.{◌≡◌, ◌≢◌, ◌<◌, ◌≤◌, ℕ, ◌+◌, ◌*◌, List, [], ◌∷◌, ◌++◌, length, map, Bool, true, false, if◌then◌else◌, Result, Ok, Err, refl, sym, ◌∙◌, ap, subst, arith}
 use Rattle.std.proofs.lemmas.List.{length-append}
 use Rattle.elf_load.specs.MemoryImage.{MemoryImage}
 use Rattle.machine_desc.specs.declared.machine.Machine.{Machine}
 use Rattle.component.specs.declared.comp.Comp.{Comp}
 use Rattle.component.specs.Components.{AreFresh}
-use Rattle.stats.specs.Counts.{Counts, Interval, counts_of, total_accesses}
+use Rattle.stats.specs.Counts.{Counts, Interval, counts_of, total_accesses, total_events}
 use Rattle.replay.specs.declared.simulation.Simulation.{Simulation}
 use Rattle.bound_core.specs.TimedCore.{TimedCore}
 use Rattle.replay.specs.Simulation.{HasNextInterval, LeadsTo, StandsFor, cores_of}
@@ -25,9 +25,16 @@ pub counted_accesses : (cores : ℕ) (comps : List Comp) (intervals : List Inter
 unfolding counts_of
 counted_accesses cores comps intervals = refl
 
--- the accesses that the code has counted
+counted_events : (cores : ℕ) (comps : List Comp) (intervals : List Interval) → (counts_of cores comps intervals).events ≡ total_events intervals
+unfolding counts_of
+counted_events cores comps intervals = refl
+
+-- the accesses and the events that the code has counted
 pub accesses_are : (machine : Machine) (s : RunState) (p : Simulation) → StandsFor machine s p → p.counters.accesses ≡ total_accesses s.intervals
 accesses_are machine s p come = ap (λ (c : Counts). c.accesses) come.counters ∙ counted_accesses machine.cores s.comps s.intervals
+
+pub events_are : (machine : Machine) (s : RunState) (p : Simulation) → StandsFor machine s p → p.counters.events ≡ total_events s.intervals
+events_are machine s p come = ap (λ (c : Counts). c.events) come.counters ∙ counted_events machine.cores s.comps s.intervals
 
 -- whether the run has ended, by what the code has
 pub same_ending : (machine : Machine) (s : RunState) (p : Simulation) → StandsFor machine s p → (k : ℕ) → length s.intervals ≡ k
@@ -90,7 +97,7 @@ pub record HasRunInOrder (machine : Machine) (image : MemoryImage) (lists : List
   pub in_order : lists ≡ map recorded_turns run.state.intervals
 
 -- where the turns of one more interval are those of its accesses in recorded order
-pub further_in_order : (machine : Machine) (image : MemoryImage) (lists : List (List ℕ)) (p q : Simulation) (h : HasRunInOrder machine image lists p) (turns : List ℕ)
+abbrev pub further_in_order : (machine : Machine) (image : MemoryImage) (lists : List (List ℕ)) (p q : Simulation) (h : HasRunInOrder machine image lists p) (turns : List ℕ)
     → has_ended machine h.run.state ≡ false → (leads : LeadsTo machine image h.run.state turns q) → turns ≡ map (λ e. e.core) leads.entries
     → HasRunInOrder machine image (lists ++ turns ∷ []) q
 further_in_order machine image lists p q h turns on leads same = record {
@@ -99,6 +106,20 @@ further_in_order machine image lists p q h turns on leads same = record {
       ap (λ (all : List (List ℕ)). all ++ turns ∷ []) h.in_order
       ∙ ap (λ (one : List ℕ). map recorded_turns h.run.state.intervals ++ one ∷ []) same
       ∙ sym leads.recorded;
+}
+
+-- the same of a schedule that is equal
+abbrev pub ran_so : (machine : Machine) (image : MemoryImage) (lists others : List (List ℕ)) (p : Simulation) → lists ≡ others → HasRunInOrder machine image lists p → HasRunInOrder machine image others p
+ran_so machine image lists others p same h = record {
+  run = record {
+    comps = h.run.comps;
+    fresh = h.run.fresh;
+    state = h.run.state;
+    reached = subst (λ (all : List (List ℕ)). after_intervals machine image (first_state machine image h.run.comps) all ≡ Ok h.run.state) same h.run.reached;
+    as_long = h.run.as_long ∙ ap length same;
+    come = h.run.come;
+  };
+  in_order = sym same ∙ h.in_order;
 }
 
 -- what the run gives where it ends

@@ -1,5 +1,5 @@
 -- Turns of an interval, one after the other.
-use Rattle.std.proofs.Common.{◌≡◌, ℕ, ◌+◌, ◌-◌, ◌^◌, ◌<◌, ◌≤◌, drop, min, get_or, take, Bool, true, false, Err, List, [], ◌∷◌, ◌++◌, length, Option, Some, None, All, refl, sym, ◌∙◌, ap, subst, inl, inr, arith}
+use Rattle.std.proofs.Common.{◌≡◌, ℕ, ◌+◌, ◌*◌, ◌-◌, ◌^◌, ◌<◌, ◌≤◌, drop, min, get_or, take, Bool, true, false, Err, List, [], ◌∷◌, ◌++◌, length, Option, Some, None, All, refl, sym, ◌∙◌, ap, subst, inl, inr, arith}
 use Rattle.std.specs.Prelude.{IsSome, is_none, is_some, slice_get, slice_set}
 use Rattle.std.proofs.lemmas.List.{append-nil, drop_more, length-append, length-set, length-take-le, map-set, take-append-drop}
 use Rattle.std.proofs.lemmas.List.Elements.{All-push}
@@ -136,14 +136,14 @@ module _ (time : Entry → ℕ) (image : MemoryImage) (end most : ℕ) (first : 
     stamps_stay =
         ap (λ (answer : Entry × ShardWorld). length answer.1.stamps) t.turn.given ∙ served_stamps chosen.world chosen.core _ t.turn.request ∙ ap (λ (w : ShardWorld). length w.stamps) world_is
 
-    pub one_taken : end ≤ 2 ^ 34 → HaveTaken time image end most first (turns ++ number ∷ []) cores_after port_after
+    pub one_taken : end ≤ 10 * 2 ^ 30 → HaveTaken time image end most first (turns ++ number ∷ []) cores_after port_after
     one_taken small =
         let longer : length port_after.entries ≡ length port.entries + 1 = omega (arith, ap length gained, length-append port.entries (e ∷ [])) in
         let sum = sum_by-set (λ (n : ℕ). n) h.left number (own_left - 1) 0 left_below in
         let chosen_room : min (room_of chosen.world) chosen.room ≡ min (room_of port.world) port.room =
         ap (λ (w : ShardWorld). min (room_of w) chosen.room) world_is ∙ ap (min (room_of port.world)) room_is
         in
-        let start : e.start ≤ 2 ^ 36 = omega (arith, t.start, clock_within end core.timed, near.1, small) in
+        let start : e.start ≤ 2 ^ 34 = omega (arith, t.start, clock_within end core.timed, near.1, small) in
         record {
           reaches = reached;
           left = left_after;
@@ -153,7 +153,7 @@ module _ (time : Entry → ℕ) (image : MemoryImage) (end most : ℕ) (first : 
           room = omega (arith, longer, h.room, t.room, chosen_room);
           numbered = all_numbered t.number;
           stamps = stamps_stay ∙ h.stamps ∙ sym (length-set cores number after);
-          starts = subst (All (λ (x : Entry). x.start ≤ 2 ^ 36)) (sym gained) (All-push (λ (x : Entry). x.start ≤ 2 ^ 36) port.entries e h.starts start);
+          starts = subst (All (λ (x : Entry). x.start ≤ 2 ^ 34)) (sym gained) (All-push (λ (x : Entry). x.start ≤ 2 ^ 34) port.entries e h.starts start);
         }
 
   -- ---- it ended its interval
@@ -198,7 +198,7 @@ module _ (time : Entry → ℕ) (image : MemoryImage) (end most : ℕ) (first : 
         room = omega (arith, ap length entries_same, h.room, room);
         numbered = all_numbered t.number;
         stamps = ap (λ (w : ShardWorld). length w.stamps) world_same ∙ h.stamps ∙ sym (length-set cores number after);
-        starts = subst (All (λ (x : Entry). x.start ≤ 2 ^ 36)) (sym entries_same) h.starts;
+        starts = subst (All (λ (x : Entry). x.start ≤ 2 ^ 34)) (sym entries_same) h.starts;
       }
 
 -- ---- a place that is not legal

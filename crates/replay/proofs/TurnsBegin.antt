@@ -44,7 +44,7 @@ few_by machine end base size l1i c ready None is =
       | inr late ↦ inl (record { idle = ready.idle; over = inr (ready.unfetched, late) })
     ]
 
-ready_goes : (machine : Machine) (end base size : ℕ) (l1i : Bool) (c : NumberedCore) → end ≤ 2 ^ 34 → CanRunInterval machine end base size l1i c.timed → machine.interval + beside_cycles ≤ c.spare
+ready_goes : (machine : Machine) (end base size : ℕ) (l1i : Bool) (c : NumberedCore) → end ≤ 10 * 2 ^ 30 → CanRunInterval machine end base size l1i c.timed → machine.interval + beside_cycles ≤ c.spare
     → IsOnItsWay end base size l1i (core_most machine) c
 ready_goes machine end base size l1i c small ready spare = record {
   few = few_by machine end base size l1i c.timed ready c.timed.core.halted refl;
@@ -55,7 +55,7 @@ ready_goes machine end base size l1i c small ready spare = record {
   fetches = ready.fetches;
 }
 
-pub turns_begin : (time : Entry → ℕ) (machine : Machine) (image : MemoryImage) (end : ℕ) (cores : List NumberedCore) (port : LoggedPortState) → IsMachine machine → end ≤ 2 ^ 34
+pub turns_begin : (time : Entry → ℕ) (machine : Machine) (image : MemoryImage) (end : ℕ) (cores : List NumberedCore) (port : LoggedPortState) → IsMachine machine → end ≤ 10 * 2 ^ 30
     → ((i : ℕ) (c : NumberedCore) → slice_get cores i ≡ Some c → CanRunInterval machine end (base_of port.world) (size_of port.world) (l1i_of port.world) c.timed)
     → ((i : ℕ) (c : NumberedCore) → slice_get cores i ≡ Some c → machine.interval + beside_cycles ≤ c.spare)
     → length cores ≡ machine.cores → AreNumbered cores → length port.world.stamps ≡ machine.cores → port.entries ≡ [] → access_room machine ≤ min (room_of port.world) port.room
@@ -77,5 +77,5 @@ turns_begin time machine image end cores port is small ready spare count numbere
       room = omega (arith, room, is.cores.0, ap length none);
       numbered = numbered;
       stamps = stamps ∙ sym count;
-      starts = subst (All (λ (e : Entry). e.start ≤ 2 ^ 36)) (sym none) (λ k d below. absurd (omega (arith, below)));
+      starts = subst (All (λ (e : Entry). e.start ≤ 2 ^ 34)) (sym none) (λ k d below. absurd (omega (arith, below)));
     }

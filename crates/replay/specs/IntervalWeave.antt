@@ -11,31 +11,31 @@ use Rattle.component.specs.Serving.{comp_latency, comp_serves}
 use Rattle.component.specs.Components.{AreComponents}
 use Rattle.event_graph.specs.declared.event.Event.{Event}
 use Rattle.event_graph.specs.declared.fired.Fired.{Fired}
-use Rattle.event_graph.specs.declared.plain.Plain.{Plain}
+use Rattle.noc_mesh.specs.declared.net.Net.{Net}
 use Rattle.event_graph.specs.AccessPaths.{path_of}
 use Rattle.event_graph.specs.EventGraph.{all_events}
 use Rattle.event_graph.specs.Fits.{GraphFits}
 use Rattle.event_graph.specs.Numbered.{IsNumbered}
 use Rattle.event_graph.specs.OneListWeave.{comps_after, fired_of, woven}
 use Rattle.event_graph.specs.SmallSteps.{AreSmallSteps}
-use Rattle.event_graph.specs.PlainTiming.{pieces_of}
+use Rattle.noc_mesh.specs.NetTiming.{net_pieces}
 use Rattle.event_graph.specs.Timely.{AreTimely}
 use Rattle.stats.specs.Counts.{Interval}
 use Rattle.replay.specs.declared.weaving.WovenInterval.{WovenInterval}
 use Rattle.replay.specs.ReferenceRun.{woven_interval}
 
 -- the expansion of this machine
-abbrev pub IsPlainOf : Machine → Plain → Type 0
-IsPlainOf machine plain = plain.path ≡ path_of machine
+abbrev pub IsNetOf : Machine → Net → Type 0
+IsNetOf machine net = net.path ≡ path_of machine
 
 -- the events of these accesses, and what the weave asks of them
 pub record AreEventsOf (machine : Machine) (comps : List Comp) (entries : List Entry) (graph : List Event) : Type 0 where
-  pub are : graph ≡ all_events (pieces_of (path_of machine)) entries
+  pub are : graph ≡ all_events (net_pieces (path_of machine)) entries
   pub numbered : IsNumbered graph
   pub fits : GraphFits comp_serves comp_latency graph comps
   pub small : AreSmallSteps comp_step comp_greatest graph comps
   pub cores : All (λ e. e.core < machine.cores) graph
-  pub few : length graph ≤ 4 * length entries
+  pub few : length graph ≤ 60 * length entries
 
 -- these events have fired from these components on, which moves them on
 pub record HaveFired (machine : Machine) (comps : List Comp) (entries : List Entry) (graph : List Event) (fired : List Fired) (after : List Comp) : Type 0 where
@@ -55,4 +55,4 @@ pub record IsWeaveOf (machine : Machine) (comps : List Comp) (entries : List Ent
   pub delays : length w.delays ≡ machine.cores
   pub delays_small : All (λ d. d ≤ 2 ^ 62) w.delays
   pub there : All (λ e. e.component < component_count machine) w.graph
-  pub few : length w.graph ≤ 4 * length entries
+  pub few : length w.graph ≤ 60 * length entries

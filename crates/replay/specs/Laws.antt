@@ -3,9 +3,11 @@ use Rattle.std.specs.Prelude.{◌≡◌, ◌⊎◌, ◌<◌, ◌≤◌, ℕ, Lis
 use Rattle.elf_load.specs.MemoryImage.{MemoryImage}
 use Rattle.machine_desc.specs.declared.machine.Machine.{Machine}
 use Rattle.machine_desc.specs.Machine.{IsMachine}
-use Rattle.replay.specs.ReferenceRun.{IsRunOf}
+use Rattle.bound_core.specs.SamePath.{IsWheneverItStarts}
+use Rattle.replay.specs.ReferenceRun.{IsRunOf, time_of}
 use Rattle.replay.specs.Replay.{Replays}
 use Rattle.replay.specs.Results.{Results}
+use Rattle.replay.specs.RunEvents.{IsEventsFileOf}
 use Rattle.replay.specs.declared.replay_fail.ReplayFail.{ReplayFail}
 use Rattle.replay.specs.declared.replay_fail.ReplayFail.TheVariants.{NoMemory}
 
@@ -38,3 +40,17 @@ pub record FitsRun (machine : Machine) (lists : List (List ℕ)) (results : Resu
 
 abbrev pub LegalSchedulesFit : Type 0
 LegalSchedulesFit = (machine : Machine) (image : MemoryImage) (lists : List (List ℕ)) (results : Results) → IsRunOf machine image lists results → FitsRun machine lists results
+
+-- The run of an image under a schedule has an events file.
+abbrev pub RunsHaveAnEventsFile : Type 0
+RunsHaveAnEventsFile = (machine : Machine) (image : MemoryImage) (lists : List (List ℕ)) (results : Results) → IsRunOf machine image lists results
+    → (bytes : List ℕ) × IsEventsFileOf machine image lists bytes
+
+-- It has one.
+abbrev pub EventsFilesAreOne : Type 0
+EventsFilesAreOne = (machine : Machine) (image : MemoryImage) (lists : List (List ℕ)) (first second : List ℕ)
+    → IsEventsFileOf machine image lists first → IsEventsFileOf machine image lists second → first ≡ second
+
+-- How long an access of a run takes does not depend on when it starts.
+abbrev pub AccessesTakeAsLongWhenever : Type 0
+AccessesTakeAsLongWhenever = (machine : Machine) → IsWheneverItStarts (time_of machine)

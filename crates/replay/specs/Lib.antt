@@ -5,6 +5,8 @@ pub mod Port
 pub mod ReferenceRun
 pub mod Replay
 pub mod IntervalWeave
+pub mod RunEvents
+pub mod Recording
 pub mod Simulation
 pub mod Turns
 pub mod Laws

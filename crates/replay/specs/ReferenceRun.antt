@@ -11,7 +11,7 @@ use Rattle.component.specs.Components.{AreFresh}
 use Rattle.event_graph.specs.EventGraph.{all_events}
 use Rattle.event_graph.specs.OneListWeave.{comps_after, fired_of, woven}
 use Rattle.event_graph.specs.AccessPaths.{path_of}
-use Rattle.event_graph.specs.PlainTiming.{access_time, pieces_of}
+use Rattle.noc_mesh.specs.NetTiming.{net_pieces, net_time}
 use Rattle.feedback.specs.FeedbackDelay.{feedback_delays}
 use Rattle.stats.specs.Counts.{Interval, counts_of, total_accesses}
 use Rattle.replay.specs.Limits.{access_limit, cycle_limit}
@@ -30,20 +30,20 @@ pub record RunState : Type 0 where
   pub memory : MemoryState
   -- the cache lists of the whole machine
   pub caches : Caches
-  -- the banks and controllers, in order of their numbers
+  -- the banks, the controllers and the links, in order of their numbers
   pub comps : List Comp
   -- the intervals that were run
   pub intervals : List Interval
 
 -- the time of an access where nothing else runs, by what it asked and how it was met
 abbrev pub time_of : Machine → Entry → ℕ
-time_of machine e = access_time (path_of machine) e
+time_of machine e = net_time (path_of machine) e
 
 -- An interval as it is recorded, from the components before it and its accesses: the events of these, the one-list
 -- weave of the events, and the delay of each core.
 unfoldable pub woven_interval : Machine → List Comp → List Entry → Interval
 woven_interval machine comps entries =
-    let events = all_events (pieces_of (path_of machine)) entries in
+    let events = all_events (net_pieces (path_of machine)) entries in
     let fired = map fired_of (woven comp_step events comps) in
     record { entries = entries; events = events; fired = fired; delays = feedback_delays events fired machine.cores }
 

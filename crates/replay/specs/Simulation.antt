@@ -27,7 +27,7 @@ use Rattle.replay.specs.declared.simulation.Simulation.{Simulation}
 use Rattle.replay.specs.IntervalWeave.{HaveFired}
 use Rattle.replay.specs.Memory.{IsForCores, shards_in}
 use Rattle.replay.specs.Port.{LoggedPortState}
-use Rattle.replay.specs.ReferenceRun.{RunState, access_room, after_interval, end_of, first_state, has_ended, recorded_turns, time_of, world_of}
+use Rattle.replay.specs.ReferenceRun.{RunState, access_room, after_interval, end_of, first_state, has_ended, recorded_turns, time_of, world_of, woven_interval}
 
 -- ---- cores and shards
 
@@ -50,7 +50,7 @@ pub record IsCounted (machine : Machine) (s : RunState) : Type 0 where
   pub components : AreComponents machine s.comps
   pub within : length s.intervals ≤ machine.intervals
   pub accesses : total_accesses s.intervals ≤ 2 ^ 26
-  pub events : total_events s.intervals ≤ 4 * total_accesses s.intervals
+  pub events : total_events s.intervals ≤ 60 * total_accesses s.intervals
   pub were_run : All WasRun s.intervals
 
 -- The code has come to this point of a run. Its cores have come to the end of the last interval.
@@ -107,7 +107,7 @@ pub record HasRunThroughPort (machine : Machine) (image : MemoryImage) (end : �
   pub leads : (s t : BoundState ShardWorld) (numbers : List ℕ) → Reaches shards_serve (time_of machine) image end s numbers t
       → slice_get t.cores core.number ≡ Some core.timed → t.world ≡ port.world
       → Reaches shards_serve (time_of machine) image end s (numbers ++ map (λ e. e.core) entries) (moved t core.number core_after.timed port_after.world entries)
-  pub starts : All (λ e. e.start ≤ 2 ^ 36) entries
+  pub starts : All (λ e. e.start ≤ 2 ^ 34) entries
   pub few : length entries ≤ core_room machine
   pub over : IsOver end core_after.timed
   pub clock : core_after.timed.clock ≤ 2 ^ 57
@@ -121,7 +121,7 @@ pub record HasRunThroughPort (machine : Machine) (image : MemoryImage) (end : �
 -- So many of the cores ran to the end of the interval, one after the other, through a port without an access.
 pub record HaveRunThroughPort (machine : Machine) (image : MemoryImage) (end ran : ℕ) (cores cores_after : List NumberedCore) (port port_after : LoggedPortState) : Type 0 where
   pub reaches : Reaches shards_serve (time_of machine) image end (phase_of cores port) (map (λ e. e.core) port_after.entries) (phase_of cores_after port_after)
-  pub starts : All (λ e. e.start ≤ 2 ^ 36) port_after.entries
+  pub starts : All (λ e. e.start ≤ 2 ^ 34) port_after.entries
   pub few : length port_after.entries ≤ ran * core_room machine
   pub count : length cores_after ≡ length cores
   pub numbered : AreNumbered cores_after
@@ -157,7 +157,7 @@ pub record IsBoundPhase (machine : Machine) (image : MemoryImage) (end : ℕ) (b
   pub shards_are : map restarted (shards_in after.memory) ≡ map restarted left.world.shards
   pub in_order : entries ≡ recorded_order left.entries
   pub cores : All (λ e. e.core < machine.cores) entries
-  pub starts : All (λ e. e.start ≤ 2 ^ 36) entries
+  pub starts : All (λ e. e.start ≤ 2 ^ 34) entries
   pub few : length entries ≤ access_room machine
   pub clocks : All (λ c. c.clock ≤ 2 ^ 57) (cores_of after)
   pub count : length after.cores.items ≡ machine.cores
@@ -193,4 +193,6 @@ pub record LeadsTo (machine : Machine) (image : MemoryImage) (s : RunState) (tur
   pub entries : List Entry
   pub recorded : map recorded_turns state.intervals ≡ map recorded_turns s.intervals ++ map (λ e. e.core) entries ∷ []
   pub longer : length state.intervals ≡ length s.intervals + 1
+  -- the interval is the weave of these
+  pub gained : state.intervals ≡ s.intervals ++ woven_interval machine s.comps entries ∷ []
   pub come : StandsFor machine state p

@@ -3,8 +3,8 @@ use Rattle.std.specs.Prelude.{◌≡◌, ◌⊎◌, ℕ, ◌+◌, ◌^◌, ◌<�
 use Rattle.zs_num.specs.declared.entry.Entry.{Entry}
 use Rattle.elf_load.specs.MemoryImage.{MemoryImage}
 use Rattle.machine_desc.specs.declared.machine.Machine.{Machine}
-use Rattle.event_graph.specs.declared.plain.Plain.{Plain}
-use Rattle.event_graph.specs.PlainTiming.{access_time}
+use Rattle.noc_mesh.specs.declared.net.Net.{Net}
+use Rattle.noc_mesh.specs.NetTiming.{net_time}
 use Rattle.bound_core.specs.Reaching.{Reaches}
 use Rattle.bound_core.specs.ReferenceMachine.{BoundState, bound_phase}
 use Rattle.bound_core.specs.ShardPort.{base_of, l1i_of, room_of, size_of}
@@ -17,8 +17,8 @@ use Rattle.replay.specs.ReferenceRun.{access_room, time_of}
 use Rattle.replay.specs.Simulation.{AreNumbered, phase_of}
 
 -- the time of an access by an expansion
-abbrev pub time_by_plain : Plain → Entry → ℕ
-time_by_plain plain e = access_time plain.path e
+abbrev pub time_by_net : Net → Entry → ℕ
+time_by_net net e = net_time net.path e
 
 -- A core on its way through an interval, with this memory, and with instruction caches or none: it is over, or it has at
 -- most so many accesses left, and none of them is late.
@@ -41,7 +41,7 @@ pub record HaveTaken (time : Entry → ℕ) (image : MemoryImage) (end most : �
   pub room : most < min (room_of port.world) port.room + length port.entries
   pub numbered : AreNumbered cores
   pub stamps : length port.world.stamps ≡ length cores
-  pub starts : All (λ e. e.start ≤ 2 ^ 36) port.entries
+  pub starts : All (λ e. e.start ≤ 2 ^ 34) port.entries
 
 -- ---- one turn
 
@@ -81,7 +81,7 @@ pub record TakesNone (image : MemoryImage) (end : ℕ) (port port_after : Logged
 -- What the turns of a list leave of cores and port, where the list is legal.
 pub record HaveTurned (machine : Machine) (image : MemoryImage) (end : ℕ) (turns : List ℕ) (cores after : List NumberedCore) (port last : LoggedPortState) : Type 0 where
   pub phase : bound_phase shards_serve (time_of machine) image end turns (phase_of cores port) ≡ Ok (phase_of after last)
-  pub starts : All (λ e. e.start ≤ 2 ^ 36) last.entries
+  pub starts : All (λ e. e.start ≤ 2 ^ 34) last.entries
   pub few : length last.entries ≤ access_room machine
   pub clocks : All (λ c. c.clock ≤ 2 ^ 57) (timed_of after)
   pub over : All (IsOver end) (timed_of after)

@@ -1,5 +1,5 @@
 //! Laws over the definitions alone, each the contract of a function that does nothing.
-ghost use Rattle.replay.specs.Laws.{LegalSchedulesFit, OneCoreHasASchedule, OneCoreHasNoOtherSchedule, ReplaysGiveTheSame, ResultsAreOne};
+ghost use Rattle.replay.specs.Laws.{AccessesTakeAsLongWhenever, EventsFilesAreOne, LegalSchedulesFit, OneCoreHasASchedule, OneCoreHasNoOtherSchedule, ReplaysGiveTheSame, ResultsAreOne, RunsHaveAnEventsFile};
 
 use component::laws::{fresh_components_are_one, fresh_components_are_there};
 
@@ -33,3 +33,19 @@ pub fn one_core_has_one_schedule()
 pub fn legal_schedules_fit()
     ensures { LegalSchedulesFit }
 {}
+
+/// A run under a schedule has one events file.
+pub fn each_run_has_one_events_file()
+    ensures there { RunsHaveAnEventsFile }
+    ensures one { EventsFilesAreOne }
+{
+    fresh_components_are_one();
+}
+
+/// How long an access of a run takes does not depend on when it starts, with a mesh and open rows or
+/// without. So what `same_path` of bound_core says of pipelines holds of every machine.
+pub fn accesses_take_as_long_whenever()
+    ensures { AccessesTakeAsLongWhenever }
+{
+    noc_mesh::laws::events_are_of_lines_and_outcomes();
+}

@@ -11,6 +11,7 @@ mod list_gate;
 mod logged_port;
 mod memory;
 mod own_program;
+mod recording;
 mod replay_fail;
 mod replaying;
 mod results;
@@ -19,6 +20,7 @@ mod simulation;
 mod turns;
 mod weaving;
 
+pub use recording::Recording;
 pub use replay_fail::ReplayFail;
 pub use replaying::replay;
 pub use results::Final;

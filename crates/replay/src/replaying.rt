@@ -11,8 +11,8 @@ use crate::simulation::Simulation;
 use crate::{Final, ReplayFail};
 use access_log::Schedule;
 use elf_load::Image;
-use event_graph::Plain;
 use machine_desc::Machine;
+use noc_mesh::Net;
 use rv_core::DecodedProgram;
 use std::alloc::Global;
 
@@ -53,7 +53,7 @@ fn replay_on(
     ensures counted { IfOk result (HasCounts machine.now) }
     ensures numbered { IfOk result (λ r. r.numbers ≡ range_with_len 0 machine.now.cores) }
 {
-    let plain = Plain::of(machine);
+    let net = Net::of(machine);
     let mut list = Vec::new(alloc);
     let lists = schedule.intervals();
     let mut k = 0;
@@ -67,7 +67,7 @@ fn replay_on(
         }
         end += machine.interval;
         let turns = schedule.list(k);
-        list = simulation.interval_under(alloc, machine, program, &plain, end, k, turns, list)?;
+        list = simulation.interval_under(alloc, machine, program, &net, end, k, turns, list)?;
         k += 1;
     }
     if k < lists {

@@ -2,19 +2,20 @@
 ghost use Rattle.std.specs.Prelude.{◌≡◌, ◌≤◌, [], IfOk};
 ghost use Rattle.std.specs.List.{range_with_len};
 ghost use Rattle.machine_desc.specs.Machine.{IsMachine};
+ghost use Rattle.replay.specs.Recording.{IsRecordedRun, IsRecordingOf, is_on};
 ghost use Rattle.replay.specs.ReferenceRun.{IsKeptInOrder, IsRunOf};
 ghost use Rattle.replay.specs.Results.{HasCounts};
 ghost use Rattle.replay.specs.Simulation.{IsAtStart};
 
-use crate::Final;
 use crate::simulation::Simulation;
+use crate::{Final, Recording};
 use access_log::Schedule;
 use bound_phase::PhaseBuffers;
 use component::laws::fresh_components_are_there;
 use domain_map::component_domains;
 use elf_load::Image;
-use event_graph::Plain;
 use machine_desc::Machine;
+use noc_mesh::Net;
 use rv_core::DecodedProgram;
 use std::alloc::Global;
 use std::sync::Wait;
@@ -32,7 +33,8 @@ const TRIED: u32 = 64;
 /// cores, and then the domains, whose number is w modulo W, in ascending order; there are no more
 /// workers than cores, or than domains. Before each access and each event a worker passes the gate,
 /// when it holds no shard. The schedule gains a list for each interval, the cores of its accesses
-/// in recorded order; where memory runs out, it has those of the first intervals.
+/// in recorded order; where memory runs out, it has those of the first intervals. The recording
+/// gains the events of each interval.
 pub fn run<R: Threads + Wait + Sync, G: Gate>(
     rt: &R,
     alloc: Global,
@@ -41,13 +43,17 @@ pub fn run<R: Threads + Wait + Sync, G: Gate>(
     workers: u16,
     gate: &G,
     schedule: &mut Schedule,
+    recording: &mut Recording,
 ) -> Result<Final, NoMemory>
     requires machine { IsMachine machine.now }
     requires base { image.now.base ≡ machine.now.memory.base }
     requires size { image.now.size ≡ machine.now.memory.size }
     requires empty { schedule.old.lists ≡ [] }
     requires cores_known { schedule.old.cores ≡ machine.now.cores }
+    requires recording { IsRecordingOf machine.now [] recording.old }
     ensures ok { IfOk result (IsRunOf machine.now image.now schedule.new.lists) }
+    ensures recorded { IfOk result (λ r. IsRecordedRun machine.now image.now schedule.new.lists recording.new) }
+    ensures on { is_on recording.new ≡ is_on recording.old }
     ensures counted { IfOk result (HasCounts machine.now) }
     ensures numbered { IfOk result (λ r. r.numbers ≡ range_with_len 0 machine.now.cores) }
     ensures in_order { IsKeptInOrder machine.now image.now schedule.new.lists }
@@ -59,7 +65,7 @@ pub fn run<R: Threads + Wait + Sync, G: Gate>(
     let workers = workers.clamp(1, 64);
     let simulation = Simulation::new(alloc, machine, image, workers.min(machine.cores))?;
     run_on(
-        rt, alloc, machine, &program, &places, simulation, workers, gate, schedule,
+        rt, alloc, machine, &program, &places, simulation, workers, gate, schedule, recording,
     )
 }
 
@@ -74,19 +80,23 @@ fn run_on<R: Threads + Wait + Sync, G: Gate>(
     workers: u16,
     gate: &G,
     schedule: &mut Schedule,
+    recording: &mut Recording,
 ) -> Result<Final, NoMemory>
     requires machine { IsMachine machine.now }
     requires starts { IsAtStart machine.now program.now simulation }
     requires workers { (1 ≤ workers) × (workers ≤ 64) }
     requires empty { schedule.old.lists ≡ [] }
     requires cores_known { schedule.old.cores ≡ machine.now.cores }
+    requires recording { IsRecordingOf machine.now [] recording.old }
     ensures ok { IfOk result (IsRunOf machine.now program.now schedule.new.lists) }
+    ensures recorded { IfOk result (λ r. IsRecordedRun machine.now program.now schedule.new.lists recording.new) }
+    ensures on { is_on recording.new ≡ is_on recording.old }
     ensures counted { IfOk result (HasCounts machine.now) }
     ensures numbered { IfOk result (λ r. r.numbers ≡ range_with_len 0 machine.now.cores) }
     ensures in_order { IsKeptInOrder machine.now program.now schedule.new.lists }
     ensures cores { schedule.new.cores ≡ schedule.old.cores }
 {
-    let plain = Plain::of(machine);
+    let net = Net::of(machine);
     let mut buffers = PhaseBuffers::new(alloc);
     let mut domains_are_worth = true;
     let mut k = 0;
@@ -100,12 +110,13 @@ fn run_on<R: Threads + Wait + Sync, G: Gate>(
             alloc,
             machine,
             program,
-            &plain,
+            &net,
             end,
             workers,
             gate,
             places,
             &mut domains_are_worth,
+            recording,
             &mut buffers,
         )?;
         simulation = next;

@@ -1,5 +1,5 @@
 //! A run between two intervals, and how it is taken through the next one.
-ghost use Rattle.std.specs.Prelude.{◌≡◌, ◌+◌, ◌-◌, ◌*◌, ◌<◌, ◌≤◌, ◌^◌, min, ℕ, List, [], All, Some, Err, IfErr, IfOk, OnOk, false, is_some, length, map, nat_lt, slice_get, true};
+ghost use Rattle.std.specs.Prelude.{◌≡◌, ◌+◌, ◌-◌, ◌*◌, ◌<◌, ◌≤◌, ◌^◌, ◌++◌, ◌∷◌, min, ℕ, List, [], All, Some, Err, IfErr, IfOk, OnOk, false, is_some, length, map, nat_lt, slice_get, true};
 ghost use Rattle.std.specs.List.{list_all, list_any, range_with_len};
 ghost use Rattle.machine_desc.specs.declared.machine.Machine.{Machine};
 ghost use Rattle.machine_desc.specs.Components.{component_count};
@@ -12,13 +12,14 @@ ghost use Rattle.bound_core.specs.ShardPort.{base_of, l1i_of, room_of, size_of};
 ghost use Rattle.bound_core.specs.ShardWorld.{restarted, shards_serve};
 ghost use Rattle.bound_core.specs.TimedCore.{beside_cycles, first_core};
 ghost use Rattle.bound_core.specs.NumberedCores.{NumberedCore, timed_of};
-ghost use Rattle.replay.specs.ReferenceRun.{RunState, access_room, after_interval, all_delayed, at_limit, has_ended_at, have_halted, run_results, time_of};
+ghost use Rattle.replay.specs.ReferenceRun.{RunState, access_room, after_interval, all_delayed, at_limit, has_ended_at, have_halted, run_results, time_of, woven_interval};
 ghost use Rattle.replay.specs.Limits.{cycle_limit};
 ghost use Rattle.replay.specs.Memory.{is_alone, shards_in};
+ghost use Rattle.replay.specs.Recording.{IsRecordingOf, IsRecordingSoFar, is_on};
 ghost use Rattle.replay.specs.Replay.{IfIllegal};
 ghost use Rattle.replay.specs.Simulation.{AreNumbered, CanRunInterval, HasNextInterval, HasBound, HasFired, HasRoomForInterval, HasRunThroughPort, HaveRunThroughPort, IsAtStart, IsBoundPhase, LeadsTo, StandsFor, cores_of, phase_of};
 ghost use Rattle.replay.specs.Turns.{HaveTurned};
-ghost use Rattle.replay.specs.IntervalWeave.{IsPlainOf};
+ghost use Rattle.replay.specs.IntervalWeave.{IsNetOf};
 
 use crate::firing::fire_all;
 use crate::gated_port::GatedPort;
@@ -28,13 +29,14 @@ use crate::memory::Memory;
 use crate::own_program::OwnProgram;
 use crate::turns::take_turns;
 use crate::weaving::{events_of, woven_of};
-use crate::{Final, ReplayFail};
+use crate::{Final, Recording, ReplayFail};
 use bound_core::{BESIDE_CYCLES, BoundCore};
 use bound_phase::{PhaseBuffers, bound_in};
 use component::{Comp, Comps, components};
 use elf_load::Image;
-use event_graph::{FiredList, Graph, Plain};
+use event_graph::{FiredList, Graph};
 use machine_desc::Machine;
+use noc_mesh::Net;
 use rv_core::DecodedProgram;
 use stats::Counters;
 use std::alloc::Global;
@@ -116,47 +118,52 @@ impl Simulation {
     /// interval's end, and then the weave. So many workers do both, but no more of them than there
     /// are cores, and then domains; the cores of a run that one worker has alone it runs by itself.
     /// `places` has the domain of each component. `domains_are_worth` says before the call whether
-    /// several workers weave by domains, and after it whether that was worth it. Answers the run
-    /// after the interval, and the interval's accesses.
+    /// several workers weave by domains, and after it whether that was worth it. The recording gains
+    /// the interval's events. Answers the run after the interval, and the interval's accesses.
     pub fn interval<R: Threads + Wait + Sync, G: Gate>(
         self,
         rt: &R,
         alloc: Global,
         machine: &Machine,
         program: &DecodedProgram<'_>,
-        plain: &Plain,
+        net: &Net,
         end: Cycle,
         workers: u16,
         gate: &G,
         places: &[u16],
         domains_are_worth: &mut bool,
+        recording: &mut Recording,
         buffers: &mut PhaseBuffers,
     ) -> Result<(Self, Entries), NoMemory>
         requires machine { IsMachine machine.now }
-        requires plain { IsPlainOf machine.now plain.now }
-        requires end { end ≤ 2 ^ 34 }
+        requires net { IsNetOf machine.now net.now }
+        requires end { end ≤ 10 * 2 ^ 30 }
         requires workers { (1 ≤ workers) × (workers ≤ 64) }
         requires room { HasRoomForInterval machine.now end self }
+        requires recording { IsRecordingSoFar machine.now recording.old }
         requires goes_on { (s : RunState) × HasNextInterval machine.now end s self }
         ensures leads { IfOk result (λ r. (s : RunState) → HasNextInterval machine.now end s self → (leads : LeadsTo machine.now program.now s (map (λ e. e.core) r.1) r.0) × (leads.entries ≡ r.1)) }
+        ensures recorded { IfOk result (λ r. (s : RunState) → HasNextInterval machine.now end s self → IsRecordingOf machine.now s.intervals recording.old → IsRecordingOf machine.now (s.intervals ++ woven_interval machine.now s.comps r.1 ∷ []) recording.new) }
+        ensures on { is_on recording.new ≡ is_on recording.old }
         ensures cores { IfOk result (λ r. All (λ e. e.core < machine.now.cores) r.1) }
         ensures few { IfOk result (λ r. length r.1 < 2 ^ 32) }
     {
         let runners = workers.min(machine.cores);
         let (mut simulation, entries) = self.bound(
-            rt, alloc, machine, program, plain, end, runners, gate, buffers,
+            rt, alloc, machine, program, net, end, runners, gate, buffers,
         )?;
         let weavers = workers.min(machine.domains.count);
         simulation.weave(
             rt,
             alloc,
             machine,
-            plain,
+            net,
             &entries,
             weavers,
             gate,
             places,
             domains_are_worth,
+            recording,
         )?;
         Ok((simulation, entries))
     }
@@ -169,15 +176,15 @@ impl Simulation {
         alloc: Global,
         machine: &Machine,
         program: &DecodedProgram<'_>,
-        plain: &Plain,
+        net: &Net,
         end: Cycle,
         interval: u32,
         turns: &[u16],
         list: Vec<Entry>,
     ) -> Result<Vec<Entry>, ReplayFail>
         requires machine { IsMachine machine.now }
-        requires plain { IsPlainOf machine.now plain.now }
-        requires end { end ≤ 2 ^ 34 }
+        requires net { IsNetOf machine.now net.now }
+        requires end { end ≤ 10 * 2 ^ 30 }
         requires known { All (λ number. number < machine.now.cores) turns.now }
         requires few { length turns.now < 2 ^ 32 }
         requires room { HasRoomForInterval machine.now end self.old }
@@ -188,10 +195,11 @@ impl Simulation {
         ensures illegal { IfErr result (λ fail. IfIllegal fail (λ at. (at.interval ≡ interval) × ((s : RunState) → HasNextInterval machine.now end s self.old → after_interval machine.now program.now s turns.now ≡ Err (record { interval = length s.intervals; place = at.place })))) }
     {
         bound_core::laws::shards_do_as_the_machine();
-        let entries = self.bound_under(alloc, machine, program, plain, end, interval, turns, list)?;
-        let graph = events_of(alloc, machine, plain, &entries, &self.comps)?;
+        let entries = self.bound_under(alloc, machine, program, net, end, interval, turns, list)?;
+        let graph = events_of(alloc, machine, net, &entries, &self.comps)?;
         let fired = weave_seq(alloc, &graph, &mut self.comps)?;
-        self.take_in(alloc, machine, &entries, graph, fired)?;
+        let mut recording = Recording::Off;
+        self.take_in(alloc, machine, &entries, graph, fired, &mut recording)?;
         Ok(entries.into_list())
     }
 
@@ -203,15 +211,15 @@ impl Simulation {
         alloc: Global,
         machine: &Machine,
         program: &DecodedProgram<'_>,
-        plain: &Plain,
+        net: &Net,
         end: Cycle,
         workers: u16,
         gate: &G,
         buffers: &mut PhaseBuffers,
     ) -> Result<(Self, Entries), NoMemory>
         requires machine { IsMachine machine.now }
-        requires plain { IsPlainOf machine.now plain.now }
-        requires end { end ≤ 2 ^ 34 }
+        requires net { IsNetOf machine.now net.now }
+        requires end { end ≤ 10 * 2 ^ 30 }
         requires workers { (1 ≤ workers) × (workers ≤ 64) }
         requires room { HasRoomForInterval machine.now end self }
         ensures bounded { IfOk result (λ r. IsBoundPhase machine.now program.now end self (map (λ e. e.core) r.1) r.0 r.1) }
@@ -220,10 +228,10 @@ impl Simulation {
     {
         if self.memory.is_alone() {
             let list = buffers.take_list(alloc);
-            return self.bound_alone(alloc, machine, program, plain, end, gate, list);
+            return self.bound_alone(alloc, machine, program, net, end, gate, list);
         }
         self.bound_by(
-            rt, alloc, machine, program, plain, end, workers, gate, buffers,
+            rt, alloc, machine, program, net, end, workers, gate, buffers,
         )
     }
 
@@ -234,14 +242,14 @@ impl Simulation {
         alloc: Global,
         machine: &Machine,
         program: &DecodedProgram<'_>,
-        plain: &Plain,
+        net: &Net,
         end: Cycle,
         gate: &G,
         list: Vec<Entry>,
     ) -> Result<(Self, Entries), NoMemory>
         requires machine { IsMachine machine.now }
-        requires plain { IsPlainOf machine.now plain.now }
-        requires end { end ≤ 2 ^ 34 }
+        requires net { IsNetOf machine.now net.now }
+        requires end { end ≤ 10 * 2 ^ 30 }
         requires room { HasRoomForInterval machine.now end self }
         requires alone { is_alone self.memory ≡ true }
         ensures bounded { IfOk result (λ r. IsBoundPhase machine.now program.now end self (map (λ e. e.core) r.1) r.0 r.1) }
@@ -265,7 +273,7 @@ impl Simulation {
             unreachable!()
         };
         port.begin(access_room(machine) as usize, list)?;
-        let mut port = run_cores(machine, program, plain, end, gate, &mut cores, port)?;
+        let mut port = run_cores(machine, program, net, end, gate, &mut cores, port)?;
         let entries = port.take_sorted(alloc);
         let simulation = Simulation {
             cores,
@@ -283,15 +291,15 @@ impl Simulation {
         alloc: Global,
         machine: &Machine,
         program: &DecodedProgram<'_>,
-        plain: &Plain,
+        net: &Net,
         end: Cycle,
         workers: u16,
         gate: &G,
         buffers: &mut PhaseBuffers,
     ) -> Result<(Self, Entries), NoMemory>
         requires machine { IsMachine machine.now }
-        requires plain { IsPlainOf machine.now plain.now }
-        requires end { end ≤ 2 ^ 34 }
+        requires net { IsNetOf machine.now net.now }
+        requires end { end ≤ 10 * 2 ^ 30 }
         requires workers { (1 ≤ workers) × (workers ≤ 64) }
         requires room { HasRoomForInterval machine.now end self }
         requires shared { is_alone self.memory ≡ false }
@@ -314,7 +322,7 @@ impl Simulation {
         let program = OwnProgram { program };
         let program = OwnProgram { program: &program };
         match bound_in(
-            rt, alloc, buffers, machine, &program, plain, cores, shards, end, workers, gate,
+            rt, alloc, buffers, machine, &program, net, cores, shards, end, workers, gate,
         ) {
             Ok(bounded) => {
                 let simulation = Simulation {
@@ -335,15 +343,15 @@ impl Simulation {
         alloc: Global,
         machine: &Machine,
         program: &DecodedProgram<'_>,
-        plain: &Plain,
+        net: &Net,
         end: Cycle,
         interval: u32,
         turns: &[u16],
         list: Vec<Entry>,
     ) -> Result<Entries, ReplayFail>
         requires machine { IsMachine machine.now }
-        requires plain { IsPlainOf machine.now plain.now }
-        requires end { end ≤ 2 ^ 34 }
+        requires net { IsNetOf machine.now net.now }
+        requires end { end ≤ 10 * 2 ^ 30 }
         requires known { All (λ number. number < machine.now.cores) turns.now }
         requires few { length turns.now < 2 ^ 32 }
         requires room { HasRoomForInterval machine.now end self.old }
@@ -364,7 +372,7 @@ impl Simulation {
         run_turns(
             machine,
             program,
-            plain,
+            net,
             end,
             interval,
             turns,
@@ -375,26 +383,30 @@ impl Simulation {
     }
 
     /// The weave of an interval, after its bound phase: fires the events of its accesses by so many
-    /// workers, and takes in what came of them.
+    /// workers, and takes in what came of them, as the recording does.
     fn weave<R: Threads + Sync, G: Gate>(
         &mut self,
         rt: &R,
         alloc: Global,
         machine: &Machine,
-        plain: &Plain,
+        net: &Net,
         entries: &Entries,
         workers: u16,
         gate: &G,
         places: &[u16],
         domains_are_worth: &mut bool,
+        recording: &mut Recording,
     ) -> Result<(), NoMemory>
         requires machine { IsMachine machine.now }
-        requires plain { IsPlainOf machine.now plain.now }
+        requires net { IsNetOf machine.now net.now }
         requires workers { (1 ≤ workers) × (workers ≤ 64) }
+        requires recording { IsRecordingSoFar machine.now recording.old }
         requires bound { (image : MemoryImage) × (s : RunState) × (turns : List ℕ) × HasBound machine.now image s turns self.old entries.now }
-        ensures { OnOk result ((image : MemoryImage) (s : RunState) (turns : List ℕ) → HasBound machine.now image s turns self.old entries.now → (leads : LeadsTo machine.now image s turns self.new) × (leads.entries ≡ entries.now)) }
+        ensures leads { OnOk result ((image : MemoryImage) (s : RunState) (turns : List ℕ) → HasBound machine.now image s turns self.old entries.now → (leads : LeadsTo machine.now image s turns self.new) × (leads.entries ≡ entries.now)) }
+        ensures recorded { OnOk result ((image : MemoryImage) (s : RunState) (turns : List ℕ) → HasBound machine.now image s turns self.old entries.now → IsRecordingOf machine.now s.intervals recording.old → IsRecordingOf machine.now (s.intervals ++ woven_interval machine.now s.comps entries.now ∷ []) recording.new) }
+        ensures on { is_on recording.new ≡ is_on recording.old }
     {
-        let graph = events_of(alloc, machine, plain, entries, &self.comps)?;
+        let graph = events_of(alloc, machine, net, entries, &self.comps)?;
         let comps = &mut self.comps;
         let fired = fire_all(
             rt,
@@ -407,12 +419,12 @@ impl Simulation {
             places,
             domains_are_worth,
         )?;
-        self.take_in(alloc, machine, entries, graph, fired)?;
+        self.take_in(alloc, machine, entries, graph, fired, recording)?;
         Ok(())
     }
 
-    /// Takes in an interval whose events have fired: adds to each core's clock what it waited, and
-    /// counts the interval.
+    /// Takes in an interval whose events have fired: adds them to the recording, adds to each core's
+    /// clock what it waited, and counts the interval.
     fn take_in(
         &mut self,
         alloc: Global,
@@ -420,14 +432,18 @@ impl Simulation {
         entries: &Entries,
         graph: Graph,
         fired: FiredList,
+        recording: &mut Recording,
     ) -> Result<(), NoMemory>
         requires machine { IsMachine machine.now }
         requires fired { (image : MemoryImage) × (s : RunState) × (turns : List ℕ) × HasFired machine.now image s turns self.old entries.now graph fired }
+        requires recording { IsRecordingSoFar machine.now recording.old }
         requires core_counts { length self.old.counters.core_counts ≡ machine.now.cores }
         requires comp_counts { length self.old.counters.comp_counts ≡ component_count machine.now }
         requires cores { All (λ e. e.core < machine.now.cores) entries.now }
         ensures memory { OnOk result (self.new.memory ≡ self.old.memory) }
         ensures leads { OnOk result ((image : MemoryImage) (s : RunState) (turns : List ℕ) → HasFired machine.now image s turns self.old entries.now graph fired → (leads : LeadsTo machine.now image s turns self.new) × (leads.entries ≡ entries.now)) }
+        ensures recorded { OnOk result ((image : MemoryImage) (s : RunState) (turns : List ℕ) → HasFired machine.now image s turns self.old entries.now graph fired → IsRecordingOf machine.now s.intervals recording.old → IsRecordingOf machine.now (s.intervals ++ woven_interval machine.now s.comps entries.now ∷ []) recording.new) }
+        ensures on { is_on recording.new ≡ is_on recording.old }
     {
         stats::laws::counters_are_sums();
         stats::laws::sums_fit();
@@ -436,6 +452,7 @@ impl Simulation {
         bound_core::laws::intervals_begin();
         event_graph::laws::machine_components_stay();
         let woven = woven_of(alloc, machine, graph, fired)?;
+        recording.keep(&woven.graph, &woven.fired)?;
         delay_all(&mut self.cores, woven.delays.as_slice());
         self.counters.add(
             entries,
@@ -481,15 +498,15 @@ fn first_cores(alloc: Global, machine: &Machine, image: &Image) -> Result<Vec<Bo
 fn run_cores<G: Gate>(
     machine: &Machine,
     program: &DecodedProgram<'_>,
-    plain: &Plain,
+    net: &Net,
     end: Cycle,
     gate: &G,
     cores: &mut [BoundCore],
     mut port: LoggedPort,
 ) -> Result<LoggedPort, NoMemory>
     requires machine { IsMachine machine.now }
-    requires plain { IsPlainOf machine.now plain.now }
-    requires end { end ≤ 2 ^ 34 }
+    requires net { IsNetOf machine.now net.now }
+    requires end { end ≤ 10 * 2 ^ 30 }
     requires count { length cores.old ≡ machine.now.cores }
     requires ready { (i : ℕ) (c : NumberedCore) → slice_get cores.old i ≡ Some c → CanRunInterval machine.now end (base_of port.world) (size_of port.world) (l1i_of port.world) c.timed }
     requires numbered { AreNumbered cores.old }
@@ -499,16 +516,7 @@ fn run_cores<G: Gate>(
     ensures { IfOk result (HaveRunThroughPort machine.now program.now end machine.now.cores cores.old cores.new port) }
 {
     for (number, core) in cores.iter_mut().enumerate() {
-        port = run_core(
-            machine,
-            program,
-            plain,
-            end,
-            gate,
-            core,
-            number as u16,
-            port,
-        )?;
+        port = run_core(machine, program, net, end, gate, core, number as u16, port)?;
     }
     Ok(port)
 }
@@ -517,7 +525,7 @@ fn run_cores<G: Gate>(
 fn run_core<G: Gate>(
     machine: &Machine,
     program: &DecodedProgram<'_>,
-    plain: &Plain,
+    net: &Net,
     end: Cycle,
     gate: &G,
     core: &mut BoundCore,
@@ -525,8 +533,8 @@ fn run_core<G: Gate>(
     mut port: LoggedPort,
 ) -> Result<LoggedPort, NoMemory>
     requires machine { IsMachine machine.now }
-    requires plain { IsPlainOf machine.now plain.now }
-    requires end { end ≤ 2 ^ 34 }
+    requires net { IsNetOf machine.now net.now }
+    requires end { end ≤ 10 * 2 ^ 30 }
     requires ready { CanRunInterval machine.now end (base_of port.world) (size_of port.world) (l1i_of port.world) core.old.timed }
     requires number { core.old.number ≡ number }
     requires known { number < length port.world.stamps }
@@ -543,7 +551,7 @@ fn run_core<G: Gate>(
         core: number,
         port,
     };
-    core.run_one(&OwnProgram { program }, plain, end, &mut gated);
+    core.run_one(&OwnProgram { program }, net, end, &mut gated);
     let GatedPort { port, .. } = gated;
     Ok(port)
 }
@@ -553,7 +561,7 @@ fn run_core<G: Gate>(
 fn run_turns(
     machine: &Machine,
     program: &DecodedProgram<'_>,
-    plain: &Plain,
+    net: &Net,
     end: Cycle,
     interval: u32,
     turns: &[u16],
@@ -561,8 +569,8 @@ fn run_turns(
     port: &mut LoggedPort,
 ) -> Result<(), ReplayFail>
     requires machine { IsMachine machine.now }
-    requires plain { IsPlainOf machine.now plain.now }
-    requires end { end ≤ 2 ^ 34 }
+    requires net { IsNetOf machine.now net.now }
+    requires end { end ≤ 10 * 2 ^ 30 }
     requires known { All (λ number. number < machine.now.cores) turns.now }
     requires few { length turns.now < 2 ^ 32 }
     requires count { length cores.old ≡ machine.now.cores }
@@ -575,7 +583,7 @@ fn run_turns(
     ensures illegal { IfErr result (λ fail. IfIllegal fail (λ at. (at.interval ≡ interval) × (bound_phase shards_serve (time_of machine.now) program.now end turns.now (phase_of cores.old port.old) ≡ Err at.place))) }
 {
     reserve_all(machine, cores)?;
-    match take_turns(program, plain, end, turns, cores, port) {
+    match take_turns(program, net, end, turns, cores, port) {
         Ok(()) => Ok(()),
         Err(place) => Err(ReplayFail::Illegal { interval, place }),
     }

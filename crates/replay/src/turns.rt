@@ -1,5 +1,5 @@
 //! The turns of an interval in the order of a list.
-ghost use Rattle.std.specs.Prelude.{◌≡◌, ◌<◌, ◌≤◌, ◌^◌, ℕ, List, [], All, false, length, min, true, Err, IfErr, IfOk, Ok};
+ghost use Rattle.std.specs.Prelude.{◌≡◌, ◌*◌, ◌<◌, ◌≤◌, ◌^◌, ℕ, List, [], All, false, length, min, true, Err, IfErr, IfOk, Ok};
 ghost use Rattle.zs_num.specs.declared.entry.Entry.{Entry};
 ghost use Rattle.bound_core.specs.ReferenceMachine.{BoundState, bound_phase};
 ghost use Rattle.bound_core.specs.ShardWorld.{ShardWorld, shards_serve};
@@ -7,11 +7,11 @@ ghost use Rattle.bound_core.specs.ShardPort.{base_of, l1i_of, room_of, size_of};
 ghost use Rattle.bound_core.specs.NumberedCores.{timed_of};
 ghost use Rattle.bound_core.specs.Turn.{IsOver};
 ghost use Rattle.replay.specs.Simulation.{phase_of};
-ghost use Rattle.replay.specs.Turns.{HaveTaken, IsOnItsWay, TakesAccess, TakesNone, chosen, time_by_plain};
+ghost use Rattle.replay.specs.Turns.{HaveTaken, IsOnItsWay, TakesAccess, TakesNone, chosen, time_by_net};
 
 use crate::logged_port::LoggedPort;
 use bound_core::{BoundCore, Turned};
-use event_graph::Plain;
+use noc_mesh::Net;
 use rv_core::DecodedProgram;
 use zs_num::Cycle;
 
@@ -20,30 +20,30 @@ use zs_num::Cycle;
 /// interval; or it is the place after the last, and a core still has one.
 pub fn take_turns(
     program: &DecodedProgram<'_>,
-    plain: &Plain,
+    net: &Net,
     end: Cycle,
     turns: &[u16],
     cores: &mut [BoundCore],
     port: &mut LoggedPort,
 ) -> Result<(), u32>
-    requires end { end ≤ 2 ^ 34 }
+    requires end { end ≤ 10 * 2 ^ 30 }
     requires cores { length cores.old < 2 ^ 16 }
     requires known { All (λ number. number < length cores.old) turns.now }
     requires few { length turns.now < 2 ^ 32 }
-    requires begins { (most : ℕ) × HaveTaken (time_by_plain plain.now) program.now end most (phase_of cores.old port.old) [] cores.old port.old }
-    ensures legal { IfOk result (λ _. bound_phase shards_serve (time_by_plain plain.now) program.now end turns.now (phase_of cores.old port.old) ≡ Ok (phase_of cores.new port.new)) }
-    ensures illegal { IfErr result (λ place. bound_phase shards_serve (time_by_plain plain.now) program.now end turns.now (phase_of cores.old port.old) ≡ Err place) }
-    ensures taken { IfOk result (λ _. (most : ℕ) → HaveTaken (time_by_plain plain.now) program.now end most (phase_of cores.old port.old) [] cores.old port.old → HaveTaken (time_by_plain plain.now) program.now end most (phase_of cores.old port.old) turns.now cores.new port.new) }
+    requires begins { (most : ℕ) × HaveTaken (time_by_net net.now) program.now end most (phase_of cores.old port.old) [] cores.old port.old }
+    ensures legal { IfOk result (λ _. bound_phase shards_serve (time_by_net net.now) program.now end turns.now (phase_of cores.old port.old) ≡ Ok (phase_of cores.new port.new)) }
+    ensures illegal { IfErr result (λ place. bound_phase shards_serve (time_by_net net.now) program.now end turns.now (phase_of cores.old port.old) ≡ Err place) }
+    ensures taken { IfOk result (λ _. (most : ℕ) → HaveTaken (time_by_net net.now) program.now end most (phase_of cores.old port.old) [] cores.old port.old → HaveTaken (time_by_net net.now) program.now end most (phase_of cores.old port.old) turns.now cores.new port.new) }
     ensures over { IfOk result (λ _. All (IsOver end) (timed_of cores.new)) }
     ensures count { length cores.new ≡ length cores.old }
 {
     for (place, number) in turns.iter().enumerate() {
         let core = &mut cores[usize::from(*number)];
-        if !take_turn(program, plain, end, *number, core, port) {
+        if !take_turn(program, net, end, *number, core, port) {
             return Err(place as u32);
         }
     }
-    if end_all(program, plain, end, cores, port) {
+    if end_all(program, net, end, cores, port) {
         Ok(())
     } else {
         Err(turns.len() as u32)
@@ -53,21 +53,21 @@ pub fn take_turns(
 /// Has each core end its interval. Answers false where one still has an access.
 fn end_all(
     program: &DecodedProgram<'_>,
-    plain: &Plain,
+    net: &Net,
     end: Cycle,
     cores: &mut [BoundCore],
     port: &mut LoggedPort,
 ) -> bool
-    requires end { end ≤ 2 ^ 34 }
+    requires end { end ≤ 10 * 2 ^ 30 }
     requires few { length cores.old < 2 ^ 16 }
-    requires taken { (most : ℕ) × (first : BoundState ShardWorld) × (turns : List ℕ) × HaveTaken (time_by_plain plain.now) program.now end most first turns cores.old port.old }
-    ensures taken { result ≡ true → (most : ℕ) (first : BoundState ShardWorld) (turns : List ℕ) → HaveTaken (time_by_plain plain.now) program.now end most first turns cores.old port.old → HaveTaken (time_by_plain plain.now) program.now end most first turns cores.new port.new }
+    requires taken { (most : ℕ) × (first : BoundState ShardWorld) × (turns : List ℕ) × HaveTaken (time_by_net net.now) program.now end most first turns cores.old port.old }
+    ensures taken { result ≡ true → (most : ℕ) (first : BoundState ShardWorld) (turns : List ℕ) → HaveTaken (time_by_net net.now) program.now end most first turns cores.old port.old → HaveTaken (time_by_net net.now) program.now end most first turns cores.new port.new }
     ensures over { result ≡ true → All (IsOver end) (timed_of cores.new) }
-    ensures illegal { result ≡ false → (most : ℕ) (first : BoundState ShardWorld) (turns : List ℕ) → HaveTaken (time_by_plain plain.now) program.now end most first turns cores.old port.old → bound_phase shards_serve (time_by_plain plain.now) program.now end turns first ≡ Err (length turns) }
+    ensures illegal { result ≡ false → (most : ℕ) (first : BoundState ShardWorld) (turns : List ℕ) → HaveTaken (time_by_net net.now) program.now end most first turns cores.old port.old → bound_phase shards_serve (time_by_net net.now) program.now end turns first ≡ Err (length turns) }
     ensures count { length cores.new ≡ length cores.old }
 {
     for (number, core) in cores.iter_mut().enumerate() {
-        if take_turn(program, plain, end, number as u16, core, port) {
+        if take_turn(program, net, end, number as u16, core, port) {
             return false;
         }
     }
@@ -78,22 +78,22 @@ fn end_all(
 /// whether it had one before it ended its interval.
 fn take_turn(
     program: &DecodedProgram<'_>,
-    plain: &Plain,
+    net: &Net,
     end: Cycle,
     number: u16,
     core: &mut BoundCore,
     port: &mut LoggedPort,
 ) -> bool
-    requires end { end ≤ 2 ^ 34 }
+    requires end { end ≤ 10 * 2 ^ 30 }
     requires number { core.old.number ≡ number }
     requires known { number < length port.old.world.stamps }
     requires room { 1 ≤ min (room_of port.old.world) port.old.room }
     requires way { (left : ℕ) × IsOnItsWay end (base_of port.old.world) (size_of port.old.world) (l1i_of port.old.world) left core.old }
-    ensures took { result ≡ true → (e : Entry) × TakesAccess (time_by_plain plain.now) program.now end (chosen port.old number) port.new core.old core.new e }
+    ensures took { result ≡ true → (e : Entry) × TakesAccess (time_by_net net.now) program.now end (chosen port.old number) port.new core.old core.new e }
     ensures none { result ≡ false → TakesNone program.now end (chosen port.old number) port.new core.old core.new }
 {
     port.choose(number);
-    match core.turn(program, plain, end, port) {
+    match core.turn(program, net, end, port) {
         Turned::Took(_entry) => true,
         Turned::Ended => false,
     }

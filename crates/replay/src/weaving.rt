@@ -5,12 +5,13 @@ ghost use Rattle.machine_desc.specs.Machine.{IsMachine};
 ghost use Rattle.component.specs.declared.comp.Comp.{Comp};
 ghost use Rattle.component.specs.ComponentStep.{free_of};
 ghost use Rattle.component.specs.Components.{AreComponents};
-ghost use Rattle.replay.specs.IntervalWeave.{AreEventsOf, HaveFired, IsPlainOf, IsWeaveOf};
+ghost use Rattle.replay.specs.IntervalWeave.{AreEventsOf, HaveFired, IsNetOf, IsWeaveOf};
 
 use component::{Comp, Comps};
-use event_graph::{FiredList, Graph, Plain, build};
+use event_graph::{FiredList, Graph, build};
 use feedback::{Delays, delays};
 use machine_desc::Machine;
+use noc_mesh::Net;
 use std::alloc::Global;
 use zs_num::{Entries, NoMemory};
 
@@ -29,26 +30,26 @@ pub struct WovenInterval {
 pub fn events_of(
     alloc: Global,
     machine: &Machine,
-    plain: &Plain,
+    net: &Net,
     entries: &Entries,
     comps: &Comps<Comp>,
 ) -> Result<Graph, NoMemory>
     requires machine { IsMachine machine.now }
-    requires plain { IsPlainOf machine.now plain.now }
+    requires net { IsNetOf machine.now net.now }
     requires components { AreComponents machine.now comps.now }
     requires free { All (λ c. free_of c ≤ 2 ^ 56) comps.now }
     requires cores { All (λ e. e.core < machine.now.cores) entries.now }
-    requires starts { All (λ e. e.start ≤ 2 ^ 36) entries.now }
+    requires starts { All (λ e. e.start ≤ 2 ^ 34) entries.now }
     requires few { length entries.now ≤ 2 ^ 22 }
     ensures { IfOk result (AreEventsOf machine.now comps.now entries.now) }
 {
-    event_graph::laws::plain_graphs_fit();
-    event_graph::laws::plain_accesses_have_few_events();
-    event_graph::laws::events_are_counted::<Plain>();
-    event_graph::laws::events_keep_their_cores::<Plain>();
-    event_graph::laws::events_begin_with_their_accesses::<Plain>();
+    noc_mesh::laws::net_graphs_fit();
+    noc_mesh::laws::net_accesses_have_few_events();
+    event_graph::laws::events_are_counted::<Net>();
+    event_graph::laws::events_keep_their_cores::<Net>();
+    event_graph::laws::events_begin_with_their_accesses::<Net>();
     event_graph::laws::machine_steps_stay_small();
-    let graph = build(alloc, plain, entries, machine.cores)?;
+    let graph = build(alloc, net, entries, machine.cores)?;
     // Its events are numbered in order, as the type keeps.
     let _numbered = graph.events();
     Ok(graph)

@@ -25,7 +25,7 @@ loop-alloc-init c =
         as_long = refl;
         come = first.2;
       };
-      plain = c.of-plain.ensures;
+      net = c.of-net.ensures;
       count = omega arith;
       end = omega arith;
       small = omega arith;
@@ -115,7 +115,7 @@ loop-alloc-preserved c =
     let accesses = accesses_are machine leads.state q leads.come in
     record {
       run = subst (λ (all : List (List ℕ)). HasRun machine image all q) more run;
-      plain = was.plain;
+      net = was.net;
       count = omega (arith, within);
       end = omega (arith, was.end);
       small = omega (arith, was.small, c.requires.machine.interval);

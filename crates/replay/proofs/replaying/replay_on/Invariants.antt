@@ -1,6 +1,6 @@
 -- the run has come to where the first intervals of the schedule lead
 use Rattle.std.proofs.Common.{◌≡◌, ◌≤◌, ◌-◌, ◌*◌, ◌^◌, true, length, take}
-use Rattle.replay.specs.IntervalWeave.{IsPlainOf}
+use Rattle.replay.specs.IntervalWeave.{IsNetOf}
 use Rattle.replay.specs.Memory.{is_alone}
 use Rattle.replay.proofs.RunSoFar.{HasRun}
 use Rattle.replay.proofs.replaying.replay_on.Given as goal
@@ -8,7 +8,7 @@ use Rattle.replay.proofs.replaying.replay_on.Given as goal
 abbrev pub invariant-loop-alloc : goal.invariant-loop-alloc
 invariant-loop-alloc l = record {
   run : HasRun l.machine l.program (take l.k l.schedule.lists) l.simulation;
-  plain : IsPlainOf l.machine l.plain;
+  net : IsNetOf l.machine l.net;
   count : l.k ≤ length l.schedule.lists;
   end : l.end ≡ l.k * l.machine.interval;
   small : l.end ≤ 10000 * l.k;

@@ -1,6 +1,7 @@
 use Rattle.std.proofs.Common.{sym, subst}
 use Rattle.std.specs.Prelude.{IfOk}
 use Rattle.elf_load.specs.MemoryImage.{MemoryImage}
+use Rattle.replay.specs.Recording.{IsRecordedRun}
 use Rattle.replay.specs.ReferenceRun.{IsKeptInOrder, IsRunOf}
 use Rattle.replay.specs.Simulation.{IsAtStart}
 use Rattle.replay.proofs.RunSoFar.{nothing_run}
@@ -31,6 +32,10 @@ run_on-requires-clause-starts g c κs within =
 pub returns-clause-ok : goal.returns-clause-ok
 returns-clause-ok g c =
     subst (λ (i : MemoryImage). IfOk c.run_on.result (IsRunOf c.args.machine.now i c.run_on.new.schedule.lists)) c.in_ok-program.ensures c.run_on.ensures.ok
+
+pub returns-clause-recorded : goal.returns-clause-recorded
+returns-clause-recorded g c =
+    subst (λ (i : MemoryImage). IfOk c.run_on.result (λ r. IsRecordedRun c.args.machine.now i c.run_on.new.schedule.lists c.run_on.new.recording)) c.in_ok-program.ensures c.run_on.ensures.recorded
 
 pub returns-clause-in_order : goal.returns-clause-in_order
 returns-clause-in_order g c =

@@ -1,12 +1,14 @@
-use Rattle.std.proofs.Common.{◌≡◌, ℕ, ◌+◌, ◌-◌, ◌<◌, List, ◌++◌, ◌∷◌, [], length, map, Ok, sym, ◌∙◌, ap, refl, subst, arith, rules, All, true, false}
+use Rattle.std.proofs.Common.{◌≡◌, ℕ, ◌+◌, ◌-◌, ◌^◌, ◌<◌, List, ◌++◌, ◌∷◌, [], length, map, Ok, sym, ◌∙◌, ap, refl, subst, arith, rules, All, true, false}
 use Rattle.std.proofs.lemmas.List.{length-append}
 use Rattle.zs_num.specs.declared.entry.Entry.{Entry}
 use Rattle.access_log.specs.Schedule.{ScheduleState}
-use Rattle.replay.specs.ReferenceRun.{IsKeptInOrder, after_intervals, first_state, has_ended}
+use Rattle.stats.specs.Counts.{Interval}
+use Rattle.replay.specs.Recording.{IsRecordingOf}
+use Rattle.replay.specs.ReferenceRun.{IsKeptInOrder, after_intervals, first_state, has_ended, woven_interval}
 use Rattle.replay.specs.Simulation.{LeadsTo}
 use Rattle.replay.proofs.NextInterval.{has_room}
 use Rattle.replay.proofs.RunEnds.{counted_results, numbered_results}
-use Rattle.replay.proofs.RunSoFar.{HasRunInOrder, accesses_are, below_limit, ends_with, further_in_order, goes, kept_in_order, same_ending}
+use Rattle.replay.proofs.RunSoFar.{HasRunInOrder, accesses_are, below_limit, ends_with, further_in_order, goes, kept_in_order, ran_so, same_ending}
 use Rattle.replay.proofs.running.run_on.Goals as goal
 
 pub loop-alloc-init : goal.loop-alloc-init
@@ -28,13 +30,15 @@ loop-alloc-init g c =
         };
         in_order = c.requires.empty;
       };
-      plain = c.of-plain.ensures;
+      net = c.of-net.ensures;
       count = none;
       end = omega arith;
       small = omega arith;
       within = omega arith;
       accesses = omega (arith, accesses);
       cores = refl;
+      recorded = c.requires.recording;
+      on = refl;
     }
 
 pub returns-clause-ok : goal.returns-clause-ok
@@ -52,6 +56,11 @@ returns-clause-ok g c =
       fresh = h.fresh;
       gives = ends_with machine image lists p h ends ∙ ap Ok (sym (c.results.ensures.results machine h.state h.come long));
     }
+
+pub returns-clause-recorded : goal.returns-clause-recorded
+returns-clause-recorded g c =
+    let h = c.loop-alloc.invariant.ran.run in
+    record { comps = h.comps; fresh = h.fresh; state = h.state; reached = h.reached; recorded = c.loop-alloc.invariant.recorded }
 
 pub returns-clause-in_order : goal.returns-clause-in_order
 returns-clause-in_order g c =
@@ -82,6 +91,13 @@ interval-requires-clause-goes_on g c κs within =
     let was = c.loop-alloc.invariant in
     let running : c.has_ended.result ≡ false = search rules in
     (was.ran.run.state, goes c.args.machine.now c.args.program.now c.loop-alloc.schedule.lists c.loop-alloc.simulation was.ran.run c.loop-alloc.k c.loop-alloc.end was.count was.end (sym c.has_ended.ensures ∙ running))
+
+pub interval-requires-clause-recording : goal.interval-requires-clause-recording
+interval-requires-clause-recording g c κs within =
+    let was = c.loop-alloc.invariant in
+    let h = was.ran.run in
+    let few : length h.state.intervals < 2 ^ 32 - 1 = omega (arith, h.as_long, was.count, was.within, c.requires.machine.intervals.1) in
+    record { intervals = h.state.intervals; few = few; is = was.recorded }
 
 pub add-requires-clause-cores : goal.add-requires-clause-cores
 add-requires-clause-cores g c =
@@ -129,13 +145,21 @@ loop-alloc-preserved g c =
     let added : c.add.new.self.lists ≡ lists ++ turns ∷ [] = c.in_ok-add.ensures.ok in
     let ran : HasRunInOrder machine image (lists ++ turns ∷ []) q = further_in_order machine image lists p q was.ran turns come.on leads in_order in
     let accesses = accesses_are machine leads.state q leads.come in
+    let gained : leads.state.intervals ≡ was.ran.run.state.intervals ++ woven_interval machine was.ran.run.state.comps c.in_ok-next.entries ∷ [] =
+    leads.gained ∙ ap (λ (entries : List Entry). was.ran.run.state.intervals ++ woven_interval machine was.ran.run.state.comps entries ∷ []) found.1
+    in
+    let kept : IsRecordingOf machine leads.state.intervals c.interval.new.recording =
+    subst (λ (intervals : List Interval). IsRecordingOf machine intervals c.interval.new.recording) (sym gained) (c.in_ok-next.ensures.recorded was.ran.run.state come was.recorded)
+    in
     record {
-      ran = subst (λ (all : List (List ℕ)). HasRunInOrder machine image all q) (sym added) ran;
-      plain = was.plain;
+      ran = ran_so machine image (lists ++ turns ∷ []) c.add.new.self.lists q (sym added) ran;
+      net = was.net;
       count = omega (arith, ap length added, length-append lists (turns ∷ []), was.count);
       end = omega (arith, was.end);
       small = omega (arith, was.small, c.requires.machine.interval);
       within = omega (arith, below);
       accesses = omega (arith, accesses, leads.come.counted.accesses);
       cores = c.in_ok-add.ensures.cores ∙ was.cores;
+      recorded = kept;
+      on = c.in_ok-next.ensures.on ∙ was.on;
     }

@@ -35,7 +35,7 @@ returns g c =
     inner_run {Port = P} _ (λ p. p.port) (λ p q start request e given. given) _ image end ready.number _ c.run_one.new.port ready.timed after.timed ran.turns
     in
     let turns : RunsToEnd (time_of machine) image end gives logged ready.number chosen last ready.timed after.timed =
-    subst (λ (times : Entry → ℕ). RunsToEnd times image end gives logged ready.number chosen last ready.timed after.timed) (same_times machine c.args.plain.now c.requires.plain) through
+    subst (λ (times : Entry → ℕ). RunsToEnd times image end gives logged ready.number chosen last ready.timed after.timed) (same_times machine c.args.net.now c.requires.net) through
     in
     let numbered = subst (λ (n : ℕ). RunsToEnd (time_of machine) image end gives logged n chosen last ready.timed after.timed) number turns in
     let own = subst (λ (t : TimedCore). RunsToEnd (time_of machine) image end gives logged core.number chosen last t after.timed) timed numbered in

@@ -8,7 +8,7 @@ use Rattle.bound_core.specs.TimedCore.{TimedCore}
 use Rattle.bound_core.proofs.Accesses.{clock_within}
 use Rattle.replay.specs.ReferenceRun.{time_of}
 use Rattle.replay.specs.Simulation.{CanRunInterval, phase_of}
-use Rattle.replay.specs.Turns.{HaveTaken, time_by_plain}
+use Rattle.replay.specs.Turns.{HaveTaken, time_by_net}
 use Rattle.replay.proofs.Cores.{all_timed, ready_again}
 use Rattle.replay.proofs.PortTurns.{same_times}
 use Rattle.replay.proofs.TurnsBegin.{all_most, turns_begin}
@@ -29,7 +29,7 @@ take_turns-requires-clause-begins c =
     let port = c.args.port.now in
     let did = c.in_ok-reserve_all.ensures in (
       all_most machine,
-      turns_begin (time_by_plain c.args.plain.now) machine c.args.program.now c.args.end cores port c.requires.machine c.requires.end
+      turns_begin (time_by_net c.args.net.now) machine c.args.program.now c.args.end cores port c.requires.machine c.requires.end
           (ready_again (CanRunInterval machine c.args.end (base_of port.world) (size_of port.world) (l1i_of port.world)) c.args.cores.now cores did.timed c.requires.ready)
           did.spare (c.reserve_all.auto.cores ∙ c.requires.count) (did.numbered c.requires.numbered) c.requires.stamps c.requires.none c.requires.room,
     )
@@ -39,7 +39,7 @@ returns-in-Ok-clause-turned c =
     let machine = c.args.machine.now in
     let image = c.args.program.now in
     let end = c.args.end in
-    let plain = c.args.plain.now in
+    let net = c.args.net.now in
     let cores = c.reserve_all.new.cores in
     let port = c.args.port.now in
     let turns = c.args.turns.now in
@@ -51,14 +51,14 @@ returns-in-Ok-clause-turned c =
     ap (λ (cs : List TimedCore). let s : BoundState ShardWorld = record { cores = cs; world = port.world; entries = port.entries } in s) reserved.timed
     in
     let most = all_most machine in
-    let first = turns_begin (time_by_plain plain) machine image end cores port c.requires.machine c.requires.end
+    let first = turns_begin (time_by_net net) machine image end cores port c.requires.machine c.requires.end
     (ready_again (CanRunInterval machine end (base_of port.world) (size_of port.world) (l1i_of port.world)) c.args.cores.now cores reserved.timed c.requires.ready)
     reserved.spare (c.reserve_all.auto.cores ∙ c.requires.count) (reserved.numbered c.requires.numbered) c.requires.stamps c.requires.none c.requires.room
     in
-    let h : HaveTaken (time_by_plain plain) image end most (phase_of cores port) turns after last = did.taken most first in
-    let legal : bound_phase shards_serve (time_by_plain plain) image end turns (phase_of cores port) ≡ Ok (phase_of after last) = did.legal in
+    let h : HaveTaken (time_by_net net) image end most (phase_of cores port) turns after last = did.taken most first in
+    let legal : bound_phase shards_serve (time_by_net net) image end turns (phase_of cores port) ≡ Ok (phase_of after last) = did.legal in
     let timely : bound_phase shards_serve (time_of machine) image end turns (phase_of cores port) ≡ Ok (phase_of after last) =
-    subst (λ (times : Entry → ℕ). bound_phase shards_serve times image end turns (phase_of cores port) ≡ Ok (phase_of after last)) (same_times machine plain c.requires.plain) legal
+    subst (λ (times : Entry → ℕ). bound_phase shards_serve times image end turns (phase_of cores port) ≡ Ok (phase_of after last)) (same_times machine net c.requires.net) legal
     in
     record {
       phase = subst (λ (s : BoundState ShardWorld). bound_phase shards_serve (time_of machine) image end turns s ≡ Ok (phase_of after last)) begun timely;
@@ -78,7 +78,7 @@ returns-in-Err-clause-illegal c =
     let machine = c.args.machine.now in
     let image = c.args.program.now in
     let end = c.args.end in
-    let plain = c.args.plain.now in
+    let net = c.args.net.now in
     let cores = c.reserve_all.new.cores in
     let port = c.args.port.now in
     let turns = c.args.turns.now in
@@ -87,8 +87,8 @@ returns-in-Err-clause-illegal c =
     let begun : phase_of cores port ≡ phase_of c.args.cores.now port =
     ap (λ (cs : List TimedCore). let s : BoundState ShardWorld = record { cores = cs; world = port.world; entries = port.entries } in s) reserved.timed
     in
-    let illegal : bound_phase shards_serve (time_by_plain plain) image end turns (phase_of cores port) ≡ Err place = c.in-Err.ensures.illegal in
+    let illegal : bound_phase shards_serve (time_by_net net) image end turns (phase_of cores port) ≡ Err place = c.in-Err.ensures.illegal in
     let timely : bound_phase shards_serve (time_of machine) image end turns (phase_of cores port) ≡ Err place =
-    subst (λ (times : Entry → ℕ). bound_phase shards_serve times image end turns (phase_of cores port) ≡ Err place) (same_times machine plain c.requires.plain) illegal
+    subst (λ (times : Entry → ℕ). bound_phase shards_serve times image end turns (phase_of cores port) ≡ Err place) (same_times machine net c.requires.net) illegal
     in
     (refl, subst (λ (s : BoundState ShardWorld). bound_phase shards_serve (time_of machine) image end turns s ≡ Err place) begun timely)

@@ -2,7 +2,7 @@ use Rattle.std.proofs.Common.{◌≡◌, ◌<◌, get_or, length, true, false, S
 use Rattle.std.specs.Prelude.{is_some, slice_get}
 use Rattle.std.proofs.lemmas.Option.{slice_get-get_or, slice_get_within}
 use Rattle.bound_core.specs.Turn.{IsOver}
-use Rattle.replay.specs.Turns.{chosen, time_by_plain}
+use Rattle.replay.specs.Turns.{chosen, time_by_net}
 use Rattle.replay.proofs.Cores.{all_timed}
 use Rattle.replay.proofs.RunCores.{set_cases}
 use Rattle.replay.proofs.TakingTurns.{one_ended, still_asks}
@@ -43,7 +43,7 @@ take_turn-requires-clause-way c =
 pub loop-number-preserved : goal.loop-number-preserved
 loop-number-preserved c =
     let n = c.loop-number.number in
-    let time = time_by_plain c.args.plain.now in
+    let time = time_by_net c.args.net.now in
     let image = c.args.program.now in
     let end = c.args.end in
     let cores = c.loop-number.cores in
@@ -68,7 +68,7 @@ returns-then-take_turn-clause-illegal c = λ is most first turns h.
     let here : slice_get cores n ≡ Some core = slice_get-get_or cores n c.index-cores-number.result below in
     let some : c.take_turn.result ≡ true = search rules in
     let took = (c.take_turn.ensures.took some).1 in
-    still_asks (time_by_plain c.args.plain.now) c.args.program.now c.args.end most first cores c.loop-number.port n core here turns (c.loop-number.invariant.way most first turns h) (ap is_some took.turn.asked)
+    still_asks (time_by_net c.args.net.now) c.args.program.now c.args.end most first cores c.loop-number.port n core here turns (c.loop-number.invariant.way most first turns h) (ap is_some took.turn.asked)
 
 pub returns-clause-taken : goal.returns-clause-taken
 returns-clause-taken c = λ is. c.loop-number.invariant.way

@@ -5,12 +5,12 @@ use Rattle.bound_core.specs.ReferenceMachine.{BoundState}
 use Rattle.bound_core.specs.ShardWorld.{ShardWorld}
 use Rattle.bound_core.specs.NumberedCores.{NumberedCore}
 use Rattle.bound_core.specs.Turn.{IsOver}
-use Rattle.replay.specs.Turns.{HaveTaken, time_by_plain}
+use Rattle.replay.specs.Turns.{HaveTaken, time_by_net}
 use Rattle.replay.proofs.turns.end_all.Given as goal
 
 abbrev pub invariant-loop-number : goal.invariant-loop-number
 invariant-loop-number l = record {
-  way : (most : ℕ) (first : BoundState ShardWorld) (turns : List ℕ) → HaveTaken (time_by_plain l.plain) l.program l.end most first turns l.initial.cores l.initial.port
-      → HaveTaken (time_by_plain l.plain) l.program l.end most first turns l.cores l.port;
+  way : (most : ℕ) (first : BoundState ShardWorld) (turns : List ℕ) → HaveTaken (time_by_net l.net) l.program l.end most first turns l.initial.cores l.initial.port
+      → HaveTaken (time_by_net l.net) l.program l.end most first turns l.cores l.port;
   over : (i : ℕ) (c : NumberedCore) → i < l.number → slice_get l.cores i ≡ Some c → IsOver l.end c.timed;
 }

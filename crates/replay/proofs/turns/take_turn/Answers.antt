@@ -2,7 +2,7 @@ use Rattle.std.proofs.Common.{refl, sym, ◌∙◌, ap, subst, arith}
 use Rattle.bound_core.specs.ShardPort.{base_of, l1i_of, size_of}
 use Rattle.bound_core.proofs.Accesses.{clock_within}
 use Rattle.replay.specs.Port.{LoggedPortState}
-use Rattle.replay.specs.Turns.{TakesAccess, TakesNone, time_by_plain}
+use Rattle.replay.specs.Turns.{TakesAccess, TakesNone, time_by_net}
 use Rattle.replay.proofs.turns.take_turn.Goals as goal
 
 pub turn-requires-clause-base : goal.turn-requires-clause-base
@@ -27,7 +27,7 @@ returns-in-Took-clause-took c = λ is.
     let core = c.args.core.now in
     let after = c.turn.new.self in
     let e = c.in-Took._entry in
-    let time = time_by_plain c.args.plain.now in
+    let time = time_by_net c.args.net.now in
     let found : TakesAccess time c.args.program.now c.args.end c.choose.new.self port core after e = record {
       turn = did.turn;
       own = did.core;

@@ -7,7 +7,7 @@ use Rattle.bound_core.specs.ShardWorld.{ShardWorld, shards_serve}
 use Rattle.bound_core.specs.NumberedCores.{NumberedCore}
 use Rattle.bound_core.proofs.Reaching.{whole_phase}
 use Rattle.replay.specs.Simulation.{phase_of}
-use Rattle.replay.specs.Turns.{HaveTaken, chosen, time_by_plain}
+use Rattle.replay.specs.Turns.{HaveTaken, chosen, time_by_net}
 use Rattle.replay.proofs.TakingTurns.{no_access, one_taken}
 use Rattle.replay.proofs.turns.take_turns.Goals as goal
 
@@ -51,7 +51,7 @@ take_turn-requires-clause-way c =
 
 pub loop-place-preserved : goal.loop-place-preserved
 loop-place-preserved c =
-    let time = time_by_plain c.args.plain.now in
+    let time = time_by_net c.args.net.now in
     let image = c.args.program.now in
     let end = c.args.end in
     let turns = c.args.turns.now in
@@ -83,7 +83,7 @@ loop-place-preserved c =
 
 pub returns-then-not-take_turn-clause-illegal : goal.returns-then-not-take_turn-clause-illegal
 returns-then-not-take_turn-clause-illegal c =
-    let time = time_by_plain c.args.plain.now in
+    let time = time_by_net c.args.net.now in
     let image = c.args.program.now in
     let end = c.args.end in
     let turns = c.args.turns.now in
@@ -115,13 +115,13 @@ end_all-requires-clause-taken c =
       most,
       first,
       turns,
-      subst (λ (ns : List ℕ). HaveTaken (time_by_plain c.args.plain.now) c.args.program.now c.args.end most first ns c.loop-place.cores c.loop-place.port)
+      subst (λ (ns : List ℕ). HaveTaken (time_by_net c.args.net.now) c.args.program.now c.args.end most first ns c.loop-place.cores c.loop-place.port)
           (take_all c.loop-place.place turns past) (c.loop-place.invariant.way most c.requires.begins.1),
     )
 
 pub returns-then-end_all-clause-legal : goal.returns-then-end_all-clause-legal
 returns-then-end_all-clause-legal c =
-    let time = time_by_plain c.args.plain.now in
+    let time = time_by_net c.args.net.now in
     let image = c.args.program.now in
     let end = c.args.end in
     let turns = c.args.turns.now in
@@ -140,8 +140,8 @@ returns-then-end_all-clause-taken c = λ most begins.
     let turns = c.args.turns.now in
     let first : BoundState ShardWorld = phase_of c.args.cores.now c.args.port.now in
     let past : length turns ≤ c.loop-place.place = omega (arith, c.loop-place-test.false, c.loop-place.auto.place-end) in
-    let whole : HaveTaken (time_by_plain c.args.plain.now) c.args.program.now c.args.end most first turns c.loop-place.cores c.loop-place.port =
-    subst (λ (ns : List ℕ). HaveTaken (time_by_plain c.args.plain.now) c.args.program.now c.args.end most first ns c.loop-place.cores c.loop-place.port)
+    let whole : HaveTaken (time_by_net c.args.net.now) c.args.program.now c.args.end most first turns c.loop-place.cores c.loop-place.port =
+    subst (λ (ns : List ℕ). HaveTaken (time_by_net c.args.net.now) c.args.program.now c.args.end most first ns c.loop-place.cores c.loop-place.port)
     (take_all c.loop-place.place turns past) (c.loop-place.invariant.way most begins)
     in
     let ended : c.end_all.result ≡ true = search rules in
@@ -153,8 +153,8 @@ returns-else-end_all-clause-illegal c =
     let first : BoundState ShardWorld = phase_of c.args.cores.now c.args.port.now in
     let past : length turns ≤ c.loop-place.place = omega (arith, c.loop-place-test.false, c.loop-place.auto.place-end) in
     let most = c.requires.begins.0 in
-    let whole : HaveTaken (time_by_plain c.args.plain.now) c.args.program.now c.args.end most first turns c.loop-place.cores c.loop-place.port =
-    subst (λ (ns : List ℕ). HaveTaken (time_by_plain c.args.plain.now) c.args.program.now c.args.end most first ns c.loop-place.cores c.loop-place.port)
+    let whole : HaveTaken (time_by_net c.args.net.now) c.args.program.now c.args.end most first turns c.loop-place.cores c.loop-place.port =
+    subst (λ (ns : List ℕ). HaveTaken (time_by_net c.args.net.now) c.args.program.now c.args.end most first ns c.loop-place.cores c.loop-place.port)
     (take_all c.loop-place.place turns past) (c.loop-place.invariant.way most c.requires.begins.1)
     in
     let still : c.end_all.result ≡ false = search rules in

@@ -37,6 +37,10 @@ run_cores-requires-clause-room g c κs within =
     let small : access_room machine ≤ 2 ^ 22 = omega (arith, value, c.access_room.ensures.small) in
     omega (arith, far, room, small)
 
+pub run_cores-requires-clause-numbered : goal.run_cores-requires-clause-numbered
+run_cores-requires-clause-numbered g c κs within = λ i core here.
+    c.requires.room.numbered i core (ap (λ (cores : List NumberedCore). slice_get cores i) (sym c.deref_mut.ensures.value) ∙ here)
+
 pub take_sorted-entries-requires : goal.take_sorted-entries-requires
 take_sorted-entries-requires g c =
     let p = c.args.self in

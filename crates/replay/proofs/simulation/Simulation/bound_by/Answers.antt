@@ -24,7 +24,7 @@ returns-in-Ok-clause-bounded g c =
     let b = c.in-Ok.bounded in
     let was = c.in-Shared.shards.items in
     let timely : IsBound (time_of machine) image end p.cores.items was b.cores.items b.shards.items b.entries =
-    subst (λ (times : Entry → ℕ). IsBound times image end p.cores.items was b.cores.items b.shards.items b.entries) (same_times machine c.args.plain.now c.requires.plain) c.in-Ok.ensures.bound
+    subst (λ (times : Entry → ℕ). IsBound times image end p.cores.items was b.cores.items b.shards.items b.entries) (same_times machine c.args.net.now c.requires.net) c.in-Ok.ensures.bound
     in
     let bound : IsBound (time_of machine) image end p.cores.items (shards_in p.memory) b.cores.items b.shards.items b.entries =
     subst (λ (shards : List ShardState). IsBound (time_of machine) image end p.cores.items shards b.cores.items b.shards.items b.entries) (sym (ap shards_in c.in-Shared.is)) timely

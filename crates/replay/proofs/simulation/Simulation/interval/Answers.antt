@@ -15,5 +15,11 @@ weave-requires-clause-bound g c κs within =
 pub returns-clause-leads : goal.returns-clause-leads
 returns-clause-leads g c = λ s on.
     let bound = c.in_ok-simulation.ensures in
-    c.in_ok-weave.ensures c.args.program.now s (map (λ (e : Entry). e.core) c.in_ok-simulation.entries)
+    c.in_ok-weave.ensures.leads c.args.program.now s (map (λ (e : Entry). e.core) c.in_ok-simulation.entries)
     (record { end = c.args.end; before = c.args.self; goes_on = on; bounded = bound.bounded; comps = bound.comps; counters = bound.counters })
+
+pub returns-clause-recorded : goal.returns-clause-recorded
+returns-clause-recorded g c = λ s on recorded.
+    let bound = c.in_ok-simulation.ensures in
+    c.in_ok-weave.ensures.recorded c.args.program.now s (map (λ (e : Entry). e.core) c.in_ok-simulation.entries)
+    (record { end = c.args.end; before = c.args.self; goes_on = on; bounded = bound.bounded; comps = bound.comps; counters = bound.counters }) recorded

@@ -1,4 +1,4 @@
-use Rattle.std.proofs.Common.{◌≡◌, ◌^◌, ◌≤◌, All, Err, List, length, map, subst, sym, ap, ◌∙◌}
+use Rattle.std.proofs.Common.{◌≡◌, ◌^◌, ◌≤◌, All, Err, List, [], length, map, subst, sym, ap, ◌∙◌, arith}
 use Rattle.component.specs.declared.comp.Comp.{Comp}
 use Rattle.component.specs.ComponentStep.{free_of}
 use Rattle.component.specs.Components.{AreComponents}
@@ -93,3 +93,7 @@ returns-clause-leads c = λ s g.
 
 pub returns-clause-alone : goal.returns-clause-alone
 returns-clause-alone c = ap is_alone c.in_ok-take_in.ensures.memory ∙ c.in_ok-entries.ensures.alone
+
+-- a replay keeps no events
+pub take_in-requires-clause-recording : goal.take_in-requires-clause-recording
+take_in-requires-clause-recording c = record { intervals = []; few = omega arith; is = tt }

@@ -17,13 +17,32 @@ use Rattle.replay.specs.ReferenceRun.{all_delayed, time_of, woven_interval}
 use Rattle.replay.specs.Simulation.{AreNumbered, cores_of}
 use Rattle.replay.proofs.Cores.{each_clock}
 use Rattle.replay.proofs.IntervalWeave.{woven_events}
-use Rattle.replay.proofs.NextInterval.{Laws, fits_more, leads_on}
+use Rattle.replay.proofs.NextInterval.{Laws, fits_more, goes_on, leads_on}
+use Rattle.replay.proofs.Recordings.{are_firings}
 use Rattle.replay.proofs.simulation.Simulation.take_in.Goals as goal
 
 pub woven_of-requires-clause-fired : goal.woven_of-requires-clause-fired
 woven_of-requires-clause-fired c =
     let h = c.requires.fired.3 in
     (h.before.comps, c.args.entries.now, c.args.self.now.comps, h.woven)
+
+pub keep-requires-clause-fired : goal.keep-requires-clause-fired
+keep-requires-clause-fired c =
+    let h = c.requires.fired.3 in
+    let timely = (c.in_ok-woven.ensures h.before.comps c.args.entries.now c.args.self.now.comps h.woven).timely in
+    are_firings c.in_ok-woven.woven.graph c.in_ok-woven.woven.fired timely
+
+pub keep-requires-clause-few : goal.keep-requires-clause-few
+keep-requires-clause-few c =
+    let h = c.requires.fired.3 in
+    let weave = c.in_ok-woven.ensures h.before.comps c.args.entries.now c.args.self.now.comps h.woven in
+    omega (arith, weave.few, h.bounded.few, (goes_on c.args.machine.now c.requires.fired.1 h.goes_on.on).accesses_left)
+
+pub keep-requires-clause-there : goal.keep-requires-clause-there
+keep-requires-clause-there c =
+    let h = c.requires.fired.3 in
+    let weave = c.in_ok-woven.ensures h.before.comps c.args.entries.now c.args.self.now.comps h.woven in
+    (c.args.machine.now, c.requires.recording, weave.there)
 
 pub delay_all-requires-clause-clocks : goal.delay_all-requires-clause-clocks
 delay_all-requires-clause-clocks c =
@@ -119,3 +138,13 @@ returns-clause-leads c = λ image s turns h.
     (record { cores = with_items q.cores c.delay_all.new.cores; memory = q.memory; comps = q.comps; counters = c.add.new.self })
     (ap timed_of written ∙ waited) (subst AreNumbered (sym written) numbered) refl comps
     (c.add.ensures ∙ ap (λ (counts : Counts). added counts i q.comps) h.counters)
+
+pub returns-clause-recorded : goal.returns-clause-recorded
+returns-clause-recorded c = λ image s turns h recorded.
+    let machine = c.args.machine.now in
+    let entries : List Entry = c.args.entries.now in
+    let weave = c.in_ok-woven.ensures h.before.comps entries c.args.self.now.comps h.woven in
+    let from : h.before.comps ≡ s.comps = h.goes_on.come.comps in
+    let i : Interval = woven_interval machine s.comps entries in
+    let is : interval_of entries c.in_ok-woven.woven ≡ i = weave.is ∙ ap (λ (comps : List Comp). woven_interval machine comps entries) from in
+    c.in_ok-keep.ensures.added machine s.intervals i (ap (λ (j : Interval). j.events) (sym is)) (ap (λ (j : Interval). j.fired) (sym is)) recorded

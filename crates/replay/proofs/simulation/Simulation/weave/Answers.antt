@@ -46,9 +46,16 @@ take_in-requires-clause-comp_counts g c =
     let h = c.requires.bound.3 in
     ap (λ (counts : Counts). length counts.comp_counts) h.counters ∙ (has_room c.args.machine.now h.end c.requires.bound.1 h.before h.goes_on).comps
 
-pub returns : goal.returns
-returns g c = λ image s turns h.
+pub returns-clause-leads : goal.returns-clause-leads
+returns-clause-leads g c = λ image s turns h.
     let machine = c.args.machine.now in
-    c.in_ok-take_in.ensures.leads image s turns
-    (has_fired machine image h.end s turns h.before c.args.self.now c.args.entries.now c.in_ok-graph.graph c.in_ok-fired.fired c.fire_all.new.comps
-    h.goes_on h.bounded h.comps h.counters (has_room machine h.end s h.before h.goes_on).components c.in_ok-graph.ensures c.in_ok-fired.ensures.fired c.in_ok-fired.ensures.comps)
+    let fired = has_fired machine image h.end s turns h.before c.args.self.now c.args.entries.now c.in_ok-graph.graph c.in_ok-fired.fired c.fire_all.new.comps
+    h.goes_on h.bounded h.comps h.counters (has_room machine h.end s h.before h.goes_on).components c.in_ok-graph.ensures c.in_ok-fired.ensures.fired c.in_ok-fired.ensures.comps in
+    c.in_ok-take_in.ensures.leads image s turns fired
+
+pub returns-clause-recorded : goal.returns-clause-recorded
+returns-clause-recorded g c = λ image s turns h recorded.
+    let machine = c.args.machine.now in
+    let fired = has_fired machine image h.end s turns h.before c.args.self.now c.args.entries.now c.in_ok-graph.graph c.in_ok-fired.fired c.fire_all.new.comps
+    h.goes_on h.bounded h.comps h.counters (has_room machine h.end s h.before h.goes_on).components c.in_ok-graph.ensures c.in_ok-fired.ensures.fired c.in_ok-fired.ensures.comps in
+    c.in_ok-take_in.ensures.recorded image s turns fired recorded
