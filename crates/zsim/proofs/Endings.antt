@@ -1,7 +1,7 @@
 -- How a call ended: an input was not taken, memory ran out in the run, a schedule was not legal, or the run came to its
 -- end.
-use Rattle.std.proofs.Common.{◌≡◌, ◌⊎◌, ℕ, Bool, true, false, List, [], Option, Some, None, Ok, Err, Result, option_map, refl, sym, inl, inr, ap, subst}
-use Rattle.std.specs.Prelude.{IsOk, IsSomeAnd, MatchOption, is_ok, if◌then◌else◌, length, nat_lt}
+use Rattle.std.proofs.Common.{◌≡◌, ◌⊎◌, ℕ, Bool, true, false, List, [], ◌∷◌, ◌++◌, Option, Some, None, Ok, Err, Result, refl, sym, inl, inr, ap, subst}
+use Rattle.std.specs.Prelude.{◌<◌, IsOk, IsSomeAnd, is_ok, if◌then◌else◌, length, nat_lt}
 use Rattle.access_log.specs.Schedule.{ScheduleState}
 use Rattle.machine_desc.specs.declared.errors.BadMachine.{BadMachine}
 use Rattle.machine_desc.specs.declared.machine.Machine.{Machine}
@@ -12,6 +12,7 @@ use Rattle.elf_load.specs.Image.{image_of}
 use Rattle.elf_load.specs.MemoryImage.{MemoryImage}
 use Rattle.replay.specs.ReferenceRun.{Illegal, IsIllegalAt, IsKeptInOrder}
 use Rattle.replay.specs.Results.{Results}
+use Rattle.replay.specs.RunEvents.{events_limit}
 use Rattle.schedule_file.specs.declared.bad_schedule.BadSchedule.{BadSchedule}
 use Rattle.schedule_file.specs.ScheduleFile.{schedule_file_of, schedule_of}
 use Rattle.zsim.specs.declared.ended.Kept.{Kept}
@@ -19,14 +20,16 @@ use Rattle.zsim.specs.declared.ended.ScheduleFault.TheVariants as fault
 use Rattle.zsim.specs.declared.ended.Status.{Status}
 use Rattle.zsim.specs.declared.ended.Status.TheVariants as status
 use Rattle.zsim.specs.declared.ended.Which.TheVariants as which
-use Rattle.zsim.specs.CommandLine.{Command, exe_file, record_name, replay}
-use Rattle.zsim.specs.Ended.{Gives, EndsAs, IsExeOf, IsMachineText, IsRefusedAt, IsScheduleFile, IsScheduleOf, KeepsAll, KeepsExe, KeepsMachine, KeepsNothing, KeepsText, NothingFailed, Seen, no_intervals, status_at}
+use Rattle.zsim.specs.CommandLine.{Execution, Task, events_name, exe_file, replay, run}
+use Rattle.zsim.specs.Ended.{Gives, EndsAs, IsExeOf, IsMachineText, IsOutputName, IsRefusedAt, IsScheduleFile, IsScheduleOf, IsShortEnough, KeepsAll, KeepsExe, KeepsMachine, KeepsNothing, KeepsText, NothingFailed, Seen, no_intervals, status_at}
 use Rattle.zsim.specs.InputLengths.{exe_limit, machine_limit, schedule_limit}
+use Rattle.zsim.specs.Outputs.{NamedFile, outputs_of}
 use Rattle.zsim.specs.Report.{report_of}
-use Rattle.zsim.specs.Seen.{FilesSeen, FailedToWrite, FileFailed, GainedNothing, NoPutFailed, WasCut, WasWritten}
+use Rattle.zsim.specs.Seen.{GainedNothing, NoPutFailed}
 use Rattle.zsim.specs.Setup.{Setup, image_by, machine_by, schedule_by, setup_of, with_image, with_machine, with_schedule}
-use Rattle.zsim.specs.Steps.{FinishesAs, IsNotTaken, IsUntouched, ReplaysAs, ReplaysFile, RunGives, RunsAs, named_file}
+use Rattle.zsim.specs.Steps.{FinishesAs, IsNotTaken, IsUntouched, ReplaysAs, ReplaysFile, RunGives, RunsAs}
 use Rattle.zsim.proofs.FilesSoFar.{failed_input}
+use Rattle.zsim.proofs.OutputsDone.{output_of_two}
 use Rattle.zsim.proofs.ScheduleCores.{schedule_cores}
 
 -- ---- which refusals there are
@@ -37,7 +40,7 @@ refused_machine P is_long is_bad true found s is = let same : status.TooLong whi
 refused_machine P is_long is_bad false (Ok machine) s is = absurd cc
 refused_machine P is_long is_bad false (Err bad) s is = let same : status.BadMachine bad ≡ s = cc in subst P same (is_bad bad)
 
-machine_refuses : (P : Status → Type 0) → P (status.TooLong which.Machine) → ((bad : BadMachine) → P (status.BadMachine bad))
+pub machine_refuses : (P : Status → Type 0) → P (status.TooLong which.Machine) → ((bad : BadMachine) → P (status.BadMachine bad))
     → (text : List ℕ) (s : Status) → machine_by text ≡ Err s → P s
 unfolding machine_by
 machine_refuses P is_long is_bad text s is = refused_machine P is_long is_bad (nat_lt machine_limit (length text)) (machine_of text) s is
@@ -77,9 +80,9 @@ pub record IsBefore (seen : Seen) (k : Kept) : Type 0 where
 module _ (seen : Seen) (k : Kept) (before : IsBefore seen k) where
   -- the first input
   pub machine_not_taken : (s : Status) → IsNotTaken (λ files. IsMachineText files seen.command.machine) machine_by seen.command.machine s seen.files k.machine
-      → k.exe ≡ [] → k.sched_file ≡ [] → k.schedule ≡ no_intervals 0 → EndsAs seen s k
-  machine_not_taken s (inl (is, none, not_read, same)) exe sched_file schedule =
-      let nothing : KeepsNothing k = record { machine = none; exe = exe; sched_file = sched_file; schedule = schedule } in
+      → k.exe ≡ [] → k.sched_file ≡ [] → k.schedule ≡ no_intervals 0 → k.events ≡ [] → EndsAs seen s k
+  machine_not_taken s (inl (is, none, not_read, same)) exe sched_file schedule events =
+      let nothing : KeepsNothing k = record { machine = none; exe = exe; sched_file = sched_file; schedule = schedule; events = events } in
       let ended : EndsAs seen status.ReadFault k = record {
         kept = inl nothing;
         refusals = (inl (nothing, not_read), before.out);
@@ -88,8 +91,8 @@ module _ (seen : Seen) (k : Kept) (before : IsBefore seen k) where
         complete = λ no _. absurd (no (failed_input seen.files seen.command.machine not_read));
       } in
       subst (λ (t : Status). EndsAs seen t k) (sym is) ended
-  machine_not_taken s (inr (inl (is, inl none, quiet))) exe sched_file schedule =
-      let nothing : KeepsNothing k = record { machine = none; exe = exe; sched_file = sched_file; schedule = schedule } in
+  machine_not_taken s (inr (inl (is, inl none, quiet))) exe sched_file schedule events =
+      let nothing : KeepsNothing k = record { machine = none; exe = exe; sched_file = sched_file; schedule = schedule; events = events } in
       let ended : EndsAs seen status.NoMemory k = record {
         kept = inl nothing;
         refusals = record { files = quiet.no_fault; out = before.out };
@@ -98,7 +101,7 @@ module _ (seen : Seen) (k : Kept) (before : IsBefore seen k) where
         complete = λ _ _. inl refl;
       } in
       subst (λ (t : Status). EndsAs seen t k) (sym is) ended
-  machine_not_taken s (inr (inl (is, inr some, quiet))) exe sched_file schedule =
+  machine_not_taken s (inr (inl (is, inr some, quiet))) exe sched_file schedule events =
       let text : KeepsText seen k = record { machine = some; exe = exe; sched_file = sched_file; schedule = schedule } in
       let ended : EndsAs seen status.NoMemory k = record {
         kept = inr (inl text);
@@ -108,7 +111,7 @@ module _ (seen : Seen) (k : Kept) (before : IsBefore seen k) where
         complete = λ _ _. inl refl;
       } in
       subst (λ (t : Status). EndsAs seen t k) (sym is) ended
-  machine_not_taken s (inr (inr (refused, some, quiet))) exe sched_file schedule =
+  machine_not_taken s (inr (inr (refused, some, quiet))) exe sched_file schedule events =
       let text : KeepsText seen k = record { machine = some; exe = exe; sched_file = sched_file; schedule = schedule } in
       let none : NothingFailed seen = record { files = quiet.no_fault; out = before.out } in
       let setup : (t : Status) → machine_by k.machine ≡ Err t → setup_of seen.command k ≡ Err t = λ t is. rw is refl in
@@ -242,28 +245,16 @@ module _ (seen : Seen) (k : Kept) (before : IsBefore seen k) where
 
 -- ---- the run was begun
 
--- what was written to the file that is named, if one is
-recorded : (P : (name bytes : List ℕ) → Type 0) (none : Type 0) (bytes : List ℕ) (name : Option (List ℕ))
-    → MatchOption (option_map (λ n. named_file n bytes) name) none (λ f. P f.name f.bytes) → MatchOption name none (λ n. P n bytes)
-recorded P none bytes None is = is
-recorded P none bytes (Some name) is = is
-
-record_named : (P : (name bytes : List ℕ) → Type 0) (bytes : List ℕ) (name : Option (List ℕ))
-    → IsSomeAnd (option_map (λ n. named_file n bytes) name) (λ f. P f.name f.bytes) → IsSomeAnd name (λ n. P n bytes)
-record_named P bytes None is = absurd is
-record_named P bytes (Some name) is = is
-
-a_file_failed : (files : FilesSeen) (name : Option (List ℕ)) → IsSomeAnd name (FailedToWrite files) → FileFailed files
-a_file_failed files None is = absurd is
-a_file_failed files (Some name) is = is.failed
-
 elim_limit : (P : Bool → Type 0) → P true → P false → (limit : Bool) → P limit
 elim_limit P limited halted true = limited
 elim_limit P limited halted false = halted
 
-weaker : (P Q : List ℕ → Type 0) (name : Option (List ℕ)) → ((n : List ℕ) → P n → Q n) → IsSomeAnd name P → IsSomeAnd name Q
-weaker P Q None f is = absurd is
-weaker P Q (Some name) f is = f name is
+-- the file whose write failed is one that the command names
+output_name : (task : Task) (schedule : ScheduleState) (events : List ℕ) (done : List NamedFile) (cut : NamedFile) (rest : List NamedFile) → outputs_of task schedule events ≡ done ++ cut ∷ rest
+    → IsOutputName task cut.name
+output_name (run workers record_to events_to) schedule events done cut rest is = output_of_two record_to events_to (schedule_file_of schedule) events done cut rest is
+output_name (replay name) schedule events [] cut rest is = absurd cc
+output_name (replay name) schedule events (f ∷ fs) cut rest is = absurd cc
 
 module _ (seen : Seen) (k : Kept) (keeps : KeepsAll seen k) (setup : Setup) (setup_is : setup_of seen.command k ≡ Ok setup) (valid : IsMachine setup.machine) where
   sound : IsOk (setup_of seen.command k)
@@ -290,13 +281,13 @@ module _ (seen : Seen) (k : Kept) (keeps : KeepsAll seen k) (setup : Setup) (set
         refusals = (refused, record { files = untouched.quiet.no_fault; out = untouched.no_put });
         report = untouched.nothing;
         files = untouched.quiet.names;
-        complete = λ _ _. inr (rw setup_is (inr (at, refl, refused)));
+        complete = λ _ _. inr (rw setup_is (inr (inl (at, refl, refused))));
       }
 
   -- the run came to its end
   module _ (schedule : IsScheduleOf setup k.schedule) (r : Results) (run : RunGives setup.machine setup.image k.schedule r) where
     abbrev gives : Gives seen.command k r
-    gives = record { setup = setup; is = setup_is; sound = valid; schedule = schedule; run = run.0; counted = run.1 }
+    gives = record { setup = setup; is = setup_is; sound = valid; schedule = schedule; run = run.run; counted = run.counted; events = run.events; events_are = run.events_are }
 
     abbrev text : List ℕ
     text = report_of setup.machine seen.command.brief r
@@ -311,82 +302,92 @@ module _ (seen : Seen) (k : Kept) (keeps : KeepsAll seen k) (setup : Setup) (set
       complete = λ _ _. inl refl;
     }
 
-    pub finished : (s : Status) → FinishesAs s r.limit text (option_map (λ n. named_file n (schedule_file_of k.schedule)) (record_name seen.command.task)) seen.files seen.out → EndsAs seen s k
-    finished s (inl (is, whole, no_put, no_file, written)) =
-        let record_is = recorded (WasWritten seen.files) _ (schedule_file_of k.schedule) (record_name seen.command.task) written in
+    -- but it has too many events for the file that is asked for
+    too_many : IsSomeAnd (events_name seen.command.task) (λ name. events_limit < length run.events) → IsUntouched seen.files seen.out → EndsAs seen (status.TooLong which.Events) k
+    too_many long untouched = record {
+      kept = keeps;
+      refusals = ((r, gives, long), record { files = untouched.quiet.no_fault; out = untouched.no_put });
+      report = ((r, gives), untouched.nothing);
+      files = untouched.quiet.names;
+      complete = λ _ _. inr (rw setup_is (inr (inr (refl, (r, gives, long)))));
+    }
+
+    pub finished : (s : Status) → IsShortEnough seen.command.task run.events → FinishesAs s r.limit text (outputs_of seen.command.task k.schedule run.events) seen.files seen.out → EndsAs seen s k
+    finished s short_enough (inl (is, whole, no_put, no_file, written)) =
         let by_limit : (limit : Bool) → r.limit ≡ limit → EndsAs seen (status_at limit) k =
         elim_limit (λ (limit : Bool). r.limit ≡ limit → EndsAs seen (status_at limit) k)
         (λ ends. record {
           kept = keeps;
           refusals = (sound, record { files = no_file; out = no_put });
-          report = (r, gives, rw ends refl, whole);
-          files = record_is;
-          complete = λ _ _. inr (rw setup_is (inl ((r, gives, rw ends refl, whole), record_is)));
+          report = (r, gives, short_enough, rw ends refl, whole);
+          files = (r, gives, written);
+          complete = λ _ _. inr (rw setup_is (inl ((r, gives, short_enough, rw ends refl, whole), (r, gives, written))));
         })
         (λ ends. record {
           kept = keeps;
           refusals = (sound, record { files = no_file; out = no_put });
-          report = (r, gives, rw ends refl, whole);
-          files = record_is;
-          complete = λ _ _. inr (rw setup_is (inl ((r, gives, rw ends refl, whole), record_is)));
+          report = (r, gives, short_enough, rw ends refl, whole);
+          files = (r, gives, written);
+          complete = λ _ _. inr (rw setup_is (inl ((r, gives, short_enough, rw ends refl, whole), (r, gives, written))));
         }) in
         subst (λ (t : Status). EndsAs seen t k) (sym is) (by_limit r.limit refl)
-    finished s (inr (inl (is, part, failed, quiet))) =
+    finished s short_enough (inr (inl (is, part, failed, quiet))) =
         let ended : EndsAs seen status.WriteFault k = record {
           kept = keeps;
           refusals = (sound, inl (quiet.no_fault, failed));
-          report = inl (failed, (r, gives, part));
+          report = inl (failed, (r, gives, short_enough, part));
           files = inl (failed, quiet.names);
           complete = λ _ no. absurd (no failed);
         } in
         subst (λ (t : Status). EndsAs seen t k) (sym is) ended
-    finished s (inr (inr (inl (is, part, no_put, quiet)))) =
+    finished s short_enough (inr (inr (inl (is, part, no_put, quiet)))) =
         let ended : EndsAs seen status.NoMemory k = record {
           kept = inr (inr (inr (inr keeps)));
           refusals = record { files = quiet.no_fault; out = no_put };
-          report = inr (inr (inr (inl (r, gives, part))));
+          report = inr (inr (inr (inl (r, gives, short_enough, part))));
           files = inl quiet.names;
           complete = λ _ _. inl refl;
         } in
         subst (λ (t : Status). EndsAs seen t k) (sym is) ended
-    finished s (inr (inr (inr (inl (is, whole, no_put, failed))))) =
-        let bytes = schedule_file_of k.schedule in
-        let name = record_name seen.command.task in
-        let both = record_named (λ n b. FailedToWrite seen.files n × WasCut seen.files n b) bytes name failed in
-        let cut = weaker _ (λ n. WasCut seen.files n bytes) name (λ n is. is.1) both in
-        let cause = weaker _ (FailedToWrite seen.files) name (λ n is. is.0) both in
-        let rose = a_file_failed seen.files name cause in
+    finished s short_enough (inr (inr (inr (inl (is, whole, no_put, failed))))) =
+        let short = failed.short in
+        let name = output_name seen.command.task k.schedule run.events short.done short.cut short.rest short.are in
+        let rose = failed.failed.failed in
         let ended : EndsAs seen status.WriteFault k = record {
           kept = keeps;
-          refusals = (sound, inr (cause, no_put));
-          report = inr (rose, (r, gives, whole));
-          files = inr (rose, (r, gives, whole), cut);
+          refusals = (sound, inr ((short.cut.name, name, failed.failed), no_put));
+          report = inr (rose, (r, gives, short_enough, whole));
+          files = inr (rose, (r, gives, short_enough, whole), (r, gives, short));
           complete = λ no _. absurd (no rose);
         } in
         subst (λ (t : Status). EndsAs seen t k) (sym is) ended
-    finished s (inr (inr (inr (inr (is, whole, no_put, no_file, cut))))) =
-        let bytes = schedule_file_of k.schedule in
-        let record_cut = record_named (WasCut seen.files) bytes (record_name seen.command.task) cut in
+    finished s short_enough (inr (inr (inr (inr (is, whole, no_put, no_file, cut))))) =
         let ended : EndsAs seen status.NoMemory k = record {
           kept = inr (inr (inr (inr keeps)));
           refusals = record { files = no_file; out = no_put };
-          report = inr (inr (inr (inr ((r, gives, whole), record_cut))));
-          files = inr ((r, gives, whole), record_cut);
+          report = inr (inr (inr (inr ((r, gives, short_enough, whole), (r, gives, cut)))));
+          files = inr ((r, gives, short_enough, whole), (r, gives, cut));
           complete = λ _ _. inl refl;
         } in
         subst (λ (t : Status). EndsAs seen t k) (sym is) ended
 
   -- a run, and a replay
-  pub ran : (s : Status) → setup.given ≡ None → IsKeptInOrder setup.machine setup.image k.schedule.lists → RunsAs s setup.machine setup.image seen.command.brief (record_name seen.command.task) k.schedule seen.files seen.out → EndsAs seen s k
-  ran s none in_order (inl (is, untouched)) = subst (λ (t : Status). EndsAs seen t k) (sym is) (stopped (rw none in_order) untouched)
-  ran s none in_order (inr (inl (is, (r, run), untouched))) = subst (λ (t : Status). EndsAs seen t k) (sym is) (unreported (rw none in_order) r run untouched)
-  ran s none in_order (inr (inr (r, run, finishes))) = finished (rw none in_order) r run s finishes
+  pub ran : (s : Status) (workers : ℕ) (record_to events_to : Option (List ℕ)) → seen.command.task ≡ run workers record_to events_to → setup.given ≡ None
+      → IsKeptInOrder setup.machine setup.image k.schedule.lists
+      → RunsAs s setup.machine setup.image seen.command.brief record_to events_to k.schedule seen.files seen.out → EndsAs seen s k
+  ran s workers record_to events_to is_run none in_order (inl (is, untouched)) = subst (λ (t : Status). EndsAs seen t k) (sym is) (stopped (rw none in_order) untouched)
+  ran s workers record_to events_to is_run none in_order (inr (inl (is, (r, gives), untouched))) =
+      subst (λ (t : Status). EndsAs seen t k) (sym is) (unreported (rw none in_order) r gives untouched)
+  ran s workers record_to events_to is_run none in_order (inr (inr (inl (is, (r, gives, long), untouched)))) =
+      subst (λ (t : Status). EndsAs seen t k) (sym is) (too_many (rw none in_order) r gives (rw is_run long) untouched)
+  ran s workers record_to events_to is_run none in_order (inr (inr (inr (r, gives, short, finishes)))) =
+      finished (rw none in_order) r gives s (rw is_run short) (rw is_run finishes)
 
-  pub replayed : (s : Status) → setup.given ≡ Some k.schedule → record_name seen.command.task ≡ None
+  pub replayed : (s : Status) (name : List ℕ) → seen.command.task ≡ replay name → setup.given ≡ Some k.schedule
       → ReplaysAs s setup.machine setup.image seen.command.brief k.schedule seen.files seen.out → EndsAs seen s k
-  replayed s given unnamed (inl (is, untouched)) = subst (λ (t : Status). EndsAs seen t k) (sym is) (stopped (rw given refl) untouched)
-  replayed s given unnamed (inr (inl (at, is, illegal, untouched))) = subst (λ (t : Status). EndsAs seen t k) (sym is) (refused_at at given illegal untouched)
-  replayed s given unnamed (inr (inr (r, run, finishes))) = finished (rw given refl) r run s (rw unnamed finishes)
+  replayed s name is_replay given (inl (is, untouched)) = subst (λ (t : Status). EndsAs seen t k) (sym is) (stopped (rw given refl) untouched)
+  replayed s name is_replay given (inr (inl (at, is, illegal, untouched))) = subst (λ (t : Status). EndsAs seen t k) (sym is) (refused_at at given illegal untouched)
+  replayed s name is_replay given (inr (inr (r, gives, finishes))) = finished (rw given refl) r gives s (rw is_replay tt) (rw is_replay finishes)
 
 -- the file of a schedule was not taken, or the replay came to this
 pub replayed_file : (seen : Seen) (k : Kept) (machine : Machine) (image : MemoryImage) (name : List ℕ) (s : Status) → IsMachine machine
@@ -405,21 +406,21 @@ replayed_file seen k machine image name s valid machine_is image_is text exe is_
       sched_file = rw is_replay sched_file;
       cores = rw machine_is (schedule_cores machine k.sched_file k.schedule is);
     } in
-    replayed seen k keeps setup setup_is valid s refl (ap record_name is_replay) replays
+    replayed seen k keeps setup setup_is valid s name is_replay refl replays
 
 -- standard output was not touched, or the run came to its end
-pub untouched_or_run : {S : Type 0} (command : Command) (k : Kept) (setup : Setup) → setup_of command k ≡ Ok setup → IsMachine setup.machine
+pub untouched_or_run : {S : Type 0} (command : Execution) (k : Kept) (setup : Setup) → setup_of command k ≡ Ok setup → IsMachine setup.machine
     → IsScheduleOf setup k.schedule → (old new : S)
     → (new ≡ old) ⊎ ((r : Results) × RunGives setup.machine setup.image k.schedule r) → (new ≡ old) ⊎ ((r : Results) × Gives command k r)
 untouched_or_run command k setup setup_is valid schedule old new (inl same) = inl same
-untouched_or_run command k setup setup_is valid schedule old new (inr (r, run)) =
-    inr (r, record { setup = setup; is = setup_is; sound = valid; schedule = schedule; run = run.0; counted = run.1 })
+untouched_or_run command k setup setup_is valid schedule old new (inr (r, came)) =
+    inr (r, record { setup = setup; is = setup_is; sound = valid; schedule = schedule; run = came.run; counted = came.counted; events = came.events; events_are = came.events_are })
 
-pub untouched_or_replayed : {S : Type 0} (command : Command) (k : Kept) (machine : Machine) (image : MemoryImage) (name : List ℕ) → IsMachine machine
+pub untouched_or_replayed : {S : Type 0} (command : Execution) (k : Kept) (machine : Machine) (image : MemoryImage) (name : List ℕ) → IsMachine machine
     → machine_by k.machine ≡ Ok machine → image_by machine k.exe ≡ Ok image → command.task ≡ replay name → (old new : S)
     → (new ≡ old) ⊎ ((schedule_by machine k.sched_file ≡ Ok k.schedule) × ((r : Results) × RunGives machine image k.schedule r)) → (new ≡ old) ⊎ ((r : Results) × Gives command k r)
 untouched_or_replayed command k machine image name valid machine_is image_is is_replay old new (inl same) = inl same
-untouched_or_replayed command k machine image name valid machine_is image_is is_replay old new (inr (is, run)) =
+untouched_or_replayed command k machine image name valid machine_is image_is is_replay old new (inr (is, came)) =
     let setup : Setup = record { machine = machine; image = image; given = Some k.schedule } in
     let setup_is : setup_of command k ≡ Ok setup = rw (machine_is, image_is, is_replay, is) refl in
-    untouched_or_run command k setup setup_is valid refl old new (inr run)
+    untouched_or_run command k setup setup_is valid refl old new (inr came)

@@ -1,18 +1,17 @@
 -- What holds of a call's files after two parts of it, of which the first changed nothing.
-use Rattle.std.proofs.Common.{ℕ, ◌+◌, Bool, List, Option, Some, None, Result, take, sym, ◌∙◌, ap, subst, inl, inr}
+use Rattle.std.proofs.Common.{◌⊎◌, ℕ, ◌+◌, Bool, IsTrue, List, [], ◌∷◌, ◌++◌, Option, Some, None, Result, take, sym, ◌∙◌, ap, subst, inl, inr}
 use Rattle.std.specs.Option.{option_map}
-use Rattle.std.specs.Prelude.{IsSomeAnd, MatchOption}
 use Rattle.zs_host.specs.declared.fault.Fault.{Fault}
 use Rattle.zs_host.specs.Faults.{Rose}
-use Rattle.zs_host.specs.Files.{HoldsOrCut}
 use Rattle.machine_desc.specs.declared.machine.Machine.{Machine}
 use Rattle.zsim.specs.declared.ended.Status.{Status}
 use Rattle.zsim.specs.CommandLine.{Exe, file, generated, replay}
 use Rattle.zsim.specs.Ended.{IsExeOf, IsMachineText, IsScheduleFile}
 use Rattle.zsim.specs.InputLengths.{exe_limit, schedule_limit}
-use Rattle.zsim.specs.Seen.{FilesSeen, SinkSeen, FailedToReadInput, FailedToWrite, FileFailed, NoFileFailed, SameNames, WasCut, WasRead, WasWritten, files_seen}
+use Rattle.zsim.specs.Outputs.{HoldsWith, NamedFile, WereCut, WereWritten, held_with, named_file}
+use Rattle.zsim.specs.Seen.{FilesSeen, SinkSeen, FailedToReadInput, FailedToWrite, FileFailed, NoFileFailed, SameNames, WasRead, files_seen}
 use Rattle.zsim.specs.Setup.{schedule_by}
-use Rattle.zsim.specs.Steps.{FinishesAs, IsNotTaken, IsQuiet, IsUntouched, NamedFile, ReplaysAs, ReplaysFile, RunsAs}
+use Rattle.zsim.specs.Steps.{FailedOnWrite, FinishesAs, IsNotTaken, IsQuiet, IsUntouched, ReplaysAs, ReplaysFile, RunsAs}
 use Rattle.access_log.specs.Schedule.{ScheduleState}
 use Rattle.elf_load.specs.MemoryImage.{MemoryImage}
 
@@ -79,56 +78,56 @@ module _ {F : Type 0} (is_seen : Bool) (contents : F → List ℕ → Option (Li
     not_taken IsText checked name s text lift (inr (inl (is, inr some, then_quiet))) = inr (inl (is, inr (lift text some), still_quiet then_quiet))
     not_taken IsText checked name s text lift (inr (inr (refused, is, then_quiet))) = inr (inr (refused, lift text is, still_quiet then_quiet))
 
-    -- a file was written then, or not
-    pub failed_to_write : (name : List ℕ) → FailedToWrite second name → FailedToWrite both name
+    -- files were written then, or not
+    failed_to_write : (name : List ℕ) → FailedToWrite second name → FailedToWrite both name
     failed_to_write name not_written = record { failed = failed not_written.failed; latest = not_written.latest }
 
-    pub was_written : (name bytes : List ℕ) → WasWritten second name bytes → WasWritten both name bytes
-    was_written name bytes written = record {
-      held = written.held;
-      others = λ told other unlike. written.others told other unlike ∙ quiet.names told other;
+    module _ (told : IsTrue is_seen) where
+      holds_later : (outputs : List NamedFile) → HoldsWith second outputs → HoldsWith both outputs
+      holds_later outputs holds name = holds name ∙ ap (λ (held : Option (List ℕ)). held_with outputs held name) (quiet.names told name)
+
+      cut_here : (done : List NamedFile) (cut : NamedFile) → HoldsWith second done ⊎ ((n : ℕ) × HoldsWith second (done ++ named_file cut.name (take n cut.bytes) ∷ []))
+          → HoldsWith both done ⊎ ((n : ℕ) × HoldsWith both (done ++ named_file cut.name (take n cut.bytes) ∷ []))
+      cut_here done cut (inl holds) = inl (holds_later done holds)
+      cut_here done cut (inr (n, holds)) = inr (n, holds_later (done ++ named_file cut.name (take n cut.bytes) ∷ []) holds)
+
+    whole_later : (outputs : List NamedFile) → WereWritten second outputs → WereWritten both outputs
+    whole_later outputs written = λ told. holds_later told outputs (written told)
+
+    abbrev cut_later : (outputs : List NamedFile) → WereCut second outputs → WereCut both outputs
+    cut_later outputs short = record {
+      done = short.done;
+      cut = short.cut;
+      rest = short.rest;
+      are = short.are;
+      held = λ told. cut_here told short.done short.cut (short.held told);
     }
 
-    pub was_cut : (name bytes : List ℕ) → WasCut second name bytes → WasCut both name bytes
-    was_cut name bytes cut = record {
-      held = λ told. subst (λ (held : Option (List ℕ)). HoldsOrCut held bytes (contents after name)) (quiet.names told name) (cut.held told);
-      others = λ told other unlike. cut.others told other unlike ∙ quiet.names told other;
-    }
+    failed_later : (outputs : List NamedFile) → FailedOnWrite second outputs → FailedOnWrite both outputs
+    failed_later outputs is = record { short = cut_later outputs is.short; failed = failed_to_write is.short.cut.name is.failed }
 
-    -- the outputs came as far
-    whole_later : (target : Option NamedFile) → MatchOption target (SameNames second) (λ f. WasWritten second f.name f.bytes) → MatchOption target (SameNames both) (λ f. WasWritten both f.name f.bytes)
-    whole_later None same = names same
-    whole_later (Some f) written = was_written f.name f.bytes written
-
-    cut_later : (target : Option NamedFile) → IsSomeAnd target (λ f. WasCut second f.name f.bytes) → IsSomeAnd target (λ f. WasCut both f.name f.bytes)
-    cut_later None none = absurd none
-    cut_later (Some f) cut = was_cut f.name f.bytes cut
-
-    failed_later : (target : Option NamedFile) → IsSomeAnd target (λ f. FailedToWrite second f.name × WasCut second f.name f.bytes) → IsSomeAnd target (λ f. FailedToWrite both f.name × WasCut both f.name f.bytes)
-    failed_later None none = absurd none
-    failed_later (Some f) is = (failed_to_write f.name is.0, was_cut f.name f.bytes is.1)
-
-    finishes_later : (s : Status) (limit : Bool) (text : List ℕ) (target : Option NamedFile) (out : SinkSeen) → FinishesAs s limit text target second out → FinishesAs s limit text target both out
-    finishes_later s limit text target out (inl (is, whole, no_put, none, written)) = inl (is, whole, no_put, no_fault none, whole_later target written)
-    finishes_later s limit text target out (inr (inl (is, part, put, then_quiet))) = inr (inl (is, part, put, still_quiet then_quiet))
-    finishes_later s limit text target out (inr (inr (inl (is, part, no_put, then_quiet)))) = inr (inr (inl (is, part, no_put, still_quiet then_quiet)))
-    finishes_later s limit text target out (inr (inr (inr (inl (is, whole, no_put, not_written))))) = inr (inr (inr (inl (is, whole, no_put, failed_later target not_written))))
-    finishes_later s limit text target out (inr (inr (inr (inr (is, whole, no_put, none, cut))))) = inr (inr (inr (inr (is, whole, no_put, no_fault none, cut_later target cut))))
+    finishes_later : (s : Status) (limit : Bool) (text : List ℕ) (outputs : List NamedFile) (out : SinkSeen) → FinishesAs s limit text outputs second out → FinishesAs s limit text outputs both out
+    finishes_later s limit text outputs out (inl (is, whole, no_put, none, written)) = inl (is, whole, no_put, no_fault none, whole_later outputs written)
+    finishes_later s limit text outputs out (inr (inl (is, part, put, then_quiet))) = inr (inl (is, part, put, still_quiet then_quiet))
+    finishes_later s limit text outputs out (inr (inr (inl (is, part, no_put, then_quiet)))) = inr (inr (inl (is, part, no_put, still_quiet then_quiet)))
+    finishes_later s limit text outputs out (inr (inr (inr (inl (is, whole, no_put, not_written))))) = inr (inr (inr (inl (is, whole, no_put, failed_later outputs not_written))))
+    finishes_later s limit text outputs out (inr (inr (inr (inr (is, whole, no_put, none, cut))))) = inr (inr (inr (inr (is, whole, no_put, no_fault none, cut_later outputs cut))))
 
     untouched_later : (out : SinkSeen) → IsUntouched second out → IsUntouched both out
     untouched_later out untouched = record { quiet = still_quiet untouched.quiet; no_put = untouched.no_put; nothing = untouched.nothing }
 
-    pub runs_later : (s : Status) (machine : Machine) (image : MemoryImage) (brief : Bool) (name : Option (List ℕ)) (schedule : ScheduleState) (out : SinkSeen)
-        → RunsAs s machine image brief name schedule second out → RunsAs s machine image brief name schedule both out
-    runs_later s machine image brief name schedule out (inl (is, untouched)) = inl (is, untouched_later out untouched)
-    runs_later s machine image brief name schedule out (inr (inl (is, run, untouched))) = inr (inl (is, run, untouched_later out untouched))
-    runs_later s machine image brief name schedule out (inr (inr (r, run, finishes))) = inr (inr (r, run, finishes_later s r.limit _ _ out finishes))
+    pub runs_later : (s : Status) (machine : Machine) (image : MemoryImage) (brief : Bool) (record_to events_to : Option (List ℕ)) (schedule : ScheduleState) (out : SinkSeen)
+        → RunsAs s machine image brief record_to events_to schedule second out → RunsAs s machine image brief record_to events_to schedule both out
+    runs_later s machine image brief record_to events_to schedule out (inl (is, untouched)) = inl (is, untouched_later out untouched)
+    runs_later s machine image brief record_to events_to schedule out (inr (inl (is, run, untouched))) = inr (inl (is, run, untouched_later out untouched))
+    runs_later s machine image brief record_to events_to schedule out (inr (inr (inl (is, long, untouched)))) = inr (inr (inl (is, long, untouched_later out untouched)))
+    runs_later s machine image brief record_to events_to schedule out (inr (inr (inr (r, run, short, finishes)))) = inr (inr (inr (r, run, short, finishes_later s r.limit _ _ out finishes)))
 
     pub replays_later : (s : Status) (machine : Machine) (image : MemoryImage) (brief : Bool) (schedule : ScheduleState) (out : SinkSeen)
         → ReplaysAs s machine image brief schedule second out → ReplaysAs s machine image brief schedule both out
     replays_later s machine image brief schedule out (inl (is, untouched)) = inl (is, untouched_later out untouched)
     replays_later s machine image brief schedule out (inr (inl (at, is, illegal, untouched))) = inr (inl (at, is, illegal, untouched_later out untouched))
-    replays_later s machine image brief schedule out (inr (inr (r, run, finishes))) = inr (inr (r, run, finishes_later s r.limit _ None out finishes))
+    replays_later s machine image brief schedule out (inr (inr (r, run, finishes))) = inr (inr (r, run, finishes_later s r.limit _ [] out finishes))
 
     pub replays_file_later : (s : Status) (machine : Machine) (image : MemoryImage) (brief : Bool) (name : List ℕ) (schedule : ScheduleState) (sched_file : List ℕ) (out : SinkSeen)
         → ReplaysFile s machine image brief name schedule sched_file second out → ReplaysFile s machine image brief name schedule sched_file both out

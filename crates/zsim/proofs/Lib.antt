@@ -1,11 +1,15 @@
+pub mod CheckEndings
 pub mod Endings
 pub mod FilesSoFar
 pub mod MatchedCommands
 pub mod Numbers
+pub mod OutputsApart
 pub mod OutputsDone
 pub mod Pieces
 pub mod PlainWords
+pub mod RecordedRun
 pub mod Repeating
 pub mod RunsAs
 pub mod ScheduleCores
 pub mod SimpleOptions
+pub mod WrittenInTurn

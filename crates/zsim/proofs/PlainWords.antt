@@ -10,9 +10,9 @@ use Rattle.clap.specs.Simple.{Shape, built, entered}
 use Rattle.clap.specs.Walk.{Held, Rule, Walk, after_step, arg_by_id, arg_by_index, finished, idle, next, option, option_word, nothing_held, settled, to_positional, walk, walked}
 use Rattle.clap.specs.Words.{App, fault_of, first_of, matches_of}
 use Rattle.clap.proofs.OnLiterals.{clap_on_literals}
-use Rattle.zsim.specs.CommandLine.{Command, Exe, Task, command_by, command_of, command_with, exe_of, machine_file_of, replay, run, workers_of}
+use Rattle.zsim.specs.CommandLine.{Exe, Execution, Task, check, command_of, exe_of, execute, execution_by, execution_with, machine_file_of, replay, run, workers_of}
 use Rattle.zsim.specs.Laws.{HasNoHyphen}
-use Rattle.zsim.specs.Options.{replay_options, run_options}
+use Rattle.zsim.specs.Options.{check_options, replay_options, run_options}
 
 -- what `clap` asks of a word
 pub record IsPlain (word : List ℕ) : Type 0 where
@@ -71,8 +71,8 @@ value_faults : (s : Shape) (h : Held) (name : List ℕ) (position : ℕ) (word :
 value_faults s h name position word is = rw (is.dashes, is.long, is.short) refl
 
 -- the command, whatever the word for the executable names
-with_exe : (machine : List ℕ) (task : Task) (exe : Option Exe) → command_with (Some machine) exe (Some task) (Some (codes "false"))
-    ≡ option_map (λ (e : Exe). let c : Command = record { machine = machine_file_of machine; exe = e; task = task; brief = false } in c) exe
+with_exe : (machine : List ℕ) (task : Task) (exe : Option Exe) → option_map execute (execution_with (Some machine) exe (Some task) (Some (codes "false")))
+    ≡ option_map (λ (e : Exe). let c : Execution = record { machine = machine_file_of machine; exe = e; task = task; brief = false } in execute c) exe
 with_exe machine task (Some e) = refl
 with_exe machine task None = refl
 
@@ -144,13 +144,17 @@ module _ (machine exe : List ℕ) (first : IsPlain machine) (second : IsPlain ex
   unfolding run_options clap_on_literals
   record_is = refl
 
+  events_are : first_of (codes "events") (finished rules last.held) ≡ None
+  unfolding run_options clap_on_literals
+  events_are = refl
+
   brief_is : first_of (codes "brief") (finished rules last.held) ≡ Some (codes "false")
   unfolding run_options clap_on_literals
   brief_is = refl
 
-  pub run_is : command_of (codes "run" ∷ machine ∷ exe ∷ []) ≡ option_map (λ e. record { machine = machine_file_of machine; exe = e; task = run 1 None; brief = false }) (exe_of exe)
-  unfolding command_of command_by workers_of
-  run_is = rw (fits, rows_are, machine_is, exe_is, workers_are, record_is, brief_is) (with_exe machine (run 1 None) (exe_of exe))
+  pub run_is : command_of (codes "run" ∷ machine ∷ exe ∷ []) ≡ option_map (λ e. execute (record { machine = machine_file_of machine; exe = e; task = run 1 None None; brief = false })) (exe_of exe)
+  unfolding command_of execution_by workers_of
+  run_is = rw (fits, rows_are, machine_is, exe_is, workers_are, record_is, events_are, brief_is) (with_exe machine (run 1 None None) (exe_of exe))
 
 -- ---- a replay
 
@@ -254,6 +258,70 @@ module _ (machine exe schedule : List ℕ) (first : IsPlain machine) (second : I
   unfolding replay_options clap_on_literals
   given_brief = refl
 
-  pub replay_is : command_of (codes "replay" ∷ given) ≡ option_map (λ e. record { machine = machine_file_of machine; exe = e; task = replay schedule; brief = false }) (exe_of exe)
-  unfolding command_of command_by
+  pub replay_is : command_of (codes "replay" ∷ given) ≡ option_map (λ e. execute (record { machine = machine_file_of machine; exe = e; task = replay schedule; brief = false })) (exe_of exe)
+  unfolding command_of execution_by
   replay_is = rw (given_fits, given_rows, given_machine, given_exe, given_schedule, given_brief) (with_exe machine (replay schedule) (exe_of exe))
+
+-- ---- a check
+
+module _ (machine events : List ℕ) (first : IsPlain machine) (second : IsPlain events) where
+  abbrev check_top : Shape
+  check_top = (built check_options).top
+
+  abbrev check_rules : List Rule
+  check_rules = check_top.rules
+
+  abbrev one_held : Held
+  one_held = record { rows = []; pending = Some (codes "machine", machine ∷ []); skip = 0 }
+
+  one_walked : walked check_rules [] (at_position nothing_held 1) machine ≡ at_position one_held 2
+  unfolding check_options clap_on_literals
+  one_walked = word_walked check_rules nothing_held 1 machine first ∙ refl
+
+  abbrev checked_last : Walk
+  checked_last = to_positional check_rules (arg_by_index check_rules 2) events (at_position one_held 2) one_held
+
+  events_walked : walked check_rules [] (at_position one_held 2) events ≡ checked_last
+  events_walked = word_walked check_rules one_held 2 events second
+
+  both_walked : walk check_rules [] nothing_held (machine ∷ events ∷ []) ≡ checked_last
+  both_walked = ap (λ (w : Walk). walked check_rules [] w events) one_walked ∙ events_walked
+
+  check_rows : matches_of check_options (machine ∷ events ∷ []) ≡ finished check_rules checked_last.held
+  unfolding check_options clap_on_literals
+  check_rows = ap (λ (w : Walk). finished check_rules w.held) both_walked
+
+  one_fault : turn_fault check_top [] (at_position nothing_held 1) machine ≡ []
+  unfolding check_options clap_on_literals
+  one_fault = word_faults check_top nothing_held 1 machine first ∙ refl
+
+  events_fault : turn_fault check_top [] (at_position one_held 2) events ≡ []
+  unfolding check_options clap_on_literals
+  events_fault = word_faults check_top one_held 2 events second ∙ refl
+
+  check_faults : walk_fault check_top [] (at_position nothing_held 1) (machine ∷ events ∷ []) ≡ []
+  unfolding walk_fault
+  check_faults = ap₂ or_else one_fault (ap₂ or_else (ap (λ (w : Walk). turn_fault check_top [] w events) one_walked ∙ events_fault) refl)
+
+  check_faults_are : fault_of check_options (machine ∷ events ∷ []) ≡ faults_at (built check_options) (walk check_rules [] nothing_held (machine ∷ events ∷ [])) (walk_fault check_top [] (at_position nothing_held 1) (machine ∷ events ∷ []))
+  unfolding check_options clap_on_literals
+  check_faults_are = refl
+
+  check_at_end : faults_at (built check_options) checked_last [] ≡ []
+  unfolding check_options clap_on_literals
+  check_at_end = refl
+
+  check_fits : fault_of check_options (machine ∷ events ∷ []) ≡ []
+  check_fits = check_faults_are ∙ (ap₂ (faults_at (built check_options)) both_walked check_faults ∙ check_at_end)
+
+  check_machine : first_of (codes "machine") (finished check_rules checked_last.held) ≡ Some machine
+  unfolding check_options clap_on_literals
+  check_machine = refl
+
+  check_events : first_of (codes "events") (finished check_rules checked_last.held) ≡ Some events
+  unfolding check_options clap_on_literals
+  check_events = refl
+
+  pub check_is : command_of (codes "check" ∷ machine ∷ events ∷ []) ≡ Some (check (record { machine = machine_file_of machine; events = events }))
+  unfolding command_of
+  check_is = rw (check_fits, check_rows, check_machine, check_events) refl

@@ -1,6 +1,6 @@
 -- A replay of a recorded schedule repeats the run.
-use Rattle.std.proofs.Common.{◌≡◌, ◌≢◌, ℕ, ◌+◌, ◌<◌, ◌≤◌, Bool, true, false, List, length, Option, Some, None, Result, Ok, Err, All, take, option_map, refl, sym, ◌∙◌, ap, subst, inl, inr, arith, nat_lt}
-use Rattle.std.specs.Prelude.{IsOkAnd, MatchOption, MatchResult}
+use Rattle.std.proofs.Common.{◌≡◌, ◌≢◌, ℕ, ◌+◌, ◌<◌, ◌≤◌, Bool, true, false, List, ◌∷◌, length, Option, Some, None, Result, Ok, Err, All, take, option_map, refl, sym, ◌∙◌, ap, subst, inl, inr, arith, nat_lt}
+use Rattle.std.specs.Prelude.{IsOkAnd, IsSomeAnd, MatchOption, MatchResult}
 use Rattle.std.proofs.lemmas.Bool.Decides.{nat_tests}
 use Rattle.std.proofs.lemmas.List.{take_all}
 use Rattle.std.proofs.lemmas.List.Sums.{get_or-le-sum_by}
@@ -12,30 +12,34 @@ use Rattle.replay.specs.declared.replay_fail.ReplayFail.TheVariants as fail
 use Rattle.replay.specs.Laws.{FitsRun, LegalSchedulesFit, ReplaysGiveTheSame}
 use Rattle.replay.specs.ReferenceRun.{Illegal, IsIllegalAt, IsKeptInOrder, IsRunOf}
 use Rattle.replay.specs.Results.{HasCounts, Results}
+use Rattle.replay.specs.RunEvents.{events_limit}
 use Rattle.schedule_file.specs.Laws.{EachScheduleIsReadAgain, FilesAreShort}
 use Rattle.schedule_file.specs.ScheduleFile.{schedule_file_of, schedule_of}
 use Rattle.zsim.specs.declared.ended.Kept.{Kept}
 use Rattle.zsim.specs.declared.ended.ScheduleFault.TheVariants as fault
 use Rattle.zsim.specs.declared.ended.Status.{Status}
 use Rattle.zsim.specs.declared.ended.Status.TheVariants as status
-use Rattle.zsim.specs.CommandLine.{Command, Task}
-use Rattle.zsim.specs.Ended.{Gives, EndsAs, IsDecided, IsReportedOrRefused, IsScheduleWritten, IsReported, IsScheduleFile, KeepsAll, Seen, status_at}
+use Rattle.zsim.specs.declared.ended.Which.TheVariants as which
+use Rattle.zsim.specs.CommandLine.{Execution, Task, events_name, is_one_name, record_name, replay, run}
+use Rattle.zsim.specs.Ended.{Gives, EndsAs, IsDecided, IsReportedOrRefused, AreOutputsWritten, IsReported, IsScheduleFile, KeepsAll, Seen, status_at}
 use Rattle.zsim.specs.Laws.{IsGivenTheRecord, IsRepeated, IsReplayOf, IsReportedWhole}
 use Rattle.zsim.specs.InputLengths.{schedule_limit}
+use Rattle.zsim.specs.Outputs.{held_with, named_file, named_if, outputs_of}
 use Rattle.zsim.specs.Report.{report_of}
-use Rattle.zsim.specs.Seen.{FileFailed, Gained, PutFailed, SameNames, WasRead, WasWritten}
+use Rattle.zsim.specs.Seen.{FileFailed, Gained, PutFailed, WasRead}
 use Rattle.zsim.specs.Setup.{Setup, given_by, image_by, machine_by, schedule_by, setup_of, then_checked}
 use Rattle.zsim.proofs.Endings.{schedule_refuses}
+use Rattle.zsim.proofs.OutputsDone.{at_name}
 
 -- ---- what is to be run
 
 -- the machine and the image of what is to be run
-pub record HasParts (command : Command) (kept : Kept) (setup : Setup) : Type 0 where
+pub record HasParts (command : Execution) (kept : Kept) (setup : Setup) : Type 0 where
   pub machine : machine_by kept.machine ≡ Ok setup.machine
   pub image : image_by setup.machine kept.exe ≡ Ok setup.image
   pub given : given_by setup.machine command.task kept.sched_file ≡ Ok setup.given
 
-parts_from : (command : Command) (kept : Kept) (setup : Setup) (machine : Result Machine Status) → machine_by kept.machine ≡ machine
+parts_from : (command : Execution) (kept : Kept) (setup : Setup) (machine : Result Machine Status) → machine_by kept.machine ≡ machine
     → then_checked machine (λ m. then_checked (image_by m kept.exe) (λ i. then_checked (given_by m command.task kept.sched_file) (λ given. Ok (record { machine = m; image = i; given = given })))) ≡ Ok setup
     → HasParts command kept setup
 parts_from command kept setup (Err refusal) is e = cc
@@ -62,7 +66,7 @@ parts_from command kept setup (Ok machine) is e =
     in
     by_image (image_by machine kept.exe) refl e
 
-pub parts : (command : Command) (kept : Kept) (setup : Setup) → setup_of command kept ≡ Ok setup → HasParts command kept setup
+pub parts : (command : Execution) (kept : Kept) (setup : Setup) → setup_of command kept ≡ Ok setup → HasParts command kept setup
 parts command kept setup is = parts_from command kept setup (machine_by kept.machine) refl is
 
 -- ---- the file of a schedule
@@ -113,13 +117,28 @@ keeps_all seen s k ended (inr limited) =
     let at : EndsAs seen status.Limit k = subst (λ (t : Status). EndsAs seen t k) limited ended in
     at.kept
 
-pub recorded : (seen : Seen) (s : Status) (k : Kept) → EndsAs seen s k → IsReportedWhole s → IsScheduleWritten seen k
+pub recorded : (seen : Seen) (s : Status) (k : Kept) → EndsAs seen s k → IsReportedWhole s → AreOutputsWritten seen k
 recorded seen s k ended (inl ran) =
     let at : EndsAs seen status.Ran k = subst (λ (t : Status). EndsAs seen t k) ran ended in
     at.files
 recorded seen s k ended (inr limited) =
     let at : EndsAs seen status.Limit k = subst (λ (t : Status). EndsAs seen t k) limited ended in
     at.files
+
+-- the name for the schedule holds its file, as that for the events is another
+held_first : (events_to : Option (List ℕ)) (schedule events : List ℕ) (name : List ℕ) (before : Option (List ℕ)) → is_one_name (Some name) events_to ≡ false
+    → held_with (named_file name schedule ∷ named_if events_to events) before name ≡ Some schedule
+held_first None schedule events name before apart = at_name name schedule before
+held_first (Some other) schedule events name before apart = rw apart (at_name name schedule before)
+
+schedule_held : (task : Task) (schedule : ScheduleState) (events : List ℕ) (name : List ℕ) (before : Option (List ℕ)) → record_name task ≡ Some name
+    → is_one_name (record_name task) (events_name task) ≡ false → held_with (outputs_of task schedule events) before name ≡ Some (schedule_file_of schedule)
+schedule_held (run workers None events_to) schedule events name before is apart = absurd cc
+schedule_held (run workers (Some to) events_to) schedule events name before is apart =
+    let same : to ≡ name = cc in
+    subst (λ (n : List ℕ). held_with (named_file to (schedule_file_of schedule) ∷ named_if events_to events) before n ≡ Some (schedule_file_of schedule)) same
+    (held_first events_to (schedule_file_of schedule) events to before apart)
+schedule_held (replay of) schedule events name before is apart = absurd cc
 
 -- what was decided, where memory did not run out
 decided : (seen : Seen) (t : Status) (k : Kept) (setup : Setup) → IsDecided t seen k → t ≢ status.NoMemory → setup_of seen.command k ≡ Ok setup → IsReportedOrRefused t seen k
@@ -175,8 +194,8 @@ module _ (replays : ReplaysGiveTheSame) (fits : LegalSchedulesFit) (read_again :
 
     -- the run of another set of inputs is this one
     same_run : (other : Setup) → other ≡ setup → (lists : List (List ℕ)) → lists ≡ ran.schedule.lists → (found : Results) → IsRunOf other.machine other.image lists found → found ≡ results
-    same_run other is lists lists_are found run =
-        let here : IsRunOf machine image lists found = subst (λ (x : Setup). IsRunOf x.machine x.image lists found) is run in
+    same_run other is lists lists_are found came =
+        let here : IsRunOf machine image lists found = subst (λ (x : Setup). IsRunOf x.machine x.image lists found) is came in
         let there : IsRunOf machine image ran.schedule.lists found = subst (λ (ls : List (List ℕ)). IsRunOf machine image ls found) lists_are here in
         elim (replays machine image ran.schedule.lists results (Ok found) gives.run there) as (λ _. found ≡ results) [
           | inl same ↦ cc
@@ -208,17 +227,20 @@ module _ (replays : ReplaysGiveTheSame) (fits : LegalSchedulesFit) (read_again :
         let equal : found ≡ results = same_run run.setup same replayed.schedule.lists lists found run.run in
         let texts : report_of run.setup.machine second.command.brief found ≡ report_of machine first.command.brief results = rw (same, again.brief, equal) refl in
         record {
-          status = now.2 ∙ ap (λ (r : Results). status_at r.limit) equal ∙ sym report.2;
+          status = now.3 ∙ ap (λ (r : Results). status_at r.limit) equal ∙ sym report.3;
           text = report_of machine first.command.brief results;
-          reported = report.3;
-          repeated = subst (Gained second.out) texts now.3;
+          reported = report.4;
+          repeated = subst (Gained second.out) texts now.4;
         }
-    repeats (inr (at, is, refused)) =
+    repeats (inr (inl (at, is, refused))) =
         let same = same_setup refused.setup refused.is in
         let given : refused.setup.given ≡ Some ran.schedule = ap (λ (x : Setup). x.given) same in
         let these : Some replayed.schedule ≡ Some ran.schedule = sym refused.given ∙ given in
         let lists : replayed.schedule.lists ≡ ran.schedule.lists = cc in
         absurd (not_illegal refused.setup same replayed.schedule.lists lists at refused.illegal)
+    repeats (inr (inr (is, (r, gives_again, long)))) =
+        let none : events_name second.command.task ≡ None = ap events_name again.task in
+        absurd (subst (λ (name : Option (List ℕ)). IsSomeAnd name (λ n. events_limit < length gives_again.events)) none long)
 
     pub repeated : IsRepeated first second s t
     repeated = repeats (decided second t replayed setup (ended_again.complete no_file no_put) some setup_is)
@@ -234,9 +256,12 @@ module _ (replays : ReplaysGiveTheSame) (fits : LegalSchedulesFit) (read_again :
     file_where_done : IsReportedOrRefused t second replayed → IsScheduleFile second.files second.command.task replayed.sched_file
     file_where_done (inl done) =
         let now = done.0 in
-        file_by_limit now.0.limit (subst (λ (x : Status). EndsAs second x replayed) now.2 ended_again)
-    file_where_done (inr (at, is, refused)) =
+        file_by_limit now.0.limit (subst (λ (x : Status). EndsAs second x replayed) now.3 ended_again)
+    file_where_done (inr (inl (at, is, refused))) =
         let e : EndsAs second (status.BadSchedule (fault.Illegal at.interval at.place)) replayed = subst (λ (x : Status). EndsAs second x replayed) is ended_again in
+        e.kept.sched_file
+    file_where_done (inr (inr (is, (r, gives_again, long)))) =
+        let e : EndsAs second (status.TooLong which.Events) replayed = subst (λ (x : Status). EndsAs second x replayed) is ended_again in
         e.kept.sched_file
 
     file_where_refused : (refusal : Status) → schedule_by machine replayed.sched_file ≡ Err refusal → EndsAs second refusal replayed
@@ -265,10 +290,11 @@ module _ (replays : ReplaysGiveTheSame) (fits : LegalSchedulesFit) (read_again :
     same_file : (given : IsGivenTheRecord first second again.name) → replayed.sched_file ≡ schedule_file_of ran.schedule
     same_file given =
         let read : WasRead second.files again.name schedule_limit replayed.sched_file = subst (λ (task : Task). IsScheduleFile second.files task replayed.sched_file) again.task (file_was_read (schedule_by machine replayed.sched_file) refl) in
-        let written : WasWritten first.files given.recorded (schedule_file_of ran.schedule) =
-        subst (λ (name : Option (List ℕ)). MatchOption name (SameNames first.files) (λ n. WasWritten first.files n (schedule_file_of ran.schedule))) given.record_to (recorded first s ran ended whole)
+        let outputs = recorded first s ran ended whole in
+        let held : second.files.held_before again.name ≡ Some (schedule_file_of ran.schedule) =
+        given.holds ∙ outputs.2 given.first_tells given.recorded
+        ∙ schedule_held first.command.task ran.schedule outputs.1.events given.recorded (first.files.held_before given.recorded) given.record_to given.apart
         in
-        let held : second.files.held_before again.name ≡ Some (schedule_file_of ran.schedule) = given.holds ∙ written.held given.first_tells in
         let all : take (schedule_limit + 1) (schedule_file_of ran.schedule) ≡ schedule_file_of ran.schedule = take_all (schedule_limit + 1) (schedule_file_of ran.schedule) (omega (arith, file_is_short)) in
         let found : Some (schedule_file_of ran.schedule) ≡ Some replayed.sched_file =
         ap Some (sym all) ∙ ap (option_map (take (schedule_limit + 1))) (sym held) ∙ read.held given.second_tells

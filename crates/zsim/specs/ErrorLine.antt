@@ -1,6 +1,10 @@
 -- The line on standard error for each status. It ends with one newline.
 use Rattle.std.specs.Prelude.{ℕ, List, [], ◌++◌, codes}
 use Rattle.std.specs.Fmt.{decimal, signed_decimal}
+use Rattle.certify.specs.declared.bad_events.BadEvents.{BadEvents}
+use Rattle.certify.specs.declared.bad_events.BadEvents.TheVariants as events
+use Rattle.certify.specs.declared.verdict.Verdict.{Verdict}
+use Rattle.certify.specs.declared.verdict.Verdict.TheVariants.{Yes, Start, Finish}
 use Rattle.elf_load.specs.declared.bad_elf.BadElf.{BadElf}
 use Rattle.elf_load.specs.declared.bad_elf.BadElf.TheVariants as bad
 use Rattle.machine_desc.specs.declared.errors.BadMachine.{BadMachine}
@@ -11,7 +15,7 @@ use Rattle.zsim.specs.declared.ended.ScheduleFault.{ScheduleFault}
 use Rattle.zsim.specs.declared.ended.ScheduleFault.TheVariants as fault
 use Rattle.zsim.specs.declared.ended.Status.{Status}
 use Rattle.zsim.specs.declared.ended.Status.TheVariants as status
-use Rattle.zsim.specs.declared.ended.Which.TheVariants.{Machine, Exe, Schedule}
+use Rattle.zsim.specs.declared.ended.Which.TheVariants.{Machine, Exe, Schedule, Events}
 
 -- The number of the check that a machine description failed, and the key and the value or the component where there are
 -- any. A key is printed as the bytes of a console are.
@@ -50,10 +54,26 @@ schedule_details (fault.File (wrong.Core interval place)) = codes "5 " ++ (decim
 schedule_details (fault.File (wrong.After at)) = codes "6 " ++ decimal at
 schedule_details (fault.Illegal interval place) = codes "7 " ++ (decimal interval ++ (codes " " ++ decimal place))
 
+-- the number of the check that an events file failed, and the numbers that it names
+abbrev pub events_details : BadEvents → List ℕ
+events_details (events.Short at) = codes "1 " ++ decimal at
+events_details events.Magic = codes "2"
+events_details (events.Version found) = codes "3 " ++ decimal found
+events_details (events.Components found) = codes "4 " ++ decimal found
+events_details (events.Field interval place) = codes "5 " ++ (decimal interval ++ (codes " " ++ decimal place))
+events_details (events.After at) = codes "6 " ++ decimal at
+
+-- What is wrong with the first event that is not as the weave has it, and its interval and number. No status has a
+-- verdict of yes.
+abbrev pub verdict_details : Verdict → List ℕ
+verdict_details (Yes intervals events) = codes "yes " ++ (decimal intervals ++ (codes " " ++ decimal events))
+verdict_details (Start interval number) = codes "start " ++ (decimal interval ++ (codes " " ++ decimal number))
+verdict_details (Finish interval number) = codes "finish " ++ (decimal interval ++ (codes " " ++ decimal number))
+
 abbrev pub error_line : Status → List ℕ
 error_line status.Ran = []
 error_line status.Limit = codes "zsim: stopped at the limit\n"
-error_line status.Usage = codes "zsim: usage: zsim run MACHINE EXE [--workers N] [--record NAME] [--brief] or zsim replay MACHINE EXE --schedule NAME [--brief]\n"
+error_line status.Usage = codes "zsim: usage: zsim run MACHINE EXE [--workers N] [--record NAME] [--events NAME] [--brief] or zsim replay MACHINE EXE --schedule NAME [--brief] or zsim check MACHINE EVENTS\n"
 error_line status.ReadFault = codes "zsim: cannot read\n"
 error_line status.WriteFault = codes "zsim: cannot write\n"
 error_line (status.BadMachine bad) = codes "zsim: machine " ++ machine_details bad ++ codes "\n"
@@ -62,6 +82,9 @@ error_line (status.BadSchedule wrong) = codes "zsim: schedule " ++ schedule_deta
 error_line (status.TooLong Machine) = codes "zsim: too long: machine\n"
 error_line (status.TooLong Exe) = codes "zsim: too long: executable\n"
 error_line (status.TooLong Schedule) = codes "zsim: too long: schedule\n"
+error_line (status.TooLong Events) = codes "zsim: too long: events\n"
+error_line (status.BadEvents bad) = codes "zsim: events " ++ events_details bad ++ codes "\n"
+error_line (status.NotWoven verdict) = codes "zsim: not the weave: " ++ verdict_details verdict ++ codes "\n"
 error_line status.NoMemory = codes "zsim: out of memory\n"
 
 -- the number with which the program ends
@@ -76,3 +99,5 @@ status_number (status.BadElf bad) = 7
 status_number status.NoMemory = 8
 status_number (status.BadSchedule wrong) = 9
 status_number (status.TooLong which) = 10
+status_number (status.BadEvents bad) = 11
+status_number (status.NotWoven verdict) = 12

@@ -12,3 +12,7 @@ exe_limit = 2 ^ 26
 -- the most bytes of a schedule file
 abbrev pub schedule_limit : ℕ
 schedule_limit = 2 ^ 28
+
+-- the most bytes of an events file
+abbrev pub events_limit : ℕ
+events_limit = 2 ^ 28

@@ -6,7 +6,7 @@ use Rattle.schedule_file.specs.ScheduleFile.{schedule_file_of}
 use Rattle.zsim.specs.declared.ended.Kept.{Kept}
 use Rattle.zsim.specs.declared.ended.Status.{Status}
 use Rattle.zsim.specs.declared.ended.Status.TheVariants as status
-use Rattle.zsim.specs.CommandLine.{command_of, exe_of, machine_file_of, record_name, replay, run}
+use Rattle.zsim.specs.CommandLine.{Execution, check, command_of, events_name, exe_of, execute, is_one_name, machine_file_of, record_name, replay, run}
 use Rattle.zsim.specs.Ended.{EndsAs, Seen}
 use Rattle.zsim.specs.Seen.{FileFailed, Gained, PutFailed}
 
@@ -19,12 +19,22 @@ HasNoHyphen word = starts_with nat_eq word (codes "-") ≡ false
 -- `run M E` runs an executable by one worker, and reports all.
 abbrev pub PlainRunsAreCommands : Type 0
 PlainRunsAreCommands = (machine exe : List ℕ) → HasNoHyphen machine → HasNoHyphen exe
-    → command_of (codes "run" ∷ machine ∷ exe ∷ []) ≡ option_map (λ e. record { machine = machine_file_of machine; exe = e; task = run 1 None; brief = false }) (exe_of exe)
+    → command_of (codes "run" ∷ machine ∷ exe ∷ []) ≡ option_map (λ e. execute (record { machine = machine_file_of machine; exe = e; task = run 1 None None; brief = false })) (exe_of exe)
 
 -- `replay M E --schedule S` runs it under the schedule of a file.
 abbrev pub PlainReplaysAreCommands : Type 0
 PlainReplaysAreCommands = (machine exe schedule : List ℕ) → HasNoHyphen machine → HasNoHyphen exe → HasNoHyphen schedule
-    → command_of (codes "replay" ∷ machine ∷ exe ∷ codes "--schedule" ∷ schedule ∷ []) ≡ option_map (λ e. record { machine = machine_file_of machine; exe = e; task = replay schedule; brief = false }) (exe_of exe)
+    → command_of (codes "replay" ∷ machine ∷ exe ∷ codes "--schedule" ∷ schedule ∷ []) ≡ option_map (λ e. execute (record { machine = machine_file_of machine; exe = e; task = replay schedule; brief = false })) (exe_of exe)
+
+-- `check M V` checks the events of a file on a machine.
+abbrev pub PlainChecksAreCommands : Type 0
+PlainChecksAreCommands = (machine events : List ℕ) → HasNoHyphen machine → HasNoHyphen events
+    → command_of (codes "check" ∷ machine ∷ events ∷ []) ≡ Some (check (record { machine = machine_file_of machine; events = events }))
+
+-- No command writes the schedule and the events to one file.
+abbrev pub OutputsAreApart : Type 0
+OutputsAreApart = (words : List (List ℕ)) (e : Execution) → command_of words ≡ Some (execute e)
+    → is_one_name (record_name e.task) (events_name e.task) ≡ false
 
 -- ---- replays
 
@@ -42,6 +52,8 @@ pub record IsGivenTheRecord (first second : Seen) (name : List ℕ) : Type 0 whe
   -- the name to which the first wrote
   pub recorded : List ℕ
   pub record_to : record_name first.command.task ≡ Some recorded
+  -- the events did not go there
+  pub apart : is_one_name (record_name first.command.task) (events_name first.command.task) ≡ false
   pub first_tells : IsTrue first.files.is_seen
   pub second_tells : IsTrue second.files.is_seen
   pub holds : second.files.held_before name ≡ first.files.held_after recorded

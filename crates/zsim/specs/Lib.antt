@@ -4,8 +4,11 @@ pub mod Report
 pub mod InputLengths
 pub mod ErrorLine
 pub mod Seen
+pub mod Outputs
 pub mod Setup
 pub mod Ended
+pub mod Checked
+pub mod Answered
 pub mod CommandValue
 pub mod Steps
 pub mod Laws

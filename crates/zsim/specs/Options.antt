@@ -1,4 +1,4 @@
--- The words after `run` and after `replay` as `clap` reads them: two positional words and the options of the command.
+-- The words after `run`, `replay` and `check` as `clap` reads them: two positional words and the options of the command.
 use Rattle.std.specs.Prelude.{true, if◌then◌else◌, List, codes, Option, Some, None}
 use Rattle.clap.specs.declared.builder.action.ArgAction.TheVariants.{SetTrue}
 use Rattle.clap.specs.Simple.{on_top}
@@ -30,10 +30,14 @@ abbrev pub inputs : App
 inputs = with_rule (with_rule no_options (positional (codes "machine"))) (positional (codes "exe"))
 
 unfoldable pub run_options : App
-run_options = with_rule (with_rule (with_rule inputs (option (codes "workers"))) (option (codes "record"))) (flag (codes "brief"))
+run_options = with_rule (with_rule (with_rule (with_rule inputs (option (codes "workers"))) (option (codes "record"))) (option (codes "events"))) (flag (codes "brief"))
 
 unfoldable pub replay_options : App
 replay_options = with_rule (with_rule inputs (needed_option (codes "schedule"))) (flag (codes "brief"))
+
+-- the machine and the file of the events
+unfoldable pub check_options : App
+check_options = with_rule (with_rule no_options (positional (codes "machine"))) (positional (codes "events"))
 
 -- what `clap` matches with the options: a row for each that has a value, or None where the words do not fit
 abbrev pub matched_by : App → List Text → Option (List Row)

@@ -1,10 +1,9 @@
 -- What a call saw of the world outside it: files by name and streams that take bytes, before and after it.
-use Rattle.std.specs.Prelude.{◌≡◌, ◌≢◌, ℕ, ◌+◌, ◌<◌, ◌≤◌, Bool, IsTrue, List, ◌++◌, length, take, Option, Some, None}
+use Rattle.std.specs.Prelude.{◌≡◌, ℕ, ◌+◌, ◌<◌, ◌≤◌, Bool, IsTrue, List, ◌++◌, length, take, Option, Some, None}
 use Rattle.std.specs.Option.{option_map}
 use Rattle.zs_host.specs.Faults.{Rose}
 use Rattle.zs_host.specs.declared.fault.Fault.{Fault}
 use Rattle.zs_host.specs.declared.fault.Operation.TheVariants.{Read, Write}
-use Rattle.zs_host.specs.Files.{HoldsOrCut}
 
 pub record FilesSeen : Type 0 where
   -- whether they tell what their names hold
@@ -53,16 +52,6 @@ sink_seen is_seen bytes faults before after = record {
 -- no name changed
 abbrev pub SameNames : FilesSeen → Type 0
 SameNames files = IsTrue files.is_seen → (name : List ℕ) → files.held_after name ≡ files.held_before name
-
--- a name was made to hold these bytes, and no other name changed
-pub record WasWritten (files : FilesSeen) (name bytes : List ℕ) : Type 0 where
-  pub held : IsTrue files.is_seen → files.held_after name ≡ Some bytes
-  pub others : IsTrue files.is_seen → (other : List ℕ) → other ≢ name → files.held_after other ≡ files.held_before other
-
--- it holds what it held, or the first of these bytes, and no other name changed
-pub record WasCut (files : FilesSeen) (name bytes : List ℕ) : Type 0 where
-  pub held : IsTrue files.is_seen → HoldsOrCut (files.held_before name) bytes (files.held_after name)
-  pub others : IsTrue files.is_seen → (other : List ℕ) → other ≢ name → files.held_after other ≡ files.held_before other
 
 -- no call on the files failed
 pub record NoFileFailed (files : FilesSeen) : Type 0 where

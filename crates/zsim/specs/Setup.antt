@@ -15,7 +15,7 @@ use Rattle.zsim.specs.declared.ended.ScheduleFault.TheVariants as fault
 use Rattle.zsim.specs.declared.ended.Status.{Status}
 use Rattle.zsim.specs.declared.ended.Status.TheVariants as status
 use Rattle.zsim.specs.declared.ended.Which.TheVariants as which
-use Rattle.zsim.specs.CommandLine.{Command, Task, replay, run}
+use Rattle.zsim.specs.CommandLine.{Execution, Task, replay, run}
 use Rattle.zsim.specs.InputLengths.{exe_limit, machine_limit, schedule_limit}
 
 -- a machine, what is in its memory first, and the schedule that is given, if it is a replay
@@ -60,11 +60,11 @@ then_checked (Err refusal) f = Err refusal
 
 -- the schedule that a replay is given; a run is given none
 abbrev pub given_by : Machine → Task → (sched_file : List ℕ) → Result (Option ScheduleState) Status
-given_by machine (run workers record_to) sched_file = Ok None
+given_by machine (run workers record_to events_to) sched_file = Ok None
 given_by machine (replay name) sched_file = then_checked (schedule_by machine sched_file) (λ schedule. Ok (Some schedule))
 
 -- what is to be run of a command, by what was kept, or the first refusal
-abbrev pub setup_of : Command → Kept → Result Setup Status
+abbrev pub setup_of : Execution → Kept → Result Setup Status
 setup_of command kept =
     then_checked (machine_by kept.machine) (λ machine.
     then_checked (image_by machine kept.exe) (λ image.

@@ -2,6 +2,7 @@
 ghost use Rattle.std.specs.Prelude.{◌≡◌};
 
 use access_log::Schedule;
+use certify::{BadEvents, Verdict};
 use elf_load::BadElf;
 use machine_desc::BadMachine;
 use schedule_file::BadSchedule;
@@ -19,15 +20,16 @@ pub struct Ended {
 /// How a call ended.
 #[derive(Drop)]
 pub enum Status {
-    /// The run ended with every core halted, and its report was written.
+    /// The run ended with every core halted, and its report was written; or the events of a check
+    /// are the weave's, and that was written.
     Ran,
     /// The run ended with a core that is not halted, and its report was written.
     Limit,
     /// The words are no command.
     Usage,
-    /// The machine, the executable or the schedule could not be read.
+    /// The machine, the executable, the schedule or the events could not be read.
     ReadFault,
-    /// The report or the schedule could not be written.
+    /// The report, the schedule, the events or the text of a check could not be written.
     WriteFault,
     /// The machine description fails this check first.
     BadMachine(BadMachine),
@@ -35,8 +37,12 @@ pub enum Status {
     BadElf(BadElf),
     /// The schedule of a replay fails this check first, or is not legal for the run.
     BadSchedule(ScheduleFault),
-    /// A file has more bytes than its limit.
+    /// A file has more bytes than its limit, be it read or the events file of a run.
     TooLong(Which),
+    /// The events file of a check is refused for this first.
+    BadEvents(BadEvents),
+    /// The events of a check are not the weave's: this verdict on them is not Yes.
+    NotWoven(Verdict),
     NoMemory,
 }
 
@@ -58,6 +64,8 @@ impl Status {
             Status::NoMemory => 8,
             Status::BadSchedule(_) => 9,
             Status::TooLong(_) => 10,
+            Status::BadEvents(_) => 11,
+            Status::NotWoven(_) => 12,
         }
     }
 }
@@ -71,6 +79,8 @@ pub enum Which {
     Exe,
     /// The schedule file, of 2^28 bytes at most.
     Schedule,
+    /// The events file, of 2^28 bytes at most.
+    Events,
 }
 
 /// Why a schedule was refused.
@@ -105,4 +115,6 @@ pub struct Kept {
     /// The schedule that the run took, up to the last interval that was completed, or that the
     /// replay read.
     pub schedule: Schedule,
+    /// The events file of a check. It is empty where it was not read, and for a run and a replay.
+    pub events: Bytes,
 }

@@ -1,9 +1,10 @@
 //! The line on standard error for each status.
 ghost use Rattle.std.specs.Prelude.{◌≡◌, ◌++◌, codes, IfOk, OnOk, string_bytes};
 ghost use Rattle.report.specs.ReportText.{printed};
-ghost use Rattle.zsim.specs.ErrorLine.{elf_details, error_line, machine_details, schedule_details};
+ghost use Rattle.zsim.specs.ErrorLine.{elf_details, error_line, events_details, machine_details, schedule_details, verdict_details};
 
 use crate::{ScheduleFault, Status, Which};
+use certify::{BadEvents, Verdict};
 use elf_load::BadElf;
 use machine_desc::{BadMachine, KeyName};
 use report::write_printed;
@@ -26,12 +27,15 @@ pub fn error_line(alloc: Global, status: &Status) -> Result<String, AllocError>
         Status::TooLong(Which::Machine) => String::from_str(alloc, "zsim: too long: machine\n"),
         Status::TooLong(Which::Exe) => String::from_str(alloc, "zsim: too long: executable\n"),
         Status::TooLong(Which::Schedule) => String::from_str(alloc, "zsim: too long: schedule\n"),
+        Status::TooLong(Which::Events) => String::from_str(alloc, "zsim: too long: events\n"),
+        Status::BadEvents(bad) => events_line(alloc, *bad),
+        Status::NotWoven(verdict) => verdict_line(alloc, *verdict),
         Status::NoMemory => String::from_str(alloc, "zsim: out of memory\n"),
     }
 }
 
 const USAGE: &str =
-    "zsim: usage: zsim run MACHINE EXE [--workers N] [--record NAME] [--brief] or zsim replay MACHINE EXE --schedule NAME [--brief]\n";
+    "zsim: usage: zsim run MACHINE EXE [--workers N] [--record NAME] [--events NAME] [--brief] or zsim replay MACHINE EXE --schedule NAME [--brief] or zsim check MACHINE EVENTS\n";
 
 /// The line for a machine description that is refused.
 fn machine_line(alloc: Global, bad: &BadMachine) -> Result<String, AllocError>
@@ -123,5 +127,50 @@ fn write_schedule_details(line: &mut String, wrong: ScheduleFault) -> Result<(),
         }
         ScheduleFault::File(BadSchedule::After { at }) => write!(line, "6 {at}"),
         ScheduleFault::Illegal { interval, place } => write!(line, "7 {interval} {place}"),
+    }
+}
+
+/// The line for an events file that is refused.
+fn events_line(alloc: Global, bad: BadEvents) -> Result<String, AllocError>
+    ensures { IfOk result (λ line. string_bytes line ≡ codes "zsim: events " ++ events_details bad ++ codes "\n") }
+{
+    let mut line = String::from_str(alloc, "zsim: events ")?;
+    write_events_details(&mut line, bad)?;
+    line.push_str("\n")?;
+    Ok(line)
+}
+
+/// Writes the number of the check that an events file failed, and what it names.
+fn write_events_details(line: &mut String, bad: BadEvents) -> Result<(), AllocError>
+    ensures { OnOk result (string_bytes line.new ≡ string_bytes line.old ++ events_details bad) }
+{
+    match bad {
+        BadEvents::Short { at } => write!(line, "1 {at}"),
+        BadEvents::Magic => line.push_str("2"),
+        BadEvents::Version { found } => write!(line, "3 {found}"),
+        BadEvents::Components { found } => write!(line, "4 {found}"),
+        BadEvents::Field { interval, place } => write!(line, "5 {interval} {place}"),
+        BadEvents::After { at } => write!(line, "6 {at}"),
+    }
+}
+
+/// The line for events that are not the weave's.
+fn verdict_line(alloc: Global, verdict: Verdict) -> Result<String, AllocError>
+    ensures { IfOk result (λ line. string_bytes line ≡ codes "zsim: not the weave: " ++ verdict_details verdict ++ codes "\n") }
+{
+    let mut line = String::from_str(alloc, "zsim: not the weave: ")?;
+    write_verdict_details(&mut line, verdict)?;
+    line.push_str("\n")?;
+    Ok(line)
+}
+
+/// Writes what is wrong with the first event that is, and its interval and number.
+fn write_verdict_details(line: &mut String, verdict: Verdict) -> Result<(), AllocError>
+    ensures { OnOk result (string_bytes line.new ≡ string_bytes line.old ++ verdict_details verdict) }
+{
+    match verdict {
+        Verdict::Yes { intervals, events } => write!(line, "yes {intervals} {events}"),
+        Verdict::Start { interval, number } => write!(line, "start {interval} {number}"),
+        Verdict::Finish { interval, number } => write!(line, "finish {interval} {number}"),
     }
 }

@@ -1,12 +1,18 @@
 //! Laws over the words and over what calls answer, each the contract of a function that does
 //! nothing.
-ghost use Rattle.zsim.specs.Laws.{PlainReplaysAreCommands, PlainRunsAreCommands, RecordsAreReplayed, ReplaysRepeatRuns};
+ghost use Rattle.zsim.specs.Laws.{OutputsAreApart, PlainChecksAreCommands, PlainReplaysAreCommands, PlainRunsAreCommands, RecordsAreReplayed, ReplaysRepeatRuns};
 
-/// The words `run MACHINE EXE` and `replay MACHINE EXE --schedule NAME` are a command wherever the
-/// words in them do not begin with a hyphen, but for a faulty `gen:N`.
+/// The words `run MACHINE EXE`, `replay MACHINE EXE --schedule NAME` and `check MACHINE EVENTS` are a
+/// command wherever the words in them do not begin with a hyphen, but for a faulty `gen:N`.
 pub fn plain_words_are_commands()
     ensures run { PlainRunsAreCommands }
     ensures replay { PlainReplaysAreCommands }
+    ensures check { PlainChecksAreCommands }
+{}
+
+/// No command writes the schedule and the events to one file.
+pub fn outputs_are_apart()
+    ensures { OutputsAreApart }
 {}
 
 /// Replaying a recorded schedule writes the bytes that the run wrote: of a run that was reported

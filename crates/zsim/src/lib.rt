@@ -1,6 +1,8 @@
-//! The top call of the simulator: from the words of the command line to the report.
+//! The top call of the simulator: from the words of the command line to the report, or to the verdict
+//! on a file of events.
 #![tactic(auto)]
 
+mod checking;
 mod command_line;
 mod ended;
 mod error_line;

@@ -1,7 +1,7 @@
-//! The words after `run` and after `replay`, as `clap` reads them.
+//! The words after `run`, `replay` and `check`, as `clap` reads them.
 ghost use Rattle.std.specs.Prelude.{◌≡◌, false, true, map, option_map, string_bytes, IfOk};
 ghost use Rattle.clap.specs.Words.{app_of, found_of, is_simple_and_free, rows_of, rule_of, with_rule};
-ghost use Rattle.zsim.specs.Options.{flag, inputs, matched_by, needed_option, no_options, option, positional, replay_options, run_options};
+ghost use Rattle.zsim.specs.Options.{check_options, flag, inputs, matched_by, needed_option, no_options, option, positional, replay_options, run_options};
 
 use clap::error::ErrorKind;
 use clap::{Arg, ArgAction, ArgMatches, Command};
@@ -15,6 +15,7 @@ pub fn run_options<'w>(alloc: Global) -> Result<Command<'w>, AllocError>
     let options = inputs(alloc)?;
     let options = with_arg(options, option(alloc, "workers"))?;
     let options = with_arg(options, option(alloc, "record"))?;
+    let options = with_arg(options, option(alloc, "events"))?;
     with_arg(options, flag(alloc, "brief"))
 }
 
@@ -26,6 +27,15 @@ pub fn replay_options<'w>(alloc: Global) -> Result<Command<'w>, AllocError>
     let options = inputs(alloc)?;
     let options = with_arg(options, option(alloc, "schedule").required(true))?;
     with_arg(options, flag(alloc, "brief"))
+}
+
+/// The words of a check: the machine and the file of the events.
+pub fn check_options<'w>(alloc: Global) -> Result<Command<'w>, AllocError>
+    ensures options { IfOk result (λ options. app_of options ≡ check_options) }
+    ensures simple { IfOk result (λ options. is_simple_and_free (app_of options) ≡ true) }
+{
+    let options = with_arg(no_options(alloc), positional(alloc, "machine"))?;
+    with_arg(options, positional(alloc, "events"))
 }
 
 /// The machine and the executable.

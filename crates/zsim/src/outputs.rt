@@ -1,11 +1,12 @@
-//! The outputs of a run: the report, and behind it the file of its schedule.
-ghost use Rattle.std.specs.Prelude.{◌≡◌, ◌⊎◌, IfOk, OnOk, OnErr, IsSomeAnd, MatchOption, option_map};
+//! The outputs of a run: the report, and behind it the files that the command names.
+ghost use Rattle.std.specs.Prelude.{◌≡◌, ◌⊎◌, ◌++◌, IfOk, IfSome, option_map};
 ghost use Rattle.replay.specs.Results.{HasCounts};
 ghost use Rattle.schedule_file.specs.ScheduleFile.{schedule_file_of};
 ghost use Rattle.zsim.specs.Ended.{status_at};
 ghost use Rattle.zsim.specs.Report.{report_of};
-ghost use Rattle.zsim.specs.Seen.{SameNames, WasCut, WasWritten, files_seen, sink_seen};
-ghost use Rattle.zsim.specs.Steps.{FinishesAs, IsUntouched, Writes, named_file, file_value};
+ghost use Rattle.zsim.specs.Outputs.{named_if};
+ghost use Rattle.zsim.specs.Seen.{files_seen, sink_seen};
+ghost use Rattle.zsim.specs.Steps.{FinishesAs, IsUntouched, Writes, output_list};
 
 use crate::Status;
 use crate::put::put_all;
@@ -17,42 +18,51 @@ use zs_host::{FileFail, Files, Sink, SinkFail};
 use zs_num::{Bytes, NoMemory};
 
 /// A file that is to be written.
-#[derive(Drop)]
+#[derive(Clone, Copy)]
 pub struct OutputFile<'w> {
-    name: &'w str,
-    bytes: Bytes,
+    pub name: &'w str,
+    pub bytes: &'w [u8],
 }
 
-/// The file of a schedule, where one is named.
-pub fn output_file<'w>(
+/// The bytes of a schedule's file, where one is named.
+pub fn schedule_bytes(
     alloc: Global,
-    name: Option<&'w str>,
+    name: Option<&str>,
     schedule: &Schedule,
-) -> Result<Option<OutputFile<'w>>, NoMemory>
-    ensures { IfOk result (λ file. option_map file_value file ≡ option_map (λ n. named_file n (schedule_file_of schedule.now)) (option_map (λ n. n.now) name.entry)) }
+) -> Result<Bytes, NoMemory>
+    ensures { IfOk result (λ bytes. IfSome name.entry (λ n. bytes ≡ schedule_file_of schedule.now)) }
 {
     match name {
-        Some(name) => Ok(Some(OutputFile {
-            name,
-            bytes: schedule_file::write(alloc, schedule)?,
-        })),
-        None => Ok(None),
+        Some(_) => schedule_file::write(alloc, schedule),
+        None => Ok(Bytes::of(Vec::new(alloc))),
     }
 }
 
-/// Writes the report, and behind it the file, if there is one.
+/// These bytes as a file, where one is named for them.
+pub fn output_if<'w>(name: Option<&'w str>, bytes: &'w [u8]) -> Option<OutputFile<'w>>
+    ensures { output_list result ≡ named_if (option_map (λ n. n.now) name.entry) bytes.now }
+{
+    match name {
+        Some(name) => Some(OutputFile { name, bytes }),
+        None => None,
+    }
+}
+
+/// Writes the report, and behind it the file of the schedule and then that of the events, where there
+/// are such files.
 pub fn finish<F: Files, O: Sink>(
     alloc: Global,
     machine: &Machine,
     brief: bool,
     results: &Final,
-    file: Option<OutputFile<'_>>,
+    schedule: Option<OutputFile<'_>>,
+    events: Option<OutputFile<'_>>,
     files: &mut F,
     out: &mut O,
 ) -> Status
     requires { HasCounts machine.now results.now }
     ensures { ((result ≡ Status.NoMemory) × IsUntouched (files_seen F.is_seen F.contents F.faults F.latest files.old files.new) (sink_seen O.is_seen O.bytes O.faults out.old out.new))
-        ⊎ FinishesAs result results.now.limit (report_of machine.now brief results.now) (option_map file_value file.entry) (files_seen F.is_seen F.contents F.faults F.latest files.old files.new) (sink_seen O.is_seen O.bytes O.faults out.old out.new) }
+        ⊎ FinishesAs result results.now.limit (report_of machine.now brief results.now) (output_list schedule.entry ++ output_list events.entry) (files_seen F.is_seen F.contents F.faults F.latest files.old files.new) (sink_seen O.is_seen O.bytes O.faults out.old out.new) }
 {
     let text = match report_of(alloc, machine, results, brief) {
         Ok(text) => text,
@@ -63,23 +73,36 @@ pub fn finish<F: Files, O: Sink>(
         Err(SinkFail::Failed) => return Status::WriteFault,
         Err(SinkFail::NoMemory) => return Status::NoMemory,
     }
-    match write_file(alloc, file, files) {
+    match write_files(alloc, schedule, events, files) {
         Ok(()) => status_of(results.limit),
         Err(FileFail::Failed) => Status::WriteFault,
         Err(FileFail::NoMemory) => Status::NoMemory,
     }
 }
 
-/// Writes the file, if there is one.
+/// Writes the file of the schedule and then that of the events, where there are such files.
+fn write_files<F: Files>(
+    alloc: Global,
+    schedule: Option<OutputFile<'_>>,
+    events: Option<OutputFile<'_>>,
+    files: &mut F,
+) -> Result<(), FileFail>
+    ensures { Writes result (output_list schedule.entry ++ output_list events.entry) (files_seen F.is_seen F.contents F.faults F.latest files.old files.new) }
+{
+    write_file(alloc, schedule, files)?;
+    write_file(alloc, events, files)
+}
+
+/// Writes a file, if there is one.
 fn write_file<F: Files>(
     alloc: Global,
     file: Option<OutputFile<'_>>,
     files: &mut F,
 ) -> Result<(), FileFail>
-    ensures { Writes result (option_map file_value file.entry) (files_seen F.is_seen F.contents F.faults F.latest files.old files.new) }
+    ensures { Writes result (output_list file.entry) (files_seen F.is_seen F.contents F.faults F.latest files.old files.new) }
 {
     match file {
-        Some(file) => files.write(alloc, file.name, file.bytes.as_slice()),
+        Some(file) => files.write(alloc, file.name, file.bytes),
         None => Ok(()),
     }
 }

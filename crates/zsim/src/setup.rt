@@ -1,24 +1,31 @@
-//! What a call is to run: the machine, the executable and the schedule, each read and checked.
-ghost use Rattle.std.specs.Prelude.{◌≡◌, ◌≤◌, [], Some, IfOk, option_map};
+//! What a call is to run or to check: the machine, the executable, the schedule and the events, each
+//! read and checked.
+ghost use Rattle.std.specs.Prelude.{◌≡◌, ◌≤◌, List, [], Some, IfOk, option_map};
+ghost use Rattle.component.specs.declared.comp.Comp.{Comp};
+ghost use Rattle.component.specs.Components.{AreFresh};
 ghost use Rattle.machine_desc.specs.Machine.{IsMachine};
+ghost use Rattle.zsim.specs.Checked.{checked_on};
 ghost use Rattle.zsim.specs.CommandLine.{exe_file, replay};
 ghost use Rattle.zsim.specs.Ended.{IsExeOf, IsMachineText, IsScheduleFile};
-ghost use Rattle.zsim.specs.Seen.{files_seen, SameNames};
+ghost use Rattle.zsim.specs.InputLengths.{events_limit};
+ghost use Rattle.zsim.specs.Seen.{files_seen, SameNames, WasRead};
 ghost use Rattle.zsim.specs.Setup.{image_by, machine_by, schedule_by};
 ghost use Rattle.zsim.specs.Steps.{Checks, Reads, Takes, status_of_read};
 ghost use Rattle.zsim.specs.CommandValue.{exe_value};
 
 use crate::command_line::Exe;
-use crate::limits::{EXE_LIMIT, MACHINE_LIMIT, SCHEDULE_LIMIT};
+use crate::limits::{EVENTS_LIMIT, EXE_LIMIT, MACHINE_LIMIT, SCHEDULE_LIMIT};
 use crate::{ScheduleFault, Status, Which};
 use access_log::Schedule;
+use certify::{CheckFail, Verdict};
+use component::components;
 use elf_load::{Image, LoadFail, load};
 use gen_prog::generate;
 use machine_desc::{Machine, MachineFail, PLAIN};
 use schedule_file::ScheduleReadFail;
 use std::alloc::Global;
 use zs_host::{FileFail, Files};
-use zs_num::Bytes;
+use zs_num::{Bytes, NoMemory};
 
 /// Reads and checks the machine. Its text is kept, from the file of this name or the built-in one.
 pub fn take_machine<F: Files>(
@@ -75,6 +82,26 @@ pub fn take_schedule<F: Files>(
         Err(fail) => return Err(status_of_read(fail)),
     }
     check_schedule(alloc, machine, bytes.as_slice())
+}
+
+/// Reads the events of a file, whose bytes are kept, and checks them on a machine: how many
+/// intervals and how many events it has, where they are the weave's.
+pub fn take_events<F: Files>(
+    alloc: Global,
+    machine: &Machine,
+    name: &str,
+    files: &mut F,
+    bytes: &mut Bytes,
+) -> Result<(u32, u32), Status>
+    requires machine { IsMachine machine.now }
+    requires nothing { bytes.old ≡ [] }
+    ensures takes { (comps : List Comp) → AreFresh machine.now comps → Takes (λ seen. WasRead seen name.now events_limit) (checked_on comps) (Some name.now) result (files_seen F.is_seen F.contents F.faults F.latest files.old files.new) bytes.new }
+{
+    match files.read(alloc, name, EVENTS_LIMIT + 1) {
+        Ok(read) => *bytes = read,
+        Err(fail) => return Err(status_of_read(fail)),
+    }
+    check_events(alloc, machine, bytes.as_slice())
 }
 
 /// The status where an input was not read.
@@ -172,5 +199,28 @@ fn check_schedule(alloc: Global, machine: &Machine, file: &[u8]) -> Result<Sched
         Ok(schedule) => Ok(schedule),
         Err(ScheduleReadFail::Bad(bad)) => Err(Status::BadSchedule(ScheduleFault::File(bad))),
         Err(ScheduleReadFail::NoMemory) => Err(Status::NoMemory),
+    }
+}
+
+/// How many intervals and events a file has, or the refusal of the first check that fails: its
+/// length, then the checks of its format, and then whether its events are the weave's.
+#[tactic(auto, unfolding(crate::specs::Checked::checked_on))]
+fn check_events(alloc: Global, machine: &Machine, file: &[u8]) -> Result<(u32, u32), Status>
+    requires { IsMachine machine.now }
+    ensures { (comps : List Comp) → AreFresh machine.now comps → Checks result (checked_on comps file.now) }
+{
+    if file.len() > EVENTS_LIMIT {
+        return Err(Status::TooLong(Which::Events));
+    }
+    component::laws::fresh_components_are_one();
+    let comps = match components(alloc, machine) {
+        Ok(comps) => comps,
+        Err(NoMemory) => return Err(Status::NoMemory),
+    };
+    match certify::check(alloc, file, comps) {
+        Ok(Verdict::Yes { intervals, events }) => Ok((intervals, events)),
+        Ok(verdict) => Err(Status::NotWoven(verdict)),
+        Err(CheckFail::Bad(bad)) => Err(Status::BadEvents(bad)),
+        Err(CheckFail::NoMemory) => Err(Status::NoMemory),
     }
 }

@@ -1,25 +1,28 @@
 //! The call that does all that the program does.
-ghost use Rattle.std.specs.Prelude.{◌≡◌, ◌⊎◌, [], IfSome, IsSomeAnd, None, Ok, map, option_map, string_bytes};
+ghost use Rattle.std.specs.Prelude.{◌≡◌, ◌⊎◌, [], IfOk, IfSome, IsSomeAnd, None, Ok, is_some, map, option_map, string_bytes};
 ghost use Rattle.machine_desc.specs.Machine.{IsMachine};
+ghost use Rattle.replay.specs.Recording.{IsRecordingOf, is_on};
 ghost use Rattle.replay.specs.ReferenceRun.{IsKeptInOrder};
 ghost use Rattle.replay.specs.Results.{Results};
+ghost use Rattle.zsim.specs.Answered.{Answers, HasCome};
 ghost use Rattle.zsim.specs.CommandLine.{command_of};
 ghost use Rattle.zsim.specs.Ended.{Gives, EndsAs, IsNoCommand, KeepsNothing, Says, no_intervals};
 ghost use Rattle.zsim.specs.Seen.{files_seen, sink_seen};
 ghost use Rattle.zsim.specs.Setup.{schedule_by};
 ghost use Rattle.zsim.specs.Steps.{ReplaysAs, ReplaysFile, RunGives, RunsAs};
-ghost use Rattle.zsim.specs.CommandValue.{command_value};
+ghost use Rattle.zsim.specs.CommandValue.{execution_value};
 
-use crate::command_line::{Command, Task, command_of};
+use crate::checking::check_file;
+use crate::command_line::{Command, Execution, Task, command_of};
 use crate::error_line::error_line;
-use crate::outputs::{finish, output_file};
+use crate::outputs::{finish, output_if, schedule_bytes};
 use crate::put::put_all;
 use crate::setup::{take_exe, take_machine, take_schedule};
-use crate::{Ended, Kept, Said, ScheduleFault, Status};
+use crate::{Ended, Kept, Said, ScheduleFault, Status, Which};
 use access_log::Schedule;
 use elf_load::Image;
 use machine_desc::Machine;
-use replay::{ReplayFail, replay, run};
+use replay::{Recording, ReplayFail, replay, run};
 use std::alloc::{AllocError, Global};
 use std::sync::Wait;
 use std::thread::Threads;
@@ -43,10 +46,10 @@ pub fn zsim<R: Threads + Wait + Sync, F: Files, O: Sink, E: Sink, G: Gate>(
 
     // Where they are a command: what the status and what was kept tell of the files and of standard
     // output.
-    ensures ended { IfSome (command_of (map string_bytes words.now)) (λ command. EndsAs (record { command = command; files = files_seen F.is_seen F.contents F.faults F.latest files.old files.new; out = sink_seen O.is_seen O.bytes O.faults out.old out.new }) result.status result.kept) }
+    ensures ended { IfSome (command_of (map string_bytes words.now)) (λ command. Answers command (files_seen F.is_seen F.contents F.faults F.latest files.old files.new) (sink_seen O.is_seen O.bytes O.faults out.old out.new) result.status result.kept) }
 
-    // Standard output is not touched until a run has come to its end.
-    ensures untouched { (out.new ≡ out.old) ⊎ IsSomeAnd (command_of (map string_bytes words.now)) (λ command. (r : Results) × Gives command result.kept r) }
+    // Standard output is not touched until a run has come to its end, or a check to a yes.
+    ensures untouched { (out.new ≡ out.old) ⊎ IsSomeAnd (command_of (map string_bytes words.now)) (λ command. HasCome command result.kept) }
 
     // Standard error gained the line of the status. It is not touched where the status is Ran.
     ensures error_line { Says result.said result.status (sink_seen E.is_seen E.bytes E.faults err.old err.new) }
@@ -57,9 +60,13 @@ pub fn zsim<R: Threads + Wait + Sync, F: Files, O: Sink, E: Sink, G: Gate>(
         exe: Bytes::of(Vec::new(alloc)),
         sched_file: Bytes::of(Vec::new(alloc)),
         schedule: Schedule::new(alloc, 0),
+        events: Bytes::of(Vec::new(alloc)),
     };
     let status = match command_of(alloc, words) {
-        Ok(Some(command)) => carry_out(rt, alloc, &command, files, out, gate, &mut kept),
+        Ok(Some(Command::Execute(command))) => {
+            carry_out(rt, alloc, &command, files, out, gate, &mut kept)
+        }
+        Ok(Some(Command::Check(command))) => check_file(alloc, &command, files, out, &mut kept),
         Ok(None) => Status::Usage,
         Err(AllocError) => Status::NoMemory,
     };
@@ -67,19 +74,20 @@ pub fn zsim<R: Threads + Wait + Sync, F: Files, O: Sink, E: Sink, G: Gate>(
     Ended { status, said, kept }
 }
 
-/// Carries out a command: takes its inputs, and runs or replays.
+/// Runs or replays: takes the inputs, and does what the task says.
 fn carry_out<R: Threads + Wait + Sync, F: Files, O: Sink, G: Gate>(
     rt: &R,
     alloc: Global,
-    command: &Command<'_>,
+    command: &Execution<'_>,
     files: &mut F,
     out: &mut O,
     gate: &G,
     kept: &mut Kept,
 ) -> Status
     requires { KeepsNothing kept.old }
-    ensures ended { EndsAs (record { command = command_value command.now; files = files_seen F.is_seen F.contents F.faults F.latest files.old files.new; out = sink_seen O.is_seen O.bytes O.faults out.old out.new }) result kept.new }
-    ensures untouched { (out.new ≡ out.old) ⊎ ((r : Results) × Gives (command_value command.now) kept.new r) }
+    ensures ended { EndsAs (record { command = execution_value command.now; files = files_seen F.is_seen F.contents F.faults F.latest files.old files.new; out = sink_seen O.is_seen O.bytes O.faults out.old out.new }) result kept.new }
+    ensures untouched { (out.new ≡ out.old) ⊎ ((r : Results) × Gives (execution_value command.now) kept.new r) }
+    ensures no_events { kept.new.events ≡ [] }
 {
     let machine = match take_machine(alloc, command.machine, files, &mut kept.machine) {
         Ok(machine) => machine,
@@ -92,12 +100,24 @@ fn carry_out<R: Threads + Wait + Sync, F: Files, O: Sink, G: Gate>(
     };
     let brief = command.brief;
     match command.task {
-        Task::Run { workers, record_to } => {
-            let schedule = &mut kept.schedule;
-            run_and_report(
-                rt, alloc, &machine, &image, workers, gate, brief, record_to, schedule, files, out,
-            )
-        }
+        Task::Run {
+            workers,
+            record_to,
+            events_to,
+        } => run_and_report(
+            rt,
+            alloc,
+            &machine,
+            &image,
+            workers,
+            gate,
+            brief,
+            record_to,
+            events_to,
+            &mut kept.schedule,
+            files,
+            out,
+        ),
         Task::Replay { schedule: name } => {
             let (sched_file, schedule) = (&mut kept.sched_file, &mut kept.schedule);
             replay_file(
@@ -107,7 +127,8 @@ fn carry_out<R: Threads + Wait + Sync, F: Files, O: Sink, G: Gate>(
     }
 }
 
-/// Runs an image, writes its report, and behind it the schedule's file where one is named.
+/// Runs an image, writes its report, and behind it the files of its schedule and of its events where
+/// they are named. Nothing is written where the events are too long for a file.
 fn run_and_report<R: Threads + Wait + Sync, F: Files, O: Sink, G: Gate>(
     rt: &R,
     alloc: Global,
@@ -117,6 +138,7 @@ fn run_and_report<R: Threads + Wait + Sync, F: Files, O: Sink, G: Gate>(
     gate: &G,
     brief: bool,
     record_to: Option<&str>,
+    events_to: Option<&str>,
     schedule: &mut Schedule,
     files: &mut F,
     out: &mut O,
@@ -128,18 +150,53 @@ fn run_and_report<R: Threads + Wait + Sync, F: Files, O: Sink, G: Gate>(
     requires cores { schedule.old.cores ≡ machine.now.cores }
     ensures cores { schedule.new.cores ≡ schedule.old.cores }
     ensures in_order { IsKeptInOrder machine.now image.now schedule.new.lists }
-    ensures run { RunsAs result machine.now image.now brief (option_map (λ n. n.now) record_to.entry) schedule.new (files_seen F.is_seen F.contents F.faults F.latest files.old files.new) (sink_seen O.is_seen O.bytes O.faults out.old out.new) }
+    ensures run { RunsAs result machine.now image.now brief (option_map (λ n. n.now) record_to.entry) (option_map (λ n. n.now) events_to.entry) schedule.new (files_seen F.is_seen F.contents F.faults F.latest files.old files.new) (sink_seen O.is_seen O.bytes O.faults out.old out.new) }
     ensures untouched { (out.new ≡ out.old) ⊎ ((r : Results) × RunGives machine.now image.now schedule.new r) }
 {
-    let results = match run(rt, alloc, machine, image, workers, gate, schedule) {
+    component::laws::fresh_components_are_there();
+    let mut recording = match recording_for(alloc, machine, events_to) {
+        Ok(recording) => recording,
+        Err(NoMemory) => return Status::NoMemory,
+    };
+    let results = match run(
+        rt,
+        alloc,
+        machine,
+        image,
+        workers,
+        gate,
+        schedule,
+        &mut recording,
+    ) {
         Ok(results) => results,
         Err(NoMemory) => return Status::NoMemory,
     };
-    let file = match output_file(alloc, record_to, schedule) {
-        Ok(file) => file,
+    let Some(events) = recording.bytes() else {
+        return Status::TooLong(Which::Events);
+    };
+    let bytes = match schedule_bytes(alloc, record_to, schedule) {
+        Ok(bytes) => bytes,
         Err(NoMemory) => return Status::NoMemory,
     };
-    finish(alloc, machine, brief, &results, file, files, out)
+    let record = output_if(record_to, bytes.as_slice());
+    let events = output_if(events_to, events);
+    finish(alloc, machine, brief, &results, record, events, files, out)
+}
+
+/// A recording of events where a file is named for them.
+fn recording_for(
+    alloc: Global,
+    machine: &Machine,
+    events_to: Option<&str>,
+) -> Result<Recording, NoMemory>
+    requires { IsMachine machine.now }
+    ensures none { IfOk result (λ recording. IsRecordingOf machine.now [] recording) }
+    ensures on { IfOk result (λ recording. is_on recording ≡ is_some events_to.entry) }
+{
+    match events_to {
+        Some(_) => Recording::new(alloc, machine),
+        None => Ok(Recording::Off),
+    }
 }
 
 /// Reads the schedule of a file, which is kept, and runs an image under it.
@@ -186,8 +243,9 @@ fn replay_and_report<F: Files, O: Sink>(
     ensures replay { ReplaysAs result machine.now image.now brief schedule.now (files_seen F.is_seen F.contents F.faults F.latest files.old files.new) (sink_seen O.is_seen O.bytes O.faults out.old out.new) }
     ensures untouched { (out.new ≡ out.old) ⊎ ((r : Results) × RunGives machine.now image.now schedule.now r) }
 {
+    replay::laws::each_run_has_one_events_file();
     match replay(alloc, machine, image, schedule) {
-        Ok(results) => finish(alloc, machine, brief, &results, None, files, out),
+        Ok(results) => finish(alloc, machine, brief, &results, None, None, files, out),
         Err(ReplayFail::Illegal { interval, place }) => Status::BadSchedule(ScheduleFault::Illegal {
             interval,
             place,

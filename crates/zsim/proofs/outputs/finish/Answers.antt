@@ -1,9 +1,9 @@
 -- How far the outputs came.
-use Rattle.std.proofs.Common.{◌≡◌, inl, inr, refl, option_map, rules}
+use Rattle.std.proofs.Common.{◌≡◌, ◌++◌, inl, inr, refl, rules}
 use Rattle.zsim.specs.Ended.{status_at}
 use Rattle.zsim.specs.Report.{report_of}
 use Rattle.zsim.specs.Seen.{files_seen, sink_seen}
-use Rattle.zsim.specs.Steps.{file_value}
+use Rattle.zsim.specs.Steps.{output_list}
 use Rattle.zsim.proofs.OutputsDone.{gained, gained_part, put_failed, put_no_memory, write_failed, write_no_memory}
 use Rattle.zsim.proofs.outputs.finish.Goals as goal
 
@@ -45,8 +45,8 @@ returns-in-Err-NoMemory g c =
     ))))
 
 -- the report was put, and the file was written, if there is one
-pub returns-in-Ok-write_file : goal.returns-in-Ok-write_file
-returns-in-Ok-write_file g c =
+pub returns-in-Ok-write_files : goal.returns-in-Ok-write_files
+returns-in-Ok-write_files g c =
     let sink = g.O.Sink in
     let out = sink_seen sink.is_seen sink.bytes sink.faults c.args.out.now c.put_all.new.sink in
     let text = report_of c.args.machine.now c.args.brief c.args.results.now in
@@ -55,15 +55,15 @@ returns-in-Ok-write_file g c =
       is,
       gained out c.as_slice.result.now c.in-Ok.text text c.as_slice.ensures c.in-Ok.ensures c.in-Ok-put_all.ensures.all,
       c.in-Ok-put_all.ensures.faults,
-      c.in-Ok-write_file.ensures.0,
-      c.in-Ok-write_file.ensures.1,
+      c.in-Ok-write_files.ensures.0,
+      c.in-Ok-write_files.ensures.1,
     ))
 
 -- the report was put, and the file was cut short
-pub returns-in-Err-Failed-write_file : goal.returns-in-Err-Failed-write_file
-returns-in-Err-Failed-write_file g c =
+pub returns-in-Err-Failed-write_files : goal.returns-in-Err-Failed-write_files
+returns-in-Err-Failed-write_files g c =
     let files = g.F.Files in
-    let written = files_seen files.is_seen files.contents files.faults files.latest c.args.files.now c.write_file.new.files in
+    let written = files_seen files.is_seen files.contents files.faults files.latest c.args.files.now c.write_files.new.files in
     let sink = g.O.Sink in
     let out = sink_seen sink.is_seen sink.bytes sink.faults c.args.out.now c.put_all.new.sink in
     let text = report_of c.args.machine.now c.args.brief c.args.results.now in
@@ -71,17 +71,17 @@ returns-in-Err-Failed-write_file g c =
       refl,
       gained out c.as_slice.result.now c.in-Ok.text text c.as_slice.ensures c.in-Ok.ensures c.in-Ok-put_all.ensures.all,
       c.in-Ok-put_all.ensures.faults,
-      write_failed c.in-Err-Failed-write_file.field-0 (option_map file_value c.args.file) written c.in-Err-Failed-write_file.field-0-is c.in-Err-Failed-write_file.ensures,
+      write_failed c.in-Err-Failed-write_files.field-0 (output_list c.args.schedule ++ output_list c.args.events) written c.in-Err-Failed-write_files.field-0-is c.in-Err-Failed-write_files.ensures,
     )))))
 
 pub returns : goal.returns
 returns g c =
     let files = g.F.Files in
-    let written = files_seen files.is_seen files.contents files.faults files.latest c.args.files.now c.write_file.new.files in
+    let written = files_seen files.is_seen files.contents files.faults files.latest c.args.files.now c.write_files.new.files in
     let sink = g.O.Sink in
     let out = sink_seen sink.is_seen sink.bytes sink.faults c.args.out.now c.put_all.new.sink in
     let text = report_of c.args.machine.now c.args.brief c.args.results.now in
-    let cut = write_no_memory c.in-Err-NoMemory-write_file.field-0 (option_map file_value c.args.file) written c.in-Err-NoMemory-write_file.field-0-is c.in-Err-NoMemory-write_file.ensures in
+    let cut = write_no_memory c.in-Err-NoMemory-write_files.field-0 (output_list c.args.schedule ++ output_list c.args.events) written c.in-Err-NoMemory-write_files.field-0-is c.in-Err-NoMemory-write_files.ensures in
     inr (inr (inr (inr (inr (
       refl,
       gained out c.as_slice.result.now c.in-Ok.text text c.as_slice.ensures c.in-Ok.ensures c.in-Ok-put_all.ensures.all,

@@ -10,4 +10,5 @@ returns-in-Ok-clause-replay g c =
     replays_as c.args.machine.now c.args.image.now c.args.brief c.args.schedule.now c.in-Ok.results c.finish.result
     (files_seen files.is_seen files.contents files.faults files.latest c.args.files.now c.finish.new.files)
     (sink_seen sink.is_seen sink.bytes sink.faults c.args.out.now c.finish.new.out)
-    (c.in-Ok.ensures.gives, c.in-Ok.ensures.counted) c.finish.ensures
+    (let file = c.each_run_has_one_events_file.ensures.there c.args.machine.now c.args.image.now c.args.schedule.now.lists c.in-Ok.results c.in-Ok.ensures.gives in
+    record { run = c.in-Ok.ensures.gives; counted = c.in-Ok.ensures.counted; events = file.0; events_are = file.1 }) c.finish.ensures
