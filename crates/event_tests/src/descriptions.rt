@@ -3,7 +3,8 @@ ghost use Rattle.machine_desc.specs.Machine.{IsMachine};
 
 use crate::machines::{edited, machine_of, small};
 use machine_desc::{
-    BadMachine, Domains, Machine, MachineFail, PLAIN, Pipe, component_count, domain_of, read,
+    BadMachine, Domains, Dram, Machine, MachineFail, Mesh, PLAIN, Pipe, component_count, domain_of,
+    read,
 };
 use std::process::Abort;
 
@@ -176,7 +177,7 @@ const PIPE: (&str, &str) = (
     "controllers = [1]\n\n[pipe]\nmul = 3\ndiv = 20\nentries = 16\npenalty = 4",
 );
 
-static OF_VERSION_3: [Case; 14] = [
+static OF_VERSION_3: [Case; 12] = [
     (&[PIPE], 5, "pipe", 0),
     (&[("version = 1", "version = 2"), L1I, PIPE], 5, "pipe", 0),
     (&[VERSION_3, ("100000", "100000\npipe = 1")], 3, "pipe", 0),
@@ -229,13 +230,217 @@ static OF_VERSION_3: [Case; 14] = [
         0,
     ),
     (&[VERSION_3, ("100000", "100000\nl1i = 2")], 3, "l1i", 0),
+];
+
+/// The lines of a mesh behind the domains.
+const MESH: (&str, &str) = (
+    "controllers = [1]",
+    "controllers = [1]\n\n[mesh]\nwidth = 2\nheight = 1\nhop = 3\noccupancy = 2",
+);
+
+static OF_A_MESH: [Case; 15] = [
+    (&[MESH], 5, "mesh", 0),
+    (&[("version = 1", "version = 2"), L1I, MESH], 5, "mesh", 0),
+    (&[VERSION_3, ("100000", "100000\nmesh = 1")], 3, "mesh", 0),
+    (&[VERSION_3, MESH, ("width = 2\n", "")], 2, "mesh.width", 0),
     (
-        &[VERSION_3, ("[l2]", "[mesh]\nwidth = 9\n[l2]")],
-        5,
-        "mesh",
+        &[VERSION_3, MESH, ("hop = 3", "hop = 3.0")],
+        3,
+        "mesh.hop",
         0,
     ),
-    (&[VERSION_3, ("[l2]", "[dram]\n[l2]")], 5, "dram", 0),
+    (
+        &[VERSION_3, MESH, ("width = 2", "width = 0")],
+        4,
+        "mesh.width",
+        0,
+    ),
+    (
+        &[VERSION_3, MESH, ("width = 2", "width = 9")],
+        4,
+        "mesh.width",
+        9,
+    ),
+    (
+        &[VERSION_3, MESH, ("height = 1", "height = 9")],
+        4,
+        "mesh.height",
+        9,
+    ),
+    (
+        &[VERSION_3, MESH, ("hop = 3", "hop = 257")],
+        4,
+        "mesh.hop",
+        257,
+    ),
+    (
+        &[VERSION_3, MESH, ("3\noccupancy = 2", "3\noccupancy = 0")],
+        4,
+        "mesh.occupancy",
+        0,
+    ),
+    (
+        &[VERSION_3, MESH, ("3\noccupancy = 2", "3\noccupancy = 257")],
+        4,
+        "mesh.occupancy",
+        257,
+    ),
+    (
+        &[VERSION_3, MESH, ("hop = 3", "hop = 3\ncolour = 1")],
+        5,
+        "mesh.colour",
+        0,
+    ),
+    (
+        &[
+            VERSION_3,
+            MESH,
+            ("hop = 3", "hop = 0"),
+            ("count = 2", "count = 65"),
+        ],
+        4,
+        "domains.count",
+        65,
+    ),
+    (
+        &[
+            VERSION_3,
+            PIPE,
+            MESH,
+            ("mul = 3", "mul = 0"),
+            ("hop = 3", "hop = 0"),
+        ],
+        4,
+        "mesh.hop",
+        0,
+    ),
+    (
+        &[
+            VERSION_3,
+            PIPE,
+            MESH,
+            ("mul = 3", "mul = 3\na = 1"),
+            ("hop = 3", "hop = 3\nz = 1"),
+        ],
+        5,
+        "mesh.z",
+        0,
+    ),
+];
+
+/// The lines of open rows behind the domains.
+const DRAM: (&str, &str) = (
+    "controllers = [1]",
+    "controllers = [1]\n\n[dram]\nbanks = 2\nrow_lines = 4\nhit = 100\nclosed = 120\nconflict = 150",
+);
+
+static OF_OPEN_ROWS: [Case; 19] = [
+    (&[DRAM], 5, "dram", 0),
+    (&[("version = 1", "version = 2"), L1I, DRAM], 5, "dram", 0),
+    (&[VERSION_3, ("100000", "100000\ndram = 1")], 3, "dram", 0),
+    (&[VERSION_3, DRAM, ("hit = 100\n", "")], 2, "dram.hit", 0),
+    (
+        &[VERSION_3, DRAM, ("hit = 100", "hit = 100.0")],
+        3,
+        "dram.hit",
+        0,
+    ),
+    (
+        &[VERSION_3, DRAM, ("banks = 2", "banks = 0")],
+        4,
+        "dram.banks",
+        0,
+    ),
+    (
+        &[VERSION_3, DRAM, ("banks = 2", "banks = 17")],
+        4,
+        "dram.banks",
+        17,
+    ),
+    (
+        &[VERSION_3, DRAM, ("row_lines = 4", "row_lines = 0")],
+        4,
+        "dram.row_lines",
+        0,
+    ),
+    (
+        &[VERSION_3, DRAM, ("row_lines = 4", "row_lines = 4097")],
+        4,
+        "dram.row_lines",
+        4097,
+    ),
+    (
+        &[VERSION_3, DRAM, ("hit = 100", "hit = 0")],
+        4,
+        "dram.hit",
+        0,
+    ),
+    (
+        &[VERSION_3, DRAM, ("hit = 100", "hit = 65537")],
+        4,
+        "dram.hit",
+        65537,
+    ),
+    (
+        &[VERSION_3, DRAM, ("closed = 120", "closed = 99")],
+        4,
+        "dram.closed",
+        99,
+    ),
+    (
+        &[VERSION_3, DRAM, ("closed = 120", "closed = 65537")],
+        4,
+        "dram.closed",
+        65537,
+    ),
+    (
+        &[VERSION_3, DRAM, ("conflict = 150", "conflict = 119")],
+        4,
+        "dram.conflict",
+        119,
+    ),
+    (
+        &[VERSION_3, DRAM, ("conflict = 150", "conflict = 65537")],
+        4,
+        "dram.conflict",
+        65537,
+    ),
+    (
+        &[VERSION_3, DRAM, ("hit = 100", "hit = 100\ncolour = 1")],
+        5,
+        "dram.colour",
+        0,
+    ),
+    (
+        &[
+            VERSION_3,
+            DRAM,
+            MESH,
+            ("banks = 2", "banks = 0"),
+            ("hop = 3", "hop = 0"),
+        ],
+        4,
+        "mesh.hop",
+        0,
+    ),
+    (
+        &[
+            VERSION_3,
+            PIPE,
+            DRAM,
+            ("mul = 3", "mul = 0"),
+            ("banks = 2", "banks = 0"),
+        ],
+        4,
+        "dram.banks",
+        0,
+    ),
+    (
+        &[VERSION_3, DRAM, ("read = 100\n", "")],
+        2,
+        "controllers.read",
+        0,
+    ),
 ];
 
 static RANGES: [Case; 18] = [
@@ -399,6 +604,8 @@ fn the_first_check_that_fails_is_told(rt: HostRuntime) {
     refuse(&rt, &RANGES);
     refuse(&rt, &OF_VERSION_2);
     refuse(&rt, &OF_VERSION_3);
+    refuse(&rt, &OF_A_MESH);
+    refuse(&rt, &OF_OPEN_ROWS);
     refuse(&rt, &NAMES);
     refuse(&rt, &RATIOS);
     refuse(&rt, &DOMAINS);
@@ -486,6 +693,55 @@ fn version_3_may_have_an_instruction_cache(rt: HostRuntime) {
     let machine = fetching_in_version_3(&rt);
     assert!(rt; machine.l1i == Some(machine.l1));
     assert!(rt; machine.pipe == None);
+}
+
+/// The same with a mesh of three nodes and with two banks, the first of them in domain 1.
+fn meshed(rt: &(impl Abort + AllocGlobal)) -> Machine
+    ensures { IsMachine result }
+{
+    let two_banks = ("banks = 1", "banks = 2");
+    let places = ("banks = [0]", "banks = [1, 0]");
+    let three_nodes = ("width = 2", "width = 3");
+    let text = edited(rt, &[VERSION_3, MESH, two_banks, places, three_nodes]);
+    machine_of(rt, text.as_bytes())
+}
+
+/// Components of that machine, and their domains: the banks, the controller, and links of each
+/// node. The link of the third node is in the domain of the first bank.
+static MESHED_DOMAINS: [(u16, u16); 7] = [(0, 1), (1, 0), (2, 1), (3, 1), (7, 0), (11, 1), (14, 1)];
+
+#[test]
+fn version_3_may_have_a_mesh(rt: HostRuntime) {
+    let machine = meshed(&rt);
+    let mesh = Mesh {
+        width: 3,
+        height: 1,
+        hop: 3,
+        occupancy: 2,
+    };
+    assert!(rt; machine.mesh == Some(mesh));
+    assert!(rt; machine.l1i == None && machine.pipe == None);
+    has_domains(&rt, &machine, 15, &MESHED_DOMAINS);
+}
+
+/// The built-in machine as version 3, with open rows.
+fn with_open_rows(rt: &(impl Abort + AllocGlobal)) -> Machine {
+    let text = edited(rt, &[VERSION_3, DRAM]);
+    machine_of(rt, text.as_bytes())
+}
+
+#[test]
+fn version_3_may_have_open_rows(rt: HostRuntime) {
+    let machine = with_open_rows(&rt);
+    let dram = Dram {
+        banks: 2,
+        row_lines: 4,
+        hit: 100,
+        closed: 120,
+        conflict: 150,
+    };
+    assert!(rt; machine.dram == Some(dram));
+    assert!(rt; machine.mesh == None && machine.pipe == None);
 }
 
 #[test]

@@ -1,12 +1,13 @@
 //! Accesses that cross a mesh: the events of worked ones.
-ghost use Rattle.std.specs.Prelude.{◌≡◌, ◌<◌, ◌^◌, All, IsTrue, length, sum_by};
+ghost use Rattle.std.specs.Prelude.{◌≡◌, ◌<◌, ◌^◌, All, IfSome, IsTrue, length, sum_by};
+ghost use Rattle.machine_desc.specs.Machine.{IsDram};
 ghost use Rattle.noc_mesh.specs.NetTiming.{net_pieces};
 
 use crate::graphs::{Row, are_events};
 use crate::loads::{Load, MISS, are_of_two_cores, entries_of, entry};
 use component::Kind;
 use event_graph::{AccessPath, Expand, Graph, Piece, build};
-use machine_desc::{Controllers, L1, L2, Mesh};
+use machine_desc::{Controllers, Dram, L1, L2, Mesh};
 use noc_mesh::{Net, laws};
 use std::process::Abort;
 use zs_num::{Entries, Entry, Outcome};
@@ -14,6 +15,24 @@ use zs_num::{Entries, Entry, Outcome};
 /// The small machine on two nodes side by side: the bank is at the first, and the controller at the
 /// second.
 fn pair() -> Net {
+    net_with(None)
+}
+
+/// The same with a memory whose banks keep rows open.
+fn pair_with_rows() -> Net {
+    net_with(Some(Dram {
+        banks: 2,
+        row_lines: 5,
+        hit: 90,
+        closed: 120,
+        conflict: 150,
+    }))
+}
+
+/// The small machine on two nodes, with open rows or without.
+fn net_with(dram: Option<Dram>) -> Net
+    requires { IfSome dram IsDram }
+{
     Net {
         path: AccessPath {
             l1: L1 {
@@ -43,7 +62,7 @@ fn pair() -> Net {
                 hop: 3,
                 occupancy: 2,
             }),
-            dram: None,
+            dram,
         },
     }
 }
@@ -135,6 +154,30 @@ fn the_hops_back_wait_for_the_read_and_the_fill_for_the_write_too(rt: HostRuntim
     are_pieces(&rt, &pair(), &entry(&(0, 1, outcome)), &WRITTEN_BACK);
 }
 
+/// Line 1088 is in group 217 of five lines, so in row 108 of bank 1.
+static READ_OF_A_ROW: [PieceRow; 6] = [
+    (0, Kind::Lookup, 1, 10, None, None),
+    (2, Kind::Hop, 11, 3, Some(0), None),
+    (
+        1,
+        Kind::RowRead { bank: 1, row: 108 },
+        14,
+        90,
+        Some(1),
+        None,
+    ),
+    (1, Kind::Write, 14, 40, Some(1), None),
+    (7, Kind::Hop, 104, 3, Some(2), None),
+    (0, Kind::Fill, 107, 2, Some(4), Some(3)),
+];
+
+#[test]
+fn a_read_is_of_the_row_of_its_line(rt: HostRuntime) {
+    let outcome = Outcome::Miss { dirty_victim: true };
+    let entry = entry(&(0, 1, outcome));
+    are_pieces(&rt, &pair_with_rows(), &entry, &READ_OF_A_ROW);
+}
+
 /// Checks how long a load takes at zero load.
 fn takes(rt: &impl Abort, net: &Net, load: &Load, time: u64) {
     assert!(rt; net.time(&entry(load)) == time);
@@ -146,4 +189,5 @@ fn an_access_takes_as_long_as_its_way(rt: HostRuntime) {
     takes(&rt, &pair(), &(1, 1, MISS), 125);
     takes(&rt, &pair(), &(1, 1, Outcome::L2 { others: true }), 22);
     takes(&rt, &pair(), &(1, 1, Outcome::Hit), 1);
+    takes(&rt, &pair_with_rows(), &(1, 1, MISS), 115);
 }

@@ -249,6 +249,7 @@ fn counted(rt: &(impl Abort + AllocGlobal), machine: &Machine) -> Counters
     requires cores { machine.now.cores ≡ 2 }
     requires banks { machine.now.l2.banks ≡ 1 }
     requires controllers { machine.now.controllers.count ≡ 1 }
+    requires mesh { machine.now.mesh ≡ None }
     ensures cores { length result.core_counts ≡ 2 }
     ensures comps { length result.comp_counts ≡ 2 }
 {
@@ -300,6 +301,7 @@ fn of_both(rt: &(impl Abort + AllocGlobal), machine: &Machine) -> SizedCounters
     requires cores { machine.now.cores ≡ 2 }
     requires banks { machine.now.l2.banks ≡ 1 }
     requires controllers { machine.now.controllers.count ≡ 1 }
+    requires mesh { machine.now.mesh ≡ None }
 {
     SizedCounters {
         counters: counted(rt, machine),

@@ -1,5 +1,5 @@
 //! The machines of the tests.
-ghost use Rattle.std.specs.Prelude.{◌≡◌, ◌<◌, ◌≤◌, All, length};
+ghost use Rattle.std.specs.Prelude.{◌≡◌, ◌<◌, ◌≤◌, All, None, length};
 ghost use Rattle.machine_desc.specs.Components.{component_count};
 ghost use Rattle.machine_desc.specs.Machine.{IsMachine};
 
@@ -33,6 +33,7 @@ pub(crate) fn machine(
     ensures cores { result.cores ≡ cores }
     ensures banks { result.l2.banks ≡ banks }
     ensures controllers { result.controllers.count ≡ controllers }
+    ensures mesh { result.mesh ≡ None }
 {
     Machine {
         version: 1,

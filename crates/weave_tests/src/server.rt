@@ -14,13 +14,13 @@ pub(crate) struct Server {
 impl Component for Server {
     ghost use Rattle.std.specs.Prelude.{◌≡◌, ◌+◌, ◌≤◌, true, max, refl};
     ghost use Rattle.std.proofs.Common.{rules, arith};
-    ghost use Rattle.component.specs.declared.kind.Kind.TheVariants.{Lookup, Remote, Fill, Read, Write, Hop};
+    ghost use Rattle.component.specs.declared.kind.Kind.TheVariants.{Lookup, Remote, Fill, Read, Write, Hop, RowRead};
 
     ghost serves = { λ c kind. true };
 
-    ghost floor = { λ c kind. elim kind [ Lookup ↦ 10 | Remote ↦ 15 | Fill ↦ 2 | Read ↦ 100 | Write ↦ 100 | Hop ↦ 3 ] };
+    ghost floor = { λ c kind. elim kind [ Lookup ↦ 10 | Remote ↦ 15 | Fill ↦ 2 | Read ↦ 100 | Write ↦ 100 | Hop ↦ 3 | RowRead bank row ↦ 100 ] };
 
-    ghost stepped = { λ c kind start. (record c { free = max start c.free + c.occupancy }, max start c.free + elim kind [ Lookup ↦ 10 | Remote ↦ 15 | Fill ↦ 2 | Read ↦ 100 | Write ↦ 100 | Hop ↦ 3 ]) };
+    ghost stepped = { λ c kind start. (record c { free = max start c.free + c.occupancy }, max start c.free + elim kind [ Lookup ↦ 10 | Remote ↦ 15 | Fill ↦ 2 | Read ↦ 100 | Write ↦ 100 | Hop ↦ 3 | RowRead bank row ↦ 100 ]) };
 
     ghost greatest = { λ c kind start. max start c.free + (c.occupancy + 100) };
 
@@ -33,7 +33,7 @@ impl Component for Server {
             Kind::Lookup => 10,
             Kind::Remote => 15,
             Kind::Fill => 2,
-            Kind::Read | Kind::Write => 100,
+            Kind::Read | Kind::Write | Kind::RowRead { .. } => 100,
             Kind::Hop => 3,
         }
     }
@@ -45,7 +45,7 @@ impl Component for Server {
         served + latency
     }
 
-    ghost floor_at_least_one = { λ c kind s. elim kind as (λ k. 1 ≤ elim k [ Lookup ↦ 10 | Remote ↦ 15 | Fill ↦ 2 | Read ↦ 100 | Write ↦ 100 | Hop ↦ 3 ]) [ Lookup ↦ Prim.omega arith | Remote ↦ Prim.omega arith | Fill ↦ Prim.omega arith | Read ↦ Prim.omega arith | Write ↦ Prim.omega arith | Hop ↦ Prim.omega arith ] };
+    ghost floor_at_least_one = { λ c kind s. elim kind as (λ k. 1 ≤ elim k [ Lookup ↦ 10 | Remote ↦ 15 | Fill ↦ 2 | Read ↦ 100 | Write ↦ 100 | Hop ↦ 3 | RowRead bank row ↦ 100 ]) [ Lookup ↦ Prim.omega arith | Remote ↦ Prim.omega arith | Fill ↦ Prim.omega arith | Read ↦ Prim.omega arith | Write ↦ Prim.omega arith | Hop ↦ Prim.omega arith | RowRead bank row ↦ Prim.omega arith ] };
 
     ghost floor_holds = { λ c kind start s. Prim.omega arith };
 
@@ -53,5 +53,5 @@ impl Component for Server {
 
     ghost floor_stays = { λ c kind start other s. refl };
 
-    ghost finish_within_greatest = { λ c kind start s. elim kind as (λ k. max start c.free + elim k [ Lookup ↦ 10 | Remote ↦ 15 | Fill ↦ 2 | Read ↦ 100 | Write ↦ 100 | Hop ↦ 3 ] ≤ max start c.free + (c.occupancy + 100)) [ Lookup ↦ Prim.omega arith | Remote ↦ Prim.omega arith | Fill ↦ Prim.omega arith | Read ↦ Prim.omega arith | Write ↦ Prim.omega arith | Hop ↦ Prim.omega arith ] };
+    ghost finish_within_greatest = { λ c kind start s. elim kind as (λ k. max start c.free + elim k [ Lookup ↦ 10 | Remote ↦ 15 | Fill ↦ 2 | Read ↦ 100 | Write ↦ 100 | Hop ↦ 3 | RowRead bank row ↦ 100 ] ≤ max start c.free + (c.occupancy + 100)) [ Lookup ↦ Prim.omega arith | Remote ↦ Prim.omega arith | Fill ↦ Prim.omega arith | Read ↦ Prim.omega arith | Write ↦ Prim.omega arith | Hop ↦ Prim.omega arith | RowRead bank row ↦ Prim.omega arith ] };
 }
