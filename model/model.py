@@ -4,17 +4,21 @@
     model/model.py            compares the stored output with what the model answers
     model/model.py --write    writes what it answers into the stored output
 
-It is plain and slow: flat memory, lists of lines, one core after the other, and one list of events. It runs and replays
-executables. It checks no words, executables or descriptions: the cases about those keep the answers that are stored.
-Run it at the top of the repository.
+It is plain and slow: flat memory, lists of lines, one core after the other, and one list of events. It takes the words
+of a command, checks machines, executables, schedules and events files, and runs and replays executables. Cases that
+several workers answer keep the answers that are stored. Run it at the top of the repository.
 """
 
+import collections
 import heapq
 import os
 import re
 import struct
 import sys
-import tomllib
+
+import events as events_files
+import inputs
+from inputs import Untold
 
 TESTS = "crates/zsim_tests"
 DATA = os.path.join(TESTS, "data")
@@ -62,11 +66,11 @@ class Image:
         return None
 
 
-def elf(words):
-    """Returns an executable of these words, at 0x10000."""
+def elf(words, base=0x10000):
+    """Returns an executable of these words, at 0x10000 where no other address is given."""
     code = b"".join(struct.pack("<I", w) for w in words)
-    header = struct.pack("<4sBBB9xHHIQQQIHHHHHH", b"\x7fELF", 2, 1, 1, 2, 243, 1, 0x10000, 64, 0, 0, 64, 56, 1, 0, 0, 0)
-    return header + struct.pack("<IIQQQQQQ", 1, 7, 120, 0x10000, 0x10000, len(code), len(code), 1) + code
+    header = struct.pack("<4sBBB9xHHIQQQIHHHHHH", b"\x7fELF", 2, 1, 1, 2, 243, 1, base, 64, 0, 0, 64, 56, 1, 0, 0, 0)
+    return header + struct.pack("<IIQQQQQQ", 1, 7, 120, base, base, len(code), len(code), 1) + code
 
 
 # ---- instructions
@@ -331,6 +335,40 @@ class Core:
 # ---- the machine
 
 
+# An event: its core, component and kind, the bank and the row that it reads, whether it is the last of its access, how
+# long it takes at least, its earliest start, and its parents.
+Event = collections.namedtuple("Event", "core component kind row critical latency start parents")
+
+
+class Trip:
+    """An access on its way. Its events begin when it does, and its parents are those of their places. `last`: for which
+    events the next one waits; `time`: until when, from the start of the access on."""
+
+    def __init__(self, components, core, head):
+        self.components, self.core = components, core
+        self.events, self.last, self.time = [], [], head
+
+    def add(self, component, kind, row, last, time):
+        """Has an event at a component, and returns its place and until when it lasts."""
+        latency = self.components.latency(component, kind)
+        self.events.append(Event(self.core, component, kind, row, False, latency, time, last))
+        return [len(self.events) - 1], time + latency
+
+    def stop(self, component, kind, row=(0, 0)):
+        """Has an event at a component, behind which the access goes on."""
+        self.last, self.time = self.add(component, kind, row, self.last, self.time)
+
+    def wait_for(self, last, time):
+        """Goes on behind these events too."""
+        self.last, self.time = self.last + last, max(self.time, time)
+
+    def end(self):
+        """Is over with its last event."""
+        if self.events:
+            self.events[-1] = self.events[-1]._replace(critical=True)
+        return self
+
+
 class Machine:
     """Cores, memory, the lists of the caches, and the components."""
 
@@ -344,11 +382,15 @@ class Machine:
         self.own = [{} for _ in self.cores]  # of each core: the lines of each set, [line, letter], most recent first
         self.instructions = [{} for _ in self.cores]  # of each core: the lines of each set of its instruction cache
         self.shared = {}  # the lines of each set, [line, dirty]
-        components = self.l2["banks"] + self.controllers["count"]
-        self.free, self.served, self.waited = [0] * components, [0] * components, [0] * components
+        self.mesh, self.dram = machine.get("mesh"), machine.get("dram")
+        self.nodes = self.mesh["width"] * self.mesh["height"] if self.mesh else 0
+        self.components = events_files.Components(machine)
+        self.free = self.components.free
+        self.served, self.waited = [0] * len(self.free), [0] * len(self.free)
         self.counts = [dict.fromkeys(COUNTS, 0) for _ in self.cores]
         self.accesses = self.events = 0
         self.schedule = []
+        self.records = []  # of each interval: those of its events
 
     # what memory replies
 
@@ -383,6 +425,10 @@ class Machine:
 
     def copy(self, core, line):
         return next((entry for entry in self.own_set(core, line) if entry[0] == line), None)
+
+    def others(self, core, line):
+        """Returns the copies of other cores."""
+        return [other for n in range(len(self.cores)) if n != core for other in [self.copy(n, line)] if other]
 
     def shared_entry(self, line):
         return next((entry for entry in self.shared.setdefault(line % self.l2["sets"], []) if entry[0] == line), None)
@@ -425,9 +471,10 @@ class Machine:
         """Returns the outcome of an access, and whether others have to change, or a dirty line leaves."""
         copy, entry = self.copy(core, line), self.shared_entry(line)
         letter = copy[1] if copy else "I"
-        others = [other for n in range(len(self.cores)) if n != core for other in [self.copy(n, line)] if other]
+        is_hit = letter in ("M", "E") or letter == "S" and not writes
+        others = [] if is_hit else self.others(core, line)
         lines = self.shared[line % self.l2["sets"]]
-        if letter in ("M", "E") or letter == "S" and not writes:
+        if is_hit:
             outcome = "hits", False
         elif entry is None:
             outcome = "misses", len(lines) == self.l2["ways"] and self.evict(lines)
@@ -458,21 +505,53 @@ class Machine:
 
     # time
 
-    def memory_time(self, dirty_victim):
-        return max(self.controllers["read"], self.controllers["write"] if dirty_victim else 0)
-
     def head(self, kind):
         """Returns the time that an access takes first, in a cache of the core's own."""
         return (self.l1i if kind == "fetch" else self.l1)["latency"]
 
-    def time(self, kind, outcome, flag):
-        time = self.head(kind)
+    def route(self, node, target):
+        """Returns the links from a node of the mesh to another: along x first, and then along y."""
+        width, links = self.mesh["width"], []
+        while node != target:
+            if node % width != target % width:
+                direction = 0 if node % width < target % width else 1
+            else:
+                direction = 2 if node > target else 3
+            links.append(4 * node + direction)
+            node += [1, -1, -width, width][direction]
+        return links
+
+    def cross(self, trip, node, target):
+        """Has an event on each link between two nodes, where there is a mesh."""
+        for link in self.route(node, target) if self.mesh else []:
+            trip.stop(self.l2["banks"] + self.controllers["count"] + link, events_files.HOP)
+
+    def read(self, line):
+        """Returns the kind of the read of a line, and its bank behind the controller and its row where rows are open."""
+        if not self.dram:
+            return events_files.READ, (0, 0)
+        row, bank = divmod(line // self.dram["row_lines"], self.dram["banks"])
+        return events_files.ROW_READ, (bank, row)
+
+    def trip(self, core, line, head, outcome, flag):
+        """Returns the events of an access and its time where nothing else runs."""
+        trip = Trip(self.components, core, head)
         if outcome == "hits":
-            return time
-        time += self.l2["latency"]
+            return trip
+        bank, count, nodes = line % self.l2["banks"], self.controllers["count"], self.nodes or 1
+        here, there, behind = core % nodes, bank % nodes, nodes - 1 - bank % count % nodes
+        self.cross(trip, here, there)
+        trip.stop(bank, events_files.REMOTE if flag and outcome != "misses" else events_files.LOOKUP)
         if outcome == "misses":
-            return time + self.memory_time(flag) + self.l2["fill"]
-        return time + (self.l2["remote"] if flag else 0)
+            self.cross(trip, there, behind)
+            controller, asked = self.l2["banks"] + bank % count, (trip.last, trip.time)
+            trip.stop(controller, *self.read(line))
+            written = trip.add(controller, events_files.WRITE, (0, 0), *asked) if flag else ([], 0)
+            self.cross(trip, behind, there)
+            trip.wait_for(*written)
+            trip.stop(bank, events_files.FILL)
+        self.cross(trip, there, here)
+        return trip.end()
 
     # an interval
 
@@ -487,11 +566,12 @@ class Machine:
             outcome, flag = self.meet(core.number, line, kind not in ("load", LR))
         stamp = max(stamps["bank", bank], stamps["core", core.number]) + 1
         stamps["bank", bank] = stamps["core", core.number] = stamp
-        entries.append((stamp, core.number, start, bank, self.head(kind), outcome, flag))
+        trip = self.trip(core.number, line, self.head(kind), outcome, flag)
+        entries.append((stamp, core.number, start, trip))
         counts = self.counts[core.number]
         counts[{"load": "loads", "store": "stores", "fetch": "fetches"}.get(kind, "atomics")] += 1
         counts[outcome] += 1
-        core.clock += self.time(kind, outcome, flag)
+        core.clock += trip.time
         core.go_on(self.reply(core.number, request))
 
     def bound(self, end, turns):
@@ -510,61 +590,65 @@ class Machine:
                 self.turn(self.cores[number], stamps, entries)
             if any([core.next_request(end) is not None for core in self.cores]):
                 return len(turns)
-        return sorted(entries)
+        return sorted(entries, key=lambda entry: entry[:2])
 
     def events_of(self, entries):
-        """Returns the events (core, component, latency, start, parents), and the last critical one of each core."""
+        """Returns the events, and the last critical one of each core."""
         events, last = [], {}
-
-        def add(core, component, latency, start, parents):
-            events.append((core, component, latency, start, parents))
-            return len(events) - 1
-
-        for _, core, start, bank, head, outcome, flag in entries:
-            if outcome == "hits":
-                continue
-            start += head
-            remote = self.l2["remote"] if flag and outcome != "misses" else 0
-            first = add(core, bank, self.l2["latency"] + remote, start, [last[core]] if core in last else [])
-            last[core] = first
-            if outcome == "misses":
-                controller = self.l2["banks"] + bank % self.controllers["count"]
-                start += self.l2["latency"]
-                before = [add(core, controller, self.controllers["read"], start, [first])]
-                if flag:
-                    before.append(add(core, controller, self.controllers["write"], start, [first]))
-                last[core] = add(core, bank, self.l2["fill"], start + self.memory_time(flag), before)
+        for _, core, start, trip in entries:
+            first = len(events)
+            for event in trip.events:
+                parents = [first + place for place in event.parents] if event.parents else [last[core]] if core in last else []
+                events.append(event._replace(start=start + event.start, parents=parents))
+            if trip.events:
+                last[core] = len(events) - 1
         return events, last
 
+    def name_of(self, component):
+        """Returns what the report calls a component."""
+        for name, count in ("bank", self.l2["banks"]), ("controller", self.controllers["count"]):
+            if component < count:
+                return f"{name} {component}"
+            component -= count
+        return f"link {component}"
+
     def weave(self, entries):
-        """Fires the events of an interval, and delays the cores."""
+        """Fires the events of an interval, keeps their records, and delays the cores."""
         events, last = self.events_of(entries)
-        starts, finishes = [event[3] for event in events], [0] * len(events)
-        waits, children = [len(event[4]) for event in events], [[] for _ in events]
-        for number, (*_, start, parents) in enumerate(events):
-            for parent in parents:
-                children[parent].append((number, max(0, start - events[parent][3] - events[parent][2])))
+        starts, finishes = [event.start for event in events], [0] * len(events)
+        waits, children = [len(event.parents) for event in events], [[] for _ in events]
+        delays = [[self.delay(events, event, parent) for parent in event.parents] for event in events]
+        for number, event in enumerate(events):
+            for parent, delay in zip(event.parents, delays[number]):
+                children[parent].append((number, delay))
         ready = [(starts[number], number) for number, wait in enumerate(waits) if wait == 0]
         heapq.heapify(ready)
         while ready:
             start, number = heapq.heappop(ready)
-            _, component, latency, _, _ = events[number]
-            served = max(start, self.free[component])
-            of_bank = component < self.l2["banks"]
-            self.free[component] = served + (self.l2 if of_bank else self.controllers)["occupancy"]
-            self.served[component] += 1
-            self.waited[component] += served - start
-            finishes[number] = served + latency
+            event = events[number]
+            finishes[number] = self.components.finish(event.component, event.kind, event.row, start)
+            self.served[event.component] += 1
+            self.waited[event.component] += finishes[number] - start - event.latency
             for child, delay in children[number]:
                 starts[child] = max(starts[child], finishes[number] + delay)
                 waits[child] -= 1
                 if waits[child] == 0:
                     heapq.heappush(ready, (starts[child], child))
+        self.records.append([self.record(*told) for told in zip(events, delays, starts, finishes)])
         for core, number in last.items():
-            delay = finishes[number] - events[number][3] - events[number][2]
+            delay = finishes[number] - events[number].start - events[number].latency
             self.cores[core].delay += delay
             self.cores[core].clock += delay
         self.events += len(events)
+
+    def delay(self, events, event, parent):
+        """Returns the least time from the finish of a parent to the start of an event."""
+        return max(0, event.start - events[parent].start - events[parent].latency)
+
+    def record(self, event, delays, start, finish):
+        parents = [*zip(event.parents, delays), None, None][:2]
+        served = event.component, event.core, event.kind, event.row
+        return events_files.record(*served, event.critical, event.start, parents, start, finish)
 
     def is_over(self):
         """Tells how the run ends before the next interval: None where it goes on."""
@@ -617,10 +701,8 @@ def report(run, brief):
             front = f"core {core.number} instructions {core.instructions} cycles {core.clock} delay {core.delay}"
             lines.append(f"{front} {counts} halt {core.halt or 'running'}")
             lines.append(f'core {core.number} console {len(core.console)} "{escaped(core.console)}"')
-        banks = run.l2["banks"]
         for n, free in enumerate(run.free):
-            name = f"bank {n}" if n < banks else f"controller {n - banks}"
-            lines.append(f"{name} events {run.served[n]} waited {run.waited[n]} free {free}")
+            lines.append(f"{run.name_of(n)} events {run.served[n]} waited {run.waited[n]} free {free}")
     return "".join(line + "\n" for line in lines)
 
 
@@ -697,17 +779,17 @@ def changed(changes):
     """Returns the built-in machine with changes."""
     swaps = [change.split("->") for change in changes.split(";") if "->" in change]
     table = {old.strip(): "\n".join(line.strip() for line in new.split("|")) for old, new in swaps}
-    return "\n".join(table.get(line.strip(), line.strip()) for line in built_in().splitlines())
+    return "".join(table.get(line.strip(), line.strip()) + "\n" for line in built_in().splitlines())
 
 
-def generated(number):
+def generated(number, base):
     """Returns the program of a number, of which docs/programs.md says what it does."""
     mask = 8 * (2 ** (4 + number % 5) - 1)
     code = [int(w, 16) for w in GENERATED.split()]
     code[13] |= mask << 20
     data = struct.pack("<QQ", number, 100 + number % 9901)
     words = [*code, *[0] * (1024 - len(code)), *struct.unpack("<4I", data)]
-    return elf(words)
+    return elf(words, base)
 
 
 # The 28 instructions, but for the mask in the fourteenth.
@@ -722,12 +804,19 @@ def words_of(text):
     return elf([int(w, 16) for w in text.split()])
 
 
+SEVEN = "00700513 05D00893 00000073"
+
+
+def spoiled(text):
+    """Returns the executable that exits with seven, with other bytes at these places."""
+    file = bytearray(words_of(SEVEN))
+    for change in text.split():
+        file[int(change[:2], 16)] = int(change[2:], 16)
+    return bytes(file)
+
+
 class Cannot(Exception):
     """What cannot be done with a file: read, or write."""
-
-
-class Untold(Exception):
-    """The model does not tell whether a description or an executable passes its checks."""
 
 
 class Names:
@@ -803,6 +892,16 @@ class Cases:
             name, contents = rest.split(" ", 1)
             self.names.held[name] = contents_of(contents)
             return ""
+        if kind == "set":
+            name, index, byte = rest.split()
+            file = bytearray(self.names.held[name])
+            file[int(index)] = int(byte)
+            self.names.held[name] = bytes(file)
+            return ""
+        if kind == "cut":
+            name, count = rest.split()
+            self.names.held[name] = self.names.held[name][: int(count)]
+            return ""
         if kind == "show":
             return rest + "".join(f" {byte:02x}" for byte in self.names.held[rest]) + "\n"
         if kind in ("race", "count", "owners", "meet", "again"):
@@ -823,9 +922,21 @@ class Cases:
             return call_on(rest, Beside())
         if kind == "example":
             return call_on(f"run plain {rest}", Beside())
-        if kind == "machine" and " : " in rest:
+        names = Names()
+        names.held.update(A=words_of(SEVEN))
+        if kind == "words":
+            return call_on(rest, names)
+        if kind in ("exe", "spoil"):
+            if rest == "overlapping":
+                return None
+            names.held.update(A=contents_of(rest) if kind == "exe" else spoiled(rest))
+            return call_on("run plain A", names)
+        if kind == "description":
+            names.held.update(m=contents_of(rest))
+            return call_on("run m A", names)
+        if kind == "machine":
             changes, _, code = rest.partition(" : ")
-            names.held.update(m=changed(changes).encode(), A=words_of(code))
+            names.held.update(m=changed(changes).encode(), A=words_of(code or SEVEN))
             return call_on("run m A", names)
         if kind == "code":
             names.held.update(A=words_of(rest))
@@ -868,62 +979,118 @@ def contents_of(text):
 
 
 def call_on(text, names, cut=(1,)):
-    """Returns how a call on words ends whose standard output is cut so. None where that is told by a check of words,
-    executables or descriptions."""
-    command, *words = [word for word in text.replace("=", " ").split() if word != "--brief"]
-    if command not in ("run", "replay"):
-        return None
-    first = words[0].startswith("--")
-    options, (machine, name) = (words[:-2], words[-2:]) if first else (words[2:], words[:2])
-    options = dict(zip(options[::2], options[1::2]))
+    """Returns how a call on words ends whose standard output is cut so. None where the documents leave that to a
+    library."""
+    return called(text.split(), names, cut)
+
+
+# The number of each status, by what a refusal begins with.
+REFUSALS = {"usage": 2, "cannot read": 4, "cannot write": 5, "machine": 6, "elf": 7, "schedule": 9, "too long": 10,
+            "events": 11, "not the weave": 12}  # fmt: skip
+USAGE = (
+    "usage: zsim run MACHINE EXE [--workers N] [--record NAME] [--events NAME] [--brief]"
+    " or zsim replay MACHINE EXE --schedule NAME [--brief] or zsim check MACHINE EVENTS"
+)
+LONGEST = {"machine": 2**20, "executable": 2**26, "schedule": 2**28, "events": events_files.MOST}
+
+
+class Refused(Exception):
+    """A call ends with this line on standard error, behind its report where that is given."""
+
+    def ended(self, output=""):
+        status = next(number for front, number in REFUSALS.items() if str(self).startswith(front))
+        return Ended(status, f"zsim: {self}\n", output)
+
+
+def called(words, names, cut=(1,)):
+    """Returns how a call ends. None where the documents leave that to a library."""
     try:
-        run = machine_of(machine, name, names)
-        cores = len(run.cores)
-        lists = lists_of(options["--schedule"], names, cores) if command == "replay" else None
+        command = inputs.command_of(words)
+        if command is None:
+            raise Refused(USAGE)
+        return (check_on if command[0] == "check" else run_on)(*command, names, cut)
+    except Refused as refusal:
+        return refusal.ended()
+    except Untold:
+        return None
+
+
+def contents(name, names, what):
+    """Returns what a file holds that is read."""
+    try:
+        file = names.read(name)
+    except Cannot as wrong:
+        raise Refused(f"cannot {wrong}") from wrong
+    if len(file) > LONGEST[what]:
+        raise Refused(f"too long: {what}")
+    return file
+
+
+def run_on(command, places, options, names, cut):
+    """Returns how a run or a replay ends."""
+    run = machine_of(*places, names)
+    cores = len(run.cores)
+    try:
+        lists = schedule_of(contents(options["--schedule"], names, "schedule"), cores) if command == "replay" else None
         ended = run.run(lists)
         if isinstance(ended, tuple):
             raise BadSchedule(f"7 {ended[0]} {ended[1]}")
     except BadSchedule as wrong:
-        return Ended(9, f"zsim: schedule {wrong}\n")
-    except Cannot as what:
-        return Ended(4, f"zsim: cannot {what}\n")
-    except Untold:
-        return None
-    output, fails = taken(report(run, "--brief" in text.split()), cut)
-    if fails:
-        return Ended(5, "zsim: cannot write\n", output)
+        raise Refused(f"schedule {wrong}") from wrong
+    events = events_files.events_file(len(run.free), run.records)
+    if "--events" in options and len(events) > events_files.MOST:
+        raise Refused("too long: events")
+    output = put(report(run, "--brief" in options), cut)
+    if isinstance(output, Ended):
+        return output
     try:
         if "--record" in options:
             names.write(options["--record"], schedule_file(cores, run.schedule))
+        if "--events" in options:
+            names.write(options["--events"], events)
     except Cannot as what:
-        return Ended(5, f"zsim: cannot {what}\n", output)
+        return Refused(f"cannot {what}").ended(output)
     return Ended(*{"ran": (0, ""), "limit": (3, "zsim: stopped at the limit\n")}[ended], output)
 
 
-# What a description of each version has beside the keys of version 1, and what it may have.
-KEYS = {1: (set(), set()), 2: ({"l1i"}, set()), 3: (set(), {"l1i", "pipe"})}
+def check_on(_, places, __, names, cut):
+    """Returns how a call ends that checks events."""
+    components = events_files.Components(description_of(places[0], names))
+    try:
+        intervals, events = events_files.check(contents(places[1], names, "events"), components)
+    except events_files.BadEvents as wrong:
+        raise Refused(f"events {wrong}") from wrong
+    except events_files.NotWoven as wrong:
+        raise Refused(f"not the weave: {wrong}") from wrong
+    output = put(f"zsim check 1\nintervals {intervals}\nevents {events}\nyes\n", cut)
+    return output if isinstance(output, Ended) else Ended(0, "", output)
+
+
+def put(text, cut):
+    """Returns a text that standard output took. How the call ends where it did not take it whole."""
+    output, fails = taken(text, cut)
+    return Refused("cannot write").ended(output) if fails else output
+
+
+def description_of(machine, names):
+    """Returns the description that a word of a command names."""
+    try:
+        return inputs.description_of(built_in().encode() if machine == "plain" else contents(machine, names, "machine"))
+    except inputs.BadMachine as wrong:
+        raise Refused(f"machine {wrong}") from wrong
 
 
 def machine_of(machine, name, names):
     """Returns the machine that a word of a command names, with the executable in its memory."""
+    description = description_of(machine, names)
+    memory = description["memory"]
+    is_made = name.startswith("gen:")
+    file = generated(int(name[4:]), memory["base"]) if is_made else contents(name, names, "executable")
     try:
-        description = tomllib.loads(built_in() if machine == "plain" else names.read(machine).decode())
-        file = generated(int(name[4:])) if name.startswith("gen:") else names.read(name)
-        needs, may_have = KEYS[description["version"]]
-        keys = set(tomllib.loads(built_in())) | needs
-        if not keys <= set(description) <= keys | may_have or file[:4] != b"\x7fELF":
-            raise Untold
-        return Machine(description, file)
-    except (tomllib.TOMLDecodeError, UnicodeDecodeError, KeyError, TypeError, struct.error) as wrong:
-        raise Untold from wrong
-
-
-def lists_of(name, names, cores):
-    """Returns the lists of a schedule's file."""
-    file = names.read(name)
-    if len(file) > 2**28:
-        raise Untold
-    return schedule_of(file, cores)
+        inputs.check_executable(file, memory["base"], memory["size"])
+    except inputs.BadElf as wrong:
+        raise Refused(f"elf {wrong}") from wrong
+    return Machine(description, file)
 
 
 def stored_answers(cases, text):
@@ -931,8 +1098,8 @@ def stored_answers(cases, text):
     lines, answers = text.splitlines(keepends=True), []
     for case in cases:
         kind, count = case.split(" ", 1)[0], 1
-        is_line = kind in ("#", "describe", "show", "find", "kept") or kind == "again" and lines[0] == "the same\n"
-        if kind in ("hold", "anew", "out", "err"):
+        is_line = kind in ("#", "describe", "show", "find", "kept", "events") or kind == "again" and lines[0] == "the same\n"
+        if kind in ("hold", "set", "cut", "anew", "out", "err"):
             count = 0
         elif not is_line:
             while not lines[count - 1].startswith("status "):

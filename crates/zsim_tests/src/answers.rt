@@ -128,6 +128,13 @@ impl Called {
         page.line("");
         Some(())
     }
+
+    /// Writes what was kept of a file of events. The name is the one that should hold it.
+    pub fn write_kept_events(&self, name: &str, files: &MemFiles, page: &mut Page) {
+        page.text("events");
+        write_held(name, self.ended.kept.events.as_slice(), files, page);
+        page.line("");
+    }
 }
 
 /// How many lines end with this text.

@@ -19,6 +19,8 @@
 //! - `anew N..`: from here on no name holds anything, and the calls on the files with these numbers
 //!   fail.
 //! - `hold NAME CONTENTS`: what the name holds from here on.
+//! - `set NAME INDEX BYTE`, `cut NAME COUNT`: of what it holds a byte is another one, or only so many
+//!   bytes are left.
 //! - `show NAME`: the bytes that it holds.
 //! - `out MOST N..`, `err MOST N..`: standard output or standard error of the next call takes at
 //!   most so many bytes a put, and the puts with these numbers fail.
@@ -31,7 +33,8 @@
 //! - `sure WORDS`: a call over files and streams that never fail.
 //! - `again WORDS`: a call, and whether it answers what the last one did.
 //! - `find TEXT`: how many lines of the last answer end with this text.
-//! - `kept MACHINE EXE SCHEDULE`: what the last call kept, and whether these names hold it.
+//! - `kept MACHINE EXE SCHEDULE`: what the last call kept, and whether these names hold it; `events
+//!   NAME`: the same of a file of events.
 use crate::answers::{Streams, call};
 use crate::contents::MOST;
 use crate::executables::SEVEN;

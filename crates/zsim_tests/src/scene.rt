@@ -58,6 +58,8 @@ impl Scene {
         match kind {
             "anew" => self.begin(alloc, rest),
             "hold" => self.hold_named(alloc, rest, beside),
+            "set" => self.set_byte(alloc, rest),
+            "cut" => self.cut(alloc, rest),
             "show" => self.write_held(rest, page),
             "out" => self.set_out(alloc, rest),
             "err" => self.set_err(alloc, rest),
@@ -70,6 +72,12 @@ impl Scene {
             "sure" => self.write_sure(rt, alloc, rest, page),
             "find" => self.last.as_ref()?.write_found(rest, page),
             "kept" => self.write_kept(alloc, rest, page),
+            "events" => {
+                self.last
+                    .as_ref()?
+                    .write_kept_events(rest, &self.files, page);
+                Some(())
+            }
             _ => None,
         }
     }
@@ -109,6 +117,29 @@ impl Scene {
         let mut bytes = Vec::new(alloc);
         put_contents(alloc, kind, rest, beside, &mut bytes)?;
         self.files.set(alloc, name, &bytes).ok()
+    }
+
+    /// Has a byte of what a name holds be another one: the line has the name, the index and the
+    /// byte.
+    fn set_byte(&mut self, alloc: Global, rest: &str) -> Option<()> {
+        let (name, numbers) = parted(rest);
+        let (index, byte) = parted(numbers);
+        let mut bytes = self.copy_of(alloc, name)?;
+        *bytes.get_mut(index.parse::<usize>().ok()?)? = byte.parse::<u8>().ok()?;
+        self.files.set(alloc, name, &bytes).ok()
+    }
+
+    /// Has a name hold the first bytes of what it holds: the line has the name and how many.
+    fn cut(&mut self, alloc: Global, rest: &str) -> Option<()> {
+        let (name, count) = parted(rest);
+        let bytes = self.copy_of(alloc, name)?;
+        let first = bytes.get(0..count.parse::<usize>().ok()?)?;
+        self.files.set(alloc, name, first).ok()
+    }
+
+    /// The bytes that a name holds.
+    fn copy_of(&self, alloc: Global, name: &str) -> Option<Vec<u8>> {
+        Vec::from_slice(alloc, self.files.get(name)?).ok()
     }
 
     /// Writes the bytes that a name holds, in hexadecimal digits.
