@@ -15,7 +15,7 @@ from conftest import FETCHING, WORKED, environment
 
 import zsim_tools
 
-COMMANDS = ("show", "diff", "sweep", "plot", "run", "describe", "explain")
+COMMANDS = ("show", "diff", "sweep", "plot", "run", "describe", "explain", "timeline", "series")
 DEBIAN = "/usr/lib/python3/dist-packages"
 
 
@@ -35,7 +35,7 @@ def test_help(command):
         ([], "the following arguments are required: COMMAND (see zsim-tools --help)"),
         (
             ["shew"],
-            "argument COMMAND: invalid choice: 'shew' (choose from 'show', 'diff', 'sweep', 'plot', 'run', 'describe', 'explain') (see zsim-tools --help)",
+            f"argument COMMAND: invalid choice: 'shew' (choose from {str(COMMANDS)[1:-1]}) (see zsim-tools --help)",
         ),
         (["show"], "the following arguments are required: REPORT (see zsim-tools show --help)"),
         (["show", "a", "--colour"], "unrecognized arguments: --colour (see zsim-tools --help)"),

@@ -3,11 +3,20 @@
 import json
 
 import pytest
-from test_explain import PIPE, VERSION_3, WITH_L1I
+from test_explain import MESH, PIPE, VERSION_3, WITH_L1I
 from test_plots import size_of
 
 import zsim_tools
-from zsim_tools.describe import accesses_of, caches_of, controllers_of, description_of, general_of, notes_of
+from zsim_tools.describe import (
+    accesses_of,
+    caches_of,
+    controllers_of,
+    description_of,
+    general_of,
+    longest_miss,
+    notes_of,
+    ways_of,
+)
 from zsim_tools.drawing import draw
 from zsim_tools.machine import parse_machine
 
@@ -52,6 +61,19 @@ def test_a_machine_with_pipelines():
     ]
     assert description_of(machine)["pipeline"] == {"mul": 3, "div": 20, "entries": 16, "penalty": 4}
     assert description_of(parse_machine(VERSION_3, "three"))["pipeline"] is None
+
+
+def test_a_machine_with_a_mesh(repository):
+    """The core and the bank are at node 0, and the controller is at node 1."""
+    machine = parse_machine(VERSION_3 + MESH, "three")
+    assert [tuple(way) for way in ways_of(machine.values)] == [("core to bank", 0, 0, 0), ("bank to controller", 1, 1, 1)]
+    assert longest_miss(machine.values) == 119 and longest_miss(parse_machine(VERSION_3, "three").values) == 113
+    assert ["bytes a cycle of a link", "32"] in general_of(machine.values)
+    assert description_of(machine)["mesh"] == {"width": 2, "height": 1, "hop": 3, "occupancy": 2}
+    assert description_of(parse_machine(VERSION_3, "three"))["mesh"] is None
+    # From any of 64 nodes to any other: along x as along y 21 / 8 in the mean.
+    tiles = zsim_tools.read_machine(repository / "examples/machines/tiles.toml")
+    assert tuple(ways_of(tiles.values)[0]) == ("core to bank", 0, 5.25, 14) and notes_of(tiles.values) == []
 
 
 def test_what_is_worth_a_second_look():

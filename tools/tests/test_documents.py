@@ -20,12 +20,24 @@ from zsim_tools.table import FRACTIONS, SHA256
 from zsim_tools.task import run_machine
 
 
-L1I = """\
+# What a machine of version 3 may have beside the tables of the built-in one and gives columns of its own.
+TABLES = """
 [l1i]
 sets = 2
 ways = 1
 latency = 1
+
+[mesh]
+width = 1
+height = 1
+hop = 3
+occupancy = 2
 """
+
+# The report of two cores on such a machine: four links, with ten events in all.
+MESHED = FETCHING.replace("report 2", "report 3").replace("events 160", "events 170") + "".join(
+    f"link {number} events {number + 1} waited {number} free {100 * number}\n" for number in range(4)
+)
 
 
 def test_plain_is_the_built_in_machine(repository):
@@ -36,26 +48,24 @@ def test_plain_is_the_built_in_machine(repository):
 
 
 def test_every_key_of_a_machine_has_a_label(repository):
-    rows = re.findall(r"(?m)^\| `([a-z0-9.]+)` \| integer \|", (repository / "docs/machine-description.md").read_text())
+    rows = re.findall(r"(?m)^\| `([a-z0-9_.]+)` \| integer \|", (repository / "docs/machine-description.md").read_text())
     assert len(rows) > 20 and set(rows) - {"version"} == set(KEYS)
-    # The built-in machine is of version 1, which has no instruction caches and no pipelines.
+    # The built-in machine is of version 1, which has none of the tables that a machine may have or not.
     assert {key for key in KEYS if key.split(".")[0] not in OPTIONAL} < set(zsim_tools.read_machine("plain").values)
 
 
-def with_l1i(machine):
-    """Returns a machine of version 2, with instruction caches."""
-    text = machine.text.replace("version = 1", "version = 2").replace("[l2]", f"{L1I}\n[l2]")
-    return parse_machine(text, machine.name)
+def with_tables(machine):
+    """Returns a machine of version 3, with instruction caches and a mesh."""
+    return parse_machine(machine.text.replace("version = 1", "version = 3") + TABLES, machine.name)
 
 
 def test_every_column_is_in_the_documents(repository):
     text = (repository / "docs/tools.md").read_text()
     machine = zsim_tools.read_machine("plain").changed({"cores": 2, "l2.banks": 2, "domains.banks": [0, 0]})
-    columns = numbers_of(parse_report(FETCHING, machine=with_l1i(machine), seconds=0.5))
-    for name in columns:
-        if not re.fullmatch("(core|bank|controller)[0-9]+_.*", name):
-            assert f"`{name}`" in text, name
-    whole_run = {name for name in columns if not re.fullmatch("(core|bank|controller)[0-9]+_.*", name)}
+    columns = numbers_of(parse_report(MESHED, machine=with_tables(machine), seconds=0.5))
+    whole_run = {name for name in columns if not re.fullmatch("(core|bank|controller|link)[0-9]+_.*", name)}
+    for name in whole_run:
+        assert f"`{name}`" in text, name
     assert set(FRACTIONS) == {name for name in whole_run if isinstance(columns[name], float)}
     for name in ("executable", "repeat", "schedule", "status", "line", "halt", "machine_sha256", "executable_sha256", "zsim_sha256"):
         assert f"`{name}`" in text
@@ -83,7 +93,7 @@ def test_what_the_documents_point_to_is_there(repository):
         assert (page.parent / link).exists(), f"{page}: {link}"
 
 
-@pytest.mark.parametrize("name, runs", [("matrix.toml", 48), ("stream.toml", 64), ("pipeline.toml", 48)])
+@pytest.mark.parametrize("name, runs", [("matrix.toml", 48), ("stream.toml", 64), ("pipeline.toml", 48), ("mesh.toml", 16), ("rows.toml", 42)])
 def test_the_sweeps_of_the_examples_are_read(repository, name, runs):
     planned = read_sweep(repository / "examples/sweeps" / name).planned()
     assert len(planned) == runs and len({(run.machine_sha256, run.executable.sha256) for run in planned}) == runs
@@ -125,15 +135,27 @@ PLOTS = {
         "",
         [f"{name}, {penalty}" for name in ("sort", "bytecode") for penalty in (3, 12)],
     ),
+    "hops.png": (
+        "time of a hop (cycles)",
+        "waiting for the links (cycles per event)",
+        "",
+        [f"{name}, {occupancy}" for name in ("sum", "counter") for occupancy in (2, 32)],
+    ),
+    "rows.png": (
+        "lines of a row of memory",
+        "waiting for the controllers (cycles per event)",
+        "cores: 1",
+        [f"{name}, {banks}" for name in ("walk", "walk_jumping") for banks in (1, 16)],
+    ),
 }
 
 
 def test_the_plots_of_the_documents(command, repository, tmp_path, monkeypatch):
     """Draws them as the document says, from stored tables of the sweeps. A person looked at those that stand there."""
     text = (repository / "docs/tools.md").read_text().replace("\\\n", " ")
-    lines = re.findall(r"(?m)^    tools/zsim-tools (plot (?:matrix|stream|pipeline)\.csv .*)$", text)
+    lines = re.findall(r"(?m)^    tools/zsim-tools (plot (?:matrix|stream|pipeline|mesh|rows)\.csv .*)$", text)
     assert len(lines) == len(PLOTS)
-    for name in ("matrix.csv", "stream.csv", "pipeline.csv"):
+    for name in ("matrix.csv", "stream.csv", "pipeline.csv", "mesh.csv", "rows.csv"):
         shutil.copy(HERE / "data" / name, tmp_path)
     figures = []
     monkeypatch.setattr(
@@ -155,6 +177,8 @@ def test_the_plots_of_the_documents(command, repository, tmp_path, monkeypatch):
         ("matrix", {"l1.sets": 16, "l1.ways": 8}),
         ("stream", {"controllers.occupancy": 32, "l2.banks": 2}),
         ("pipeline", {"pipe.entries": 64, "pipe.penalty": 3}),
+        ("mesh", {"mesh.hop": 9, "mesh.occupancy": 32}),
+        ("rows", {"dram.row_lines": 256, "dram.banks": 16}),
     ],
 )
 def test_the_stored_tables_are_those_of_zsim(built_zsim, repository, tmp_path, name, where):

@@ -14,12 +14,13 @@ PLAIN_TEXT = inputs.read_text(PLAIN, inputs.MACHINE)
 L1I = "[l1i]\nsets = 2\nways = 1\nlatency = 1\n[l2]"
 WITH_L1I = PLAIN_TEXT.replace("version = 1", "version = 2").replace("[l2]", L1I)
 PIPE = "\n[pipe]\nmul = 3\ndiv = 20\nentries = 16\npenalty = 4\n"
+MESH = "\n[mesh]\nwidth = 2\nheight = 1\nhop = 3\noccupancy = 2\n"
 VERSION_3 = PLAIN_TEXT.replace("version = 1", "version = 3")
 
 
 def test_the_keys_and_their_ranges_are_those_of_the_document(repository):
     page = (repository / "docs/machine-description.md").read_text()
-    rows = re.findall(r"(?m)^\| `([a-z0-9.]+)` \| (integer|table|array of integers) \| (.*?) \|", page)
+    rows = re.findall(r"(?m)^\| `([a-z0-9_.]+)` \| (integer|table|array of integers) \| (.*?) \|", page)
     listed = [key for key, _, _ in rows]
     assert [key for key in listed if key in ALLOWED] == list(ALLOWED)
     assert [key for key in listed if key in TABLES] == list(TABLES)[1:]
@@ -96,7 +97,8 @@ def test_the_machines_of_the_examples_pass(repository):
 
 
 def test_version_3_has_what_tables_it_may():
-    for text in (VERSION_3, VERSION_3 + PIPE, VERSION_3.replace("[l2]", L1I), VERSION_3.replace("[l2]", L1I) + PIPE):
+    fetching = VERSION_3.replace("[l2]", L1I)
+    for text in (VERSION_3, VERSION_3 + PIPE, VERSION_3 + MESH, fetching, fetching + PIPE, fetching + PIPE + MESH):
         assert refusal_of(text) is None
     for text, line in (
         (PLAIN_TEXT + PIPE, "5 pipe"),
@@ -105,7 +107,13 @@ def test_version_3_has_what_tables_it_may():
         (VERSION_3 + PIPE.replace("div = 20\n", ""), "2 pipe.div"),
         (VERSION_3 + PIPE.replace("penalty = 4", "penalty = 65"), "4 pipe.penalty 65"),
         (VERSION_3 + PIPE + "colour = 1", "5 pipe.colour"),
-        (VERSION_3 + "\n[mesh]\n", "5 mesh"),
+        (PLAIN_TEXT + MESH, "5 mesh"),
+        (WITH_L1I + MESH, "5 mesh"),
+        (VERSION_3.replace("cores = 1", "cores = 1\nmesh = 1"), "3 mesh"),
+        (VERSION_3 + MESH.replace("hop = 3\n", ""), "2 mesh.hop"),
+        (VERSION_3 + MESH.replace("width = 2", "width = 9"), "4 mesh.width 9"),
+        (VERSION_3 + PIPE + "colour = 1" + MESH + "colour = 1", "5 mesh.colour"),
+        (VERSION_3 + "\n[dram]\n", "2 dram.banks"),
     ):
         assert refusal_of(text).line == f"zsim: machine {line}"
 
@@ -124,6 +132,9 @@ def test_version_3_has_what_tables_it_may():
         ("zsim: machine 5 colour", "`colour` is no key of a description"),
         ("zsim: machine 5 l1i", "Version 1 has no instruction caches"),
         ("zsim: machine 5 pipe", "Pipelines are of version 3"),
+        ("zsim: machine 5 mesh", "Meshes are of version 3"),
+        ("zsim: machine 2 mesh.hop", "Add it: an integer from 1 to 256 (or take the table `mesh` out)"),
+        ("zsim: machine 4 mesh.hop 257", "`mesh.hop` (time of a hop) is 257, and has to be an integer from 1 to 256"),
         ("zsim: machine 2 pipe.div", "Add it: an integer from 1 to 128 (or take the table `pipe` out)"),
         ("zsim: machine 4 pipe.mul 65", "`pipe.mul` (time of a product) is 65, and has to be an integer from 1 to 64"),
         ("zsim: machine 7 17", "Element 1 of `domains.controllers` is 1, and has to be from 0 to 7"),
@@ -173,7 +184,7 @@ def test_every_line_of_the_documents_has_words(repository):
     assert {int(number) for number in re.findall(r"(?m)^\| ([0-9]) \|", schedules)} == set(SCHEDULE)
     lines = (repository / "docs/command-line.md").read_text()
     for line in re.findall(r"`zsim: ([a-z :]+?)(?: n`|`|: zsim run)", lines):
-        assert line in ("machine", "elf", "schedule") or line in LINES, line
+        assert line in ("machine", "elf", "schedule", "events") or line in LINES, line
 
 
 def test_the_command(command, repository, tmp_path):
@@ -203,3 +214,22 @@ def test_a_refusal_from_python_is_explained(fake_zsim):
         zsim_tools.run(machine, "gen:5", zsim=fake_zsim)
     assert "has to be an integer from 1 to 16" in refusal.value.meaning
     assert zsim_tools.explain("zsim: elf 2") == ELF[2]
+
+
+@pytest.mark.parametrize(
+    "line, told",
+    [
+        ("zsim: events 1 340", "within the field that begins at byte 340"),
+        ("zsim: events 2", "does not begin with ZSEV"),
+        ("zsim: events 3 2", "is of version 2"),
+        ("zsim: events 4 3", "is of a machine of 3 components"),
+        ("zsim: events 5 2 17", "Event 17 of interval 2 is none of this machine"),
+        ("zsim: events 6 404", "goes on behind its last event, at byte 404"),
+        ("zsim: not the weave: start 0 4", "Event 4 of interval 0 does not start when it could first"),
+        ("zsim: not the weave: finish 0 3", "Event 3 of interval 0 does not finish when its component"),
+        ("zsim: too long: events", "more than 2^28 bytes"),
+    ],
+)
+def test_lines_of_events_files(line, told):
+    assert told in explain(line)
+    assert explain("zsim: events 7") is None and explain("zsim: not the weave: end 0 3") is None

@@ -7,12 +7,13 @@ from conftest import FETCHING, WORKED
 
 import zsim_tools
 from zsim_tools.outcomes import judge, row_of
+from zsim_tools.machine import parse_machine
 from zsim_tools.report import parse_report
 from zsim_tools.sweep_file import Executable, Planned
 from zsim_tools.task import Outcome
 
 HEADER = re.compile("zsim report [123]\n")
-LINE = re.compile("(cores|intervals|instructions|cycles|accesses|events|core|bank|controller) ")
+LINE = re.compile("(cores|intervals|instructions|cycles|accesses|events|core|bank|controller|link) ")
 
 
 CUT = re.compile(r".*[.][.]$|zsim: cannot write$")
@@ -161,6 +162,22 @@ def test_a_report_of_cores_that_fetch():
     assert parse_report(FETCHING.replace("report 2", "report 3")).core_list == report.core_list
 
 
+def test_a_report_of_a_machine_with_a_mesh():
+    """One node, whose four links have 10 events more in all; a link is busy for 2 cycles with each."""
+    lines = [f"link {number} events {number + 1} waited {number} free {100 * number}" for number in range(4)]
+    text = WORKED.replace("report 1", "report 3").replace("events 160", "events 170")
+    text = text.replace("atomics 0", "atomics 0 fetches 0").replace("atomics 50", "atomics 50 fetches 0")
+    mesh = "\n[mesh]\nwidth = 1\nheight = 1\nhop = 3\noccupancy = 2\n"
+    plain = zsim_tools.read_machine("plain").changed({"cores": 2, "l2.banks": 2, "domains.banks": [0, 0]})
+    machine = parse_machine(plain.text.replace("version = 1", "version = 3") + mesh, "meshed")
+    report = parse_report(text + "\n".join(lines) + "\n", machine=machine)
+    assert [link.counters["events"] for link in report.link_list] == [1, 2, 3, 4]
+    assert (report.derived["link_wait"], report.derived["link_busiest"]) == (0.6, 8 / 4000)
+    assert list(report.links["free"]) == [0, 100, 200, 300] and "link_wait" not in parse_report(WORKED).derived
+    with pytest.raises(zsim_tools.ToolError, match="its links are 4, but here are 0"):
+        parse_report(text.replace("events 170", "events 160"), machine=machine)
+
+
 def test_without_a_machine_there_is_no_busy_share():
     report = parse_report(WORKED)
     assert "busy" not in report.banks and "bank_busy" not in report.derived
@@ -232,7 +249,7 @@ def test_a_report_cut_in_half_says_so(command, tmp_path):
         (WORKED + WORKED, 'line 15: the report ends before this line, not with "zsim report 1"'),
         (
             WORKED.replace("controller 0 events 40", "controller 0 events 41"),
-            "line 7: events 160, but the banks and controllers below come to 161",
+            "line 7: events 160, but the banks, controllers and links below come to 161",
         ),
         (
             WORKED.replace("hits 580", "hits 581"),

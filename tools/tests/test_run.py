@@ -45,6 +45,28 @@ def test_schedules(command, twelve):
 
 
 @pytest.mark.parametrize(
+    "words, name",
+    [
+        ("--record a.elf", "a.elf"),
+        ("--record ./machine.toml", "machine.toml"),
+        ("--record link", "a.elf"),
+        ("--out a.elf", "a.elf"),
+        ("--record a.schedule --out a.schedule", "a.schedule"),
+        ("--schedule a.schedule --out a.schedule", "a.schedule"),
+    ],
+)
+def test_an_output_is_no_input(command, twelve, words, name):
+    (twelve / "link").hardlink_to(twelve / "a.elf")
+    (twelve / "a.schedule").write_text("before")
+    before = {path: path.read_bytes() for path in twelve.iterdir() if path.is_file()}
+    ended = command("run", "machine.toml", "a.elf", *words.split())
+    assert ended.returncode == 2
+    told = f"cannot write: {words.split()[-1]}: it is {name}, which the run reads or writes too"
+    assert ended.stderr == f"zsim-tools: {told}\n"
+    assert {path: path.read_bytes() for path in twelve.iterdir() if path.is_file()} == before
+
+
+@pytest.mark.parametrize(
     "program, told",
     [
         ("break", ["core 0 halted: break", "A breakpoint: "]),

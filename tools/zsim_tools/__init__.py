@@ -3,7 +3,7 @@
     import zsim_tools
 
     report = zsim_tools.run("examples/machines/laptop.toml", "examples/c/sort.elf")
-    report.cores                    a data frame with a row for each core, and so report.banks, report.controllers
+    report.cores                    a data frame with a row for each core, and so report.banks, report.controllers, report.links
     report.derived                  the derived numbers of the run
     zsim_tools.explain("zsim: elf 6")        what a line of zsim means, and how to mend it
     zsim_tools.sweep("sweep.toml", "sweep.csv")

@@ -51,6 +51,19 @@ TABLES = {
         "occupancy": Allowed(1, 65536),
     },
     "domains": {"count": Allowed(1, 64), "banks": "l2.banks", "controllers": "controllers.count"},
+    "mesh": {
+        "width": Allowed(1, 8),
+        "height": Allowed(1, 8),
+        "hop": Allowed(1, 256),
+        "occupancy": Allowed(1, 256),
+    },
+    "dram": {
+        "banks": Allowed(1, 16),
+        "row_lines": Allowed(1, 4096),
+        "hit": Allowed(1, 65536),
+        "closed": Allowed(1, 65536),
+        "conflict": Allowed(1, 65536),
+    },
     "pipe": {
         "mul": Allowed(1, 64),
         "div": Allowed(1, 128),
@@ -60,8 +73,10 @@ TABLES = {
 }
 ALLOWED = {f"{table}.{key}".lstrip("."): allowed for table, keys in TABLES.items() for key, allowed in keys.items()}
 # The tables that a version need not have: those that each has beside the others, and those that it may have.
-OPTIONAL = {"l1i", "pipe"}
-VERSIONS = {1: (set(), set()), 2: ({"l1i"}, set()), 3: (set(), {"l1i", "pipe"})}
+OPTIONAL = {"l1i", "mesh", "dram", "pipe"}
+VERSIONS = {1: (set(), set()), 2: ({"l1i"}, set()), 3: (set(), {"l1i", "mesh", "dram", "pipe"})}
+# Keys whose value is at least that of another key, which comes before.
+AT_LEAST = {"dram.closed": "dram.hit", "dram.conflict": "dram.closed"}
 RATIOS = ("l1.sets", "l1i.sets", "l2.sets")
 
 
@@ -128,6 +143,8 @@ def wrong_key(document, name, allowed):
     fits = allowed.least <= value <= allowed.most and value % allowed.multiple == 0
     if name == "memory.stack":
         fits = fits and document["cores"] * value <= document["memory"]["size"]
+    if name in AT_LEAST:
+        fits = fits and value >= number_of(document, AT_LEAST[name])
     return None if fits else Refusal(RANGE, (name, value))
 
 

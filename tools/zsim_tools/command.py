@@ -55,6 +55,8 @@ def plot_command(words):
     from .table import read_table
 
     check_plot(words)
+    if words.mesh:
+        return mesh_command(words)
     where = {}
     for column, value in words.where:
         where.setdefault(column, []).append(value)
@@ -81,11 +83,24 @@ def plot_command(words):
     return DONE
 
 
+def mesh_command(words):
+    from .machine import read_machine
+    from .mesh_plot import plot_mesh
+    from .report import read_report
+
+    report, machine = words.mesh
+    machine = read_machine(machine)
+    plot_mesh(read_report(report, machine), machine, words.out, words.y or "waited", words.title, words.size)
+    return DONE
+
+
 def run_command(words):
+    from .program import check_apart
     from .run_once import run_once
 
     if words.out:
         check_output(words.out)
+        check_apart(words.out, words.machine, words.executable, words.record, words.schedule)
     return DONE if run_once(words, say) else NOT_ALL
 
 
@@ -114,6 +129,36 @@ def explain_command(words):
     return DONE
 
 
+def timeline_command(words):
+    from .machine import read_machine
+    from .timeline import Cut, write_timeline
+
+    check_output(words.out)
+    cut = Cut(words.since, words.until, words.core)
+    slices, arrows = write_timeline(words.events, read_machine(words.machine), words.out, cut)
+    say(f"{words.out}: {slices} events and {arrows} arrows between them")
+    return DONE
+
+
+def series_command(words):
+    from .machine import read_machine
+    from .report import read_report
+    from .series import Series, series_csv, series_tables
+
+    machine = read_machine(words.machine)
+    report = read_report(words.report, machine) if words.report else None
+    if words.csv:
+        series_csv(words.events, machine, report, words.every)
+    elif words.out:
+        from .series_plot import POINTS, plot_series
+
+        series = Series(words.events, machine, report, words.every, POINTS)
+        plot_series(series, words.out, words.y, words.by, words.title, words.size)
+    else:
+        series_tables(Series(words.events, machine, report, words.every))
+    return DONE
+
+
 COMMANDS = {
     "show": show_command,
     "diff": diff_command,
@@ -122,6 +167,8 @@ COMMANDS = {
     "run": run_command,
     "describe": describe_command,
     "explain": explain_command,
+    "timeline": timeline_command,
+    "series": series_command,
 }
 
 

@@ -31,7 +31,7 @@ def of_core(core):
 
 
 def of_component(component, cycles, occupancy):
-    """Returns the derived numbers of a bank or a controller, in a run of so many cycles.
+    """Returns the derived numbers of a bank, a controller or a link, in a run of so many cycles.
 
     Without an occupancy there is no busy share. An event keeps its component busy for the occupancy, and no two
     overlap; those of the last interval may end after the last core's clock, at the cycle `free`.
@@ -50,13 +50,32 @@ def controller_occupancy(machine):
     return machine.number("controllers.occupancy") if machine else None
 
 
+def link_occupancy(machine):
+    return machine.number("mesh.occupancy") if machine else None
+
+
+def links_of(machine):
+    """Returns how many links the mesh of a machine has: four of each node, and 0 without a mesh."""
+    return 4 * (machine.number("mesh.width") or 0) * (machine.number("mesh.height") or 0)
+
+
+def components_of(report):
+    """Returns each kind of components of a report, with the components and their occupancy. Without a mesh there are no
+    links, and no kind of them."""
+    kinds = [
+        ("bank", report.bank_list, bank_occupancy(report.machine)),
+        ("controller", report.controller_list, controller_occupancy(report.machine)),
+    ]
+    return kinds + ([("link", report.link_list, link_occupancy(report.machine))] if report.link_list else [])
+
+
 def totals(report):
-    """Returns the sums over the cores, the banks and the controllers, by name."""
+    """Returns the sums over the cores, the banks, the controllers and the links, by name."""
     cores = [core.counters for core in report.core_list]
     # (the column `cycles` is the greatest clock, as in the report)
     names = [name for name in (cores[0] if cores else ()) if name != "cycles"]
     sums = {name: sum([core[name] for core in cores]) for name in names}
-    for kind, components in (("bank", report.bank_list), ("controller", report.controller_list)):
+    for kind, components, _ in components_of(report):
         for name in ("events", "waited"):
             sums[f"{kind}_{name}"] = sum([component.counters[name] for component in components])
     return sums
@@ -104,13 +123,13 @@ def of_cores(report, sums):
     numbers["instructions_spread"] = spread(core["instructions"] for core in cores)
     numbers["cycles_spread"] = spread(core["cycles"] for core in cores)
     numbers["cpi_spread"] = spread(of_core(core)["cpi"] for core in cores)
-    numbers |= of_kind(report, "bank", report.bank_list, bank_occupancy(report.machine), sums)
-    numbers |= of_kind(report, "controller", report.controller_list, controller_occupancy(report.machine), sums)
+    for kind, components, occupancy in components_of(report):
+        numbers |= of_kind(report, kind, components, occupancy, sums)
     return numbers
 
 
 def of_kind(report, kind, components, occupancy, sums):
-    """Returns the derived numbers of all banks, or of all controllers."""
+    """Returns the derived numbers of all components of a kind."""
     numbers = {f"{kind}_wait": quotient(sums[f"{kind}_waited"], sums[f"{kind}_events"])}
     if occupancy is not None:
         cycles = report.summary["cycles"]

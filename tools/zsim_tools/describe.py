@@ -1,6 +1,7 @@
 """What the numbers of a machine description come to: sizes, cycles of each kind of access, bandwidths, domains.
 
-The times are those of docs/time-and-weave.md where nothing waits.
+The times are those of docs/time-and-weave.md where nothing waits. On a mesh those of an access are without the links that
+it crosses, which stand apart: they go by the nodes of its core, its bank and its controller.
 """
 
 from typing import NamedTuple
@@ -46,7 +47,9 @@ def accesses_of(values):
 
 def accesses_by(values, cache, before):
     first, look_up, remote = values[f"{cache}.latency"], values["l2.latency"], values["l2.remote"]
-    read, write, fill = values["controllers.read"], values["controllers.write"], values["l2.fill"]
+    # (where rows are open, the time without waiting is that of a read in the open row)
+    read = values.get("dram.hit", values["controllers.read"])
+    write, fill = values["controllers.write"], values["l2.fill"]
     bank, controller = values["l2.occupancy"], values["controllers.occupancy"]
     name = cache.upper()
     return [
@@ -76,6 +79,61 @@ def caches_of(values):
     return rows
 
 
+class Way(NamedTuple):
+    """A way over the mesh: between what it leads, and how many links it has at the least, in the mean and at the most."""
+
+    name: str
+    least: int
+    mean: float
+    most: int
+
+
+def nodes_of(values):
+    """Returns at which nodes of the mesh the cores, the banks and the controllers are, each as x and y."""
+    width, nodes = values["mesh.width"], values["mesh.width"] * values["mesh.height"]
+
+    def places(count, node):
+        return [(node(number % nodes) % width, node(number % nodes) // width) for number in range(count)]
+
+    return (
+        places(values["cores"], lambda number: number),
+        places(values["l2.banks"], lambda number: number),
+        places(values["controllers.count"], lambda number: nodes - 1 - number),
+    )
+
+
+def ways_of(values):
+    """Returns the ways over the mesh, where there is one: from every core to every bank, and from each bank to its
+    controller. Each is gone back, too."""
+    if "mesh.width" not in values:
+        return []
+    cores, banks, controllers = nodes_of(values)
+
+    def way(name, pairs):
+        links = [abs(one[0] - other[0]) + abs(one[1] - other[1]) for one, other in pairs]
+        return Way(name, min(links), sum(links) / len(links), max(links))
+
+    return [
+        way("core to bank", [(core, bank) for core in cores for bank in banks]),
+        way("bank to controller", [(bank, controllers[b % len(controllers)]) for b, bank in enumerate(banks)]),
+    ]
+
+
+def longest_miss(values):
+    """Returns how many cycles a miss takes at most, where nothing waits."""
+    return accesses_of(values)[-1].cycles + sum(2 * way.most * values["mesh.hop"] for way in ways_of(values))
+
+
+def mesh_of(values):
+    """Returns what a mesh comes to, where there is one, in words and numbers."""
+    if "mesh.width" not in values:
+        return []
+    return [
+        ["mesh", f"{values['mesh.width']} by {values['mesh.height']} nodes, {values['mesh.hop']} cycles a link"],
+        ["bytes a cycle of a link", shown(LINE / values["mesh.occupancy"])],
+    ]
+
+
 def pipeline_of(values):
     """Returns what the pipeline of a core comes to, where the cores have one: in words, and cycles."""
     if "pipe.mul" not in values:
@@ -84,6 +142,18 @@ def pipeline_of(values):
         ["a product is ready after", f"{values['pipe.mul']} cycles"],
         ["a quotient is ready after", f"{values['pipe.div']} cycles"],
         ["a wrong prediction costs", f"{values['pipe.penalty']} cycles; {values['pipe.entries']} counters predict"],
+    ]
+
+
+def rows_of(values):
+    """Returns what the open rows of the controllers come to, where they have them: in words, cycles and bytes."""
+    if "dram.hit" not in values:
+        return []
+    row = LINE * values["dram.row_lines"]
+    return [
+        ["a read in the open row takes", f"{values['dram.hit']} cycles, and a row has {row} bytes"],
+        ["a read where no row is open", f"{values['dram.closed']} cycles, in each of {values['dram.banks']} banks of memory"],
+        ["a read where another row is open", f"{values['dram.conflict']} cycles"],
     ]
 
 
@@ -99,7 +169,7 @@ def controllers_of(values):
 def notes_of(values):
     """Returns what is worth a second look, though zsim takes it (docs/machine-description.md)."""
     notes = []
-    miss = accesses_of(values)[-1].cycles
+    miss = longest_miss(values)
     if values["interval"] < MISSES * miss:
         notes.append(f"an interval of {values['interval']} cycles is shorter than {MISSES} misses of {miss} cycles")
     idle = [number for number, _, banks, _ in controllers_of(values) if not banks]
@@ -126,6 +196,9 @@ def description_of(machine):
         "controllers": [
             dict(zip(("controller", "domain", "banks", "bytes_per_cycle"), row)) for row in controllers_of(values)
         ],
+        "mesh": {key.partition(".")[2]: value for key, value in values.items() if key.startswith("mesh.")} or None,
+        "ways": [way._asdict() for way in ways_of(values)],
+        "rows": {key.partition(".")[2]: value for key, value in values.items() if key.startswith("dram.")} or None,
         "pipeline": {key.partition(".")[2]: value for key, value in values.items() if key.startswith("pipe.")} or None,
         "notes": notes_of(values),
     }
@@ -140,10 +213,13 @@ def describe_tables(machine):
     values = checked(machine).values
     out = console()
     print_table(out, machine.name, ["machine", ""], general_of(values))
+    ways = ways_of(values)
+    cycles = "cycles without links" if ways else "cycles"
     for headings, rows in (
         (["cache", "of", "sets", "ways", "KiB"], caches_of(values)),
-        (["access", "cycles", "hops", "bank busy", "controller busy"], accesses_of(values)),
+        (["access", cycles, "hops", "bank busy", "controller busy"], accesses_of(values)),
         (["controller", "domain", "banks", "bytes a cycle"], controllers_of(values)),
+        *([(["links on the way", "least", "mean", "most"], ways)] if ways else []),
     ):
         out.print()
         print_table(out, "", headings, [[shown(value) for value in row] for row in rows])
@@ -161,6 +237,8 @@ def general_of(values):
         ["bytes a cycle of a bank", shown(LINE / values["l2.occupancy"])],
         ["bytes a cycle of memory", shown(whole)],
         ["domains", str(values["domains.count"])],
+        *mesh_of(values),
+        *rows_of(values),
         *pipeline_of(values),
     ]
 

@@ -9,12 +9,12 @@ from .texts import SHARES, console, plain_number, print_csv, print_json, print_t
 
 # Which whole tells how much a change of a number weighs. A number that is not here is measured by itself.
 KINDS = {
-    "cycles": ("cycles", "delay", "waited", "free", "bank_waited", "controller_waited"),
+    "cycles": ("cycles", "delay", "waited", "free", "bank_waited", "controller_waited", "link_waited"),
     "accesses": ("accesses", "loads", "stores", "atomics", "fetches", "hits", "upgrades", "l2hits", "misses"),
-    "events": ("events", "bank_events", "controller_events"),
+    "events": ("events", "bank_events", "controller_events", "link_events"),
     "instructions": ("instructions",),
     "accesses per thousand instructions": derived.PER_THOUSAND,
-    "cycles per event": ("wait", "bank_wait", "controller_wait"),
+    "cycles per event": ("wait", "bank_wait", "controller_wait", "link_wait"),
     "one": SHARES,
 }
 KIND_OF = {name: kind for kind, names in KINDS.items() for name in names}
@@ -74,7 +74,12 @@ def numbers_of(report, alone):
 
 
 def counts(report):
-    return {"core": len(report.core_list), "bank": len(report.bank_list), "controller": len(report.controller_list)}
+    return {
+        "core": len(report.core_list),
+        "bank": len(report.bank_list),
+        "controller": len(report.controller_list),
+        "link": len(report.link_list),
+    }
 
 
 def changes(a, b):

@@ -39,7 +39,10 @@ def draw_parts(axes, values):
     bottom, _ = draw_row(axes, 0.0, "core", [None] * values["cores"])
     words(axes, 0.0, cores_words(values))
     bar = bottom - 0.75
-    draw_links(axes, bar, bottom, values["cores"], bar - 0.35, banks)
+    reached = "every core reaches every bank"
+    if "mesh.width" in values:
+        reached += f"\nover a mesh of {values['mesh.width']} by {values['mesh.height']} nodes"
+    draw_links(axes, bar, bottom, values["cores"], bar - 0.35, banks, reached)
     bottom, places = draw_row(axes, bar - 0.35 - HIGH, "bank", values["domains.banks"])
     words(axes, bar - 0.35 - HIGH, bank_words(values))
     top = bottom - 1.0
@@ -76,13 +79,13 @@ def draw_row(axes, top, name, domains):
     return min(y for _, y in below), below
 
 
-def draw_links(axes, bar, cores_bottom, cores, banks_top, banks):
+def draw_links(axes, bar, cores_bottom, cores, banks_top, banks, reached):
     """Draws that every core reaches every bank: a bar, with a link from each core above and to each bank below."""
     axes.plot([0.4, SIDE - 0.4], [bar, bar], color="0.3", linewidth=3, solid_capstyle="butt", zorder=1)
     for count, end in ((cores, cores_bottom), (banks, banks_top)):
         for x, _, width in places_of(min(count, SIDE), 0.0):
             axes.plot([x + width / 2] * 2, [bar, end], color="0.6", linewidth=0.8, zorder=0)
-    axes.text(SIDE + 0.3, bar, "every core reaches every bank", va="center", fontsize="x-small")
+    axes.text(SIDE + 0.3, bar, reached, va="center", fontsize="x-small")
 
 
 def words(axes, y, lines):
@@ -120,5 +123,6 @@ def controller_words(values):
         counted(values["controllers.count"], "controller"),
         f"miss, clean victim: {clean} cycles",
         f"miss, dirty victim: {dirty} cycles",
+        *(["(and those on the mesh)"] if "mesh.width" in values else []),
         f"{controllers_of(values)[0][3]:.4g} bytes a cycle each",
     ]

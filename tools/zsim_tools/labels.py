@@ -27,6 +27,15 @@ KEYS = {
     "controllers.write": "time of a write to memory (cycles)",
     "controllers.occupancy": "occupancy of a controller (cycles per event)",
     "domains.count": "domains",
+    "mesh.width": "nodes of the mesh along x",
+    "mesh.height": "nodes of the mesh along y",
+    "mesh.hop": "time of a hop (cycles)",
+    "mesh.occupancy": "occupancy of a link (cycles per event)",
+    "dram.banks": "banks of a controller's memory",
+    "dram.row_lines": "lines of a row of memory",
+    "dram.hit": "time of a read in the open row (cycles)",
+    "dram.closed": "time of a read where no row is open (cycles)",
+    "dram.conflict": "time of a read where another row is open (cycles)",
     "pipe.mul": "time of a product (cycles)",
     "pipe.div": "time of a quotient (cycles)",
     "pipe.entries": "counters that predict branches",
@@ -80,7 +89,7 @@ COMPONENTS = {
     "busiest": "busy share of the busiest {kind}",
 }
 
-KINDS = {"bank": "banks", "controller": "controllers"}
+KINDS = {"bank": "banks", "controller": "controllers", "link": "links"}
 
 
 def label_of(column, fetching=False):
@@ -97,7 +106,7 @@ def label_of(column, fetching=False):
         for name, text in COMPONENTS.items():
             if column == f"{kind}_{name}":
                 return text.format(kind=kind, kinds=kinds)
-    part = re.fullmatch("(core|bank|controller)([0-9]+)_(.+)", column)
+    part = re.fullmatch("(core|bank|controller|link)([0-9]+)_(.+)", column)
     if part and part[3] in numbers:
         return f"{part[1]} {part[2]}: {numbers[part[3]]}"
     return column

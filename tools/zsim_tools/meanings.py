@@ -4,7 +4,7 @@ import difflib
 import re
 import tomllib
 
-from .checks import ALLOWED, DOMAIN, KIND, MISSING, RANGE, RATIO, TABLES, TEXT, UNKNOWN, values_of
+from .checks import ALLOWED, AT_LEAST, DOMAIN, KIND, MISSING, RANGE, RATIO, TABLES, TEXT, UNKNOWN, values_of
 from .errors import one_line
 from .labels import KEYS
 
@@ -43,6 +43,26 @@ SCHEDULE = {
     "has no access left, or ends where one has. Replay what was recorded with the same machine and executable.",
 }
 
+# Of an events file, by the number of the check.
+EVENTS = {
+    1: "The events file ends within the field that begins at byte {0}: it was cut off. Have it written again.",
+    2: "The events file does not begin with ZSEV: it is of another kind. Give one that `--events` wrote.",
+    3: "The events file is of version {0}, and zsim reads version 1.",
+    4: "The events file is of a machine of {0} components (banks, controllers and links), and this one has another number. "
+    "Check it with the machine of its run.",
+    5: "Event {1} of interval {0} is none of this machine: its component is not there or serves no such kind, or a field has "
+    "a number that it cannot have. Check the file with the machine of its run.",
+    6: "The events file goes on behind its last event, at byte {0}. Have it written again.",
+}
+
+# Of an event that is not as the weave gives it, by what is wrong with it.
+NOT_THE_WEAVE = {
+    "start": "Event {1} of interval {0} does not start when it could first: at its earliest start, or when what it waits for "
+    "has finished. The file was changed, or it is of another machine.",
+    "finish": "Event {1} of interval {0} does not finish when its component, which serves one event after the other, would "
+    "finish it. The file was changed, or it is of another machine.",
+}
+
 # All other lines.
 LINES = {
     "usage": "The words are no command of zsim. docs/command-line.md has all of them.",
@@ -58,6 +78,8 @@ LINES = {
     "too long: machine": "The machine description has more than 2^20 bytes, so it is none.",
     "too long: executable": "The executable has more than 2^26 bytes. Strip it: link it with `-s`.",
     "too long: schedule": "The schedule's file has more than 2^28 bytes, so no run wrote it.",
+    "too long: events": "The events file has, or would have, more than 2^28 bytes, which are four million events. Have a "
+    "smaller input, or fewer `intervals`.",
 }
 
 # Why a core halted, by the first word.
@@ -84,12 +106,14 @@ def explain(line, text=None):
     """
     line = line.strip().removeprefix("zsim: ")
     words = line.split()
-    tables = {"elf": ELF, "schedule": SCHEDULE}
+    tables = {"elf": ELF, "schedule": SCHEDULE, "events": EVENTS}
     if len(words) > 1 and words[1].isascii() and words[1].isdigit():
         if words[0] == "machine":
             return explain_machine(int(words[1]), words[2:], text)
         if int(words[1]) in tables.get(words[0], ()):
             return filled(tables[words[0]][int(words[1])], words[2:])
+    if words[:3] == ["not", "the", "weave:"] and "".join(words[3:4]) in NOT_THE_WEAVE:
+        return filled(NOT_THE_WEAVE[words[3]], words[4:])
     for begin, meaning in LINES.items():
         if line == begin or line.startswith(f"{begin}: "):
             return meaning
@@ -153,6 +177,8 @@ def missing(key):
     mends = {
         "l1i": " (or have `version = 1`, which has none)",
         "l1i.": " (or have no table `l1i`: with `version = 1`, or taken out of one of version 3)",
+        "mesh.": " (or take the table `mesh` out)",
+        "dram.": " (or take the table `dram` out)",
         "pipe.": " (or take the table `pipe` out)",
     }
     table, dot, _ = key.partition(".")
@@ -174,12 +200,20 @@ def out_of_range(key, value, values):
     if key == "memory.stack" and fits:
         stacks = f" {values['cores']} of {number} bytes are" if "cores" in values else " They are"
         return f"The stacks of all cores do not fit in memory:{stacks} more than `memory.size`."
+    if key in AT_LEAST and fits:
+        other = AT_LEAST[key]
+        which = f", which is {values[other]}" if other in values else ""
+        return f"`{key}`{meaning_of(key)} is {number}, and has to be at least `{other}`{which}."
     return f"`{key}`{meaning_of(key)} is {number}, and has to be {wanted(key)}."
 
 
 def unknown(key):
     if key == "l1i":
         return "Version 1 has no instruction caches. Take out the table `l1i`, or have `version = 2`."
+    if key == "mesh":
+        return "Meshes are of version 3. Take out the table `mesh`, or have `version = 3`."
+    if key == "dram":
+        return "Open rows are of version 3. Take out the table `dram`, or have `version = 3`."
     if key == "pipe":
         return "Pipelines are of version 3. Take out the table `pipe`, or have `version = 3`."
     near = difflib.get_close_matches(key, [*ALLOWED, *filter(None, TABLES)], 1)

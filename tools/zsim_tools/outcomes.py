@@ -62,7 +62,7 @@ def numbers_of(report):
     for core in report.core_list:
         numbers |= {f"core{core.number}_{name}": value for name, value in core.counters.items()}
         numbers[f"core{core.number}_halt"] = core.halt
-    for kind, components in (("bank", report.bank_list), ("controller", report.controller_list)):
+    for kind, components, _ in derived.components_of(report):
         for part in components:
             numbers |= {f"{kind}{part.number}_{name}": value for name, value in part.counters.items()}
     return numbers

@@ -75,6 +75,8 @@ def run(machine, exe, zsim=None, workers=1, record=None, replay=None):
 
     if replay and (record or workers != 1):
         raise ToolError("a replay has its order from a file: it has no workers, and no schedule to record")
+    if record:
+        check_apart(record, machine, exe)
     program = find_zsim(zsim)
     with told(f"cannot run: {program}"):
         files = [in_memory(machine.text.encode("utf-8"))] if isinstance(machine, Machine) else []
@@ -85,6 +87,23 @@ def run(machine, exe, zsim=None, workers=1, record=None, replay=None):
     if not isinstance(machine, Machine):
         machine = read_machine(machine)
     return parse_report(outcome.output, f"the report of {exe}", machine, outcome.status, outcome.seconds)
+
+
+def check_apart(output, machine, exe, *others):
+    """Raises ToolError where an output has the name of an input, which zsim would read and then overwrite."""
+    named = [] if isinstance(machine, Machine) or str(machine) == "plain" else [machine]
+    named += [] if str(exe).startswith("gen:") else [exe]
+    for name in [*named, *filter(None, others)]:
+        if is_same_file(output, name):
+            raise ToolError(f"cannot write: {output}: it is {name}, which the run reads or writes too")
+
+
+def is_same_file(one, other):
+    """Tells whether two names are of one file, which need not be there."""
+    try:
+        return os.path.realpath(one) == os.path.realpath(other) or os.path.samefile(one, other)
+    except (OSError, ValueError):  # (no file of this name is there, or can be)
+        return False
 
 
 def meaning_of(line, machine):

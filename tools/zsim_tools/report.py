@@ -32,7 +32,7 @@ CORE_LINES = {
 CONSOLE_LINE = re.compile(rf'core {NUMBER} console {NUMBER} "((?:[ !#-\[\]-~]|\\x[0-9a-f]{{2}})*)"')
 SUMMARY_LINES = {word: re.compile(f"{word} {NUMBER}") for word in SUMMARY}
 COMPONENT_LINE = re.compile(
-    " ".join([f"(bank|controller) {NUMBER}", *(f"{name} {NUMBER}" for name in COMPONENT_COUNTERS)])
+    " ".join([f"(bank|controller|link) {NUMBER}", *(f"{name} {NUMBER}" for name in COMPONENT_COUNTERS)])
 )
 
 # How much of a line a message shows.
@@ -59,7 +59,7 @@ class Core(NamedTuple):
 
 
 class Component(NamedTuple):
-    """What the report says of a bank or of a controller: its counters by name."""
+    """What the report says of a bank, a controller or a link: its counters by name."""
 
     number: int
     counters: dict
@@ -77,6 +77,7 @@ class Report(NamedTuple):
     core_list: tuple = ()
     bank_list: tuple = ()
     controller_list: tuple = ()
+    link_list: tuple = ()
     machine: object = None
     status: int | None = None
     seconds: float | None = None
@@ -104,6 +105,11 @@ class Report(NamedTuple):
     def controllers(self):
         """A data frame with a row for each memory controller."""
         return self._components("controller", self.controller_list, derived.controller_occupancy(self.machine))
+
+    @property
+    def links(self):
+        """A data frame with a row for each link of the mesh: none where the machine has no mesh."""
+        return self._components("link", self.link_list, derived.link_occupancy(self.machine))
 
     @property
     def derived(self):
@@ -141,6 +147,10 @@ class Lines:
     @property
     def at_end(self):
         return self.next == len(self.lines) and not self.rest
+
+    def begins_with(self, text):
+        """Whether there is a next line, and begins with this."""
+        return self.next < len(self.lines) and self.lines[self.next].startswith(text)
 
     def fail(self, what, number=None):
         raise ToolError(f"{self.name}: line {number or self.next + 1}: {what}")
@@ -186,10 +196,11 @@ def parse_report(text, name="report", machine=None, status=None, seconds=None):
     cores = tuple(take_core(lines, number, version) for number in range(summary["cores"]))
     banks = take_components(lines, "bank")
     controllers = take_components(lines, "controller")
+    links = take_components(lines, "link") if lines.begins_with("link ") else ()
     if not lines.at_end:
         rest = lines.lines[lines.next] if lines.next < len(lines.lines) else lines.rest
         lines.fail(f"the report ends before this line, not with {shown(rest)}")
-    report = Report(name, summary, cores, banks, controllers, machine, status, seconds, text)
+    report = Report(name, summary, cores, banks, controllers, links, machine, status, seconds, text)
     check_sums(lines, report)
     check_machine(report)
     return report
@@ -229,9 +240,9 @@ def console_bytes(text):
 
 
 def take_components(lines, kind):
-    """Takes the lines of all banks or of all controllers, of which there is at least one."""
+    """Takes the lines of all components of a kind, of which there is at least one."""
     components = []
-    while not components or (lines.next < len(lines.lines) and lines.lines[lines.next].startswith(f"{kind} ")):
+    while not components or lines.begins_with(f"{kind} "):
         match = lines.take(COMPONENT_LINE, f"the line of {kind} {len(components)}")
         if match[1] != kind or int(match[2]) != len(components):
             lines.fail(f"{match[1]} {match[2]} where {kind} {len(components)} belongs", lines.next)
@@ -243,7 +254,7 @@ def take_components(lines, kind):
 def check_sums(lines, report):
     """The summary has the sums of what follows: a report that lost its last lines, or was changed, is refused."""
     totals = derived.totals(report)
-    events = totals["bank_events"] + totals["controller_events"]
+    events = totals["bank_events"] + totals["controller_events"] + totals.get("link_events", 0)
     made = totals["loads"] + totals["stores"] + totals["atomics"] + totals.get("fetches", 0)
     met = totals["hits"] + totals["upgrades"] + totals["l2hits"] + totals["misses"]
     cycles = max(core.counters["cycles"] for core in report.core_list) if report.core_list else 0
@@ -252,7 +263,7 @@ def check_sums(lines, report):
         ("cycles", cycles, "the cores"),
         ("accesses", made, "the cores"),
         ("accesses", met, "what the accesses of the cores found"),
-        ("events", events, "the banks and controllers"),
+        ("events", events, "the banks, controllers and links"),
     ):
         if report.summary[word] != found:
             number = SUMMARY.index(word) + 2
@@ -273,6 +284,12 @@ def check_machine(report):
             raise ToolError(
                 f"{report.name}: this is no report of {report.machine.name}: {key} is {has}, but here are {len(parts)}"
             )
+    links = derived.links_of(report.machine)
+    if links != len(report.link_list):
+        raise ToolError(
+            f"{report.name}: this is no report of {report.machine.name}: its links are {links}, but here are "
+            f"{len(report.link_list)}"
+        )
 
 
 def read_report(path, machine=None):

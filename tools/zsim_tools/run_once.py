@@ -1,36 +1,10 @@
 """Runs zsim once for a person at a terminal: says how much time has passed, and then shows what came of it."""
 
-import sys
-
-from . import ticker
 from .errors import RunError
 from .program import LIMIT, run
 from .show import show_csv, show_json, show_tables
 from .table import write_whole
-from .ticker import Ticker, duration
-
-SECOND = 1
-
-
-class Timer:
-    """Has the time passed stand on standard error: at a terminal each second, in one line that then goes away."""
-
-    def __enter__(self):
-        self.shown = sys.stderr.isatty()
-        self.ticker = Ticker(SECOND, self._show) if self.shown else Ticker(ticker.MINUTE, self._say)
-        self.ticker.start()
-        return self
-
-    def __exit__(self, *_):
-        self.ticker.stop()
-        if self.shown:
-            print("\r\x1b[K", end="", file=sys.stderr, flush=True)
-
-    def _show(self, passed):
-        print(f"\r\x1b[Kzsim has run for {duration(passed)}", end="", file=sys.stderr, flush=True)
-
-    def _say(self, passed):
-        print(f"zsim-tools: zsim has run for {duration(passed)}", file=sys.stderr)
+from .ticker import Timer, duration
 
 
 def run_once(words, say):
@@ -39,7 +13,7 @@ def run_once(words, say):
     `say` prints a line on standard error.
     """
     try:
-        with Timer():
+        with Timer(lambda passed: f"zsim has run for {duration(passed)}"):
             report = run(words.machine, words.executable, words.zsim, words.workers, words.record, words.schedule)
     except RunError as error:
         say(f"status {error.status}: {error}")

@@ -14,10 +14,7 @@ def parts_of(report):
     parts = [("run", None, {**report.summary, **report.derived})]
     for core in report.core_list:
         parts.append(("core", core.number, {**core.counters, **derived.of_core(core.counters), "halt": core.halt}))
-    for kind, components, occupancy in (
-        ("bank", report.bank_list, derived.bank_occupancy(report.machine)),
-        ("controller", report.controller_list, derived.controller_occupancy(report.machine)),
-    ):
+    for kind, components, occupancy in derived.components_of(report):
         for part in components:
             numbers = derived.of_component(part.counters, cycles, occupancy)
             parts.append((kind, part.number, {**part.counters, **numbers}))
@@ -29,6 +26,7 @@ def show_json(reports):
     listed = []
     for report in reports:
         content = {"report": report.name, "run": {}, "cores": [], "banks": [], "controllers": []}
+        content |= {"links": []} if report.link_list else {}
         for kind, _, numbers in parts_of(report):
             numbers = {name: plain_number(value) for name, value in numbers.items()}
             if kind == "run":
@@ -66,7 +64,7 @@ def show_tables(reports):
         print_table(out, report.name, ["run", ""], rows)
         if cores:
             show_cores(out, cores)
-            for kind in ("bank", "controller"):
+            for kind, _, _ in derived.components_of(report):
                 show_components(out, kind, [numbers for other, _, numbers in parts if other == kind])
 
 

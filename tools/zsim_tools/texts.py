@@ -18,6 +18,8 @@ SHARES = (
     "bank_busiest",
     "controller_busy",
     "controller_busiest",
+    "link_busy",
+    "link_busiest",
     "instructions_spread",
     "cycles_spread",
     "cpi_spread",

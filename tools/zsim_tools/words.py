@@ -15,6 +15,9 @@ Runs, tables, comparisons, sweeps and plots of zsim, and what its machines and r
                                              a curve for each executable, bars, or a heat map
   zsim-tools describe MACHINE                what the numbers of a machine come to, and a drawing
   zsim-tools explain LINE                    what a line of zsim means, and how to mend it
+  zsim-tools timeline EVENTS --machine MACHINE --out FILE.json
+                                             the events of a run, for Perfetto or chrome://tracing
+  zsim-tools series EVENTS --machine MACHINE events and waiting over time, as tables or a plot
 
 Each has a --help of its own. docs/tools.md tells of all, with examples and formulas."""
 
@@ -28,7 +31,7 @@ halted by a fault; 2 the words, an input or an output is bad, with one line on s
 file, the line or the key; 130 or 143 interrupted or ended, and the table has the runs that are done."""
 
 SHOW = """\
-Shows reports as tables: the counters of the run, of each core, bank and controller, and what follows from
+Shows reports as tables: the counters of the run, of each core, bank, controller and link, and what follows from
 them, as the cycles per instruction. A REPORT is a file with the output of zsim run; - is standard input:
 
   ./zsim run plain examples/load.elf | zsim-tools show -
@@ -77,7 +80,11 @@ each value of another column; bars, in a group for each executable; or a heat ma
 AXIS and NUMBER are columns of the table (docs/tools.md has all): keys of the machine, as l1.ways, counters, as
 cycles, and derived numbers, as cpi. speedup is the cycles of the baseline by the cycles. Where a sweep repeats
 its runs, it is the mean over the repeats, with a bar from the least to the greatest. Runs that did not end by
-their program's exit are left out."""
+their program's exit are left out.
+
+With --mesh it draws the links of a machine with a mesh, the darker the more was waited for them:
+
+  zsim-tools plot --mesh sum.txt tiles.toml --y wait --out mesh.png"""
 
 
 DESCRIBE = """\
@@ -112,6 +119,31 @@ Says what a line of zsim on standard error means, or why a core halted, and how 
 With the machine (--machine) the words have its values, and the line of its file."""
 
 
+TIMELINE = """\
+Writes the events of a run as a timeline, which Perfetto (ui.perfetto.dev) and chrome://tracing open. EVENTS
+is an events file, and FILE the machine of its run:
+
+  zsim-tools timeline lock.events --machine desktop.toml --out lock.json
+  zsim-tools timeline lock.events --machine desktop.toml --from 20000 --to 30000 --core 1 --out lock.json
+
+There is a group for each bank, controller and link, and in it a track for each core, with a slice for each of
+its events there; arrows lead from each event to those that wait for it, and marks stand where intervals
+begin. A cycle is a microsecond. A long run makes a large file: --from, --to and --core cut it."""
+
+
+SERIES = """\
+Shows how many events a run had over time, how long they waited, and for what: a row for each interval, or for
+several where there would be many rows; by component, and by core. EVENTS is an events file, and FILE the
+machine of its run:
+
+  zsim-tools series lock.events --machine desktop.toml --report lock.txt
+  zsim-tools series lock.events --machine desktop.toml --csv
+  zsim-tools series lock.events --machine desktop.toml --y waited --by core --out lock.png
+
+With the report of the run (--report) the sums are compared with it, and there are misses per 1000 instructions,
+as if each interval had as many instructions as any other."""
+
+
 class Words(argparse.ArgumentParser):
     """A parser that says in one line what is wrong with the words."""
 
@@ -131,6 +163,8 @@ def parser():
         ("run", RUN, RUN_ENDING, add_run),
         ("describe", DESCRIBE, ENDING, add_describe),
         ("explain", EXPLAIN, ENDING, add_explain),
+        ("timeline", TIMELINE, ENDING, add_timeline),
+        ("series", SERIES, ENDING, add_series),
     ):
         add(commands.add_parser(name, **common(f"zsim-tools {name}", description, ending)))
     return words
@@ -205,16 +239,58 @@ def add_explain(explain):
     explain.add_argument("--machine", metavar="FILE", help="the machine description that zsim refused")
 
 
+def add_events(command):
+    command.add_argument("events", metavar="EVENTS", help="an events file")
+    machine = "the machine of its run; plain is the built-in one"
+    command.add_argument("--machine", required=True, metavar="FILE", help=machine)
+
+
+def add_timeline(timeline):
+    add_events(timeline)
+    since = "draw what is there at this cycle or later (0)"
+    timeline.add_argument("--from", dest="since", type=cycle, default=0, metavar="CYCLE", help=since)
+    timeline.add_argument("--to", dest="until", type=cycle, metavar="CYCLE", help="draw what starts before this cycle")
+    core = "draw the events of this core alone; can be given again"
+    timeline.add_argument("--core", action="append", default=[], type=cycle, metavar="N", help=core)
+    timeline.add_argument("--out", required=True, metavar="FILE.json", help="the file to write")
+
+
+def add_series(series):
+    add_events(series)
+    series.add_argument("--report", metavar="REPORT", help="the report of the run, or - for standard input")
+    every = "have N intervals in a row (one in CSV, else so many that there are few rows)"
+    series.add_argument("--every", type=count, metavar="N", help=every)
+    form = series.add_mutually_exclusive_group()
+    form.add_argument("--csv", action="store_true", help="as CSV, with all columns of docs/tools.md")
+    form.add_argument("--out", metavar="PLOT", help="plot it to this file, .png, .svg or .pdf by its name")
+    numbers = ("waited", "events", "wait", "misses", "l2_mpki")
+    series.add_argument("--y", choices=numbers, default="waited", help="the number that is plotted (waited)")
+    ways = ("component", "core", "kind")
+    series.add_argument("--by", choices=ways, default="component", help="a line for each of what (component)")
+    series.add_argument("--title", metavar="TEXT", help="the title of the plot (the names of both files)")
+    add_size(series)
+
+
 def check_plot(given):
-    """Raises ToolError where a plot has nothing along the bottom."""
-    if not (given.x or given.bars):
-        raise ToolError("usage: the following arguments are required: --x (see zsim-tools plot --help)")
+    """Raises ToolError where a plot has no table, no number, or nothing along the bottom; and where a mesh has these."""
+    if given.mesh:
+        of_tables = (given.x, given.lines, given.bars, given.heat, given.where, given.baseline, given.geomean)
+        if given.table or any(of_tables) or given.log_x or given.log_y or given.with_limits:
+            raise ToolError("usage: --mesh draws a report: with --y, --title, --size and --out (see zsim-tools plot --help)")
+        return
+    needed = {"TABLE": given.table, "--y": given.y, "--x": given.x or given.bars}
+    missing = ", ".join(name for name, value in needed.items() if not value)
+    if missing:
+        raise ToolError(f"usage: the following arguments are required: {missing} (see zsim-tools plot --help)")
 
 
 def add_plot(plot):
-    plot.add_argument("table", metavar="TABLE", help="a table that a sweep wrote")
+    plot.add_argument("table", nargs="?", metavar="TABLE", help="a table that a sweep wrote")
+    mesh = "in place of a table: draw the mesh of a machine, its links coloured by what a report says of them"
+    plot.add_argument("--mesh", nargs=2, metavar=("REPORT", "MACHINE"), help=mesh)
     plot.add_argument("--x", metavar="AXIS", help="the column along the bottom (of bars: executable)")
-    plot.add_argument("--y", required=True, metavar="NUMBER", help="the column that is plotted")
+    numbers = "the column that is plotted (of a mesh: waited, wait, events or busy)"
+    plot.add_argument("--y", metavar="NUMBER", help=numbers)
     kind = plot.add_mutually_exclusive_group()
     lines = "a line for each value of COLUMN (executable); can be given again"
     kind.add_argument("--lines", action="append", default=[], metavar="COLUMN", help=lines)
@@ -230,14 +306,25 @@ def add_plot(plot):
     plot.add_argument("--log-x", action="store_true", help="a logarithmic scale for AXIS (where its values double)")
     plot.add_argument("--log-y", action="store_true", help="a logarithmic scale for NUMBER")
     plot.add_argument("--title", metavar="TEXT", help="the title (what all rows have in common)")
-    plot.add_argument("--size", type=size, default=(7.0, 4.5), metavar="WxH", help="width and height in inches (7x4.5)")
+    add_size(plot)
     plot.add_argument("--out", required=True, metavar="PLOT", help="the file to write, .png, .svg or .pdf by its name")
+
+
+def add_size(plot):
+    plot.add_argument("--size", type=size, default=(7.0, 4.5), metavar="WxH", help="width and height in inches (7x4.5)")
 
 
 def count(text):
     """Returns a whole number of at least 1."""
     if not (text.isascii() and text.isdigit()) or int(text) < 1:
         raise argparse.ArgumentTypeError(f"{text} is no whole number of at least 1")
+    return int(text)
+
+
+def cycle(text):
+    """Returns a whole number, as a cycle or a core."""
+    if not (text.isascii() and text.isdigit()) or int(text) >= 2**60:
+        raise argparse.ArgumentTypeError(f"{text} is no whole number")
     return int(text)
 
 
