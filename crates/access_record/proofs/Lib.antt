@@ -1,0 +1,6 @@
+mod Walks
+mod Kept
+mod Logs
+mod Ordered
+mod Steps
+mod Walk

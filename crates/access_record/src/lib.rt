@@ -1,0 +1,20 @@
+//! What is kept of an interval's accesses where their entries are not: a byte of each, from which
+//! the recorded order of the cores follows, and 8 bytes of each that makes events, from which these
+//! follow.
+#![tactic(auto)]
+
+mod accesses;
+mod bank_log;
+pub mod laws;
+mod listed;
+mod marks;
+mod order;
+mod outcomes;
+mod record;
+mod record_log;
+
+pub use accesses::recorded_accesses;
+pub use bank_log::{BankLog, bank_of_byte, has_events};
+pub use order::recorded_cores;
+pub use record::Record;
+pub use record_log::RecordLog;
