@@ -209,8 +209,11 @@ exec 3>&-
 is 5 'a reader that is gone'
 [ ! -e gone ] || { failed=1; echo 'program: a reader that is gone: a schedule was written'; }
 
-# A signal ends a call that waits for its executable, which is where the FIFO has two ends: nothing was written.
-for signal in TERM/143 HUP/129 KILL/137; do
+# A signal ends a call that waits for its executable, which is where the FIFO has two ends: nothing was written. (Under
+# nohup HUP ends nothing.)
+signals='TERM/143 KILL/137'
+sh -c 'kill -s HUP "$$"' 2>said || signals="$signals HUP/129"
+for signal in $signals; do
     "$program" run plain pipe --record signalled >out 2>err &
     exec 3>pipe
     kill -s "${signal%/*}" "$!"
