@@ -1,15 +1,16 @@
 -- What the calls of a home do to its arrays, seen as the lists of its sets.
-use Rattle.std.proofs.Common.{◌≡◌, ℕ, ◌-◌, ◌*◌, ◌^◌, ◌<◌, ◌≤◌, List, [], length, get_or, set, map, Option, Some, None, sym, ap, ◌∙◌, arith}
+use Rattle.std.proofs.Common.{◌≡◌, ℕ, ◌-◌, ◌*◌, ◌^◌, ◌<◌, ◌≤◌, List, [], length, get_or, set, map, Option, Some, None, sym, ap, ◌∙◌, subst, arith}
 use Rattle.std.specs.Option.{option_map_or}
 use Rattle.std.specs.Prelude.{IsSome}
-use Rattle.std.proofs.lemmas.List.{get_or-map, length-map, length-set, map-set, set-get_or}
+use Rattle.std.proofs.lemmas.List.{get_or-map, get_or-set_same, length-map, length-set, map-set, set-get_or}
 use Rattle.cache_set.specs.Lines.{in_set_of, set_number, set_of}
 use Rattle.cache_set.specs.Pieces.{IsSameOrder, sets_in}
 use Rattle.cache_set.specs.Places.{IsNext, StandsAt, StandsNowhere, set_number_in}
 use Rattle.cache_set.specs.Ways.{kept_of, used, filled, changed, victim_of}
 use Rattle.cache_set.proofs.Pieces.{within_pieces}
 use Rattle.cache_set.proofs.SetsInArrays.{aged_sets_anew, sets_anew}
-use Rattle.cache_set.proofs.StepsInArrays.{aged_filled, aged_used_at, n_within, next_free, next_full, nowhere_kept, sets_changed, sets_filled, sets_used, somewhere_kept, within_all}
+use Rattle.cache_set.proofs.StepsInArrays.{aged_filled, aged_used_at, n_within, next_free, next_full, nowhere_kept, sets_changed, sets_filled, sets_used, somewhere_kept, stands_next, within_all}
+use Rattle.home.specs.declared.last.Last.{Last}
 use Rattle.home.specs.declared.row.Row.{Row}
 use Rattle.flat_memory.specs.declared.reservation.Reservation.{Reservation}
 use Rattle.home.specs.HomeState.{HomeLine, HomeState, nobody}
@@ -44,7 +45,7 @@ same_home number {shards} {s} {base} {b} {size} {z} {ways} {w} {sets} {l} {bytes
     ∙ (ap (λ (x : List ℕ). home_with number s b z w x marks l) e5
     ∙ ap (λ (x : List (Option Reservation)). home_with number s b z w y x l) e6)))))
 
-module _ {shards below base sets ways tick : ℕ} {ages tags : List ℕ} {rows : List Row} (h : AreHome shards below base sets ways tick ages tags rows) where
+module _ {shards below base sets ways tick : ℕ} {ages tags : List ℕ} {rows : List Row} {last : Option Last} (h : AreHome shards below base sets ways tick ages tags rows last) where
   abbrev lines : List HomeLine
   lines = map line_in rows
 
@@ -63,7 +64,12 @@ module _ {shards below base sets ways tick : ℕ} {ages tags : List ℕ} {rows :
     pub age_later : age - 1 < age
     age_later = omega (arith, later 0 (omega (arith, within_pieces sets ways 0 h.sets_are.0, h.ways_are.some h.sets_are.0)))
 
-    pub home_anew : AreHome shards below base sets ways (age - 1) anew tags rows
+    -- a way that has a line has it still
+    pub stands_anew : (line p : ℕ) → StandsAt ways ages tags (set_number_in shards sets line) line p → StandsAt ways anew tags (set_number_in shards sets line) line p
+    stands_anew line p at =
+        stands_next h.ways_are.aged age anew order long later (set_number_in shards sets line) line p (n_within h.ways_are.aged h.sets_are.0 shards line lines lines_are nobody) at
+
+    pub home_anew : AreHome shards below base sets ways (age - 1) anew tags rows None
     home_anew = record {
       shards_are = h.shards_are;
       sets_are = h.sets_are;
@@ -75,6 +81,7 @@ module _ {shards below base sets ways tick : ℕ} {ages tags : List ℕ} {rows :
         aged = aged_sets_anew (age - 1) anew h.ways_are.aged (long ∙ sym h.ways_are.aged.ages_are) (λ p l. omega (arith, later p (omega (arith, l, h.ways_are.aged.ages_are)))) order;
       };
       rows_are = h.rows_are;
+      last_is = tt;
     }
 
   module _ (line : ℕ) where
@@ -105,30 +112,30 @@ module _ {shards below base sets ways tick : ℕ} {ages tags : List ℕ} {rows :
       pub used_there : (age : ℕ) → tick < age → sets_in sets ways (set ages p age) tags lines ≡ in_set_of shards line (used line) lists
       used_there age later = sets_used h.ways_are.aged h.sets_are.0 shards line lines lines_are nobody p at age later
 
-      pub home_used : (age : ℕ) → tick < age → age < 2 ^ 62 → AreHome shards below base sets ways age (set ages p age) tags rows
+      pub home_used : (age : ℕ) → tick < age → age < 2 ^ 62 → AreHome shards below base sets ways age (set ages p age) tags rows (Some (record { line = line; place = p }))
       home_used age later early = record {
         shards_are = h.shards_are;
         sets_are = h.sets_are;
         below_are = h.below_are;
         ways_are = record { few = h.ways_are.few; some = h.ways_are.some; early = early; aged = aged_used_at h.ways_are.aged h.sets_are.0 shards line p at age later };
         rows_are = h.rows_are;
+        last_is = record {
+          from = at.from;
+          to = at.to;
+          live = subst (λ (a : ℕ). 0 < a) (sym (get_or-set_same ages p age 0 (omega (arith, p_within, h.rows_are, h.ways_are.aged.ages_are)))) (omega (arith, later));
+          tag = at.tag;
+        };
       }
 
-      pub row_set : (row : Row) → sets_in sets ways ages tags (map line_in (set rows p row))
-          ≡ in_set_of shards line (λ found. option_map_or (λ _. changed line (line_in row) found) (kept_of line found) found) lists
-      row_set row =
-          ap (λ (l : List HomeLine). sets_in sets ways ages tags l) (map-set line_in rows p row)
-          ∙ (sets_changed h.ways_are.aged h.sets_are.0 shards line lines lines_are nobody p at (line_in row)
-          ∙ sym (ap (λ (o : Option HomeLine). in_set_of shards line (λ _. option_map_or (λ _. changed line (line_in row) now) o now) lists) row_standing))
-
-      pub home_set : (row : Row) → AreHome shards below base sets ways tick ages tags (set rows p row)
-      home_set row = record {
-        shards_are = h.shards_are;
-        sets_are = h.sets_are;
-        below_are = h.below_are;
-        ways_are = h.ways_are;
-        rows_are = length-set rows p row ∙ h.rows_are;
-      }
+      -- its row is another, which a change makes of it
+      pub row_changed : (was to : Row) (change : HomeLine → HomeLine) → was ≡ get_or rows p was → line_in to ≡ change (line_in was)
+          → sets_in sets ways ages tags (map line_in (set rows p to)) ≡ in_set_of shards line (λ found. option_map_or (λ row. changed line (change row) found) (kept_of line found) found) lists
+      row_changed was to change there is =
+          ap (λ (l : List HomeLine). sets_in sets ways ages tags l) (map-set line_in rows p to)
+          ∙ (sets_changed h.ways_are.aged h.sets_are.0 shards line lines lines_are nobody p at (line_in to)
+          ∙ (ap (λ (x : HomeLine). in_set_of shards line (changed line x) lists) is
+          ∙ sym (ap (λ (o : Option HomeLine). in_set_of shards line (λ _. option_map_or (λ row. changed line (change row) now) o now) lists)
+          (row_standing ∙ ap (λ (x : HomeLine). Some x) (line_there was there)))))
 
     -- ---- the way that the next line takes
     module _ (p : ℕ) (next : IsNext ways ages (set_number_in shards sets line) p) where
@@ -154,7 +161,7 @@ module _ {shards below base sets ways tick : ℕ} {ages tags : List ℕ} {rows :
           ∙ sets_filled h.ways_are.aged h.sets_are.0 shards line lines lines_are nobody p some next age nobody later
 
       pub home_filled : (age : ℕ) (row : Row) → tick < age → age < 2 ^ 62 → kept_of line now ≡ None
-          → AreHome shards below base sets ways age (set ages p age) (set tags p line) (set rows p row)
+          → AreHome shards below base sets ways age (set ages p age) (set tags p line) (set rows p row) (Some (record { line = line; place = p }))
       home_filled age row later early none = record {
         shards_are = h.shards_are;
         sets_are = h.sets_are;
@@ -166,4 +173,10 @@ module _ {shards below base sets ways tick : ℕ} {ages tags : List ℕ} {rows :
           aged = aged_filled h.ways_are.aged h.sets_are.0 shards line lines lines_are nobody p some next age later none;
         };
         rows_are = length-set rows p row ∙ h.rows_are;
+        last_is = record {
+          from = next.from;
+          to = next.to;
+          live = subst (λ (a : ℕ). 0 < a) (sym (get_or-set_same ages p age 0 (omega (arith, next_within, h.ways_are.aged.ages_are)))) (omega (arith, later));
+          tag = get_or-set_same tags p line 0 (omega (arith, next_within, h.ways_are.aged.tags_are));
+        };
       }

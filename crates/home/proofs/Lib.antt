@@ -1,4 +1,3 @@
-pub mod Changes
 pub mod FirstBytes
 pub mod Homes
 pub mod Unmarked

@@ -68,10 +68,6 @@ in_row_of line change home = record home {
   sets = in_set_of home.shards line (λ rows. option_map_or (λ row. changed line (change row) rows) (kept_of line rows) rows) home.sets;
 }
 
--- a line that is there gets another row
-abbrev pub with_row_in : (line : ℕ) → HomeLine → HomeState → HomeState
-with_row_in line row home = in_row_of line (λ _. row) home
-
 unfoldable pub looked_up_in : (line : ℕ) → HomeState → HomeState
 looked_up_in line home = record home { sets = in_set_of home.shards line (used line) home.sets }
 

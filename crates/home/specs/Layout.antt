@@ -1,8 +1,9 @@
 -- How a home is laid out: the ways of the L2 in arrays, one set after the other, and beside each way its row.
-use Rattle.std.specs.Prelude.{◌≡◌, ℕ, ◌*◌, ◌<◌, ◌≤◌, List, length, map, Option}
+use Rattle.std.specs.Prelude.{◌≡◌, ℕ, ◌*◌, ◌<◌, ◌≤◌, List, length, map, Option, IfSome}
 use Rattle.cache_set.specs.Pieces.{sets_in}
-use Rattle.cache_set.specs.Places.{AreTags}
+use Rattle.cache_set.specs.Places.{AreTags, StandsAt, set_number_in}
 use Rattle.flat_memory.specs.declared.reservation.Reservation.{Reservation}
+use Rattle.home.specs.declared.last.Last.{Last}
 use Rattle.home.specs.declared.row.Row.{Row}
 use Rattle.home.specs.FirstBytes.{lines_below}
 use Rattle.home.specs.HomeState.{HomeState}
@@ -20,9 +21,14 @@ home_view number shards base size sets ways ages tags rows bytes marks = record 
   marks = marks;
 }
 
-pub record AreHome (shards below base sets ways tick : ℕ) (ages tags : List ℕ) (rows : List Row) : Type 0 where
+-- the way that was used last has its line
+abbrev pub IsLast : (shards sets ways : ℕ) → (ages tags : List ℕ) → Option Last → Type 0
+IsLast shards sets ways ages tags last = IfSome last (λ l. StandsAt ways ages tags (set_number_in shards sets l.line) l.line l.place)
+
+pub record AreHome (shards below base sets ways tick : ℕ) (ages tags : List ℕ) (rows : List Row) (last : Option Last) : Type 0 where
   pub shards_are : 0 < shards
   pub sets_are : (0 < sets) × (sets ≤ 65536)
   pub below_are : below ≡ lines_below shards base
   pub ways_are : AreTags sets ways tick ages tags
   pub rows_are : length rows ≡ sets * ways
+  pub last_is : IsLast shards sets ways ages tags last

@@ -1,12 +1,13 @@
 //! A home.
-ghost use Rattle.std.specs.Prelude.{◌≡◌, ◌+◌, ◌<◌, ◌≤◌, ◌%◌, ◌++◌, take, drop, length, option_map, slice_index_or, slice_set, IfOk, IsSome, IsNone, Some, None};
+ghost use Rattle.std.specs.Prelude.{◌≡◌, ◌+◌, ◌<◌, ◌≤◌, ◌%◌, ◌++◌, take, drop, length, option_map, slice_index_or, slice_set, IfOk, IsSome, Some, None};
 ghost use Rattle.zs_num.specs.Request.{line_bytes};
 ghost use Rattle.flat_memory.specs.FlatMemory.{after_write, is_reservation};
-ghost use Rattle.home.specs.HomeState.{KeepsLine, brought_in, bytes_at, dropped_in, evicted_by, fetched_in, granted_in, is_marked_by_others, looked_up_in, marked_dirty_in, owned_in, row_at, unfetched_in, with_bytes_at, with_row_in, line_place};
+ghost use Rattle.home.specs.HomeState.{KeepsLine, brought_in, bytes_at, dropped_in, evicted_by, fetched_in, granted_in, is_marked_by_others, looked_up_in, marked_dirty_in, owned_in, row_at, unfetched_in, with_bytes_at, line_place};
 ghost use Rattle.home.specs.NewHome.{new_home};
 ghost use Rattle.home.specs.Rows.{evicted_in, line_in};
 
 use crate::filling::first_bytes;
+use crate::last::{Last, find};
 use crate::marks::Marks;
 use crate::row::Row;
 use cache_set::{Tags, next_age};
@@ -31,6 +32,7 @@ pub struct Home {
     size: u64,
     ways: Tags,
     rows: Vec<Row>,
+    last: Option<Last>,
     bytes: Vec<u8>,
     marks: Marks,
 }
@@ -43,7 +45,7 @@ impl Model for Home {
 
     ghost view = { λ h. home_view h.number h.shards h.base h.size h.ways.sets h.ways.ways h.ways.ages.items h.ways.tags.items h.rows.items h.bytes.items h.marks };
 
-    ghost invariant = { λ h. AreHome h.shards h.below h.base h.ways.sets h.ways.ways h.ways.tick h.ways.ages.items h.ways.tags.items h.rows.items };
+    ghost invariant = { λ h. AreHome h.shards h.below h.base h.ways.sets h.ways.ways h.ways.tick h.ways.ages.items h.ways.tags.items h.rows.items h.last };
 }
 
 impl Home {
@@ -77,6 +79,7 @@ impl Home {
             size: image.size(),
             ways: tags,
             rows,
+            last: None,
             bytes,
             marks: Marks::new(alloc, cores)?,
         })
@@ -86,7 +89,7 @@ impl Home {
     pub fn row(&self, line: u64) -> Option<Row>
         ensures { option_map line_in result ≡ row_at self.now line }
     {
-        match self.ways.find(self.shards, line) {
+        match find(&self.ways, self.shards, self.last, line) {
             Some(place) => Some(self.rows[place]),
             None => None,
         }
@@ -107,14 +110,15 @@ impl Home {
         requires { IsSome (row_at self.old line) }
         ensures { self.new ≡ looked_up_in line self.old }
     {
-        let age = next_age(
-            &mut self.ways.ages,
-            &mut self.ways.tick,
-            self.ways.sets,
-            self.ways.ways,
-        );
-        if let Some(place) = self.ways.find(self.shards, line) {
+        if let Some(place) = find(&self.ways, self.shards, self.last, line) {
+            let age = next_age(
+                &mut self.ways.ages,
+                &mut self.ways.tick,
+                self.ways.sets,
+                self.ways.ways,
+            );
             self.ways.ages[place] = age;
+            self.last = Some(Last { line, place });
         }
     }
 
@@ -125,14 +129,15 @@ impl Home {
     {
         let (place, _had) = self.ways.put_in(self.shards, line);
         self.rows[place] = Row::nobody();
+        self.last = Some(Last { line, place });
     }
 
     /// Memory has other bytes of a line than the L2, if this has it.
     pub fn mark_dirty(&mut self, line: u64)
         ensures { self.new ≡ marked_dirty_in line self.old }
     {
-        if let Some(row) = self.row(line) {
-            self.set_row(line, row.with_dirty());
+        if let Some(place) = find(&self.ways, self.shards, self.last, line) {
+            self.rows[place].mark_dirty();
         }
     }
 
@@ -141,8 +146,8 @@ impl Home {
         requires { core < 256 }
         ensures { self.new ≡ granted_in line core alone self.old }
     {
-        if let Some(row) = self.row(line) {
-            self.set_row(line, row.with_sharer(core, alone));
+        if let Some(place) = find(&self.ways, self.shards, self.last, line) {
+            self.rows[place].add_sharer(core, alone);
         }
     }
 
@@ -151,8 +156,8 @@ impl Home {
         requires { core < 256 }
         ensures { self.new ≡ owned_in line core self.old }
     {
-        if let Some(row) = self.row(line) {
-            self.set_row(line, row.with_owner(core));
+        if let Some(place) = find(&self.ways, self.shards, self.last, line) {
+            self.rows[place].own(core);
         }
     }
 
@@ -161,8 +166,8 @@ impl Home {
         requires { core < 256 }
         ensures { self.new ≡ dropped_in line core self.old }
     {
-        if let Some(row) = self.row(line) {
-            self.set_row(line, row.without_sharer(core));
+        if let Some(place) = find(&self.ways, self.shards, self.last, line) {
+            self.rows[place].remove_sharer(core);
         }
     }
 
@@ -171,8 +176,8 @@ impl Home {
         requires { core < 256 }
         ensures { self.new ≡ fetched_in line core self.old }
     {
-        if let Some(row) = self.row(line) {
-            self.set_row(line, row.with_fetcher(core));
+        if let Some(place) = find(&self.ways, self.shards, self.last, line) {
+            self.rows[place].add_fetcher(core);
         }
     }
 
@@ -181,17 +186,8 @@ impl Home {
         requires { core < 256 }
         ensures { self.new ≡ unfetched_in line core self.old }
     {
-        if let Some(row) = self.row(line) {
-            self.set_row(line, row.without_fetcher(core));
-        }
-    }
-
-    /// Gives a line that the L2 has another row.
-    fn set_row(&mut self, line: u64, row: Row)
-        ensures { self.new ≡ with_row_in line (line_in row) self.old }
-    {
-        if let Some(place) = self.ways.find(self.shards, line) {
-            self.rows[place] = row;
+        if let Some(place) = find(&self.ways, self.shards, self.last, line) {
+            self.rows[place].remove_fetcher(core);
         }
     }
 

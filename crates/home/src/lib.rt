@@ -4,6 +4,7 @@
 
 mod filling;
 mod home;
+mod last;
 mod marks;
 mod row;
 

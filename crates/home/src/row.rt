@@ -32,62 +32,54 @@ impl Row {
         }
     }
 
-    pub(crate) fn with_dirty(self) -> Self
-        ensures { line_in result ≡ record (line_in self) { dirty = true } }
+    /// Memory has other bytes of the line.
+    #[inline(always)]
+    pub(crate) fn mark_dirty(&mut self)
+        ensures { line_in self.new ≡ record (line_in self.old) { dirty = true } }
     {
-        Row {
-            dirty: true,
-            ..self
-        }
+        self.dirty = true;
     }
 
-    pub(crate) fn with_sharer(self, core: u16, alone: bool) -> Self
+    /// A core's L1 has the line too.
+    pub(crate) fn add_sharer(&mut self, core: u16, alone: bool)
         requires { core < 256 }
-        ensures { line_in result ≡ record (line_in self) { sharers = with_core core (line_in self).sharers; alone = alone } }
+        ensures { line_in self.new ≡ record (line_in self.old) { sharers = with_core core (line_in self.old).sharers; alone = alone } }
     {
-        let mut row = Row { alone, ..self };
-        row.sharers.add(core);
-        row
+        self.sharers.add(core);
+        self.alone = alone;
     }
 
-    pub(crate) fn with_owner(self, core: u16) -> Self
+    /// A core's L1 has the line, and no other.
+    pub(crate) fn own(&mut self, core: u16)
         requires { core < 256 }
-        ensures { line_in result ≡ record (line_in self) { sharers = core ∷ []; alone = true } }
+        ensures { line_in self.new ≡ record (line_in self.old) { sharers = core ∷ []; alone = true } }
     {
-        Row {
-            sharers: CoreSet::of(core),
-            alone: true,
-            ..self
-        }
+        self.sharers = CoreSet::of(core);
+        self.alone = true;
     }
 
-    pub(crate) fn without_sharer(self, core: u16) -> Self
+    /// A core's L1 has the line no more.
+    pub(crate) fn remove_sharer(&mut self, core: u16)
         requires { core < 256 }
-        ensures { line_in result ≡ record (line_in self) { sharers = without_core core (line_in self).sharers; alone = false } }
+        ensures { line_in self.new ≡ record (line_in self.old) { sharers = without_core core (line_in self.old).sharers; alone = false } }
     {
-        let mut row = Row {
-            alone: false,
-            ..self
-        };
-        row.sharers.remove(core);
-        row
+        self.sharers.remove(core);
+        self.alone = false;
     }
 
-    pub(crate) fn with_fetcher(self, core: u16) -> Self
+    /// A core's instruction cache has the line too.
+    pub(crate) fn add_fetcher(&mut self, core: u16)
         requires { core < 256 }
-        ensures { line_in result ≡ record (line_in self) { fetchers = with_core core (line_in self).fetchers } }
+        ensures { line_in self.new ≡ record (line_in self.old) { fetchers = with_core core (line_in self.old).fetchers } }
     {
-        let mut row = self;
-        row.fetchers.add(core);
-        row
+        self.fetchers.add(core);
     }
 
-    pub(crate) fn without_fetcher(self, core: u16) -> Self
+    /// A core's instruction cache has the line no more.
+    pub(crate) fn remove_fetcher(&mut self, core: u16)
         requires { core < 256 }
-        ensures { line_in result ≡ record (line_in self) { fetchers = without_core core (line_in self).fetchers } }
+        ensures { line_in self.new ≡ record (line_in self.old) { fetchers = without_core core (line_in self.old).fetchers } }
     {
-        let mut row = self;
-        row.fetchers.remove(core);
-        row
+        self.fetchers.remove(core);
     }
 }

@@ -1,16 +1,21 @@
-use Rattle.std.proofs.Common.{◌∙◌}
+use Rattle.std.proofs.Common.{sym, ap}
 use Rattle.mesi_dir.specs.CoreSets.{with_core}
 use Rattle.home.specs.HomeState.{HomeLine, fetched_in}
-use Rattle.home.specs.Rows.{line_in}
-use Rattle.home.proofs.Changes.{row_absent, row_changed}
+use Rattle.home.proofs.Homes.{home_with, row_changed, same_nowhere}
 use Rattle.home.proofs.home.Home.fetch.Goals as goal
 
 pub returns-in-Some : goal.returns-in-Some
 unfolding fetched_in
 returns-in-Some c =
-    c.set_row.ensures
-    ∙ row_changed c.args.self.now c.args.line (line_in c.in-Some.row) (line_in c.with_fetcher.result) (λ (row : HomeLine). record row { fetchers = with_core c.args.core row.fetchers }) c.in-Some.ensures c.with_fetcher.ensures
+    let s = c.self.inside in
+    rw (← c.self.view_is)
+    (ap (home_with s.number s.shards s.base s.size s.ways.ways s.bytes.items s.marks)
+    (row_changed c.self.invariant c.args.line c.in-Some.place c.in-Some.ensures.here c.index_mut.result.now c.add_fetcher.new.self (λ (row : HomeLine). record row { fetchers = with_core c.args.core row.fetchers }) c.index_mut.ensures.value c.add_fetcher.ensures))
 
 pub returns-in_default : goal.returns-in_default
 unfolding fetched_in
-returns-in_default c = row_absent c.args.self.now c.args.line (λ (row : HomeLine). record row { fetchers = with_core c.args.core row.fetchers }) c.in_default.ensures
+returns-in_default c =
+    let s = c.self.inside in
+    rw (← c.self.view_is)
+    (ap (home_with s.number s.shards s.base s.size s.ways.ways s.bytes.items s.marks)
+    (sym (same_nowhere c.self.invariant c.args.line c.in_default.ensures.none (λ (row : HomeLine). record row { fetchers = with_core c.args.core row.fetchers }))))

@@ -1,9 +1,9 @@
-use Rattle.std.proofs.Common.{ℕ, List, sym, ap, ◌∙◌}
-use Rattle.cache_set.specs.Lines.{in_set_of, set_of}
-use Rattle.cache_set.specs.Ways.{kept_of, used}
+use Rattle.std.proofs.Common.{ap, ◌∙◌}
+use Rattle.cache_set.specs.Lines.{in_set_of}
+use Rattle.cache_set.specs.Ways.{used}
 use Rattle.cache_set.proofs.SetsInArrays.{all_past}
-use Rattle.home.specs.HomeState.{HomeLine, looked_up_in, row_at}
-use Rattle.home.proofs.Homes.{age_later, home_anew, home_used, home_with, is_some_none, lists_anew, row_nowhere, used_there}
+use Rattle.home.specs.HomeState.{looked_up_in, row_at}
+use Rattle.home.proofs.Homes.{age_later, home_anew, home_used, home_with, is_some_none, lists_anew, row_nowhere, stands_anew, used_there}
 use Rattle.home.proofs.home.Home.look_up.Goals as goal
 
 pub next_age-age-requires-clause-past : goal.next_age-age-requires-clause-past
@@ -12,56 +12,34 @@ next_age-age-requires-clause-past c = all_past c.self.invariant.ways_are.aged
 pub invariant_of-self : goal.invariant_of-self
 invariant_of-self c =
     let was = c.self.invariant in
+    let p = c.in-Some.place in
     let age = c.next_age-age.result in
     let anew = c.next_age-age.new.ages.items in
     let order = c.next_age-age.ensures.order in
     let all = c.next_age-age.ensures.all in
     let later = c.next_age-age.ensures.later in
     let early = c.next_age-age.ensures.early in
-    let now = home_anew was age anew order all later early in
-    rw c.next_age-age.ensures.tick (home_used now c.args.line c.in-Some.place c.in-Some.ensures.here age (age_later was age anew order all later early) early)
-
-pub invariant_of-self-in_default : goal.invariant_of-self-in_default
-unfolding row_at
-invariant_of-self-in_default c =
-    let was = c.self.invariant in
-    let age = c.next_age-age.result in
-    let anew = c.next_age-age.new.ages.items in
-    let order = c.next_age-age.ensures.order in
-    let all = c.next_age-age.ensures.all in
-    let later = c.next_age-age.ensures.later in
-    let early = c.next_age-age.ensures.early in
-    let now = home_anew was age anew order all later early in
-    let none = ap (λ (sets : List (List (ℕ × HomeLine))). kept_of c.args.line (set_of c.self.inside.shards c.args.line sets)) (sym (lists_anew was age anew order all later early)) ∙ row_nowhere now c.args.line c.in_default.ensures.none in
-    absurd (is_some_none (row_at c.args.self.now c.args.line) c.requires (rw (← c.self.view_is) none))
+    rw c.next_age-age.ensures.tick
+    (home_used (home_anew was age anew order all later early) c.args.line p (stands_anew was age anew order all later early c.args.line p c.in-Some.ensures.here) age (age_later was age anew order all later early) early)
 
 pub returns-in-Some : goal.returns-in-Some
 unfolding looked_up_in
 returns-in-Some c =
     let was = c.self.invariant in
+    let p = c.in-Some.place in
     let age = c.next_age-age.result in
     let anew = c.next_age-age.new.ages.items in
     let order = c.next_age-age.ensures.order in
     let all = c.next_age-age.ensures.all in
     let later = c.next_age-age.ensures.later in
     let early = c.next_age-age.ensures.early in
-    let now = home_anew was age anew order all later early in
     let s = c.self.inside in
     rw (← c.self.view_is)
     (ap (home_with s.number s.shards s.base s.size s.ways.ways s.bytes.items s.marks)
-    (used_there now c.args.line c.in-Some.place c.in-Some.ensures.here age (age_later was age anew order all later early)
+    (used_there (home_anew was age anew order all later early) c.args.line p (stands_anew was age anew order all later early c.args.line p c.in-Some.ensures.here) age (age_later was age anew order all later early)
     ∙ ap (in_set_of s.shards c.args.line (used c.args.line)) (lists_anew was age anew order all later early)))
 
 pub returns-in_default : goal.returns-in_default
 unfolding row_at
 returns-in_default c =
-    let was = c.self.invariant in
-    let age = c.next_age-age.result in
-    let anew = c.next_age-age.new.ages.items in
-    let order = c.next_age-age.ensures.order in
-    let all = c.next_age-age.ensures.all in
-    let later = c.next_age-age.ensures.later in
-    let early = c.next_age-age.ensures.early in
-    let now = home_anew was age anew order all later early in
-    let none = ap (λ (sets : List (List (ℕ × HomeLine))). kept_of c.args.line (set_of c.self.inside.shards c.args.line sets)) (sym (lists_anew was age anew order all later early)) ∙ row_nowhere now c.args.line c.in_default.ensures.none in
-    absurd (is_some_none (row_at c.args.self.now c.args.line) c.requires (rw (← c.self.view_is) none))
+    absurd (is_some_none (row_at c.args.self.now c.args.line) c.requires (rw (← c.self.view_is) (row_nowhere c.self.invariant c.args.line c.in_default.ensures.none)))

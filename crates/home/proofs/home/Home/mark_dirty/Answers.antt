@@ -1,15 +1,20 @@
-use Rattle.std.proofs.Common.{◌∙◌, true}
+use Rattle.std.proofs.Common.{true, sym, ap}
 use Rattle.home.specs.HomeState.{HomeLine, marked_dirty_in}
-use Rattle.home.specs.Rows.{line_in}
-use Rattle.home.proofs.Changes.{row_absent, row_changed}
+use Rattle.home.proofs.Homes.{home_with, row_changed, same_nowhere}
 use Rattle.home.proofs.home.Home.mark_dirty.Goals as goal
 
 pub returns-in-Some : goal.returns-in-Some
 unfolding marked_dirty_in
 returns-in-Some c =
-    c.set_row.ensures
-    ∙ row_changed c.args.self.now c.args.line (line_in c.in-Some.row) (line_in c.with_dirty.result) (λ (row : HomeLine). record row { dirty = true }) c.in-Some.ensures c.with_dirty.ensures
+    let s = c.self.inside in
+    rw (← c.self.view_is)
+    (ap (home_with s.number s.shards s.base s.size s.ways.ways s.bytes.items s.marks)
+    (row_changed c.self.invariant c.args.line c.in-Some.place c.in-Some.ensures.here c.index_mut.result.now c.mark_dirty.new.self (λ (row : HomeLine). record row { dirty = true }) c.index_mut.ensures.value c.mark_dirty.ensures))
 
 pub returns-in_default : goal.returns-in_default
 unfolding marked_dirty_in
-returns-in_default c = row_absent c.args.self.now c.args.line (λ (row : HomeLine). record row { dirty = true }) c.in_default.ensures
+returns-in_default c =
+    let s = c.self.inside in
+    rw (← c.self.view_is)
+    (ap (home_with s.number s.shards s.base s.size s.ways.ways s.bytes.items s.marks)
+    (sym (same_nowhere c.self.invariant c.args.line c.in_default.ensures.none (λ (row : HomeLine). record row { dirty = true }))))

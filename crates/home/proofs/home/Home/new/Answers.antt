@@ -23,6 +23,7 @@ invariant_of-result c = record {
       let size : c.in_ok-tags.tags.sets * c.in_ok-tags.tags.ways ≡ c.args.sets * c.from.result
       = ap₂ (λ (sets ways : ℕ). sets * ways) c.in_ok-tags.ensures.sets (c.in_ok-tags.ensures.ways ∙ sym c.from.ensures) in
       omega (arith, c.in_ok-rows.ensures.len, size);
+  last_is = tt;
 }
 
 pub returns : goal.returns
