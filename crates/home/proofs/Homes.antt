@@ -10,7 +10,7 @@ use Rattle.cache_set.specs.Ways.{kept_of, used, filled, changed, victim_of}
 use Rattle.cache_set.proofs.Pieces.{within_pieces}
 use Rattle.cache_set.proofs.SetsInArrays.{aged_sets_anew, sets_anew}
 use Rattle.cache_set.proofs.StepsInArrays.{aged_filled, aged_used_at, n_within, next_free, next_full, nowhere_kept, sets_changed, sets_filled, sets_used, somewhere_kept, stands_next, within_all}
-use Rattle.home.specs.declared.last.Last.{Last}
+use Rattle.home.specs.declared.met.Last.{Last}
 use Rattle.home.specs.declared.row.Row.{Row}
 use Rattle.flat_memory.specs.declared.reservation.Reservation.{Reservation}
 use Rattle.home.specs.HomeState.{HomeLine, HomeState, nobody}

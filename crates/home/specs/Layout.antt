@@ -3,7 +3,7 @@ use Rattle.std.specs.Prelude.{◌≡◌, ℕ, ◌*◌, ◌<◌, ◌≤◌, List,
 use Rattle.cache_set.specs.Pieces.{sets_in}
 use Rattle.cache_set.specs.Places.{AreTags, StandsAt, set_number_in}
 use Rattle.flat_memory.specs.declared.reservation.Reservation.{Reservation}
-use Rattle.home.specs.declared.last.Last.{Last}
+use Rattle.home.specs.declared.met.Last.{Last}
 use Rattle.home.specs.declared.row.Row.{Row}
 use Rattle.home.specs.FirstBytes.{lines_below}
 use Rattle.home.specs.HomeState.{HomeState}

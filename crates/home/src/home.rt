@@ -7,8 +7,8 @@ ghost use Rattle.home.specs.NewHome.{new_home};
 ghost use Rattle.home.specs.Rows.{evicted_in, line_in};
 
 use crate::filling::first_bytes;
-use crate::last::{Last, find};
 use crate::marks::Marks;
+use crate::met::{Last, Met, find, remember};
 use crate::row::Row;
 use cache_set::{Tags, next_age};
 use division::quotient;
@@ -32,7 +32,7 @@ pub struct Home {
     size: u64,
     ways: Tags,
     rows: Vec<Row>,
-    last: Option<Last>,
+    met: Met,
     bytes: Vec<u8>,
     marks: Marks,
 }
@@ -45,7 +45,7 @@ impl Model for Home {
 
     ghost view = { λ h. home_view h.number h.shards h.base h.size h.ways.sets h.ways.ways h.ways.ages.items h.ways.tags.items h.rows.items h.bytes.items h.marks };
 
-    ghost invariant = { λ h. AreHome h.shards h.below h.base h.ways.sets h.ways.ways h.ways.tick h.ways.ages.items h.ways.tags.items h.rows.items h.last };
+    ghost invariant = { λ h. AreHome h.shards h.below h.base h.ways.sets h.ways.ways h.ways.tick h.ways.ages.items h.ways.tags.items h.rows.items h.met.last };
 }
 
 impl Home {
@@ -71,6 +71,7 @@ impl Home {
         let tags = Tags::new(alloc, sets, ways)?;
         let rows = vec![in alloc; Row::nobody(); sets as usize * usize::from(ways)]?;
         let bytes = first_bytes(alloc, u64::from(shards), number, image)?;
+        let guesses = vec![in alloc; 0; bytes.len() / LINE as usize]?;
         Ok(Home {
             number,
             shards: u64::from(shards),
@@ -79,7 +80,10 @@ impl Home {
             size: image.size(),
             ways: tags,
             rows,
-            last: None,
+            met: Met {
+                last: None,
+                guesses,
+            },
             bytes,
             marks: Marks::new(alloc, cores)?,
         })
@@ -89,7 +93,7 @@ impl Home {
     pub fn row(&self, line: u64) -> Option<Row>
         ensures { option_map line_in result ≡ row_at self.now line }
     {
-        match find(&self.ways, self.shards, self.last, line) {
+        match find(&self.ways, &self.met, self.shards, self.below, line) {
             Some(place) => Some(self.rows[place]),
             None => None,
         }
@@ -110,7 +114,7 @@ impl Home {
         requires { IsSome (row_at self.old line) }
         ensures { self.new ≡ looked_up_in line self.old }
     {
-        if let Some(place) = find(&self.ways, self.shards, self.last, line) {
+        if let Some(place) = find(&self.ways, &self.met, self.shards, self.below, line) {
             let age = next_age(
                 &mut self.ways.ages,
                 &mut self.ways.tick,
@@ -118,7 +122,7 @@ impl Home {
                 self.ways.ways,
             );
             self.ways.ages[place] = age;
-            self.last = Some(Last { line, place });
+            self.met.last = Some(Last { line, place });
         }
     }
 
@@ -129,14 +133,16 @@ impl Home {
     {
         let (place, _had) = self.ways.put_in(self.shards, line);
         self.rows[place] = Row::nobody();
-        self.last = Some(Last { line, place });
+        let number = quotient(line, self.shards).saturating_sub(self.below);
+        remember(&mut self.met.guesses, number, place, self.ways.ways);
+        self.met.last = Some(Last { line, place });
     }
 
     /// Memory has other bytes of a line than the L2, if this has it.
     pub fn mark_dirty(&mut self, line: u64)
         ensures { self.new ≡ marked_dirty_in line self.old }
     {
-        if let Some(place) = find(&self.ways, self.shards, self.last, line) {
+        if let Some(place) = find(&self.ways, &self.met, self.shards, self.below, line) {
             self.rows[place].mark_dirty();
         }
     }
@@ -146,7 +152,7 @@ impl Home {
         requires { core < 256 }
         ensures { self.new ≡ granted_in line core alone self.old }
     {
-        if let Some(place) = find(&self.ways, self.shards, self.last, line) {
+        if let Some(place) = find(&self.ways, &self.met, self.shards, self.below, line) {
             self.rows[place].add_sharer(core, alone);
         }
     }
@@ -156,7 +162,7 @@ impl Home {
         requires { core < 256 }
         ensures { self.new ≡ owned_in line core self.old }
     {
-        if let Some(place) = find(&self.ways, self.shards, self.last, line) {
+        if let Some(place) = find(&self.ways, &self.met, self.shards, self.below, line) {
             self.rows[place].own(core);
         }
     }
@@ -166,7 +172,7 @@ impl Home {
         requires { core < 256 }
         ensures { self.new ≡ dropped_in line core self.old }
     {
-        if let Some(place) = find(&self.ways, self.shards, self.last, line) {
+        if let Some(place) = find(&self.ways, &self.met, self.shards, self.below, line) {
             self.rows[place].remove_sharer(core);
         }
     }
@@ -176,7 +182,7 @@ impl Home {
         requires { core < 256 }
         ensures { self.new ≡ fetched_in line core self.old }
     {
-        if let Some(place) = find(&self.ways, self.shards, self.last, line) {
+        if let Some(place) = find(&self.ways, &self.met, self.shards, self.below, line) {
             self.rows[place].add_fetcher(core);
         }
     }
@@ -186,7 +192,7 @@ impl Home {
         requires { core < 256 }
         ensures { self.new ≡ unfetched_in line core self.old }
     {
-        if let Some(place) = find(&self.ways, self.shards, self.last, line) {
+        if let Some(place) = find(&self.ways, &self.met, self.shards, self.below, line) {
             self.rows[place].remove_fetcher(core);
         }
     }

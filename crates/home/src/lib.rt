@@ -4,8 +4,8 @@
 
 mod filling;
 mod home;
-mod last;
 mod marks;
+mod met;
 mod row;
 
 pub use home::Home;

@@ -11,12 +11,13 @@ use mesi_dir::CoreSet;
 pub struct Row {
     /// The cores whose L1 has the line.
     pub sharers: CoreSet,
-    /// The cores whose instruction cache has it.
-    pub fetchers: CoreSet,
     /// Memory has other bytes of it.
     pub dirty: bool,
     /// One core alone has it, in M or E.
     pub alone: bool,
+    // Last, since it is asked least often: the others are mostly in one line of the host's caches.
+    /// The cores whose instruction cache has it.
+    pub fetchers: CoreSet,
 }
 
 impl Row {
@@ -26,9 +27,9 @@ impl Row {
     {
         Row {
             sharers: CoreSet::empty(),
-            fetchers: CoreSet::empty(),
             dirty: false,
             alone: false,
+            fetchers: CoreSet::empty(),
         }
     }
 
