@@ -6,13 +6,15 @@ use Rattle.std.proofs.lemmas.Nat.{and_le_r}
 use Rattle.std.proofs.lemmas.List.{length-set, get_or_default, get_or_past, get_or-set_same, get_or-set_other, set-set}
 use Rattle.l1_cache.specs.declared.near.Near.{Near}
 use Rattle.l1_cache.specs.declared.near.Kept.{Kept}
+use Rattle.cache_set.specs.Pieces.{AreAgedSets}
 use Rattle.cache_set.specs.Places.{AreTags, StandsAt, set_number_in}
 use Rattle.cache_set.specs.declared.letter.Letter.{Letter}
 use Rattle.cache_set.specs.declared.letter.Letter.TheVariants.{M, E, S, I}
 use Rattle.cache_set.specs.LetterFacts.{is_modified}
 use Rattle.cache_set.proofs.StepsInArrays.{within_all}
 use Rattle.l1_cache.specs.declared.data_ways.DataWays.{DataWays}
-use Rattle.l1_cache.specs.Layout.{AreDataWays, AreNear, HasAt, IsNearAt, IsOfWay, near_of, no_kept, no_line, no_near, to_write}
+use Rattle.l1_cache.specs.declared.l1i.InstructionWays.{InstructionWays}
+use Rattle.l1_cache.specs.Layout.{AreDataWays, AreInstructionWays, AreNear, HasAt, HasInstructionsAt, IsNearAt, IsOfWay, near_of, no_kept, no_line, no_near, to_write}
 
 module _ {shards sets ways mask : ℕ} {ages tags : List ℕ} {kept : List Kept} {entries : List Near} (near : AreNear shards sets ways ages tags kept mask entries) where
   index_within : (line : ℕ) → bit_and line mask < length entries
@@ -136,6 +138,23 @@ places_small {w} are =
 
 pub place_small : {w : DataWays} → AreDataWays w → (line p : ℕ) → HasAt w line p → p < 2 ^ 32
 place_small {w} are line p at = omega (arith, places_small are, within_all are.tags.aged are.sets_are.0 w.shards line p at)
+
+-- where a way has a line there is a set
+pub some_sets : {sets ways tick n line p : ℕ} {ages tags : List ℕ} → AreTags sets ways tick ages tags → StandsAt ways ages tags n line p → 0 < sets
+some_sets {sets} {ways} {tick} {n} {line} {p} {ages} {tags} are at =
+    elim (cases_eq sets 0) as (λ _. 0 < sets) [
+      | inl e ↦ let none : length ages ≡ 0 * ways = rw e at are.aged.ages_are in absurd (omega (arith, none, get_or_past ages p 0 (omega (arith, none)), at.live))
+      | inr some ↦ omega (arith, some)
+    ]
+
+pub instruction_places_small : {shards : ℕ} {i : InstructionWays} → AreInstructionWays shards i → i.tags.sets * i.tags.ways < 2 ^ 32
+instruction_places_small {shards} {i} are =
+    let most : i.tags.sets * i.tags.ways ≤ 65536 * 32 = mul-le-mul are.few_sets are.tags.few in
+    omega (arith, most)
+
+pub instruction_place_small : {shards : ℕ} {i : InstructionWays} → AreInstructionWays shards i → (line p : ℕ) → HasInstructionsAt shards i line p → p < 2 ^ 32
+instruction_place_small {shards} {i} are line p at =
+    omega (arith, instruction_places_small are, within_all are.tags.aged (some_sets are.tags at) shards line p at)
 
 -- ---- ways that are others by name
 

@@ -12,26 +12,26 @@ use Rattle.cache_set.specs.Ways.{kept_of, without, used, filled, changed}
 use Rattle.cache_set.proofs.Pieces.{within_pieces}
 use Rattle.cache_set.proofs.SetsInArrays.{sets_anew}
 use Rattle.l1_cache.specs.declared.near.Kept.{Kept}
-use Rattle.cache_set.specs.declared.tags.Tags.{Tags}
 use Rattle.l1_cache.specs.declared.data_ways.DataWays.{DataWays}
+use Rattle.l1_cache.specs.declared.l1i.InstructionWays.{InstructionWays}
 use Rattle.l1_cache.specs.L1State.{Copy, L1State, answered_in, copy_at, filled_in, given_up_in, kept_first_in, kept_with_in, set_free_in, shared_in, shared_among, used_in, victim_in}
 use Rattle.cache_set.specs.Places.{IsNext, StandsAt}
-use Rattle.l1_cache.specs.Layout.{AreDataWays, AreNear, AreParts, HasAt, HasNowhere, copies_in, copy_in, l1_view, near_of, no_kept, no_near, nothings_in, set_for, to_write}
+use Rattle.l1_cache.specs.Layout.{AreDataWays, AreInstructionWays, AreNear, AreParts, HasAt, HasNowhere, copies_in, copy_in, l1_view, near_of, no_kept, no_near, nothings_in, set_for, to_write}
 use Rattle.l1_cache.proofs.Copies.{copies_kept, copies_set, copy_at_place, length_copies, no_copy}
 use Rattle.cache_set.proofs.StepsInArrays.{aged_filled, aged_free_at, aged_next, aged_used_at, live_then, next_free, next_full, nowhere_kept, nowhere_without, sets_changed, sets_filled, sets_first, sets_used, sets_without, somewhere_kept, stands_next, within_all, n_within}
 use Rattle.l1_cache.proofs.Table.{near_but_at, near_put, near_used, places_small, to_write_if}
 
 -- an L1 with other sets
-abbrev pub with_sets : DataWays → (l1i : Tags) → List (List (ℕ × Copy)) → L1State
+abbrev pub with_sets : DataWays → (l1i : InstructionWays) → List (List (ℕ × Copy)) → L1State
 with_sets w l1i sets = record {
   shards = w.shards;
   ways = w.tags.ways;
-  l1i_ways = l1i.ways;
+  l1i_ways = l1i.tags.ways;
   sets = sets;
-  l1i = sets_in l1i.sets l1i.ways l1i.ages.items l1i.tags.items (nothings_in l1i.ages.items);
+  l1i = sets_in l1i.tags.sets l1i.tags.ways l1i.tags.ages.items l1i.tags.tags.items (nothings_in l1i.tags.ages.items);
 }
 
-module _ {w : DataWays} {bytes : List (List ℕ)} {l1i : Tags} (parts : AreParts w bytes l1i) (line : ℕ) where
+module _ {w : DataWays} {bytes : List (List ℕ)} {l1i : InstructionWays} (parts : AreParts w bytes l1i) (line : ℕ) where
   abbrev ages : List ℕ
   ages = w.tags.ages.items
 
@@ -254,11 +254,11 @@ module _ {w : DataWays} {bytes : List (List ℕ)} {l1i : Tags} (parts : AreParts
 
 -- ---- an L1 whose table alone is another
 
-module _ {w v : DataWays} {bytes : List (List ℕ)} {l1i : Tags} (parts : AreParts w bytes l1i) (ways : AreDataWays v) where
+module _ {w v : DataWays} {bytes : List (List ℕ)} {l1i : InstructionWays} (parts : AreParts w bytes l1i) (ways : AreDataWays v) where
   -- what was met is in the table now
   module _ (same : v ≡ record w { near = v.near }) where
     pub parts_met : AreParts v bytes l1i
-    parts_met = record { ways = ways; bytes_are = subst (λ (x : DataWays). length bytes ≡ x.tags.sets * x.tags.ways) (sym same) parts.bytes_are; instructions = parts.instructions }
+    parts_met = record { ways = ways; bytes_are = subst (λ (x : DataWays). length bytes ≡ x.tags.sets * x.tags.ways) (sym same) parts.bytes_are; instructions = subst (λ (x : DataWays). AreInstructionWays x.shards l1i) (sym same) parts.instructions }
 
     pub at_met : (line p : ℕ) → HasAt w line p → HasAt v line p
     at_met line p at = subst (λ (x : DataWays). HasAt x line p) (sym same) at
@@ -269,7 +269,7 @@ module _ {w v : DataWays} {bytes : List (List ℕ)} {l1i : Tags} (parts : ArePar
   -- what was met to write is M and free
   module _ (same : v ≡ record w { kept = v.kept; near = v.near }) where
     pub parts_written : AreParts v bytes l1i
-    parts_written = record { ways = ways; bytes_are = subst (λ (x : DataWays). length bytes ≡ x.tags.sets * x.tags.ways) (sym same) parts.bytes_are; instructions = parts.instructions }
+    parts_written = record { ways = ways; bytes_are = subst (λ (x : DataWays). length bytes ≡ x.tags.sets * x.tags.ways) (sym same) parts.bytes_are; instructions = subst (λ (x : DataWays). AreInstructionWays x.shards l1i) (sym same) parts.instructions }
 
     pub at_written : (line p : ℕ) → HasAt w line p → HasAt v line p
     at_written line p at = subst (λ (x : DataWays). HasAt x line p) (sym same) at

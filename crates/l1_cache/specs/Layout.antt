@@ -7,8 +7,8 @@ use Rattle.cache_set.specs.Pieces.{sets_in}
 use Rattle.cache_set.specs.Places.{AreTags, StandsAt, StandsNowhere, set_number_in}
 use Rattle.l1_cache.specs.declared.near.Near.{Near}
 use Rattle.l1_cache.specs.declared.near.Kept.{Kept}
-use Rattle.cache_set.specs.declared.tags.Tags.{Tags}
 use Rattle.l1_cache.specs.declared.data_ways.DataWays.{DataWays}
+use Rattle.l1_cache.specs.declared.l1i.InstructionWays.{InstructionWays}
 use Rattle.l1_cache.specs.L1State.{Copy, L1State}
 
 -- ---- what the arrays stand for
@@ -77,17 +77,31 @@ HasAt w line place = StandsAt w.tags.ways w.tags.ages.items w.tags.tags.items (s
 abbrev pub HasNowhere : DataWays → (line : ℕ) → Type 0
 HasNowhere w line = StandsNowhere w.tags.ways w.tags.ages.items w.tags.tags.items (set_for w line) line
 
+-- The instruction cache, if there is one. Nothing is kept of its lines.
+pub record AreInstructionWays (shards : ℕ) (i : InstructionWays) : Type 0 where
+  pub few_sets : i.tags.sets ≤ 65536
+  pub tags : AreTags i.tags.sets i.tags.ways i.tags.tick i.tags.ages.items i.tags.tags.items
+  pub mask_is : i.mask < 2 ^ 32
+  pub near : AreNear shards i.tags.sets i.tags.ways i.tags.ages.items i.tags.tags.items [] i.mask i.near.items
+
+abbrev pub HasInstructionsAt : (shards : ℕ) → InstructionWays → (line place : ℕ) → Type 0
+HasInstructionsAt shards i line place = StandsAt i.tags.ways i.tags.ages.items i.tags.tags.items (set_number_in shards i.tags.sets line) line place
+
+abbrev pub HasInstructionsNowhere : (shards : ℕ) → InstructionWays → (line : ℕ) → Type 0
+HasInstructionsNowhere shards i line =
+    (i.tags.sets ≡ 0) ⊎ ((0 < i.tags.sets) × StandsNowhere i.tags.ways i.tags.ages.items i.tags.tags.items (set_number_in shards i.tags.sets line) line)
+
 -- all of an L1: the data cache with the bytes of its ways, and the instruction cache
-pub record AreParts (w : DataWays) (bytes : List (List ℕ)) (l1i : Tags) : Type 0 where
+pub record AreParts (w : DataWays) (bytes : List (List ℕ)) (l1i : InstructionWays) : Type 0 where
   pub ways : AreDataWays w
   pub bytes_are : length bytes ≡ w.tags.sets * w.tags.ways
-  pub instructions : AreTags l1i.sets l1i.ways l1i.tick l1i.ages.items l1i.tags.items
+  pub instructions : AreInstructionWays w.shards l1i
 
-abbrev pub l1_view : DataWays → (bytes : List (List ℕ)) → (l1i : Tags) → L1State
+abbrev pub l1_view : DataWays → (bytes : List (List ℕ)) → (l1i : InstructionWays) → L1State
 l1_view w bytes l1i = record {
   shards = w.shards;
   ways = w.tags.ways;
-  l1i_ways = l1i.ways;
+  l1i_ways = l1i.tags.ways;
   sets = sets_in w.tags.sets w.tags.ways w.tags.ages.items w.tags.tags.items (copies_in w.kept.items bytes);
-  l1i = sets_in l1i.sets l1i.ways l1i.ages.items l1i.tags.items (nothings_in l1i.ages.items);
+  l1i = sets_in l1i.tags.sets l1i.tags.ways l1i.tags.ages.items l1i.tags.tags.items (nothings_in l1i.tags.ages.items);
 }

@@ -5,7 +5,7 @@ ghost use Rattle.zs_num.specs.declared.request.Request.TheVariants.{Load, Store,
 ghost use Rattle.l1_cache.specs.L1State.{AreBytesOf, answered_in, copy_at, filled_in, given_up_in, has_instructions, instruction_filled_in, instruction_given_up_in, instruction_victim_in, is_private, kept_with_in, letter_of, new_l1, place_in_line, private_after, private_reply, set_free_in, shared_in, victim_in};
 
 use crate::data_ways::DataWays;
-use crate::l1i::find_instructions;
+use crate::l1i::InstructionWays;
 use crate::near::{Kept, Near, near_index, near_of};
 use cache_set::{Letter, Tags, next_age};
 use flat_memory::numbers;
@@ -20,8 +20,7 @@ use zs_num::{LINE, NoMemory, Request};
 pub struct L1 {
     ways: DataWays,
     bytes: Vec<[u8; 64]>,
-    /// Without an instruction cache no set.
-    instructions: Tags,
+    instructions: InstructionWays,
 }
 
 impl Model for L1 {
@@ -38,8 +37,8 @@ impl Model for L1 {
 impl L1 {
     /// An L1 without a line: so many sets of so many ways, 1 to 32, for the lines of one of so many
     /// shards, or with 1 for all, and the sets and the ways of the instruction cache, None where
-    /// there is none. `near` is how many lines are found by one comparison: a power of two, else
-    /// some room is lost. No other call takes memory.
+    /// there is none. `near` is how many lines of each are found by one comparison: a power of two,
+    /// else some room is lost. No other call takes memory.
     pub fn new(
         alloc: Global,
         shards: u16,
@@ -60,6 +59,7 @@ impl L1 {
         let (l1i_sets, l1i_ways) = shape_of(l1i);
         let count = tags.ages.len();
         let entries = near as usize;
+        let l1i_near = if l1i_sets == 0 { 1 } else { near };
         Ok(L1 {
             ways: DataWays {
                 shards: u64::from(shards),
@@ -69,7 +69,11 @@ impl L1 {
                 mask: u64::from(near - 1),
             },
             bytes: vec![in alloc; [0; 64]; count]?,
-            instructions: Tags::new(alloc, l1i_sets, l1i_ways)?,
+            instructions: InstructionWays {
+                tags: Tags::new(alloc, l1i_sets, l1i_ways)?,
+                near: vec![in alloc; Near::NONE; l1i_near as usize]?,
+                mask: u64::from(l1i_near - 1),
+            },
         })
     }
 
@@ -140,14 +144,14 @@ impl L1 {
         ensures reply { IfSome result (λ reply. reply ≡ private_reply self.old (Fetch addr)) }
         ensures after { self.new ≡ (if is_private self.old (Fetch addr) then private_after self.old (Fetch addr) else self.old) }
     {
-        let place = find_instructions(&self.instructions, self.ways.shards, addr / LINE)?;
+        let place = self.instructions.meet(self.ways.shards, addr / LINE)?;
         let age = next_age(
-            &mut self.instructions.ages,
-            &mut self.instructions.tick,
-            self.instructions.sets,
-            self.instructions.ways,
+            &mut self.instructions.tags.ages,
+            &mut self.instructions.tags.tick,
+            self.instructions.tags.sets,
+            self.instructions.tags.ways,
         );
-        self.instructions.ages[place] = age;
+        self.instructions.tags.ages[place] = age;
         Some(0)
     }
 
@@ -282,18 +286,18 @@ impl L1 {
     pub fn has_instructions(&self, line: u64) -> bool
         ensures { result ≡ has_instructions self.now line }
     {
-        find_instructions(&self.instructions, self.ways.shards, line).is_some()
+        self.instructions.find(self.ways.shards, line).is_some()
     }
 
     /// The line of the instruction cache that leaves for this one, which is not there.
     pub fn instruction_victim(&self, line: u64) -> Option<u64>
         ensures { result ≡ option_map (λ victim. victim.0) (instruction_victim_in self.now line) }
     {
-        if self.instructions.sets == 0 {
+        if self.instructions.tags.sets == 0 {
             return None;
         }
-        match self.instructions.victim(self.ways.shards, line) {
-            Some(place) => Some(self.instructions.tags[place]),
+        match self.instructions.tags.victim(self.ways.shards, line) {
+            Some(place) => Some(self.instructions.tags.tags[place]),
             None => None,
         }
     }
@@ -303,18 +307,24 @@ impl L1 {
         requires { has_instructions self.old line ≡ false }
         ensures { self.new ≡ instruction_filled_in line self.old }
     {
-        if self.instructions.sets == 0 {
+        if self.instructions.tags.sets == 0 {
             return;
         }
-        self.instructions.put_in(self.ways.shards, line);
+        let (place, evicted) = self.instructions.tags.put_in(self.ways.shards, line);
+        let left = near_index(evicted, self.instructions.mask);
+        self.instructions.near[left] = Near::NONE;
+        let index = near_index(line, self.instructions.mask);
+        self.instructions.near[index] = near_of(line, place, Kept::NONE);
     }
 
     /// A line leaves the instruction cache, if it is there.
     pub fn give_up_instruction(&mut self, line: u64)
         ensures { self.new ≡ instruction_given_up_in line self.old }
     {
-        if let Some(place) = find_instructions(&self.instructions, self.ways.shards, line) {
-            self.instructions.ages[place] = 0;
+        if let Some(place) = self.instructions.find(self.ways.shards, line) {
+            let index = near_index(line, self.instructions.mask);
+            self.instructions.near[index] = Near::NONE;
+            self.instructions.tags.ages[place] = 0;
         }
     }
 }

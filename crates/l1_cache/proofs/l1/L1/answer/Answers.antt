@@ -10,7 +10,7 @@ invariant_of-self c =
     record {
       ways = now.ways;
       bytes_are = length-set c.self.inside.bytes.items c.in-Some.place c.copy_from_slice.new.self ∙ now.bytes_are;
-      instructions = was.instructions;
+      instructions = now.instructions;
     }
 
 pub returns-in-Some : goal.returns-in-Some

@@ -1,8 +1,9 @@
 use Rattle.std.proofs.Common.{◌/◌, refl, sym, ap, ◌∙◌}
 use Rattle.std.specs.Prelude.{is_some}
 use Rattle.cache_set.proofs.SetsInArrays.{all_past}
+use Rattle.l1_cache.specs.L1State.{instruction_used_in}
 use Rattle.l1_cache.proofs.Private.{fetch_after, fetch_by, fetch_reply}
-use Rattle.l1_cache.proofs.Instructions.{aged_then, has_none, has_some, used_now}
+use Rattle.l1_cache.proofs.Instructions.{aged_then, at_met, has_none, has_some, near_then, parts_met, some_met, used_now, view_met}
 use Rattle.l1_cache.proofs.l1.L1.fetch.Goals as goal
 
 pub returns-in_err-place-clause-private : goal.returns-in_err-place-clause-private
@@ -11,23 +12,41 @@ returns-in_err-place-clause-private c =
 
 pub returns-in_err-place-clause-after : goal.returns-in_err-place-clause-after
 returns-in_err-place-clause-after c =
-    rw (← c.self.view_is, fetch_by _ c.args.addr ∙ has_none c.self.invariant (c.args.addr / 64) c.in_err-place.ensures.none) refl
+    rw (← c.self.view_is, fetch_by _ c.args.addr ∙ has_none c.self.invariant (c.args.addr / 64) c.in_err-place.ensures.none)
+    (view_met c.self.invariant c.in_err-place.ensures.ways c.in_err-place.ensures.same)
 
 pub next_age-age-requires-clause-past : goal.next_age-age-requires-clause-past
-next_age-age-requires-clause-past c = all_past c.self.invariant.instructions.aged
+next_age-age-requires-clause-past c = all_past c.in_ok-place.ensures.ways.tags.aged
 
-pub invariant_of-self : goal.invariant_of-self
-invariant_of-self c =
+pub invariant_of-self-2 : goal.invariant_of-self-2
+invariant_of-self-2 c =
     let was = c.self.invariant in
+    let ways = c.in_ok-place.ensures.ways in
+    let same = c.in_ok-place.ensures.same in
+    let line = c.args.addr / 64 in
+    let p = c.in_ok-place.place in
+    let now = parts_met was ways same in
+    let some = some_met was ways same c.in_ok-place.ensures.some in
+    let at = at_met was ways same line p c.in_ok-place.ensures.here in
+    let age = c.next_age-age.result in
+    let anew = c.next_age-age.new.ages.items in
+    let order = c.next_age-age.ensures.order in
+    let all = c.next_age-age.ensures.all in
+    let later = c.next_age-age.ensures.later in
     rw (c.next_age-age.ensures.tick)
     (record {
       ways = was.ways;
       bytes_are = was.bytes_are;
       instructions = record {
-        few = was.instructions.few;
-        some = was.instructions.some;
-        early = c.next_age-age.ensures.early;
-        aged = aged_then was (c.args.addr / 64) c.in_ok-place.ensures.some c.in_ok-place.place c.in_ok-place.ensures.here c.next_age-age.result c.next_age-age.new.ages.items c.next_age-age.ensures.order c.next_age-age.ensures.all c.next_age-age.ensures.later;
+        few_sets = ways.few_sets;
+        tags = record {
+          few = ways.tags.few;
+          some = ways.tags.some;
+          early = c.next_age-age.ensures.early;
+          aged = aged_then now line some p at age anew order all later;
+        };
+        mask_is = ways.mask_is;
+        near = near_then now line some p at age anew order all later;
       };
     })
 
@@ -41,8 +60,14 @@ returns-clause-reply c = rw (← c.self.view_is) (sym (fetch_reply _ c.args.addr
 pub returns-clause-after : goal.returns-clause-after
 returns-clause-after c =
     let was = c.self.invariant in
+    let ways = c.in_ok-place.ensures.ways in
+    let same = c.in_ok-place.ensures.same in
     let line = c.args.addr / 64 in
+    let p = c.in_ok-place.place in
     let here = c.in_ok-place.ensures.here in
-    rw (← c.self.view_is, fetch_by _ c.args.addr ∙ has_some was line c.in_ok-place.ensures.some c.in_ok-place.place here)
-    (used_now was line c.in_ok-place.ensures.some c.in_ok-place.place here c.next_age-age.result c.next_age-age.new.ages.items c.next_age-age.ensures.order c.next_age-age.ensures.all c.next_age-age.ensures.later
-    ∙ sym (fetch_after _ c.args.addr))
+    let now = parts_met was ways same in
+    let some = some_met was ways same c.in_ok-place.ensures.some in
+    let at = at_met was ways same line p here in
+    rw (← c.self.view_is, fetch_by _ c.args.addr ∙ has_some was line c.in_ok-place.ensures.some p here)
+    (used_now now line some p at c.next_age-age.result c.next_age-age.new.ages.items c.next_age-age.ensures.order c.next_age-age.ensures.all c.next_age-age.ensures.later
+    ∙ (ap (instruction_used_in line) (view_met was ways same) ∙ sym (fetch_after _ c.args.addr)))

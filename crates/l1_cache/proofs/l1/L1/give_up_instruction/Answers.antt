@@ -1,4 +1,4 @@
-use Rattle.l1_cache.proofs.Instructions.{aged_given_up, given_up, not_given_up}
+use Rattle.l1_cache.proofs.Instructions.{aged_given_up, given_up, near_given_up, not_given_up}
 use Rattle.l1_cache.proofs.l1.L1.give_up_instruction.Goals as goal
 
 pub invariant_of-self : goal.invariant_of-self
@@ -8,10 +8,15 @@ invariant_of-self c =
       ways = was.ways;
       bytes_are = was.bytes_are;
       instructions = record {
-        few = was.instructions.few;
-        some = was.instructions.some;
-        early = was.instructions.early;
-        aged = aged_given_up was c.args.line c.in-Some.ensures.some c.in-Some.place c.in-Some.ensures.here;
+        few_sets = was.instructions.few_sets;
+        tags = record {
+          few = was.instructions.tags.few;
+          some = was.instructions.tags.some;
+          early = was.instructions.tags.early;
+          aged = aged_given_up was c.args.line c.in-Some.ensures.some c.in-Some.place c.in-Some.ensures.here;
+        };
+        mask_is = was.instructions.mask_is;
+        near = near_given_up was c.args.line c.in-Some.ensures.some c.in-Some.place c.in-Some.ensures.here c.near_index-index.result c.near_index-index.ensures.value;
       };
     }
 

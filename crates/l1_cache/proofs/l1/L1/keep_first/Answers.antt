@@ -35,7 +35,7 @@ invariant_of-self c =
         near = near_then now line p at age anew order all later;
       };
       bytes_are = now.bytes_are;
-      instructions = was.instructions;
+      instructions = now.instructions;
     })
 
 pub returns-in-Some : goal.returns-in-Some

@@ -45,7 +45,7 @@ invariant_of-self-2 c =
         near = near_then now line p at c.next_age-age.result c.next_age-age.new.ages.items c.next_age-age.ensures.order c.next_age-age.ensures.all c.next_age-age.ensures.later;
       };
       bytes_are = now.bytes_are;
-      instructions = was.instructions;
+      instructions = now.instructions;
     })
 
 pub returns-clause-private : goal.returns-clause-private

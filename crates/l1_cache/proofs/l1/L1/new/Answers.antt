@@ -12,6 +12,7 @@ invariant_of-result c =
     let all : length ways.ages.items ≡ c.args.sets * c.args.ways = ap length c.in_ok-tags.ensures.ages ∙ length-replicate {A = ℕ} (c.args.sets * c.args.ways) 0 in
     let size : ways.sets * ways.ways ≡ c.args.sets * c.args.ways = rw (c.in_ok-tags.ensures.sets, c.in_ok-tags.ensures.ways) (omega arith) in
     let near : c.in_ok-vec-2.field-0.items ≡ replicate c.args.near no_near = search rules in
+    let l1i_near : c.in_ok-vec-4.field-0.items ≡ replicate c.if-l1i_sets-eq0.l1i_near no_near = search rules in
     record {
       ways = record {
         shards_are = (omega arith, omega arith);
@@ -29,11 +30,16 @@ invariant_of-result c =
       };
       bytes_are = omega (arith, all, size, c.in_ok-vec-3.ensures.len);
       instructions = record {
-        few = omega (arith, c.in_ok-new.ensures.ways, c.shape_of-l1i_sets.ensures.few);
-        some = λ b. omega (arith, c.in_ok-new.ensures.ways, c.shape_of-l1i_sets.ensures.some (omega (arith, b, c.in_ok-new.ensures.sets)));
-        early = omega (arith, c.in_ok-new.ensures.tick);
-        aged = rw (c.in_ok-new.ensures.sets, c.in_ok-new.ensures.ways, c.in_ok-new.ensures.ages)
-            (empty_aged c.shape_of-l1i_sets.result.0 c.shape_of-l1i_sets.result.1 l1i.tick l1i.tags.items (ap length c.in_ok-new.ensures.tags ∙ length-replicate {A = ℕ} (c.shape_of-l1i_sets.result.0 * c.shape_of-l1i_sets.result.1) 0));
+        few_sets = omega (arith, c.in_ok-new.ensures.sets, c.shape_of-l1i_sets.ensures.sets);
+        tags = record {
+          few = omega (arith, c.in_ok-new.ensures.ways, c.shape_of-l1i_sets.ensures.few);
+          some = λ b. omega (arith, c.in_ok-new.ensures.ways, c.shape_of-l1i_sets.ensures.some (omega (arith, b, c.in_ok-new.ensures.sets)));
+          early = omega (arith, c.in_ok-new.ensures.tick);
+          aged = rw (c.in_ok-new.ensures.sets, c.in_ok-new.ensures.ways, c.in_ok-new.ensures.ages)
+              (empty_aged c.shape_of-l1i_sets.result.0 c.shape_of-l1i_sets.result.1 l1i.tick l1i.tags.items (ap length c.in_ok-new.ensures.tags ∙ length-replicate {A = ℕ} (c.shape_of-l1i_sets.result.0 * c.shape_of-l1i_sets.result.1) 0));
+        };
+        mask_is = omega arith;
+        near = rw l1i_near (empty_near c.from.result l1i.sets l1i.ways c.from-3.result c.if-l1i_sets-eq0.l1i_near l1i.ages.items l1i.tags.items [] (omega arith));
       };
     }
 

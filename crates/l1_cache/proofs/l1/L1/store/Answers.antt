@@ -5,7 +5,7 @@ use Rattle.flat_memory.specs.FlatMemory.{with_number}
 use Rattle.cache_set.specs.declared.letter.Letter.TheVariants.{M}
 use Rattle.cache_set.proofs.SetsInArrays.{all_past}
 use Rattle.l1_cache.specs.declared.data_ways.DataWays.{DataWays}
-use Rattle.cache_set.specs.declared.tags.Tags.{Tags}
+use Rattle.l1_cache.specs.declared.l1i.InstructionWays.{InstructionWays}
 use Rattle.l1_cache.specs.L1State.{L1State, is_private, kept_first_in}
 use Rattle.zs_num.specs.declared.request.Request.TheVariants.{Store}
 use Rattle.l1_cache.specs.Layout.{AreParts, HasAt, HasNowhere, l1_view, no_kept}
@@ -15,7 +15,7 @@ use Rattle.l1_cache.proofs.Views.{aged_then, at_written, copy_nowhere, copy_ther
 use Rattle.std.proofs.Common.{get_or}
 use Rattle.l1_cache.proofs.l1.L1.store.Goals as goal
 
-may_not : {w : DataWays} {bytes : List (List ℕ)} {l1i : Tags} (parts : AreParts w bytes l1i) (addr width value : ℕ)
+may_not : {w : DataWays} {bytes : List (List ℕ)} {l1i : InstructionWays} (parts : AreParts w bytes l1i) (addr width value : ℕ)
     → HasNowhere w (addr / 64) ⊎ ((p : ℕ) × (HasAt w (addr / 64) p) × ((get_or w.kept.items p no_kept).free ≡ false)) → is_private (l1_view w bytes l1i) (Store addr width value) ≡ false
 may_not parts addr width value (inl lacks) = store_none _ addr width value (copy_nowhere parts (addr / 64) lacks)
 may_not parts addr width value (inr there) = store_by _ addr width value _ (copy_there parts (addr / 64) there.0 there.1) ∙ there.2
@@ -57,10 +57,10 @@ invariant_of-self-2 c =
         near = near_then now line p at c.next_age-age.result c.next_age-age.new.ages.items c.next_age-age.ensures.order c.next_age-age.ensures.all c.next_age-age.ensures.later;
       };
       bytes_are = length-set c.self.inside.bytes.items p c.write.new.bytes ∙ now.bytes_are;
-      instructions = was.instructions;
+      instructions = now.instructions;
     })
 
-may : {w : DataWays} {bytes : List (List ℕ)} {l1i : Tags} (parts : AreParts w bytes l1i) (addr width value p : ℕ) → HasAt w (addr / 64) p → (get_or w.kept.items p no_kept).free ≡ true
+may : {w : DataWays} {bytes : List (List ℕ)} {l1i : InstructionWays} (parts : AreParts w bytes l1i) (addr width value p : ℕ) → HasAt w (addr / 64) p → (get_or w.kept.items p no_kept).free ≡ true
     → is_private (l1_view w bytes l1i) (Store addr width value) ≡ true
 may parts addr width value p at free = store_by _ addr width value _ (copy_there parts (addr / 64) p at) ∙ free
 
