@@ -6,3 +6,4 @@ pub mod Reached
 pub mod Executes
 pub mod Words
 pub mod Bytes
+pub mod Begun

@@ -5,6 +5,7 @@ pub mod Decoded
 pub mod Fetch
 pub mod Effect
 pub mod Step
+pub mod Single
 pub mod Progress
 pub mod Sound
 pub mod Laws

@@ -23,10 +23,12 @@ impl Core {
         ensures value { self.new ≡ effect inst.now.name inst.now self.old }
         ensures free { result ≡ is_free self.new }
     {
-        let immediate = inst.imm.cast_unsigned();
         match inst.name {
-            Name::Lui => self.write_register(inst.rd, immediate),
-            Name::Auipc => self.write_register(inst.rd, self.pc().wrapping_add(immediate)),
+            Name::Lui => self.write_register(inst.rd, inst.imm.cast_unsigned()),
+            Name::Auipc => {
+                let target = self.pc().wrapping_add(inst.imm.cast_unsigned());
+                self.write_register(inst.rd, target)
+            }
             Name::Jal => self.jump(inst),
             Name::Jalr => self.jump_by_register(inst),
             Name::Beq => self.branch(Name::Beq, inst),

@@ -91,7 +91,8 @@ fn store_of(addr: u64, width: u8, value: u64) -> Request
 }
 
 /// Whether so many bytes from an address on lie in one line.
-fn is_in_line(addr: u64, width: u8) -> bool
+#[inline(always)]
+pub fn is_in_line(addr: u64, width: u8) -> bool
     ensures { result ≡ is_in_line addr width }
 {
     addr % LINE + u64::from(width) <= LINE

@@ -11,13 +11,14 @@ ghost use Rattle.rv_core.specs.Fetch.{fetched_at};
 ghost use Rattle.rv_core.specs.Decoded.{HasRegisters};
 ghost use Rattle.rv_core.specs.Progress.{ending_of, IsNarrow};
 ghost use Rattle.rv_core.specs.Asked.{is_idle, is_in_progress};
+ghost use Rattle.rv_core.specs.Single.{begun};
 ghost use Rattle.rv_core.specs.Step.{answered, asks_for_instruction, console_byte, initial_core, is_free, is_latest, replies_with, unfetched};
 
 use crate::memory_range::MemoryRange;
 use crate::pairing::{is_paired, pair};
 use crate::progress::{Destination, Progress, Reply};
 use crate::replies::{received, reply_to};
-use crate::{Fetched, Program, Why};
+use crate::{Fetched, Program, Single, Why};
 use rv_decode::Inst;
 use std::marker::Model;
 use zs_num::{LINE, Pairing, Request};
@@ -353,6 +354,35 @@ impl Core {
         ensures fetching { self.new.fetching ≡ self.old.fetching }
     {
         self.take(reply)
+    }
+
+    /// Takes the reply to the one access of the next instruction, which then ends: what the core does
+    /// where it has begun the instruction.
+    #[inline(always)]
+    pub fn complete(&mut self, single: Single, reply: u64)
+        requires { IsSoundCore (begun single self.old) }
+        ensures value { self.new ≡ answered reply (begun single self.old) }
+        ensures sound { IsSoundCore self.new }
+        ensures memory { self.new.memory ≡ self.old.memory }
+        ensures fetching { self.new.fetching ≡ self.old.fetching }
+    {
+        self.finish(single, reply);
+    }
+
+    #[inline(always)]
+    #[tactic(auto, unfolding(crate::specs::Effect::ended, crate::specs::Step::answered))]
+    fn finish(&mut self, single: Single, reply: u64)
+        requires { IsSoundCore (begun single self.old) }
+        ensures { self.new ≡ answered reply (begun single self.old) }
+    {
+        self.progress = Progress::Idle;
+        match single {
+            Single::Load { destination, .. } => {
+                let last = reply_to(&single.request(), reply);
+                self.go_on(destination.rd, received(None, last, destination));
+            }
+            Single::Store { .. } => self.go_on(0, 0),
+        }
     }
 
     #[tactic(auto, unfolding(crate::specs::Step::answered))]

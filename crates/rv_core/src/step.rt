@@ -5,10 +5,11 @@ ghost use Rattle.rv_core.specs.Effect.{effect, goes_on, halts};
 ghost use Rattle.rv_core.specs.Fetch.{fetched_at};
 ghost use Rattle.rv_core.specs.Decoded.{HasRegisters};
 ghost use Rattle.rv_core.specs.Sound.{IsServableAsk, IsSoundCore};
+ghost use Rattle.rv_core.specs.Single.{begun_if, comes_to_next, met_by};
 ghost use Rattle.rv_core.specs.Step.{executed, is_free, needs_fetch};
 ghost use Rattle.rv_core.specs.Asked.{advanced, asked, is_idle, stepped};
 
-use crate::{Ask, Core, Fetched, Program, Why};
+use crate::{Ask, Core, Did, Fetched, Program, Why};
 use elf_load::Image;
 use rv_decode::Inst;
 
@@ -83,6 +84,26 @@ impl Core {
         self.fetch_and_execute::<P, T>(program)
     }
 
+    /// Does as `step` does, but for a load or a store that the program has decoded, in memory and
+    /// within a line: it answers the access, and leaves the core as it is. [`Core::complete`] then
+    /// takes the reply.
+    #[inline(always)]
+    pub fn step_or_meet<P: Program, T>(&mut self, program: &P) -> Did
+        requires free { IsTrue (is_free self.old) }
+        requires unfetched { self.old.is_fetched ≡ false }
+        requires there { needs_fetch (P.image program.now) self.old ≡ false }
+        ensures value { begun_if (met_by result) self.new ≡ stepped (P.image program.now) self.old }
+        ensures next { comes_to_next result ≡ is_free (begun_if (met_by result) self.new) }
+        ensures same { IfSome (met_by result) (λ single. self.new ≡ self.old) }
+        ensures unfetched { self.new.is_fetched ≡ false }
+        ensures sound { IsSoundCore (begun_if (met_by result) self.new) }
+        ensures memory { self.new.memory ≡ self.old.memory }
+        ensures fetching { self.new.fetching ≡ self.old.fetching }
+    {
+        rv_decode::laws::fields_are_in_range();
+        self.execute_or_meet::<P, T>(program)
+    }
+
     /// The next step of a core that fetches: it asks for its next instruction, where it has to, or
     /// executes it.
     #[inline(never)]
@@ -154,10 +175,38 @@ impl Core {
     {
         match self.decoded(program) {
             Some(inst) => self.execute::<(P, T)>(inst),
-            None => match self.decode(program) {
-                Some(inst) => self.execute_apart(&inst),
-                None => false,
+            None => self.fetch_undecoded(program),
+        }
+    }
+
+    /// Executes the next instruction, where the program does not have it decoded.
+    #[inline(always)]
+    fn fetch_undecoded<P: Program>(&mut self, program: &P) -> bool
+        requires { IsTrue (is_idle self.old) }
+        ensures value { self.new ≡ executed (P.image program.now) self.old }
+        ensures free { result ≡ is_free self.new }
+    {
+        match self.decode(program) {
+            Some(inst) => self.execute_apart(&inst),
+            None => false,
+        }
+    }
+
+    /// Executes the next instruction, or answers its access where it makes that alone.
+    #[inline(always)]
+    fn execute_or_meet<P: Program, T>(&mut self, program: &P) -> Did
+        requires { IsTrue (is_idle self.old) }
+        ensures value { begun_if (met_by result) self.new ≡ executed (P.image program.now) self.old }
+        ensures next { comes_to_next result ≡ is_free (begun_if (met_by result) self.new) }
+        ensures same { IfSome (met_by result) (λ single. self.new ≡ self.old) }
+        ensures sound { IsSoundCore self.old }
+    {
+        match self.decoded(program) {
+            Some(inst) => match self.single(inst) {
+                Some(single) => Did::Meets(single),
+                None => Did::of(self.execute::<(P, T)>(inst)),
             },
+            None => Did::of(self.fetch_undecoded(program)),
         }
     }
 
