@@ -14,6 +14,7 @@ pub mod Lists
 pub mod LittleEndian
 pub mod LoadsStores
 pub mod MachineRuns
+pub mod Meeting
 pub mod MoreServable
 pub mod NewShards
 pub mod Numbered

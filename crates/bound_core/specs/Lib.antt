@@ -6,6 +6,7 @@ pub mod InstructionLaws
 pub mod IntervalBounds
 pub mod Intervals
 pub mod Laws
+pub mod Met
 pub mod MachineOfShards
 pub mod MachineWorld
 pub mod NumberedCores

@@ -3,6 +3,7 @@ ghost use Rattle.std.specs.Prelude.{◌≡◌, ◌+◌, ◌-◌, ◌*◌, ◌≤
 ghost use Rattle.machine_desc.specs.InstructionCaches.{has_l1i};
 ghost use Rattle.zs_num.specs.Servable.{IsServable};
 ghost use Rattle.machine_desc.specs.Machine.{IsMachine};
+ghost use Rattle.rv_core.specs.Single.{access_of, begun, begun_if, comes_to_next, met_by};
 ghost use Rattle.rv_core.specs.Sound.{IsSoundCore};
 ghost use Rattle.rv_core.specs.Step.{cost, is_free, needs_fetch};
 ghost use Rattle.bound_core.specs.Port.{Gains};
@@ -10,6 +11,7 @@ ghost use Rattle.bound_core.specs.TimedCore.{after_instruction, asks, beside_cyc
 ghost use Rattle.bound_core.specs.Pacing.{IsSoon};
 ghost use Rattle.bound_core.specs.IntervalBounds.{latest_clock, most_accesses};
 ghost use Rattle.bound_core.specs.Ahead.{ahead, going};
+ghost use Rattle.bound_core.specs.Met.{begun_in_time};
 ghost use Rattle.bound_core.specs.Turn.{IfTook, IsOver, RunsToEnd, TurnsAs};
 
 use crate::loops::{Unfetched, WithinLine};
@@ -19,7 +21,7 @@ use elf_load::Image;
 use event_graph::Expand;
 use machine_desc::Machine;
 use pipe_core::Pace;
-use rv_core::{Core, Program, Stepped, Why};
+use rv_core::{Core, Did, Program, Single, Stepped, Why};
 use std::alloc::Global;
 use std::marker::Model;
 use zs_num::{Cycle, Entry, NoMemory, Request};
@@ -204,10 +206,12 @@ impl BoundCore {
         ensures port_room { Q.room port.old ≤ Q.room port.new + 1 }
         ensures port_logged { IfTook result (λ e. Gains (Q.logged port.old) (e ∷ []) (Q.logged port.new)) }
     {
-        self.run_local(program, end);
-        match self.core.request() {
-            Some(request) => Turned::Took(self.access(expansion, port, request)),
-            None => Turned::Ended,
+        match self.run_local(program, end) {
+            Some(single) => Turned::Took(self.make(expansion, port, single)),
+            None => match self.core.request() {
+                Some(request) => Turned::Took(self.access(expansion, port, request)),
+                None => Turned::Ended,
+            },
         }
     }
 
@@ -287,11 +291,67 @@ impl BoundCore {
         entry
     }
 
-    /// Executes its local instructions: up to an access, a halt or the end of the interval.
+    /// Makes the access of an instruction that the core has not begun, and ends the instruction.
     #[inline(always)]
-    fn run_local<P: Program>(&mut self, program: &P, end: Cycle)
+    #[tactic(auto, unfolding(crate::specs::TimedCore::core_after_access))]
+    fn make<X: Expand, Q: Port>(&mut self, expansion: &X, port: &mut Q, single: Single) -> Entry
+        requires begun { IsSoundCore (begun single self.old.timed.core) }
+        requires core { Q.core port.old ≡ self.old.number }
+        requires room { 1 ≤ Q.room port.old }
+        requires clock { self.old.timed.clock ≤ 2 ^ 62 }
+        requires servable { IsServable (Q.base port.old) (Q.size port.old) (Q.l1i port.old) (access_of single) }
+        ensures given { Q.gives port.old self.old.timed.clock (access_of single) result port.new }
+        ensures left { self.new.timed ≡ core_after_access (X.time expansion.now) result (begun_in_time (Some single) self.old.timed) }
+        ensures core { result.core ≡ self.old.number }
+        ensures start { result.start ≡ self.old.timed.clock }
+        ensures request { result.request ≡ access_of single }
+        ensures later { self.old.timed.clock < self.new.timed.clock }
+        ensures within { self.new.timed.clock ≤ self.old.timed.clock + 2 ^ 20 }
+        ensures number { self.new.number ≡ self.old.number }
+        ensures memory { self.new.timed.core.memory ≡ self.old.timed.core.memory }
+        ensures fetching { self.new.timed.core.fetching ≡ self.old.timed.core.fetching }
+        ensures sound { IsSoundCore self.new.timed.core }
+        ensures spare { self.new.spare ≡ self.old.spare }
+        ensures port_core { Q.core port.new ≡ Q.core port.old }
+        ensures port_base { Q.base port.new ≡ Q.base port.old }
+        ensures port_size { Q.size port.new ≡ Q.size port.old }
+        ensures port_l1i { Q.l1i port.new ≡ Q.l1i port.old }
+        ensures port_room { Q.room port.old ≤ Q.room port.new + 1 }
+        ensures port_logged { Gains (Q.logged port.old) (result ∷ []) (Q.logged port.new) }
+    {
+        let entry = port.access(self.clock, single.request());
+        self.core.complete(single, entry.reply);
+        self.clock += expansion.time(&entry);
+        entry
+    }
+
+    /// Executes its local instructions: up to an access, a halt or the end of the interval. It answers
+    /// the access that the core met there and has not begun, if it met one: its instruction is
+    /// counted.
+    #[inline(always)]
+    fn run_local<P: Program>(&mut self, program: &P, end: Cycle) -> Option<Single>
         requires { max self.old.timed.clock end ≤ 2 ^ 61 }
-        ensures value { self.new.timed ≡ ran_to (P.image program.now) end self.old.timed }
+        ensures value { begun_in_time result self.new.timed ≡ ran_to (P.image program.now) end self.old.timed }
+        ensures begun_sound { IsSoundCore (begun_if result self.new.timed.core) }
+        ensures sound { IsSoundCore self.old.timed.core }
+        ensures soon { IsSoon self.old.timed }
+        ensures begun { self.old.timed.clock ≤ self.new.timed.clock }
+        ensures within { self.new.timed.clock ≤ max self.old.timed.clock end + 192 }
+        ensures number { self.new.number ≡ self.old.number }
+        ensures memory { self.new.timed.core.memory ≡ self.old.timed.core.memory }
+        ensures fetching { self.new.timed.core.fetching ≡ self.old.timed.core.fetching }
+        ensures spare { self.new.spare ≡ self.old.spare }
+    {
+        rv_core::laws::cores_stay_sound();
+        rv_core::laws::accesses_are_paired_right();
+        self.run_by_kind(program, end)
+    }
+
+    /// The same, by the loop for its kind: with a pipeline, or one that fetches, or neither.
+    #[inline(always)]
+    fn run_by_kind<P: Program>(&mut self, program: &P, end: Cycle) -> Option<Single>
+        requires { max self.old.timed.clock end ≤ 2 ^ 61 }
+        ensures value { begun_in_time result self.new.timed ≡ ran_to (P.image program.now) end self.old.timed }
         ensures sound { IsSoundCore self.old.timed.core }
         ensures soon { IsSoon self.old.timed }
         ensures begun { self.old.timed.clock ≤ self.new.timed.clock }
@@ -304,10 +364,11 @@ impl BoundCore {
         self.keeps_sound();
         if self.pace.is_some() {
             self.run_paced(program, end);
+            None
         } else if self.core.is_fetching() {
-            self.run_fetching(program, end);
+            self.run_fetching(program, end)
         } else {
-            self.run_on::<P, Unfetched>(program, end, false);
+            self.run_on::<P, Unfetched>(program, end, false)
         }
     }
 
@@ -338,75 +399,82 @@ impl BoundCore {
     /// Those of a core that fetches. One that has fetched an instruction executes it also behind the
     /// end.
     #[inline(always)]
-    fn run_fetching<P: Program>(&mut self, program: &P, end: Cycle)
+    fn run_fetching<P: Program>(&mut self, program: &P, end: Cycle) -> Option<Single>
         requires fetching { IsTrue self.old.timed.core.fetching }
         requires clock { max self.old.timed.clock end < 2 ^ 63 }
         requires pace { self.old.timed.pace ≡ None }
-        ensures value { self.new.timed ≡ ran_to (P.image program.now) end self.old.timed }
+        ensures value { begun_in_time result self.new.timed ≡ ran_to (P.image program.now) end self.old.timed }
         ensures number { self.new.number ≡ self.old.number }
         ensures memory { self.new.timed.core.memory ≡ self.old.timed.core.memory }
         ensures fetching { IsTrue self.new.timed.core.fetching }
         ensures spare { self.new.spare ≡ self.old.spare }
         ensures pace { self.new.timed.pace ≡ None }
     {
-        self.run_in_line(program, end);
-        self.run_past_line(program, end);
+        match self.run_in_line(program, end) {
+            Some(single) => Some(single),
+            None => self.run_past_line(program, end),
+        }
     }
 
     /// Those from where the next instruction was fetched, or has to be.
     #[inline(always)]
-    fn run_past_line<P: Program>(&mut self, program: &P, end: Cycle)
+    fn run_past_line<P: Program>(&mut self, program: &P, end: Cycle) -> Option<Single>
         requires fetching { IsTrue self.old.timed.core.fetching }
         requires clock { max self.old.timed.clock end < 2 ^ 63 }
         requires pace { self.old.timed.pace ≡ None }
-        ensures value { self.new.timed ≡ ran_to (P.image program.now) end self.old.timed }
+        ensures value { begun_in_time result self.new.timed ≡ ran_to (P.image program.now) end self.old.timed }
         ensures number { self.new.number ≡ self.old.number }
         ensures memory { self.new.timed.core.memory ≡ self.old.timed.core.memory }
         ensures fetching { IsTrue self.new.timed.core.fetching }
         ensures spare { self.new.spare ≡ self.old.spare }
         ensures pace { self.new.timed.pace ≡ None }
     {
-        while self.core.is_free() && (self.core.is_fetched() || self.clock < end) {
+        let mut met = None;
+        while met.is_none() && self.core.is_free() && (self.core.is_fetched() || self.clock < end) {
             self.step_fetching(program);
-            self.run_in_line(program, end);
+            met = self.run_in_line(program, end);
         }
+        met
     }
 
     /// Those that stand in the line of its latest fetch, unless an instruction was fetched that is
     /// still to be executed.
     #[inline(never)]
-    fn run_in_line<P: Program>(&mut self, program: &P, end: Cycle)
+    fn run_in_line<P: Program>(&mut self, program: &P, end: Cycle) -> Option<Single>
         requires fetching { IsTrue self.old.timed.core.fetching }
         requires pace { self.old.timed.pace ≡ None }
-        ensures same_end { ran_to (P.image program.now) end self.new.timed ≡ ran_to (P.image program.now) end self.old.timed }
+        ensures same_end { ran_to (P.image program.now) end (begun_in_time result self.new.timed) ≡ ran_to (P.image program.now) end self.old.timed }
         ensures fetched { self.new.timed.core.is_fetched ≡ self.old.timed.core.is_fetched }
         ensures begun { self.old.timed.clock ≤ self.new.timed.clock }
         ensures within { self.new.timed.clock ≤ max self.old.timed.clock end }
-        ensures nearer { 2 * (end - self.new.timed.clock) + going (is_free self.new.timed.core) ≤ 2 * (end - self.old.timed.clock) + going (is_free self.old.timed.core) }
+        ensures nearer { 2 * (end - self.new.timed.clock) + going (is_free (begun_if result self.new.timed.core)) ≤ 2 * (end - self.old.timed.clock) + going (is_free self.old.timed.core) }
         ensures number { self.new.number ≡ self.old.number }
         ensures memory { self.new.timed.core.memory ≡ self.old.timed.core.memory }
         ensures fetching { IsTrue self.new.timed.core.fetching }
         ensures spare { self.new.spare ≡ self.old.spare }
         ensures pace { self.new.timed.pace ≡ None }
     {
-        if !self.core.is_fetched() {
-            self.run_on::<P, WithinLine>(program, end, true);
+        if self.core.is_fetched() {
+            None
+        } else {
+            self.run_on::<P, WithinLine>(program, end, true)
         }
     }
 
     /// Executes instructions that do not have to be fetched: of a core that fetches, those that stand
-    /// in the line of its latest fetch.
+    /// in the line of its latest fetch. It ends at an access that the core met, which is counted and
+    /// not begun.
     #[inline(always)]
-    fn run_on<P: Program, T>(&mut self, program: &P, end: Cycle, fetching: bool)
+    fn run_on<P: Program, T>(&mut self, program: &P, end: Cycle, fetching: bool) -> Option<Single>
         requires fetching { self.old.timed.core.fetching ≡ fetching }
         requires unfetched { self.old.timed.core.is_fetched ≡ false }
         requires pace { self.old.timed.pace ≡ None }
-        ensures same_end { ran_to (P.image program.now) end self.new.timed ≡ ran_to (P.image program.now) end self.old.timed }
-        ensures stops { fetching ≡ false → goes_on_alone end self.new.timed ≡ false }
+        ensures same_end { ran_to (P.image program.now) end (begun_in_time result self.new.timed) ≡ ran_to (P.image program.now) end self.old.timed }
+        ensures stops { fetching ≡ false → goes_on_alone end (begun_in_time result self.new.timed) ≡ false }
         ensures unfetched { self.new.timed.core.is_fetched ≡ false }
         ensures begun { self.old.timed.clock ≤ self.new.timed.clock }
         ensures within { self.new.timed.clock ≤ max self.old.timed.clock end }
-        ensures nearer { 2 * (end - self.new.timed.clock) + going (is_free self.new.timed.core) ≤ 2 * (end - self.old.timed.clock) + going (is_free self.old.timed.core) }
+        ensures nearer { 2 * (end - self.new.timed.clock) + going (is_free (begun_if result self.new.timed.core)) ≤ 2 * (end - self.old.timed.clock) + going (is_free self.old.timed.core) }
         ensures number { self.new.number ≡ self.old.number }
         ensures memory { self.new.timed.core.memory ≡ self.old.timed.core.memory }
         ensures fetching { self.new.timed.core.fetching ≡ fetching }
@@ -415,12 +483,13 @@ impl BoundCore {
     {
         let most = end.saturating_sub(self.clock);
         let mut counted = 0;
-        let mut goes_on = self.core.is_free();
-        while goes_on && counted < most && self.is_there(program, fetching) {
-            goes_on = self.step::<P, T>(program, &mut counted);
+        let mut did = Did::of(self.core.is_free());
+        while did.goes_on() && counted < most && self.is_there(program, fetching) {
+            did = self.step::<P, T>(program, &mut counted);
         }
         self.clock += counted;
         self.instructions += counted;
+        did.met()
     }
 
     /// Whether the next instruction does not have to be fetched, by the line in which it stands.
@@ -481,19 +550,19 @@ impl BoundCore {
         }
     }
 
-    /// Executes one instruction, up to its first access if it has one, and counts it. It answers
-    /// whether the core comes to a next instruction. The clock and the count of instructions stay
-    /// behind, by what was counted: so the loop has them at hand, and not in memory.
+    /// Executes one instruction, up to its first access if it has one, or comes to its one access,
+    /// and counts it. The clock and the count of instructions stay behind, by what was counted: so
+    /// the loop has them at hand, and not in memory.
     #[inline(always)]
     #[tactic(auto, unfolding(crate::specs::TimedCore::after_instruction))]
-    fn step<P: Program, T>(&mut self, program: &P, counted: &mut u64) -> bool
+    fn step<P: Program, T>(&mut self, program: &P, counted: &mut u64) -> Did
         requires free { IsTrue (is_free self.old.timed.core) }
         requires unfetched { self.old.timed.core.is_fetched ≡ false }
         requires there { needs_fetch (P.image program.now) self.old.timed.core ≡ false }
         requires few { counted.old < 2 ^ 64 - 1 }
         requires pace { self.old.timed.pace ≡ None }
-        ensures value { ahead counted.new self.new.timed ≡ after_instruction (P.image program.now) (ahead counted.old self.old.timed) }
-        ensures free { result ≡ is_free self.new.timed.core }
+        ensures value { begun_in_time (met_by result) (ahead counted.new self.new.timed) ≡ after_instruction (P.image program.now) (ahead counted.old self.old.timed) }
+        ensures next { comes_to_next result ≡ is_free (begun_if (met_by result) self.new.timed.core) }
         ensures unfetched { self.new.timed.core.is_fetched ≡ false }
         ensures clock { self.new.timed.clock ≡ self.old.timed.clock }
         ensures number { self.new.number ≡ self.old.number }
@@ -502,11 +571,11 @@ impl BoundCore {
         ensures spare { self.new.spare ≡ self.old.spare }
         ensures pace { self.new.timed.pace ≡ None }
     {
-        let goes_on = self.core.step::<P, T>(program);
-        if goes_on || is_counted(self.core.halted()) {
+        let did = self.core.step_or_meet::<P, T>(program);
+        if !matches!(did, Did::Stops) || is_counted(self.core.halted()) {
             *counted += 1;
         }
-        goes_on
+        did
     }
 }
 

@@ -1,28 +1,18 @@
-use Rattle.std.proofs.Common.{ap, arith, refl, sym, ◌∙◌}
-use Rattle.bound_core.specs.TimedCore.{TimedCore}
-use Rattle.bound_core.proofs.Instructions.{ran_later, ran_stays, ran_within}
+use Rattle.bound_core.proofs.CoreKept.{CoreLaws}
+use Rattle.bound_core.proofs.Meeting.{begun_soundly}
 use Rattle.bound_core.proofs.bounded.BoundCore.run_local.Goals as goal
 
-pub returns-then-is_some-clause-begun : goal.returns-then-is_some-clause-begun
-returns-then-is_some-clause-begun g c =
-    let clock = ap (λ (t : TimedCore). t.clock) c.run_paced.ensures.value in
-    omega (arith, clock, ran_later (g.P.Program.image c.args.program.now) c.args.end c.args.self.now.timed)
-
-pub returns-then-is_some-clause-within : goal.returns-then-is_some-clause-within
-returns-then-is_some-clause-within g c =
-    let clock = ap (λ (t : TimedCore). t.clock) c.run_paced.ensures.value in
-    omega (arith, clock, (ran_within (g.P.Program.image c.args.program.now) c.args.end c.args.self.now.timed c.keeps_sound.ensures.soon).within)
-
-pub returns-then-is_fetching-clause-begun : goal.returns-then-is_fetching-clause-begun
-returns-then-is_fetching-clause-begun g c =
-    let clock = ap (λ (t : TimedCore). t.clock) c.run_fetching.ensures.value in
-    omega (arith, clock, ran_later (g.P.Program.image c.args.program.now) c.args.end c.args.self.now.timed)
-
-pub returns-then-is_fetching-clause-within : goal.returns-then-is_fetching-clause-within
-returns-then-is_fetching-clause-within g c =
-    let clock = ap (λ (t : TimedCore). t.clock) c.run_fetching.ensures.value in
-    omega (arith, clock, (ran_within (g.P.Program.image c.args.program.now) c.args.end c.args.self.now.timed c.keeps_sound.ensures.soon).within)
-
-pub returns-else-is_fetching-clause-value : goal.returns-else-is_fetching-clause-value
-returns-else-is_fetching-clause-value g c =
-    sym (ran_stays (g.P.Program.image c.args.program.now) c.args.end c.run_on.new.self.timed (c.run_on.ensures.stops refl)) ∙ c.run_on.ensures.same_end
+pub returns-clause-begun_sound : goal.returns-clause-begun_sound
+returns-clause-begun_sound g c =
+    let laws : CoreLaws = record {
+      advanced_sound = c.cores_stay_sound.ensures.advanced;
+      advanced_memory = c.cores_stay_sound.ensures.advanced_memory;
+      advanced_pairing = c.cores_stay_sound.ensures.advanced_pairing;
+      advanced_fetching = c.cores_stay_sound.ensures.advanced_fetching;
+      answered_sound = c.cores_stay_sound.ensures.answered;
+      answered_memory = c.cores_stay_sound.ensures.answered_memory;
+      answered_pairing = c.cores_stay_sound.ensures.answered_pairing;
+      answered_fetching = c.cores_stay_sound.ensures.answered_fetching;
+      paired_right = c.accesses_are_paired_right.ensures.next;
+    } in
+    begun_soundly laws (g.P.Program.image c.args.program.now) c.args.end c.run_by_kind.result c.args.self.now.timed c.run_by_kind.new.self.timed c.run_by_kind.ensures.sound c.run_by_kind.ensures.value

@@ -1,19 +1,21 @@
 -- what is left to run leads to the same end
 use Rattle.std.proofs.Common.{◌≡◌, ◌≤◌, ◌+◌, ◌-◌, ◌*◌, false, None}
+use Rattle.rv_core.specs.Single.{begun_if, comes_to_next, met_by}
 use Rattle.rv_core.specs.Step.{is_free}
 use Rattle.bound_core.specs.TimedCore.{ran_to}
 use Rattle.bound_core.specs.Ahead.{ahead, going}
+use Rattle.bound_core.specs.Met.{begun_in_time}
 use Rattle.bound_core.proofs.bounded.BoundCore.run_on.Given as goal
 
-abbrev pub invariant-loop-goes_on : goal.invariant-loop-goes_on
-invariant-loop-goes_on g l =
+abbrev pub invariant-loop-self : goal.invariant-loop-self
+invariant-loop-self g l =
     let image = g.P.Program.image l.program in
     record {
-      free : l.goes_on ≡ is_free l.self.timed.core;
+      free : comes_to_next l.did ≡ is_free (begun_if (met_by l.did) l.self.timed.core);
       fetching : l.self.timed.core.fetching ≡ l.fetching;
       unfetched : l.self.timed.core.is_fetched ≡ false;
-      same_end : ran_to image l.end (ahead l.counted l.self.timed) ≡ ran_to image l.end l.initial.self.timed;
-      nearer : 2 * (l.most - l.counted) + going l.goes_on ≤ 2 * l.most + going (is_free l.initial.self.timed.core);
+      same_end : ran_to image l.end (begun_in_time (met_by l.did) (ahead l.counted l.self.timed)) ≡ ran_to image l.end l.initial.self.timed;
+      nearer : 2 * (l.most - l.counted) + going (comes_to_next l.did) ≤ 2 * l.most + going (is_free l.initial.self.timed.core);
       few : l.counted ≤ l.most;
       most : l.most ≡ l.end - l.initial.self.timed.clock;
       clock : l.self.timed.clock ≡ l.initial.self.timed.clock;
@@ -23,5 +25,5 @@ invariant-loop-goes_on g l =
       pace : l.self.timed.pace ≡ None;
     }
 
-abbrev pub decreases-loop-goes_on : goal.decreases-loop-goes_on
-decreases-loop-goes_on g l = 2 * (l.most - l.counted) + going l.goes_on
+abbrev pub decreases-loop-self : goal.decreases-loop-self
+decreases-loop-self g l = 2 * (l.most - l.counted) + going (comes_to_next l.did)

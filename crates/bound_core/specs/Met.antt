@@ -1,0 +1,9 @@
+-- A core that came to an instruction of one access, and has not begun it.
+use Rattle.std.specs.Prelude.{Option}
+use Rattle.rv_core.specs.declared.single.Single.{Single}
+use Rattle.rv_core.specs.Single.{begun_if}
+use Rattle.bound_core.specs.TimedCore.{TimedCore}
+
+-- the core in time once it has begun the instruction that it met, if it met one
+abbrev pub begun_in_time : Option Single → TimedCore → TimedCore
+begun_in_time met c = record c { core = begun_if met c.core }
