@@ -3,7 +3,8 @@ use crate::executables::{BASE, SIZE};
 use crate::images::decoded;
 use crate::instructions::{Access, first_ask, image, is_ask, is_asked, next, reply};
 use elf_load::Image;
-use rv_core::{Ask, Core, DecodedProgram, Why};
+use rv_blocks::DecodedProgram;
+use rv_core::{Ask, Core, Why};
 use std::process::Abort;
 use zs_num::Request;
 

@@ -4,7 +4,7 @@ ghost use Rattle.std.specs.Prelude.{◌≡◌};
 use crate::checks::{are_bytes, are_so_many, is_number};
 use crate::executables::{BASE, SIZE};
 use elf_load::{Image, Segment, load};
-use rv_core::DecodedProgram;
+use rv_blocks::DecodedProgram;
 use std::process::Abort;
 
 /// The image of a file in a memory of `SIZE` bytes from `BASE` on.

@@ -6,7 +6,8 @@ use crate::checks::is_number;
 use crate::executables::{BASE, SIZE, file_of};
 use crate::images::{decoded, read};
 use elf_load::Image;
-use rv_core::{Ask, Core, DecodedProgram, Program, Why};
+use rv_blocks::DecodedProgram;
+use rv_core::{Ask, Core, Program, Why};
 use std::process::Abort;
 use zs_num::{AmoOp, Request};
 
@@ -512,4 +513,39 @@ fn a_program_decoded_once_is_the_same_program(rt: HostRuntime) {
     ];
     let image = image(&rt, &words);
     do_the_same(&rt, &decoded(&rt, &image), &image);
+}
+
+/// Checks what a core at its start comes to by blocks of so many instructions at most: how many it
+/// executes, its x5 and its pc.
+fn comes_to(
+    rt: &impl Abort,
+    program: &DecodedProgram,
+    most: u64,
+    count: u64,
+    number: u64,
+    pc: u64,
+) {
+    let mut core = core();
+    assert!(rt; core.is_free() && !core.is_fetched());
+    assert!(rt; core.run_blocks(program, most) == count);
+    is_at(rt, &core, 5, number, pc);
+}
+
+#[test]
+fn blocks_are_executed_whole(rt: HostRuntime) {
+    // addi x5, x0, 3; addi x5, x5, -1; bne x5, x0, -4; jal x0, 8; 0; addi x0, x0, 0
+    let words = [
+        0x0030_0293,
+        0xfff2_8293,
+        0xfe02_9ee3,
+        0x0080_006f,
+        0,
+        0x0000_0013,
+    ];
+    let image = image(&rt, &words);
+    let program = decoded(&rt, &image);
+    comes_to(&rt, &program, 2, 0, 0, BASE);
+    comes_to(&rt, &program, 6, 5, 1, BASE + 4);
+    comes_to(&rt, &program, 7, 7, 0, BASE + 12);
+    comes_to(&rt, &program, 100, 9, 0, BASE + 24);
 }

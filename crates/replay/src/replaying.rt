@@ -13,7 +13,7 @@ use access_log::Schedule;
 use elf_load::Image;
 use machine_desc::Machine;
 use noc_mesh::Net;
-use rv_core::DecodedProgram;
+use rv_blocks::DecodedProgram;
 use std::alloc::Global;
 
 /// Runs an image under a schedule: in each interval the cores take their turns in the order of its

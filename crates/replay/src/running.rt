@@ -16,7 +16,7 @@ use domain_map::component_domains;
 use elf_load::Image;
 use machine_desc::Machine;
 use noc_mesh::Net;
-use rv_core::DecodedProgram;
+use rv_blocks::DecodedProgram;
 use std::alloc::Global;
 use std::sync::Wait;
 use std::thread::Threads;

@@ -37,7 +37,7 @@ use elf_load::Image;
 use event_graph::{FiredList, Graph};
 use machine_desc::Machine;
 use noc_mesh::Net;
-use rv_core::DecodedProgram;
+use rv_blocks::DecodedProgram;
 use stats::Counters;
 use std::alloc::Global;
 use std::sync::Wait;

@@ -12,7 +12,7 @@ ghost use Rattle.replay.specs.Turns.{HaveTaken, IsOnItsWay, TakesAccess, TakesNo
 use crate::logged_port::LoggedPort;
 use bound_core::{BoundCore, Turned};
 use noc_mesh::Net;
-use rv_core::DecodedProgram;
+use rv_blocks::DecodedProgram;
 use zs_num::Cycle;
 
 /// Takes the turns of a list, and then has each core end its interval. Where the list is not legal,

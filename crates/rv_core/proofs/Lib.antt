@@ -1,6 +1,7 @@
 pub mod ByteLoads
 pub mod SignExtension
 pub mod Kept
+pub mod Leading
 pub mod Fetches
 pub mod Reached
 pub mod Executes

@@ -2,6 +2,7 @@ pub mod Asked
 pub mod CoreState
 pub mod Accesses
 pub mod Decoded
+pub mod Executions
 pub mod Fetch
 pub mod Effect
 pub mod Step

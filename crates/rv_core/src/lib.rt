@@ -7,7 +7,6 @@ mod ask;
 mod atomics;
 mod calls;
 mod control;
-mod decoded_program;
 mod did;
 mod execute;
 pub mod laws;
@@ -23,9 +22,8 @@ mod step;
 mod why;
 
 pub use ask::Ask;
-pub use decoded_program::DecodedProgram;
 pub use did::Did;
-pub use program::{Fetched, Program};
+pub use program::{Fetched, Program, Ran};
 pub use single::Single;
 pub use state::Core;
 pub use step::Stepped;

@@ -1,9 +1,10 @@
 //! What a core reads its instructions from.
-ghost use Rattle.std.specs.Prelude.{◌≡◌, IfSome};
+ghost use Rattle.std.specs.Prelude.{◌≡◌, ◌≤◌, IfSome};
 ghost use Rattle.elf_load.specs.MemoryImage.{MemoryImage};
 ghost use Rattle.rv_decode.specs.InstructionTable.{decoded};
 ghost use Rattle.rv_core.specs.Fetch.{fetched_at, of_decoded};
 ghost use Rattle.rv_core.specs.Decoded.{HasRegisters};
+ghost use Rattle.rv_core.specs.Executions.{LeadsTo};
 
 use elf_load::Image;
 use rv_decode::{Inst, decode};
@@ -16,6 +17,15 @@ pub enum Fetched {
     /// They are a word that is no instruction.
     NoInstruction { word: u32 },
     Instruction(Inst),
+}
+
+/// How far a program came by itself.
+#[derive(Clone, Copy)]
+pub struct Ran {
+    /// The address of the next instruction.
+    pub pc: u64,
+    /// How many instructions it executed.
+    pub count: u64,
 }
 
 /// A program in memory, as it was loaded. Stores do not change it.
@@ -32,6 +42,12 @@ pub trait Program {
     fn fetch(&self, near: &mut usize, pc: u64) -> Fetched
         ensures value { result ≡ fetched_at (image self.now) pc }
         ensures registers { HasRegisters result };
+
+    /// Executes instructions that change registers and pc alone, from the one at `pc` on: as many as
+    /// the program has at hand, `most` at most.
+    fn run_blocks(&self, registers: &mut [u64; 32], pc: u64, most: u64) -> Ran
+        ensures few { result.count ≤ most }
+        ensures ran { LeadsTo result.count (image self.now) registers.old pc registers.new result.pc };
 }
 
 impl Program for Image {
@@ -49,6 +65,11 @@ impl Program for Image {
             Some(word) => of_word(word),
             None => Fetched::Outside,
         }
+    }
+
+    #[inline(always)]
+    fn run_blocks(&self, _registers: &mut [u64; 32], pc: u64, _most: u64) -> Ran {
+        Ran { pc, count: 0 }
     }
 }
 

@@ -9,6 +9,7 @@ ghost use Rattle.rv_core.specs.CoreState.{ToConsole};
 ghost use Rattle.rv_core.specs.Effect.{ended, goes_on, goes_through, goes_to, halts, register};
 ghost use Rattle.rv_core.specs.Fetch.{fetched_at};
 ghost use Rattle.rv_core.specs.Decoded.{HasRegisters};
+ghost use Rattle.rv_core.specs.Executions.{at, LeadsTo};
 ghost use Rattle.rv_core.specs.Progress.{ending_of, IsNarrow};
 ghost use Rattle.rv_core.specs.Asked.{is_idle, is_in_progress};
 ghost use Rattle.rv_core.specs.Single.{begun};
@@ -202,6 +203,22 @@ impl Core {
         ensures sound { IsSoundCore self.old }
     {
         program.fetch(&mut self.near, self.pc)
+    }
+
+    /// Lets the program execute instructions that change registers and pc alone, `most` at most, and
+    /// answers how many it executed.
+    #[inline(always)]
+    pub fn run_blocks<P: Program>(&mut self, program: &P, most: u64) -> u64
+        requires { IsTrue (is_idle self.old) }
+        ensures few { result ≤ most }
+        ensures ran { LeadsTo result (P.image program.now) self.old.registers self.old.pc self.new.registers self.new.pc }
+        ensures same { self.new ≡ at self.old self.new.registers self.new.pc }
+        ensures sound { IsSoundCore self.new }
+    {
+        rv_decode::laws::fields_are_in_range();
+        let ran = program.run_blocks(&mut self.registers, self.pc, most);
+        self.pc = ran.pc;
+        ran.count
     }
 
     /// Writes a register, unless it is x0, and goes on at an address.

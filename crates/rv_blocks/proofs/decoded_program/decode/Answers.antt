@@ -1,7 +1,7 @@
 use Rattle.std.proofs.Common.{All, arith, subst, sym}
 use Rattle.std.proofs.lemmas.List.Elements.{All-push}
-use Rattle.rv_core.specs.Decoded.{IsDecodedWord}
-use Rattle.rv_core.proofs.decoded_program.decode.Goals as goal
+use Rattle.rv_blocks.specs.Decoded.{IsDecodedWord}
+use Rattle.rv_blocks.proofs.decoded_program.decode.Goals as goal
 
 pub loop-preserved : goal.loop-preserved
 loop-preserved c =

@@ -1,10 +1,15 @@
 //! A program whose words are decoded once.
-ghost use Rattle.std.specs.Prelude.{◌≡◌, ◌+◌, ◌≤◌, All, vec_capacity, vec_len, IfOk, IfSome};
+ghost use Rattle.std.specs.Prelude.{◌≡◌, ◌+◌, ◌*◌, ◌%◌, ◌^◌, ◌≤◌, All, vec_capacity, vec_len, IfOk, IfSome};
 ghost use Rattle.rv_core.specs.Fetch.{fetched_at};
-ghost use Rattle.rv_core.specs.Decoded.{HasRegisters, IsDecodedWord};
+ghost use Rattle.rv_core.specs.Decoded.{HasRegisters};
+ghost use Rattle.rv_blocks.specs.Decoded.{IsDecodedWord};
 
-use crate::{Fetched, Program};
+use crate::blocks::run;
+use crate::making::slots_of;
+use crate::perform::place_of;
+use crate::slot::Slot;
 use elf_load::{Image, Segment};
+use rv_core::{Fetched, Program, Ran};
 use rv_decode::Inst;
 use std::alloc::Global;
 use std::marker::Model;
@@ -46,24 +51,28 @@ impl Span {
 
 /// An executable in memory and its instructions, decoded once for a whole run. What it does not
 /// hold decoded it decodes each time: words past the first 2^20, and those past the bytes of the
-/// file.
+/// file. Those of its first executable segment it also has as slots, in blocks.
 #[derive(Drop)]
 pub struct DecodedProgram<'a> {
     image: &'a Image,
     words: Vec<DecodedWord>,
     spans: Vec<Span>,
+    // The slots, and the address of the instruction for which the first stands.
+    slots: Vec<Slot>,
+    first: u64,
 }
 
 impl<'a> Model for DecodedProgram<'a> {
     ghost use Rattle.std.specs.Prelude.{All};
     ghost use Rattle.elf_load.specs.MemoryImage.{MemoryImage};
-    ghost use Rattle.rv_core.specs.Decoded.{IsDecodedWord};
+    ghost use Rattle.rv_blocks.specs.Decoded.{IsDecodedWord};
+    ghost use Rattle.rv_blocks.specs.Slots.{AreSlots};
 
     ghost Value = { MemoryImage };
 
     ghost view = { λ p. p.image.now };
 
-    ghost invariant = { λ p. All (IsDecodedWord p.image.now) p.words.items };
+    ghost invariant = { λ p. All (IsDecodedWord p.image.now) p.words.items × AreSlots p.image.now p.first p.slots.items };
 }
 
 impl<'a> DecodedProgram<'a> {
@@ -71,10 +80,14 @@ impl<'a> DecodedProgram<'a> {
     pub fn of(alloc: Global, image: &'a Image) -> Result<Self, NoMemory>
         ensures { IfOk result (λ program. program ≡ image.now) }
     {
+        let stretch = stretch_of(image);
+        let slots = slots_of(alloc, image, stretch.first, stretch.count)?;
         let mut program = DecodedProgram {
             image,
             words: Vec::new(alloc),
             spans: Vec::new(alloc),
+            slots,
+            first: stretch.first,
         };
         for segment in image.segments() {
             program.add(segment)?;
@@ -89,20 +102,16 @@ impl<'a> DecodedProgram<'a> {
         if !segment.exec {
             return Ok(());
         }
-        // The first address of the segment that is a multiple of 4, as those of instructions are.
-        let skipped = (WORD - segment.vaddr % WORD) % WORD;
-        let first = segment.vaddr.wrapping_add(skipped);
-        let bytes = segment.bytes.as_slice().len();
-        let whole = bytes.saturating_sub(skipped as usize) / WORD as usize;
+        let stretch = words_of(segment);
         let place = self.words.len();
-        let count = whole.min(MOST_WORDS.saturating_sub(place));
+        let count = stretch.count.min(MOST_WORDS.saturating_sub(place));
         self.words.reserve(count)?;
         self.spans.push(Span {
-            first,
+            first: stretch.first,
             place,
             count,
         })?;
-        decode(&mut self.words, self.image, first, count);
+        decode(&mut self.words, self.image, stretch.first, count);
         Ok(())
     }
 
@@ -117,6 +126,58 @@ impl<'a> DecodedProgram<'a> {
             Some(word) if word.pc == pc => Some(&word.fetched),
             _ => None,
         }
+    }
+}
+
+/// So many words, from an address on.
+#[derive(Clone, Copy)]
+struct Words {
+    first: u64,
+    count: usize,
+}
+
+/// The words of a segment.
+fn words_of(segment: &Segment) -> Words {
+    // The first address of the segment that is a multiple of 4, as those of instructions are.
+    let skipped = (WORD - segment.vaddr % WORD) % WORD;
+    Words {
+        first: segment.vaddr.wrapping_add(skipped),
+        count: segment
+            .bytes
+            .as_slice()
+            .len()
+            .saturating_sub(skipped as usize)
+            / WORD as usize,
+    }
+}
+
+/// The words for which there are slots: those of the first executable segment, as far as there is
+/// room.
+fn stretch_of(image: &Image) -> Words
+    ensures memory { result.first + 4 * (result.count + 1) ≤ 2 ^ 48 }
+    ensures aligned { result.first % 4 ≡ 0 }
+{
+    for segment in image.segments() {
+        if segment.exec {
+            return within_room(words_of(segment));
+        }
+    }
+    Words { first: 0, count: 0 }
+}
+
+/// The same words, as far as there is room for them; none where they do not lie as instructions do.
+fn within_room(words: Words) -> Words
+    ensures memory { result.first + 4 * (result.count + 1) ≤ 2 ^ 48 }
+    ensures aligned { result.first % 4 ≡ 0 }
+{
+    let count = words.count.min(MOST_WORDS);
+    if words.first % WORD == 0 && words.first < 1 << 47 {
+        Words {
+            first: words.first,
+            count,
+        }
+    } else {
+        Words { first: 0, count: 0 }
     }
 }
 
@@ -155,6 +216,18 @@ impl Program for DecodedProgram<'_> {
         match self.word_at(*near, pc) {
             Some(fetched) => *fetched,
             None => self.image.fetch(&mut 0, pc),
+        }
+    }
+
+    #[inline(never)]
+    fn run_blocks(&self, registers: &mut [u64; 32], pc: u64, most: u64) -> Ran {
+        let Some(place) = place_of(pc, self.first, self.slots.len()) else {
+            return Ran { pc, count: 0 };
+        };
+        let rest = run(self.image, &self.slots, self.first, registers, place, most);
+        Ran {
+            pc: self.first + 4 * rest.place as u64,
+            count: most - rest.left,
         }
     }
 }

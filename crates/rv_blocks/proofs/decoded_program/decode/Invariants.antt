@@ -1,7 +1,7 @@
 -- the words so far are decoded, and there is room for the others
 use Rattle.std.proofs.Common.{◌≡◌, ◌≤◌, ◌+◌, All, vec_len, vec_capacity}
-use Rattle.rv_core.specs.Decoded.{IsDecodedWord}
-use Rattle.rv_core.proofs.decoded_program.decode.Given as goal
+use Rattle.rv_blocks.specs.Decoded.{IsDecodedWord}
+use Rattle.rv_blocks.proofs.decoded_program.decode.Given as goal
 
 abbrev pub invariant-loop : goal.invariant-loop
 invariant-loop l = record {

@@ -1,0 +1,78 @@
+-- A slot that goes on is one instruction more, and what it costs is what is left of its block.
+use Rattle.std.proofs.Common.{◌≡◌, ℕ, suc, ◌+◌, ◌-◌, ◌*◌, ◌≤◌, Bool, true, false, List, Option, Some, length, refl, ap, sym, ◌∙◌, arith, subst, IsTrue}
+use Rattle.std.specs.Prelude.{if◌then◌else◌, slice_get, IfSome}
+use Rattle.elf_load.specs.MemoryImage.{MemoryImage}
+use Rattle.rv_core.specs.CoreState.{CoreState}
+use Rattle.rv_core.specs.Step.{executed}
+use Rattle.rv_blocks.specs.declared.slot.Slot.{Slot}
+use Rattle.rv_core.specs.Executions.{at, LeadsTo}
+use Rattle.rv_blocks.specs.Slots.{Placed, Stretch, does, is_plain, left_at, left_of, name_of, AreSlots}
+
+cost_on : (test : Bool) (m n : ℕ) → IsTrue test → (if test then m else n) ≡ m
+cost_on true m n holds = refl
+cost_on false m n holds = cc
+
+cost_off : (test : Bool) (m n : ℕ) → test ≡ false → (if test then m else n) ≡ n
+cost_off true m n fails = cc
+cost_off false m n fails = refl
+
+cost_some : (test : Bool) (m : ℕ) → 1 ≤ (if test then 1 + m else 1)
+cost_some true m = omega arith
+cost_some false m = omega arith
+
+one_more : (budget left cost after : ℕ) → cost ≡ 1 + after → left + cost ≤ budget → suc (budget - (left + cost)) ≡ budget - (left + after)
+one_more budget left cost after more paid = omega (arith, more, paid)
+
+last_one : (budget left cost : ℕ) → cost ≡ 1 → left + cost ≤ budget → suc (budget - (left + cost)) ≡ budget - left
+last_one budget left cost last paid = omega (arith, last, paid)
+
+paid_next : (budget left cost next : ℕ) → next ≡ cost → cost ≤ left → budget - left ≡ budget - (left - cost + next)
+paid_next budget left cost next same enough = omega (arith, same, enough)
+
+module _ (image : MemoryImage) (first : ℕ) (slots : List Slot) (are : AreSlots image first slots) (place : ℕ) (slot : Slot) (here : slice_get slots place ≡ Some slot) where
+  pub costs : left_at slots place ≡ slot.left
+  costs = ap left_of here
+
+  pub costs_some : 1 ≤ left_at slots place
+  costs_some = subst (λ n. 1 ≤ n) (sym (costs ∙ are.counted place slot here)) (cost_some (is_plain (name_of slot)) (left_at slots (place + 1)))
+
+  pub costs_more : IsTrue (is_plain (name_of slot)) → left_at slots place ≡ 1 + left_at slots (place + 1)
+  costs_more plain = costs ∙ are.counted place slot here ∙ cost_on (is_plain (name_of slot)) (1 + left_at slots (place + 1)) 1 plain
+
+  pub costs_last : is_plain (name_of slot) ≡ false → left_at slots place ≡ 1
+  costs_last ends = costs ∙ are.counted place slot here ∙ cost_off (is_plain (name_of slot)) (1 + left_at slots (place + 1)) 1 ends
+
+  pub one_further : (n : ℕ) (x y z : List ℕ) (pc next : ℕ) → LeadsTo n image x pc y (first + 4 * place)
+      → Some (record { registers = z; place = next }) ≡ does (name_of slot) (record { first = first; count = length slots }) slot (record { registers = y; place = place })
+      → LeadsTo (suc n) image x pc z (first + 4 * next)
+  one_further n x y z pc next led value =
+      let stretch : Stretch = record { first = first; count = length slots } in
+      let P : CoreState → Option Placed → Type 0 = λ core o. IfSome o (λ after. executed image (at core y (first + 4 * place)) ≡ at core after.registers (first + 4 * after.place)) in
+      (y, (first + 4 * place, (led, λ core. subst (P core) (sym value) (are.stand place slot here core y))))
+
+  pub goes_on : (budget left : ℕ) (x y z : List ℕ) (pc : ℕ) → left + left_at slots place ≤ budget
+      → LeadsTo (budget - (left + left_at slots place)) image x pc y (first + 4 * place)
+      → Some (record { registers = z; place = place + 1 }) ≡ does (name_of slot) (record { first = first; count = length slots }) slot (record { registers = y; place = place })
+      → IsTrue (is_plain (name_of slot))
+      → LeadsTo (budget - (left + left_at slots (place + 1))) image x pc z (first + 4 * (place + 1))
+  goes_on budget left x y z pc paid led value plain =
+      let P : ℕ → Type 0 = λ n. LeadsTo n image x pc z (first + 4 * (place + 1)) in
+      subst P (one_more budget left (left_at slots place) (left_at slots (place + 1)) (costs_more plain) paid)
+      (one_further (budget - (left + left_at slots place)) x y z pc (place + 1) led value)
+
+  pub goes_to : (budget left : ℕ) (x y z : List ℕ) (pc next : ℕ) → left + left_at slots place ≤ budget
+      → LeadsTo (budget - (left + left_at slots place)) image x pc y (first + 4 * place)
+      → Some (record { registers = z; place = next }) ≡ does (name_of slot) (record { first = first; count = length slots }) slot (record { registers = y; place = place })
+      → is_plain (name_of slot) ≡ false
+      → LeadsTo (budget - left) image x pc z (first + 4 * next)
+  goes_to budget left x y z pc next paid led value ends =
+      let P : ℕ → Type 0 = λ n. LeadsTo n image x pc z (first + 4 * next) in
+      subst P (last_one budget left (left_at slots place) (costs_last ends) paid)
+      (one_further (budget - (left + left_at slots place)) x y z pc next led value)
+
+pub pays : (image : MemoryImage) (budget left cost : ℕ) (slots : List Slot) (x z : List ℕ) (pc pc_after next : ℕ) → left_at slots next ≡ cost → cost ≤ left
+    → LeadsTo (budget - left) image x pc z pc_after
+    → LeadsTo (budget - (left - cost + left_at slots next)) image x pc z pc_after
+pays image budget left cost slots x z pc pc_after next same enough led =
+    let P : ℕ → Type 0 = λ n. LeadsTo n image x pc z pc_after in
+    subst P (paid_next budget left cost (left_at slots next) same enough) led

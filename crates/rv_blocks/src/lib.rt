@@ -1,0 +1,15 @@
+//! A program that is decoded once: its words, and its instructions in a dense form, with a loop over
+//! those that need no memory. That goes by blocks, instructions without a jump, each of which is paid
+//! for at its entry.
+#![tactic(auto)]
+
+mod blocks;
+mod decoded_program;
+mod dense;
+mod flow;
+mod join;
+mod making;
+mod perform;
+mod slot;
+
+pub use decoded_program::DecodedProgram;
