@@ -11,6 +11,7 @@ pub mod Instructions
 pub mod IntervalHistory
 pub mod Intervals
 pub mod Lists
+mod LedOn
 pub mod LittleEndian
 pub mod LoadsStores
 pub mod MachineRuns

@@ -368,7 +368,7 @@ impl BoundCore {
         } else if self.core.is_fetching() {
             self.run_fetching(program, end)
         } else {
-            self.run_on::<P, Unfetched>(program, end, false)
+            self.run_in_blocks(program, end)
         }
     }
 
@@ -457,35 +457,115 @@ impl BoundCore {
         if self.core.is_fetched() {
             None
         } else {
-            self.run_on::<P, WithinLine>(program, end, true)
+            self.run_on(program, end)
         }
     }
 
-    /// Executes instructions that do not have to be fetched: of a core that fetches, those that stand
-    /// in the line of its latest fetch. It ends at an access that the core met, which is counted and
-    /// not begun.
+    /// Those of a core that does not fetch: blocks of them where the program has them at hand, and
+    /// the others one by one.
     #[inline(always)]
-    fn run_on<P: Program, T>(&mut self, program: &P, end: Cycle, fetching: bool) -> Option<Single>
-        requires fetching { self.old.timed.core.fetching ≡ fetching }
+    fn run_in_blocks<P: Program>(&mut self, program: &P, end: Cycle) -> Option<Single>
+        requires fetching { self.old.timed.core.fetching ≡ false }
         requires unfetched { self.old.timed.core.is_fetched ≡ false }
         requires pace { self.old.timed.pace ≡ None }
         ensures same_end { ran_to (P.image program.now) end (begun_in_time result self.new.timed) ≡ ran_to (P.image program.now) end self.old.timed }
-        ensures stops { fetching ≡ false → goes_on_alone end (begun_in_time result self.new.timed) ≡ false }
+        ensures stops { goes_on_alone end (begun_in_time result self.new.timed) ≡ false }
+        ensures begun { self.old.timed.clock ≤ self.new.timed.clock }
+        ensures within { self.new.timed.clock ≤ max self.old.timed.clock end }
+        ensures number { self.new.number ≡ self.old.number }
+        ensures memory { self.new.timed.core.memory ≡ self.old.timed.core.memory }
+        ensures fetching { self.new.timed.core.fetching ≡ false }
+        ensures spare { self.new.spare ≡ self.old.spare }
+    {
+        let cycles = end.saturating_sub(self.clock);
+        let mut counted = 0;
+        let mut did = Did::of(self.core.is_free());
+        while did.goes_on() && counted < cycles {
+            did = self.advance(program, end, cycles, &mut counted);
+        }
+        self.clock += counted;
+        self.instructions += counted;
+        did.met()
+    }
+
+    /// Executes blocks of instructions, and then the next instruction where the interval has not
+    /// ended. `most` may be counted before the end.
+    #[inline(always)]
+    fn advance<P: Program>(&mut self, program: &P, end: Cycle, most: u64, counted: &mut u64) -> Did
+        requires free { IsTrue (is_free self.old.timed.core) }
+        requires fetching { self.old.timed.core.fetching ≡ false }
+        requires unfetched { self.old.timed.core.is_fetched ≡ false }
+        requires pace { self.old.timed.pace ≡ None }
+        requires few { counted.old < most }
+        requires end { self.old.timed.clock + most ≤ end }
+        ensures same_end { ran_to (P.image program.now) end (begun_in_time (met_by result) (ahead counted.new self.new.timed)) ≡ ran_to (P.image program.now) end (ahead counted.old self.old.timed) }
+        ensures next { comes_to_next result ≡ is_free (begun_if (met_by result) self.new.timed.core) }
+        ensures unfetched { self.new.timed.core.is_fetched ≡ false }
+        ensures few { counted.new ≤ most }
+        ensures nearer { 2 * (most - counted.new) + going (comes_to_next result) ≤ 2 * (most - counted.old) }
+        ensures clock { self.new.timed.clock ≡ self.old.timed.clock }
+        ensures number { self.new.number ≡ self.old.number }
+        ensures memory { self.new.timed.core.memory ≡ self.old.timed.core.memory }
+        ensures fetching { self.new.timed.core.fetching ≡ false }
+        ensures spare { self.new.spare ≡ self.old.spare }
+        ensures pace { self.new.timed.pace ≡ None }
+    {
+        self.run_blocks(program, end, most, counted);
+        if *counted < most {
+            self.step::<P, Unfetched>(program, counted)
+        } else {
+            Did::GoesOn
+        }
+    }
+
+    /// Executes blocks of instructions, as far as the program has them at hand, and counts them, as
+    /// `step` does.
+    #[inline(always)]
+    fn run_blocks<P: Program>(&mut self, program: &P, _end: Cycle, most: u64, counted: &mut u64)
+        requires free { IsTrue (is_free self.old.timed.core) }
+        requires fetching { self.old.timed.core.fetching ≡ false }
+        requires unfetched { self.old.timed.core.is_fetched ≡ false }
+        requires pace { self.old.timed.pace ≡ None }
+        requires few { counted.old ≤ most }
+        requires end { self.old.timed.clock + most ≤ _end }
+        ensures same_end { ran_to (P.image program.now) _end (ahead counted.new self.new.timed) ≡ ran_to (P.image program.now) _end (ahead counted.old self.old.timed) }
+        ensures free { IsTrue (is_free self.new.timed.core) }
+        ensures unfetched { self.new.timed.core.is_fetched ≡ false }
+        ensures few { counted.new ≤ most }
+        ensures more { counted.old ≤ counted.new }
+        ensures clock { self.new.timed.clock ≡ self.old.timed.clock }
+        ensures number { self.new.number ≡ self.old.number }
+        ensures memory { self.new.timed.core.memory ≡ self.old.timed.core.memory }
+        ensures fetching { self.new.timed.core.fetching ≡ false }
+        ensures spare { self.new.spare ≡ self.old.spare }
+        ensures pace { self.new.timed.pace ≡ None }
+    {
+        *counted += self.core.run_blocks(program, most - *counted);
+    }
+
+    /// Executes the instructions of a core that fetches, as far as they stand in the line of its
+    /// latest fetch. It ends at an access that the core met, which is counted and not begun.
+    #[inline(always)]
+    fn run_on<P: Program>(&mut self, program: &P, end: Cycle) -> Option<Single>
+        requires fetching { IsTrue self.old.timed.core.fetching }
+        requires unfetched { self.old.timed.core.is_fetched ≡ false }
+        requires pace { self.old.timed.pace ≡ None }
+        ensures same_end { ran_to (P.image program.now) end (begun_in_time result self.new.timed) ≡ ran_to (P.image program.now) end self.old.timed }
         ensures unfetched { self.new.timed.core.is_fetched ≡ false }
         ensures begun { self.old.timed.clock ≤ self.new.timed.clock }
         ensures within { self.new.timed.clock ≤ max self.old.timed.clock end }
         ensures nearer { 2 * (end - self.new.timed.clock) + going (is_free (begun_if result self.new.timed.core)) ≤ 2 * (end - self.old.timed.clock) + going (is_free self.old.timed.core) }
         ensures number { self.new.number ≡ self.old.number }
         ensures memory { self.new.timed.core.memory ≡ self.old.timed.core.memory }
-        ensures fetching { self.new.timed.core.fetching ≡ fetching }
+        ensures fetching { IsTrue self.new.timed.core.fetching }
         ensures spare { self.new.spare ≡ self.old.spare }
         ensures pace { self.new.timed.pace ≡ None }
     {
         let most = end.saturating_sub(self.clock);
         let mut counted = 0;
         let mut did = Did::of(self.core.is_free());
-        while did.goes_on() && counted < most && self.is_there(program, fetching) {
-            did = self.step::<P, T>(program, &mut counted);
+        while did.goes_on() && counted < most && self.is_there(program) {
+            did = self.step::<P, WithinLine>(program, &mut counted);
         }
         self.clock += counted;
         self.instructions += counted;
@@ -494,12 +574,10 @@ impl BoundCore {
 
     /// Whether the next instruction does not have to be fetched, by the line in which it stands.
     #[inline(always)]
-    fn is_there<P: Program>(&self, _program: &P, fetching: bool) -> bool
-        requires { self.now.timed.core.fetching ≡ fetching }
-        ensures there { IsTrue result → needs_fetch (P.image _program.now) self.now.timed.core ≡ false }
-        ensures never { fetching ≡ false → IsTrue result }
+    fn is_there<P: Program>(&self, _program: &P) -> bool
+        ensures { IsTrue result → needs_fetch (P.image _program.now) self.now.timed.core ≡ false }
     {
-        !fetching || self.core.is_in_latest_line()
+        self.core.is_in_latest_line()
     }
 
     /// The next step of a core with a pipeline: it asks for its next instruction, or executes it,

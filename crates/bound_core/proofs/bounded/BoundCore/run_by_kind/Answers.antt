@@ -1,4 +1,4 @@
-use Rattle.std.proofs.Common.{◌∙◌, ap, arith, refl, sym}
+use Rattle.std.proofs.Common.{◌∙◌, ap, arith, sym}
 use Rattle.bound_core.specs.TimedCore.{TimedCore}
 use Rattle.bound_core.specs.Met.{begun_in_time}
 use Rattle.bound_core.proofs.Instructions.{ran_later, ran_stays, ran_within}
@@ -26,4 +26,4 @@ returns-then-is_fetching-clause-within g c =
 
 pub returns-else-is_fetching-clause-value : goal.returns-else-is_fetching-clause-value
 returns-else-is_fetching-clause-value g c =
-    sym (ran_stays (g.P.Program.image c.args.program.now) c.args.end (begun_in_time c.run_on.result c.run_on.new.self.timed) (c.run_on.ensures.stops refl)) ∙ c.run_on.ensures.same_end
+    sym (ran_stays (g.P.Program.image c.args.program.now) c.args.end (begun_in_time c.run_in_blocks.result c.run_in_blocks.new.self.timed) c.run_in_blocks.ensures.stops) ∙ c.run_in_blocks.ensures.same_end

@@ -1,5 +1,5 @@
 -- what is left to run leads to the same end
-use Rattle.std.proofs.Common.{◌≡◌, ◌≤◌, ◌+◌, ◌-◌, ◌*◌, false, None}
+use Rattle.std.proofs.Common.{◌≡◌, ◌≤◌, ◌+◌, ◌-◌, ◌*◌, false, None, IsTrue}
 use Rattle.rv_core.specs.Single.{begun_if, comes_to_next, met_by}
 use Rattle.rv_core.specs.Step.{is_free}
 use Rattle.bound_core.specs.TimedCore.{ran_to}
@@ -12,7 +12,7 @@ invariant-loop-self g l =
     let image = g.P.Program.image l.program in
     record {
       free : comes_to_next l.did ≡ is_free (begun_if (met_by l.did) l.self.timed.core);
-      fetching : l.self.timed.core.fetching ≡ l.fetching;
+      fetching : IsTrue l.self.timed.core.fetching;
       unfetched : l.self.timed.core.is_fetched ≡ false;
       same_end : ran_to image l.end (begun_in_time (met_by l.did) (ahead l.counted l.self.timed)) ≡ ran_to image l.end l.initial.self.timed;
       nearer : 2 * (l.most - l.counted) + going (comes_to_next l.did) ≤ 2 * l.most + going (is_free l.initial.self.timed.core);
