@@ -12,7 +12,7 @@ use Rattle.event_graph.specs.declared.piece.Piece.{Piece}
 use Rattle.event_graph.specs.EventGraph.{all_events}
 use Rattle.event_graph.specs.OneListWeave.{FiredEvent, after_firings, weave}
 use Rattle.event_graph.specs.TimingSolution.{IsInOrder}
-use Rattle.weave_chains.specs.declared.chain.Chain.{Chain}
+use Rattle.weave_chains.specs.States.{ChainState}
 use Rattle.weave_chains.specs.declared.tally.Served.{Served}
 use Rattle.weave_chains.specs.declared.tally.Tally.{Tally}
 use Rattle.weave_chains.specs.Rounds.{HasCome}
@@ -25,7 +25,7 @@ pub none_fired : {C : Type 0} (stepped : C → Kind → ℕ → C × ℕ) (event
 unfolding after_firings
 none_fired stepped events first = refl
 
-pub begins : {C : Type 0} (stepped : C → Kind → ℕ → C × ℕ) (pieces : Entry → List Piece) (entries : List Entry) (first : List C) (chains : List Chain) (keys : List Key) (comps : List C) (tallies : List Tally)
+pub begins : {C : Type 0} (stepped : C → Kind → ℕ → C × ℕ) (pieces : Entry → List Piece) (entries : List Entry) (first : List C) (chains : List ChainState) (keys : List Key) (comps : List C) (tallies : List Tally)
     → HasCome stepped pieces entries first 0 chains keys comps → AreTallied [] tallies → HaveFired stepped pieces entries first 0 chains keys comps tallies
 begins stepped pieces entries first chains keys comps tallies come none = record {
   come = come;
@@ -57,7 +57,7 @@ module _ {C : Type 0} (stepped : C → Kind → ℕ → C × ℕ) (pieces : Entr
     (prefix : (after_firings stepped (all_events pieces entries) first (n + 1)).fired ≡ take (n + 1) (weave stepped (all_events pieces entries) first).fired)
     (x : FiredEvent) (x_is : (after_firings stepped (all_events pieces entries) first (n + 1)).fired ≡ (after_firings stepped (all_events pieces entries) first n).fired ++ x ∷ [])
     (s : Served) (s_is : s ≡ served_of x)
-    (chains : List Chain) (keys : List Key) (comps : List C) (tallies : List Tally) (have : HaveFired stepped pieces entries first n chains keys comps tallies)
+    (chains : List ChainState) (keys : List Key) (comps : List C) (tallies : List Tally) (have : HaveFired stepped pieces entries first n chains keys comps tallies)
     (t : Tally) (t_at : slice_get tallies s.component ≡ Some t) where
   abbrev fired : List FiredEvent
   fired = (after_firings stepped (all_events pieces entries) first n).fired
@@ -71,7 +71,7 @@ module _ {C : Type 0} (stepped : C → Kind → ℕ → C × ℕ) (pieces : Entr
   t_there : slice_get tallies x.event.component ≡ Some t
   t_there = subst (λ k. slice_get tallies k ≡ Some t) component_is t_at
 
-  pub goes_on : (chains' : List Chain) (keys' : List Key) (comps' : List C) → HasCome stepped pieces entries first (n + 1) chains' keys' comps' → ties t.last s ≡ false
+  pub goes_on : (chains' : List ChainState) (keys' : List Key) (comps' : List C) → HasCome stepped pieces entries first (n + 1) chains' keys' comps' → ties t.last s ≡ false
       → HaveFired stepped pieces entries first (n + 1) chains' keys' comps' (slice_set tallies s.component (taken t s))
   goes_on chains' keys' comps' come untied = record {
     come = come;

@@ -60,8 +60,7 @@ module _ (xs : List FiredEvent) (order : IsInOrder xs) (x y : FiredEvent) (event
 abbrev event_of : FiredEvent → Event
 event_of x = x.event
 
-module _ (events : List Event) (numbered : IsNumbered events) (fired : List FiredEvent) (once : IsPermutation events (map (λ (x : FiredEvent). x.event) fired)) (order : IsInOrder fired)
-    (rules : (x : FiredEvent) → Contains fired x → FiredByTheRules events fired x) where
+module _ (events : List Event) (fired : List FiredEvent) (once : IsPermutation events (map (λ (x : FiredEvent). x.event) fired)) where
   fired_as : (e : Event) → In e events → (x : FiredEvent) × (In x fired × (x.event ≡ e))
   fired_as e m = from_map event_of e fired (in_contains e (map event_of fired) (Contains-permutation events (map event_of fired) e once (contains_in e events m)))
 
@@ -70,6 +69,8 @@ module _ (events : List Event) (numbered : IsNumbered events) (fired : List Fire
       let x : (x : FiredEvent) × (In x fired × (x.event ≡ e)) = fired_as e m in
       is_fired_from_in fired x.0 e.number x.1.0 (ap (λ (z : Event). z.number) x.1.1)
 
+module _ (events : List Event) (numbered : IsNumbered events) (fired : List FiredEvent) (once : IsPermutation events (map (λ (x : FiredEvent). x.event) fired)) (order : IsInOrder fired)
+    (rules : (x : FiredEvent) → Contains fired x → FiredByTheRules events fired x) where
   among : (x : FiredEvent) → In x fired → In x.event events
   among x m =
       in_contains x.event events (Contains-permutation (map event_of fired) events x.event (IsPermutation-sym events (map event_of fired) once) (contains_in x.event (map event_of fired) (in_map event_of x fired m)))

@@ -1,6 +1,5 @@
 -- Accesses in another order make as many events.
-use Rattle.std.proofs.Common.{◌≡◌, ◌+◌, ◌==◌, ◌<◌, ◌≤◌, ℕ, zero, suc, false, List, [], ◌∷◌, length, Some, inl, inr, sum_by, sym, ◌∙◌, ap, subst, refl, arith, nat_lt}
-use Rattle.std.specs.Prelude.{slice_get}
+use Rattle.std.proofs.Common.{◌≡◌, ◌+◌, ◌==◌, ◌<◌, ◌≤◌, ℕ, zero, suc, false, List, [], ◌∷◌, inl, inr, sum_by, sym, ◌∙◌, ap, subst, refl, arith, nat_lt}
 use Rattle.std.specs.List.{filter}
 use Rattle.std.proofs.lemmas.Bool.{cases_eq, cases_lt, cond-false, cond-true, eq-eqb, lt-ltb, ne_eqb}
 use Rattle.std.proofs.lemmas.Bool.Decides.{nat_tests}
@@ -24,11 +23,6 @@ all_below cores [] known = refl
 all_below cores (e ∷ entries) known =
     cond-true (nat_lt e.core cores) (e ∷ below cores entries) (below cores entries) (lt-ltb e.core cores (known e (inl refl)))
     ∙ ap (λ zs. e ∷ zs) (all_below cores entries (λ d m. known d (inr m)))
-
--- each counts at least one
-pub no_more : (weight : Entry → ℕ) (entries : List Entry) → ((i : ℕ) (e : Entry) → slice_get entries i ≡ Some e → 0 < weight e) → length entries ≤ sum_by weight entries
-no_more weight [] some = omega arith
-no_more weight (e ∷ entries) some = omega (arith, some 0 e refl, no_more weight entries (λ i d at. some (suc i) d at), sum_by-cons weight e entries)
 
 module _ (weight : Entry → ℕ) where
   abbrev total : (cores : ℕ) → List Entry → ℕ

@@ -10,12 +10,12 @@ use Rattle.event_graph.specs.Critical.{last_critical}
 use Rattle.event_graph.specs.EventGraph.{all_events}
 use Rattle.event_graph.specs.OneListWeave.{finish_in}
 use Rattle.event_graph.specs.PlacedEvents.{IsEventOf, events_before, first_number}
-use Rattle.weave_chains.specs.declared.chain.Chain.{Chain}
+use Rattle.weave_chains.specs.States.{ChainState}
 use Rattle.weave_chains.specs.Chains.{IsChain, ended_of}
 use Rattle.weave_chains.specs.GraphFacts.{ArePlaced}
 use Rattle.weave_chains.proofs.Popped.{core_is, first_rises}
 
-module _ (pieces : Entry → List Piece) (entries : List Entry) (placed : ArePlaced pieces entries) (core : ℕ) (c : Chain) (from : c.access ≤ c.end) (within : c.end ≤ length entries)
+module _ (pieces : Entry → List Piece) (entries : List Entry) (placed : ArePlaced pieces entries) (core : ℕ) (c : ChainState) (from : c.access ≤ c.end) (within : c.end ≤ length entries)
     (own : (i : ℕ) (e : Entry) → slice_get entries i ≡ Some e → c.access ≤ i → i < c.end → e.core ≡ core)
     (all : (i : ℕ) (e : Entry) → slice_get entries i ≡ Some e → e.core ≡ core → (c.access ≤ i) × (i < c.end))
     (some : (i : ℕ) (e : Entry) → slice_get entries i ≡ Some e → 0 < length (pieces e)) (place : c.place ≡ 0) (sized : length c.ended ≡ 64) (last : c.last ≡ None) where

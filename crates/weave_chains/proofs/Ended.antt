@@ -19,7 +19,7 @@ use Rattle.event_graph.specs.OneListWeave.{FiredEvent, finish_in, is_fired}
 use Rattle.event_graph.specs.PlacedEvents.{events_before}
 use Rattle.event_graph.proofs.Lists.{In, at_in, from_map, get_some}
 use Rattle.feedback.specs.FeedbackDelay.{delay_of, feedback_delays, fired_finish}
-use Rattle.weave_chains.specs.declared.chain.Chain.{Chain}
+use Rattle.weave_chains.specs.States.{ChainState}
 use Rattle.weave_chains.specs.declared.chain.Ended.{Ended}
 use Rattle.weave_chains.specs.Chains.{IsChain, delay_by, ended_of, next_number}
 use Rattle.weave_chains.specs.GraphFacts.{ArePlaced}
@@ -83,12 +83,9 @@ by_last : (fired : List FiredEvent) (times : List Fired) (o : Option Event) → 
 by_last fired times None h = refl
 by_last fired times (Some e) h = ap (λ n. n - e.min_finish) (sym (h e refl))
 
-module _ (pieces : Entry → List Piece) (entries : List Entry) (placed : ArePlaced pieces entries) (fired : List FiredEvent) (times : List Fired)
-    (all : (e : Event) → In e (all_events pieces entries) → is_fired fired e.number ≡ true)
-    (stands : (core : ℕ) (e : Event) → last_critical core (all_events pieces entries) ≡ Some e → slice_get (all_events pieces entries) e.number ≡ Some e)
-    (times_are : map (time_so_far fired) (all_events pieces entries) ≡ times) where
+module _ (pieces : Entry → List Piece) (entries : List Entry) (placed : ArePlaced pieces entries) (fired : List FiredEvent) (all : (e : Event) → In e (all_events pieces entries) → is_fired fired e.number ≡ true) where
   -- every chain is over
-  over : (core : ℕ) (c : Chain) → IsChain pieces entries fired core c → c.end ≤ c.access
+  pub over : (core : ℕ) (c : ChainState) → IsChain pieces entries fired core c → c.end ≤ c.access
   over core c is =
       elim (cases_lt c.access c.end) [
         | inl on ↦
@@ -102,19 +99,23 @@ module _ (pieces : Entry → List Piece) (entries : List Entry) (placed : ArePla
         | inr not ↦ not
       ]
 
+module _ (pieces : Entry → List Piece) (entries : List Entry) (placed : ArePlaced pieces entries) (fired : List FiredEvent) (times : List Fired)
+    (all : (e : Event) → In e (all_events pieces entries) → is_fired fired e.number ≡ true)
+    (stands : (core : ℕ) (e : Event) → last_critical core (all_events pieces entries) ≡ Some e → slice_get (all_events pieces entries) e.number ≡ Some e)
+    (times_are : map (time_so_far fired) (all_events pieces entries) ≡ times) where
   finish_at : (e : Event) → slice_get (all_events pieces entries) e.number ≡ Some e → fired_finish times e.number ≡ finish_in fired e.number
   finish_at e at =
       ap (λ o. option_map_or (λ (f : Fired). f.finish) o 0)
       (ap (λ ts. slice_get ts e.number) (sym times_are) ∙ (slice_get-map (time_so_far fired) (all_events pieces entries) e.number ∙ ap (option_map (time_so_far fired)) at))
 
-  pub delay_is : (core : ℕ) (c : Chain) → IsChain pieces entries fired core c → delay_by c ≡ delay_of (all_events pieces entries) times core
+  pub delay_is : (core : ℕ) (c : ChainState) → IsChain pieces entries fired core c → delay_by c ≡ delay_of (all_events pieces entries) times core
   delay_is core c is =
       let last : last_critical core (all_events pieces entries) ≡ last_critical core (events_before pieces entries c.access) =
-      last_of_core pieces core entries c.access (λ i e at from of. omega (arith, is.all i e at of, over core c is, from))
+      last_of_core pieces core entries c.access (λ i e at from of. omega (arith, is.all i e at of, over pieces entries placed fired all core c is, from))
       in
       ap (λ o. option_map_or (λ (d : Ended). d.finish - d.at_zero_load) o 0) (is.last ∙ ap (option_map (ended_of (finish_in fired))) (sym last))
       ∙ by_last fired times (last_critical core (all_events pieces entries)) (λ e found. finish_at e (stands core e found))
 
-  pub delays_are : (chains : List Chain) → ((core : ℕ) (c : Chain) → slice_get chains core ≡ Some c → IsChain pieces entries fired core c)
+  pub delays_are : (chains : List ChainState) → ((core : ℕ) (c : ChainState) → slice_get chains core ≡ Some c → IsChain pieces entries fired core c)
       → map delay_by chains ≡ feedback_delays (all_events pieces entries) times (length chains)
   delays_are chains are = by_places delay_by (delay_of (all_events pieces entries) times) chains 0 (λ core c at. let place : core ≡ 0 + core = omega arith in delay_is core c (are core c at) ∙ ap (delay_of (all_events pieces entries) times) place)

@@ -13,29 +13,29 @@ use Rattle.event_graph.specs.Expansion.{ParentsComeBefore}
 use Rattle.event_graph.specs.OneListWeave.{finish_in, start_of}
 use Rattle.event_graph.specs.PlacedEvents.{events_before}
 use Rattle.event_graph.proofs.Lists.{contains_in, in_contains}
-use Rattle.weave_chains.specs.declared.chain.Chain.{Chain}
+use Rattle.weave_chains.specs.States.{ChainState}
 use Rattle.weave_chains.specs.Beginning.{AreFresh, IsFresh}
 use Rattle.weave_chains.specs.Chains.{AreReady, IsChain, IsReady, next_number, start_by}
 use Rattle.weave_chains.specs.GraphFacts.{ArePlaced}
-use Rattle.weave_chains.specs.Rounds.{AreChained}
+use Rattle.weave_chains.specs.Rounds.{AreInChains}
 use Rattle.weave_chains.proofs.Begun.{begins}
 use Rattle.weave_chains.proofs.Rounds.{from_put, in_put, one_more}
 use Rattle.weave_chains.proofs.Starts.{start_is}
 
 -- the first chains have their keys
-pub record HaveKeys (pieces : Entry → List Piece) (entries : List Entry) (chains : List Chain) (cores : ℕ) (keys : List Key) : Type 0 where
+pub record HaveKeys (pieces : Entry → List Piece) (entries : List Entry) (chains : List ChainState) (cores : ℕ) (keys : List Key) : Type 0 where
   pub each : (k : Key) → Contains keys k → IsReady pieces entries [] chains k
   pub early : (k : Key) → Contains keys k → k.number < cores
-  pub all : (core : ℕ) (c : Chain) → core < cores → slice_get chains core ≡ Some c → c.access < c.end → (k : Key) × (Contains keys k × (k.number ≡ core))
+  pub all : (core : ℕ) (c : ChainState) → core < cores → slice_get chains core ≡ Some c → c.access < c.end → (k : Key) × (Contains keys k × (k.number ≡ core))
   pub few : length keys ≤ cores
 
-module _ (pieces : Entry → List Piece) (entries : List Entry) (placed : ArePlaced pieces entries) (chains : List Chain) (chained : AreChained pieces entries (length chains)) (fresh : AreFresh entries chains) where
-  pub is_chain : (core : ℕ) (c : Chain) → slice_get chains core ≡ Some c → IsChain pieces entries [] core c
+module _ (pieces : Entry → List Piece) (entries : List Entry) (placed : ArePlaced pieces entries) (chains : List ChainState) (chained : AreInChains pieces entries (length chains)) (fresh : AreFresh entries chains) where
+  pub is_chain : (core : ℕ) (c : ChainState) → slice_get chains core ≡ Some c → IsChain pieces entries [] core c
   is_chain core c at =
       let f : IsFresh entries core c = fresh core c at in
       begins pieces entries placed core c f.from f.within f.own f.all chained.some f.place f.sized f.last
 
-  module _ (core : ℕ) (keys : List Key) (have : HaveKeys pieces entries chains core keys) (c : Chain) (at : slice_get chains core ≡ Some c) where
+  module _ (core : ℕ) (keys : List Key) (have : HaveKeys pieces entries chains core keys) (c : ChainState) (at : slice_get chains core ≡ Some c) where
     pub passed_over : c.end ≤ c.access → HaveKeys pieces entries chains (core + 1) keys
     passed_over over = record {
       each = have.each;
@@ -46,7 +46,7 @@ module _ (pieces : Entry → List Piece) (entries : List Entry) (placed : ArePla
             let same : core ≡ n = omega (arith, not, below) in
             let here : slice_get chains n ≡ Some c = subst (λ i. slice_get chains i ≡ Some c) same at in
             let one : c ≡ d = cc in
-            absurd (omega (arith, over, on, ap (λ (z : Chain). z.access) one, ap (λ (z : Chain). z.end) one))
+            absurd (omega (arith, over, on, ap (λ (z : ChainState). z.access) one, ap (λ (z : ChainState). z.end) one))
       ];
       few = omega (arith, have.few);
     }
@@ -95,7 +95,7 @@ module _ (pieces : Entry → List Piece) (entries : List Entry) (placed : ArePla
               few = omega (arith, have.few, one_more key keys);
             }
 
-pub no_keys : (pieces : Entry → List Piece) (entries : List Entry) (chains : List Chain) → HaveKeys pieces entries chains 0 []
+pub no_keys : (pieces : Entry → List Piece) (entries : List Entry) (chains : List ChainState) → HaveKeys pieces entries chains 0 []
 no_keys pieces entries chains = record {
   each = λ k m. absurd (omega (arith, m.1));
   early = λ k m. absurd (omega (arith, m.1));
@@ -103,7 +103,7 @@ no_keys pieces entries chains = record {
   few = omega arith;
 }
 
-pub all_keys : (pieces : Entry → List Piece) (entries : List Entry) (chains : List Chain) (cores : ℕ) (keys : List Key) → length chains ≤ cores → cores ≤ length chains → HaveKeys pieces entries chains cores keys → AreReady pieces entries [] chains keys
+pub all_keys : (pieces : Entry → List Piece) (entries : List Entry) (chains : List ChainState) (cores : ℕ) (keys : List Key) → length chains ≤ cores → cores ≤ length chains → HaveKeys pieces entries chains cores keys → AreReady pieces entries [] chains keys
 all_keys pieces entries chains cores keys long short have = record {
   each = have.each;
   all = λ core c at on. have.all core c (omega (arith, long, slice_get_within chains core c at)) at on;

@@ -7,7 +7,9 @@ mod Counts
 mod Ended
 mod Fired
 mod FirstKeys
-mod Fresh
+mod FirstLook
+mod Listed
+mod States
 mod Moved
 mod Ordered
 mod Popped

@@ -14,7 +14,7 @@ use Rattle.event_graph.specs.Critical.{last_critical}
 use Rattle.event_graph.specs.EventGraph.{all_events, event_at}
 use Rattle.event_graph.specs.OneListWeave.{FiredEvent, finish_in, is_fired, start_of}
 use Rattle.event_graph.specs.PlacedEvents.{IsOfSameCore, events_before, first_number}
-use Rattle.weave_chains.specs.declared.chain.Chain.{Chain}
+use Rattle.weave_chains.specs.States.{ChainState}
 use Rattle.weave_chains.specs.declared.chain.Ended.{Ended}
 use Rattle.weave_chains.specs.Chains.{IsChain, ended_of, moved_on, next_number}
 use Rattle.weave_chains.specs.GraphFacts.{ArePlaced}
@@ -56,7 +56,7 @@ module _ (pieces : Entry → List Piece) (entries : List Entry) (placed : ArePla
   number_is n e at = placed.numbered.number n e at
 
   -- the core of an event of the access in which a chain stands
-  core_here : (core : ℕ) (c : Chain) → IsChain pieces entries fired core c → (i : ℕ) (e : Event) → i < c.place → slice_get events (first_number pieces entries c.access + i) ≡ Some e → e.core ≡ core
+  core_here : (core : ℕ) (c : ChainState) → IsChain pieces entries fired core c → (i : ℕ) (e : Event) → i < c.place → slice_get events (first_number pieces entries c.access + i) ≡ Some e → e.core ≡ core
   core_here core c is i e below at =
       let on : c.access < c.end =
       elim (cases_lt c.access c.end) [ inl less ↦ less | inr not ↦ absurd (omega (arith, below, is.over (omega (arith, not, is.from)))) ]
@@ -70,7 +70,7 @@ module _ (pieces : Entry → List Piece) (entries : List Entry) (placed : ArePla
       ap (λ (z : Event). z.core) one ∙ is.own c.access entry.0 entry.1 (omega arith) on
 
   -- the chain of another core stays
-  pub other_chain : (core : ℕ) (c : Chain) → (core ≡ x.event.core → ⊥) → IsChain pieces entries fired core c → IsChain pieces entries (fired ++ x ∷ []) core c
+  pub other_chain : (core : ℕ) (c : ChainState) → (core ≡ x.event.core → ⊥) → IsChain pieces entries fired core c → IsChain pieces entries (fired ++ x ∷ []) core c
   other_chain core c other is = record {
     from = is.from;
     within = is.within;
@@ -91,7 +91,7 @@ module _ (pieces : Entry → List Piece) (entries : List Entry) (placed : ArePla
   }
 
   -- ---- the chain whose event it is
-  module _ (c : Chain) (is : IsChain pieces entries fired x.event.core c) (on : c.access < c.end) (next : slice_get events (next_number pieces entries c) ≡ Some x.event)
+  module _ (c : ChainState) (is : IsChain pieces entries fired x.event.core c) (on : c.access < c.end) (next : slice_get events (next_number pieces entries c) ≡ Some x.event)
       (entry : Entry) (there : slice_get entries c.access ≡ Some entry) (some : (i : ℕ) (e : Entry) → slice_get entries i ≡ Some e → 0 < length (pieces e)) (room : length (pieces entry) ≤ length c.ended) where
     abbrev core : ℕ
     core = x.event.core

@@ -16,7 +16,7 @@ use Rattle.event_graph.specs.EventGraph.{all_events, event_at}
 use Rattle.event_graph.specs.Firing.{IsNext}
 use Rattle.event_graph.specs.OneListWeave.{FiredEvent, finish_in, is_event_before, is_fired, is_parent_fired, is_ready, start_of}
 use Rattle.event_graph.specs.PlacedEvents.{IsEventOf, IsOfSameCore, events_before, first_number}
-use Rattle.weave_chains.specs.declared.chain.Chain.{Chain}
+use Rattle.weave_chains.specs.States.{ChainState}
 use Rattle.weave_chains.specs.Chains.{AreGrouped, AreUnderWay, IsChain, IsReady, next_number}
 use Rattle.weave_chains.specs.GraphFacts.{ArePlaced}
 
@@ -99,7 +99,7 @@ module _ (pieces : Entry → List Piece) (entries : List Entry) (placed : ArePla
       ]
 
   -- the event with which a chain goes on is of its core
-  pub event_core_of : (fired : List FiredEvent) (core : ℕ) (c : Chain) → IsChain pieces entries fired core c → c.access < c.end → (d : Event) → slice_get events (next_number pieces entries c) ≡ Some d → d.core ≡ core
+  pub event_core_of : (fired : List FiredEvent) (core : ℕ) (c : ChainState) → IsChain pieces entries fired core c → c.access < c.end → (d : Event) → slice_get events (next_number pieces entries c) ≡ Some d → d.core ≡ core
   event_core_of fired core c is on d at =
       let e : (e : Entry) × (slice_get entries c.access ≡ Some e) = get_some entries c.access (omega (arith, on, is.within)) in
       let p : (p : Piece) × (slice_get (pieces e.0) c.place ≡ Some p) = get_some (pieces e.0) c.place (is.place e.0 on e.1) in
@@ -107,7 +107,7 @@ module _ (pieces : Entry → List Piece) (entries : List Entry) (placed : ArePla
       let one : d ≡ event_at (events_before pieces entries c.access) e.0 (pieces e.0) c.place p.0 = cc in
       ap (λ (z : Event). z.core) one ∙ is.own c.access e.0 e.1 (omega arith) on
 
-  module _ (grouped : AreGrouped entries) (fired : List FiredEvent) (chains : List Chain) (keys : List Key) (ascending : IsAscending keys) (way : AreUnderWay pieces entries fired chains keys)
+  module _ (grouped : AreGrouped entries) (fired : List FiredEvent) (chains : List ChainState) (keys : List Key) (ascending : IsAscending keys) (way : AreUnderWay pieces entries fired chains keys)
       (known : (i : ℕ) (e : Entry) → slice_get entries i ≡ Some e → e.core < length chains) (x : FiredEvent) (next : IsNext fired events x)
       (first : (d : Event) → Contains events d → d.core ≡ x.event.core → d.number < x.event.number → is_fired fired d.number ≡ true) where
     abbrev pub core : ℕ
@@ -130,7 +130,7 @@ module _ (pieces : Entry → List Piece) (entries : List Entry) (placed : ArePla
     x_of = placed.each x.event.number x.event x_at
 
     -- the chain of its core
-    abbrev pub own : (c : Chain) × (slice_get chains core ≡ Some c)
+    abbrev pub own : (c : ChainState) × (slice_get chains core ≡ Some c)
     own = get_some chains core (omega (arith, known x_of.access x_of.entry x_of.there, core_is x.event.number x.event x_of))
 
     pub is_chain : IsChain pieces entries fired core own.0
@@ -153,7 +153,7 @@ module _ (pieces : Entry → List Piece) (entries : List Entry) (placed : ArePla
     ]
 
     -- the event with which a chain goes on
-    pub event_of : (c : Chain) (number : ℕ) → IsChain pieces entries fired number c → c.access < c.end → (d : Event) × ((slice_get events (next_number pieces entries c) ≡ Some d) × (d.core ≡ number))
+    pub event_of : (c : ChainState) (number : ℕ) → IsChain pieces entries fired number c → c.access < c.end → (d : Event) × ((slice_get events (next_number pieces entries c) ≡ Some d) × (d.core ≡ number))
     event_of c number is on =
         let e : (e : Entry) × (slice_get entries c.access ≡ Some e) = get_some entries c.access (omega (arith, on, is.within)) in
         let p : (p : Piece) × (slice_get (pieces e.0) c.place ≡ Some p) = get_some (pieces e.0) c.place (is.place e.0 on e.1) in
@@ -179,7 +179,7 @@ module _ (pieces : Entry → List Piece) (entries : List Entry) (placed : ArePla
     parent_fired (Some p) h = h p refl
 
     -- an event with which a chain goes on is ready
-    ready_of : (c : Chain) (number : ℕ) → IsChain pieces entries fired number c → (d : Event) → slice_get events (next_number pieces entries c) ≡ Some d → d.core ≡ number → is_ready fired d ≡ true
+    ready_of : (c : ChainState) (number : ℕ) → IsChain pieces entries fired number c → (d : Event) → slice_get events (next_number pieces entries c) ≡ Some d → d.core ≡ number → is_ready fired d ≡ true
     ready_of c number is d at core_of =
         let n : d.number ≡ next_number pieces entries c = number_at (next_number pieces entries c) d at in
         let parents : IsOfSameCore pieces entries d d.first × IsOfSameCore pieces entries d d.second = placed.parents (next_number pieces entries c) d at in

@@ -14,7 +14,7 @@ use Rattle.event_graph.specs.declared.piece.Piece.{Piece}
 use Rattle.event_graph.specs.EventGraph.{all_events}
 use Rattle.event_graph.specs.OneListWeave.{FiredEvent, finish_in, is_fired, start_of}
 use Rattle.event_graph.proofs.Lists.{In, contains_in, in_contains}
-use Rattle.weave_chains.specs.declared.chain.Chain.{Chain}
+use Rattle.weave_chains.specs.States.{ChainState}
 use Rattle.weave_chains.specs.Chains.{AreUnderWay, IsChain, IsReady, next_number}
 use Rattle.weave_chains.specs.GraphFacts.{ArePlaced}
 use Rattle.weave_chains.proofs.Moved.{other_chain, other_start, set_other, set_same}
@@ -48,32 +48,32 @@ behind_first : (ks : List Key) (i : ℕ) → slice_get (drop 1 ks) i ≡ slice_g
 behind_first [] i = refl
 behind_first (k ∷ ks) i = refl
 
-one_fewer : (ks : List Key) → length (drop 1 ks) ≡ length ks - 1
+pub one_fewer : (ks : List Key) → length (drop 1 ks) ≡ length ks - 1
 one_fewer [] = refl
 one_fewer (k ∷ ks) = omega arith
 
 module _ (pieces : Entry → List Piece) (entries : List Entry) (placed : ArePlaced pieces entries) (fired : List FiredEvent) (x : FiredEvent)
     (unfired : is_fired fired x.event.number ≡ false) (x_at : slice_get (all_events pieces entries) x.event.number ≡ Some x.event)
-    (chains : List Chain) (keys : List Key) (ascending : IsAscending keys) (way : AreUnderWay pieces entries fired chains keys)
+    (chains : List ChainState) (keys : List Key) (ascending : IsAscending keys) (way : AreUnderWay pieces entries fired chains keys)
     (k : Key) (first : slice_get keys 0 ≡ Some k) (core_is : k.number ≡ x.event.core)
-    (c : Chain) (here : slice_get chains k.number ≡ Some c) (next : slice_get (all_events pieces entries) (next_number pieces entries c) ≡ Some x.event)
-    (moved : Chain) (is_moved : IsChain pieces entries (fired ++ x ∷ []) x.event.core moved) where
+    (c : ChainState) (here : slice_get chains k.number ≡ Some c) (next : slice_get (all_events pieces entries) (next_number pieces entries c) ≡ Some x.event)
+    (moved : ChainState) (is_moved : IsChain pieces entries (fired ++ x ∷ []) x.event.core moved) where
   abbrev events : List Event
   events = all_events pieces entries
 
   abbrev after : List FiredEvent
   after = fired ++ x ∷ []
 
-  abbrev pub chains_after : List Chain
+  abbrev pub chains_after : List ChainState
   chains_after = slice_set chains k.number moved
 
   there : k.number < length chains
   there = slice_get_within chains k.number c here
 
-  other_there : (core : ℕ) (d : Chain) → (k.number ≡ core → ⊥) → slice_get chains core ≡ Some d → slice_get chains_after core ≡ Some d
+  other_there : (core : ℕ) (d : ChainState) → (k.number ≡ core → ⊥) → slice_get chains core ≡ Some d → slice_get chains_after core ≡ Some d
   other_there core d other at = set_other chains k.number core moved other ∙ at
 
-  pub chain_after : (core : ℕ) (d : Chain) → slice_get chains_after core ≡ Some d → IsChain pieces entries after core d
+  pub chain_after : (core : ℕ) (d : ChainState) → slice_get chains_after core ≡ Some d → IsChain pieces entries after core d
   chain_after core d at =
       elim (cases_eq k.number core) [
         | inl same ↦
@@ -135,7 +135,7 @@ module _ (pieces : Entry → List Piece) (entries : List Entry) (placed : ArePla
   key_at core other z number (suc i) at = (z, (contained (drop 1 keys) i z (behind_first keys i ∙ at), number))
 
   -- another chain that goes on has its key behind the first
-  other_key : (core : ℕ) (d : Chain) → (k.number ≡ core → ⊥) → slice_get chains core ≡ Some d → d.access < d.end → (z : Key) × (Contains (drop 1 keys) z × (z.number ≡ core))
+  other_key : (core : ℕ) (d : ChainState) → (k.number ≡ core → ⊥) → slice_get chains core ≡ Some d → d.access < d.end → (z : Key) × (Contains (drop 1 keys) z × (z.number ≡ core))
   other_key core d other at on =
       let z : (z : Key) × (Contains keys z × (z.number ≡ core)) = way.ready.all core d at on in
       let zi : slice_get keys z.1.0.0 ≡ Some z.0 = slice_get-get_or keys z.1.0.0 z.0 z.1.0.1 ∙ ap Some z.1.0.2 in
@@ -157,7 +157,7 @@ module _ (pieces : Entry → List Piece) (entries : List Entry) (placed : ArePla
         | inl same ↦
             let set : slice_get chains_after core ≡ Some moved = subst (λ i. slice_get chains_after i ≡ Some moved) same (set_same chains k.number moved there) in
             let one : moved ≡ d = cc in
-            absurd (omega (arith, done, on, ap (λ (z : Chain). z.access) one, ap (λ (z : Chain). z.end) one))
+            absurd (omega (arith, done, on, ap (λ (z : ChainState). z.access) one, ap (λ (z : ChainState). z.end) one))
         | inr other ↦ other_key core d other (sym (set_other chains k.number core moved other) ∙ at) on
       ];
       few = omega (arith, way.ready.few, one_fewer keys, as_many_chains);

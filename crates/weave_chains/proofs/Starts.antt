@@ -10,12 +10,12 @@ use Rattle.event_graph.specs.EventGraph.{all_events, earlier_parent, event_at, i
 use Rattle.event_graph.specs.Expansion.{ParentsComeBefore}
 use Rattle.event_graph.specs.OneListWeave.{FiredEvent, after_parent, finish_in, start_of}
 use Rattle.event_graph.specs.PlacedEvents.{events_before, first_number}
-use Rattle.weave_chains.specs.declared.chain.Chain.{Chain}
+use Rattle.weave_chains.specs.States.{ChainState}
 use Rattle.weave_chains.specs.Chains.{IsChain, after_ended, ended_of, start_by, waited_for}
 use Rattle.weave_chains.specs.GraphFacts.{ArePlaced}
 use Rattle.weave_chains.proofs.Popped.{get_some}
 
-module _ (pieces : Entry → List Piece) (entries : List Entry) (placed : ArePlaced pieces entries) (fired : List FiredEvent) (core : ℕ) (c : Chain)
+module _ (pieces : Entry → List Piece) (entries : List Entry) (placed : ArePlaced pieces entries) (fired : List FiredEvent) (core : ℕ) (c : ChainState)
     (is : IsChain pieces entries fired core c) (on : c.access < c.end) (entry : Entry) (there : slice_get entries c.access ≡ Some entry) (law : ParentsComeBefore (pieces entry)) where
   abbrev before : List Event
   before = events_before pieces entries c.access

@@ -16,13 +16,13 @@ use Rattle.event_graph.specs.Firing.{FiredByTheRules, time_so_far}
 use Rattle.event_graph.specs.TimingSolution.{IsInOrder}
 use Rattle.stats.specs.Counts.{comp_count_in}
 use Rattle.stats.specs.Counted.{no_comp_count}
-use Rattle.weave_chains.specs.declared.chain.Chain.{Chain}
+use Rattle.weave_chains.specs.States.{ChainState}
 use Rattle.weave_chains.specs.declared.tally.Tally.{Tally}
 use Rattle.weave_chains.specs.declared.weave.Woven.{Woven}
 use Rattle.weave_chains.specs.Beginning.{AreFresh}
 use Rattle.weave_chains.specs.Chains.{AreReady, AreUnderWay, delay_by}
 use Rattle.weave_chains.specs.GraphFacts.{ArePlaced}
-use Rattle.weave_chains.specs.Rounds.{AreChained, HasCome}
+use Rattle.weave_chains.specs.Rounds.{AreInChains, HasCome}
 use Rattle.weave_chains.specs.Tallies.{AreSmall, AreTallied, HaveFired}
 use Rattle.weave_chains.specs.Ties.{HaveNoTie, HaveTie}
 use Rattle.weave_chains.specs.Woven.{IsWoven, interval_of}
@@ -56,10 +56,10 @@ module _ {C : Type 0} (stepped : C → Kind → ℕ → C × ℕ) (pieces : Entr
   abbrev events : List Event
   events = all_events pieces entries
 
-  at_first : (chains : List Chain) (keys : List Key) → AreChained pieces entries (length chains) → AreFresh entries chains → AreReady pieces entries [] chains keys → AreUnderWay pieces entries [] chains keys
+  at_first : (chains : List ChainState) (keys : List Key) → AreInChains pieces entries (length chains) → AreFresh entries chains → AreReady pieces entries [] chains keys → AreUnderWay pieces entries [] chains keys
   at_first chains keys chained fresh ready = record { chain = is_chain pieces entries placed chains chained fresh; ready = ready }
 
-  pub comes : (chains : List Chain) (keys : List Key) → AreChained pieces entries (length chains) → AreFresh entries chains → AreReady pieces entries [] chains keys → HasCome stepped pieces entries comps 0 chains keys comps
+  pub comes : (chains : List ChainState) (keys : List Key) → AreInChains pieces entries (length chains) → AreFresh entries chains → AreReady pieces entries [] chains keys → HasCome stepped pieces entries comps 0 chains keys comps
   comes chains keys chained fresh ready = record {
     way = subst (λ xs. AreUnderWay pieces entries xs chains keys) (sym (none_fired stepped events comps)) (at_first chains keys chained fresh ready);
     comps_are = first_comps stepped events comps;
@@ -97,12 +97,12 @@ module _ {C : Type 0} (stepped : C → Kind → ℕ → C × ℕ) (pieces : Entr
     pub no_tie_is : HaveNoTie fired → HaveNoTie (woven stepped events comps)
     no_tie_is none x y mx my component start = none x y (from x mx) (from y my) component start
 
-    pub woven_is : (cores : ℕ) (chains : List Chain) (keys : List Key) (after : List C) (tallies : List Tally) (w : Woven) → HaveFired stepped pieces entries comps (length events) chains keys after tallies
+    pub woven_is : (cores : ℕ) (chains : List ChainState) (keys : List Key) (after : List C) (tallies : List Tally) (w : Woven) → HaveFired stepped pieces entries comps (length events) chains keys after tallies
         → length chains ≡ cores → length tallies ≡ length comps → w.delays ≡ map delay_by chains → w.counts.items ≡ map (λ t. t.count) tallies → w.events ≡ length events
         → IsWoven stepped pieces entries comps cores w after
     woven_is cores chains keys after tallies w have count as_many delays counts number = record {
       delays = delays ∙ (delays_are pieces entries placed fired (map fired_of (woven stepped events comps))
-          (all_fired events placed.numbered fired once order rules) stands times chains have.come.way.chain
+          (all_fired events fired once) stands times chains have.come.way.chain
           ∙ ap (λ n. (interval_of stepped pieces entries comps n).delays) count);
       counts = counts ∙ (by_places (λ (t : Tally). t.count) (comp_count_in (interval_of stepped pieces entries comps cores)) tallies 0
           (λ k t at.

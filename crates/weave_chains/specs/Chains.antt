@@ -10,8 +10,8 @@ use Rattle.event_graph.specs.Critical.{last_critical}
 use Rattle.event_graph.specs.EventGraph.{all_events}
 use Rattle.event_graph.specs.OneListWeave.{FiredEvent, finish_in, is_fired, start_of}
 use Rattle.event_graph.specs.PlacedEvents.{events_before, first_number}
-use Rattle.weave_chains.specs.declared.chain.Chain.{Chain}
 use Rattle.weave_chains.specs.declared.chain.Ended.{Ended}
+use Rattle.weave_chains.specs.States.{ChainState}
 
 abbrev pub Nothing : Type 0
 Nothing = Unit {0}
@@ -25,11 +25,11 @@ ended_of finish e = record { finish = finish e.number; at_zero_load = e.min_fini
 
 module _ (pieces : Entry → List Piece) (entries : List Entry) where
   -- the number of the event with which the chain goes on
-  abbrev pub next_number : Chain → ℕ
+  abbrev pub next_number : ChainState → ℕ
   next_number c = first_number pieces entries c.access + c.place
 
   -- the chain of a core, where these have fired
-  pub record IsChain (fired : List FiredEvent) (core : ℕ) (c : Chain) : Type 0 where
+  pub record IsChain (fired : List FiredEvent) (core : ℕ) (c : ChainState) : Type 0 where
     -- its accesses are those up to its end
     pub from : c.access ≤ c.end
     pub within : c.end ≤ length entries
@@ -47,8 +47,8 @@ module _ (pieces : Entry → List Piece) (entries : List Entry) where
     pub last : c.last ≡ option_map (ended_of (finish_in fired)) (last_critical core (events_before pieces entries c.access))
 
   -- what the queue says of a chain that goes on: its core, and when its next event starts
-  pub record IsReady (fired : List FiredEvent) (chains : List Chain) (k : Key) : Type 0 where
-    pub chain : Chain
+  pub record IsReady (fired : List FiredEvent) (chains : List ChainState) (k : Key) : Type 0 where
+    pub chain : ChainState
     pub there : slice_get chains k.number ≡ Some chain
     pub goes_on : chain.access < chain.end
     pub event : Event
@@ -56,20 +56,20 @@ module _ (pieces : Entry → List Piece) (entries : List Entry) where
     pub start : k.start ≡ start_of (finish_in fired) event
 
   -- the queue has a key for each chain that goes on
-  pub record AreReady (fired : List FiredEvent) (chains : List Chain) (keys : List Key) : Type 0 where
+  pub record AreReady (fired : List FiredEvent) (chains : List ChainState) (keys : List Key) : Type 0 where
     pub each : (k : Key) → Contains keys k → IsReady fired chains k
-    pub all : (core : ℕ) (c : Chain) → slice_get chains core ≡ Some c → c.access < c.end → (k : Key) × (Contains keys k × (k.number ≡ core))
+    pub all : (core : ℕ) (c : ChainState) → slice_get chains core ≡ Some c → c.access < c.end → (k : Key) × (Contains keys k × (k.number ≡ core))
     pub few : length keys ≤ length chains
 
   -- these have fired, and nothing else
-  pub record AreUnderWay (fired : List FiredEvent) (chains : List Chain) (keys : List Key) : Type 0 where
-    pub chain : (core : ℕ) (c : Chain) → slice_get chains core ≡ Some c → IsChain fired core c
+  pub record AreUnderWay (fired : List FiredEvent) (chains : List ChainState) (keys : List Key) : Type 0 where
+    pub chain : (core : ℕ) (c : ChainState) → slice_get chains core ≡ Some c → IsChain fired core c
     pub ready : AreReady fired chains keys
 
 -- ---- a round
 
 -- the chain after its next event has fired, of an access with so many
-abbrev pub moved_on : (count : ℕ) → Ended → Chain → Chain
+abbrev pub moved_on : (count : ℕ) → Ended → ChainState → ChainState
 moved_on count done c =
     if nat_lt (c.place + 1) count
     then record c { place = c.place + 1; ended = slice_set c.ended c.place done }
@@ -81,14 +81,14 @@ after_ended start None = 0
 after_ended start (Some d) = d.finish + (start - d.at_zero_load)
 
 -- which event of the chain is waited for first: for the first of an access the last one before it
-abbrev pub waited_for : Chain → (place : Option ℕ) → Option Ended
+abbrev pub waited_for : ChainState → (place : Option ℕ) → Option Ended
 waited_for c place = option_and_then (λ i. slice_get c.ended i) place
 
-abbrev pub start_by : Chain → (start : ℕ) → Piece → ℕ
+abbrev pub start_by : ChainState → (start : ℕ) → Piece → ℕ
 start_by c start p = max start (max (after_ended start (if c.place == 0 then c.last else waited_for c p.first)) (after_ended start (waited_for c p.second)))
 
 -- ---- the end
 
 -- how much later than at zero load the last event behind which the core waited has finished
-abbrev pub delay_by : Chain → ℕ
+abbrev pub delay_by : ChainState → ℕ
 delay_by c = option_map_or (λ last. last.finish - last.at_zero_load) c.last 0

@@ -1,3 +1,6 @@
+pub mod Listed
+pub mod States
+pub mod NextEvents
 pub mod Chains
 pub mod GraphFacts
 pub mod Rounds
@@ -5,3 +8,4 @@ pub mod Beginning
 pub mod Ties
 pub mod Tallies
 pub mod Woven
+pub mod RoundLaws

@@ -1,5 +1,5 @@
 -- What is counted of each component while its events fire.
-use Rattle.std.specs.Prelude.{◌≡◌, ◌+◌, ◌*◌, ◌==◌, ◌&&◌, ◌≤◌, ◌^◌, ℕ, Bool, false, not, List, map, Option, None, Some, slice_get}
+use Rattle.std.specs.Prelude.{◌≡◌, ◌+◌, ◌*◌, ◌==◌, ◌&&◌, ◌<◌, ◌≤◌, ◌^◌, ◌++◌, ◌∷◌, [], ℕ, Bool, false, not, List, length, map, Option, None, Some, slice_get}
 use Rattle.std.specs.List.{Contains}
 use Rattle.component.specs.declared.kind.Kind.{Kind}
 use Rattle.zs_num.specs.declared.entry.Entry.{Entry}
@@ -10,7 +10,7 @@ use Rattle.event_graph.specs.OneListWeave.{FiredEvent, after_firings, fired_of}
 use Rattle.event_graph.specs.ServedEvents.{of_component}
 use Rattle.stats.specs.declared.counts.CompCount.{CompCount}
 use Rattle.stats.specs.Counted.{comp_sum, event_count, wait_of}
-use Rattle.weave_chains.specs.declared.chain.Chain.{Chain}
+use Rattle.weave_chains.specs.States.{ChainState}
 use Rattle.weave_chains.specs.declared.tally.Served.{Served}
 use Rattle.weave_chains.specs.declared.tally.Tally.{Tally}
 use Rattle.weave_chains.specs.Rounds.{HasCome}
@@ -59,8 +59,16 @@ AreSmall events tallies = (component : ℕ) (t : Tally) → slice_get tallies co
 
 -- ---- the rounds
 
+-- after so many firings there was one more, of an event that is served so
+pub record HasFiredNext {C : Type 0} (stepped : C → Kind → ℕ → C × ℕ) (pieces : Entry → List Piece) (entries : List Entry) (first : List C) (firings : ℕ) (chains : List ChainState) (keys : List Key) (comps : List C) (served : Served) : Type 0 where
+  pub more : firings < length (all_events pieces entries)
+  pub come : HasCome stepped pieces entries first (firings + 1) chains keys comps
+  pub event : FiredEvent
+  pub fired : (after_firings stepped (all_events pieces entries) first (firings + 1)).fired ≡ (after_firings stepped (all_events pieces entries) first firings).fired ++ event ∷ []
+  pub served_is : served ≡ served_of event
+
 -- so many events have fired and are counted, and no two of different cores have met
-pub record HaveFired {C : Type 0} (stepped : C → Kind → ℕ → C × ℕ) (pieces : Entry → List Piece) (entries : List Entry) (first : List C) (firings : ℕ) (chains : List Chain) (keys : List Key) (comps : List C) (tallies : List Tally) : Type 0 where
+pub record HaveFired {C : Type 0} (stepped : C → Kind → ℕ → C × ℕ) (pieces : Entry → List Piece) (entries : List Entry) (first : List C) (firings : ℕ) (chains : List ChainState) (keys : List Key) (comps : List C) (tallies : List Tally) : Type 0 where
   pub come : HasCome stepped pieces entries first firings chains keys comps
   pub tallied : AreTallied (after_firings stepped (all_events pieces entries) first firings).fired tallies
   pub no_tie : HaveNoTie (after_firings stepped (all_events pieces entries) first firings).fired

@@ -1,113 +1,137 @@
 //! The rounds of the weave.
-ghost use Rattle.std.specs.Prelude.{◌≡◌, ◌+◌, ◌-◌, ◌*◌, ◌<◌, ◌≤◌, ◌^◌, ◌++◌, ◌∷◌, [], ℕ, List, false, length, true};
-ghost use Rattle.zs_num.specs.declared.entry.Entry.{Entry};
+ghost use Rattle.std.specs.Prelude.{◌≡◌, ◌+◌, ◌-◌, ◌<◌, ◌≤◌, ◌^◌, [], ℕ, List, None, Some, length, slice_get, slice_set, IfNone, IfSome, IsTrue};
 ghost use Rattle.event_graph.specs.EventGraph.{all_events};
-ghost use Rattle.event_graph.specs.Fits.{GraphFits};
-ghost use Rattle.event_graph.specs.OneListWeave.{FiredEvent, after_firings, weave};
-ghost use Rattle.event_graph.specs.SmallSteps.{AreSmallSteps};
-ghost use Rattle.weave_chains.specs.Rounds.{AreChained, HasCome};
-ghost use Rattle.weave_chains.specs.Tallies.{AreSmall, AreTallied, HaveFired, served_of};
+ghost use Rattle.event_graph.specs.OneListWeave.{weave};
+ghost use Rattle.weave_chains.specs.Listed.{one_after_other};
+ghost use Rattle.weave_chains.specs.NextEvents.{AreAhead};
+ghost use Rattle.weave_chains.specs.Rounds.{AreChained, HasCome, IsWeaving};
+ghost use Rattle.weave_chains.specs.States.{states};
+ghost use Rattle.weave_chains.specs.Tallies.{AreSmall, AreTallied, HasFiredNext, HaveFired};
 ghost use Rattle.weave_chains.specs.Ties.{HaveTie};
 
-use crate::chain::{Chain, Ended};
+use crate::accesses::Accesses;
+use crate::ahead::{look_ahead, push_next};
+use crate::chain::{Chain, Ended, Next};
+use crate::laws::rounds_rest_on_these;
+use crate::passing::Passing;
 use crate::tally::{Served, Tally};
 use component::Component;
 use domain_queue::Ready;
-use event_graph::{Expand, laws};
-use zs_num::{Entry, Key};
+use event_graph::Expand;
+use zs_host::Gate;
+use zs_num::Cycle;
 
-/// The next event fires, which is answered.
-fn fire_next<X: Expand, C: Component>(
+/// An event as its component has served it, and when it has ended.
+#[derive(Clone, Copy)]
+struct Firing {
+    served: Served,
+    ended: Ended,
+}
+
+/// The next event of a chain starts at this cycle, and is served.
+#[inline(always)]
+fn serve<C: Component, G: Gate>(
+    comps: &mut [C],
+    next: &Next,
+    start: Cycle,
+    before: &Passing<G>,
+) -> Firing
+    requires component { next.now.piece.component < length comps.old }
+    requires serves { (comp : C) → slice_get comps.old next.now.piece.component ≡ Some comp → IsTrue (C.serves comp next.now.piece.kind) }
+    requires small { (comp : C) → slice_get comps.old next.now.piece.component ≡ Some comp → C.greatest comp next.now.piece.kind start ≤ 2 ^ 62 }
+    requires early { next.now.entry.start + next.now.piece.offset + next.now.piece.time ≤ 2 ^ 62 }
+    ensures served { (comp : C) → slice_get comps.old next.now.piece.component ≡ Some comp → result.served ≡ record { core = next.now.entry.core; component = next.now.piece.component; start = start; waited = (C.stepped comp next.now.piece.kind start).1 - start - next.now.piece.time } }
+    ensures ended { (comp : C) → slice_get comps.old next.now.piece.component ≡ Some comp → result.ended ≡ record { finish = (C.stepped comp next.now.piece.kind start).1; at_zero_load = next.now.entry.start + next.now.piece.offset + next.now.piece.time } }
+    ensures comps { (comp : C) → slice_get comps.old next.now.piece.component ≡ Some comp → comps.new ≡ slice_set comps.old next.now.piece.component (C.stepped comp next.now.piece.kind start).0 }
+{
+    let piece = &next.piece;
+    before.event_of(piece.component);
+    let finish = comps[usize::from(piece.component)].step(piece.kind, start);
+    let took = finish.saturating_sub(start);
+    Firing {
+        served: Served {
+            core: next.entry.core,
+            component: piece.component,
+            start,
+            waited: took.saturating_sub(piece.time),
+        },
+        ended: Ended {
+            finish,
+            at_zero_load: next.entry.start + piece.offset + piece.time,
+        },
+    }
+}
+
+/// The next event fires, which is answered. None where all have fired.
+fn fire_next<X: Expand, C: Component, A: Accesses, G: Gate>(
     expand: &X,
-    entries: &[Entry],
+    accesses: &A,
     chains: &mut [Chain],
     ready: &mut Ready,
     comps: &mut [C],
-) -> Served
-    requires chained { AreChained (X.pieces expand.now) entries.now (length chains.old) }
-    requires few { length entries.now < 2 ^ 32 - 1 }
+    before: &Passing<G>,
+) -> Option<Served>
+    requires chained { AreChained (X.pieces expand.now) (A.lists accesses.now) }
+    requires count { length chains.old ≡ length (A.lists accesses.now) }
     requires room { length chains.old ≤ ready.old.room }
-    requires come { (first : List C) × (n : ℕ) × GraphFits C.serves C.floor (all_events (X.pieces expand.now) entries.now) first × AreSmallSteps C.stepped C.greatest (all_events (X.pieces expand.now) entries.now) first × (n < length (all_events (X.pieces expand.now) entries.now)) × HasCome C.stepped (X.pieces expand.now) entries.now first n chains.old ready.old.keys comps.old }
-    ensures come { (first : List C) (n : ℕ) → GraphFits C.serves C.floor (all_events (X.pieces expand.now) entries.now) first → AreSmallSteps C.stepped C.greatest (all_events (X.pieces expand.now) entries.now) first → n < length (all_events (X.pieces expand.now) entries.now) → HasCome C.stepped (X.pieces expand.now) entries.now first n chains.old ready.old.keys comps.old → HasCome C.stepped (X.pieces expand.now) entries.now first (n + 1) chains.new ready.new.keys comps.new }
-    ensures served { (first : List C) (n : ℕ) → GraphFits C.serves C.floor (all_events (X.pieces expand.now) entries.now) first → AreSmallSteps C.stepped C.greatest (all_events (X.pieces expand.now) entries.now) first → n < length (all_events (X.pieces expand.now) entries.now) → HasCome C.stepped (X.pieces expand.now) entries.now first n chains.old ready.old.keys comps.old → (x : FiredEvent) × ((after_firings C.stepped (all_events (X.pieces expand.now) entries.now) first (n + 1)).fired ≡ (after_firings C.stepped (all_events (X.pieces expand.now) entries.now) first n).fired ++ x ∷ []) × (result ≡ served_of x) }
-    ensures component { result.component < length comps.old }
+    requires ahead { AreAhead (X.pieces expand.now) (A.lists accesses.now) chains.old }
+    requires come { (first : List C) × (n : ℕ) × IsWeaving C.serves C.floor C.stepped C.greatest (X.pieces expand.now) (A.lists accesses.now) first n chains.old ready.old.keys comps.old }
+    ensures fired { IfSome result (λ served. (first : List C) (n : ℕ) → IsWeaving C.serves C.floor C.stepped C.greatest (X.pieces expand.now) (A.lists accesses.now) first n chains.old ready.old.keys comps.old → HasFiredNext C.stepped (X.pieces expand.now) (one_after_other (A.lists accesses.now)) first n (states (A.lists accesses.now) chains.new) ready.new.keys comps.new served) }
+    ensures over { IfNone result ((first : List C) (n : ℕ) → IsWeaving C.serves C.floor C.stepped C.greatest (X.pieces expand.now) (A.lists accesses.now) first n chains.old ready.old.keys comps.old → (n ≡ length (all_events (X.pieces expand.now) (one_after_other (A.lists accesses.now)))) × HasCome C.stepped (X.pieces expand.now) (one_after_other (A.lists accesses.now)) first n (states (A.lists accesses.now) chains.new) ready.new.keys comps.new) }
+    ensures ahead { AreAhead (X.pieces expand.now) (A.lists accesses.now) chains.new }
+    ensures component { IfSome result (λ served. served.component < length comps.old) }
     ensures count { length chains.new ≡ length chains.old }
     ensures comps { length comps.new ≡ length comps.old }
     ensures room { ready.new.room ≡ ready.old.room }
 {
-    laws::events_are_placed::<X>();
-    laws::each_firing_is_of_the_next_event::<C>();
-    laws::events_of_a_core_fire_in_order::<X, C>();
-    laws::starts_so_far_stay_small::<C>();
+    rounds_rest_on_these::<X, C>();
     let Some(key) = ready.pop() else {
-        unreachable!()
+        return None;
     };
     let chain = &mut chains[key.number as usize];
-    let entry = &entries[chain.access as usize];
-    let piece = expand.piece(entry, chain.place);
-    let finish = comps[usize::from(piece.component)].step(piece.kind, key.start);
-    let at_zero_load = entry.start + piece.offset + piece.time;
-    let took = finish.saturating_sub(key.start);
-    let waited = took.saturating_sub(piece.time);
-    let served = Served {
-        core: entry.core,
-        component: piece.component,
-        start: key.start,
-        waited,
+    let Some(next) = &chain.next else {
+        unreachable!()
     };
-    chain.move_on(
-        expand.count(entry),
-        Ended {
-            finish,
-            at_zero_load,
-        },
-    );
-    if chain.goes_on() {
-        let entry = &entries[chain.access as usize];
-        let piece = expand.piece(entry, chain.place);
-        let start = chain.start(entry.start + piece.offset, &piece);
-        ready.push(Key {
-            start,
-            number: key.number,
-        });
-        served
-    } else {
-        served
-    }
+    let count = next.count;
+    let outcome = serve(comps, next, key.start, before);
+    chain.move_on(count, outcome.ended);
+    let start = look_ahead(expand, accesses, outcome.served.core, chain);
+    push_next(ready, key.number, start);
+    Some(outcome.served)
 }
 
-/// All events fire, of which there are so many, or those up to the first that ties with one of
-/// another core. Answers whether there was one.
-pub(crate) fn fire_all<X: Expand, C: Component>(
+/// All events fire, or those up to the first that ties with one of another core. Answers how many
+/// they are, and none where there is such a tie.
+pub(crate) fn fire_all<X: Expand, C: Component, A: Accesses, G: Gate>(
     expand: &X,
-    entries: &[Entry],
+    accesses: &A,
     chains: &mut [Chain],
     ready: &mut Ready,
     comps: &mut [C],
     tallies: &mut [Tally],
-    events: u32,
-) -> bool
-    requires chained { AreChained (X.pieces expand.now) entries.now (length chains.old) }
-    requires few { length entries.now < 2 ^ 32 - 1 }
+    before: &Passing<G>,
+) -> Option<u32>
+    requires chained { AreChained (X.pieces expand.now) (A.lists accesses.now) }
+    requires few { length (all_events (X.pieces expand.now) (one_after_other (A.lists accesses.now))) < 2 ^ 32 - 1 }
+    requires count { length chains.old ≡ length (A.lists accesses.now) }
     requires room { length chains.old ≤ ready.old.room }
-    requires events { events ≡ length (all_events (X.pieces expand.now) entries.now) }
+    requires ahead { AreAhead (X.pieces expand.now) (A.lists accesses.now) chains.old }
     requires tallies { length tallies.old ≡ length comps.old }
     requires nothing { AreTallied [] tallies.old }
     requires empty { AreSmall 0 tallies.old }
-    requires begins { (first : List C) × GraphFits C.serves C.floor (all_events (X.pieces expand.now) entries.now) first × AreSmallSteps C.stepped C.greatest (all_events (X.pieces expand.now) entries.now) first × HasCome C.stepped (X.pieces expand.now) entries.now first 0 chains.old ready.old.keys comps.old }
-    ensures all { result ≡ false → (first : List C) → GraphFits C.serves C.floor (all_events (X.pieces expand.now) entries.now) first → AreSmallSteps C.stepped C.greatest (all_events (X.pieces expand.now) entries.now) first → HasCome C.stepped (X.pieces expand.now) entries.now first 0 chains.old ready.old.keys comps.old → HaveFired C.stepped (X.pieces expand.now) entries.now first events chains.new ready.new.keys comps.new tallies.new }
-    ensures tie { result ≡ true → (first : List C) → GraphFits C.serves C.floor (all_events (X.pieces expand.now) entries.now) first → AreSmallSteps C.stepped C.greatest (all_events (X.pieces expand.now) entries.now) first → HasCome C.stepped (X.pieces expand.now) entries.now first 0 chains.old ready.old.keys comps.old → HaveTie (weave C.stepped (all_events (X.pieces expand.now) entries.now) first).fired }
+    requires begins { (first : List C) × IsWeaving C.serves C.floor C.stepped C.greatest (X.pieces expand.now) (A.lists accesses.now) first 0 chains.old ready.old.keys comps.old }
+    ensures all { IfSome result (λ events. (events ≡ length (all_events (X.pieces expand.now) (one_after_other (A.lists accesses.now)))) × ((first : List C) → IsWeaving C.serves C.floor C.stepped C.greatest (X.pieces expand.now) (A.lists accesses.now) first 0 chains.old ready.old.keys comps.old → HaveFired C.stepped (X.pieces expand.now) (one_after_other (A.lists accesses.now)) first events (states (A.lists accesses.now) chains.new) ready.new.keys comps.new tallies.new)) }
+    ensures tie { IfNone result ((first : List C) → IsWeaving C.serves C.floor C.stepped C.greatest (X.pieces expand.now) (A.lists accesses.now) first 0 chains.old ready.old.keys comps.old → HaveTie (weave C.stepped (all_events (X.pieces expand.now) (one_after_other (A.lists accesses.now))) first).fired) }
     ensures count { length chains.new ≡ length chains.old }
     ensures tallies { length tallies.new ≡ length tallies.old }
 {
-    laws::events_are_placed::<X>();
-    laws::events_fire_in_order::<C>();
-    laws::firings_are_of_the_first_events::<C>();
-    for _ in 0..events {
-        let served = fire_next(expand, entries, chains, ready, comps);
+    rounds_rest_on_these::<X, C>();
+    let mut events = 0;
+    while let Some(served) = fire_next(expand, accesses, chains, ready, comps, before) {
         if tallies[usize::from(served.component)].take(served) {
-            return true;
+            return None;
         }
+        events += 1;
     }
-    false
+    Some(events)
 }

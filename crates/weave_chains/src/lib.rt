@@ -2,12 +2,17 @@
 //! so they are a chain, of which one event can fire next.
 #![tactic(auto)]
 
+mod accesses;
+mod ahead;
 mod beginning;
 mod chain;
 mod firing;
 mod kept;
+mod laws;
+mod passing;
 mod tally;
 mod weave;
 
+pub use accesses::Accesses;
 pub use kept::Kept;
 pub use weave::{Woven, weave_chains};

@@ -1,5 +1,5 @@
 //! The weave of an interval whose accesses are listed core by core.
-ghost use Rattle.std.specs.Prelude.{◌≡◌, ◌-◌, ◌*◌, ◌<◌, ◌≤◌, ◌^◌, List, [], IfNone, IfOk, IfSome, OnErr, length, map, sum_by};
+ghost use Rattle.std.specs.Prelude.{◌≡◌, ◌-◌, ◌<◌, ◌^◌, List, [], IfNone, IfOk, IfSome, OnErr, length, map};
 ghost use Rattle.zs_num.specs.declared.entry.Entry.{Entry};
 ghost use Rattle.event_graph.specs.EventGraph.{all_events};
 ghost use Rattle.event_graph.specs.Fits.{GraphFits};
@@ -7,15 +7,20 @@ ghost use Rattle.event_graph.specs.OneListWeave.{woven};
 ghost use Rattle.event_graph.specs.SmallSteps.{AreSmallSteps};
 ghost use Rattle.weave_chains.specs.Beginning.{AreFresh};
 ghost use Rattle.weave_chains.specs.Chains.{delay_by};
+ghost use Rattle.weave_chains.specs.Listed.{one_after_other};
+ghost use Rattle.weave_chains.specs.NextEvents.{AreOfLists};
 ghost use Rattle.weave_chains.specs.Rounds.{AreChained};
+ghost use Rattle.weave_chains.specs.States.{state_of, states};
 ghost use Rattle.weave_chains.specs.Tallies.{AreSmall, AreTallied};
 ghost use Rattle.weave_chains.specs.Ties.{HaveNoTie, HaveTie};
 ghost use Rattle.weave_chains.specs.Woven.{AreOrdered, IsWoven};
 
+use crate::accesses::Accesses;
 use crate::beginning::{first_keys, fresh_chains};
 use crate::chain::Chain;
 use crate::firing::fire_all;
 use crate::kept::{Kept, copy_of};
+use crate::passing::Passing;
 use crate::tally::{NO_TALLY, Tally};
 use component::{Component, Comps};
 use domain_queue::Ready;
@@ -23,7 +28,8 @@ use event_graph::{Expand, laws};
 use feedback::Delays;
 use stats::CompCount;
 use std::alloc::Global;
-use zs_num::{Entry, NoMemory};
+use zs_host::Gate;
+use zs_num::NoMemory;
 
 /// What the weave of an interval gives.
 #[derive(Drop)]
@@ -41,21 +47,23 @@ pub struct Woven {
 /// the accesses that make events, which are listed core by core. The components are moved on. None
 /// where two events of different cores start in the same cycle on one component, so that the
 /// recorded order decides which is served first: the components are then unchanged, as they are
-/// where memory runs out.
-pub fn weave_chains<X: Expand, C: Component + Kept>(
+/// where memory runs out. The gate is passed before each event that fires, as one of the event's
+/// domain: `places` has the domain of each component.
+pub fn weave_chains<X: Expand, C: Component + Kept, A: Accesses, G: Gate>(
     alloc: Global,
     expand: &X,
-    entries: &[Entry],
-    cores: u16,
+    accesses: &A,
     comps: &mut Comps<C>,
+    places: &[u16],
+    gate: &G,
 ) -> Result<Option<Woven>, NoMemory>
-    requires chained { AreChained (X.pieces expand.now) entries.now cores }
-    requires few { length (all_events (X.pieces expand.now) entries.now) < 2 ^ 32 - 1 }
-    requires fits { GraphFits C.serves C.floor (all_events (X.pieces expand.now) entries.now) comps.old }
-    requires small { AreSmallSteps C.stepped C.greatest (all_events (X.pieces expand.now) entries.now) comps.old }
-    ensures woven { IfOk result (λ o. IfSome o (λ w. (recorded : List Entry) → AreOrdered (X.pieces expand.now) entries.now recorded → IsWoven C.stepped (X.pieces expand.now) recorded comps.old cores w comps.new)) }
-    ensures no_tie { IfOk result (λ o. IfSome o (λ w. HaveNoTie (woven C.stepped (all_events (X.pieces expand.now) entries.now) comps.old))) }
-    ensures tie { IfOk result (λ o. IfNone o (HaveTie (woven C.stepped (all_events (X.pieces expand.now) entries.now) comps.old))) }
+    requires chained { AreChained (X.pieces expand.now) (A.lists accesses.now) }
+    requires few { length (all_events (X.pieces expand.now) (one_after_other (A.lists accesses.now))) < 2 ^ 32 - 1 }
+    requires fits { GraphFits C.serves C.floor (all_events (X.pieces expand.now) (one_after_other (A.lists accesses.now))) comps.old }
+    requires small { AreSmallSteps C.stepped C.greatest (all_events (X.pieces expand.now) (one_after_other (A.lists accesses.now))) comps.old }
+    ensures woven { IfOk result (λ o. IfSome o (λ w. (recorded : List Entry) → AreOrdered (X.pieces expand.now) (one_after_other (A.lists accesses.now)) recorded → IsWoven C.stepped (X.pieces expand.now) recorded comps.old (length (A.lists accesses.now)) w comps.new)) }
+    ensures no_tie { IfOk result (λ o. IfSome o (λ w. HaveNoTie (woven C.stepped (all_events (X.pieces expand.now) (one_after_other (A.lists accesses.now))) comps.old))) }
+    ensures tie { IfOk result (λ o. IfNone o (HaveTie (woven C.stepped (all_events (X.pieces expand.now) (one_after_other (A.lists accesses.now))) comps.old))) }
     ensures unchanged_at_tie { IfOk result (λ o. IfNone o (comps.new ≡ comps.old)) }
     ensures unchanged { OnErr result (comps.new ≡ comps.old) }
 {
@@ -66,8 +74,9 @@ pub fn weave_chains<X: Expand, C: Component + Kept>(
     laws::numbers_decide_ties_alone::<C>();
     laws::weave_is_the_one_solution::<C>();
     feedback::laws::delays_are_of_the_cores();
+    let before = Passing { places, gate };
     let mut after = copy_of(alloc, comps)?;
-    let found = weave_on(alloc, expand, entries, cores, &mut after)?;
+    let found = weave_on(alloc, expand, accesses, &mut after, &before)?;
     match found {
         Some(woven) => {
             *comps = after;
@@ -79,73 +88,70 @@ pub fn weave_chains<X: Expand, C: Component + Kept>(
 
 /// The one-list weave of the events as the accesses are listed. Where there is a tie, the
 /// components are left in the middle of it.
-fn weave_on<X: Expand, C: Component>(
+fn weave_on<X: Expand, C: Component, A: Accesses, G: Gate>(
     alloc: Global,
     expand: &X,
-    entries: &[Entry],
-    cores: u16,
+    accesses: &A,
     comps: &mut Comps<C>,
+    before: &Passing<G>,
 ) -> Result<Option<Woven>, NoMemory>
-    requires chained { AreChained (X.pieces expand.now) entries.now cores }
-    requires few { length (all_events (X.pieces expand.now) entries.now) < 2 ^ 32 - 1 }
-    requires fits { GraphFits C.serves C.floor (all_events (X.pieces expand.now) entries.now) comps.old }
-    requires small { AreSmallSteps C.stepped C.greatest (all_events (X.pieces expand.now) entries.now) comps.old }
-    ensures woven { IfOk result (λ o. IfSome o (λ w. IsWoven C.stepped (X.pieces expand.now) entries.now comps.old cores w comps.new)) }
-    ensures no_tie { IfOk result (λ o. IfSome o (λ w. HaveNoTie (woven C.stepped (all_events (X.pieces expand.now) entries.now) comps.old))) }
-    ensures tie { IfOk result (λ o. IfNone o (HaveTie (woven C.stepped (all_events (X.pieces expand.now) entries.now) comps.old))) }
+    requires chained { AreChained (X.pieces expand.now) (A.lists accesses.now) }
+    requires few { length (all_events (X.pieces expand.now) (one_after_other (A.lists accesses.now))) < 2 ^ 32 - 1 }
+    requires fits { GraphFits C.serves C.floor (all_events (X.pieces expand.now) (one_after_other (A.lists accesses.now))) comps.old }
+    requires small { AreSmallSteps C.stepped C.greatest (all_events (X.pieces expand.now) (one_after_other (A.lists accesses.now))) comps.old }
+    ensures woven { IfOk result (λ o. IfSome o (λ w. IsWoven C.stepped (X.pieces expand.now) (one_after_other (A.lists accesses.now)) comps.old (length (A.lists accesses.now)) w comps.new)) }
+    ensures no_tie { IfOk result (λ o. IfSome o (λ w. HaveNoTie (woven C.stepped (all_events (X.pieces expand.now) (one_after_other (A.lists accesses.now))) comps.old))) }
+    ensures tie { IfOk result (λ o. IfNone o (HaveTie (woven C.stepped (all_events (X.pieces expand.now) (one_after_other (A.lists accesses.now))) comps.old))) }
 {
-    laws::events_are_counted::<X>();
-    let mut chains = fresh_chains(alloc, entries, cores)?;
+    let mut chains = fresh_chains(alloc, accesses)?;
     let mut tallies = vec![in alloc; NO_TALLY; comps.as_slice().len()]?;
     weave_over(
         alloc,
         expand,
-        entries,
-        cores,
+        accesses,
         &mut chains,
         &mut tallies,
         comps.as_mut_slice(),
+        before,
     )
 }
 
 /// That weave over fresh chains, one for each core, where nothing is counted.
-fn weave_over<X: Expand, C: Component>(
+fn weave_over<X: Expand, C: Component, A: Accesses, G: Gate>(
     alloc: Global,
     expand: &X,
-    entries: &[Entry],
-    cores: u16,
+    accesses: &A,
     chains: &mut [Chain],
     tallies: &mut [Tally],
     comps: &mut [C],
+    before: &Passing<G>,
 ) -> Result<Option<Woven>, NoMemory>
-    requires chained { AreChained (X.pieces expand.now) entries.now (length chains.old) }
-    requires few { length (all_events (X.pieces expand.now) entries.now) < 2 ^ 32 - 1 }
-    requires fits { GraphFits C.serves C.floor (all_events (X.pieces expand.now) entries.now) comps.old }
-    requires small { AreSmallSteps C.stepped C.greatest (all_events (X.pieces expand.now) entries.now) comps.old }
-    requires fresh { AreFresh entries.now chains.old }
-    requires cores { length chains.old ≡ cores }
+    requires chained { AreChained (X.pieces expand.now) (A.lists accesses.now) }
+    requires few { length (all_events (X.pieces expand.now) (one_after_other (A.lists accesses.now))) < 2 ^ 32 - 1 }
+    requires fits { GraphFits C.serves C.floor (all_events (X.pieces expand.now) (one_after_other (A.lists accesses.now))) comps.old }
+    requires small { AreSmallSteps C.stepped C.greatest (all_events (X.pieces expand.now) (one_after_other (A.lists accesses.now))) comps.old }
+    requires fresh { AreFresh (one_after_other (A.lists accesses.now)) (states (A.lists accesses.now) chains.old) }
+    requires of { AreOfLists (A.lists accesses.now) chains.old }
+    requires cores { length chains.old ≡ length (A.lists accesses.now) }
     requires tallies { length tallies.old ≡ length comps.old }
     requires nothing { AreTallied [] tallies.old }
     requires empty { AreSmall 0 tallies.old }
-    ensures woven { IfOk result (λ o. IfSome o (λ w. IsWoven C.stepped (X.pieces expand.now) entries.now comps.old cores w comps.new)) }
-    ensures no_tie { IfOk result (λ o. IfSome o (λ w. HaveNoTie (woven C.stepped (all_events (X.pieces expand.now) entries.now) comps.old))) }
-    ensures tie { IfOk result (λ o. IfNone o (HaveTie (woven C.stepped (all_events (X.pieces expand.now) entries.now) comps.old))) }
+    ensures woven { IfOk result (λ o. IfSome o (λ w. IsWoven C.stepped (X.pieces expand.now) (one_after_other (A.lists accesses.now)) comps.old (length (A.lists accesses.now)) w comps.new)) }
+    ensures no_tie { IfOk result (λ o. IfSome o (λ w. HaveNoTie (woven C.stepped (all_events (X.pieces expand.now) (one_after_other (A.lists accesses.now))) comps.old))) }
+    ensures tie { IfOk result (λ o. IfNone o (HaveTie (woven C.stepped (all_events (X.pieces expand.now) (one_after_other (A.lists accesses.now))) comps.old))) }
 {
     laws::events_are_placed::<X>();
-    laws::events_are_counted::<X>();
     laws::each_event_fires_once::<C>();
     laws::events_fire_in_order::<C>();
     laws::events_fire_by_the_rules::<C>();
     laws::times_so_far_become_the_weaves::<C>();
     laws::weave_is_the_one_solution::<C>();
     laws::cores_wait_for_the_same_event();
-    let mut ready = Ready::with_room(alloc, u32::from(cores))?;
-    first_keys::<X, C>(expand, entries, chains, &mut ready);
-    let events = count_events(expand, entries);
-    let tied = fire_all(expand, entries, chains, &mut ready, comps, tallies, events);
-    if tied {
+    let mut ready = Ready::with_room(alloc, u32::from(accesses.cores()))?;
+    first_keys::<X, A, C>(expand, accesses, chains, &mut ready);
+    let Some(events) = fire_all(expand, accesses, chains, &mut ready, comps, tallies, before) else {
         return Ok(None);
-    }
+    };
     let delays = delays_of(alloc, chains)?;
     let counts = counts_of(alloc, tallies)?;
     Ok(Some(Woven {
@@ -155,17 +161,9 @@ fn weave_over<X: Expand, C: Component>(
     }))
 }
 
-/// How many events the accesses have together.
-fn count_events<X: Expand>(expand: &X, entries: &[Entry]) -> u32
-    requires { sum_by (λ e. length (X.pieces expand.now e)) entries.now < 2 ^ 32 }
-    ensures { result ≡ sum_by (λ e. length (X.pieces expand.now e)) entries.now }
-{
-    entries.iter().map(|e| u32::from(expand.count(e))).sum()
-}
-
 /// The delays of the cores, whose chains are over.
 fn delays_of(alloc: Global, chains: &[Chain]) -> Result<Delays, NoMemory>
-    ensures { IfOk result (λ delays. delays ≡ map delay_by chains.now) }
+    ensures { IfOk result (λ delays. delays ≡ map (λ c. delay_by (state_of 0 c)) chains.now) }
 {
     let list = chains.iter().map(|chain| chain.delay()).collect(alloc)?;
     Ok(Delays::of(list))

@@ -1,141 +1,145 @@
--- One key more.
-use Rattle.std.proofs.Common.{◌≡◌, ◌+◌, ◌^◌, ◌≤◌, ℕ, All, List, get_or, None, Some, [], sym, ◌∙◌, ap, subst, arith, nat_lt, false}
+-- One chain more.
+use Rattle.std.proofs.Common.{◌≡◌, ◌+◌, ◌<◌, ◌≤◌, ◌∙◌, ℕ, Some, [], sym, ap, subst, refl, arith, get_or, length, None}
+use Rattle.std.specs.Prelude.{IfSome, slice_set}
 use Rattle.std.specs.List.{Contains, slice_get}
-use Rattle.std.proofs.lemmas.Bool.{ltb-true}
-use Rattle.std.proofs.lemmas.Bool.Decides.{nat_tests}
-use Rattle.std.proofs.lemmas.Option.{slice_get-get_or}
-use Rattle.zs_num.specs.declared.entry.Outcome.TheVariants.{Hit}
-use Rattle.zs_num.specs.declared.request.Request.TheVariants.{Load}
-use Rattle.event_graph.specs.EventGraph.{all_events}
-use Rattle.event_graph.specs.OneListWeave.{after_firings, finish_in, start_of}
-use Rattle.weave_chains.specs.GraphFacts.{ArePlaced}
-use Rattle.weave_chains.proofs.FirstKeys as F
+use Rattle.std.proofs.lemmas.List.{length-set}
+use Rattle.std.proofs.lemmas.Option.{slice_get-get_or, slice_get_within}
+use Rattle.weave_chains.specs.declared.chain.Chain.{Chain}
+use Rattle.weave_chains.specs.Listed.{one_after_other}
+use Rattle.weave_chains.specs.NextEvents.{AreOfLists}
+use Rattle.weave_chains.specs.Rounds.{with_next}
+use Rattle.weave_chains.specs.States.{states}
 use Rattle.weave_chains.proofs.FirstKeys.{HaveKeys}
-use Rattle.weave_chains.proofs.Popped.{contained}
-use Rattle.weave_chains.proofs.beginning.first_keys.Goals.{then-goes_on, else-goes_on}
+use Rattle.weave_chains.proofs.FirstLook as F
 use Rattle.weave_chains.proofs.beginning.first_keys.Goals as goal
 
-by_all : {X : Type 0} (P : X → Type 0) (xs : List X) → All P xs → (x : X) → Contains xs x → P x
-by_all P xs h x c = subst P c.2 (h c.0 x c.1)
-
-not_before : (a b : ℕ) → nat_lt a b ≡ false → b ≤ a
-not_before a b f = grind (arith, nat_tests)
-
-pub bounds-entries-chain : goal.bounds-entries-chain
-bounds-entries-chain g c =
-    let placed : ArePlaced (g.X.Expand.pieces c.args.expand.now) c.args.entries.now = record {
-      numbered = c.events_are_placed.ensures.numbered c.args.expand.now c.args.entries.now;
-      there = c.events_are_placed.ensures.there c.args.expand.now c.args.entries.now;
-      next = c.events_are_placed.ensures.next c.args.expand.now c.args.entries.now;
-      each = c.events_are_placed.ensures.each c.args.expand.now c.args.entries.now;
-      parents = c.events_are_placed.ensures.parents c.args.expand.now c.args.entries.now;
-      last = c.events_are_placed.ensures.last c.args.expand.now c.args.entries.now;
-      ends = c.events_are_placed.ensures.ends c.args.expand.now c.args.entries.now;
+pub loop-core-init : goal.loop-core-init
+loop-core-init g c =
+    let lists = g.A.Accesses.lists c.args.accesses.now in
+    let pieces = g.X.Expand.pieces c.args.expand.now in
+    let laws = c.rounds_rest_on_these.ensures c.args.expand.now in
+    record {
+      keys = subst (λ ks. HaveKeys pieces (one_after_other lists) (states lists c.args.chains.now) 0 ks) (sym c.requires.none) (F.none_yet laws c.requires.chained c.args.chains.now c.requires.count c.requires.fresh);
+      room = refl;
+      same = refl;
+      count = refl;
+      of = c.requires.of;
+      ahead = λ core chain below at. absurd (omega (arith, below));
     }
-    in
-    let at : slice_get c.args.chains.now c.loop-core.core ≡ Some (get_or c.args.chains.now c.loop-core.core (record { access = 0; end = 0; place = 0; ended = []; last = None })) = slice_get-get_or c.args.chains.now c.loop-core.core (record { access = 0; end = 0; place = 0; ended = []; last = None }) c.loop-core-test.true in
-    let on = ltb-true (get_or c.args.chains.now c.loop-core.core (record { access = 0; end = 0; place = 0; ended = []; last = None })).access (get_or c.args.chains.now c.loop-core.core (record { access = 0; end = 0; place = 0; ended = []; last = None })).end (sym c.goes_on.ensures ∙ c.if-goes_on.true) in
-    F.access_within (g.X.Expand.pieces c.args.expand.now) c.args.entries.now placed c.args.chains.now c.requires.chained c.requires.fresh c.loop-core.core c.loop-core.ready.keys c.loop-core.invariant.0 (get_or c.args.chains.now c.loop-core.core (record { access = 0; end = 0; place = 0; ended = []; last = None })) at on
 
-pub piece-piece-requires : goal.piece-piece-requires
-piece-piece-requires g c =
-    let placed : ArePlaced (g.X.Expand.pieces c.args.expand.now) c.args.entries.now = record {
-      numbered = c.events_are_placed.ensures.numbered c.args.expand.now c.args.entries.now;
-      there = c.events_are_placed.ensures.there c.args.expand.now c.args.entries.now;
-      next = c.events_are_placed.ensures.next c.args.expand.now c.args.entries.now;
-      each = c.events_are_placed.ensures.each c.args.expand.now c.args.entries.now;
-      parents = c.events_are_placed.ensures.parents c.args.expand.now c.args.entries.now;
-      last = c.events_are_placed.ensures.last c.args.expand.now c.args.entries.now;
-      ends = c.events_are_placed.ensures.ends c.args.expand.now c.args.entries.now;
-    }
-    in
-    let at : slice_get c.args.chains.now c.loop-core.core ≡ Some (get_or c.args.chains.now c.loop-core.core (record { access = 0; end = 0; place = 0; ended = []; last = None })) = slice_get-get_or c.args.chains.now c.loop-core.core (record { access = 0; end = 0; place = 0; ended = []; last = None }) c.loop-core-test.true in
-    let on = ltb-true (get_or c.args.chains.now c.loop-core.core (record { access = 0; end = 0; place = 0; ended = []; last = None })).access (get_or c.args.chains.now c.loop-core.core (record { access = 0; end = 0; place = 0; ended = []; last = None })).end (sym c.goes_on.ensures ∙ c.if-goes_on.true) in
-    let there : slice_get c.args.entries.now (get_or c.args.chains.now c.loop-core.core (record { access = 0; end = 0; place = 0; ended = []; last = None })).access ≡ Some (get_or c.args.entries.now (get_or c.args.chains.now c.loop-core.core (record { access = 0; end = 0; place = 0; ended = []; last = None })).access (record { core = 0; stamp = 0; start = 0; request = Load 0 0; reply = 0; outcome = Hit })) = slice_get-get_or c.args.entries.now (get_or c.args.chains.now c.loop-core.core (record { access = 0; end = 0; place = 0; ended = []; last = None })).access (record { core = 0; stamp = 0; start = 0; request = Load 0 0; reply = 0; outcome = Hit }) (F.access_within (g.X.Expand.pieces c.args.expand.now) c.args.entries.now placed c.args.chains.now c.requires.chained c.requires.fresh c.loop-core.core c.loop-core.ready.keys c.loop-core.invariant.0 (get_or c.args.chains.now c.loop-core.core (record { access = 0; end = 0; place = 0; ended = []; last = None })) at on) in
-    F.place_within (g.X.Expand.pieces c.args.expand.now) c.args.entries.now placed c.args.chains.now c.requires.chained c.requires.fresh c.loop-core.core c.loop-core.ready.keys c.loop-core.invariant.0 (get_or c.args.chains.now c.loop-core.core (record { access = 0; end = 0; place = 0; ended = []; last = None })) at on (get_or c.args.entries.now (get_or c.args.chains.now c.loop-core.core (record { access = 0; end = 0; place = 0; ended = []; last = None })).access (record { core = 0; stamp = 0; start = 0; request = Load 0 0; reply = 0; outcome = Hit })) there
+pub bounds-chains-from : goal.bounds-chains-from
+bounds-chains-from g c =
+    omega (arith, c.loop-core-test.true, c.cores-cores.ensures, c.requires.count, c.loop-core.invariant.count, c.from.ensures)
 
-pub overflow_add-entry : goal.overflow_add-entry
-overflow_add-entry g c =
-    let placed : ArePlaced (g.X.Expand.pieces c.args.expand.now) c.args.entries.now = record {
-      numbered = c.events_are_placed.ensures.numbered c.args.expand.now c.args.entries.now;
-      there = c.events_are_placed.ensures.there c.args.expand.now c.args.entries.now;
-      next = c.events_are_placed.ensures.next c.args.expand.now c.args.entries.now;
-      each = c.events_are_placed.ensures.each c.args.expand.now c.args.entries.now;
-      parents = c.events_are_placed.ensures.parents c.args.expand.now c.args.entries.now;
-      last = c.events_are_placed.ensures.last c.args.expand.now c.args.entries.now;
-      ends = c.events_are_placed.ensures.ends c.args.expand.now c.args.entries.now;
-    }
-    in
-    let at : slice_get c.args.chains.now c.loop-core.core ≡ Some (get_or c.args.chains.now c.loop-core.core (record { access = 0; end = 0; place = 0; ended = []; last = None })) = slice_get-get_or c.args.chains.now c.loop-core.core (record { access = 0; end = 0; place = 0; ended = []; last = None }) c.loop-core-test.true in
-    let on = ltb-true (get_or c.args.chains.now c.loop-core.core (record { access = 0; end = 0; place = 0; ended = []; last = None })).access (get_or c.args.chains.now c.loop-core.core (record { access = 0; end = 0; place = 0; ended = []; last = None })).end (sym c.goes_on.ensures ∙ c.if-goes_on.true) in
-    let there : slice_get c.args.entries.now (get_or c.args.chains.now c.loop-core.core (record { access = 0; end = 0; place = 0; ended = []; last = None })).access ≡ Some (get_or c.args.entries.now (get_or c.args.chains.now c.loop-core.core (record { access = 0; end = 0; place = 0; ended = []; last = None })).access (record { core = 0; stamp = 0; start = 0; request = Load 0 0; reply = 0; outcome = Hit })) = slice_get-get_or c.args.entries.now (get_or c.args.chains.now c.loop-core.core (record { access = 0; end = 0; place = 0; ended = []; last = None })).access (record { core = 0; stamp = 0; start = 0; request = Load 0 0; reply = 0; outcome = Hit }) (F.access_within (g.X.Expand.pieces c.args.expand.now) c.args.entries.now placed c.args.chains.now c.requires.chained c.requires.fresh c.loop-core.core c.loop-core.ready.keys c.loop-core.invariant.0 (get_or c.args.chains.now c.loop-core.core (record { access = 0; end = 0; place = 0; ended = []; last = None })) at on) in
-    let early = c.requires.chained.early (get_or c.args.chains.now c.loop-core.core (record { access = 0; end = 0; place = 0; ended = []; last = None })).access (get_or c.args.entries.now (get_or c.args.chains.now c.loop-core.core (record { access = 0; end = 0; place = 0; ended = []; last = None })).access (record { core = 0; stamp = 0; start = 0; request = Load 0 0; reply = 0; outcome = Hit })) there in
-    let soon = (g.met.X.Expand.ends_with_access c.args.expand.now (get_or c.args.entries.now (get_or c.args.chains.now c.loop-core.core (record { access = 0; end = 0; place = 0; ended = []; last = None })).access (record { core = 0; stamp = 0; start = 0; request = Load 0 0; reply = 0; outcome = Hit }))).each (get_or c.args.chains.now c.loop-core.core (record { access = 0; end = 0; place = 0; ended = []; last = None })).place c.piece-piece.result c.piece-piece.ensures in
-    let short = g.met.X.Expand.time_small c.args.expand.now (get_or c.args.entries.now (get_or c.args.chains.now c.loop-core.core (record { access = 0; end = 0; place = 0; ended = []; last = None })).access (record { core = 0; stamp = 0; start = 0; request = Load 0 0; reply = 0; outcome = Hit })) in
-    omega (arith, early, soon, short)
+pub look_ahead-start-requires-clause-end : goal.look_ahead-start-requires-clause-end
+look_ahead-start-requires-clause-end g c =
+    let lists = g.A.Accesses.lists c.args.accesses.now in
+    let pieces = g.X.Expand.pieces c.args.expand.now in
+    let laws = c.rounds_rest_on_these.ensures c.args.expand.now in
+    let i = c.loop-core.invariant in
+    let core : ℕ = c.loop-core.core in
+    let within : core < length c.loop-core.chains = omega (arith, c.loop-core-test.true, c.cores-cores.ensures, c.requires.count, i.count) in
+    let place : c.from.result ≡ core = c.from.ensures in
+    let chain : Chain = get_or c.loop-core.chains c.from.result (record { access = 0; end = 0; place = 0; ended = []; last = None; next = None }) in
+    let at : slice_get c.loop-core.chains core ≡ Some chain = subst (λ k. slice_get c.loop-core.chains k ≡ Some chain) place (slice_get-get_or c.loop-core.chains c.from.result (record { access = 0; end = 0; place = 0; ended = []; last = None; next = None }) (omega (arith, within, place))) in
+    F.end_is laws c.requires.chained c.args.chains.now c.requires.count c.requires.fresh c.loop-core.chains i.same i.of core c.loop-core.ready.keys i.keys chain at
 
-pub start-start-requires : goal.start-start-requires
-unfolding after_firings
-start-start-requires g c =
-    let placed : ArePlaced (g.X.Expand.pieces c.args.expand.now) c.args.entries.now = record {
-      numbered = c.events_are_placed.ensures.numbered c.args.expand.now c.args.entries.now;
-      there = c.events_are_placed.ensures.there c.args.expand.now c.args.entries.now;
-      next = c.events_are_placed.ensures.next c.args.expand.now c.args.entries.now;
-      each = c.events_are_placed.ensures.each c.args.expand.now c.args.entries.now;
-      parents = c.events_are_placed.ensures.parents c.args.expand.now c.args.entries.now;
-      last = c.events_are_placed.ensures.last c.args.expand.now c.args.entries.now;
-      ends = c.events_are_placed.ensures.ends c.args.expand.now c.args.entries.now;
-    }
-    in
-    let at : slice_get c.args.chains.now c.loop-core.core ≡ Some (get_or c.args.chains.now c.loop-core.core (record { access = 0; end = 0; place = 0; ended = []; last = None })) = slice_get-get_or c.args.chains.now c.loop-core.core (record { access = 0; end = 0; place = 0; ended = []; last = None }) c.loop-core-test.true in
-    let on = ltb-true (get_or c.args.chains.now c.loop-core.core (record { access = 0; end = 0; place = 0; ended = []; last = None })).access (get_or c.args.chains.now c.loop-core.core (record { access = 0; end = 0; place = 0; ended = []; last = None })).end (sym c.goes_on.ensures ∙ c.if-goes_on.true) in
-    let there : slice_get c.args.entries.now (get_or c.args.chains.now c.loop-core.core (record { access = 0; end = 0; place = 0; ended = []; last = None })).access ≡ Some (get_or c.args.entries.now (get_or c.args.chains.now c.loop-core.core (record { access = 0; end = 0; place = 0; ended = []; last = None })).access (record { core = 0; stamp = 0; start = 0; request = Load 0 0; reply = 0; outcome = Hit })) = slice_get-get_or c.args.entries.now (get_or c.args.chains.now c.loop-core.core (record { access = 0; end = 0; place = 0; ended = []; last = None })).access (record { core = 0; stamp = 0; start = 0; request = Load 0 0; reply = 0; outcome = Hit }) (F.access_within (g.X.Expand.pieces c.args.expand.now) c.args.entries.now placed c.args.chains.now c.requires.chained c.requires.fresh c.loop-core.core c.loop-core.ready.keys c.loop-core.invariant.0 (get_or c.args.chains.now c.loop-core.core (record { access = 0; end = 0; place = 0; ended = []; last = None })) at on) in
-    let s : start_of (finish_in []) (F.event (g.X.Expand.pieces c.args.expand.now) c.args.entries.now placed c.args.chains.now c.requires.chained c.requires.fresh c.loop-core.core c.loop-core.ready.keys c.loop-core.invariant.0 (get_or c.args.chains.now c.loop-core.core (record { access = 0; end = 0; place = 0; ended = []; last = None })) at on (get_or c.args.entries.now (get_or c.args.chains.now c.loop-core.core (record { access = 0; end = 0; place = 0; ended = []; last = None })).access (record { core = 0; stamp = 0; start = 0; request = Load 0 0; reply = 0; outcome = Hit })) there c.piece-piece.result c.piece-piece.ensures (g.met.X.Expand.parents_come_before c.args.expand.now (get_or c.args.entries.now (get_or c.args.chains.now c.loop-core.core (record { access = 0; end = 0; place = 0; ended = []; last = None })).access (record { core = 0; stamp = 0; start = 0; request = Load 0 0; reply = 0; outcome = Hit })))) ≤ 2 ^ 62 = (by_all (λ e. start_of (finish_in (after_firings g.C.Component.stepped (all_events (g.X.Expand.pieces c.args.expand.now) c.args.entries.now) c.requires.begins.0 0).fired) e ≤ 2 ^ 62) (all_events (g.X.Expand.pieces c.args.expand.now) c.args.entries.now) (c.starts_so_far_stay_small.ensures (all_events (g.X.Expand.pieces c.args.expand.now) c.args.entries.now) c.requires.begins.0 0 placed.numbered c.requires.begins.1 c.requires.begins.2) (F.event (g.X.Expand.pieces c.args.expand.now) c.args.entries.now placed c.args.chains.now c.requires.chained c.requires.fresh c.loop-core.core c.loop-core.ready.keys c.loop-core.invariant.0 (get_or c.args.chains.now c.loop-core.core (record { access = 0; end = 0; place = 0; ended = []; last = None })) at on (get_or c.args.entries.now (get_or c.args.chains.now c.loop-core.core (record { access = 0; end = 0; place = 0; ended = []; last = None })).access (record { core = 0; stamp = 0; start = 0; request = Load 0 0; reply = 0; outcome = Hit })) there c.piece-piece.result c.piece-piece.ensures (g.met.X.Expand.parents_come_before c.args.expand.now (get_or c.args.entries.now (get_or c.args.chains.now c.loop-core.core (record { access = 0; end = 0; place = 0; ended = []; last = None })).access (record { core = 0; stamp = 0; start = 0; request = Load 0 0; reply = 0; outcome = Hit })))) (contained (all_events (g.X.Expand.pieces c.args.expand.now) c.args.entries.now) _ (F.event (g.X.Expand.pieces c.args.expand.now) c.args.entries.now placed c.args.chains.now c.requires.chained c.requires.fresh c.loop-core.core c.loop-core.ready.keys c.loop-core.invariant.0 (get_or c.args.chains.now c.loop-core.core (record { access = 0; end = 0; place = 0; ended = []; last = None })) at on (get_or c.args.entries.now (get_or c.args.chains.now c.loop-core.core (record { access = 0; end = 0; place = 0; ended = []; last = None })).access (record { core = 0; stamp = 0; start = 0; request = Load 0 0; reply = 0; outcome = Hit })) there c.piece-piece.result c.piece-piece.ensures (g.met.X.Expand.parents_come_before c.args.expand.now (get_or c.args.entries.now (get_or c.args.chains.now c.loop-core.core (record { access = 0; end = 0; place = 0; ended = []; last = None })).access (record { core = 0; stamp = 0; start = 0; request = Load 0 0; reply = 0; outcome = Hit })))) (F.event_there (g.X.Expand.pieces c.args.expand.now) c.args.entries.now placed c.args.chains.now c.requires.chained c.requires.fresh c.loop-core.core c.loop-core.ready.keys c.loop-core.invariant.0 (get_or c.args.chains.now c.loop-core.core (record { access = 0; end = 0; place = 0; ended = []; last = None })) at on (get_or c.args.entries.now (get_or c.args.chains.now c.loop-core.core (record { access = 0; end = 0; place = 0; ended = []; last = None })).access (record { core = 0; stamp = 0; start = 0; request = Load 0 0; reply = 0; outcome = Hit })) there c.piece-piece.result c.piece-piece.ensures (g.met.X.Expand.parents_come_before c.args.expand.now (get_or c.args.entries.now (get_or c.args.chains.now c.loop-core.core (record { access = 0; end = 0; place = 0; ended = []; last = None })).access (record { core = 0; stamp = 0; start = 0; request = Load 0 0; reply = 0; outcome = Hit })))))) in
-    omega (arith, s, F.starts_then (g.X.Expand.pieces c.args.expand.now) c.args.entries.now placed c.args.chains.now c.requires.chained c.requires.fresh c.loop-core.core c.loop-core.ready.keys c.loop-core.invariant.0 (get_or c.args.chains.now c.loop-core.core (record { access = 0; end = 0; place = 0; ended = []; last = None })) at on (get_or c.args.entries.now (get_or c.args.chains.now c.loop-core.core (record { access = 0; end = 0; place = 0; ended = []; last = None })).access (record { core = 0; stamp = 0; start = 0; request = Load 0 0; reply = 0; outcome = Hit })) there c.piece-piece.result c.piece-piece.ensures (g.met.X.Expand.parents_come_before c.args.expand.now (get_or c.args.entries.now (get_or c.args.chains.now c.loop-core.core (record { access = 0; end = 0; place = 0; ended = []; last = None })).access (record { core = 0; stamp = 0; start = 0; request = Load 0 0; reply = 0; outcome = Hit }))))
+pub look_ahead-start-requires-clause-place : goal.look_ahead-start-requires-clause-place
+look_ahead-start-requires-clause-place g c =
+    let lists = g.A.Accesses.lists c.args.accesses.now in
+    let pieces = g.X.Expand.pieces c.args.expand.now in
+    let laws = c.rounds_rest_on_these.ensures c.args.expand.now in
+    let i = c.loop-core.invariant in
+    let core : ℕ = c.loop-core.core in
+    let within : core < length c.loop-core.chains = omega (arith, c.loop-core-test.true, c.cores-cores.ensures, c.requires.count, i.count) in
+    let place : c.from.result ≡ core = c.from.ensures in
+    let chain : Chain = get_or c.loop-core.chains c.from.result (record { access = 0; end = 0; place = 0; ended = []; last = None; next = None }) in
+    let at : slice_get c.loop-core.chains core ≡ Some chain = subst (λ k. slice_get c.loop-core.chains k ≡ Some chain) place (slice_get-get_or c.loop-core.chains c.from.result (record { access = 0; end = 0; place = 0; ended = []; last = None; next = None }) (omega (arith, within, place))) in
+    λ e e_there. F.place_of laws c.requires.chained c.args.chains.now c.requires.count c.requires.fresh c.loop-core.chains i.same i.of core c.loop-core.ready.keys i.keys chain at e e_there
 
-pub push-requires-clause-new : goal.push-requires-clause-new
-push-requires-clause-new g c =
-    let placed : ArePlaced (g.X.Expand.pieces c.args.expand.now) c.args.entries.now = record {
-      numbered = c.events_are_placed.ensures.numbered c.args.expand.now c.args.entries.now;
-      there = c.events_are_placed.ensures.there c.args.expand.now c.args.entries.now;
-      next = c.events_are_placed.ensures.next c.args.expand.now c.args.entries.now;
-      each = c.events_are_placed.ensures.each c.args.expand.now c.args.entries.now;
-      parents = c.events_are_placed.ensures.parents c.args.expand.now c.args.entries.now;
-      last = c.events_are_placed.ensures.last c.args.expand.now c.args.entries.now;
-      ends = c.events_are_placed.ensures.ends c.args.expand.now c.args.entries.now;
-    }
-    in
-    let at : slice_get c.args.chains.now c.loop-core.core ≡ Some (get_or c.args.chains.now c.loop-core.core (record { access = 0; end = 0; place = 0; ended = []; last = None })) = slice_get-get_or c.args.chains.now c.loop-core.core (record { access = 0; end = 0; place = 0; ended = []; last = None }) c.loop-core-test.true in
-    let on = ltb-true (get_or c.args.chains.now c.loop-core.core (record { access = 0; end = 0; place = 0; ended = []; last = None })).access (get_or c.args.chains.now c.loop-core.core (record { access = 0; end = 0; place = 0; ended = []; last = None })).end (sym c.goes_on.ensures ∙ c.if-goes_on.true) in
-    let there : slice_get c.args.entries.now (get_or c.args.chains.now c.loop-core.core (record { access = 0; end = 0; place = 0; ended = []; last = None })).access ≡ Some (get_or c.args.entries.now (get_or c.args.chains.now c.loop-core.core (record { access = 0; end = 0; place = 0; ended = []; last = None })).access (record { core = 0; stamp = 0; start = 0; request = Load 0 0; reply = 0; outcome = Hit })) = slice_get-get_or c.args.entries.now (get_or c.args.chains.now c.loop-core.core (record { access = 0; end = 0; place = 0; ended = []; last = None })).access (record { core = 0; stamp = 0; start = 0; request = Load 0 0; reply = 0; outcome = Hit }) (F.access_within (g.X.Expand.pieces c.args.expand.now) c.args.entries.now placed c.args.chains.now c.requires.chained c.requires.fresh c.loop-core.core c.loop-core.ready.keys c.loop-core.invariant.0 (get_or c.args.chains.now c.loop-core.core (record { access = 0; end = 0; place = 0; ended = []; last = None })) at on) in
-    F.is_new (g.X.Expand.pieces c.args.expand.now) c.args.entries.now placed c.args.chains.now c.requires.chained c.requires.fresh c.loop-core.core c.loop-core.ready.keys c.loop-core.invariant.0 (get_or c.args.chains.now c.loop-core.core (record { access = 0; end = 0; place = 0; ended = []; last = None })) at on (get_or c.args.entries.now (get_or c.args.chains.now c.loop-core.core (record { access = 0; end = 0; place = 0; ended = []; last = None })).access (record { core = 0; stamp = 0; start = 0; request = Load 0 0; reply = 0; outcome = Hit })) there c.piece-piece.result c.piece-piece.ensures (g.met.X.Expand.parents_come_before c.args.expand.now (get_or c.args.entries.now (get_or c.args.chains.now c.loop-core.core (record { access = 0; end = 0; place = 0; ended = []; last = None })).access (record { core = 0; stamp = 0; start = 0; request = Load 0 0; reply = 0; outcome = Hit }))) c.start-start.result c.start-start.ensures
+pub look_ahead-start-requires-clause-known : goal.look_ahead-start-requires-clause-known
+look_ahead-start-requires-clause-known g c =
+    let lists = g.A.Accesses.lists c.args.accesses.now in
+    let pieces = g.X.Expand.pieces c.args.expand.now in
+    let laws = c.rounds_rest_on_these.ensures c.args.expand.now in
+    let i = c.loop-core.invariant in
+    let core : ℕ = c.loop-core.core in
+    let within : core < length c.loop-core.chains = omega (arith, c.loop-core-test.true, c.cores-cores.ensures, c.requires.count, i.count) in
+    let place : c.from.result ≡ core = c.from.ensures in
+    let chain : Chain = get_or c.loop-core.chains c.from.result (record { access = 0; end = 0; place = 0; ended = []; last = None; next = None }) in
+    let at : slice_get c.loop-core.chains core ≡ Some chain = subst (λ k. slice_get c.loop-core.chains k ≡ Some chain) place (slice_get-get_or c.loop-core.chains c.from.result (record { access = 0; end = 0; place = 0; ended = []; last = None; next = None }) (omega (arith, within, place))) in
+    λ n deep known. F.none_known laws c.requires.chained c.args.chains.now c.requires.count c.requires.fresh c.loop-core.chains i.same i.of core c.loop-core.ready.keys i.keys chain at n deep known
 
-pub returns-clause-ready : goal.returns-clause-ready
-returns-clause-ready g c =
-    F.all_keys (g.X.Expand.pieces c.args.expand.now) c.args.entries.now c.args.chains.now c.loop-core.core c.loop-core.ready.keys (omega (arith, c.loop-core-test.false)) (omega (arith, c.loop-core.auto.core-end)) c.loop-core.invariant.0
+pub look_ahead-start-requires-clause-soon : goal.look_ahead-start-requires-clause-soon
+look_ahead-start-requires-clause-soon g c =
+    let lists = g.A.Accesses.lists c.args.accesses.now in
+    let pieces = g.X.Expand.pieces c.args.expand.now in
+    let laws = c.rounds_rest_on_these.ensures c.args.expand.now in
+    let i = c.loop-core.invariant in
+    let core : ℕ = c.loop-core.core in
+    let within : core < length c.loop-core.chains = omega (arith, c.loop-core-test.true, c.cores-cores.ensures, c.requires.count, i.count) in
+    let place : c.from.result ≡ core = c.from.ensures in
+    let chain : Chain = get_or c.loop-core.chains c.from.result (record { access = 0; end = 0; place = 0; ended = []; last = None; next = None }) in
+    let at : slice_get c.loop-core.chains core ≡ Some chain = subst (λ k. slice_get c.loop-core.chains k ≡ Some chain) place (slice_get-get_or c.loop-core.chains c.from.result (record { access = 0; end = 0; place = 0; ended = []; last = None; next = None }) (omega (arith, within, place))) in
+    λ e p e_there p_there. F.start_small laws c.requires.chained c.args.chains.now c.requires.count c.requires.fresh c.loop-core.chains i.same i.of core c.loop-core.ready.keys i.keys chain at e e_there p p_there c.requires.begins.0 c.requires.begins.1 c.requires.begins.2
+
+pub push_next-requires : goal.push_next-requires
+push_next-requires g c =
+    let lists = g.A.Accesses.lists c.args.accesses.now in
+    let pieces = g.X.Expand.pieces c.args.expand.now in
+    let laws = c.rounds_rest_on_these.ensures c.args.expand.now in
+    let i = c.loop-core.invariant in
+    let core : ℕ = c.loop-core.core in
+    let within : core < length c.loop-core.chains = omega (arith, c.loop-core-test.true, c.cores-cores.ensures, c.requires.count, i.count) in
+    let place : c.from.result ≡ core = c.from.ensures in
+    let chain : Chain = get_or c.loop-core.chains c.from.result (record { access = 0; end = 0; place = 0; ended = []; last = None; next = None }) in
+    let at : slice_get c.loop-core.chains core ≡ Some chain = subst (λ k. slice_get c.loop-core.chains k ≡ Some chain) place (slice_get-get_or c.loop-core.chains c.from.result (record { access = 0; end = 0; place = 0; ended = []; last = None; next = None }) (omega (arith, within, place))) in
+    let after = c.look_ahead-start.new.chain in
+    let more : core < length c.args.chains.now = omega (arith, within, i.count) in
+    let space : length c.args.chains.now ≤ c.loop-core.ready.room = omega (arith, c.requires.room, i.room) in
+    let number : core ≡ c.from-in-loop-core.result = sym c.from-in-loop-core.ensures in
+    subst (λ n. IfSome c.look_ahead-start.result (λ s. (length c.loop-core.ready.keys < c.loop-core.ready.room) × ¬ Contains c.loop-core.ready.keys (record { start = s; number = n }))) number
+    (F.can_push laws c.requires.chained c.args.chains.now c.requires.count c.requires.fresh c.loop-core.chains i.same i.of core c.loop-core.ready.keys i.keys chain at after c.look_ahead-start.ensures.chain c.look_ahead-start.ensures.ahead c.look_ahead-start.result c.look_ahead-start.ensures.start c.loop-core.ready.room space more)
 
 pub loop-core-preserved : goal.loop-core-preserved
 loop-core-preserved g c =
-    let placed : ArePlaced (g.X.Expand.pieces c.args.expand.now) c.args.entries.now = record {
-      numbered = c.events_are_placed.ensures.numbered c.args.expand.now c.args.entries.now;
-      there = c.events_are_placed.ensures.there c.args.expand.now c.args.entries.now;
-      next = c.events_are_placed.ensures.next c.args.expand.now c.args.entries.now;
-      each = c.events_are_placed.ensures.each c.args.expand.now c.args.entries.now;
-      parents = c.events_are_placed.ensures.parents c.args.expand.now c.args.entries.now;
-      last = c.events_are_placed.ensures.last c.args.expand.now c.args.entries.now;
-      ends = c.events_are_placed.ensures.ends c.args.expand.now c.args.entries.now;
-    }
+    let lists = g.A.Accesses.lists c.args.accesses.now in
+    let pieces = g.X.Expand.pieces c.args.expand.now in
+    let laws = c.rounds_rest_on_these.ensures c.args.expand.now in
+    let i = c.loop-core.invariant in
+    let core : ℕ = c.loop-core.core in
+    let within : core < length c.loop-core.chains = omega (arith, c.loop-core-test.true, c.cores-cores.ensures, c.requires.count, i.count) in
+    let place : c.from.result ≡ core = c.from.ensures in
+    let chain : Chain = get_or c.loop-core.chains c.from.result (record { access = 0; end = 0; place = 0; ended = []; last = None; next = None }) in
+    let at : slice_get c.loop-core.chains core ≡ Some chain = subst (λ k. slice_get c.loop-core.chains k ≡ Some chain) place (slice_get-get_or c.loop-core.chains c.from.result (record { access = 0; end = 0; place = 0; ended = []; last = None; next = None }) (omega (arith, within, place))) in
+    let after = c.look_ahead-start.new.chain in
+    let number : core ≡ c.from-in-loop-core.result = sym c.from-in-loop-core.ensures in
+    let pushed : c.push_next.new.ready.keys ≡ with_next core c.look_ahead-start.result c.loop-core.ready.keys =
+    ap (λ q. q.keys) c.push_next.ensures ∙ ap (λ n. with_next n c.look_ahead-start.result c.loop-core.ready.keys) (sym number)
     in
-    let at : slice_get c.args.chains.now c.loop-core.core ≡ Some (get_or c.args.chains.now c.loop-core.core (record { access = 0; end = 0; place = 0; ended = []; last = None })) = slice_get-get_or c.args.chains.now c.loop-core.core (record { access = 0; end = 0; place = 0; ended = []; last = None }) c.loop-core-test.true in
-    elim c.if-goes_on.branch [
-      | then-goes_on w ↦
-          let on = ltb-true (get_or c.args.chains.now c.loop-core.core (record { access = 0; end = 0; place = 0; ended = []; last = None })).access (get_or c.args.chains.now c.loop-core.core (record { access = 0; end = 0; place = 0; ended = []; last = None })).end (sym c.goes_on.ensures ∙ w.if-goes_on.true) in
-          let there : slice_get c.args.entries.now (get_or c.args.chains.now c.loop-core.core (record { access = 0; end = 0; place = 0; ended = []; last = None })).access ≡ Some (get_or c.args.entries.now (get_or c.args.chains.now c.loop-core.core (record { access = 0; end = 0; place = 0; ended = []; last = None })).access (record { core = 0; stamp = 0; start = 0; request = Load 0 0; reply = 0; outcome = Hit })) = slice_get-get_or c.args.entries.now (get_or c.args.chains.now c.loop-core.core (record { access = 0; end = 0; place = 0; ended = []; last = None })).access (record { core = 0; stamp = 0; start = 0; request = Load 0 0; reply = 0; outcome = Hit }) (F.access_within (g.X.Expand.pieces c.args.expand.now) c.args.entries.now placed c.args.chains.now c.requires.chained c.requires.fresh c.loop-core.core c.loop-core.ready.keys c.loop-core.invariant.0 (get_or c.args.chains.now c.loop-core.core (record { access = 0; end = 0; place = 0; ended = []; last = None })) at on) in (
-            subst (λ ks. HaveKeys (g.X.Expand.pieces c.args.expand.now) c.args.entries.now c.args.chains.now (c.loop-core.core + 1) ks) (sym (ap (λ r. r.keys) (w.ready-is ∙ w.push.ensures))) (F.one_key_more (g.X.Expand.pieces c.args.expand.now) c.args.entries.now placed c.args.chains.now c.requires.chained c.requires.fresh c.loop-core.core c.loop-core.ready.keys c.loop-core.invariant.0 (get_or c.args.chains.now c.loop-core.core (record { access = 0; end = 0; place = 0; ended = []; last = None })) at on (get_or c.args.entries.now (get_or c.args.chains.now c.loop-core.core (record { access = 0; end = 0; place = 0; ended = []; last = None })).access (record { core = 0; stamp = 0; start = 0; request = Load 0 0; reply = 0; outcome = Hit })) there w.piece-piece.result w.piece-piece.ensures (g.met.X.Expand.parents_come_before c.args.expand.now (get_or c.args.entries.now (get_or c.args.chains.now c.loop-core.core (record { access = 0; end = 0; place = 0; ended = []; last = None })).access (record { core = 0; stamp = 0; start = 0; request = Load 0 0; reply = 0; outcome = Hit }))) w.start-start.result w.start-start.ensures),
-            ap (λ r. r.room) (w.ready-is ∙ w.push.ensures) ∙ c.loop-core.invariant.1,
-          )
-      | else-goes_on w ↦ (
-        subst (λ ks. HaveKeys (g.X.Expand.pieces c.args.expand.now) c.args.entries.now c.args.chains.now (c.loop-core.core + 1) ks) (sym (ap (λ r. r.keys) w.ready-is)) (F.passed_over (g.X.Expand.pieces c.args.expand.now) c.args.entries.now placed c.args.chains.now c.requires.chained c.requires.fresh c.loop-core.core c.loop-core.ready.keys c.loop-core.invariant.0 (get_or c.args.chains.now c.loop-core.core (record { access = 0; end = 0; place = 0; ended = []; last = None })) at (not_before (get_or c.args.chains.now c.loop-core.core (record { access = 0; end = 0; place = 0; ended = []; last = None })).access (get_or c.args.chains.now c.loop-core.core (record { access = 0; end = 0; place = 0; ended = []; last = None })).end (sym c.goes_on.ensures ∙ w.if-goes_on.false))),
-        ap (λ r. r.room) w.ready-is ∙ c.loop-core.invariant.1,
-      )
-    ]
+    record {
+      keys = subst (λ ks. HaveKeys pieces (one_after_other lists) (states lists c.args.chains.now) (core + 1) ks) (sym pushed)
+          (F.keys_after laws c.requires.chained c.args.chains.now c.requires.count c.requires.fresh c.loop-core.chains i.same i.of core c.loop-core.ready.keys i.keys chain at after c.look_ahead-start.ensures.chain c.look_ahead-start.ensures.ahead c.look_ahead-start.result c.look_ahead-start.ensures.over c.look_ahead-start.ensures.start);
+      room = ap (λ q. q.room) c.push_next.ensures ∙ i.room;
+      same = subst (λ k. states lists (slice_set c.loop-core.chains k after) ≡ states lists c.args.chains.now) (sym place) (F.same_after laws c.requires.chained c.args.chains.now c.requires.count c.requires.fresh c.loop-core.chains i.same i.of core c.loop-core.ready.keys i.keys chain at after c.look_ahead-start.ensures.chain c.look_ahead-start.ensures.ahead);
+      count = length-set c.loop-core.chains c.from.result after ∙ i.count;
+      of = subst (λ k. AreOfLists lists (slice_set c.loop-core.chains k after)) (sym place) (F.of_after laws c.requires.chained c.args.chains.now c.requires.count c.requires.fresh c.loop-core.chains i.same i.of core c.loop-core.ready.keys i.keys chain at after c.look_ahead-start.ensures.chain c.look_ahead-start.ensures.ahead);
+      ahead = λ n d below d_at. F.ahead_after laws c.requires.chained c.args.chains.now c.requires.count c.requires.fresh c.loop-core.chains i.same i.of core c.loop-core.ready.keys i.keys chain at after c.look_ahead-start.ensures.chain c.look_ahead-start.ensures.ahead i.ahead n d below (subst (λ k. slice_get (slice_set c.loop-core.chains k after) n ≡ Some d) place d_at);
+    }
+
+pub returns-clause-ready : goal.returns-clause-ready
+returns-clause-ready g c =
+    let lists = g.A.Accesses.lists c.args.accesses.now in
+    let pieces = g.X.Expand.pieces c.args.expand.now in
+    let laws = c.rounds_rest_on_these.ensures c.args.expand.now in
+    let i = c.loop-core.invariant in
+    let all : c.loop-core.core ≡ length c.args.chains.now = omega (arith, c.loop-core-test.false, c.loop-core.auto.core-end, c.cores-cores.ensures, c.requires.count) in
+    F.all_ready laws c.requires.chained c.args.chains.now c.requires.count c.requires.fresh c.loop-core.core c.loop-core.ready.keys all i.keys
+
+pub returns-clause-ahead : goal.returns-clause-ahead
+returns-clause-ahead g c =
+    let lists = g.A.Accesses.lists c.args.accesses.now in
+    let pieces = g.X.Expand.pieces c.args.expand.now in
+    let laws = c.rounds_rest_on_these.ensures c.args.expand.now in
+    let i = c.loop-core.invariant in
+    λ core d at. i.ahead core d (omega (arith, slice_get_within c.loop-core.chains core d at, c.loop-core-test.false, c.loop-core.auto.core-end, c.cores-cores.ensures, c.requires.count, i.count)) at

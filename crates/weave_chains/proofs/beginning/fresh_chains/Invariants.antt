@@ -1,8 +1,7 @@
 -- The chains of the first cores are there.
 use Rattle.std.proofs.Common.{◌≡◌, ◌≤◌, vec_len, vec_capacity}
-use Rattle.weave_chains.specs.Beginning.{AreFresh}
-use Rattle.weave_chains.proofs.Fresh.{AreUpTo}
+use Rattle.weave_chains.proofs.States.{AreFreshChains}
 use Rattle.weave_chains.proofs.beginning.fresh_chains.Given as goal
 
 abbrev pub invariant-loop-core : goal.invariant-loop-core
-invariant-loop-core l = (AreFresh l.entries l.chains.items) × ((vec_len l.chains ≡ l.core) × ((l.fn.cores ≤ vec_capacity l.chains) × (AreUpTo l.entries l.core l.access)))
+invariant-loop-core g l = AreFreshChains (g.A.Accesses.lists l.accesses) l.chains.items × ((vec_len l.chains ≡ l.core) × (l.cores ≤ vec_capacity l.chains))

@@ -1,745 +1,448 @@
 -- By the facts of a round.
-use Rattle.std.proofs.Common.{◌≡◌, ◌+◌, ◌-◌, ◌∷◌, ◌++◌, ◌<◌, ◌≤◌, ℕ, suc, length, get_or, None, Some, [], sym, ◌∙◌, ap, subst, arith, add-one, rules, drop, nat_lt, false}
-use Rattle.std.specs.Prelude.{slice_set}
+use Rattle.std.proofs.Common.{◌≡◌, ◌+◌, ◌-◌, ◌<◌, ◌∙◌, ℕ, [], List, None, Some, sym, ap, subst, length, get_or, drop}
+use Rattle.std.specs.Prelude.{IfSome, slice_set}
 use Rattle.std.specs.List.{Contains, slice_get}
-use Rattle.std.proofs.lemmas.Bool.{ltb-true}
-use Rattle.std.proofs.lemmas.Bool.Decides.{nat_tests}
 use Rattle.std.proofs.lemmas.Option.{slice_get-get_or}
-use Rattle.zs_num.specs.declared.entry.Outcome.TheVariants.{Hit}
-use Rattle.zs_num.specs.declared.request.Request.TheVariants.{Load}
-use Rattle.event_graph.specs.EventGraph.{all_events}
-use Rattle.event_graph.specs.OneListWeave.{after_firings}
-use Rattle.domain_queue.specs.SortedKeys.{put}
+use Rattle.zs_num.specs.declared.time.Key.{Key}
+use Rattle.weave_chains.specs.declared.chain.Chain.{Chain}
+use Rattle.weave_chains.specs.declared.tally.Served.{Served}
 use Rattle.weave_chains.specs.Chains.{moved_on}
-use Rattle.weave_chains.specs.GraphFacts.{ArePlaced}
-use Rattle.weave_chains.specs.Rounds.{HasCome}
+use Rattle.weave_chains.specs.Listed.{list_of, one_after_other}
+use Rattle.weave_chains.specs.NextEvents.{IsAhead, IsAtAccess}
+use Rattle.weave_chains.specs.Rounds.{HasCome, with_next}
+use Rattle.weave_chains.specs.States.{state_of, states}
+use Rattle.weave_chains.specs.Tallies.{HasFiredNext}
+use Rattle.weave_chains.proofs.Popped.{get_some}
 use Rattle.weave_chains.proofs.Round as R
+use Rattle.weave_chains.proofs.Round.{IsRound}
 use Rattle.weave_chains.proofs.firing.fire_next.Goals as goal
-
-not_before : (a b : ℕ) → nat_lt a b ≡ false → b ≤ a
-not_before a b f = grind (arith, nat_tests)
-
-pub unreachable-requires : goal.unreachable-requires
-unreachable-requires g c =
-    let placed : ArePlaced (g.X.Expand.pieces c.args.expand.now) c.args.entries.now = record {
-      numbered = c.events_are_placed.ensures.numbered c.args.expand.now c.args.entries.now;
-      there = c.events_are_placed.ensures.there c.args.expand.now c.args.entries.now;
-      next = c.events_are_placed.ensures.next c.args.expand.now c.args.entries.now;
-      each = c.events_are_placed.ensures.each c.args.expand.now c.args.entries.now;
-      parents = c.events_are_placed.ensures.parents c.args.expand.now c.args.entries.now;
-      last = c.events_are_placed.ensures.last c.args.expand.now c.args.entries.now;
-      ends = c.events_are_placed.ensures.ends c.args.expand.now c.args.entries.now;
-    }
-    in
-    let next = c.each_firing_is_of_the_next_event.ensures (all_events (g.X.Expand.pieces c.args.expand.now) c.args.entries.now) c.requires.come.0 c.requires.come.1 placed.numbered c.requires.come.2 c.requires.come.4 in
-    let k = R.some_key g.C.Component.serves g.C.Component.stepped g.C.Component.greatest (g.X.Expand.pieces c.args.expand.now) c.args.entries.now c.args.chains.now c.args.ready.now.keys c.args.comps.now
-    (g.met.X.Expand.parents_come_before c.args.expand.now) placed c.requires.chained c.requires.come.0 c.requires.come.1 c.requires.come.3 next
-    (λ d m core less. c.events_of_a_core_fire_in_order.ensures.next c.args.expand.now c.args.entries.now c.requires.come.0 c.requires.come.1 next.0 next.1 d c.requires.chained.row c.requires.come.2 next.2 m core less)
-    (c.starts_so_far_stay_small.ensures (all_events (g.X.Expand.pieces c.args.expand.now) c.args.entries.now) c.requires.come.0 (suc c.requires.come.1) placed.numbered c.requires.come.2 c.requires.come.3) c.pop.ensures.ascending c.requires.come.5 in
-    let gone : None ≡ Some k.0 = sym c.in_default.is ∙ (c.pop.ensures.first ∙ k.1) in cc
 
 pub bounds-chains-key : goal.bounds-chains-key
 bounds-chains-key g c =
-    let placed : ArePlaced (g.X.Expand.pieces c.args.expand.now) c.args.entries.now = record {
-      numbered = c.events_are_placed.ensures.numbered c.args.expand.now c.args.entries.now;
-      there = c.events_are_placed.ensures.there c.args.expand.now c.args.entries.now;
-      next = c.events_are_placed.ensures.next c.args.expand.now c.args.entries.now;
-      each = c.events_are_placed.ensures.each c.args.expand.now c.args.entries.now;
-      parents = c.events_are_placed.ensures.parents c.args.expand.now c.args.entries.now;
-      last = c.events_are_placed.ensures.last c.args.expand.now c.args.entries.now;
-      ends = c.events_are_placed.ensures.ends c.args.expand.now c.args.entries.now;
+    let lists = g.A.Accesses.lists c.args.accesses.now in
+    let r : IsRound g.C.Component.serves g.C.Component.floor g.C.Component.stepped g.C.Component.greatest (g.X.Expand.pieces c.args.expand.now) lists c.args.chains.now c.args.ready.now.keys c.args.comps.now c.requires.come.0 c.requires.come.1 = record {
+      laws = c.rounds_rest_on_these.ensures c.args.expand.now;
+      chained = c.requires.chained;
+      count = c.requires.count;
+      ahead = c.requires.ahead;
+      ascending = c.pop.ensures.ascending;
+      weaving = c.requires.come.2;
     }
     in
-    let next = c.each_firing_is_of_the_next_event.ensures (all_events (g.X.Expand.pieces c.args.expand.now) c.args.entries.now) c.requires.come.0 c.requires.come.1 placed.numbered c.requires.come.2 c.requires.come.4 in
-    R.within g.C.Component.serves g.C.Component.stepped g.C.Component.greatest (g.X.Expand.pieces c.args.expand.now) c.args.entries.now c.args.chains.now c.args.ready.now.keys c.args.comps.now
-    (g.met.X.Expand.parents_come_before c.args.expand.now) placed c.requires.chained c.requires.come.0 c.requires.come.1 c.requires.come.3 next
-    (λ d m core less. c.events_of_a_core_fire_in_order.ensures.next c.args.expand.now c.args.entries.now c.requires.come.0 c.requires.come.1 next.0 next.1 d c.requires.chained.row c.requires.come.2 next.2 m core less)
-    (c.starts_so_far_stay_small.ensures (all_events (g.X.Expand.pieces c.args.expand.now) c.args.entries.now) c.requires.come.0 (suc c.requires.come.1) placed.numbered c.requires.come.2 c.requires.come.3) c.pop.ensures.ascending c.requires.come.5 c.in-Some.key (sym c.pop.ensures.first ∙ c.in-Some.is)
+    let key : Key = c.in-Some.key in
+    let at : slice_get c.args.ready.now.keys 0 ≡ Some key = sym c.pop.ensures.first ∙ c.in-Some.is in
+    R.within r key at
 
-pub bounds-entries-chain : goal.bounds-entries-chain
-bounds-entries-chain g c =
-    let placed : ArePlaced (g.X.Expand.pieces c.args.expand.now) c.args.entries.now = record {
-      numbered = c.events_are_placed.ensures.numbered c.args.expand.now c.args.entries.now;
-      there = c.events_are_placed.ensures.there c.args.expand.now c.args.entries.now;
-      next = c.events_are_placed.ensures.next c.args.expand.now c.args.entries.now;
-      each = c.events_are_placed.ensures.each c.args.expand.now c.args.entries.now;
-      parents = c.events_are_placed.ensures.parents c.args.expand.now c.args.entries.now;
-      last = c.events_are_placed.ensures.last c.args.expand.now c.args.entries.now;
-      ends = c.events_are_placed.ensures.ends c.args.expand.now c.args.entries.now;
+pub unreachable-requires : goal.unreachable-requires
+unreachable-requires g c =
+    let lists = g.A.Accesses.lists c.args.accesses.now in
+    let r : IsRound g.C.Component.serves g.C.Component.floor g.C.Component.stepped g.C.Component.greatest (g.X.Expand.pieces c.args.expand.now) lists c.args.chains.now c.args.ready.now.keys c.args.comps.now c.requires.come.0 c.requires.come.1 = record {
+      laws = c.rounds_rest_on_these.ensures c.args.expand.now;
+      chained = c.requires.chained;
+      count = c.requires.count;
+      ahead = c.requires.ahead;
+      ascending = c.pop.ensures.ascending;
+      weaving = c.requires.come.2;
     }
     in
-    let next = c.each_firing_is_of_the_next_event.ensures (all_events (g.X.Expand.pieces c.args.expand.now) c.args.entries.now) c.requires.come.0 c.requires.come.1 placed.numbered c.requires.come.2 c.requires.come.4 in
-    let k_within = R.within g.C.Component.serves g.C.Component.stepped g.C.Component.greatest (g.X.Expand.pieces c.args.expand.now) c.args.entries.now c.args.chains.now c.args.ready.now.keys c.args.comps.now
-    (g.met.X.Expand.parents_come_before c.args.expand.now) placed c.requires.chained c.requires.come.0 c.requires.come.1 c.requires.come.3 next
-    (λ d m core less. c.events_of_a_core_fire_in_order.ensures.next c.args.expand.now c.args.entries.now c.requires.come.0 c.requires.come.1 next.0 next.1 d c.requires.chained.row c.requires.come.2 next.2 m core less)
-    (c.starts_so_far_stay_small.ensures (all_events (g.X.Expand.pieces c.args.expand.now) c.args.entries.now) c.requires.come.0 (suc c.requires.come.1) placed.numbered c.requires.come.2 c.requires.come.3) c.pop.ensures.ascending c.requires.come.5 c.in-Some.key (sym c.pop.ensures.first ∙ c.in-Some.is) in
-    let c_there : slice_get c.args.chains.now c.in-Some.key.number ≡ Some (get_or c.args.chains.now c.in-Some.key.number (record { access = 0; end = 0; place = 0; ended = []; last = None })) = slice_get-get_or c.args.chains.now c.in-Some.key.number (record { access = 0; end = 0; place = 0; ended = []; last = None }) k_within in
-    R.access_within g.C.Component.serves g.C.Component.stepped g.C.Component.greatest (g.X.Expand.pieces c.args.expand.now) c.args.entries.now c.args.chains.now c.args.ready.now.keys c.args.comps.now
-    (g.met.X.Expand.parents_come_before c.args.expand.now) placed c.requires.chained c.requires.come.0 c.requires.come.1 c.requires.come.3 next
-    (λ d m core less. c.events_of_a_core_fire_in_order.ensures.next c.args.expand.now c.args.entries.now c.requires.come.0 c.requires.come.1 next.0 next.1 d c.requires.chained.row c.requires.come.2 next.2 m core less)
-    (c.starts_so_far_stay_small.ensures (all_events (g.X.Expand.pieces c.args.expand.now) c.args.entries.now) c.requires.come.0 (suc c.requires.come.1) placed.numbered c.requires.come.2 c.requires.come.3) c.pop.ensures.ascending c.requires.come.5 c.in-Some.key (sym c.pop.ensures.first ∙ c.in-Some.is) (get_or c.args.chains.now c.in-Some.key.number (record { access = 0; end = 0; place = 0; ended = []; last = None })) c_there
+    let key : Key = c.in-Some.key in
+    let at : slice_get c.args.ready.now.keys 0 ≡ Some key = sym c.pop.ensures.first ∙ c.in-Some.is in
+    let chain : Chain = get_or c.args.chains.now key.number (record { access = 0; end = 0; place = 0; ended = []; last = None; next = None }) in
+    let there : slice_get c.args.chains.now key.number ≡ Some chain = slice_get-get_or c.args.chains.now key.number (record { access = 0; end = 0; place = 0; ended = []; last = None; next = None }) (R.within r key at) in
+    R.next_is_known r key at chain there c.in_default-next.is
 
-pub piece-piece-requires : goal.piece-piece-requires
-piece-piece-requires g c =
-    let placed : ArePlaced (g.X.Expand.pieces c.args.expand.now) c.args.entries.now = record {
-      numbered = c.events_are_placed.ensures.numbered c.args.expand.now c.args.entries.now;
-      there = c.events_are_placed.ensures.there c.args.expand.now c.args.entries.now;
-      next = c.events_are_placed.ensures.next c.args.expand.now c.args.entries.now;
-      each = c.events_are_placed.ensures.each c.args.expand.now c.args.entries.now;
-      parents = c.events_are_placed.ensures.parents c.args.expand.now c.args.entries.now;
-      last = c.events_are_placed.ensures.last c.args.expand.now c.args.entries.now;
-      ends = c.events_are_placed.ensures.ends c.args.expand.now c.args.entries.now;
+pub serve-outcome-requires-clause-component : goal.serve-outcome-requires-clause-component
+serve-outcome-requires-clause-component g c = λ lives outlives.
+    let lists = g.A.Accesses.lists c.args.accesses.now in
+    let r : IsRound g.C.Component.serves g.C.Component.floor g.C.Component.stepped g.C.Component.greatest (g.X.Expand.pieces c.args.expand.now) lists c.args.chains.now c.args.ready.now.keys c.args.comps.now c.requires.come.0 c.requires.come.1 = record {
+      laws = c.rounds_rest_on_these.ensures c.args.expand.now;
+      chained = c.requires.chained;
+      count = c.requires.count;
+      ahead = c.requires.ahead;
+      ascending = c.pop.ensures.ascending;
+      weaving = c.requires.come.2;
     }
     in
-    let next = c.each_firing_is_of_the_next_event.ensures (all_events (g.X.Expand.pieces c.args.expand.now) c.args.entries.now) c.requires.come.0 c.requires.come.1 placed.numbered c.requires.come.2 c.requires.come.4 in
-    let k_within = R.within g.C.Component.serves g.C.Component.stepped g.C.Component.greatest (g.X.Expand.pieces c.args.expand.now) c.args.entries.now c.args.chains.now c.args.ready.now.keys c.args.comps.now
-    (g.met.X.Expand.parents_come_before c.args.expand.now) placed c.requires.chained c.requires.come.0 c.requires.come.1 c.requires.come.3 next
-    (λ d m core less. c.events_of_a_core_fire_in_order.ensures.next c.args.expand.now c.args.entries.now c.requires.come.0 c.requires.come.1 next.0 next.1 d c.requires.chained.row c.requires.come.2 next.2 m core less)
-    (c.starts_so_far_stay_small.ensures (all_events (g.X.Expand.pieces c.args.expand.now) c.args.entries.now) c.requires.come.0 (suc c.requires.come.1) placed.numbered c.requires.come.2 c.requires.come.3) c.pop.ensures.ascending c.requires.come.5 c.in-Some.key (sym c.pop.ensures.first ∙ c.in-Some.is) in
-    let c_there : slice_get c.args.chains.now c.in-Some.key.number ≡ Some (get_or c.args.chains.now c.in-Some.key.number (record { access = 0; end = 0; place = 0; ended = []; last = None })) = slice_get-get_or c.args.chains.now c.in-Some.key.number (record { access = 0; end = 0; place = 0; ended = []; last = None }) k_within in
-    let a_within = R.access_within g.C.Component.serves g.C.Component.stepped g.C.Component.greatest (g.X.Expand.pieces c.args.expand.now) c.args.entries.now c.args.chains.now c.args.ready.now.keys c.args.comps.now
-    (g.met.X.Expand.parents_come_before c.args.expand.now) placed c.requires.chained c.requires.come.0 c.requires.come.1 c.requires.come.3 next
-    (λ d m core less. c.events_of_a_core_fire_in_order.ensures.next c.args.expand.now c.args.entries.now c.requires.come.0 c.requires.come.1 next.0 next.1 d c.requires.chained.row c.requires.come.2 next.2 m core less)
-    (c.starts_so_far_stay_small.ensures (all_events (g.X.Expand.pieces c.args.expand.now) c.args.entries.now) c.requires.come.0 (suc c.requires.come.1) placed.numbered c.requires.come.2 c.requires.come.3) c.pop.ensures.ascending c.requires.come.5 c.in-Some.key (sym c.pop.ensures.first ∙ c.in-Some.is) (get_or c.args.chains.now c.in-Some.key.number (record { access = 0; end = 0; place = 0; ended = []; last = None })) c_there in
-    let e_there : slice_get c.args.entries.now (get_or c.args.chains.now c.in-Some.key.number (record { access = 0; end = 0; place = 0; ended = []; last = None })).access ≡ Some (get_or c.args.entries.now (get_or c.args.chains.now c.in-Some.key.number (record { access = 0; end = 0; place = 0; ended = []; last = None })).access (record { core = 0; stamp = 0; start = 0; request = Load 0 0; reply = 0; outcome = Hit })) = slice_get-get_or c.args.entries.now (get_or c.args.chains.now c.in-Some.key.number (record { access = 0; end = 0; place = 0; ended = []; last = None })).access (record { core = 0; stamp = 0; start = 0; request = Load 0 0; reply = 0; outcome = Hit }) a_within in
-    R.place_within g.C.Component.serves g.C.Component.stepped g.C.Component.greatest (g.X.Expand.pieces c.args.expand.now) c.args.entries.now c.args.chains.now c.args.ready.now.keys c.args.comps.now
-    (g.met.X.Expand.parents_come_before c.args.expand.now) placed c.requires.chained c.requires.come.0 c.requires.come.1 c.requires.come.3 next
-    (λ d m core less. c.events_of_a_core_fire_in_order.ensures.next c.args.expand.now c.args.entries.now c.requires.come.0 c.requires.come.1 next.0 next.1 d c.requires.chained.row c.requires.come.2 next.2 m core less)
-    (c.starts_so_far_stay_small.ensures (all_events (g.X.Expand.pieces c.args.expand.now) c.args.entries.now) c.requires.come.0 (suc c.requires.come.1) placed.numbered c.requires.come.2 c.requires.come.3) c.pop.ensures.ascending c.requires.come.5 c.in-Some.key (sym c.pop.ensures.first ∙ c.in-Some.is) (get_or c.args.chains.now c.in-Some.key.number (record { access = 0; end = 0; place = 0; ended = []; last = None })) c_there (get_or c.args.entries.now (get_or c.args.chains.now c.in-Some.key.number (record { access = 0; end = 0; place = 0; ended = []; last = None })).access (record { core = 0; stamp = 0; start = 0; request = Load 0 0; reply = 0; outcome = Hit })) e_there
+    let key : Key = c.in-Some.key in
+    let at : slice_get c.args.ready.now.keys 0 ≡ Some key = sym c.pop.ensures.first ∙ c.in-Some.is in
+    let chain : Chain = get_or c.args.chains.now key.number (record { access = 0; end = 0; place = 0; ended = []; last = None; next = None }) in
+    let there : slice_get c.args.chains.now key.number ≡ Some chain = slice_get-get_or c.args.chains.now key.number (record { access = 0; end = 0; place = 0; ended = []; last = None; next = None }) (R.within r key at) in
+    let next = c.in-Some-next.next in
+    let known : chain.next ≡ Some next = c.in-Some-next.is in
+    R.component_within r key at chain there next known
 
-pub bounds-comps-from : goal.bounds-comps-from
-bounds-comps-from g c =
-    let placed : ArePlaced (g.X.Expand.pieces c.args.expand.now) c.args.entries.now = record {
-      numbered = c.events_are_placed.ensures.numbered c.args.expand.now c.args.entries.now;
-      there = c.events_are_placed.ensures.there c.args.expand.now c.args.entries.now;
-      next = c.events_are_placed.ensures.next c.args.expand.now c.args.entries.now;
-      each = c.events_are_placed.ensures.each c.args.expand.now c.args.entries.now;
-      parents = c.events_are_placed.ensures.parents c.args.expand.now c.args.entries.now;
-      last = c.events_are_placed.ensures.last c.args.expand.now c.args.entries.now;
-      ends = c.events_are_placed.ensures.ends c.args.expand.now c.args.entries.now;
+pub serve-outcome-requires-clause-serves : goal.serve-outcome-requires-clause-serves
+serve-outcome-requires-clause-serves g c = λ lives outlives.
+    let lists = g.A.Accesses.lists c.args.accesses.now in
+    let r : IsRound g.C.Component.serves g.C.Component.floor g.C.Component.stepped g.C.Component.greatest (g.X.Expand.pieces c.args.expand.now) lists c.args.chains.now c.args.ready.now.keys c.args.comps.now c.requires.come.0 c.requires.come.1 = record {
+      laws = c.rounds_rest_on_these.ensures c.args.expand.now;
+      chained = c.requires.chained;
+      count = c.requires.count;
+      ahead = c.requires.ahead;
+      ascending = c.pop.ensures.ascending;
+      weaving = c.requires.come.2;
     }
     in
-    let next = c.each_firing_is_of_the_next_event.ensures (all_events (g.X.Expand.pieces c.args.expand.now) c.args.entries.now) c.requires.come.0 c.requires.come.1 placed.numbered c.requires.come.2 c.requires.come.4 in
-    let k_within = R.within g.C.Component.serves g.C.Component.stepped g.C.Component.greatest (g.X.Expand.pieces c.args.expand.now) c.args.entries.now c.args.chains.now c.args.ready.now.keys c.args.comps.now
-    (g.met.X.Expand.parents_come_before c.args.expand.now) placed c.requires.chained c.requires.come.0 c.requires.come.1 c.requires.come.3 next
-    (λ d m core less. c.events_of_a_core_fire_in_order.ensures.next c.args.expand.now c.args.entries.now c.requires.come.0 c.requires.come.1 next.0 next.1 d c.requires.chained.row c.requires.come.2 next.2 m core less)
-    (c.starts_so_far_stay_small.ensures (all_events (g.X.Expand.pieces c.args.expand.now) c.args.entries.now) c.requires.come.0 (suc c.requires.come.1) placed.numbered c.requires.come.2 c.requires.come.3) c.pop.ensures.ascending c.requires.come.5 c.in-Some.key (sym c.pop.ensures.first ∙ c.in-Some.is) in
-    let c_there : slice_get c.args.chains.now c.in-Some.key.number ≡ Some (get_or c.args.chains.now c.in-Some.key.number (record { access = 0; end = 0; place = 0; ended = []; last = None })) = slice_get-get_or c.args.chains.now c.in-Some.key.number (record { access = 0; end = 0; place = 0; ended = []; last = None }) k_within in
-    let a_within = R.access_within g.C.Component.serves g.C.Component.stepped g.C.Component.greatest (g.X.Expand.pieces c.args.expand.now) c.args.entries.now c.args.chains.now c.args.ready.now.keys c.args.comps.now
-    (g.met.X.Expand.parents_come_before c.args.expand.now) placed c.requires.chained c.requires.come.0 c.requires.come.1 c.requires.come.3 next
-    (λ d m core less. c.events_of_a_core_fire_in_order.ensures.next c.args.expand.now c.args.entries.now c.requires.come.0 c.requires.come.1 next.0 next.1 d c.requires.chained.row c.requires.come.2 next.2 m core less)
-    (c.starts_so_far_stay_small.ensures (all_events (g.X.Expand.pieces c.args.expand.now) c.args.entries.now) c.requires.come.0 (suc c.requires.come.1) placed.numbered c.requires.come.2 c.requires.come.3) c.pop.ensures.ascending c.requires.come.5 c.in-Some.key (sym c.pop.ensures.first ∙ c.in-Some.is) (get_or c.args.chains.now c.in-Some.key.number (record { access = 0; end = 0; place = 0; ended = []; last = None })) c_there in
-    let e_there : slice_get c.args.entries.now (get_or c.args.chains.now c.in-Some.key.number (record { access = 0; end = 0; place = 0; ended = []; last = None })).access ≡ Some (get_or c.args.entries.now (get_or c.args.chains.now c.in-Some.key.number (record { access = 0; end = 0; place = 0; ended = []; last = None })).access (record { core = 0; stamp = 0; start = 0; request = Load 0 0; reply = 0; outcome = Hit })) = slice_get-get_or c.args.entries.now (get_or c.args.chains.now c.in-Some.key.number (record { access = 0; end = 0; place = 0; ended = []; last = None })).access (record { core = 0; stamp = 0; start = 0; request = Load 0 0; reply = 0; outcome = Hit }) a_within in
-    subst (λ i. i < length c.args.comps.now) (sym c.from.ensures) (R.component_within g.C.Component.serves g.C.Component.stepped g.C.Component.greatest (g.X.Expand.pieces c.args.expand.now) c.args.entries.now c.args.chains.now c.args.ready.now.keys c.args.comps.now
-    (g.met.X.Expand.parents_come_before c.args.expand.now) placed c.requires.chained c.requires.come.0 c.requires.come.1 c.requires.come.3 next
-    (λ d m core less. c.events_of_a_core_fire_in_order.ensures.next c.args.expand.now c.args.entries.now c.requires.come.0 c.requires.come.1 next.0 next.1 d c.requires.chained.row c.requires.come.2 next.2 m core less)
-    (c.starts_so_far_stay_small.ensures (all_events (g.X.Expand.pieces c.args.expand.now) c.args.entries.now) c.requires.come.0 (suc c.requires.come.1) placed.numbered c.requires.come.2 c.requires.come.3) c.pop.ensures.ascending c.requires.come.5 c.in-Some.key (sym c.pop.ensures.first ∙ c.in-Some.is) (get_or c.args.chains.now c.in-Some.key.number (record { access = 0; end = 0; place = 0; ended = []; last = None })) c_there (get_or c.args.entries.now (get_or c.args.chains.now c.in-Some.key.number (record { access = 0; end = 0; place = 0; ended = []; last = None })).access (record { core = 0; stamp = 0; start = 0; request = Load 0 0; reply = 0; outcome = Hit })) e_there c.piece-piece.result c.piece-piece.ensures)
+    let key : Key = c.in-Some.key in
+    let at : slice_get c.args.ready.now.keys 0 ≡ Some key = sym c.pop.ensures.first ∙ c.in-Some.is in
+    let chain : Chain = get_or c.args.chains.now key.number (record { access = 0; end = 0; place = 0; ended = []; last = None; next = None }) in
+    let there : slice_get c.args.chains.now key.number ≡ Some chain = slice_get-get_or c.args.chains.now key.number (record { access = 0; end = 0; place = 0; ended = []; last = None; next = None }) (R.within r key at) in
+    let next = c.in-Some-next.next in
+    let known : chain.next ≡ Some next = c.in-Some-next.is in
+    λ comp is. R.serves_it r key at chain there next known comp is
 
-pub offset_bounds-comps-from : goal.offset_bounds-comps-from
-offset_bounds-comps-from g c =
-    let placed : ArePlaced (g.X.Expand.pieces c.args.expand.now) c.args.entries.now = record {
-      numbered = c.events_are_placed.ensures.numbered c.args.expand.now c.args.entries.now;
-      there = c.events_are_placed.ensures.there c.args.expand.now c.args.entries.now;
-      next = c.events_are_placed.ensures.next c.args.expand.now c.args.entries.now;
-      each = c.events_are_placed.ensures.each c.args.expand.now c.args.entries.now;
-      parents = c.events_are_placed.ensures.parents c.args.expand.now c.args.entries.now;
-      last = c.events_are_placed.ensures.last c.args.expand.now c.args.entries.now;
-      ends = c.events_are_placed.ensures.ends c.args.expand.now c.args.entries.now;
+pub serve-outcome-requires-clause-small : goal.serve-outcome-requires-clause-small
+serve-outcome-requires-clause-small g c = λ lives outlives.
+    let lists = g.A.Accesses.lists c.args.accesses.now in
+    let r : IsRound g.C.Component.serves g.C.Component.floor g.C.Component.stepped g.C.Component.greatest (g.X.Expand.pieces c.args.expand.now) lists c.args.chains.now c.args.ready.now.keys c.args.comps.now c.requires.come.0 c.requires.come.1 = record {
+      laws = c.rounds_rest_on_these.ensures c.args.expand.now;
+      chained = c.requires.chained;
+      count = c.requires.count;
+      ahead = c.requires.ahead;
+      ascending = c.pop.ensures.ascending;
+      weaving = c.requires.come.2;
     }
     in
-    let next = c.each_firing_is_of_the_next_event.ensures (all_events (g.X.Expand.pieces c.args.expand.now) c.args.entries.now) c.requires.come.0 c.requires.come.1 placed.numbered c.requires.come.2 c.requires.come.4 in
-    let k_within = R.within g.C.Component.serves g.C.Component.stepped g.C.Component.greatest (g.X.Expand.pieces c.args.expand.now) c.args.entries.now c.args.chains.now c.args.ready.now.keys c.args.comps.now
-    (g.met.X.Expand.parents_come_before c.args.expand.now) placed c.requires.chained c.requires.come.0 c.requires.come.1 c.requires.come.3 next
-    (λ d m core less. c.events_of_a_core_fire_in_order.ensures.next c.args.expand.now c.args.entries.now c.requires.come.0 c.requires.come.1 next.0 next.1 d c.requires.chained.row c.requires.come.2 next.2 m core less)
-    (c.starts_so_far_stay_small.ensures (all_events (g.X.Expand.pieces c.args.expand.now) c.args.entries.now) c.requires.come.0 (suc c.requires.come.1) placed.numbered c.requires.come.2 c.requires.come.3) c.pop.ensures.ascending c.requires.come.5 c.in-Some.key (sym c.pop.ensures.first ∙ c.in-Some.is) in
-    let c_there : slice_get c.args.chains.now c.in-Some.key.number ≡ Some (get_or c.args.chains.now c.in-Some.key.number (record { access = 0; end = 0; place = 0; ended = []; last = None })) = slice_get-get_or c.args.chains.now c.in-Some.key.number (record { access = 0; end = 0; place = 0; ended = []; last = None }) k_within in
-    let a_within = R.access_within g.C.Component.serves g.C.Component.stepped g.C.Component.greatest (g.X.Expand.pieces c.args.expand.now) c.args.entries.now c.args.chains.now c.args.ready.now.keys c.args.comps.now
-    (g.met.X.Expand.parents_come_before c.args.expand.now) placed c.requires.chained c.requires.come.0 c.requires.come.1 c.requires.come.3 next
-    (λ d m core less. c.events_of_a_core_fire_in_order.ensures.next c.args.expand.now c.args.entries.now c.requires.come.0 c.requires.come.1 next.0 next.1 d c.requires.chained.row c.requires.come.2 next.2 m core less)
-    (c.starts_so_far_stay_small.ensures (all_events (g.X.Expand.pieces c.args.expand.now) c.args.entries.now) c.requires.come.0 (suc c.requires.come.1) placed.numbered c.requires.come.2 c.requires.come.3) c.pop.ensures.ascending c.requires.come.5 c.in-Some.key (sym c.pop.ensures.first ∙ c.in-Some.is) (get_or c.args.chains.now c.in-Some.key.number (record { access = 0; end = 0; place = 0; ended = []; last = None })) c_there in
-    let e_there : slice_get c.args.entries.now (get_or c.args.chains.now c.in-Some.key.number (record { access = 0; end = 0; place = 0; ended = []; last = None })).access ≡ Some (get_or c.args.entries.now (get_or c.args.chains.now c.in-Some.key.number (record { access = 0; end = 0; place = 0; ended = []; last = None })).access (record { core = 0; stamp = 0; start = 0; request = Load 0 0; reply = 0; outcome = Hit })) = slice_get-get_or c.args.entries.now (get_or c.args.chains.now c.in-Some.key.number (record { access = 0; end = 0; place = 0; ended = []; last = None })).access (record { core = 0; stamp = 0; start = 0; request = Load 0 0; reply = 0; outcome = Hit }) a_within in
-    let within : c.from.result < length c.args.comps.now = subst (λ i. i < length c.args.comps.now) (sym c.from.ensures) (R.component_within g.C.Component.serves g.C.Component.stepped g.C.Component.greatest (g.X.Expand.pieces c.args.expand.now) c.args.entries.now c.args.chains.now c.args.ready.now.keys c.args.comps.now
-    (g.met.X.Expand.parents_come_before c.args.expand.now) placed c.requires.chained c.requires.come.0 c.requires.come.1 c.requires.come.3 next
-    (λ d m core less. c.events_of_a_core_fire_in_order.ensures.next c.args.expand.now c.args.entries.now c.requires.come.0 c.requires.come.1 next.0 next.1 d c.requires.chained.row c.requires.come.2 next.2 m core less)
-    (c.starts_so_far_stay_small.ensures (all_events (g.X.Expand.pieces c.args.expand.now) c.args.entries.now) c.requires.come.0 (suc c.requires.come.1) placed.numbered c.requires.come.2 c.requires.come.3) c.pop.ensures.ascending c.requires.come.5 c.in-Some.key (sym c.pop.ensures.first ∙ c.in-Some.is) (get_or c.args.chains.now c.in-Some.key.number (record { access = 0; end = 0; place = 0; ended = []; last = None })) c_there (get_or c.args.entries.now (get_or c.args.chains.now c.in-Some.key.number (record { access = 0; end = 0; place = 0; ended = []; last = None })).access (record { core = 0; stamp = 0; start = 0; request = Load 0 0; reply = 0; outcome = Hit })) e_there c.piece-piece.result c.piece-piece.ensures) in
-    search rules
+    let key : Key = c.in-Some.key in
+    let at : slice_get c.args.ready.now.keys 0 ≡ Some key = sym c.pop.ensures.first ∙ c.in-Some.is in
+    let chain : Chain = get_or c.args.chains.now key.number (record { access = 0; end = 0; place = 0; ended = []; last = None; next = None }) in
+    let there : slice_get c.args.chains.now key.number ≡ Some chain = slice_get-get_or c.args.chains.now key.number (record { access = 0; end = 0; place = 0; ended = []; last = None; next = None }) (R.within r key at) in
+    let next = c.in-Some-next.next in
+    let known : chain.next ≡ Some next = c.in-Some-next.is in
+    λ comp is. R.small_here r key at chain there next known comp is
 
-pub step-finish-requires-clause-serves : goal.step-finish-requires-clause-serves
-step-finish-requires-clause-serves g c =
-    let placed : ArePlaced (g.X.Expand.pieces c.args.expand.now) c.args.entries.now = record {
-      numbered = c.events_are_placed.ensures.numbered c.args.expand.now c.args.entries.now;
-      there = c.events_are_placed.ensures.there c.args.expand.now c.args.entries.now;
-      next = c.events_are_placed.ensures.next c.args.expand.now c.args.entries.now;
-      each = c.events_are_placed.ensures.each c.args.expand.now c.args.entries.now;
-      parents = c.events_are_placed.ensures.parents c.args.expand.now c.args.entries.now;
-      last = c.events_are_placed.ensures.last c.args.expand.now c.args.entries.now;
-      ends = c.events_are_placed.ensures.ends c.args.expand.now c.args.entries.now;
+pub serve-outcome-requires-clause-early : goal.serve-outcome-requires-clause-early
+serve-outcome-requires-clause-early g c = λ lives outlives.
+    let lists = g.A.Accesses.lists c.args.accesses.now in
+    let r : IsRound g.C.Component.serves g.C.Component.floor g.C.Component.stepped g.C.Component.greatest (g.X.Expand.pieces c.args.expand.now) lists c.args.chains.now c.args.ready.now.keys c.args.comps.now c.requires.come.0 c.requires.come.1 = record {
+      laws = c.rounds_rest_on_these.ensures c.args.expand.now;
+      chained = c.requires.chained;
+      count = c.requires.count;
+      ahead = c.requires.ahead;
+      ascending = c.pop.ensures.ascending;
+      weaving = c.requires.come.2;
     }
     in
-    let next = c.each_firing_is_of_the_next_event.ensures (all_events (g.X.Expand.pieces c.args.expand.now) c.args.entries.now) c.requires.come.0 c.requires.come.1 placed.numbered c.requires.come.2 c.requires.come.4 in
-    let k_within = R.within g.C.Component.serves g.C.Component.stepped g.C.Component.greatest (g.X.Expand.pieces c.args.expand.now) c.args.entries.now c.args.chains.now c.args.ready.now.keys c.args.comps.now
-    (g.met.X.Expand.parents_come_before c.args.expand.now) placed c.requires.chained c.requires.come.0 c.requires.come.1 c.requires.come.3 next
-    (λ d m core less. c.events_of_a_core_fire_in_order.ensures.next c.args.expand.now c.args.entries.now c.requires.come.0 c.requires.come.1 next.0 next.1 d c.requires.chained.row c.requires.come.2 next.2 m core less)
-    (c.starts_so_far_stay_small.ensures (all_events (g.X.Expand.pieces c.args.expand.now) c.args.entries.now) c.requires.come.0 (suc c.requires.come.1) placed.numbered c.requires.come.2 c.requires.come.3) c.pop.ensures.ascending c.requires.come.5 c.in-Some.key (sym c.pop.ensures.first ∙ c.in-Some.is) in
-    let c_there : slice_get c.args.chains.now c.in-Some.key.number ≡ Some (get_or c.args.chains.now c.in-Some.key.number (record { access = 0; end = 0; place = 0; ended = []; last = None })) = slice_get-get_or c.args.chains.now c.in-Some.key.number (record { access = 0; end = 0; place = 0; ended = []; last = None }) k_within in
-    let a_within = R.access_within g.C.Component.serves g.C.Component.stepped g.C.Component.greatest (g.X.Expand.pieces c.args.expand.now) c.args.entries.now c.args.chains.now c.args.ready.now.keys c.args.comps.now
-    (g.met.X.Expand.parents_come_before c.args.expand.now) placed c.requires.chained c.requires.come.0 c.requires.come.1 c.requires.come.3 next
-    (λ d m core less. c.events_of_a_core_fire_in_order.ensures.next c.args.expand.now c.args.entries.now c.requires.come.0 c.requires.come.1 next.0 next.1 d c.requires.chained.row c.requires.come.2 next.2 m core less)
-    (c.starts_so_far_stay_small.ensures (all_events (g.X.Expand.pieces c.args.expand.now) c.args.entries.now) c.requires.come.0 (suc c.requires.come.1) placed.numbered c.requires.come.2 c.requires.come.3) c.pop.ensures.ascending c.requires.come.5 c.in-Some.key (sym c.pop.ensures.first ∙ c.in-Some.is) (get_or c.args.chains.now c.in-Some.key.number (record { access = 0; end = 0; place = 0; ended = []; last = None })) c_there in
-    let e_there : slice_get c.args.entries.now (get_or c.args.chains.now c.in-Some.key.number (record { access = 0; end = 0; place = 0; ended = []; last = None })).access ≡ Some (get_or c.args.entries.now (get_or c.args.chains.now c.in-Some.key.number (record { access = 0; end = 0; place = 0; ended = []; last = None })).access (record { core = 0; stamp = 0; start = 0; request = Load 0 0; reply = 0; outcome = Hit })) = slice_get-get_or c.args.entries.now (get_or c.args.chains.now c.in-Some.key.number (record { access = 0; end = 0; place = 0; ended = []; last = None })).access (record { core = 0; stamp = 0; start = 0; request = Load 0 0; reply = 0; outcome = Hit }) a_within in
-    let comp_within : c.from.result < length c.args.comps.now = subst (λ i. i < length c.args.comps.now) (sym c.from.ensures) (R.component_within g.C.Component.serves g.C.Component.stepped g.C.Component.greatest (g.X.Expand.pieces c.args.expand.now) c.args.entries.now c.args.chains.now c.args.ready.now.keys c.args.comps.now
-    (g.met.X.Expand.parents_come_before c.args.expand.now) placed c.requires.chained c.requires.come.0 c.requires.come.1 c.requires.come.3 next
-    (λ d m core less. c.events_of_a_core_fire_in_order.ensures.next c.args.expand.now c.args.entries.now c.requires.come.0 c.requires.come.1 next.0 next.1 d c.requires.chained.row c.requires.come.2 next.2 m core less)
-    (c.starts_so_far_stay_small.ensures (all_events (g.X.Expand.pieces c.args.expand.now) c.args.entries.now) c.requires.come.0 (suc c.requires.come.1) placed.numbered c.requires.come.2 c.requires.come.3) c.pop.ensures.ascending c.requires.come.5 c.in-Some.key (sym c.pop.ensures.first ∙ c.in-Some.is) (get_or c.args.chains.now c.in-Some.key.number (record { access = 0; end = 0; place = 0; ended = []; last = None })) c_there (get_or c.args.entries.now (get_or c.args.chains.now c.in-Some.key.number (record { access = 0; end = 0; place = 0; ended = []; last = None })).access (record { core = 0; stamp = 0; start = 0; request = Load 0 0; reply = 0; outcome = Hit })) e_there c.piece-piece.result c.piece-piece.ensures) in
-    let comp_is : slice_get c.args.comps.now c.piece-piece.result.component ≡ Some (get_or c.args.comps.now c.from.result c.index-comps-from.result) = subst (λ i. slice_get c.args.comps.now i ≡ Some (get_or c.args.comps.now c.from.result c.index-comps-from.result)) c.from.ensures (slice_get-get_or c.args.comps.now c.from.result c.index-comps-from.result comp_within) in
-    R.serves_it g.C.Component.serves g.C.Component.stepped g.C.Component.greatest (g.X.Expand.pieces c.args.expand.now) c.args.entries.now c.args.chains.now c.args.ready.now.keys c.args.comps.now
-    (g.met.X.Expand.parents_come_before c.args.expand.now) placed c.requires.chained c.requires.come.0 c.requires.come.1 c.requires.come.3 next
-    (λ d m core less. c.events_of_a_core_fire_in_order.ensures.next c.args.expand.now c.args.entries.now c.requires.come.0 c.requires.come.1 next.0 next.1 d c.requires.chained.row c.requires.come.2 next.2 m core less)
-    (c.starts_so_far_stay_small.ensures (all_events (g.X.Expand.pieces c.args.expand.now) c.args.entries.now) c.requires.come.0 (suc c.requires.come.1) placed.numbered c.requires.come.2 c.requires.come.3) c.pop.ensures.ascending c.requires.come.5 c.in-Some.key (sym c.pop.ensures.first ∙ c.in-Some.is) (get_or c.args.chains.now c.in-Some.key.number (record { access = 0; end = 0; place = 0; ended = []; last = None })) c_there (get_or c.args.entries.now (get_or c.args.chains.now c.in-Some.key.number (record { access = 0; end = 0; place = 0; ended = []; last = None })).access (record { core = 0; stamp = 0; start = 0; request = Load 0 0; reply = 0; outcome = Hit })) e_there c.piece-piece.result c.piece-piece.ensures (get_or c.args.comps.now c.from.result c.index-comps-from.result) comp_is
-
-pub step-finish-requires-clause-small : goal.step-finish-requires-clause-small
-step-finish-requires-clause-small g c =
-    let placed : ArePlaced (g.X.Expand.pieces c.args.expand.now) c.args.entries.now = record {
-      numbered = c.events_are_placed.ensures.numbered c.args.expand.now c.args.entries.now;
-      there = c.events_are_placed.ensures.there c.args.expand.now c.args.entries.now;
-      next = c.events_are_placed.ensures.next c.args.expand.now c.args.entries.now;
-      each = c.events_are_placed.ensures.each c.args.expand.now c.args.entries.now;
-      parents = c.events_are_placed.ensures.parents c.args.expand.now c.args.entries.now;
-      last = c.events_are_placed.ensures.last c.args.expand.now c.args.entries.now;
-      ends = c.events_are_placed.ensures.ends c.args.expand.now c.args.entries.now;
-    }
-    in
-    let next = c.each_firing_is_of_the_next_event.ensures (all_events (g.X.Expand.pieces c.args.expand.now) c.args.entries.now) c.requires.come.0 c.requires.come.1 placed.numbered c.requires.come.2 c.requires.come.4 in
-    let k_within = R.within g.C.Component.serves g.C.Component.stepped g.C.Component.greatest (g.X.Expand.pieces c.args.expand.now) c.args.entries.now c.args.chains.now c.args.ready.now.keys c.args.comps.now
-    (g.met.X.Expand.parents_come_before c.args.expand.now) placed c.requires.chained c.requires.come.0 c.requires.come.1 c.requires.come.3 next
-    (λ d m core less. c.events_of_a_core_fire_in_order.ensures.next c.args.expand.now c.args.entries.now c.requires.come.0 c.requires.come.1 next.0 next.1 d c.requires.chained.row c.requires.come.2 next.2 m core less)
-    (c.starts_so_far_stay_small.ensures (all_events (g.X.Expand.pieces c.args.expand.now) c.args.entries.now) c.requires.come.0 (suc c.requires.come.1) placed.numbered c.requires.come.2 c.requires.come.3) c.pop.ensures.ascending c.requires.come.5 c.in-Some.key (sym c.pop.ensures.first ∙ c.in-Some.is) in
-    let c_there : slice_get c.args.chains.now c.in-Some.key.number ≡ Some (get_or c.args.chains.now c.in-Some.key.number (record { access = 0; end = 0; place = 0; ended = []; last = None })) = slice_get-get_or c.args.chains.now c.in-Some.key.number (record { access = 0; end = 0; place = 0; ended = []; last = None }) k_within in
-    let a_within = R.access_within g.C.Component.serves g.C.Component.stepped g.C.Component.greatest (g.X.Expand.pieces c.args.expand.now) c.args.entries.now c.args.chains.now c.args.ready.now.keys c.args.comps.now
-    (g.met.X.Expand.parents_come_before c.args.expand.now) placed c.requires.chained c.requires.come.0 c.requires.come.1 c.requires.come.3 next
-    (λ d m core less. c.events_of_a_core_fire_in_order.ensures.next c.args.expand.now c.args.entries.now c.requires.come.0 c.requires.come.1 next.0 next.1 d c.requires.chained.row c.requires.come.2 next.2 m core less)
-    (c.starts_so_far_stay_small.ensures (all_events (g.X.Expand.pieces c.args.expand.now) c.args.entries.now) c.requires.come.0 (suc c.requires.come.1) placed.numbered c.requires.come.2 c.requires.come.3) c.pop.ensures.ascending c.requires.come.5 c.in-Some.key (sym c.pop.ensures.first ∙ c.in-Some.is) (get_or c.args.chains.now c.in-Some.key.number (record { access = 0; end = 0; place = 0; ended = []; last = None })) c_there in
-    let e_there : slice_get c.args.entries.now (get_or c.args.chains.now c.in-Some.key.number (record { access = 0; end = 0; place = 0; ended = []; last = None })).access ≡ Some (get_or c.args.entries.now (get_or c.args.chains.now c.in-Some.key.number (record { access = 0; end = 0; place = 0; ended = []; last = None })).access (record { core = 0; stamp = 0; start = 0; request = Load 0 0; reply = 0; outcome = Hit })) = slice_get-get_or c.args.entries.now (get_or c.args.chains.now c.in-Some.key.number (record { access = 0; end = 0; place = 0; ended = []; last = None })).access (record { core = 0; stamp = 0; start = 0; request = Load 0 0; reply = 0; outcome = Hit }) a_within in
-    let comp_within : c.from.result < length c.args.comps.now = subst (λ i. i < length c.args.comps.now) (sym c.from.ensures) (R.component_within g.C.Component.serves g.C.Component.stepped g.C.Component.greatest (g.X.Expand.pieces c.args.expand.now) c.args.entries.now c.args.chains.now c.args.ready.now.keys c.args.comps.now
-    (g.met.X.Expand.parents_come_before c.args.expand.now) placed c.requires.chained c.requires.come.0 c.requires.come.1 c.requires.come.3 next
-    (λ d m core less. c.events_of_a_core_fire_in_order.ensures.next c.args.expand.now c.args.entries.now c.requires.come.0 c.requires.come.1 next.0 next.1 d c.requires.chained.row c.requires.come.2 next.2 m core less)
-    (c.starts_so_far_stay_small.ensures (all_events (g.X.Expand.pieces c.args.expand.now) c.args.entries.now) c.requires.come.0 (suc c.requires.come.1) placed.numbered c.requires.come.2 c.requires.come.3) c.pop.ensures.ascending c.requires.come.5 c.in-Some.key (sym c.pop.ensures.first ∙ c.in-Some.is) (get_or c.args.chains.now c.in-Some.key.number (record { access = 0; end = 0; place = 0; ended = []; last = None })) c_there (get_or c.args.entries.now (get_or c.args.chains.now c.in-Some.key.number (record { access = 0; end = 0; place = 0; ended = []; last = None })).access (record { core = 0; stamp = 0; start = 0; request = Load 0 0; reply = 0; outcome = Hit })) e_there c.piece-piece.result c.piece-piece.ensures) in
-    let comp_is : slice_get c.args.comps.now c.piece-piece.result.component ≡ Some (get_or c.args.comps.now c.from.result c.index-comps-from.result) = subst (λ i. slice_get c.args.comps.now i ≡ Some (get_or c.args.comps.now c.from.result c.index-comps-from.result)) c.from.ensures (slice_get-get_or c.args.comps.now c.from.result c.index-comps-from.result comp_within) in
-    R.small_here g.C.Component.serves g.C.Component.stepped g.C.Component.greatest (g.X.Expand.pieces c.args.expand.now) c.args.entries.now c.args.chains.now c.args.ready.now.keys c.args.comps.now
-    (g.met.X.Expand.parents_come_before c.args.expand.now) placed c.requires.chained c.requires.come.0 c.requires.come.1 c.requires.come.3 next
-    (λ d m core less. c.events_of_a_core_fire_in_order.ensures.next c.args.expand.now c.args.entries.now c.requires.come.0 c.requires.come.1 next.0 next.1 d c.requires.chained.row c.requires.come.2 next.2 m core less)
-    (c.starts_so_far_stay_small.ensures (all_events (g.X.Expand.pieces c.args.expand.now) c.args.entries.now) c.requires.come.0 (suc c.requires.come.1) placed.numbered c.requires.come.2 c.requires.come.3) c.pop.ensures.ascending c.requires.come.5 c.in-Some.key (sym c.pop.ensures.first ∙ c.in-Some.is) (get_or c.args.chains.now c.in-Some.key.number (record { access = 0; end = 0; place = 0; ended = []; last = None })) c_there (get_or c.args.entries.now (get_or c.args.chains.now c.in-Some.key.number (record { access = 0; end = 0; place = 0; ended = []; last = None })).access (record { core = 0; stamp = 0; start = 0; request = Load 0 0; reply = 0; outcome = Hit })) e_there c.piece-piece.result c.piece-piece.ensures (get_or c.args.comps.now c.from.result c.index-comps-from.result) comp_is
-
-pub overflow_add-at_zero_load : goal.overflow_add-at_zero_load
-overflow_add-at_zero_load g c =
-    let placed : ArePlaced (g.X.Expand.pieces c.args.expand.now) c.args.entries.now = record {
-      numbered = c.events_are_placed.ensures.numbered c.args.expand.now c.args.entries.now;
-      there = c.events_are_placed.ensures.there c.args.expand.now c.args.entries.now;
-      next = c.events_are_placed.ensures.next c.args.expand.now c.args.entries.now;
-      each = c.events_are_placed.ensures.each c.args.expand.now c.args.entries.now;
-      parents = c.events_are_placed.ensures.parents c.args.expand.now c.args.entries.now;
-      last = c.events_are_placed.ensures.last c.args.expand.now c.args.entries.now;
-      ends = c.events_are_placed.ensures.ends c.args.expand.now c.args.entries.now;
-    }
-    in
-    let next = c.each_firing_is_of_the_next_event.ensures (all_events (g.X.Expand.pieces c.args.expand.now) c.args.entries.now) c.requires.come.0 c.requires.come.1 placed.numbered c.requires.come.2 c.requires.come.4 in
-    let k_within = R.within g.C.Component.serves g.C.Component.stepped g.C.Component.greatest (g.X.Expand.pieces c.args.expand.now) c.args.entries.now c.args.chains.now c.args.ready.now.keys c.args.comps.now
-    (g.met.X.Expand.parents_come_before c.args.expand.now) placed c.requires.chained c.requires.come.0 c.requires.come.1 c.requires.come.3 next
-    (λ d m core less. c.events_of_a_core_fire_in_order.ensures.next c.args.expand.now c.args.entries.now c.requires.come.0 c.requires.come.1 next.0 next.1 d c.requires.chained.row c.requires.come.2 next.2 m core less)
-    (c.starts_so_far_stay_small.ensures (all_events (g.X.Expand.pieces c.args.expand.now) c.args.entries.now) c.requires.come.0 (suc c.requires.come.1) placed.numbered c.requires.come.2 c.requires.come.3) c.pop.ensures.ascending c.requires.come.5 c.in-Some.key (sym c.pop.ensures.first ∙ c.in-Some.is) in
-    let c_there : slice_get c.args.chains.now c.in-Some.key.number ≡ Some (get_or c.args.chains.now c.in-Some.key.number (record { access = 0; end = 0; place = 0; ended = []; last = None })) = slice_get-get_or c.args.chains.now c.in-Some.key.number (record { access = 0; end = 0; place = 0; ended = []; last = None }) k_within in
-    let a_within = R.access_within g.C.Component.serves g.C.Component.stepped g.C.Component.greatest (g.X.Expand.pieces c.args.expand.now) c.args.entries.now c.args.chains.now c.args.ready.now.keys c.args.comps.now
-    (g.met.X.Expand.parents_come_before c.args.expand.now) placed c.requires.chained c.requires.come.0 c.requires.come.1 c.requires.come.3 next
-    (λ d m core less. c.events_of_a_core_fire_in_order.ensures.next c.args.expand.now c.args.entries.now c.requires.come.0 c.requires.come.1 next.0 next.1 d c.requires.chained.row c.requires.come.2 next.2 m core less)
-    (c.starts_so_far_stay_small.ensures (all_events (g.X.Expand.pieces c.args.expand.now) c.args.entries.now) c.requires.come.0 (suc c.requires.come.1) placed.numbered c.requires.come.2 c.requires.come.3) c.pop.ensures.ascending c.requires.come.5 c.in-Some.key (sym c.pop.ensures.first ∙ c.in-Some.is) (get_or c.args.chains.now c.in-Some.key.number (record { access = 0; end = 0; place = 0; ended = []; last = None })) c_there in
-    let e_there : slice_get c.args.entries.now (get_or c.args.chains.now c.in-Some.key.number (record { access = 0; end = 0; place = 0; ended = []; last = None })).access ≡ Some (get_or c.args.entries.now (get_or c.args.chains.now c.in-Some.key.number (record { access = 0; end = 0; place = 0; ended = []; last = None })).access (record { core = 0; stamp = 0; start = 0; request = Load 0 0; reply = 0; outcome = Hit })) = slice_get-get_or c.args.entries.now (get_or c.args.chains.now c.in-Some.key.number (record { access = 0; end = 0; place = 0; ended = []; last = None })).access (record { core = 0; stamp = 0; start = 0; request = Load 0 0; reply = 0; outcome = Hit }) a_within in
-    let early = c.requires.chained.early (get_or c.args.chains.now c.in-Some.key.number (record { access = 0; end = 0; place = 0; ended = []; last = None })).access (get_or c.args.entries.now (get_or c.args.chains.now c.in-Some.key.number (record { access = 0; end = 0; place = 0; ended = []; last = None })).access (record { core = 0; stamp = 0; start = 0; request = Load 0 0; reply = 0; outcome = Hit })) e_there in
-    let soon = (g.met.X.Expand.ends_with_access c.args.expand.now (get_or c.args.entries.now (get_or c.args.chains.now c.in-Some.key.number (record { access = 0; end = 0; place = 0; ended = []; last = None })).access (record { core = 0; stamp = 0; start = 0; request = Load 0 0; reply = 0; outcome = Hit }))).each (get_or c.args.chains.now c.in-Some.key.number (record { access = 0; end = 0; place = 0; ended = []; last = None })).place c.piece-piece.result c.piece-piece.ensures in
-    let short = g.met.X.Expand.time_small c.args.expand.now (get_or c.args.entries.now (get_or c.args.chains.now c.in-Some.key.number (record { access = 0; end = 0; place = 0; ended = []; last = None })).access (record { core = 0; stamp = 0; start = 0; request = Load 0 0; reply = 0; outcome = Hit })) in
-    omega (arith, early, soon, short)
-
-pub overflow_add-at_zero_load-2 : goal.overflow_add-at_zero_load-2
-overflow_add-at_zero_load-2 g c =
-    let placed : ArePlaced (g.X.Expand.pieces c.args.expand.now) c.args.entries.now = record {
-      numbered = c.events_are_placed.ensures.numbered c.args.expand.now c.args.entries.now;
-      there = c.events_are_placed.ensures.there c.args.expand.now c.args.entries.now;
-      next = c.events_are_placed.ensures.next c.args.expand.now c.args.entries.now;
-      each = c.events_are_placed.ensures.each c.args.expand.now c.args.entries.now;
-      parents = c.events_are_placed.ensures.parents c.args.expand.now c.args.entries.now;
-      last = c.events_are_placed.ensures.last c.args.expand.now c.args.entries.now;
-      ends = c.events_are_placed.ensures.ends c.args.expand.now c.args.entries.now;
-    }
-    in
-    let next = c.each_firing_is_of_the_next_event.ensures (all_events (g.X.Expand.pieces c.args.expand.now) c.args.entries.now) c.requires.come.0 c.requires.come.1 placed.numbered c.requires.come.2 c.requires.come.4 in
-    let k_within = R.within g.C.Component.serves g.C.Component.stepped g.C.Component.greatest (g.X.Expand.pieces c.args.expand.now) c.args.entries.now c.args.chains.now c.args.ready.now.keys c.args.comps.now
-    (g.met.X.Expand.parents_come_before c.args.expand.now) placed c.requires.chained c.requires.come.0 c.requires.come.1 c.requires.come.3 next
-    (λ d m core less. c.events_of_a_core_fire_in_order.ensures.next c.args.expand.now c.args.entries.now c.requires.come.0 c.requires.come.1 next.0 next.1 d c.requires.chained.row c.requires.come.2 next.2 m core less)
-    (c.starts_so_far_stay_small.ensures (all_events (g.X.Expand.pieces c.args.expand.now) c.args.entries.now) c.requires.come.0 (suc c.requires.come.1) placed.numbered c.requires.come.2 c.requires.come.3) c.pop.ensures.ascending c.requires.come.5 c.in-Some.key (sym c.pop.ensures.first ∙ c.in-Some.is) in
-    let c_there : slice_get c.args.chains.now c.in-Some.key.number ≡ Some (get_or c.args.chains.now c.in-Some.key.number (record { access = 0; end = 0; place = 0; ended = []; last = None })) = slice_get-get_or c.args.chains.now c.in-Some.key.number (record { access = 0; end = 0; place = 0; ended = []; last = None }) k_within in
-    let a_within = R.access_within g.C.Component.serves g.C.Component.stepped g.C.Component.greatest (g.X.Expand.pieces c.args.expand.now) c.args.entries.now c.args.chains.now c.args.ready.now.keys c.args.comps.now
-    (g.met.X.Expand.parents_come_before c.args.expand.now) placed c.requires.chained c.requires.come.0 c.requires.come.1 c.requires.come.3 next
-    (λ d m core less. c.events_of_a_core_fire_in_order.ensures.next c.args.expand.now c.args.entries.now c.requires.come.0 c.requires.come.1 next.0 next.1 d c.requires.chained.row c.requires.come.2 next.2 m core less)
-    (c.starts_so_far_stay_small.ensures (all_events (g.X.Expand.pieces c.args.expand.now) c.args.entries.now) c.requires.come.0 (suc c.requires.come.1) placed.numbered c.requires.come.2 c.requires.come.3) c.pop.ensures.ascending c.requires.come.5 c.in-Some.key (sym c.pop.ensures.first ∙ c.in-Some.is) (get_or c.args.chains.now c.in-Some.key.number (record { access = 0; end = 0; place = 0; ended = []; last = None })) c_there in
-    let e_there : slice_get c.args.entries.now (get_or c.args.chains.now c.in-Some.key.number (record { access = 0; end = 0; place = 0; ended = []; last = None })).access ≡ Some (get_or c.args.entries.now (get_or c.args.chains.now c.in-Some.key.number (record { access = 0; end = 0; place = 0; ended = []; last = None })).access (record { core = 0; stamp = 0; start = 0; request = Load 0 0; reply = 0; outcome = Hit })) = slice_get-get_or c.args.entries.now (get_or c.args.chains.now c.in-Some.key.number (record { access = 0; end = 0; place = 0; ended = []; last = None })).access (record { core = 0; stamp = 0; start = 0; request = Load 0 0; reply = 0; outcome = Hit }) a_within in
-    let early = c.requires.chained.early (get_or c.args.chains.now c.in-Some.key.number (record { access = 0; end = 0; place = 0; ended = []; last = None })).access (get_or c.args.entries.now (get_or c.args.chains.now c.in-Some.key.number (record { access = 0; end = 0; place = 0; ended = []; last = None })).access (record { core = 0; stamp = 0; start = 0; request = Load 0 0; reply = 0; outcome = Hit })) e_there in
-    let soon = (g.met.X.Expand.ends_with_access c.args.expand.now (get_or c.args.entries.now (get_or c.args.chains.now c.in-Some.key.number (record { access = 0; end = 0; place = 0; ended = []; last = None })).access (record { core = 0; stamp = 0; start = 0; request = Load 0 0; reply = 0; outcome = Hit }))).each (get_or c.args.chains.now c.in-Some.key.number (record { access = 0; end = 0; place = 0; ended = []; last = None })).place c.piece-piece.result c.piece-piece.ensures in
-    let short = g.met.X.Expand.time_small c.args.expand.now (get_or c.args.entries.now (get_or c.args.chains.now c.in-Some.key.number (record { access = 0; end = 0; place = 0; ended = []; last = None })).access (record { core = 0; stamp = 0; start = 0; request = Load 0 0; reply = 0; outcome = Hit })) in
-    omega (arith, early, soon, short)
+    let key : Key = c.in-Some.key in
+    let at : slice_get c.args.ready.now.keys 0 ≡ Some key = sym c.pop.ensures.first ∙ c.in-Some.is in
+    let chain : Chain = get_or c.args.chains.now key.number (record { access = 0; end = 0; place = 0; ended = []; last = None; next = None }) in
+    let there : slice_get c.args.chains.now key.number ≡ Some chain = slice_get-get_or c.args.chains.now key.number (record { access = 0; end = 0; place = 0; ended = []; last = None; next = None }) (R.within r key at) in
+    let next = c.in-Some-next.next in
+    let known : chain.next ≡ Some next = c.in-Some-next.is in
+    R.soon r key at chain there next known
 
 pub move_on-requires-clause-place : goal.move_on-requires-clause-place
 move_on-requires-clause-place g c =
-    let placed : ArePlaced (g.X.Expand.pieces c.args.expand.now) c.args.entries.now = record {
-      numbered = c.events_are_placed.ensures.numbered c.args.expand.now c.args.entries.now;
-      there = c.events_are_placed.ensures.there c.args.expand.now c.args.entries.now;
-      next = c.events_are_placed.ensures.next c.args.expand.now c.args.entries.now;
-      each = c.events_are_placed.ensures.each c.args.expand.now c.args.entries.now;
-      parents = c.events_are_placed.ensures.parents c.args.expand.now c.args.entries.now;
-      last = c.events_are_placed.ensures.last c.args.expand.now c.args.entries.now;
-      ends = c.events_are_placed.ensures.ends c.args.expand.now c.args.entries.now;
+    let lists = g.A.Accesses.lists c.args.accesses.now in
+    let r : IsRound g.C.Component.serves g.C.Component.floor g.C.Component.stepped g.C.Component.greatest (g.X.Expand.pieces c.args.expand.now) lists c.args.chains.now c.args.ready.now.keys c.args.comps.now c.requires.come.0 c.requires.come.1 = record {
+      laws = c.rounds_rest_on_these.ensures c.args.expand.now;
+      chained = c.requires.chained;
+      count = c.requires.count;
+      ahead = c.requires.ahead;
+      ascending = c.pop.ensures.ascending;
+      weaving = c.requires.come.2;
     }
     in
-    let next = c.each_firing_is_of_the_next_event.ensures (all_events (g.X.Expand.pieces c.args.expand.now) c.args.entries.now) c.requires.come.0 c.requires.come.1 placed.numbered c.requires.come.2 c.requires.come.4 in
-    let k_within = R.within g.C.Component.serves g.C.Component.stepped g.C.Component.greatest (g.X.Expand.pieces c.args.expand.now) c.args.entries.now c.args.chains.now c.args.ready.now.keys c.args.comps.now
-    (g.met.X.Expand.parents_come_before c.args.expand.now) placed c.requires.chained c.requires.come.0 c.requires.come.1 c.requires.come.3 next
-    (λ d m core less. c.events_of_a_core_fire_in_order.ensures.next c.args.expand.now c.args.entries.now c.requires.come.0 c.requires.come.1 next.0 next.1 d c.requires.chained.row c.requires.come.2 next.2 m core less)
-    (c.starts_so_far_stay_small.ensures (all_events (g.X.Expand.pieces c.args.expand.now) c.args.entries.now) c.requires.come.0 (suc c.requires.come.1) placed.numbered c.requires.come.2 c.requires.come.3) c.pop.ensures.ascending c.requires.come.5 c.in-Some.key (sym c.pop.ensures.first ∙ c.in-Some.is) in
-    let c_there : slice_get c.args.chains.now c.in-Some.key.number ≡ Some (get_or c.args.chains.now c.in-Some.key.number (record { access = 0; end = 0; place = 0; ended = []; last = None })) = slice_get-get_or c.args.chains.now c.in-Some.key.number (record { access = 0; end = 0; place = 0; ended = []; last = None }) k_within in
-    let a_within = R.access_within g.C.Component.serves g.C.Component.stepped g.C.Component.greatest (g.X.Expand.pieces c.args.expand.now) c.args.entries.now c.args.chains.now c.args.ready.now.keys c.args.comps.now
-    (g.met.X.Expand.parents_come_before c.args.expand.now) placed c.requires.chained c.requires.come.0 c.requires.come.1 c.requires.come.3 next
-    (λ d m core less. c.events_of_a_core_fire_in_order.ensures.next c.args.expand.now c.args.entries.now c.requires.come.0 c.requires.come.1 next.0 next.1 d c.requires.chained.row c.requires.come.2 next.2 m core less)
-    (c.starts_so_far_stay_small.ensures (all_events (g.X.Expand.pieces c.args.expand.now) c.args.entries.now) c.requires.come.0 (suc c.requires.come.1) placed.numbered c.requires.come.2 c.requires.come.3) c.pop.ensures.ascending c.requires.come.5 c.in-Some.key (sym c.pop.ensures.first ∙ c.in-Some.is) (get_or c.args.chains.now c.in-Some.key.number (record { access = 0; end = 0; place = 0; ended = []; last = None })) c_there in
-    let e_there : slice_get c.args.entries.now (get_or c.args.chains.now c.in-Some.key.number (record { access = 0; end = 0; place = 0; ended = []; last = None })).access ≡ Some (get_or c.args.entries.now (get_or c.args.chains.now c.in-Some.key.number (record { access = 0; end = 0; place = 0; ended = []; last = None })).access (record { core = 0; stamp = 0; start = 0; request = Load 0 0; reply = 0; outcome = Hit })) = slice_get-get_or c.args.entries.now (get_or c.args.chains.now c.in-Some.key.number (record { access = 0; end = 0; place = 0; ended = []; last = None })).access (record { core = 0; stamp = 0; start = 0; request = Load 0 0; reply = 0; outcome = Hit }) a_within in
-    R.place_small g.C.Component.serves g.C.Component.stepped g.C.Component.greatest (g.X.Expand.pieces c.args.expand.now) c.args.entries.now c.args.chains.now c.args.ready.now.keys c.args.comps.now
-    (g.met.X.Expand.parents_come_before c.args.expand.now) placed c.requires.chained c.requires.come.0 c.requires.come.1 c.requires.come.3 next
-    (λ d m core less. c.events_of_a_core_fire_in_order.ensures.next c.args.expand.now c.args.entries.now c.requires.come.0 c.requires.come.1 next.0 next.1 d c.requires.chained.row c.requires.come.2 next.2 m core less)
-    (c.starts_so_far_stay_small.ensures (all_events (g.X.Expand.pieces c.args.expand.now) c.args.entries.now) c.requires.come.0 (suc c.requires.come.1) placed.numbered c.requires.come.2 c.requires.come.3) c.pop.ensures.ascending c.requires.come.5 c.in-Some.key (sym c.pop.ensures.first ∙ c.in-Some.is) (get_or c.args.chains.now c.in-Some.key.number (record { access = 0; end = 0; place = 0; ended = []; last = None })) c_there (get_or c.args.entries.now (get_or c.args.chains.now c.in-Some.key.number (record { access = 0; end = 0; place = 0; ended = []; last = None })).access (record { core = 0; stamp = 0; start = 0; request = Load 0 0; reply = 0; outcome = Hit })) e_there
+    let key : Key = c.in-Some.key in
+    let at : slice_get c.args.ready.now.keys 0 ≡ Some key = sym c.pop.ensures.first ∙ c.in-Some.is in
+    let chain : Chain = get_or c.args.chains.now key.number (record { access = 0; end = 0; place = 0; ended = []; last = None; next = None }) in
+    let there : slice_get c.args.chains.now key.number ≡ Some chain = slice_get-get_or c.args.chains.now key.number (record { access = 0; end = 0; place = 0; ended = []; last = None; next = None }) (R.within r key at) in
+    let next = c.in-Some-next.next in
+    let known : chain.next ≡ Some next = c.in-Some-next.is in
+    R.place_small r key at chain there next known
 
 pub move_on-requires-clause-access : goal.move_on-requires-clause-access
 move_on-requires-clause-access g c =
-    let placed : ArePlaced (g.X.Expand.pieces c.args.expand.now) c.args.entries.now = record {
-      numbered = c.events_are_placed.ensures.numbered c.args.expand.now c.args.entries.now;
-      there = c.events_are_placed.ensures.there c.args.expand.now c.args.entries.now;
-      next = c.events_are_placed.ensures.next c.args.expand.now c.args.entries.now;
-      each = c.events_are_placed.ensures.each c.args.expand.now c.args.entries.now;
-      parents = c.events_are_placed.ensures.parents c.args.expand.now c.args.entries.now;
-      last = c.events_are_placed.ensures.last c.args.expand.now c.args.entries.now;
-      ends = c.events_are_placed.ensures.ends c.args.expand.now c.args.entries.now;
+    let lists = g.A.Accesses.lists c.args.accesses.now in
+    let r : IsRound g.C.Component.serves g.C.Component.floor g.C.Component.stepped g.C.Component.greatest (g.X.Expand.pieces c.args.expand.now) lists c.args.chains.now c.args.ready.now.keys c.args.comps.now c.requires.come.0 c.requires.come.1 = record {
+      laws = c.rounds_rest_on_these.ensures c.args.expand.now;
+      chained = c.requires.chained;
+      count = c.requires.count;
+      ahead = c.requires.ahead;
+      ascending = c.pop.ensures.ascending;
+      weaving = c.requires.come.2;
     }
     in
-    let next = c.each_firing_is_of_the_next_event.ensures (all_events (g.X.Expand.pieces c.args.expand.now) c.args.entries.now) c.requires.come.0 c.requires.come.1 placed.numbered c.requires.come.2 c.requires.come.4 in
-    let k_within = R.within g.C.Component.serves g.C.Component.stepped g.C.Component.greatest (g.X.Expand.pieces c.args.expand.now) c.args.entries.now c.args.chains.now c.args.ready.now.keys c.args.comps.now
-    (g.met.X.Expand.parents_come_before c.args.expand.now) placed c.requires.chained c.requires.come.0 c.requires.come.1 c.requires.come.3 next
-    (λ d m core less. c.events_of_a_core_fire_in_order.ensures.next c.args.expand.now c.args.entries.now c.requires.come.0 c.requires.come.1 next.0 next.1 d c.requires.chained.row c.requires.come.2 next.2 m core less)
-    (c.starts_so_far_stay_small.ensures (all_events (g.X.Expand.pieces c.args.expand.now) c.args.entries.now) c.requires.come.0 (suc c.requires.come.1) placed.numbered c.requires.come.2 c.requires.come.3) c.pop.ensures.ascending c.requires.come.5 c.in-Some.key (sym c.pop.ensures.first ∙ c.in-Some.is) in
-    let c_there : slice_get c.args.chains.now c.in-Some.key.number ≡ Some (get_or c.args.chains.now c.in-Some.key.number (record { access = 0; end = 0; place = 0; ended = []; last = None })) = slice_get-get_or c.args.chains.now c.in-Some.key.number (record { access = 0; end = 0; place = 0; ended = []; last = None }) k_within in
-    let a_within = R.access_within g.C.Component.serves g.C.Component.stepped g.C.Component.greatest (g.X.Expand.pieces c.args.expand.now) c.args.entries.now c.args.chains.now c.args.ready.now.keys c.args.comps.now
-    (g.met.X.Expand.parents_come_before c.args.expand.now) placed c.requires.chained c.requires.come.0 c.requires.come.1 c.requires.come.3 next
-    (λ d m core less. c.events_of_a_core_fire_in_order.ensures.next c.args.expand.now c.args.entries.now c.requires.come.0 c.requires.come.1 next.0 next.1 d c.requires.chained.row c.requires.come.2 next.2 m core less)
-    (c.starts_so_far_stay_small.ensures (all_events (g.X.Expand.pieces c.args.expand.now) c.args.entries.now) c.requires.come.0 (suc c.requires.come.1) placed.numbered c.requires.come.2 c.requires.come.3) c.pop.ensures.ascending c.requires.come.5 c.in-Some.key (sym c.pop.ensures.first ∙ c.in-Some.is) (get_or c.args.chains.now c.in-Some.key.number (record { access = 0; end = 0; place = 0; ended = []; last = None })) c_there in
-    let e_there : slice_get c.args.entries.now (get_or c.args.chains.now c.in-Some.key.number (record { access = 0; end = 0; place = 0; ended = []; last = None })).access ≡ Some (get_or c.args.entries.now (get_or c.args.chains.now c.in-Some.key.number (record { access = 0; end = 0; place = 0; ended = []; last = None })).access (record { core = 0; stamp = 0; start = 0; request = Load 0 0; reply = 0; outcome = Hit })) = slice_get-get_or c.args.entries.now (get_or c.args.chains.now c.in-Some.key.number (record { access = 0; end = 0; place = 0; ended = []; last = None })).access (record { core = 0; stamp = 0; start = 0; request = Load 0 0; reply = 0; outcome = Hit }) a_within in
-    omega (arith, a_within, c.requires.few)
+    let key : Key = c.in-Some.key in
+    let at : slice_get c.args.ready.now.keys 0 ≡ Some key = sym c.pop.ensures.first ∙ c.in-Some.is in
+    let chain : Chain = get_or c.args.chains.now key.number (record { access = 0; end = 0; place = 0; ended = []; last = None; next = None }) in
+    let there : slice_get c.args.chains.now key.number ≡ Some chain = slice_get-get_or c.args.chains.now key.number (record { access = 0; end = 0; place = 0; ended = []; last = None; next = None }) (R.within r key at) in
+    R.chain_goes_on r key at chain there
 
-pub bounds-entries-chain-then-goes_on : goal.bounds-entries-chain-then-goes_on
-bounds-entries-chain-then-goes_on g c =
-    let placed : ArePlaced (g.X.Expand.pieces c.args.expand.now) c.args.entries.now = record {
-      numbered = c.events_are_placed.ensures.numbered c.args.expand.now c.args.entries.now;
-      there = c.events_are_placed.ensures.there c.args.expand.now c.args.entries.now;
-      next = c.events_are_placed.ensures.next c.args.expand.now c.args.entries.now;
-      each = c.events_are_placed.ensures.each c.args.expand.now c.args.entries.now;
-      parents = c.events_are_placed.ensures.parents c.args.expand.now c.args.entries.now;
-      last = c.events_are_placed.ensures.last c.args.expand.now c.args.entries.now;
-      ends = c.events_are_placed.ensures.ends c.args.expand.now c.args.entries.now;
+pub look_ahead-start-requires-clause-end : goal.look_ahead-start-requires-clause-end
+look_ahead-start-requires-clause-end g c =
+    let lists = g.A.Accesses.lists c.args.accesses.now in
+    let r : IsRound g.C.Component.serves g.C.Component.floor g.C.Component.stepped g.C.Component.greatest (g.X.Expand.pieces c.args.expand.now) lists c.args.chains.now c.args.ready.now.keys c.args.comps.now c.requires.come.0 c.requires.come.1 = record {
+      laws = c.rounds_rest_on_these.ensures c.args.expand.now;
+      chained = c.requires.chained;
+      count = c.requires.count;
+      ahead = c.requires.ahead;
+      ascending = c.pop.ensures.ascending;
+      weaving = c.requires.come.2;
     }
     in
-    let next = c.each_firing_is_of_the_next_event.ensures (all_events (g.X.Expand.pieces c.args.expand.now) c.args.entries.now) c.requires.come.0 c.requires.come.1 placed.numbered c.requires.come.2 c.requires.come.4 in
-    let k_within = R.within g.C.Component.serves g.C.Component.stepped g.C.Component.greatest (g.X.Expand.pieces c.args.expand.now) c.args.entries.now c.args.chains.now c.args.ready.now.keys c.args.comps.now
-    (g.met.X.Expand.parents_come_before c.args.expand.now) placed c.requires.chained c.requires.come.0 c.requires.come.1 c.requires.come.3 next
-    (λ d m core less. c.events_of_a_core_fire_in_order.ensures.next c.args.expand.now c.args.entries.now c.requires.come.0 c.requires.come.1 next.0 next.1 d c.requires.chained.row c.requires.come.2 next.2 m core less)
-    (c.starts_so_far_stay_small.ensures (all_events (g.X.Expand.pieces c.args.expand.now) c.args.entries.now) c.requires.come.0 (suc c.requires.come.1) placed.numbered c.requires.come.2 c.requires.come.3) c.pop.ensures.ascending c.requires.come.5 c.in-Some.key (sym c.pop.ensures.first ∙ c.in-Some.is) in
-    let c_there : slice_get c.args.chains.now c.in-Some.key.number ≡ Some (get_or c.args.chains.now c.in-Some.key.number (record { access = 0; end = 0; place = 0; ended = []; last = None })) = slice_get-get_or c.args.chains.now c.in-Some.key.number (record { access = 0; end = 0; place = 0; ended = []; last = None }) k_within in
-    let a_within = R.access_within g.C.Component.serves g.C.Component.stepped g.C.Component.greatest (g.X.Expand.pieces c.args.expand.now) c.args.entries.now c.args.chains.now c.args.ready.now.keys c.args.comps.now
-    (g.met.X.Expand.parents_come_before c.args.expand.now) placed c.requires.chained c.requires.come.0 c.requires.come.1 c.requires.come.3 next
-    (λ d m core less. c.events_of_a_core_fire_in_order.ensures.next c.args.expand.now c.args.entries.now c.requires.come.0 c.requires.come.1 next.0 next.1 d c.requires.chained.row c.requires.come.2 next.2 m core less)
-    (c.starts_so_far_stay_small.ensures (all_events (g.X.Expand.pieces c.args.expand.now) c.args.entries.now) c.requires.come.0 (suc c.requires.come.1) placed.numbered c.requires.come.2 c.requires.come.3) c.pop.ensures.ascending c.requires.come.5 c.in-Some.key (sym c.pop.ensures.first ∙ c.in-Some.is) (get_or c.args.chains.now c.in-Some.key.number (record { access = 0; end = 0; place = 0; ended = []; last = None })) c_there in
-    let e_there : slice_get c.args.entries.now (get_or c.args.chains.now c.in-Some.key.number (record { access = 0; end = 0; place = 0; ended = []; last = None })).access ≡ Some (get_or c.args.entries.now (get_or c.args.chains.now c.in-Some.key.number (record { access = 0; end = 0; place = 0; ended = []; last = None })).access (record { core = 0; stamp = 0; start = 0; request = Load 0 0; reply = 0; outcome = Hit })) = slice_get-get_or c.args.entries.now (get_or c.args.chains.now c.in-Some.key.number (record { access = 0; end = 0; place = 0; ended = []; last = None })).access (record { core = 0; stamp = 0; start = 0; request = Load 0 0; reply = 0; outcome = Hit }) a_within in
-    let comp_within : c.from.result < length c.args.comps.now = subst (λ i. i < length c.args.comps.now) (sym c.from.ensures) (R.component_within g.C.Component.serves g.C.Component.stepped g.C.Component.greatest (g.X.Expand.pieces c.args.expand.now) c.args.entries.now c.args.chains.now c.args.ready.now.keys c.args.comps.now
-    (g.met.X.Expand.parents_come_before c.args.expand.now) placed c.requires.chained c.requires.come.0 c.requires.come.1 c.requires.come.3 next
-    (λ d m core less. c.events_of_a_core_fire_in_order.ensures.next c.args.expand.now c.args.entries.now c.requires.come.0 c.requires.come.1 next.0 next.1 d c.requires.chained.row c.requires.come.2 next.2 m core less)
-    (c.starts_so_far_stay_small.ensures (all_events (g.X.Expand.pieces c.args.expand.now) c.args.entries.now) c.requires.come.0 (suc c.requires.come.1) placed.numbered c.requires.come.2 c.requires.come.3) c.pop.ensures.ascending c.requires.come.5 c.in-Some.key (sym c.pop.ensures.first ∙ c.in-Some.is) (get_or c.args.chains.now c.in-Some.key.number (record { access = 0; end = 0; place = 0; ended = []; last = None })) c_there (get_or c.args.entries.now (get_or c.args.chains.now c.in-Some.key.number (record { access = 0; end = 0; place = 0; ended = []; last = None })).access (record { core = 0; stamp = 0; start = 0; request = Load 0 0; reply = 0; outcome = Hit })) e_there c.piece-piece.result c.piece-piece.ensures) in
-    let comp_is : slice_get c.args.comps.now c.piece-piece.result.component ≡ Some (get_or c.args.comps.now c.from.result c.index-comps-from.result) = subst (λ i. slice_get c.args.comps.now i ≡ Some (get_or c.args.comps.now c.from.result c.index-comps-from.result)) c.from.ensures (slice_get-get_or c.args.comps.now c.from.result c.index-comps-from.result comp_within) in
-    let moved_is : c.move_on.new.self ≡ moved_on (length ((g.X.Expand.pieces c.args.expand.now) (get_or c.args.entries.now (get_or c.args.chains.now c.in-Some.key.number (record { access = 0; end = 0; place = 0; ended = []; last = None })).access (record { core = 0; stamp = 0; start = 0; request = Load 0 0; reply = 0; outcome = Hit })))) (record { finish = c.step-finish.result; at_zero_load = (get_or c.args.entries.now (get_or c.args.chains.now c.in-Some.key.number (record { access = 0; end = 0; place = 0; ended = []; last = None })).access (record { core = 0; stamp = 0; start = 0; request = Load 0 0; reply = 0; outcome = Hit })).start + c.piece-piece.result.offset + c.piece-piece.result.time }) (get_or c.args.chains.now c.in-Some.key.number (record { access = 0; end = 0; place = 0; ended = []; last = None })) = c.move_on.ensures ∙ ap (λ k. moved_on k (record { finish = c.step-finish.result; at_zero_load = (get_or c.args.entries.now (get_or c.args.chains.now c.in-Some.key.number (record { access = 0; end = 0; place = 0; ended = []; last = None })).access (record { core = 0; stamp = 0; start = 0; request = Load 0 0; reply = 0; outcome = Hit })).start + c.piece-piece.result.offset + c.piece-piece.result.time }) (get_or c.args.chains.now c.in-Some.key.number (record { access = 0; end = 0; place = 0; ended = []; last = None }))) c.count.ensures in
-    let on = (ltb-true c.move_on.new.self.access c.move_on.new.self.end (sym c.goes_on.ensures ∙ c.if-goes_on.true)) in
-    R.moved_within g.C.Component.serves g.C.Component.stepped g.C.Component.greatest (g.X.Expand.pieces c.args.expand.now) c.args.entries.now c.args.chains.now c.args.ready.now.keys c.args.comps.now
-    (g.met.X.Expand.parents_come_before c.args.expand.now) placed c.requires.chained c.requires.come.0 c.requires.come.1 c.requires.come.3 next
-    (λ d m core less. c.events_of_a_core_fire_in_order.ensures.next c.args.expand.now c.args.entries.now c.requires.come.0 c.requires.come.1 next.0 next.1 d c.requires.chained.row c.requires.come.2 next.2 m core less)
-    (c.starts_so_far_stay_small.ensures (all_events (g.X.Expand.pieces c.args.expand.now) c.args.entries.now) c.requires.come.0 (suc c.requires.come.1) placed.numbered c.requires.come.2 c.requires.come.3) c.pop.ensures.ascending c.requires.come.5 c.in-Some.key (sym c.pop.ensures.first ∙ c.in-Some.is) (get_or c.args.chains.now c.in-Some.key.number (record { access = 0; end = 0; place = 0; ended = []; last = None })) c_there (get_or c.args.entries.now (get_or c.args.chains.now c.in-Some.key.number (record { access = 0; end = 0; place = 0; ended = []; last = None })).access (record { core = 0; stamp = 0; start = 0; request = Load 0 0; reply = 0; outcome = Hit })) e_there c.piece-piece.result c.piece-piece.ensures (get_or c.args.comps.now c.from.result c.index-comps-from.result) comp_is c.step-finish.result c.step-finish.new.self c.step-finish.ensures c.move_on.new.self moved_is on
+    let key : Key = c.in-Some.key in
+    let at : slice_get c.args.ready.now.keys 0 ≡ Some key = sym c.pop.ensures.first ∙ c.in-Some.is in
+    let chain : Chain = get_or c.args.chains.now key.number (record { access = 0; end = 0; place = 0; ended = []; last = None; next = None }) in
+    let there : slice_get c.args.chains.now key.number ≡ Some chain = slice_get-get_or c.args.chains.now key.number (record { access = 0; end = 0; place = 0; ended = []; last = None; next = None }) (R.within r key at) in
+    let next = c.in-Some-next.next in
+    let known : chain.next ≡ Some next = c.in-Some-next.is in
+    let comp = get_some c.args.comps.now next.piece.component (R.component_within r key at chain there next known) in
+    let step = g.C.Component.stepped comp.0 next.piece.kind key.start in
+    let served : c.serve-outcome.result.served ≡ R.served_by next.entry.core next.piece.component key.start (step.1 - key.start - next.piece.time) = c.serve-outcome.ensures.served comp.0 comp.1 in
+    let core : next.entry.core ≡ c.serve-outcome.result.served.core = sym (ap (λ (z : Served). z.core) served) in
+    let mine : key.number ≡ c.serve-outcome.result.served.core = sym (R.core_is r key at chain there next known) ∙ core in
+    let moved = c.move_on.new.self in
+    let is_moved : (before : ℕ) → state_of before moved ≡ moved_on next.count (record { finish = step.1; at_zero_load = next.entry.start + next.piece.offset + next.piece.time }) (state_of before chain) =
+    λ before. c.move_on.ensures.moved before ∙ ap (λ d. moved_on next.count d (state_of before chain)) (c.serve-outcome.ensures.ended comp.0 comp.1)
+    in
+    let kept : moved.next ≡ chain.next = c.move_on.ensures.next in
+    subst (λ i. moved.end ≡ length (list_of lists i)) mine (R.moved_end r key at chain there next known comp.0 comp.1 moved is_moved kept)
 
-pub piece-piece-requires-then-goes_on : goal.piece-piece-requires-then-goes_on
-piece-piece-requires-then-goes_on g c =
-    let placed : ArePlaced (g.X.Expand.pieces c.args.expand.now) c.args.entries.now = record {
-      numbered = c.events_are_placed.ensures.numbered c.args.expand.now c.args.entries.now;
-      there = c.events_are_placed.ensures.there c.args.expand.now c.args.entries.now;
-      next = c.events_are_placed.ensures.next c.args.expand.now c.args.entries.now;
-      each = c.events_are_placed.ensures.each c.args.expand.now c.args.entries.now;
-      parents = c.events_are_placed.ensures.parents c.args.expand.now c.args.entries.now;
-      last = c.events_are_placed.ensures.last c.args.expand.now c.args.entries.now;
-      ends = c.events_are_placed.ensures.ends c.args.expand.now c.args.entries.now;
+pub look_ahead-start-requires-clause-place : goal.look_ahead-start-requires-clause-place
+look_ahead-start-requires-clause-place g c =
+    let lists = g.A.Accesses.lists c.args.accesses.now in
+    let r : IsRound g.C.Component.serves g.C.Component.floor g.C.Component.stepped g.C.Component.greatest (g.X.Expand.pieces c.args.expand.now) lists c.args.chains.now c.args.ready.now.keys c.args.comps.now c.requires.come.0 c.requires.come.1 = record {
+      laws = c.rounds_rest_on_these.ensures c.args.expand.now;
+      chained = c.requires.chained;
+      count = c.requires.count;
+      ahead = c.requires.ahead;
+      ascending = c.pop.ensures.ascending;
+      weaving = c.requires.come.2;
     }
     in
-    let next = c.each_firing_is_of_the_next_event.ensures (all_events (g.X.Expand.pieces c.args.expand.now) c.args.entries.now) c.requires.come.0 c.requires.come.1 placed.numbered c.requires.come.2 c.requires.come.4 in
-    let k_within = R.within g.C.Component.serves g.C.Component.stepped g.C.Component.greatest (g.X.Expand.pieces c.args.expand.now) c.args.entries.now c.args.chains.now c.args.ready.now.keys c.args.comps.now
-    (g.met.X.Expand.parents_come_before c.args.expand.now) placed c.requires.chained c.requires.come.0 c.requires.come.1 c.requires.come.3 next
-    (λ d m core less. c.events_of_a_core_fire_in_order.ensures.next c.args.expand.now c.args.entries.now c.requires.come.0 c.requires.come.1 next.0 next.1 d c.requires.chained.row c.requires.come.2 next.2 m core less)
-    (c.starts_so_far_stay_small.ensures (all_events (g.X.Expand.pieces c.args.expand.now) c.args.entries.now) c.requires.come.0 (suc c.requires.come.1) placed.numbered c.requires.come.2 c.requires.come.3) c.pop.ensures.ascending c.requires.come.5 c.in-Some.key (sym c.pop.ensures.first ∙ c.in-Some.is) in
-    let c_there : slice_get c.args.chains.now c.in-Some.key.number ≡ Some (get_or c.args.chains.now c.in-Some.key.number (record { access = 0; end = 0; place = 0; ended = []; last = None })) = slice_get-get_or c.args.chains.now c.in-Some.key.number (record { access = 0; end = 0; place = 0; ended = []; last = None }) k_within in
-    let a_within = R.access_within g.C.Component.serves g.C.Component.stepped g.C.Component.greatest (g.X.Expand.pieces c.args.expand.now) c.args.entries.now c.args.chains.now c.args.ready.now.keys c.args.comps.now
-    (g.met.X.Expand.parents_come_before c.args.expand.now) placed c.requires.chained c.requires.come.0 c.requires.come.1 c.requires.come.3 next
-    (λ d m core less. c.events_of_a_core_fire_in_order.ensures.next c.args.expand.now c.args.entries.now c.requires.come.0 c.requires.come.1 next.0 next.1 d c.requires.chained.row c.requires.come.2 next.2 m core less)
-    (c.starts_so_far_stay_small.ensures (all_events (g.X.Expand.pieces c.args.expand.now) c.args.entries.now) c.requires.come.0 (suc c.requires.come.1) placed.numbered c.requires.come.2 c.requires.come.3) c.pop.ensures.ascending c.requires.come.5 c.in-Some.key (sym c.pop.ensures.first ∙ c.in-Some.is) (get_or c.args.chains.now c.in-Some.key.number (record { access = 0; end = 0; place = 0; ended = []; last = None })) c_there in
-    let e_there : slice_get c.args.entries.now (get_or c.args.chains.now c.in-Some.key.number (record { access = 0; end = 0; place = 0; ended = []; last = None })).access ≡ Some (get_or c.args.entries.now (get_or c.args.chains.now c.in-Some.key.number (record { access = 0; end = 0; place = 0; ended = []; last = None })).access (record { core = 0; stamp = 0; start = 0; request = Load 0 0; reply = 0; outcome = Hit })) = slice_get-get_or c.args.entries.now (get_or c.args.chains.now c.in-Some.key.number (record { access = 0; end = 0; place = 0; ended = []; last = None })).access (record { core = 0; stamp = 0; start = 0; request = Load 0 0; reply = 0; outcome = Hit }) a_within in
-    let comp_within : c.from.result < length c.args.comps.now = subst (λ i. i < length c.args.comps.now) (sym c.from.ensures) (R.component_within g.C.Component.serves g.C.Component.stepped g.C.Component.greatest (g.X.Expand.pieces c.args.expand.now) c.args.entries.now c.args.chains.now c.args.ready.now.keys c.args.comps.now
-    (g.met.X.Expand.parents_come_before c.args.expand.now) placed c.requires.chained c.requires.come.0 c.requires.come.1 c.requires.come.3 next
-    (λ d m core less. c.events_of_a_core_fire_in_order.ensures.next c.args.expand.now c.args.entries.now c.requires.come.0 c.requires.come.1 next.0 next.1 d c.requires.chained.row c.requires.come.2 next.2 m core less)
-    (c.starts_so_far_stay_small.ensures (all_events (g.X.Expand.pieces c.args.expand.now) c.args.entries.now) c.requires.come.0 (suc c.requires.come.1) placed.numbered c.requires.come.2 c.requires.come.3) c.pop.ensures.ascending c.requires.come.5 c.in-Some.key (sym c.pop.ensures.first ∙ c.in-Some.is) (get_or c.args.chains.now c.in-Some.key.number (record { access = 0; end = 0; place = 0; ended = []; last = None })) c_there (get_or c.args.entries.now (get_or c.args.chains.now c.in-Some.key.number (record { access = 0; end = 0; place = 0; ended = []; last = None })).access (record { core = 0; stamp = 0; start = 0; request = Load 0 0; reply = 0; outcome = Hit })) e_there c.piece-piece.result c.piece-piece.ensures) in
-    let comp_is : slice_get c.args.comps.now c.piece-piece.result.component ≡ Some (get_or c.args.comps.now c.from.result c.index-comps-from.result) = subst (λ i. slice_get c.args.comps.now i ≡ Some (get_or c.args.comps.now c.from.result c.index-comps-from.result)) c.from.ensures (slice_get-get_or c.args.comps.now c.from.result c.index-comps-from.result comp_within) in
-    let moved_is : c.move_on.new.self ≡ moved_on (length ((g.X.Expand.pieces c.args.expand.now) (get_or c.args.entries.now (get_or c.args.chains.now c.in-Some.key.number (record { access = 0; end = 0; place = 0; ended = []; last = None })).access (record { core = 0; stamp = 0; start = 0; request = Load 0 0; reply = 0; outcome = Hit })))) (record { finish = c.step-finish.result; at_zero_load = (get_or c.args.entries.now (get_or c.args.chains.now c.in-Some.key.number (record { access = 0; end = 0; place = 0; ended = []; last = None })).access (record { core = 0; stamp = 0; start = 0; request = Load 0 0; reply = 0; outcome = Hit })).start + c.piece-piece.result.offset + c.piece-piece.result.time }) (get_or c.args.chains.now c.in-Some.key.number (record { access = 0; end = 0; place = 0; ended = []; last = None })) = c.move_on.ensures ∙ ap (λ k. moved_on k (record { finish = c.step-finish.result; at_zero_load = (get_or c.args.entries.now (get_or c.args.chains.now c.in-Some.key.number (record { access = 0; end = 0; place = 0; ended = []; last = None })).access (record { core = 0; stamp = 0; start = 0; request = Load 0 0; reply = 0; outcome = Hit })).start + c.piece-piece.result.offset + c.piece-piece.result.time }) (get_or c.args.chains.now c.in-Some.key.number (record { access = 0; end = 0; place = 0; ended = []; last = None }))) c.count.ensures in
-    let on = (ltb-true c.move_on.new.self.access c.move_on.new.self.end (sym c.goes_on.ensures ∙ c.if-goes_on.true)) in
-    let o_there : slice_get c.args.entries.now c.move_on.new.self.access ≡ Some (get_or c.args.entries.now c.move_on.new.self.access (record { core = 0; stamp = 0; start = 0; request = Load 0 0; reply = 0; outcome = Hit })) = slice_get-get_or c.args.entries.now c.move_on.new.self.access (record { core = 0; stamp = 0; start = 0; request = Load 0 0; reply = 0; outcome = Hit }) (R.moved_within g.C.Component.serves g.C.Component.stepped g.C.Component.greatest (g.X.Expand.pieces c.args.expand.now) c.args.entries.now c.args.chains.now c.args.ready.now.keys c.args.comps.now
-    (g.met.X.Expand.parents_come_before c.args.expand.now) placed c.requires.chained c.requires.come.0 c.requires.come.1 c.requires.come.3 next
-    (λ d m core less. c.events_of_a_core_fire_in_order.ensures.next c.args.expand.now c.args.entries.now c.requires.come.0 c.requires.come.1 next.0 next.1 d c.requires.chained.row c.requires.come.2 next.2 m core less)
-    (c.starts_so_far_stay_small.ensures (all_events (g.X.Expand.pieces c.args.expand.now) c.args.entries.now) c.requires.come.0 (suc c.requires.come.1) placed.numbered c.requires.come.2 c.requires.come.3) c.pop.ensures.ascending c.requires.come.5 c.in-Some.key (sym c.pop.ensures.first ∙ c.in-Some.is) (get_or c.args.chains.now c.in-Some.key.number (record { access = 0; end = 0; place = 0; ended = []; last = None })) c_there (get_or c.args.entries.now (get_or c.args.chains.now c.in-Some.key.number (record { access = 0; end = 0; place = 0; ended = []; last = None })).access (record { core = 0; stamp = 0; start = 0; request = Load 0 0; reply = 0; outcome = Hit })) e_there c.piece-piece.result c.piece-piece.ensures (get_or c.args.comps.now c.from.result c.index-comps-from.result) comp_is c.step-finish.result c.step-finish.new.self c.step-finish.ensures c.move_on.new.self moved_is on) in
-    R.other_place g.C.Component.serves g.C.Component.stepped g.C.Component.greatest (g.X.Expand.pieces c.args.expand.now) c.args.entries.now c.args.chains.now c.args.ready.now.keys c.args.comps.now
-    (g.met.X.Expand.parents_come_before c.args.expand.now) placed c.requires.chained c.requires.come.0 c.requires.come.1 c.requires.come.3 next
-    (λ d m core less. c.events_of_a_core_fire_in_order.ensures.next c.args.expand.now c.args.entries.now c.requires.come.0 c.requires.come.1 next.0 next.1 d c.requires.chained.row c.requires.come.2 next.2 m core less)
-    (c.starts_so_far_stay_small.ensures (all_events (g.X.Expand.pieces c.args.expand.now) c.args.entries.now) c.requires.come.0 (suc c.requires.come.1) placed.numbered c.requires.come.2 c.requires.come.3) c.pop.ensures.ascending c.requires.come.5 c.in-Some.key (sym c.pop.ensures.first ∙ c.in-Some.is) (get_or c.args.chains.now c.in-Some.key.number (record { access = 0; end = 0; place = 0; ended = []; last = None })) c_there (get_or c.args.entries.now (get_or c.args.chains.now c.in-Some.key.number (record { access = 0; end = 0; place = 0; ended = []; last = None })).access (record { core = 0; stamp = 0; start = 0; request = Load 0 0; reply = 0; outcome = Hit })) e_there c.piece-piece.result c.piece-piece.ensures (get_or c.args.comps.now c.from.result c.index-comps-from.result) comp_is c.step-finish.result c.step-finish.new.self c.step-finish.ensures c.move_on.new.self moved_is on (get_or c.args.entries.now c.move_on.new.self.access (record { core = 0; stamp = 0; start = 0; request = Load 0 0; reply = 0; outcome = Hit })) o_there
+    let key : Key = c.in-Some.key in
+    let at : slice_get c.args.ready.now.keys 0 ≡ Some key = sym c.pop.ensures.first ∙ c.in-Some.is in
+    let chain : Chain = get_or c.args.chains.now key.number (record { access = 0; end = 0; place = 0; ended = []; last = None; next = None }) in
+    let there : slice_get c.args.chains.now key.number ≡ Some chain = slice_get-get_or c.args.chains.now key.number (record { access = 0; end = 0; place = 0; ended = []; last = None; next = None }) (R.within r key at) in
+    let next = c.in-Some-next.next in
+    let known : chain.next ≡ Some next = c.in-Some-next.is in
+    let comp = get_some c.args.comps.now next.piece.component (R.component_within r key at chain there next known) in
+    let step = g.C.Component.stepped comp.0 next.piece.kind key.start in
+    let served : c.serve-outcome.result.served ≡ R.served_by next.entry.core next.piece.component key.start (step.1 - key.start - next.piece.time) = c.serve-outcome.ensures.served comp.0 comp.1 in
+    let core : next.entry.core ≡ c.serve-outcome.result.served.core = sym (ap (λ (z : Served). z.core) served) in
+    let mine : key.number ≡ c.serve-outcome.result.served.core = sym (R.core_is r key at chain there next known) ∙ core in
+    let moved = c.move_on.new.self in
+    let is_moved : (before : ℕ) → state_of before moved ≡ moved_on next.count (record { finish = step.1; at_zero_load = next.entry.start + next.piece.offset + next.piece.time }) (state_of before chain) =
+    λ before. c.move_on.ensures.moved before ∙ ap (λ d. moved_on next.count d (state_of before chain)) (c.serve-outcome.ensures.ended comp.0 comp.1)
+    in
+    let kept : moved.next ≡ chain.next = c.move_on.ensures.next in
+    subst (λ i. (e : _) → slice_get (list_of lists i) moved.access ≡ Some e → moved.place < length (g.X.Expand.pieces c.args.expand.now e)) mine (R.place_of r key at chain there next known comp.0 comp.1 moved is_moved kept)
 
-pub overflow_add-entry : goal.overflow_add-entry
-overflow_add-entry g c =
-    let placed : ArePlaced (g.X.Expand.pieces c.args.expand.now) c.args.entries.now = record {
-      numbered = c.events_are_placed.ensures.numbered c.args.expand.now c.args.entries.now;
-      there = c.events_are_placed.ensures.there c.args.expand.now c.args.entries.now;
-      next = c.events_are_placed.ensures.next c.args.expand.now c.args.entries.now;
-      each = c.events_are_placed.ensures.each c.args.expand.now c.args.entries.now;
-      parents = c.events_are_placed.ensures.parents c.args.expand.now c.args.entries.now;
-      last = c.events_are_placed.ensures.last c.args.expand.now c.args.entries.now;
-      ends = c.events_are_placed.ensures.ends c.args.expand.now c.args.entries.now;
+pub look_ahead-start-requires-clause-known : goal.look_ahead-start-requires-clause-known
+look_ahead-start-requires-clause-known g c =
+    let lists = g.A.Accesses.lists c.args.accesses.now in
+    let r : IsRound g.C.Component.serves g.C.Component.floor g.C.Component.stepped g.C.Component.greatest (g.X.Expand.pieces c.args.expand.now) lists c.args.chains.now c.args.ready.now.keys c.args.comps.now c.requires.come.0 c.requires.come.1 = record {
+      laws = c.rounds_rest_on_these.ensures c.args.expand.now;
+      chained = c.requires.chained;
+      count = c.requires.count;
+      ahead = c.requires.ahead;
+      ascending = c.pop.ensures.ascending;
+      weaving = c.requires.come.2;
     }
     in
-    let next = c.each_firing_is_of_the_next_event.ensures (all_events (g.X.Expand.pieces c.args.expand.now) c.args.entries.now) c.requires.come.0 c.requires.come.1 placed.numbered c.requires.come.2 c.requires.come.4 in
-    let k_within = R.within g.C.Component.serves g.C.Component.stepped g.C.Component.greatest (g.X.Expand.pieces c.args.expand.now) c.args.entries.now c.args.chains.now c.args.ready.now.keys c.args.comps.now
-    (g.met.X.Expand.parents_come_before c.args.expand.now) placed c.requires.chained c.requires.come.0 c.requires.come.1 c.requires.come.3 next
-    (λ d m core less. c.events_of_a_core_fire_in_order.ensures.next c.args.expand.now c.args.entries.now c.requires.come.0 c.requires.come.1 next.0 next.1 d c.requires.chained.row c.requires.come.2 next.2 m core less)
-    (c.starts_so_far_stay_small.ensures (all_events (g.X.Expand.pieces c.args.expand.now) c.args.entries.now) c.requires.come.0 (suc c.requires.come.1) placed.numbered c.requires.come.2 c.requires.come.3) c.pop.ensures.ascending c.requires.come.5 c.in-Some.key (sym c.pop.ensures.first ∙ c.in-Some.is) in
-    let c_there : slice_get c.args.chains.now c.in-Some.key.number ≡ Some (get_or c.args.chains.now c.in-Some.key.number (record { access = 0; end = 0; place = 0; ended = []; last = None })) = slice_get-get_or c.args.chains.now c.in-Some.key.number (record { access = 0; end = 0; place = 0; ended = []; last = None }) k_within in
-    let a_within = R.access_within g.C.Component.serves g.C.Component.stepped g.C.Component.greatest (g.X.Expand.pieces c.args.expand.now) c.args.entries.now c.args.chains.now c.args.ready.now.keys c.args.comps.now
-    (g.met.X.Expand.parents_come_before c.args.expand.now) placed c.requires.chained c.requires.come.0 c.requires.come.1 c.requires.come.3 next
-    (λ d m core less. c.events_of_a_core_fire_in_order.ensures.next c.args.expand.now c.args.entries.now c.requires.come.0 c.requires.come.1 next.0 next.1 d c.requires.chained.row c.requires.come.2 next.2 m core less)
-    (c.starts_so_far_stay_small.ensures (all_events (g.X.Expand.pieces c.args.expand.now) c.args.entries.now) c.requires.come.0 (suc c.requires.come.1) placed.numbered c.requires.come.2 c.requires.come.3) c.pop.ensures.ascending c.requires.come.5 c.in-Some.key (sym c.pop.ensures.first ∙ c.in-Some.is) (get_or c.args.chains.now c.in-Some.key.number (record { access = 0; end = 0; place = 0; ended = []; last = None })) c_there in
-    let e_there : slice_get c.args.entries.now (get_or c.args.chains.now c.in-Some.key.number (record { access = 0; end = 0; place = 0; ended = []; last = None })).access ≡ Some (get_or c.args.entries.now (get_or c.args.chains.now c.in-Some.key.number (record { access = 0; end = 0; place = 0; ended = []; last = None })).access (record { core = 0; stamp = 0; start = 0; request = Load 0 0; reply = 0; outcome = Hit })) = slice_get-get_or c.args.entries.now (get_or c.args.chains.now c.in-Some.key.number (record { access = 0; end = 0; place = 0; ended = []; last = None })).access (record { core = 0; stamp = 0; start = 0; request = Load 0 0; reply = 0; outcome = Hit }) a_within in
-    let comp_within : c.from.result < length c.args.comps.now = subst (λ i. i < length c.args.comps.now) (sym c.from.ensures) (R.component_within g.C.Component.serves g.C.Component.stepped g.C.Component.greatest (g.X.Expand.pieces c.args.expand.now) c.args.entries.now c.args.chains.now c.args.ready.now.keys c.args.comps.now
-    (g.met.X.Expand.parents_come_before c.args.expand.now) placed c.requires.chained c.requires.come.0 c.requires.come.1 c.requires.come.3 next
-    (λ d m core less. c.events_of_a_core_fire_in_order.ensures.next c.args.expand.now c.args.entries.now c.requires.come.0 c.requires.come.1 next.0 next.1 d c.requires.chained.row c.requires.come.2 next.2 m core less)
-    (c.starts_so_far_stay_small.ensures (all_events (g.X.Expand.pieces c.args.expand.now) c.args.entries.now) c.requires.come.0 (suc c.requires.come.1) placed.numbered c.requires.come.2 c.requires.come.3) c.pop.ensures.ascending c.requires.come.5 c.in-Some.key (sym c.pop.ensures.first ∙ c.in-Some.is) (get_or c.args.chains.now c.in-Some.key.number (record { access = 0; end = 0; place = 0; ended = []; last = None })) c_there (get_or c.args.entries.now (get_or c.args.chains.now c.in-Some.key.number (record { access = 0; end = 0; place = 0; ended = []; last = None })).access (record { core = 0; stamp = 0; start = 0; request = Load 0 0; reply = 0; outcome = Hit })) e_there c.piece-piece.result c.piece-piece.ensures) in
-    let comp_is : slice_get c.args.comps.now c.piece-piece.result.component ≡ Some (get_or c.args.comps.now c.from.result c.index-comps-from.result) = subst (λ i. slice_get c.args.comps.now i ≡ Some (get_or c.args.comps.now c.from.result c.index-comps-from.result)) c.from.ensures (slice_get-get_or c.args.comps.now c.from.result c.index-comps-from.result comp_within) in
-    let moved_is : c.move_on.new.self ≡ moved_on (length ((g.X.Expand.pieces c.args.expand.now) (get_or c.args.entries.now (get_or c.args.chains.now c.in-Some.key.number (record { access = 0; end = 0; place = 0; ended = []; last = None })).access (record { core = 0; stamp = 0; start = 0; request = Load 0 0; reply = 0; outcome = Hit })))) (record { finish = c.step-finish.result; at_zero_load = (get_or c.args.entries.now (get_or c.args.chains.now c.in-Some.key.number (record { access = 0; end = 0; place = 0; ended = []; last = None })).access (record { core = 0; stamp = 0; start = 0; request = Load 0 0; reply = 0; outcome = Hit })).start + c.piece-piece.result.offset + c.piece-piece.result.time }) (get_or c.args.chains.now c.in-Some.key.number (record { access = 0; end = 0; place = 0; ended = []; last = None })) = c.move_on.ensures ∙ ap (λ k. moved_on k (record { finish = c.step-finish.result; at_zero_load = (get_or c.args.entries.now (get_or c.args.chains.now c.in-Some.key.number (record { access = 0; end = 0; place = 0; ended = []; last = None })).access (record { core = 0; stamp = 0; start = 0; request = Load 0 0; reply = 0; outcome = Hit })).start + c.piece-piece.result.offset + c.piece-piece.result.time }) (get_or c.args.chains.now c.in-Some.key.number (record { access = 0; end = 0; place = 0; ended = []; last = None }))) c.count.ensures in
-    let on = (ltb-true c.move_on.new.self.access c.move_on.new.self.end (sym c.goes_on.ensures ∙ c.if-goes_on.true)) in
-    let o_there : slice_get c.args.entries.now c.move_on.new.self.access ≡ Some (get_or c.args.entries.now c.move_on.new.self.access (record { core = 0; stamp = 0; start = 0; request = Load 0 0; reply = 0; outcome = Hit })) = slice_get-get_or c.args.entries.now c.move_on.new.self.access (record { core = 0; stamp = 0; start = 0; request = Load 0 0; reply = 0; outcome = Hit }) (R.moved_within g.C.Component.serves g.C.Component.stepped g.C.Component.greatest (g.X.Expand.pieces c.args.expand.now) c.args.entries.now c.args.chains.now c.args.ready.now.keys c.args.comps.now
-    (g.met.X.Expand.parents_come_before c.args.expand.now) placed c.requires.chained c.requires.come.0 c.requires.come.1 c.requires.come.3 next
-    (λ d m core less. c.events_of_a_core_fire_in_order.ensures.next c.args.expand.now c.args.entries.now c.requires.come.0 c.requires.come.1 next.0 next.1 d c.requires.chained.row c.requires.come.2 next.2 m core less)
-    (c.starts_so_far_stay_small.ensures (all_events (g.X.Expand.pieces c.args.expand.now) c.args.entries.now) c.requires.come.0 (suc c.requires.come.1) placed.numbered c.requires.come.2 c.requires.come.3) c.pop.ensures.ascending c.requires.come.5 c.in-Some.key (sym c.pop.ensures.first ∙ c.in-Some.is) (get_or c.args.chains.now c.in-Some.key.number (record { access = 0; end = 0; place = 0; ended = []; last = None })) c_there (get_or c.args.entries.now (get_or c.args.chains.now c.in-Some.key.number (record { access = 0; end = 0; place = 0; ended = []; last = None })).access (record { core = 0; stamp = 0; start = 0; request = Load 0 0; reply = 0; outcome = Hit })) e_there c.piece-piece.result c.piece-piece.ensures (get_or c.args.comps.now c.from.result c.index-comps-from.result) comp_is c.step-finish.result c.step-finish.new.self c.step-finish.ensures c.move_on.new.self moved_is on) in
-    let early = c.requires.chained.early c.move_on.new.self.access (get_or c.args.entries.now c.move_on.new.self.access (record { core = 0; stamp = 0; start = 0; request = Load 0 0; reply = 0; outcome = Hit })) o_there in
-    let soon = (g.met.X.Expand.ends_with_access c.args.expand.now (get_or c.args.entries.now c.move_on.new.self.access (record { core = 0; stamp = 0; start = 0; request = Load 0 0; reply = 0; outcome = Hit }))).each c.move_on.new.self.place c.piece-piece-then-goes_on.result c.piece-piece-then-goes_on.ensures in
-    let short = g.met.X.Expand.time_small c.args.expand.now (get_or c.args.entries.now c.move_on.new.self.access (record { core = 0; stamp = 0; start = 0; request = Load 0 0; reply = 0; outcome = Hit })) in
-    omega (arith, early, soon, short)
+    let key : Key = c.in-Some.key in
+    let at : slice_get c.args.ready.now.keys 0 ≡ Some key = sym c.pop.ensures.first ∙ c.in-Some.is in
+    let chain : Chain = get_or c.args.chains.now key.number (record { access = 0; end = 0; place = 0; ended = []; last = None; next = None }) in
+    let there : slice_get c.args.chains.now key.number ≡ Some chain = slice_get-get_or c.args.chains.now key.number (record { access = 0; end = 0; place = 0; ended = []; last = None; next = None }) (R.within r key at) in
+    let next = c.in-Some-next.next in
+    let known : chain.next ≡ Some next = c.in-Some-next.is in
+    let comp = get_some c.args.comps.now next.piece.component (R.component_within r key at chain there next known) in
+    let step = g.C.Component.stepped comp.0 next.piece.kind key.start in
+    let served : c.serve-outcome.result.served ≡ R.served_by next.entry.core next.piece.component key.start (step.1 - key.start - next.piece.time) = c.serve-outcome.ensures.served comp.0 comp.1 in
+    let core : next.entry.core ≡ c.serve-outcome.result.served.core = sym (ap (λ (z : Served). z.core) served) in
+    let mine : key.number ≡ c.serve-outcome.result.served.core = sym (R.core_is r key at chain there next known) ∙ core in
+    let moved = c.move_on.new.self in
+    let is_moved : (before : ℕ) → state_of before moved ≡ moved_on next.count (record { finish = step.1; at_zero_load = next.entry.start + next.piece.offset + next.piece.time }) (state_of before chain) =
+    λ before. c.move_on.ensures.moved before ∙ ap (λ d. moved_on next.count d (state_of before chain)) (c.serve-outcome.ensures.ended comp.0 comp.1)
+    in
+    let kept : moved.next ≡ chain.next = c.move_on.ensures.next in
+    subst (λ i. (n : _) → 0 < moved.place → moved.next ≡ Some n → IsAtAccess (g.X.Expand.pieces c.args.expand.now) (list_of lists i) moved n) mine (R.still_known r key at chain there next known comp.0 comp.1 moved is_moved kept)
 
-pub start-start-requires : goal.start-start-requires
-start-start-requires g c =
-    let placed : ArePlaced (g.X.Expand.pieces c.args.expand.now) c.args.entries.now = record {
-      numbered = c.events_are_placed.ensures.numbered c.args.expand.now c.args.entries.now;
-      there = c.events_are_placed.ensures.there c.args.expand.now c.args.entries.now;
-      next = c.events_are_placed.ensures.next c.args.expand.now c.args.entries.now;
-      each = c.events_are_placed.ensures.each c.args.expand.now c.args.entries.now;
-      parents = c.events_are_placed.ensures.parents c.args.expand.now c.args.entries.now;
-      last = c.events_are_placed.ensures.last c.args.expand.now c.args.entries.now;
-      ends = c.events_are_placed.ensures.ends c.args.expand.now c.args.entries.now;
+pub look_ahead-start-requires-clause-soon : goal.look_ahead-start-requires-clause-soon
+look_ahead-start-requires-clause-soon g c =
+    let lists = g.A.Accesses.lists c.args.accesses.now in
+    let r : IsRound g.C.Component.serves g.C.Component.floor g.C.Component.stepped g.C.Component.greatest (g.X.Expand.pieces c.args.expand.now) lists c.args.chains.now c.args.ready.now.keys c.args.comps.now c.requires.come.0 c.requires.come.1 = record {
+      laws = c.rounds_rest_on_these.ensures c.args.expand.now;
+      chained = c.requires.chained;
+      count = c.requires.count;
+      ahead = c.requires.ahead;
+      ascending = c.pop.ensures.ascending;
+      weaving = c.requires.come.2;
     }
     in
-    let next = c.each_firing_is_of_the_next_event.ensures (all_events (g.X.Expand.pieces c.args.expand.now) c.args.entries.now) c.requires.come.0 c.requires.come.1 placed.numbered c.requires.come.2 c.requires.come.4 in
-    let k_within = R.within g.C.Component.serves g.C.Component.stepped g.C.Component.greatest (g.X.Expand.pieces c.args.expand.now) c.args.entries.now c.args.chains.now c.args.ready.now.keys c.args.comps.now
-    (g.met.X.Expand.parents_come_before c.args.expand.now) placed c.requires.chained c.requires.come.0 c.requires.come.1 c.requires.come.3 next
-    (λ d m core less. c.events_of_a_core_fire_in_order.ensures.next c.args.expand.now c.args.entries.now c.requires.come.0 c.requires.come.1 next.0 next.1 d c.requires.chained.row c.requires.come.2 next.2 m core less)
-    (c.starts_so_far_stay_small.ensures (all_events (g.X.Expand.pieces c.args.expand.now) c.args.entries.now) c.requires.come.0 (suc c.requires.come.1) placed.numbered c.requires.come.2 c.requires.come.3) c.pop.ensures.ascending c.requires.come.5 c.in-Some.key (sym c.pop.ensures.first ∙ c.in-Some.is) in
-    let c_there : slice_get c.args.chains.now c.in-Some.key.number ≡ Some (get_or c.args.chains.now c.in-Some.key.number (record { access = 0; end = 0; place = 0; ended = []; last = None })) = slice_get-get_or c.args.chains.now c.in-Some.key.number (record { access = 0; end = 0; place = 0; ended = []; last = None }) k_within in
-    let a_within = R.access_within g.C.Component.serves g.C.Component.stepped g.C.Component.greatest (g.X.Expand.pieces c.args.expand.now) c.args.entries.now c.args.chains.now c.args.ready.now.keys c.args.comps.now
-    (g.met.X.Expand.parents_come_before c.args.expand.now) placed c.requires.chained c.requires.come.0 c.requires.come.1 c.requires.come.3 next
-    (λ d m core less. c.events_of_a_core_fire_in_order.ensures.next c.args.expand.now c.args.entries.now c.requires.come.0 c.requires.come.1 next.0 next.1 d c.requires.chained.row c.requires.come.2 next.2 m core less)
-    (c.starts_so_far_stay_small.ensures (all_events (g.X.Expand.pieces c.args.expand.now) c.args.entries.now) c.requires.come.0 (suc c.requires.come.1) placed.numbered c.requires.come.2 c.requires.come.3) c.pop.ensures.ascending c.requires.come.5 c.in-Some.key (sym c.pop.ensures.first ∙ c.in-Some.is) (get_or c.args.chains.now c.in-Some.key.number (record { access = 0; end = 0; place = 0; ended = []; last = None })) c_there in
-    let e_there : slice_get c.args.entries.now (get_or c.args.chains.now c.in-Some.key.number (record { access = 0; end = 0; place = 0; ended = []; last = None })).access ≡ Some (get_or c.args.entries.now (get_or c.args.chains.now c.in-Some.key.number (record { access = 0; end = 0; place = 0; ended = []; last = None })).access (record { core = 0; stamp = 0; start = 0; request = Load 0 0; reply = 0; outcome = Hit })) = slice_get-get_or c.args.entries.now (get_or c.args.chains.now c.in-Some.key.number (record { access = 0; end = 0; place = 0; ended = []; last = None })).access (record { core = 0; stamp = 0; start = 0; request = Load 0 0; reply = 0; outcome = Hit }) a_within in
-    let comp_within : c.from.result < length c.args.comps.now = subst (λ i. i < length c.args.comps.now) (sym c.from.ensures) (R.component_within g.C.Component.serves g.C.Component.stepped g.C.Component.greatest (g.X.Expand.pieces c.args.expand.now) c.args.entries.now c.args.chains.now c.args.ready.now.keys c.args.comps.now
-    (g.met.X.Expand.parents_come_before c.args.expand.now) placed c.requires.chained c.requires.come.0 c.requires.come.1 c.requires.come.3 next
-    (λ d m core less. c.events_of_a_core_fire_in_order.ensures.next c.args.expand.now c.args.entries.now c.requires.come.0 c.requires.come.1 next.0 next.1 d c.requires.chained.row c.requires.come.2 next.2 m core less)
-    (c.starts_so_far_stay_small.ensures (all_events (g.X.Expand.pieces c.args.expand.now) c.args.entries.now) c.requires.come.0 (suc c.requires.come.1) placed.numbered c.requires.come.2 c.requires.come.3) c.pop.ensures.ascending c.requires.come.5 c.in-Some.key (sym c.pop.ensures.first ∙ c.in-Some.is) (get_or c.args.chains.now c.in-Some.key.number (record { access = 0; end = 0; place = 0; ended = []; last = None })) c_there (get_or c.args.entries.now (get_or c.args.chains.now c.in-Some.key.number (record { access = 0; end = 0; place = 0; ended = []; last = None })).access (record { core = 0; stamp = 0; start = 0; request = Load 0 0; reply = 0; outcome = Hit })) e_there c.piece-piece.result c.piece-piece.ensures) in
-    let comp_is : slice_get c.args.comps.now c.piece-piece.result.component ≡ Some (get_or c.args.comps.now c.from.result c.index-comps-from.result) = subst (λ i. slice_get c.args.comps.now i ≡ Some (get_or c.args.comps.now c.from.result c.index-comps-from.result)) c.from.ensures (slice_get-get_or c.args.comps.now c.from.result c.index-comps-from.result comp_within) in
-    let moved_is : c.move_on.new.self ≡ moved_on (length ((g.X.Expand.pieces c.args.expand.now) (get_or c.args.entries.now (get_or c.args.chains.now c.in-Some.key.number (record { access = 0; end = 0; place = 0; ended = []; last = None })).access (record { core = 0; stamp = 0; start = 0; request = Load 0 0; reply = 0; outcome = Hit })))) (record { finish = c.step-finish.result; at_zero_load = (get_or c.args.entries.now (get_or c.args.chains.now c.in-Some.key.number (record { access = 0; end = 0; place = 0; ended = []; last = None })).access (record { core = 0; stamp = 0; start = 0; request = Load 0 0; reply = 0; outcome = Hit })).start + c.piece-piece.result.offset + c.piece-piece.result.time }) (get_or c.args.chains.now c.in-Some.key.number (record { access = 0; end = 0; place = 0; ended = []; last = None })) = c.move_on.ensures ∙ ap (λ k. moved_on k (record { finish = c.step-finish.result; at_zero_load = (get_or c.args.entries.now (get_or c.args.chains.now c.in-Some.key.number (record { access = 0; end = 0; place = 0; ended = []; last = None })).access (record { core = 0; stamp = 0; start = 0; request = Load 0 0; reply = 0; outcome = Hit })).start + c.piece-piece.result.offset + c.piece-piece.result.time }) (get_or c.args.chains.now c.in-Some.key.number (record { access = 0; end = 0; place = 0; ended = []; last = None }))) c.count.ensures in
-    let on = (ltb-true c.move_on.new.self.access c.move_on.new.self.end (sym c.goes_on.ensures ∙ c.if-goes_on.true)) in
-    let o_there : slice_get c.args.entries.now c.move_on.new.self.access ≡ Some (get_or c.args.entries.now c.move_on.new.self.access (record { core = 0; stamp = 0; start = 0; request = Load 0 0; reply = 0; outcome = Hit })) = slice_get-get_or c.args.entries.now c.move_on.new.self.access (record { core = 0; stamp = 0; start = 0; request = Load 0 0; reply = 0; outcome = Hit }) (R.moved_within g.C.Component.serves g.C.Component.stepped g.C.Component.greatest (g.X.Expand.pieces c.args.expand.now) c.args.entries.now c.args.chains.now c.args.ready.now.keys c.args.comps.now
-    (g.met.X.Expand.parents_come_before c.args.expand.now) placed c.requires.chained c.requires.come.0 c.requires.come.1 c.requires.come.3 next
-    (λ d m core less. c.events_of_a_core_fire_in_order.ensures.next c.args.expand.now c.args.entries.now c.requires.come.0 c.requires.come.1 next.0 next.1 d c.requires.chained.row c.requires.come.2 next.2 m core less)
-    (c.starts_so_far_stay_small.ensures (all_events (g.X.Expand.pieces c.args.expand.now) c.args.entries.now) c.requires.come.0 (suc c.requires.come.1) placed.numbered c.requires.come.2 c.requires.come.3) c.pop.ensures.ascending c.requires.come.5 c.in-Some.key (sym c.pop.ensures.first ∙ c.in-Some.is) (get_or c.args.chains.now c.in-Some.key.number (record { access = 0; end = 0; place = 0; ended = []; last = None })) c_there (get_or c.args.entries.now (get_or c.args.chains.now c.in-Some.key.number (record { access = 0; end = 0; place = 0; ended = []; last = None })).access (record { core = 0; stamp = 0; start = 0; request = Load 0 0; reply = 0; outcome = Hit })) e_there c.piece-piece.result c.piece-piece.ensures (get_or c.args.comps.now c.from.result c.index-comps-from.result) comp_is c.step-finish.result c.step-finish.new.self c.step-finish.ensures c.move_on.new.self moved_is on) in
-    R.start_small g.C.Component.serves g.C.Component.stepped g.C.Component.greatest (g.X.Expand.pieces c.args.expand.now) c.args.entries.now c.args.chains.now c.args.ready.now.keys c.args.comps.now
-    (g.met.X.Expand.parents_come_before c.args.expand.now) placed c.requires.chained c.requires.come.0 c.requires.come.1 c.requires.come.3 next
-    (λ d m core less. c.events_of_a_core_fire_in_order.ensures.next c.args.expand.now c.args.entries.now c.requires.come.0 c.requires.come.1 next.0 next.1 d c.requires.chained.row c.requires.come.2 next.2 m core less)
-    (c.starts_so_far_stay_small.ensures (all_events (g.X.Expand.pieces c.args.expand.now) c.args.entries.now) c.requires.come.0 (suc c.requires.come.1) placed.numbered c.requires.come.2 c.requires.come.3) c.pop.ensures.ascending c.requires.come.5 c.in-Some.key (sym c.pop.ensures.first ∙ c.in-Some.is) (get_or c.args.chains.now c.in-Some.key.number (record { access = 0; end = 0; place = 0; ended = []; last = None })) c_there (get_or c.args.entries.now (get_or c.args.chains.now c.in-Some.key.number (record { access = 0; end = 0; place = 0; ended = []; last = None })).access (record { core = 0; stamp = 0; start = 0; request = Load 0 0; reply = 0; outcome = Hit })) e_there c.piece-piece.result c.piece-piece.ensures (get_or c.args.comps.now c.from.result c.index-comps-from.result) comp_is c.step-finish.result c.step-finish.new.self c.step-finish.ensures c.move_on.new.self moved_is on (get_or c.args.entries.now c.move_on.new.self.access (record { core = 0; stamp = 0; start = 0; request = Load 0 0; reply = 0; outcome = Hit })) o_there c.piece-piece-then-goes_on.result c.piece-piece-then-goes_on.ensures
+    let key : Key = c.in-Some.key in
+    let at : slice_get c.args.ready.now.keys 0 ≡ Some key = sym c.pop.ensures.first ∙ c.in-Some.is in
+    let chain : Chain = get_or c.args.chains.now key.number (record { access = 0; end = 0; place = 0; ended = []; last = None; next = None }) in
+    let there : slice_get c.args.chains.now key.number ≡ Some chain = slice_get-get_or c.args.chains.now key.number (record { access = 0; end = 0; place = 0; ended = []; last = None; next = None }) (R.within r key at) in
+    let next = c.in-Some-next.next in
+    let known : chain.next ≡ Some next = c.in-Some-next.is in
+    let comp = get_some c.args.comps.now next.piece.component (R.component_within r key at chain there next known) in
+    let step = g.C.Component.stepped comp.0 next.piece.kind key.start in
+    let served : c.serve-outcome.result.served ≡ R.served_by next.entry.core next.piece.component key.start (step.1 - key.start - next.piece.time) = c.serve-outcome.ensures.served comp.0 comp.1 in
+    let core : next.entry.core ≡ c.serve-outcome.result.served.core = sym (ap (λ (z : Served). z.core) served) in
+    let mine : key.number ≡ c.serve-outcome.result.served.core = sym (R.core_is r key at chain there next known) ∙ core in
+    let moved = c.move_on.new.self in
+    let is_moved : (before : ℕ) → state_of before moved ≡ moved_on next.count (record { finish = step.1; at_zero_load = next.entry.start + next.piece.offset + next.piece.time }) (state_of before chain) =
+    λ before. c.move_on.ensures.moved before ∙ ap (λ d. moved_on next.count d (state_of before chain)) (c.serve-outcome.ensures.ended comp.0 comp.1)
+    in
+    let kept : moved.next ≡ chain.next = c.move_on.ensures.next in
+    λ e p e_there p_there. R.start_small r key at chain there next known comp.0 comp.1 moved is_moved kept e (subst (λ i. slice_get (list_of lists i) moved.access ≡ Some e) (sym mine) e_there) p p_there
 
-pub push-requires-clause-new : goal.push-requires-clause-new
-push-requires-clause-new g c =
-    let placed : ArePlaced (g.X.Expand.pieces c.args.expand.now) c.args.entries.now = record {
-      numbered = c.events_are_placed.ensures.numbered c.args.expand.now c.args.entries.now;
-      there = c.events_are_placed.ensures.there c.args.expand.now c.args.entries.now;
-      next = c.events_are_placed.ensures.next c.args.expand.now c.args.entries.now;
-      each = c.events_are_placed.ensures.each c.args.expand.now c.args.entries.now;
-      parents = c.events_are_placed.ensures.parents c.args.expand.now c.args.entries.now;
-      last = c.events_are_placed.ensures.last c.args.expand.now c.args.entries.now;
-      ends = c.events_are_placed.ensures.ends c.args.expand.now c.args.entries.now;
+pub push_next-requires : goal.push_next-requires
+push_next-requires g c =
+    let lists = g.A.Accesses.lists c.args.accesses.now in
+    let r : IsRound g.C.Component.serves g.C.Component.floor g.C.Component.stepped g.C.Component.greatest (g.X.Expand.pieces c.args.expand.now) lists c.args.chains.now c.args.ready.now.keys c.args.comps.now c.requires.come.0 c.requires.come.1 = record {
+      laws = c.rounds_rest_on_these.ensures c.args.expand.now;
+      chained = c.requires.chained;
+      count = c.requires.count;
+      ahead = c.requires.ahead;
+      ascending = c.pop.ensures.ascending;
+      weaving = c.requires.come.2;
     }
     in
-    let next = c.each_firing_is_of_the_next_event.ensures (all_events (g.X.Expand.pieces c.args.expand.now) c.args.entries.now) c.requires.come.0 c.requires.come.1 placed.numbered c.requires.come.2 c.requires.come.4 in
-    let k_within = R.within g.C.Component.serves g.C.Component.stepped g.C.Component.greatest (g.X.Expand.pieces c.args.expand.now) c.args.entries.now c.args.chains.now c.args.ready.now.keys c.args.comps.now
-    (g.met.X.Expand.parents_come_before c.args.expand.now) placed c.requires.chained c.requires.come.0 c.requires.come.1 c.requires.come.3 next
-    (λ d m core less. c.events_of_a_core_fire_in_order.ensures.next c.args.expand.now c.args.entries.now c.requires.come.0 c.requires.come.1 next.0 next.1 d c.requires.chained.row c.requires.come.2 next.2 m core less)
-    (c.starts_so_far_stay_small.ensures (all_events (g.X.Expand.pieces c.args.expand.now) c.args.entries.now) c.requires.come.0 (suc c.requires.come.1) placed.numbered c.requires.come.2 c.requires.come.3) c.pop.ensures.ascending c.requires.come.5 c.in-Some.key (sym c.pop.ensures.first ∙ c.in-Some.is) in
-    let c_there : slice_get c.args.chains.now c.in-Some.key.number ≡ Some (get_or c.args.chains.now c.in-Some.key.number (record { access = 0; end = 0; place = 0; ended = []; last = None })) = slice_get-get_or c.args.chains.now c.in-Some.key.number (record { access = 0; end = 0; place = 0; ended = []; last = None }) k_within in
-    let a_within = R.access_within g.C.Component.serves g.C.Component.stepped g.C.Component.greatest (g.X.Expand.pieces c.args.expand.now) c.args.entries.now c.args.chains.now c.args.ready.now.keys c.args.comps.now
-    (g.met.X.Expand.parents_come_before c.args.expand.now) placed c.requires.chained c.requires.come.0 c.requires.come.1 c.requires.come.3 next
-    (λ d m core less. c.events_of_a_core_fire_in_order.ensures.next c.args.expand.now c.args.entries.now c.requires.come.0 c.requires.come.1 next.0 next.1 d c.requires.chained.row c.requires.come.2 next.2 m core less)
-    (c.starts_so_far_stay_small.ensures (all_events (g.X.Expand.pieces c.args.expand.now) c.args.entries.now) c.requires.come.0 (suc c.requires.come.1) placed.numbered c.requires.come.2 c.requires.come.3) c.pop.ensures.ascending c.requires.come.5 c.in-Some.key (sym c.pop.ensures.first ∙ c.in-Some.is) (get_or c.args.chains.now c.in-Some.key.number (record { access = 0; end = 0; place = 0; ended = []; last = None })) c_there in
-    let e_there : slice_get c.args.entries.now (get_or c.args.chains.now c.in-Some.key.number (record { access = 0; end = 0; place = 0; ended = []; last = None })).access ≡ Some (get_or c.args.entries.now (get_or c.args.chains.now c.in-Some.key.number (record { access = 0; end = 0; place = 0; ended = []; last = None })).access (record { core = 0; stamp = 0; start = 0; request = Load 0 0; reply = 0; outcome = Hit })) = slice_get-get_or c.args.entries.now (get_or c.args.chains.now c.in-Some.key.number (record { access = 0; end = 0; place = 0; ended = []; last = None })).access (record { core = 0; stamp = 0; start = 0; request = Load 0 0; reply = 0; outcome = Hit }) a_within in
-    let comp_within : c.from.result < length c.args.comps.now = subst (λ i. i < length c.args.comps.now) (sym c.from.ensures) (R.component_within g.C.Component.serves g.C.Component.stepped g.C.Component.greatest (g.X.Expand.pieces c.args.expand.now) c.args.entries.now c.args.chains.now c.args.ready.now.keys c.args.comps.now
-    (g.met.X.Expand.parents_come_before c.args.expand.now) placed c.requires.chained c.requires.come.0 c.requires.come.1 c.requires.come.3 next
-    (λ d m core less. c.events_of_a_core_fire_in_order.ensures.next c.args.expand.now c.args.entries.now c.requires.come.0 c.requires.come.1 next.0 next.1 d c.requires.chained.row c.requires.come.2 next.2 m core less)
-    (c.starts_so_far_stay_small.ensures (all_events (g.X.Expand.pieces c.args.expand.now) c.args.entries.now) c.requires.come.0 (suc c.requires.come.1) placed.numbered c.requires.come.2 c.requires.come.3) c.pop.ensures.ascending c.requires.come.5 c.in-Some.key (sym c.pop.ensures.first ∙ c.in-Some.is) (get_or c.args.chains.now c.in-Some.key.number (record { access = 0; end = 0; place = 0; ended = []; last = None })) c_there (get_or c.args.entries.now (get_or c.args.chains.now c.in-Some.key.number (record { access = 0; end = 0; place = 0; ended = []; last = None })).access (record { core = 0; stamp = 0; start = 0; request = Load 0 0; reply = 0; outcome = Hit })) e_there c.piece-piece.result c.piece-piece.ensures) in
-    let comp_is : slice_get c.args.comps.now c.piece-piece.result.component ≡ Some (get_or c.args.comps.now c.from.result c.index-comps-from.result) = subst (λ i. slice_get c.args.comps.now i ≡ Some (get_or c.args.comps.now c.from.result c.index-comps-from.result)) c.from.ensures (slice_get-get_or c.args.comps.now c.from.result c.index-comps-from.result comp_within) in
-    let moved_is : c.move_on.new.self ≡ moved_on (length ((g.X.Expand.pieces c.args.expand.now) (get_or c.args.entries.now (get_or c.args.chains.now c.in-Some.key.number (record { access = 0; end = 0; place = 0; ended = []; last = None })).access (record { core = 0; stamp = 0; start = 0; request = Load 0 0; reply = 0; outcome = Hit })))) (record { finish = c.step-finish.result; at_zero_load = (get_or c.args.entries.now (get_or c.args.chains.now c.in-Some.key.number (record { access = 0; end = 0; place = 0; ended = []; last = None })).access (record { core = 0; stamp = 0; start = 0; request = Load 0 0; reply = 0; outcome = Hit })).start + c.piece-piece.result.offset + c.piece-piece.result.time }) (get_or c.args.chains.now c.in-Some.key.number (record { access = 0; end = 0; place = 0; ended = []; last = None })) = c.move_on.ensures ∙ ap (λ k. moved_on k (record { finish = c.step-finish.result; at_zero_load = (get_or c.args.entries.now (get_or c.args.chains.now c.in-Some.key.number (record { access = 0; end = 0; place = 0; ended = []; last = None })).access (record { core = 0; stamp = 0; start = 0; request = Load 0 0; reply = 0; outcome = Hit })).start + c.piece-piece.result.offset + c.piece-piece.result.time }) (get_or c.args.chains.now c.in-Some.key.number (record { access = 0; end = 0; place = 0; ended = []; last = None }))) c.count.ensures in
-    let on = (ltb-true c.move_on.new.self.access c.move_on.new.self.end (sym c.goes_on.ensures ∙ c.if-goes_on.true)) in
-    let o_there : slice_get c.args.entries.now c.move_on.new.self.access ≡ Some (get_or c.args.entries.now c.move_on.new.self.access (record { core = 0; stamp = 0; start = 0; request = Load 0 0; reply = 0; outcome = Hit })) = slice_get-get_or c.args.entries.now c.move_on.new.self.access (record { core = 0; stamp = 0; start = 0; request = Load 0 0; reply = 0; outcome = Hit }) (R.moved_within g.C.Component.serves g.C.Component.stepped g.C.Component.greatest (g.X.Expand.pieces c.args.expand.now) c.args.entries.now c.args.chains.now c.args.ready.now.keys c.args.comps.now
-    (g.met.X.Expand.parents_come_before c.args.expand.now) placed c.requires.chained c.requires.come.0 c.requires.come.1 c.requires.come.3 next
-    (λ d m core less. c.events_of_a_core_fire_in_order.ensures.next c.args.expand.now c.args.entries.now c.requires.come.0 c.requires.come.1 next.0 next.1 d c.requires.chained.row c.requires.come.2 next.2 m core less)
-    (c.starts_so_far_stay_small.ensures (all_events (g.X.Expand.pieces c.args.expand.now) c.args.entries.now) c.requires.come.0 (suc c.requires.come.1) placed.numbered c.requires.come.2 c.requires.come.3) c.pop.ensures.ascending c.requires.come.5 c.in-Some.key (sym c.pop.ensures.first ∙ c.in-Some.is) (get_or c.args.chains.now c.in-Some.key.number (record { access = 0; end = 0; place = 0; ended = []; last = None })) c_there (get_or c.args.entries.now (get_or c.args.chains.now c.in-Some.key.number (record { access = 0; end = 0; place = 0; ended = []; last = None })).access (record { core = 0; stamp = 0; start = 0; request = Load 0 0; reply = 0; outcome = Hit })) e_there c.piece-piece.result c.piece-piece.ensures (get_or c.args.comps.now c.from.result c.index-comps-from.result) comp_is c.step-finish.result c.step-finish.new.self c.step-finish.ensures c.move_on.new.self moved_is on) in
-    subst (λ r. Contains r.keys (record { start = c.start-start.result; number = c.in-Some.key.number }) → ⊥) (sym c.pop.ensures.rest) (R.is_new g.C.Component.serves g.C.Component.stepped g.C.Component.greatest (g.X.Expand.pieces c.args.expand.now) c.args.entries.now c.args.chains.now c.args.ready.now.keys c.args.comps.now
-    (g.met.X.Expand.parents_come_before c.args.expand.now) placed c.requires.chained c.requires.come.0 c.requires.come.1 c.requires.come.3 next
-    (λ d m core less. c.events_of_a_core_fire_in_order.ensures.next c.args.expand.now c.args.entries.now c.requires.come.0 c.requires.come.1 next.0 next.1 d c.requires.chained.row c.requires.come.2 next.2 m core less)
-    (c.starts_so_far_stay_small.ensures (all_events (g.X.Expand.pieces c.args.expand.now) c.args.entries.now) c.requires.come.0 (suc c.requires.come.1) placed.numbered c.requires.come.2 c.requires.come.3) c.pop.ensures.ascending c.requires.come.5 c.in-Some.key (sym c.pop.ensures.first ∙ c.in-Some.is) (get_or c.args.chains.now c.in-Some.key.number (record { access = 0; end = 0; place = 0; ended = []; last = None })) c_there (get_or c.args.entries.now (get_or c.args.chains.now c.in-Some.key.number (record { access = 0; end = 0; place = 0; ended = []; last = None })).access (record { core = 0; stamp = 0; start = 0; request = Load 0 0; reply = 0; outcome = Hit })) e_there c.piece-piece.result c.piece-piece.ensures (get_or c.args.comps.now c.from.result c.index-comps-from.result) comp_is c.step-finish.result c.step-finish.new.self c.step-finish.ensures c.move_on.new.self moved_is on (get_or c.args.entries.now c.move_on.new.self.access (record { core = 0; stamp = 0; start = 0; request = Load 0 0; reply = 0; outcome = Hit })) o_there c.piece-piece-then-goes_on.result c.piece-piece-then-goes_on.ensures c.start-start.result c.start-start.ensures)
+    let key : Key = c.in-Some.key in
+    let at : slice_get c.args.ready.now.keys 0 ≡ Some key = sym c.pop.ensures.first ∙ c.in-Some.is in
+    let chain : Chain = get_or c.args.chains.now key.number (record { access = 0; end = 0; place = 0; ended = []; last = None; next = None }) in
+    let there : slice_get c.args.chains.now key.number ≡ Some chain = slice_get-get_or c.args.chains.now key.number (record { access = 0; end = 0; place = 0; ended = []; last = None; next = None }) (R.within r key at) in
+    let next = c.in-Some-next.next in
+    let known : chain.next ≡ Some next = c.in-Some-next.is in
+    let comp = get_some c.args.comps.now next.piece.component (R.component_within r key at chain there next known) in
+    let step = g.C.Component.stepped comp.0 next.piece.kind key.start in
+    let served : c.serve-outcome.result.served ≡ R.served_by next.entry.core next.piece.component key.start (step.1 - key.start - next.piece.time) = c.serve-outcome.ensures.served comp.0 comp.1 in
+    let core : next.entry.core ≡ c.serve-outcome.result.served.core = sym (ap (λ (z : Served). z.core) served) in
+    let mine : key.number ≡ c.serve-outcome.result.served.core = sym (R.core_is r key at chain there next known) ∙ core in
+    let moved = c.move_on.new.self in
+    let is_moved : (before : ℕ) → state_of before moved ≡ moved_on next.count (record { finish = step.1; at_zero_load = next.entry.start + next.piece.offset + next.piece.time }) (state_of before chain) =
+    λ before. c.move_on.ensures.moved before ∙ ap (λ d. moved_on next.count d (state_of before chain)) (c.serve-outcome.ensures.ended comp.0 comp.1)
+    in
+    let kept : moved.next ≡ chain.next = c.move_on.ensures.next in
+    let after = c.look_ahead-start.new.chain in
+    let looked : IsAhead (g.X.Expand.pieces c.args.expand.now) (list_of lists key.number) after =
+    subst (λ i. IsAhead (g.X.Expand.pieces c.args.expand.now) (list_of lists i) after) (sym mine) c.look_ahead-start.ensures.ahead
+    in
+    subst (λ q. IfSome c.look_ahead-start.result (λ s. (length q.keys < q.room) × ¬ Contains q.keys (record { start = s; number = key.number }))) (sym c.pop.ensures.rest)
+    (R.can_push r key at chain there next known comp.0 comp.1 moved is_moved kept after c.look_ahead-start.ensures.chain looked c.look_ahead-start.result c.look_ahead-start.ensures.start c.args.ready.now.room c.requires.room)
 
-pub returns-then-goes_on-clause-come : goal.returns-then-goes_on-clause-come
-returns-then-goes_on-clause-come g c = λ first n fits small less come.
-    let placed : ArePlaced (g.X.Expand.pieces c.args.expand.now) c.args.entries.now = record {
-      numbered = c.events_are_placed.ensures.numbered c.args.expand.now c.args.entries.now;
-      there = c.events_are_placed.ensures.there c.args.expand.now c.args.entries.now;
-      next = c.events_are_placed.ensures.next c.args.expand.now c.args.entries.now;
-      each = c.events_are_placed.ensures.each c.args.expand.now c.args.entries.now;
-      parents = c.events_are_placed.ensures.parents c.args.expand.now c.args.entries.now;
-      last = c.events_are_placed.ensures.last c.args.expand.now c.args.entries.now;
-      ends = c.events_are_placed.ensures.ends c.args.expand.now c.args.entries.now;
+pub returns-clause-fired : goal.returns-clause-fired
+returns-clause-fired g c = λ first n w.
+    let lists = g.A.Accesses.lists c.args.accesses.now in
+    let r : IsRound g.C.Component.serves g.C.Component.floor g.C.Component.stepped g.C.Component.greatest (g.X.Expand.pieces c.args.expand.now) lists c.args.chains.now c.args.ready.now.keys c.args.comps.now first n = record {
+      laws = c.rounds_rest_on_these.ensures c.args.expand.now;
+      chained = c.requires.chained;
+      count = c.requires.count;
+      ahead = c.requires.ahead;
+      ascending = c.pop.ensures.ascending;
+      weaving = w;
     }
     in
-    let next = c.each_firing_is_of_the_next_event.ensures (all_events (g.X.Expand.pieces c.args.expand.now) c.args.entries.now) first n placed.numbered fits less in
-    let k_within = R.within g.C.Component.serves g.C.Component.stepped g.C.Component.greatest (g.X.Expand.pieces c.args.expand.now) c.args.entries.now c.args.chains.now c.args.ready.now.keys c.args.comps.now
-    (g.met.X.Expand.parents_come_before c.args.expand.now) placed c.requires.chained first n small next
-    (λ d m core less. c.events_of_a_core_fire_in_order.ensures.next c.args.expand.now c.args.entries.now first n next.0 next.1 d c.requires.chained.row fits next.2 m core less)
-    (c.starts_so_far_stay_small.ensures (all_events (g.X.Expand.pieces c.args.expand.now) c.args.entries.now) first (suc n) placed.numbered fits small) c.pop.ensures.ascending come c.in-Some.key (sym c.pop.ensures.first ∙ c.in-Some.is) in
-    let c_there : slice_get c.args.chains.now c.in-Some.key.number ≡ Some (get_or c.args.chains.now c.in-Some.key.number (record { access = 0; end = 0; place = 0; ended = []; last = None })) = slice_get-get_or c.args.chains.now c.in-Some.key.number (record { access = 0; end = 0; place = 0; ended = []; last = None }) k_within in
-    let a_within = R.access_within g.C.Component.serves g.C.Component.stepped g.C.Component.greatest (g.X.Expand.pieces c.args.expand.now) c.args.entries.now c.args.chains.now c.args.ready.now.keys c.args.comps.now
-    (g.met.X.Expand.parents_come_before c.args.expand.now) placed c.requires.chained first n small next
-    (λ d m core less. c.events_of_a_core_fire_in_order.ensures.next c.args.expand.now c.args.entries.now first n next.0 next.1 d c.requires.chained.row fits next.2 m core less)
-    (c.starts_so_far_stay_small.ensures (all_events (g.X.Expand.pieces c.args.expand.now) c.args.entries.now) first (suc n) placed.numbered fits small) c.pop.ensures.ascending come c.in-Some.key (sym c.pop.ensures.first ∙ c.in-Some.is) (get_or c.args.chains.now c.in-Some.key.number (record { access = 0; end = 0; place = 0; ended = []; last = None })) c_there in
-    let e_there : slice_get c.args.entries.now (get_or c.args.chains.now c.in-Some.key.number (record { access = 0; end = 0; place = 0; ended = []; last = None })).access ≡ Some (get_or c.args.entries.now (get_or c.args.chains.now c.in-Some.key.number (record { access = 0; end = 0; place = 0; ended = []; last = None })).access (record { core = 0; stamp = 0; start = 0; request = Load 0 0; reply = 0; outcome = Hit })) = slice_get-get_or c.args.entries.now (get_or c.args.chains.now c.in-Some.key.number (record { access = 0; end = 0; place = 0; ended = []; last = None })).access (record { core = 0; stamp = 0; start = 0; request = Load 0 0; reply = 0; outcome = Hit }) a_within in
-    let comp_within : c.from.result < length c.args.comps.now = subst (λ i. i < length c.args.comps.now) (sym c.from.ensures) (R.component_within g.C.Component.serves g.C.Component.stepped g.C.Component.greatest (g.X.Expand.pieces c.args.expand.now) c.args.entries.now c.args.chains.now c.args.ready.now.keys c.args.comps.now
-    (g.met.X.Expand.parents_come_before c.args.expand.now) placed c.requires.chained first n small next
-    (λ d m core less. c.events_of_a_core_fire_in_order.ensures.next c.args.expand.now c.args.entries.now first n next.0 next.1 d c.requires.chained.row fits next.2 m core less)
-    (c.starts_so_far_stay_small.ensures (all_events (g.X.Expand.pieces c.args.expand.now) c.args.entries.now) first (suc n) placed.numbered fits small) c.pop.ensures.ascending come c.in-Some.key (sym c.pop.ensures.first ∙ c.in-Some.is) (get_or c.args.chains.now c.in-Some.key.number (record { access = 0; end = 0; place = 0; ended = []; last = None })) c_there (get_or c.args.entries.now (get_or c.args.chains.now c.in-Some.key.number (record { access = 0; end = 0; place = 0; ended = []; last = None })).access (record { core = 0; stamp = 0; start = 0; request = Load 0 0; reply = 0; outcome = Hit })) e_there c.piece-piece.result c.piece-piece.ensures) in
-    let comp_is : slice_get c.args.comps.now c.piece-piece.result.component ≡ Some (get_or c.args.comps.now c.from.result c.index-comps-from.result) = subst (λ i. slice_get c.args.comps.now i ≡ Some (get_or c.args.comps.now c.from.result c.index-comps-from.result)) c.from.ensures (slice_get-get_or c.args.comps.now c.from.result c.index-comps-from.result comp_within) in
-    let moved_is : c.move_on.new.self ≡ moved_on (length ((g.X.Expand.pieces c.args.expand.now) (get_or c.args.entries.now (get_or c.args.chains.now c.in-Some.key.number (record { access = 0; end = 0; place = 0; ended = []; last = None })).access (record { core = 0; stamp = 0; start = 0; request = Load 0 0; reply = 0; outcome = Hit })))) (record { finish = c.step-finish.result; at_zero_load = (get_or c.args.entries.now (get_or c.args.chains.now c.in-Some.key.number (record { access = 0; end = 0; place = 0; ended = []; last = None })).access (record { core = 0; stamp = 0; start = 0; request = Load 0 0; reply = 0; outcome = Hit })).start + c.piece-piece.result.offset + c.piece-piece.result.time }) (get_or c.args.chains.now c.in-Some.key.number (record { access = 0; end = 0; place = 0; ended = []; last = None })) = c.move_on.ensures ∙ ap (λ k. moved_on k (record { finish = c.step-finish.result; at_zero_load = (get_or c.args.entries.now (get_or c.args.chains.now c.in-Some.key.number (record { access = 0; end = 0; place = 0; ended = []; last = None })).access (record { core = 0; stamp = 0; start = 0; request = Load 0 0; reply = 0; outcome = Hit })).start + c.piece-piece.result.offset + c.piece-piece.result.time }) (get_or c.args.chains.now c.in-Some.key.number (record { access = 0; end = 0; place = 0; ended = []; last = None }))) c.count.ensures in
-    let on = (ltb-true c.move_on.new.self.access c.move_on.new.self.end (sym c.goes_on.ensures ∙ c.if-goes_on.true)) in
-    let o_there : slice_get c.args.entries.now c.move_on.new.self.access ≡ Some (get_or c.args.entries.now c.move_on.new.self.access (record { core = 0; stamp = 0; start = 0; request = Load 0 0; reply = 0; outcome = Hit })) = slice_get-get_or c.args.entries.now c.move_on.new.self.access (record { core = 0; stamp = 0; start = 0; request = Load 0 0; reply = 0; outcome = Hit }) (R.moved_within g.C.Component.serves g.C.Component.stepped g.C.Component.greatest (g.X.Expand.pieces c.args.expand.now) c.args.entries.now c.args.chains.now c.args.ready.now.keys c.args.comps.now
-    (g.met.X.Expand.parents_come_before c.args.expand.now) placed c.requires.chained first n small next
-    (λ d m core less. c.events_of_a_core_fire_in_order.ensures.next c.args.expand.now c.args.entries.now first n next.0 next.1 d c.requires.chained.row fits next.2 m core less)
-    (c.starts_so_far_stay_small.ensures (all_events (g.X.Expand.pieces c.args.expand.now) c.args.entries.now) first (suc n) placed.numbered fits small) c.pop.ensures.ascending come c.in-Some.key (sym c.pop.ensures.first ∙ c.in-Some.is) (get_or c.args.chains.now c.in-Some.key.number (record { access = 0; end = 0; place = 0; ended = []; last = None })) c_there (get_or c.args.entries.now (get_or c.args.chains.now c.in-Some.key.number (record { access = 0; end = 0; place = 0; ended = []; last = None })).access (record { core = 0; stamp = 0; start = 0; request = Load 0 0; reply = 0; outcome = Hit })) e_there c.piece-piece.result c.piece-piece.ensures (get_or c.args.comps.now c.from.result c.index-comps-from.result) comp_is c.step-finish.result c.step-finish.new.self c.step-finish.ensures c.move_on.new.self moved_is on) in
-    subst (λ i. HasCome g.C.Component.stepped (g.X.Expand.pieces c.args.expand.now) c.args.entries.now first i (slice_set c.args.chains.now c.in-Some.key.number c.move_on.new.self) c.push.new.self.keys (slice_set c.args.comps.now c.from.result c.step-finish.new.self)) (sym (add-one n))
-    (subst (λ ks. HasCome g.C.Component.stepped (g.X.Expand.pieces c.args.expand.now) c.args.entries.now first (suc n) (slice_set c.args.chains.now c.in-Some.key.number c.move_on.new.self) ks (slice_set c.args.comps.now c.from.result c.step-finish.new.self)) (sym (ap (λ r. r.keys) c.push.ensures ∙ ap (λ r. put (record { start = c.start-start.result; number = c.in-Some.key.number }) r.keys) c.pop.ensures.rest))
-    (subst (λ i. HasCome g.C.Component.stepped (g.X.Expand.pieces c.args.expand.now) c.args.entries.now first (suc n) (slice_set c.args.chains.now c.in-Some.key.number c.move_on.new.self) (put (record { start = c.start-start.result; number = c.in-Some.key.number }) (drop 1 c.args.ready.now.keys)) (slice_set c.args.comps.now i c.step-finish.new.self)) (sym c.from.ensures) (R.comes g.C.Component.serves g.C.Component.stepped g.C.Component.greatest (g.X.Expand.pieces c.args.expand.now) c.args.entries.now c.args.chains.now c.args.ready.now.keys c.args.comps.now
-    (g.met.X.Expand.parents_come_before c.args.expand.now) placed c.requires.chained first n small next
-    (λ d m core less. c.events_of_a_core_fire_in_order.ensures.next c.args.expand.now c.args.entries.now first n next.0 next.1 d c.requires.chained.row fits next.2 m core less)
-    (c.starts_so_far_stay_small.ensures (all_events (g.X.Expand.pieces c.args.expand.now) c.args.entries.now) first (suc n) placed.numbered fits small) c.pop.ensures.ascending come c.in-Some.key (sym c.pop.ensures.first ∙ c.in-Some.is) (get_or c.args.chains.now c.in-Some.key.number (record { access = 0; end = 0; place = 0; ended = []; last = None })) c_there (get_or c.args.entries.now (get_or c.args.chains.now c.in-Some.key.number (record { access = 0; end = 0; place = 0; ended = []; last = None })).access (record { core = 0; stamp = 0; start = 0; request = Load 0 0; reply = 0; outcome = Hit })) e_there c.piece-piece.result c.piece-piece.ensures (get_or c.args.comps.now c.from.result c.index-comps-from.result) comp_is c.step-finish.result c.step-finish.new.self c.step-finish.ensures c.move_on.new.self moved_is on (get_or c.args.entries.now c.move_on.new.self.access (record { core = 0; stamp = 0; start = 0; request = Load 0 0; reply = 0; outcome = Hit })) o_there c.piece-piece-then-goes_on.result c.piece-piece-then-goes_on.ensures c.start-start.result c.start-start.ensures)))
+    let key : Key = c.in-Some.key in
+    let at : slice_get c.args.ready.now.keys 0 ≡ Some key = sym c.pop.ensures.first ∙ c.in-Some.is in
+    let chain : Chain = get_or c.args.chains.now key.number (record { access = 0; end = 0; place = 0; ended = []; last = None; next = None }) in
+    let there : slice_get c.args.chains.now key.number ≡ Some chain = slice_get-get_or c.args.chains.now key.number (record { access = 0; end = 0; place = 0; ended = []; last = None; next = None }) (R.within r key at) in
+    let next = c.in-Some-next.next in
+    let known : chain.next ≡ Some next = c.in-Some-next.is in
+    let comp = get_some c.args.comps.now next.piece.component (R.component_within r key at chain there next known) in
+    let step = g.C.Component.stepped comp.0 next.piece.kind key.start in
+    let served : c.serve-outcome.result.served ≡ R.served_by next.entry.core next.piece.component key.start (step.1 - key.start - next.piece.time) = c.serve-outcome.ensures.served comp.0 comp.1 in
+    let core : next.entry.core ≡ c.serve-outcome.result.served.core = sym (ap (λ (z : Served). z.core) served) in
+    let mine : key.number ≡ c.serve-outcome.result.served.core = sym (R.core_is r key at chain there next known) ∙ core in
+    let moved = c.move_on.new.self in
+    let is_moved : (before : ℕ) → state_of before moved ≡ moved_on next.count (record { finish = step.1; at_zero_load = next.entry.start + next.piece.offset + next.piece.time }) (state_of before chain) =
+    λ before. c.move_on.ensures.moved before ∙ ap (λ d. moved_on next.count d (state_of before chain)) (c.serve-outcome.ensures.ended comp.0 comp.1)
+    in
+    let kept : moved.next ≡ chain.next = c.move_on.ensures.next in
+    let after = c.look_ahead-start.new.chain in
+    let looked : IsAhead (g.X.Expand.pieces c.args.expand.now) (list_of lists key.number) after =
+    subst (λ i. IsAhead (g.X.Expand.pieces c.args.expand.now) (list_of lists i) after) (sym mine) c.look_ahead-start.ensures.ahead
+    in
+    let keys : c.push_next.new.ready.keys ≡ with_next key.number c.look_ahead-start.result (drop 1 c.args.ready.now.keys) =
+    ap (λ q. q.keys) c.push_next.ensures ∙ ap (λ q. with_next key.number c.look_ahead-start.result q.keys) c.pop.ensures.rest
+    in
+    let Fires : List Key → List g.row.C.Denot → Served → Type 0 = λ ks cs s. HasFiredNext g.C.Component.stepped (g.X.Expand.pieces c.args.expand.now) (one_after_other lists) first n (states lists (slice_set c.args.chains.now key.number after)) ks cs s in
+    subst (λ ks. Fires ks c.serve-outcome.new.comps c.serve-outcome.result.served) (sym keys)
+    (subst (λ cs. Fires (with_next key.number c.look_ahead-start.result (drop 1 c.args.ready.now.keys)) cs c.serve-outcome.result.served) (sym (c.serve-outcome.ensures.comps comp.0 comp.1))
+    (subst (λ s. Fires (with_next key.number c.look_ahead-start.result (drop 1 c.args.ready.now.keys)) (slice_set c.args.comps.now next.piece.component step.0) s) (sym served)
+    (R.fired_next r key at chain there next known comp.0 comp.1 moved is_moved kept after c.look_ahead-start.ensures.chain looked c.look_ahead-start.result c.look_ahead-start.ensures.over c.look_ahead-start.ensures.start)))
 
-pub returns-else-goes_on-clause-come : goal.returns-else-goes_on-clause-come
-returns-else-goes_on-clause-come g c = λ first n fits small less come.
-    let placed : ArePlaced (g.X.Expand.pieces c.args.expand.now) c.args.entries.now = record {
-      numbered = c.events_are_placed.ensures.numbered c.args.expand.now c.args.entries.now;
-      there = c.events_are_placed.ensures.there c.args.expand.now c.args.entries.now;
-      next = c.events_are_placed.ensures.next c.args.expand.now c.args.entries.now;
-      each = c.events_are_placed.ensures.each c.args.expand.now c.args.entries.now;
-      parents = c.events_are_placed.ensures.parents c.args.expand.now c.args.entries.now;
-      last = c.events_are_placed.ensures.last c.args.expand.now c.args.entries.now;
-      ends = c.events_are_placed.ensures.ends c.args.expand.now c.args.entries.now;
+pub returns-clause-ahead : goal.returns-clause-ahead
+returns-clause-ahead g c =
+    let lists = g.A.Accesses.lists c.args.accesses.now in
+    let r : IsRound g.C.Component.serves g.C.Component.floor g.C.Component.stepped g.C.Component.greatest (g.X.Expand.pieces c.args.expand.now) lists c.args.chains.now c.args.ready.now.keys c.args.comps.now c.requires.come.0 c.requires.come.1 = record {
+      laws = c.rounds_rest_on_these.ensures c.args.expand.now;
+      chained = c.requires.chained;
+      count = c.requires.count;
+      ahead = c.requires.ahead;
+      ascending = c.pop.ensures.ascending;
+      weaving = c.requires.come.2;
     }
     in
-    let next = c.each_firing_is_of_the_next_event.ensures (all_events (g.X.Expand.pieces c.args.expand.now) c.args.entries.now) first n placed.numbered fits less in
-    let k_within = R.within g.C.Component.serves g.C.Component.stepped g.C.Component.greatest (g.X.Expand.pieces c.args.expand.now) c.args.entries.now c.args.chains.now c.args.ready.now.keys c.args.comps.now
-    (g.met.X.Expand.parents_come_before c.args.expand.now) placed c.requires.chained first n small next
-    (λ d m core less. c.events_of_a_core_fire_in_order.ensures.next c.args.expand.now c.args.entries.now first n next.0 next.1 d c.requires.chained.row fits next.2 m core less)
-    (c.starts_so_far_stay_small.ensures (all_events (g.X.Expand.pieces c.args.expand.now) c.args.entries.now) first (suc n) placed.numbered fits small) c.pop.ensures.ascending come c.in-Some.key (sym c.pop.ensures.first ∙ c.in-Some.is) in
-    let c_there : slice_get c.args.chains.now c.in-Some.key.number ≡ Some (get_or c.args.chains.now c.in-Some.key.number (record { access = 0; end = 0; place = 0; ended = []; last = None })) = slice_get-get_or c.args.chains.now c.in-Some.key.number (record { access = 0; end = 0; place = 0; ended = []; last = None }) k_within in
-    let a_within = R.access_within g.C.Component.serves g.C.Component.stepped g.C.Component.greatest (g.X.Expand.pieces c.args.expand.now) c.args.entries.now c.args.chains.now c.args.ready.now.keys c.args.comps.now
-    (g.met.X.Expand.parents_come_before c.args.expand.now) placed c.requires.chained first n small next
-    (λ d m core less. c.events_of_a_core_fire_in_order.ensures.next c.args.expand.now c.args.entries.now first n next.0 next.1 d c.requires.chained.row fits next.2 m core less)
-    (c.starts_so_far_stay_small.ensures (all_events (g.X.Expand.pieces c.args.expand.now) c.args.entries.now) first (suc n) placed.numbered fits small) c.pop.ensures.ascending come c.in-Some.key (sym c.pop.ensures.first ∙ c.in-Some.is) (get_or c.args.chains.now c.in-Some.key.number (record { access = 0; end = 0; place = 0; ended = []; last = None })) c_there in
-    let e_there : slice_get c.args.entries.now (get_or c.args.chains.now c.in-Some.key.number (record { access = 0; end = 0; place = 0; ended = []; last = None })).access ≡ Some (get_or c.args.entries.now (get_or c.args.chains.now c.in-Some.key.number (record { access = 0; end = 0; place = 0; ended = []; last = None })).access (record { core = 0; stamp = 0; start = 0; request = Load 0 0; reply = 0; outcome = Hit })) = slice_get-get_or c.args.entries.now (get_or c.args.chains.now c.in-Some.key.number (record { access = 0; end = 0; place = 0; ended = []; last = None })).access (record { core = 0; stamp = 0; start = 0; request = Load 0 0; reply = 0; outcome = Hit }) a_within in
-    let comp_within : c.from.result < length c.args.comps.now = subst (λ i. i < length c.args.comps.now) (sym c.from.ensures) (R.component_within g.C.Component.serves g.C.Component.stepped g.C.Component.greatest (g.X.Expand.pieces c.args.expand.now) c.args.entries.now c.args.chains.now c.args.ready.now.keys c.args.comps.now
-    (g.met.X.Expand.parents_come_before c.args.expand.now) placed c.requires.chained first n small next
-    (λ d m core less. c.events_of_a_core_fire_in_order.ensures.next c.args.expand.now c.args.entries.now first n next.0 next.1 d c.requires.chained.row fits next.2 m core less)
-    (c.starts_so_far_stay_small.ensures (all_events (g.X.Expand.pieces c.args.expand.now) c.args.entries.now) first (suc n) placed.numbered fits small) c.pop.ensures.ascending come c.in-Some.key (sym c.pop.ensures.first ∙ c.in-Some.is) (get_or c.args.chains.now c.in-Some.key.number (record { access = 0; end = 0; place = 0; ended = []; last = None })) c_there (get_or c.args.entries.now (get_or c.args.chains.now c.in-Some.key.number (record { access = 0; end = 0; place = 0; ended = []; last = None })).access (record { core = 0; stamp = 0; start = 0; request = Load 0 0; reply = 0; outcome = Hit })) e_there c.piece-piece.result c.piece-piece.ensures) in
-    let comp_is : slice_get c.args.comps.now c.piece-piece.result.component ≡ Some (get_or c.args.comps.now c.from.result c.index-comps-from.result) = subst (λ i. slice_get c.args.comps.now i ≡ Some (get_or c.args.comps.now c.from.result c.index-comps-from.result)) c.from.ensures (slice_get-get_or c.args.comps.now c.from.result c.index-comps-from.result comp_within) in
-    let moved_is : c.move_on.new.self ≡ moved_on (length ((g.X.Expand.pieces c.args.expand.now) (get_or c.args.entries.now (get_or c.args.chains.now c.in-Some.key.number (record { access = 0; end = 0; place = 0; ended = []; last = None })).access (record { core = 0; stamp = 0; start = 0; request = Load 0 0; reply = 0; outcome = Hit })))) (record { finish = c.step-finish.result; at_zero_load = (get_or c.args.entries.now (get_or c.args.chains.now c.in-Some.key.number (record { access = 0; end = 0; place = 0; ended = []; last = None })).access (record { core = 0; stamp = 0; start = 0; request = Load 0 0; reply = 0; outcome = Hit })).start + c.piece-piece.result.offset + c.piece-piece.result.time }) (get_or c.args.chains.now c.in-Some.key.number (record { access = 0; end = 0; place = 0; ended = []; last = None })) = c.move_on.ensures ∙ ap (λ k. moved_on k (record { finish = c.step-finish.result; at_zero_load = (get_or c.args.entries.now (get_or c.args.chains.now c.in-Some.key.number (record { access = 0; end = 0; place = 0; ended = []; last = None })).access (record { core = 0; stamp = 0; start = 0; request = Load 0 0; reply = 0; outcome = Hit })).start + c.piece-piece.result.offset + c.piece-piece.result.time }) (get_or c.args.chains.now c.in-Some.key.number (record { access = 0; end = 0; place = 0; ended = []; last = None }))) c.count.ensures in
-    let end : c.move_on.new.self.end ≤ c.move_on.new.self.access = not_before c.move_on.new.self.access c.move_on.new.self.end (sym c.goes_on.ensures ∙ c.if-goes_on.false) in
-    subst (λ i. HasCome g.C.Component.stepped (g.X.Expand.pieces c.args.expand.now) c.args.entries.now first i (slice_set c.args.chains.now c.in-Some.key.number c.move_on.new.self) c.pop.new.self.keys (slice_set c.args.comps.now c.from.result c.step-finish.new.self)) (sym (add-one n))
-    (subst (λ ks. HasCome g.C.Component.stepped (g.X.Expand.pieces c.args.expand.now) c.args.entries.now first (suc n) (slice_set c.args.chains.now c.in-Some.key.number c.move_on.new.self) ks (slice_set c.args.comps.now c.from.result c.step-finish.new.self)) (sym (ap (λ r. r.keys) c.pop.ensures.rest))
-    (subst (λ i. HasCome g.C.Component.stepped (g.X.Expand.pieces c.args.expand.now) c.args.entries.now first (suc n) (slice_set c.args.chains.now c.in-Some.key.number c.move_on.new.self) (drop 1 c.args.ready.now.keys) (slice_set c.args.comps.now i c.step-finish.new.self)) (sym c.from.ensures) (R.over g.C.Component.serves g.C.Component.stepped g.C.Component.greatest (g.X.Expand.pieces c.args.expand.now) c.args.entries.now c.args.chains.now c.args.ready.now.keys c.args.comps.now
-    (g.met.X.Expand.parents_come_before c.args.expand.now) placed c.requires.chained first n small next
-    (λ d m core less. c.events_of_a_core_fire_in_order.ensures.next c.args.expand.now c.args.entries.now first n next.0 next.1 d c.requires.chained.row fits next.2 m core less)
-    (c.starts_so_far_stay_small.ensures (all_events (g.X.Expand.pieces c.args.expand.now) c.args.entries.now) first (suc n) placed.numbered fits small) c.pop.ensures.ascending come c.in-Some.key (sym c.pop.ensures.first ∙ c.in-Some.is) (get_or c.args.chains.now c.in-Some.key.number (record { access = 0; end = 0; place = 0; ended = []; last = None })) c_there (get_or c.args.entries.now (get_or c.args.chains.now c.in-Some.key.number (record { access = 0; end = 0; place = 0; ended = []; last = None })).access (record { core = 0; stamp = 0; start = 0; request = Load 0 0; reply = 0; outcome = Hit })) e_there c.piece-piece.result c.piece-piece.ensures (get_or c.args.comps.now c.from.result c.index-comps-from.result) comp_is c.step-finish.result c.step-finish.new.self c.step-finish.ensures c.move_on.new.self moved_is end)))
+    let key : Key = c.in-Some.key in
+    let at : slice_get c.args.ready.now.keys 0 ≡ Some key = sym c.pop.ensures.first ∙ c.in-Some.is in
+    let chain : Chain = get_or c.args.chains.now key.number (record { access = 0; end = 0; place = 0; ended = []; last = None; next = None }) in
+    let there : slice_get c.args.chains.now key.number ≡ Some chain = slice_get-get_or c.args.chains.now key.number (record { access = 0; end = 0; place = 0; ended = []; last = None; next = None }) (R.within r key at) in
+    let next = c.in-Some-next.next in
+    let known : chain.next ≡ Some next = c.in-Some-next.is in
+    let comp = get_some c.args.comps.now next.piece.component (R.component_within r key at chain there next known) in
+    let step = g.C.Component.stepped comp.0 next.piece.kind key.start in
+    let served : c.serve-outcome.result.served ≡ R.served_by next.entry.core next.piece.component key.start (step.1 - key.start - next.piece.time) = c.serve-outcome.ensures.served comp.0 comp.1 in
+    let core : next.entry.core ≡ c.serve-outcome.result.served.core = sym (ap (λ (z : Served). z.core) served) in
+    let mine : key.number ≡ c.serve-outcome.result.served.core = sym (R.core_is r key at chain there next known) ∙ core in
+    let moved = c.move_on.new.self in
+    let is_moved : (before : ℕ) → state_of before moved ≡ moved_on next.count (record { finish = step.1; at_zero_load = next.entry.start + next.piece.offset + next.piece.time }) (state_of before chain) =
+    λ before. c.move_on.ensures.moved before ∙ ap (λ d. moved_on next.count d (state_of before chain)) (c.serve-outcome.ensures.ended comp.0 comp.1)
+    in
+    let kept : moved.next ≡ chain.next = c.move_on.ensures.next in
+    let after = c.look_ahead-start.new.chain in
+    let looked : IsAhead (g.X.Expand.pieces c.args.expand.now) (list_of lists key.number) after =
+    subst (λ i. IsAhead (g.X.Expand.pieces c.args.expand.now) (list_of lists i) after) (sym mine) c.look_ahead-start.ensures.ahead
+    in
+    R.ahead_after r key at after looked
 
-pub returns-then-goes_on-clause-served : goal.returns-then-goes_on-clause-served
-returns-then-goes_on-clause-served g c = λ first n fits small less come.
-    let placed : ArePlaced (g.X.Expand.pieces c.args.expand.now) c.args.entries.now = record {
-      numbered = c.events_are_placed.ensures.numbered c.args.expand.now c.args.entries.now;
-      there = c.events_are_placed.ensures.there c.args.expand.now c.args.entries.now;
-      next = c.events_are_placed.ensures.next c.args.expand.now c.args.entries.now;
-      each = c.events_are_placed.ensures.each c.args.expand.now c.args.entries.now;
-      parents = c.events_are_placed.ensures.parents c.args.expand.now c.args.entries.now;
-      last = c.events_are_placed.ensures.last c.args.expand.now c.args.entries.now;
-      ends = c.events_are_placed.ensures.ends c.args.expand.now c.args.entries.now;
+pub returns-clause-component : goal.returns-clause-component
+returns-clause-component g c =
+    let lists = g.A.Accesses.lists c.args.accesses.now in
+    let r : IsRound g.C.Component.serves g.C.Component.floor g.C.Component.stepped g.C.Component.greatest (g.X.Expand.pieces c.args.expand.now) lists c.args.chains.now c.args.ready.now.keys c.args.comps.now c.requires.come.0 c.requires.come.1 = record {
+      laws = c.rounds_rest_on_these.ensures c.args.expand.now;
+      chained = c.requires.chained;
+      count = c.requires.count;
+      ahead = c.requires.ahead;
+      ascending = c.pop.ensures.ascending;
+      weaving = c.requires.come.2;
     }
     in
-    let next = c.each_firing_is_of_the_next_event.ensures (all_events (g.X.Expand.pieces c.args.expand.now) c.args.entries.now) first n placed.numbered fits less in
-    let k_within = R.within g.C.Component.serves g.C.Component.stepped g.C.Component.greatest (g.X.Expand.pieces c.args.expand.now) c.args.entries.now c.args.chains.now c.args.ready.now.keys c.args.comps.now
-    (g.met.X.Expand.parents_come_before c.args.expand.now) placed c.requires.chained first n small next
-    (λ d m core less. c.events_of_a_core_fire_in_order.ensures.next c.args.expand.now c.args.entries.now first n next.0 next.1 d c.requires.chained.row fits next.2 m core less)
-    (c.starts_so_far_stay_small.ensures (all_events (g.X.Expand.pieces c.args.expand.now) c.args.entries.now) first (suc n) placed.numbered fits small) c.pop.ensures.ascending come c.in-Some.key (sym c.pop.ensures.first ∙ c.in-Some.is) in
-    let c_there : slice_get c.args.chains.now c.in-Some.key.number ≡ Some (get_or c.args.chains.now c.in-Some.key.number (record { access = 0; end = 0; place = 0; ended = []; last = None })) = slice_get-get_or c.args.chains.now c.in-Some.key.number (record { access = 0; end = 0; place = 0; ended = []; last = None }) k_within in
-    let a_within = R.access_within g.C.Component.serves g.C.Component.stepped g.C.Component.greatest (g.X.Expand.pieces c.args.expand.now) c.args.entries.now c.args.chains.now c.args.ready.now.keys c.args.comps.now
-    (g.met.X.Expand.parents_come_before c.args.expand.now) placed c.requires.chained first n small next
-    (λ d m core less. c.events_of_a_core_fire_in_order.ensures.next c.args.expand.now c.args.entries.now first n next.0 next.1 d c.requires.chained.row fits next.2 m core less)
-    (c.starts_so_far_stay_small.ensures (all_events (g.X.Expand.pieces c.args.expand.now) c.args.entries.now) first (suc n) placed.numbered fits small) c.pop.ensures.ascending come c.in-Some.key (sym c.pop.ensures.first ∙ c.in-Some.is) (get_or c.args.chains.now c.in-Some.key.number (record { access = 0; end = 0; place = 0; ended = []; last = None })) c_there in
-    let e_there : slice_get c.args.entries.now (get_or c.args.chains.now c.in-Some.key.number (record { access = 0; end = 0; place = 0; ended = []; last = None })).access ≡ Some (get_or c.args.entries.now (get_or c.args.chains.now c.in-Some.key.number (record { access = 0; end = 0; place = 0; ended = []; last = None })).access (record { core = 0; stamp = 0; start = 0; request = Load 0 0; reply = 0; outcome = Hit })) = slice_get-get_or c.args.entries.now (get_or c.args.chains.now c.in-Some.key.number (record { access = 0; end = 0; place = 0; ended = []; last = None })).access (record { core = 0; stamp = 0; start = 0; request = Load 0 0; reply = 0; outcome = Hit }) a_within in
-    let comp_within : c.from.result < length c.args.comps.now = subst (λ i. i < length c.args.comps.now) (sym c.from.ensures) (R.component_within g.C.Component.serves g.C.Component.stepped g.C.Component.greatest (g.X.Expand.pieces c.args.expand.now) c.args.entries.now c.args.chains.now c.args.ready.now.keys c.args.comps.now
-    (g.met.X.Expand.parents_come_before c.args.expand.now) placed c.requires.chained first n small next
-    (λ d m core less. c.events_of_a_core_fire_in_order.ensures.next c.args.expand.now c.args.entries.now first n next.0 next.1 d c.requires.chained.row fits next.2 m core less)
-    (c.starts_so_far_stay_small.ensures (all_events (g.X.Expand.pieces c.args.expand.now) c.args.entries.now) first (suc n) placed.numbered fits small) c.pop.ensures.ascending come c.in-Some.key (sym c.pop.ensures.first ∙ c.in-Some.is) (get_or c.args.chains.now c.in-Some.key.number (record { access = 0; end = 0; place = 0; ended = []; last = None })) c_there (get_or c.args.entries.now (get_or c.args.chains.now c.in-Some.key.number (record { access = 0; end = 0; place = 0; ended = []; last = None })).access (record { core = 0; stamp = 0; start = 0; request = Load 0 0; reply = 0; outcome = Hit })) e_there c.piece-piece.result c.piece-piece.ensures) in
-    let comp_is : slice_get c.args.comps.now c.piece-piece.result.component ≡ Some (get_or c.args.comps.now c.from.result c.index-comps-from.result) = subst (λ i. slice_get c.args.comps.now i ≡ Some (get_or c.args.comps.now c.from.result c.index-comps-from.result)) c.from.ensures (slice_get-get_or c.args.comps.now c.from.result c.index-comps-from.result comp_within) in
-    let waited_is : c.saturating_sub-waited.result ≡ c.step-finish.result - c.in-Some.key.start - c.piece-piece.result.time = c.saturating_sub-waited.ensures ∙ ap (λ z. z - c.piece-piece.result.time) c.saturating_sub-took.ensures in
-    let fired_is : (after_firings g.C.Component.stepped (all_events (g.X.Expand.pieces c.args.expand.now) c.args.entries.now) first (n + 1)).fired ≡ (after_firings g.C.Component.stepped (all_events (g.X.Expand.pieces c.args.expand.now) c.args.entries.now) first n).fired ++ next.0 ∷ [] =
-    subst (λ i. (after_firings g.C.Component.stepped (all_events (g.X.Expand.pieces c.args.expand.now) c.args.entries.now) first i).fired ≡ (after_firings g.C.Component.stepped (all_events (g.X.Expand.pieces c.args.expand.now) c.args.entries.now) first n).fired ++ next.0 ∷ []) (sym (add-one n)) next.2.fired
-    in (
-      next.0,
-      fired_is,
-      R.served_is g.C.Component.serves g.C.Component.stepped g.C.Component.greatest (g.X.Expand.pieces c.args.expand.now) c.args.entries.now c.args.chains.now c.args.ready.now.keys c.args.comps.now
-          (g.met.X.Expand.parents_come_before c.args.expand.now) placed c.requires.chained first n small next
-          (λ d m core less. c.events_of_a_core_fire_in_order.ensures.next c.args.expand.now c.args.entries.now first n next.0 next.1 d c.requires.chained.row fits next.2 m core less)
-          (c.starts_so_far_stay_small.ensures (all_events (g.X.Expand.pieces c.args.expand.now) c.args.entries.now) first (suc n) placed.numbered fits small) c.pop.ensures.ascending come c.in-Some.key (sym c.pop.ensures.first ∙ c.in-Some.is) (get_or c.args.chains.now c.in-Some.key.number (record { access = 0; end = 0; place = 0; ended = []; last = None })) c_there (get_or c.args.entries.now (get_or c.args.chains.now c.in-Some.key.number (record { access = 0; end = 0; place = 0; ended = []; last = None })).access (record { core = 0; stamp = 0; start = 0; request = Load 0 0; reply = 0; outcome = Hit })) e_there c.piece-piece.result c.piece-piece.ensures (get_or c.args.comps.now c.from.result c.index-comps-from.result) comp_is c.step-finish.result c.step-finish.new.self c.step-finish.ensures c.saturating_sub-waited.result waited_is,
+    let key : Key = c.in-Some.key in
+    let at : slice_get c.args.ready.now.keys 0 ≡ Some key = sym c.pop.ensures.first ∙ c.in-Some.is in
+    let chain : Chain = get_or c.args.chains.now key.number (record { access = 0; end = 0; place = 0; ended = []; last = None; next = None }) in
+    let there : slice_get c.args.chains.now key.number ≡ Some chain = slice_get-get_or c.args.chains.now key.number (record { access = 0; end = 0; place = 0; ended = []; last = None; next = None }) (R.within r key at) in
+    let next = c.in-Some-next.next in
+    let known : chain.next ≡ Some next = c.in-Some-next.is in
+    let comp = get_some c.args.comps.now next.piece.component (R.component_within r key at chain there next known) in
+    let step = g.C.Component.stepped comp.0 next.piece.kind key.start in
+    let served : c.serve-outcome.result.served ≡ R.served_by next.entry.core next.piece.component key.start (step.1 - key.start - next.piece.time) = c.serve-outcome.ensures.served comp.0 comp.1 in
+    let core : next.entry.core ≡ c.serve-outcome.result.served.core = sym (ap (λ (z : Served). z.core) served) in
+    let mine : key.number ≡ c.serve-outcome.result.served.core = sym (R.core_is r key at chain there next known) ∙ core in
+    let moved = c.move_on.new.self in
+    let is_moved : (before : ℕ) → state_of before moved ≡ moved_on next.count (record { finish = step.1; at_zero_load = next.entry.start + next.piece.offset + next.piece.time }) (state_of before chain) =
+    λ before. c.move_on.ensures.moved before ∙ ap (λ d. moved_on next.count d (state_of before chain)) (c.serve-outcome.ensures.ended comp.0 comp.1)
+    in
+    let kept : moved.next ≡ chain.next = c.move_on.ensures.next in
+    subst (λ i. i < length c.args.comps.now) (sym (ap (λ (z : Served). z.component) served)) (R.component_within r key at chain there next known)
+
+pub returns-in_default-clause-over : goal.returns-in_default-clause-over
+returns-in_default-clause-over g c = λ first n w.
+    let lists = g.A.Accesses.lists c.args.accesses.now in
+    let r : IsRound g.C.Component.serves g.C.Component.floor g.C.Component.stepped g.C.Component.greatest (g.X.Expand.pieces c.args.expand.now) lists c.args.chains.now c.args.ready.now.keys c.args.comps.now first n = record {
+      laws = c.rounds_rest_on_these.ensures c.args.expand.now;
+      chained = c.requires.chained;
+      count = c.requires.count;
+      ahead = c.requires.ahead;
+      ascending = c.pop.ensures.ascending;
+      weaving = w;
+    }
+    in
+    let none : slice_get c.args.ready.now.keys 0 ≡ None = sym c.pop.ensures.first ∙ c.in_default.is in (
+      R.all_have_fired r none,
+      subst (λ q. HasCome g.C.Component.stepped (g.X.Expand.pieces c.args.expand.now) (one_after_other lists) first n (states lists c.args.chains.now) q.keys c.args.comps.now) (sym c.pop.ensures.rest)
+          (subst (λ ks. HasCome g.C.Component.stepped (g.X.Expand.pieces c.args.expand.now) (one_after_other lists) first n (states lists c.args.chains.now) ks c.args.comps.now) (R.still_empty c.args.ready.now.keys none) w.come),
     )
-
-pub returns-else-goes_on-clause-served : goal.returns-else-goes_on-clause-served
-returns-else-goes_on-clause-served g c = λ first n fits small less come.
-    let placed : ArePlaced (g.X.Expand.pieces c.args.expand.now) c.args.entries.now = record {
-      numbered = c.events_are_placed.ensures.numbered c.args.expand.now c.args.entries.now;
-      there = c.events_are_placed.ensures.there c.args.expand.now c.args.entries.now;
-      next = c.events_are_placed.ensures.next c.args.expand.now c.args.entries.now;
-      each = c.events_are_placed.ensures.each c.args.expand.now c.args.entries.now;
-      parents = c.events_are_placed.ensures.parents c.args.expand.now c.args.entries.now;
-      last = c.events_are_placed.ensures.last c.args.expand.now c.args.entries.now;
-      ends = c.events_are_placed.ensures.ends c.args.expand.now c.args.entries.now;
-    }
-    in
-    let next = c.each_firing_is_of_the_next_event.ensures (all_events (g.X.Expand.pieces c.args.expand.now) c.args.entries.now) first n placed.numbered fits less in
-    let k_within = R.within g.C.Component.serves g.C.Component.stepped g.C.Component.greatest (g.X.Expand.pieces c.args.expand.now) c.args.entries.now c.args.chains.now c.args.ready.now.keys c.args.comps.now
-    (g.met.X.Expand.parents_come_before c.args.expand.now) placed c.requires.chained first n small next
-    (λ d m core less. c.events_of_a_core_fire_in_order.ensures.next c.args.expand.now c.args.entries.now first n next.0 next.1 d c.requires.chained.row fits next.2 m core less)
-    (c.starts_so_far_stay_small.ensures (all_events (g.X.Expand.pieces c.args.expand.now) c.args.entries.now) first (suc n) placed.numbered fits small) c.pop.ensures.ascending come c.in-Some.key (sym c.pop.ensures.first ∙ c.in-Some.is) in
-    let c_there : slice_get c.args.chains.now c.in-Some.key.number ≡ Some (get_or c.args.chains.now c.in-Some.key.number (record { access = 0; end = 0; place = 0; ended = []; last = None })) = slice_get-get_or c.args.chains.now c.in-Some.key.number (record { access = 0; end = 0; place = 0; ended = []; last = None }) k_within in
-    let a_within = R.access_within g.C.Component.serves g.C.Component.stepped g.C.Component.greatest (g.X.Expand.pieces c.args.expand.now) c.args.entries.now c.args.chains.now c.args.ready.now.keys c.args.comps.now
-    (g.met.X.Expand.parents_come_before c.args.expand.now) placed c.requires.chained first n small next
-    (λ d m core less. c.events_of_a_core_fire_in_order.ensures.next c.args.expand.now c.args.entries.now first n next.0 next.1 d c.requires.chained.row fits next.2 m core less)
-    (c.starts_so_far_stay_small.ensures (all_events (g.X.Expand.pieces c.args.expand.now) c.args.entries.now) first (suc n) placed.numbered fits small) c.pop.ensures.ascending come c.in-Some.key (sym c.pop.ensures.first ∙ c.in-Some.is) (get_or c.args.chains.now c.in-Some.key.number (record { access = 0; end = 0; place = 0; ended = []; last = None })) c_there in
-    let e_there : slice_get c.args.entries.now (get_or c.args.chains.now c.in-Some.key.number (record { access = 0; end = 0; place = 0; ended = []; last = None })).access ≡ Some (get_or c.args.entries.now (get_or c.args.chains.now c.in-Some.key.number (record { access = 0; end = 0; place = 0; ended = []; last = None })).access (record { core = 0; stamp = 0; start = 0; request = Load 0 0; reply = 0; outcome = Hit })) = slice_get-get_or c.args.entries.now (get_or c.args.chains.now c.in-Some.key.number (record { access = 0; end = 0; place = 0; ended = []; last = None })).access (record { core = 0; stamp = 0; start = 0; request = Load 0 0; reply = 0; outcome = Hit }) a_within in
-    let comp_within : c.from.result < length c.args.comps.now = subst (λ i. i < length c.args.comps.now) (sym c.from.ensures) (R.component_within g.C.Component.serves g.C.Component.stepped g.C.Component.greatest (g.X.Expand.pieces c.args.expand.now) c.args.entries.now c.args.chains.now c.args.ready.now.keys c.args.comps.now
-    (g.met.X.Expand.parents_come_before c.args.expand.now) placed c.requires.chained first n small next
-    (λ d m core less. c.events_of_a_core_fire_in_order.ensures.next c.args.expand.now c.args.entries.now first n next.0 next.1 d c.requires.chained.row fits next.2 m core less)
-    (c.starts_so_far_stay_small.ensures (all_events (g.X.Expand.pieces c.args.expand.now) c.args.entries.now) first (suc n) placed.numbered fits small) c.pop.ensures.ascending come c.in-Some.key (sym c.pop.ensures.first ∙ c.in-Some.is) (get_or c.args.chains.now c.in-Some.key.number (record { access = 0; end = 0; place = 0; ended = []; last = None })) c_there (get_or c.args.entries.now (get_or c.args.chains.now c.in-Some.key.number (record { access = 0; end = 0; place = 0; ended = []; last = None })).access (record { core = 0; stamp = 0; start = 0; request = Load 0 0; reply = 0; outcome = Hit })) e_there c.piece-piece.result c.piece-piece.ensures) in
-    let comp_is : slice_get c.args.comps.now c.piece-piece.result.component ≡ Some (get_or c.args.comps.now c.from.result c.index-comps-from.result) = subst (λ i. slice_get c.args.comps.now i ≡ Some (get_or c.args.comps.now c.from.result c.index-comps-from.result)) c.from.ensures (slice_get-get_or c.args.comps.now c.from.result c.index-comps-from.result comp_within) in
-    let waited_is : c.saturating_sub-waited.result ≡ c.step-finish.result - c.in-Some.key.start - c.piece-piece.result.time = c.saturating_sub-waited.ensures ∙ ap (λ z. z - c.piece-piece.result.time) c.saturating_sub-took.ensures in
-    let fired_is : (after_firings g.C.Component.stepped (all_events (g.X.Expand.pieces c.args.expand.now) c.args.entries.now) first (n + 1)).fired ≡ (after_firings g.C.Component.stepped (all_events (g.X.Expand.pieces c.args.expand.now) c.args.entries.now) first n).fired ++ next.0 ∷ [] =
-    subst (λ i. (after_firings g.C.Component.stepped (all_events (g.X.Expand.pieces c.args.expand.now) c.args.entries.now) first i).fired ≡ (after_firings g.C.Component.stepped (all_events (g.X.Expand.pieces c.args.expand.now) c.args.entries.now) first n).fired ++ next.0 ∷ []) (sym (add-one n)) next.2.fired
-    in (
-      next.0,
-      fired_is,
-      R.served_is g.C.Component.serves g.C.Component.stepped g.C.Component.greatest (g.X.Expand.pieces c.args.expand.now) c.args.entries.now c.args.chains.now c.args.ready.now.keys c.args.comps.now
-          (g.met.X.Expand.parents_come_before c.args.expand.now) placed c.requires.chained first n small next
-          (λ d m core less. c.events_of_a_core_fire_in_order.ensures.next c.args.expand.now c.args.entries.now first n next.0 next.1 d c.requires.chained.row fits next.2 m core less)
-          (c.starts_so_far_stay_small.ensures (all_events (g.X.Expand.pieces c.args.expand.now) c.args.entries.now) first (suc n) placed.numbered fits small) c.pop.ensures.ascending come c.in-Some.key (sym c.pop.ensures.first ∙ c.in-Some.is) (get_or c.args.chains.now c.in-Some.key.number (record { access = 0; end = 0; place = 0; ended = []; last = None })) c_there (get_or c.args.entries.now (get_or c.args.chains.now c.in-Some.key.number (record { access = 0; end = 0; place = 0; ended = []; last = None })).access (record { core = 0; stamp = 0; start = 0; request = Load 0 0; reply = 0; outcome = Hit })) e_there c.piece-piece.result c.piece-piece.ensures (get_or c.args.comps.now c.from.result c.index-comps-from.result) comp_is c.step-finish.result c.step-finish.new.self c.step-finish.ensures c.saturating_sub-waited.result waited_is,
-    )
-
-pub returns-then-goes_on-clause-component : goal.returns-then-goes_on-clause-component
-returns-then-goes_on-clause-component g c =
-    let placed : ArePlaced (g.X.Expand.pieces c.args.expand.now) c.args.entries.now = record {
-      numbered = c.events_are_placed.ensures.numbered c.args.expand.now c.args.entries.now;
-      there = c.events_are_placed.ensures.there c.args.expand.now c.args.entries.now;
-      next = c.events_are_placed.ensures.next c.args.expand.now c.args.entries.now;
-      each = c.events_are_placed.ensures.each c.args.expand.now c.args.entries.now;
-      parents = c.events_are_placed.ensures.parents c.args.expand.now c.args.entries.now;
-      last = c.events_are_placed.ensures.last c.args.expand.now c.args.entries.now;
-      ends = c.events_are_placed.ensures.ends c.args.expand.now c.args.entries.now;
-    }
-    in
-    let next = c.each_firing_is_of_the_next_event.ensures (all_events (g.X.Expand.pieces c.args.expand.now) c.args.entries.now) c.requires.come.0 c.requires.come.1 placed.numbered c.requires.come.2 c.requires.come.4 in
-    let k_within = R.within g.C.Component.serves g.C.Component.stepped g.C.Component.greatest (g.X.Expand.pieces c.args.expand.now) c.args.entries.now c.args.chains.now c.args.ready.now.keys c.args.comps.now
-    (g.met.X.Expand.parents_come_before c.args.expand.now) placed c.requires.chained c.requires.come.0 c.requires.come.1 c.requires.come.3 next
-    (λ d m core less. c.events_of_a_core_fire_in_order.ensures.next c.args.expand.now c.args.entries.now c.requires.come.0 c.requires.come.1 next.0 next.1 d c.requires.chained.row c.requires.come.2 next.2 m core less)
-    (c.starts_so_far_stay_small.ensures (all_events (g.X.Expand.pieces c.args.expand.now) c.args.entries.now) c.requires.come.0 (suc c.requires.come.1) placed.numbered c.requires.come.2 c.requires.come.3) c.pop.ensures.ascending c.requires.come.5 c.in-Some.key (sym c.pop.ensures.first ∙ c.in-Some.is) in
-    let c_there : slice_get c.args.chains.now c.in-Some.key.number ≡ Some (get_or c.args.chains.now c.in-Some.key.number (record { access = 0; end = 0; place = 0; ended = []; last = None })) = slice_get-get_or c.args.chains.now c.in-Some.key.number (record { access = 0; end = 0; place = 0; ended = []; last = None }) k_within in
-    let a_within = R.access_within g.C.Component.serves g.C.Component.stepped g.C.Component.greatest (g.X.Expand.pieces c.args.expand.now) c.args.entries.now c.args.chains.now c.args.ready.now.keys c.args.comps.now
-    (g.met.X.Expand.parents_come_before c.args.expand.now) placed c.requires.chained c.requires.come.0 c.requires.come.1 c.requires.come.3 next
-    (λ d m core less. c.events_of_a_core_fire_in_order.ensures.next c.args.expand.now c.args.entries.now c.requires.come.0 c.requires.come.1 next.0 next.1 d c.requires.chained.row c.requires.come.2 next.2 m core less)
-    (c.starts_so_far_stay_small.ensures (all_events (g.X.Expand.pieces c.args.expand.now) c.args.entries.now) c.requires.come.0 (suc c.requires.come.1) placed.numbered c.requires.come.2 c.requires.come.3) c.pop.ensures.ascending c.requires.come.5 c.in-Some.key (sym c.pop.ensures.first ∙ c.in-Some.is) (get_or c.args.chains.now c.in-Some.key.number (record { access = 0; end = 0; place = 0; ended = []; last = None })) c_there in
-    let e_there : slice_get c.args.entries.now (get_or c.args.chains.now c.in-Some.key.number (record { access = 0; end = 0; place = 0; ended = []; last = None })).access ≡ Some (get_or c.args.entries.now (get_or c.args.chains.now c.in-Some.key.number (record { access = 0; end = 0; place = 0; ended = []; last = None })).access (record { core = 0; stamp = 0; start = 0; request = Load 0 0; reply = 0; outcome = Hit })) = slice_get-get_or c.args.entries.now (get_or c.args.chains.now c.in-Some.key.number (record { access = 0; end = 0; place = 0; ended = []; last = None })).access (record { core = 0; stamp = 0; start = 0; request = Load 0 0; reply = 0; outcome = Hit }) a_within in
-    R.component_within g.C.Component.serves g.C.Component.stepped g.C.Component.greatest (g.X.Expand.pieces c.args.expand.now) c.args.entries.now c.args.chains.now c.args.ready.now.keys c.args.comps.now
-    (g.met.X.Expand.parents_come_before c.args.expand.now) placed c.requires.chained c.requires.come.0 c.requires.come.1 c.requires.come.3 next
-    (λ d m core less. c.events_of_a_core_fire_in_order.ensures.next c.args.expand.now c.args.entries.now c.requires.come.0 c.requires.come.1 next.0 next.1 d c.requires.chained.row c.requires.come.2 next.2 m core less)
-    (c.starts_so_far_stay_small.ensures (all_events (g.X.Expand.pieces c.args.expand.now) c.args.entries.now) c.requires.come.0 (suc c.requires.come.1) placed.numbered c.requires.come.2 c.requires.come.3) c.pop.ensures.ascending c.requires.come.5 c.in-Some.key (sym c.pop.ensures.first ∙ c.in-Some.is) (get_or c.args.chains.now c.in-Some.key.number (record { access = 0; end = 0; place = 0; ended = []; last = None })) c_there (get_or c.args.entries.now (get_or c.args.chains.now c.in-Some.key.number (record { access = 0; end = 0; place = 0; ended = []; last = None })).access (record { core = 0; stamp = 0; start = 0; request = Load 0 0; reply = 0; outcome = Hit })) e_there c.piece-piece.result c.piece-piece.ensures
-
-pub returns-else-goes_on-clause-component : goal.returns-else-goes_on-clause-component
-returns-else-goes_on-clause-component g c =
-    let placed : ArePlaced (g.X.Expand.pieces c.args.expand.now) c.args.entries.now = record {
-      numbered = c.events_are_placed.ensures.numbered c.args.expand.now c.args.entries.now;
-      there = c.events_are_placed.ensures.there c.args.expand.now c.args.entries.now;
-      next = c.events_are_placed.ensures.next c.args.expand.now c.args.entries.now;
-      each = c.events_are_placed.ensures.each c.args.expand.now c.args.entries.now;
-      parents = c.events_are_placed.ensures.parents c.args.expand.now c.args.entries.now;
-      last = c.events_are_placed.ensures.last c.args.expand.now c.args.entries.now;
-      ends = c.events_are_placed.ensures.ends c.args.expand.now c.args.entries.now;
-    }
-    in
-    let next = c.each_firing_is_of_the_next_event.ensures (all_events (g.X.Expand.pieces c.args.expand.now) c.args.entries.now) c.requires.come.0 c.requires.come.1 placed.numbered c.requires.come.2 c.requires.come.4 in
-    let k_within = R.within g.C.Component.serves g.C.Component.stepped g.C.Component.greatest (g.X.Expand.pieces c.args.expand.now) c.args.entries.now c.args.chains.now c.args.ready.now.keys c.args.comps.now
-    (g.met.X.Expand.parents_come_before c.args.expand.now) placed c.requires.chained c.requires.come.0 c.requires.come.1 c.requires.come.3 next
-    (λ d m core less. c.events_of_a_core_fire_in_order.ensures.next c.args.expand.now c.args.entries.now c.requires.come.0 c.requires.come.1 next.0 next.1 d c.requires.chained.row c.requires.come.2 next.2 m core less)
-    (c.starts_so_far_stay_small.ensures (all_events (g.X.Expand.pieces c.args.expand.now) c.args.entries.now) c.requires.come.0 (suc c.requires.come.1) placed.numbered c.requires.come.2 c.requires.come.3) c.pop.ensures.ascending c.requires.come.5 c.in-Some.key (sym c.pop.ensures.first ∙ c.in-Some.is) in
-    let c_there : slice_get c.args.chains.now c.in-Some.key.number ≡ Some (get_or c.args.chains.now c.in-Some.key.number (record { access = 0; end = 0; place = 0; ended = []; last = None })) = slice_get-get_or c.args.chains.now c.in-Some.key.number (record { access = 0; end = 0; place = 0; ended = []; last = None }) k_within in
-    let a_within = R.access_within g.C.Component.serves g.C.Component.stepped g.C.Component.greatest (g.X.Expand.pieces c.args.expand.now) c.args.entries.now c.args.chains.now c.args.ready.now.keys c.args.comps.now
-    (g.met.X.Expand.parents_come_before c.args.expand.now) placed c.requires.chained c.requires.come.0 c.requires.come.1 c.requires.come.3 next
-    (λ d m core less. c.events_of_a_core_fire_in_order.ensures.next c.args.expand.now c.args.entries.now c.requires.come.0 c.requires.come.1 next.0 next.1 d c.requires.chained.row c.requires.come.2 next.2 m core less)
-    (c.starts_so_far_stay_small.ensures (all_events (g.X.Expand.pieces c.args.expand.now) c.args.entries.now) c.requires.come.0 (suc c.requires.come.1) placed.numbered c.requires.come.2 c.requires.come.3) c.pop.ensures.ascending c.requires.come.5 c.in-Some.key (sym c.pop.ensures.first ∙ c.in-Some.is) (get_or c.args.chains.now c.in-Some.key.number (record { access = 0; end = 0; place = 0; ended = []; last = None })) c_there in
-    let e_there : slice_get c.args.entries.now (get_or c.args.chains.now c.in-Some.key.number (record { access = 0; end = 0; place = 0; ended = []; last = None })).access ≡ Some (get_or c.args.entries.now (get_or c.args.chains.now c.in-Some.key.number (record { access = 0; end = 0; place = 0; ended = []; last = None })).access (record { core = 0; stamp = 0; start = 0; request = Load 0 0; reply = 0; outcome = Hit })) = slice_get-get_or c.args.entries.now (get_or c.args.chains.now c.in-Some.key.number (record { access = 0; end = 0; place = 0; ended = []; last = None })).access (record { core = 0; stamp = 0; start = 0; request = Load 0 0; reply = 0; outcome = Hit }) a_within in
-    R.component_within g.C.Component.serves g.C.Component.stepped g.C.Component.greatest (g.X.Expand.pieces c.args.expand.now) c.args.entries.now c.args.chains.now c.args.ready.now.keys c.args.comps.now
-    (g.met.X.Expand.parents_come_before c.args.expand.now) placed c.requires.chained c.requires.come.0 c.requires.come.1 c.requires.come.3 next
-    (λ d m core less. c.events_of_a_core_fire_in_order.ensures.next c.args.expand.now c.args.entries.now c.requires.come.0 c.requires.come.1 next.0 next.1 d c.requires.chained.row c.requires.come.2 next.2 m core less)
-    (c.starts_so_far_stay_small.ensures (all_events (g.X.Expand.pieces c.args.expand.now) c.args.entries.now) c.requires.come.0 (suc c.requires.come.1) placed.numbered c.requires.come.2 c.requires.come.3) c.pop.ensures.ascending c.requires.come.5 c.in-Some.key (sym c.pop.ensures.first ∙ c.in-Some.is) (get_or c.args.chains.now c.in-Some.key.number (record { access = 0; end = 0; place = 0; ended = []; last = None })) c_there (get_or c.args.entries.now (get_or c.args.chains.now c.in-Some.key.number (record { access = 0; end = 0; place = 0; ended = []; last = None })).access (record { core = 0; stamp = 0; start = 0; request = Load 0 0; reply = 0; outcome = Hit })) e_there c.piece-piece.result c.piece-piece.ensures

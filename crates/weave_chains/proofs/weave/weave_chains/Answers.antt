@@ -11,10 +11,12 @@ use Rattle.event_graph.specs.OrderByCore.{AreRenumberedByCore}
 use Rattle.event_graph.specs.Renumbering.{AreAlikeAtTies}
 use Rattle.event_graph.specs.TimingSolution.{IsSolution}
 use Rattle.event_graph.proofs.Lists.{In, in_at}
+use Rattle.weave_chains.specs.Listed.{one_after_other}
 use Rattle.weave_chains.specs.Ties.{HaveNoTie}
 use Rattle.weave_chains.specs.Woven.{IsWoven}
 use Rattle.weave_chains.proofs.AsMany.{as_much}
 use Rattle.weave_chains.proofs.Counts.{one, waited}
+use Rattle.weave_chains.proofs.Listed.{known as known_of}
 use Rattle.weave_chains.proofs.Ordered.{alike_at_ties, others_fit, woven_alike}
 use Rattle.weave_chains.proofs.weave.weave_chains.Goals as goal
 
@@ -23,13 +25,14 @@ if_some P o x is h = subst (λ z. IfSome z P) is h
 
 pub returns-in-Some-clause-no_tie : goal.returns-in-Some-clause-no_tie
 returns-in-Some-clause-no_tie g c =
-    let events = all_events (g.X.Expand.pieces c.args.expand.now) c.args.entries.now in
+    let events = all_events (g.X.Expand.pieces c.args.expand.now) (one_after_other (g.A.Accesses.lists c.args.accesses.now)) in
     subst (λ cs. HaveNoTie (woven g.C.Component.stepped events cs)) c.in_ok-after.ensures
     (if_some (λ w. HaveNoTie (woven g.C.Component.stepped events c.in_ok-after.after)) c.in_ok-found.found c.in-Some.woven c.in-Some.is c.in_ok-found.ensures.no_tie)
 
 pub returns-in-Some-clause-woven : goal.returns-in-Some-clause-woven
 returns-in-Some-clause-woven g c = λ recorded same.
-    let entries = c.args.entries.now in
+    let lists = g.A.Accesses.lists c.args.accesses.now in
+    let entries = one_after_other lists in
     let comps = c.args.comps.now in
     let made : all_events (g.X.Expand.pieces c.args.expand.now) (with_events (g.X.Expand.pieces c.args.expand.now) recorded) ≡ all_events (g.X.Expand.pieces c.args.expand.now) recorded =
     c.events_are_made_of_pieces.ensures.left_out c.args.expand.now recorded
@@ -50,17 +53,17 @@ returns-in-Some-clause-woven g c = λ recorded same.
     let ties : AreAlikeAtTies by_core.0 (woven g.C.Component.stepped events comps) = alike_at_ties by_core.0 events others (woven g.C.Component.stepped events comps) re sol.events_are none in
     let times = c.numbers_decide_ties_alone.ensures.times by_core.0 events others comps numbered others_numbered c.requires.fits re.renumbered ties in
     let sums = c.numbers_decide_ties_alone.ensures.sums by_core.0 events others comps numbered others_numbered c.requires.fits re.renumbered ties in
-    let known : (e : Entry) → In e entries → e.core < c.args.cores = λ e m. let at : (i : _) × (slice_get entries i ≡ Some e) = in_at e entries m in c.requires.chained.known at.0 e at.1 in
+    let known : (e : Entry) → In e entries → e.core < length lists = λ e m. let at : (i : _) × (slice_get entries i ≡ Some e) = in_at e entries m in known_of lists c.requires.chained.own at.0 e at.1 in
     let count : length others ≡ length events =
     ap length (sym made)
     ∙ (c.events_are_counted.ensures c.args.expand.now (with_events (g.X.Expand.pieces c.args.expand.now) recorded)
-    ∙ (as_much (λ e. length (g.X.Expand.pieces c.args.expand.now e)) c.args.cores entries (with_events (g.X.Expand.pieces c.args.expand.now) recorded) known same
+    ∙ (as_much (λ e. length (g.X.Expand.pieces c.args.expand.now e)) (length lists) entries (with_events (g.X.Expand.pieces c.args.expand.now) recorded) known same
     ∙ sym (c.events_are_counted.ensures c.args.expand.now entries)))
     in
-    woven_alike g.C.Component.stepped (g.X.Expand.pieces c.args.expand.now) entries recorded comps c.args.cores sol.events_are others_sol.events_are
-    (c.delays_are_of_the_cores.ensures by_core.0 events others (woven g.C.Component.stepped events comps) (woven g.C.Component.stepped others comps) c.args.cores numbered others_numbered re sol.events_are others_sol.events_are times)
+    woven_alike g.C.Component.stepped (g.X.Expand.pieces c.args.expand.now) entries recorded comps (length lists) sol.events_are others_sol.events_are
+    (c.delays_are_of_the_cores.ensures by_core.0 events others (woven g.C.Component.stepped events comps) (woven g.C.Component.stepped others comps) (length lists) numbered others_numbered re sol.events_are others_sol.events_are times)
     (sums one (λ x. refl)) (sums waited (λ x. refl))
     (c.numbers_decide_ties_alone.ensures.comps by_core.0 events others comps numbered others_numbered c.requires.fits re.renumbered ties)
     count c.in-Some.woven c.weave_on.new.comps
-    (subst (λ cs. IsWoven g.C.Component.stepped (g.X.Expand.pieces c.args.expand.now) entries cs c.args.cores c.in-Some.woven c.weave_on.new.comps) c.in_ok-after.ensures
-    (if_some (λ w. IsWoven g.C.Component.stepped (g.X.Expand.pieces c.args.expand.now) entries c.in_ok-after.after c.args.cores w c.weave_on.new.comps) c.in_ok-found.found c.in-Some.woven c.in-Some.is c.in_ok-found.ensures.woven))
+    (subst (λ cs. IsWoven g.C.Component.stepped (g.X.Expand.pieces c.args.expand.now) entries cs (length lists) c.in-Some.woven c.weave_on.new.comps) c.in_ok-after.ensures
+    (if_some (λ w. IsWoven g.C.Component.stepped (g.X.Expand.pieces c.args.expand.now) entries c.in_ok-after.after (length lists) w c.weave_on.new.comps) c.in_ok-found.found c.in-Some.woven c.in-Some.is c.in_ok-found.ensures.woven))

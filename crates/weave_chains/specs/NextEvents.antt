@@ -1,0 +1,32 @@
+-- What chains know of the events that fire next.
+use Rattle.std.specs.Prelude.{◌≡◌, ◌<◌, ◌≤◌, ℕ, List, length, None, Some, slice_get}
+use Rattle.zs_num.specs.declared.entry.Entry.{Entry}
+use Rattle.event_graph.specs.declared.piece.Piece.{Piece}
+use Rattle.weave_chains.specs.declared.chain.Chain.{Chain}
+use Rattle.weave_chains.specs.declared.chain.Next.{Next}
+use Rattle.weave_chains.specs.Listed.{list_of}
+
+module _ (pieces : Entry → List Piece) where
+  -- the access is that at which a chain stands, in this list of its core's, and it has so many events
+  pub record IsAtAccess (list : List Entry) (c : Chain) (n : Next) : Type 0 where
+    pub goes_on : c.access < c.end
+    pub there : slice_get list c.access ≡ Some n.entry
+    pub count : n.count ≡ length (pieces n.entry)
+
+  -- it is the chain's next event
+  pub record IsNext (list : List Entry) (c : Chain) (n : Next) : Type 0 where
+    pub access : IsAtAccess list c n
+    pub piece : slice_get (pieces n.entry) c.place ≡ Some n.piece
+
+  -- a chain with the accesses of this list, which knows its next event
+  pub record IsAhead (list : List Entry) (c : Chain) : Type 0 where
+    pub end : c.end ≡ length list
+    pub next : (n : Next) → c.next ≡ Some n → IsNext list c n
+    pub over : c.next ≡ None → c.end ≤ c.access
+
+  abbrev pub AreAhead : List (List Entry) → List Chain → Type 0
+  AreAhead lists chains = (core : ℕ) (c : Chain) → slice_get chains core ≡ Some c → IsAhead (list_of lists core) c
+
+-- each is over at the end of its core's list
+abbrev pub AreOfLists : List (List Entry) → List Chain → Type 0
+AreOfLists lists chains = (core : ℕ) (c : Chain) → slice_get chains core ≡ Some c → c.end ≡ length (list_of lists core)

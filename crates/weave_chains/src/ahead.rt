@@ -1,0 +1,81 @@
+//! How a chain learns of the event that fires next, which is then ready.
+ghost use Rattle.std.specs.Prelude.{◌≡◌, ◌+◌, ◌<◌, ◌≤◌, ◌^◌, Some, slice_get, length, IfNone, IfSome};
+ghost use Rattle.std.specs.List.{Contains};
+ghost use Rattle.zs_num.specs.declared.entry.Entry.{Entry};
+ghost use Rattle.event_graph.specs.declared.piece.Piece.{Piece};
+ghost use Rattle.weave_chains.specs.declared.chain.Next.{Next};
+ghost use Rattle.weave_chains.specs.Chains.{start_by};
+ghost use Rattle.weave_chains.specs.Listed.{list_of};
+ghost use Rattle.weave_chains.specs.NextEvents.{IsAhead, IsAtAccess, IsNext};
+ghost use Rattle.weave_chains.specs.Rounds.{with_next};
+ghost use Rattle.weave_chains.specs.States.{state_of};
+
+use crate::accesses::Accesses;
+use crate::chain::{Chain, Next};
+use domain_queue::Ready;
+use event_graph::Expand;
+use zs_num::{Cycle, Key};
+
+/// Looks up the next event of a core's chain, and answers when it starts. None where the chain is
+/// over.
+pub(crate) fn look_ahead<X: Expand, A: Accesses>(
+    expand: &X,
+    accesses: &A,
+    core: u16,
+    chain: &mut Chain,
+) -> Option<Cycle>
+    requires end { chain.old.end ≡ length (list_of (A.lists accesses.now) core) }
+    requires place { (e : Entry) → slice_get (list_of (A.lists accesses.now) core) chain.old.access ≡ Some e → chain.old.place < length (X.pieces expand.now e) }
+    requires known { (n : Next) → 0 < chain.old.place → chain.old.next ≡ Some n → IsAtAccess (X.pieces expand.now) (list_of (A.lists accesses.now) core) chain.old n }
+    requires soon { (e : Entry) (p : Piece) → slice_get (list_of (A.lists accesses.now) core) chain.old.access ≡ Some e → slice_get (X.pieces expand.now e) chain.old.place ≡ Some p → (e.start + p.offset ≤ 2 ^ 62) × (start_by (state_of 0 chain.old) (e.start + p.offset) p ≤ 2 ^ 62) }
+    ensures ahead { IsAhead (X.pieces expand.now) (list_of (A.lists accesses.now) core) chain.new }
+    ensures chain { chain.new ≡ record chain.old { next = chain.new.next } }
+    ensures over { IfNone result (chain.old.end ≤ chain.old.access) }
+    ensures start { IfSome result (λ start. (n : Next) × (chain.new.next ≡ Some n) × (start ≡ start_by (state_of 0 chain.old) (n.entry.start + n.piece.offset) n.piece)) }
+{
+    if chain.goes_on() {
+        let next = next_of(expand, accesses, core, chain);
+        let start = chain.start(next.entry.start + next.piece.offset, &next.piece);
+        chain.next = Some(next);
+        Some(start)
+    } else {
+        chain.next = None;
+        None
+    }
+}
+
+/// The next event of a core's chain, which goes on.
+fn next_of<X: Expand, A: Accesses>(expand: &X, accesses: &A, core: u16, chain: &Chain) -> Next
+    requires goes_on { chain.now.access < chain.now.end }
+    requires end { chain.now.end ≡ length (list_of (A.lists accesses.now) core) }
+    requires place { (e : Entry) → slice_get (list_of (A.lists accesses.now) core) chain.now.access ≡ Some e → chain.now.place < length (X.pieces expand.now e) }
+    requires known { (n : Next) → 0 < chain.now.place → chain.now.next ≡ Some n → IsAtAccess (X.pieces expand.now) (list_of (A.lists accesses.now) core) chain.now n }
+    ensures { IsNext (X.pieces expand.now) (list_of (A.lists accesses.now) core) chain.now result }
+{
+    let (entry, count) = match &chain.next {
+        Some(next) if chain.place > 0 => (next.entry, next.count),
+        _ => {
+            let entry = accesses.access(core, chain.access);
+            (entry, expand.count(&entry))
+        }
+    };
+    let piece = expand.piece(&entry, chain.place);
+    Next {
+        entry,
+        count,
+        piece,
+    }
+}
+
+/// A core's next event is ready, which starts at this cycle. None where the chain is over.
+pub(crate) fn push_next(ready: &mut Ready, core: u32, start: Option<Cycle>)
+    requires { IfSome start (λ at. (length ready.old.keys < ready.old.room) × (¬ Contains ready.old.keys (record { start = at; number = core }))) }
+    ensures { ready.new ≡ record ready.old { keys = with_next core start ready.old.keys } }
+{
+    if let Some(start) = start {
+        ready.push(Key {
+            start,
+            number: core,
+        });
+    }
+}
