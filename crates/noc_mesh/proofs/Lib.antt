@@ -1,8 +1,10 @@
 mod Chains
+mod InARow
 mod Legs
 mod NetFits
 mod NoMesh
 mod Nodes
 mod Places
 mod SameWay
+mod SomeEvents
 mod Ways

@@ -1,8 +1,9 @@
 -- What is true of the events of accesses in every machine.
-use Rattle.std.specs.Prelude.{◌≡◌, ◌*◌, ◌≤◌, List, None, length, sum_by}
+use Rattle.std.specs.Prelude.{◌≡◌, ◌*◌, ◌<◌, ◌≤◌, List, None, length, sum_by}
 use Rattle.machine_desc.specs.declared.machine.Machine.{Machine}
 use Rattle.machine_desc.specs.Machine.{IsMachine}
 use Rattle.zs_num.specs.declared.entry.Entry.{Entry}
+use Rattle.zs_num.specs.declared.entry.Outcome.TheVariants.{Hit}
 use Rattle.zs_num.specs.Request.{is_fetch, line_of}
 use Rattle.component.specs.declared.comp.Comp.{Comp}
 use Rattle.component.specs.Serving.{comp_serves, comp_latency}
@@ -12,6 +13,7 @@ use Rattle.event_graph.specs.AccessPaths.{path_of}
 use Rattle.event_graph.specs.EventGraph.{all_events}
 use Rattle.event_graph.specs.Fits.{GraphFits}
 use Rattle.event_graph.specs.FloorsServed.{AreFloorsOf}
+use Rattle.event_graph.specs.InARow.{AreInARow}
 use Rattle.event_graph.specs.PathInRange.{IsAccessPath}
 use Rattle.event_graph.specs.PlainTiming.{access_time, pieces_of}
 use Rattle.noc_mesh.specs.NetFloors.{net_floor}
@@ -29,6 +31,15 @@ NetGraphsFit = (m : Machine) (comps : List Comp) (entries : List Entry) → IsMa
 -- an access has 60 events at most: four ways of 14 hops each, and four more
 abbrev pub NetAccessesHaveFewEvents : Type 0
 NetAccessesHaveFewEvents = (path : AccessPath) (entries : List Entry) → IsAccessPath path → sum_by (λ e. length (net_pieces path e)) entries ≤ 60 * length entries
+
+-- Without a mesh they stand in the order in which they can start. (On a mesh the first hop behind a read waits for the
+-- read, and the write beside it stands between them.)
+abbrev pub NetEventsAreInARow : Type 0
+NetEventsAreInARow = (path : AccessPath) (e : Entry) → path.mesh ≡ None → AreInARow (net_pieces path e)
+
+-- there is one at least, unless the core's own cache answers
+abbrev pub NetAccessesBeyondHitsHaveEvents : Type 0
+NetAccessesBeyondHitsHaveEvents = (path : AccessPath) (e : Entry) → (e.outcome ≡ Hit → ⊥) → 0 < length (net_pieces path e)
 
 -- without a mesh and without open rows the events and the times are those of banks and controllers that are joined without a network
 abbrev pub NetsWithoutAMeshArePlain : Type 0

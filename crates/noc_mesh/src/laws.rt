@@ -1,5 +1,5 @@
 //! Theorems about the definitions alone, each the contract of a function that does nothing.
-ghost use Rattle.noc_mesh.specs.Laws.{EventsAreOfLinesAndOutcomes, NetAccessesHaveFewEvents, NetFloorsAreOfComponents, NetGraphsFit, NetsWithoutAMeshArePlain};
+ghost use Rattle.noc_mesh.specs.Laws.{EventsAreOfLinesAndOutcomes, NetAccessesBeyondHitsHaveEvents, NetAccessesHaveFewEvents, NetFloorsAreOfComponents, NetEventsAreInARow, NetGraphsFit, NetsWithoutAMeshArePlain};
 ghost use Rattle.noc_mesh.specs.RouteLaws.{RoutesLead};
 
 use crate::Net;
@@ -38,4 +38,14 @@ pub fn nets_without_a_mesh_are_plain()
 /// fetch.
 pub fn events_are_of_lines_and_outcomes()
     ensures { EventsAreOfLinesAndOutcomes }
+{}
+
+/// Without a mesh the events of an access stand in the order in which they can start.
+pub fn net_events_are_in_a_row()
+    ensures { NetEventsAreInARow }
+{}
+
+/// An access that the core's own cache does not answer has an event at least.
+pub fn net_accesses_beyond_hits_have_events()
+    ensures { NetAccessesBeyondHitsHaveEvents }
 {}
