@@ -1,5 +1,6 @@
 -- The access for which a record stands, and its events.
-use Rattle.std.proofs.Common.{◌≡◌, ℕ, zero, suc, ◌+◌, ◌-◌, ◌*◌, ◌/◌, ◌<◌, Bool, true, false, List, [], ◌∷◌, ◌++◌, All, Some, length, get_or, map, refl, sym, ap, ap₂, ◌∙◌, arith, append-nil, inl, inr}
+use Rattle.std.proofs.Math.Nat.{mod-eq_of_lt}
+use Rattle.std.proofs.Common.{◌≡◌, ℕ, zero, suc, ◌+◌, ◌-◌, ◌*◌, ◌/◌, ◌%◌, ◌^◌, ◌<◌, ◌≤◌, Bool, true, false, List, [], ◌∷◌, ◌++◌, All, Some, length, get_or, map, refl, sym, ap, ap₂, ◌∙◌, arith, append-nil, inl, inr}
 use Rattle.std.specs.Prelude.{if◌then◌else◌}
 use Rattle.std.specs.List.{AllByRecursion, fold, slice_get}
 use Rattle.zs_num.specs.declared.entry.Entry.{Entry}
@@ -30,15 +31,21 @@ fetch_back : (fetch : Bool) (line : ℕ) → is_fetch (first_byte fetch line) �
 fetch_back true line = refl
 fetch_back false line = refl
 
+-- what is so near to the first is told by as many bits
+back : (bits first n : ℕ) → first ≤ n → n < first + 2 ^ bits → first + (n - first) % 2 ^ bits ≡ n
+back bits first n from near =
+    let small : (n - first) % 2 ^ bits ≡ n - first = (let below : n - first < 2 ^ bits = omega (arith, from, near) in mod-eq_of_lt below) in
+    omega (arith, small, from)
+
 pub stands_for : (begin base : ℕ) (e : Entry) → IsInReach begin base e → MakeSameEvents (kept_of begin base e) e
 stands_for begin base e reach =
-    let start : begin + (e.start - begin) ≡ e.start = omega (arith, reach.from) in
-    let line : base / 64 + (line_of e.request - base / 64) ≡ line_of e.request = (let h = reach.first in omega (arith, h)) in
+    let start : begin + (e.start - begin) % 2 ^ 32 ≡ e.start = back 32 begin e.start reach.from reach.soon in
+    let line : base / 64 + (line_of e.request - base / 64) % 2 ^ 28 ≡ line_of e.request = back 28 (base / 64) (line_of e.request) reach.first reach.near in
     record {
       core = refl;
       start = start;
-      line = line_back (is_fetch e.request) (base / 64 + (line_of e.request - base / 64)) ∙ line;
-      fetch = fetch_back (is_fetch e.request) (base / 64 + (line_of e.request - base / 64));
+      line = line_back (is_fetch e.request) (base / 64 + (line_of e.request - base / 64) % 2 ^ 28) ∙ line;
+      fetch = fetch_back (is_fetch e.request) (base / 64 + (line_of e.request - base / 64) % 2 ^ 28);
       outcome = refl;
     }
 

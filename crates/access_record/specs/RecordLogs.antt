@@ -1,7 +1,7 @@
 -- The records of a core's accesses in an interval.
 use Rattle.std.specs.Prelude.{◌≡◌, ℕ, ◌^◌, ◌<◌, ◌≤◌, List, All, map, length}
 use Rattle.zs_num.specs.declared.entry.Entry.{Entry}
-use Rattle.access_record.specs.Records.{IsInReach, RecordState, record_of}
+use Rattle.access_record.specs.Records.{RecordState, record_of}
 
 pub record RecordLogState : Type 0 where
   -- whose accesses they are
@@ -19,7 +19,6 @@ pub record RecordLogState : Type 0 where
 pub record AreRecorded (log : RecordLogState) (records : List RecordState) : Type 0 where
   pub records_are : records ≡ map (record_of log.begin log.base) log.entries
   pub own : All (λ e. e.core ≡ log.core) log.entries
-  pub reach : All (IsInReach log.begin log.base) log.entries
   pub within : length log.entries ≤ log.room
   pub short : log.room < 2 ^ 32
   pub early : log.begin < 2 ^ 63

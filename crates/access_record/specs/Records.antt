@@ -1,5 +1,5 @@
 -- What the weave needs of an access that makes events.
-use Rattle.std.specs.Prelude.{◌≡◌, ℕ, ◌+◌, ◌-◌, ◌*◌, ◌/◌, ◌^◌, ◌<◌, ◌≤◌, Bool, if◌then◌else◌}
+use Rattle.std.specs.Prelude.{◌≡◌, ℕ, ◌+◌, ◌-◌, ◌*◌, ◌/◌, ◌%◌, ◌^◌, ◌<◌, ◌≤◌, Bool, if◌then◌else◌}
 use Rattle.zs_num.specs.declared.entry.Entry.{Entry}
 use Rattle.zs_num.specs.declared.entry.Outcome.{Outcome}
 use Rattle.zs_num.specs.declared.request.Request.TheVariants.{Fetch, Load}
@@ -14,11 +14,12 @@ pub record RecordState : Type 0 where
   -- whether it is the fetch of an instruction
   pub fetch : Bool
 
--- what is kept of an access, in an interval that begins at this cycle, where memory begins at this address
+-- What is kept of an access, in an interval that begins at this cycle, where memory begins at this address: of the start
+-- 32 bits, and of the line 28.
 abbrev pub record_of : (begin base : ℕ) → Entry → RecordState
 record_of begin base e = record {
-  start = e.start - begin;
-  line = line_of e.request - base / 64;
+  start = (e.start - begin) % 2 ^ 32;
+  line = (line_of e.request - base / 64) % 2 ^ 28;
   outcome = e.outcome;
   fetch = is_fetch e.request;
 }
@@ -34,12 +35,13 @@ entry_of core begin base r = record {
   outcome = r.outcome;
 }
 
--- the accesses of which a record can be made: they began in the interval, which is no longer than so, in memory, which has no more lines
+-- The accesses whose start and line a record keeps whole: they began in the interval, which is no longer than so, in memory,
+-- which has no more lines.
 pub record IsInReach (begin base : ℕ) (e : Entry) : Type 0 where
   pub from : begin ≤ e.start
-  pub soon : e.start < begin + 2 ^ 29
+  pub soon : e.start < begin + 2 ^ 32
   pub first : base / 64 ≤ line_of e.request
-  pub near : line_of e.request < base / 64 + 2 ^ 22
+  pub near : line_of e.request < base / 64 + 2 ^ 28
 
 -- two accesses that make the same events
 pub record MakeSameEvents (e other : Entry) : Type 0 where

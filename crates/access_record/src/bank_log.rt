@@ -48,6 +48,19 @@ impl BankLog {
         })
     }
 
+    /// A log without room, which stands where none is.
+    pub fn none(alloc: Global) -> Self
+        ensures { result ≡ record { core = 0; banks = 1; entries = []; room = 0 } }
+    {
+        BankLog {
+            core: 0,
+            banks: 1,
+            room: 0,
+            bytes: Vec::new(alloc),
+            list: Listed::new(),
+        }
+    }
+
     /// Adds an access of the core to this bank at the end.
     #[inline(always)]
     pub fn put(&mut self, bank: u16, entry: &Entry)
@@ -58,6 +71,17 @@ impl BankLog {
     {
         self.bytes.push_reserved(byte(bank, entry.outcome));
         self.list = self.list.then(entry);
+    }
+
+    /// How many banks there are.
+    #[inline(always)]
+    pub fn banks(&self) -> u16
+        ensures banks { result ≡ self.now.banks }
+        ensures some { 0 < self.now.banks }
+        ensures few { self.now.banks ≤ 64 }
+        ensures short { self.now.room < 2 ^ 32 }
+    {
+        self.banks
     }
 
     /// The core.

@@ -1,7 +1,7 @@
 //! What is kept of an access that makes events.
 ghost use Rattle.std.specs.Prelude.{◌≡◌, ◌+◌, ◌*◌, ◌<◌, ◌≤◌, ◌^◌, ◌/◌, Bool, if◌then◌else◌};
 ghost use Rattle.zs_num.specs.declared.request.Request.TheVariants.{Fetch, Load};
-ghost use Rattle.access_record.specs.Records.{IsInReach, entry_of, record_of};
+ghost use Rattle.access_record.specs.Records.{entry_of, record_of};
 
 use crate::outcomes::{number_of, outcome_of};
 use std::marker::Model;
@@ -11,9 +11,10 @@ use zs_num::{Cycle, Entry, LINE, Request};
 /// interval began and where memory begins are the same for many, and are known beside it.
 #[derive(Drop)]
 pub struct Record {
-    // How many cycles after the interval's begin, in 29 bits, and the number of the outcome.
-    at: u32,
-    // The line, counted from that of the first byte of memory, and a bit for a fetch.
+    // How many cycles after the interval's begin.
+    start: u32,
+    // The line, counted from that of the first byte of memory, in 28 bits, the number of the outcome
+    // in 3, and a bit for a fetch.
     place: u32,
 }
 
@@ -24,7 +25,7 @@ impl Model for Record {
 
     ghost Value = { RecordState };
 
-    ghost view = { λ r. record { start = r.at / 8; line = r.place / 2; outcome = outcome_of (r.at % 8); fetch = r.place % 2 == 1 } };
+    ghost view = { λ r. record { start = r.start; line = r.place / 16; outcome = outcome_of (r.place / 2 % 8); fetch = r.place % 2 == 1 } };
 }
 
 impl Record {
@@ -32,14 +33,14 @@ impl Record {
     /// this address.
     #[inline(always)]
     pub fn of(entry: &Entry, begin: Cycle, base: u64) -> Record
-        requires { IsInReach begin base entry.now }
         ensures { result ≡ record_of begin base entry.now }
     {
-        let start = (entry.start - begin) as u32;
-        let line = (entry.request.line() - base / LINE) as u32;
+        let start = entry.start.saturating_sub(begin) % (1 << 32);
+        let line = entry.request.line().saturating_sub(base / LINE) % (1 << 28);
+        let met = number_of(entry.outcome) * 2 + u32::from(entry.request.is_fetch());
         Record {
-            at: start * 8 + number_of(entry.outcome),
-            place: line * 2 + u32::from(entry.request.is_fetch()),
+            start: start as u32,
+            place: line as u32 * 16 + met,
         }
     }
 
@@ -51,14 +52,14 @@ impl Record {
         requires base { base < 2 ^ 63 }
         ensures { result ≡ entry_of core begin base self.now }
     {
-        let line = base / LINE + u64::from(self.place / 2);
+        let line = base / LINE + u64::from(self.place / 16);
         Entry {
             core,
             stamp: 0,
-            start: begin + u64::from(self.at / 8),
+            start: begin + u64::from(self.start),
             request: request(line * LINE, self.place % 2 == 1),
             reply: 0,
-            outcome: outcome_of(self.at % 8),
+            outcome: outcome_of(self.place / 2 % 8),
         }
     }
 }

@@ -1,7 +1,6 @@
 //! The log of a core's accesses that make events, a record for each.
-ghost use Rattle.std.specs.Prelude.{◌≡◌, ◌<◌, ◌≤◌, ◌^◌, ◌++◌, ◌∷◌, [], All, Some, length, map, slice_get, IfOk};
+ghost use Rattle.std.specs.Prelude.{◌≡◌, ◌<◌, ◌≤◌, ◌^◌, ◌++◌, ◌∷◌, [], Some, length, map, slice_get, IfOk};
 ghost use Rattle.access_record.specs.Laws.{kept_of};
-ghost use Rattle.access_record.specs.Records.{IsInReach};
 
 use crate::listed::Listed;
 use crate::record::Record;
@@ -49,6 +48,20 @@ impl RecordLog {
         })
     }
 
+    /// A log without room, which stands where none is.
+    pub fn none(alloc: Global) -> Self
+        ensures { result ≡ record { core = 0; begin = 0; base = 0; entries = []; room = 0 } }
+    {
+        RecordLog {
+            core: 0,
+            begin: 0,
+            base: 0,
+            room: 0,
+            records: Vec::new(alloc),
+            list: Listed::new(),
+        }
+    }
+
     /// Forgets the accesses, and keeps the room: an interval begins at this cycle.
     pub fn begin(&mut self, begin: Cycle)
         requires { begin < 2 ^ 63 }
@@ -59,11 +72,11 @@ impl RecordLog {
         self.begin = begin;
     }
 
-    /// Adds an access of the core at the end.
+    /// Adds an access of the core at the end. Its record gives back its events where it is in reach
+    /// of the interval's begin and of memory (`records_keep_each_access`).
     #[inline(always)]
     pub fn put(&mut self, entry: &Entry)
         requires core { entry.now.core ≡ self.old.core }
-        requires reach { IsInReach self.old.begin self.old.base entry.now }
         requires room { length self.old.entries < self.old.room }
         ensures { self.new ≡ record self.old { entries = self.old.entries ++ entry.now ∷ [] } }
     {
@@ -75,7 +88,6 @@ impl RecordLog {
     /// How many accesses there are.
     pub fn len(&self) -> u32
         ensures count { result ≡ length self.now.entries }
-        ensures reach { All (IsInReach self.now.begin self.now.base) self.now.entries }
     {
         self.records.len() as u32
     }
