@@ -8,8 +8,9 @@ use crate::CoreCount;
 use zs_num::{Entry, Outcome, Request};
 
 /// Counts an access of the core.
+#[inline(always)]
 #[tactic(auto, unfolding(crate::specs::Counted::core_plus, crate::specs::Counted::entry_count))]
-fn count_access(count: &mut CoreCount, entry: &Entry)
+pub fn count_access(count: &mut CoreCount, entry: &Entry)
     requires { CoreFits (with_access count.old entry.now) }
     ensures { count.new ≡ with_access count.old entry.now }
 {

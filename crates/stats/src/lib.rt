@@ -7,5 +7,6 @@ mod counters;
 mod counts;
 pub mod laws;
 
+pub use core_counts::count_access;
 pub use counters::Counters;
 pub use counts::{CompCount, CoreCount};
