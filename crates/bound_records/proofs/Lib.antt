@@ -1,0 +1,7 @@
+mod ByCore
+mod Chained
+mod Counted
+mod Lists
+mod OneMore
+mod Turns
+mod Whole

@@ -1,0 +1,60 @@
+use Rattle.std.proofs.Common.{◌≡◌, ◌<◌, ◌-◌, ℕ, All, length, subst, sym, ap, ◌∙◌}
+use Rattle.std.specs.Prelude.{slice_get}
+use Rattle.zs_num.specs.declared.entry.Entry.{Entry}
+use Rattle.event_graph.specs.PathInRange.{IsAccessPath}
+use Rattle.access_log.specs.History.{of_core}
+use Rattle.access_log.specs.RecordedOrder.{recorded_order}
+use Rattle.bound_core.specs.ShardPort.{base_of, l1i_of, size_of}
+use Rattle.bound_core.specs.ShardWorld.{ShardWorld}
+use Rattle.bound_records.specs.CoreRuns.{CanRunInterval, HaveRecorded}
+use Rattle.bound_records.specs.Intervals.{HaveRun}
+use Rattle.bound_records.specs.Recorders.{RecorderState, entries_of}
+use Rattle.bound_records.proofs.Chained.{are_kept}
+use Rattle.bound_records.proofs.Whole.{begun_base, begun_size, have_run, none_there, recorder_begun, room_for_all, world_begun}
+use Rattle.bound_records.proofs.recorder.Recorder.run.Goals as goal
+
+pub run_cores-requires-clause-recorder : goal.run_cores-requires-clause-recorder
+run_cores-requires-clause-recorder g c κs within = recorder_begun c.args.machine.now c.saturating_sub.result c.args.self c.restart.new.self c.restart.ensures c.requires.recorder
+
+pub run_cores-requires-clause-begin : goal.run_cores-requires-clause-begin
+run_cores-requires-clause-begin g c κs within = ap (λ (r : RecorderState). r.begin) c.restart.ensures ∙ c.saturating_sub.ensures
+
+pub run_cores-requires-clause-base : goal.run_cores-requires-clause-base
+run_cores-requires-clause-base g c κs within = begun_base c.args.machine.now c.saturating_sub.result c.args.self c.restart.new.self c.restart.ensures c.requires.shards
+
+pub run_cores-requires-clause-size : goal.run_cores-requires-clause-size
+run_cores-requires-clause-size g c κs within = begun_size c.args.machine.now c.saturating_sub.result c.args.self c.restart.new.self c.restart.ensures c.requires.shards
+
+pub run_cores-requires-clause-ready : goal.run_cores-requires-clause-ready
+run_cores-requires-clause-ready g c κs within = λ i core here.
+    let machine = c.args.machine.now in
+    let world = world_begun machine c.saturating_sub.result c.args.self c.restart.new.self c.restart.ensures c.requires.recorder in
+    subst (λ (w : ShardWorld). CanRunInterval machine c.args.end (base_of w) (size_of w) (l1i_of w) core.timed) (sym world) (c.requires.ready i core here)
+
+pub run_cores-requires-clause-none : goal.run_cores-requires-clause-none
+run_cores-requires-clause-none g c κs within = λ i es here. none_there (length c.args.self.lists) i es (ap (λ (r : RecorderState). slice_get r.lists i) (sym c.restart.ensures) ∙ here)
+
+pub run_cores-requires-clause-room : goal.run_cores-requires-clause-room
+run_cores-requires-clause-room g c κs within = room_for_all c.args.machine.now c.saturating_sub.result c.args.self c.restart.new.self c.restart.ensures c.requires.machine
+
+pub returns-clause-run : goal.returns-clause-run
+returns-clause-run g c =
+    have_run c.args.machine.now c.args.program.now c.args.end c.saturating_sub.result c.args.cores.now c.run_cores.new.cores c.args.self c.restart.new.self c.in_ok-recorder.recorder c.requires.machine c.requires.recorder c.restart.ensures
+    c.requires.count c.requires.shards.some c.in_ok-recorder.ensures (c.phases_are_histories.ensures _ c.args.program.now c.args.end) c.saturating_sub.ensures
+
+pub returns-clause-kept : goal.returns-clause-kept
+returns-clause-kept g c =
+    let machine = c.args.machine.now in
+    let s = c.in_ok-recorder.recorder in
+    let has : HaveRun machine c.args.program.now c.args.end c.args.cores.now c.run_cores.new.cores c.args.self s =
+    have_run c.args.machine.now c.args.program.now c.args.end c.saturating_sub.result c.args.cores.now c.run_cores.new.cores c.args.self c.restart.new.self c.in_ok-recorder.recorder c.requires.machine c.requires.recorder c.restart.ensures
+    c.requires.count c.requires.shards.some c.in_ok-recorder.ensures (c.phases_are_histories.ensures _ c.args.program.now c.args.end) c.saturating_sub.ensures
+    in
+    let h : HaveRecorded machine c.args.program.now c.args.end machine.cores c.args.cores.now c.run_cores.new.cores c.restart.new.self s = c.in_ok-recorder.ensures in
+    let known : All (λ e. e.core < length s.lists) (entries_of s) = subst (λ (n : ℕ). All (λ (e : Entry). e.core < n) (entries_of s)) (sym has.recorder.lists) has.known in
+    let same : (core : ℕ) → of_core core (recorded_order (entries_of s)) ≡ of_core core (entries_of s) =
+    (c.recorded_order_keeps_the_stamps.ensures (length s.world.shards) (length s.lists) (entries_of s) has.in_turn.some known has.in_turn.stamped).2.core
+    in
+    are_kept machine s has.known has.starts has.few has.reach has.recorder.lists h.own same
+    c.records_stand_for_accesses.ensures c.records_keep_each_access.ensures c.records_keep_the_events.ensures c.net_accesses_have_few_events.ensures c.net_accesses_beyond_hits_have_events.ensures c.net_events_are_in_a_row.ensures
+    (subst IsAccessPath c.requires.net c.args.net.now.in_range)

@@ -1,0 +1,66 @@
+-- The bound phase of an interval by one worker.
+use Rattle.std.specs.Prelude.{◌≡◌, ℕ, ◌-◌, ◌*◌, ◌^◌, ◌<◌, ◌≤◌, List, length, map, slice_get, Some, None, Ok, All}
+use Rattle.zs_num.specs.declared.entry.Entry.{Entry}
+use Rattle.elf_load.specs.MemoryImage.{MemoryImage}
+use Rattle.machine_desc.specs.declared.machine.Machine.{Machine}
+use Rattle.event_graph.specs.AccessPaths.{path_of}
+use Rattle.event_graph.specs.EventGraph.{all_events}
+use Rattle.noc_mesh.specs.NetTiming.{net_pieces}
+use Rattle.access_log.specs.History.{of_core}
+use Rattle.access_log.specs.RecordedOrder.{recorded_order}
+use Rattle.access_record.specs.Records.{IsInReach}
+use Rattle.bound_core.specs.History.{begun_over_shards}
+use Rattle.bound_core.specs.ReferenceMachine.{bound_phase}
+use Rattle.bound_core.specs.ShardPort.{base_of, l1i_of, size_of}
+use Rattle.bound_core.specs.ShardWorld.{ShardWorld, begun_world, restarted, shards_serve}
+use Rattle.bound_core.specs.NumberedCores.{NumberedCore, timed_of}
+use Rattle.bound_core.specs.Turn.{IsOver}
+use Rattle.weave_chains.specs.Listed.{one_after_other}
+use Rattle.weave_chains.specs.Rounds.{AreChained}
+use Rattle.weave_chains.specs.Woven.{AreOrdered}
+use Rattle.bound_records.specs.CoreRuns.{AreNumbered, CanRunInterval, access_time_of, phase_in}
+use Rattle.bound_records.specs.Recorders.{AreStampedInTurn, IsRecorderFor, RecorderState, core_room, entries_of, kept_lists, recorded_kept}
+
+-- caches and memory before the first access of an interval
+abbrev pub begun : Machine → RecorderState → ShardWorld
+begun machine r = begun_world machine.cores (map restarted r.world.shards)
+
+-- each core can run the interval that ends then
+abbrev pub CanAllRun : Machine → (end : ℕ) → List NumberedCore → RecorderState → Type 0
+CanAllRun machine end cores r = (i : ℕ) (c : NumberedCore) → slice_get cores i ≡ Some c → CanRunInterval machine end (base_of (begun machine r)) (size_of (begun machine r)) (l1i_of (begun machine r)) c.timed
+
+-- All cores have run to the end of the interval, one after the other.
+pub record HaveRun (machine : Machine) (image : MemoryImage) (end : ℕ) (cores after : List NumberedCore) (r r_after : RecorderState) : Type 0 where
+  -- it is the bound phase of the interval, by turns in the order of the accesses
+  pub phase : bound_phase shards_serve (access_time_of machine) image end (map (λ e. e.core) (entries_of r_after)) (begun_over_shards (timed_of cores) (map restarted r.world.shards)) ≡ Ok (phase_in after r_after)
+  -- the accesses of each core are those of its number
+  pub own : (core : ℕ) (entries : List Entry) → slice_get r_after.lists core ≡ Some entries → of_core core (entries_of r_after) ≡ entries
+  pub known : All (λ e. e.core < machine.cores) (entries_of r_after)
+  pub starts : All (λ e. e.start ≤ 2 ^ 34) (entries_of r_after)
+  pub few : length (entries_of r_after) ≤ machine.cores * core_room machine
+  -- their records give back their events
+  pub reach : All (IsInReach r_after.begin r_after.base) (entries_of r_after)
+  pub in_turn : AreStampedInTurn r_after
+  pub count : length after ≡ machine.cores
+  pub numbered : AreNumbered after
+  pub over : All (IsOver end) (timed_of after)
+  pub clocks : All (λ c. c.clock ≤ 2 ^ 57) (timed_of after)
+  pub recorder : IsRecorderFor machine r_after
+  pub begins : r_after.begin ≡ end - machine.interval
+  pub banks : length r_after.world.shards ≡ length r.world.shards
+
+-- What the weave can take of it: the accesses that make events, as their records give them back.
+pub record AreKept (machine : Machine) (r : RecorderState) : Type 0 where
+  -- each core has its own, and their events are chains, where no event beside a read lets hops pass it
+  pub chained : machine.mesh ≡ None → AreChained (net_pieces (path_of machine)) (kept_lists r)
+  pub many : length (kept_lists r) ≡ machine.cores
+  pub cores : All (λ e. e.core < machine.cores) (one_after_other (kept_lists r))
+  pub starts : All (λ e. e.start ≤ 2 ^ 34) (one_after_other (kept_lists r))
+  pub few : length (one_after_other (kept_lists r)) ≤ machine.cores * core_room machine
+  -- in recorded order each core has the same ones
+  pub ordered : AreOrdered (net_pieces (path_of machine)) (one_after_other (kept_lists r)) (recorded_kept r)
+  pub recorded_cores : All (λ e. e.core < machine.cores) (recorded_kept r)
+  pub recorded_starts : All (λ e. e.start ≤ 2 ^ 34) (recorded_kept r)
+  pub recorded_few : length (recorded_kept r) ≤ length (entries_of r)
+  -- and the events of these are those of the interval
+  pub events : all_events (net_pieces (path_of machine)) (recorded_kept r) ≡ all_events (net_pieces (path_of machine)) (recorded_order (entries_of r))

@@ -1,0 +1,13 @@
+//! The bound phase of an interval by one worker, and what is kept of its accesses: of each a byte
+//! and what it counts, and a record of each that makes events.
+#![tactic(auto)]
+
+mod accesses;
+mod gated_port;
+mod own_program;
+mod record_port;
+mod recorder;
+mod running;
+
+pub use own_program::OwnProgram;
+pub use recorder::Recorder;

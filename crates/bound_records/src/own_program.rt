@@ -1,0 +1,27 @@
+//! A program as a type of its own.
+ghost use Rattle.std.specs.Prelude.{◌≡◌};
+
+use rv_core::{Fetched, Program};
+use rv_decode::Inst;
+
+/// A program as a type of its own. What is compiled for it is compiled for one loop over
+/// instructions, so that the compiler sets the arms of all instructions into that loop; where
+/// several loops share them, it keeps them apart, and each loop is slower.
+#[derive(Drop)]
+pub struct OwnProgram<'a, P: Program> {
+    pub program: &'a P,
+}
+
+impl<'a, P: Program> Program for OwnProgram<'a, P> {
+    ghost image = { λ p. P.image p.program.now };
+
+    #[inline(always)]
+    fn decoded_at(&self, near: usize, pc: u64) -> Option<&Inst> {
+        self.program.decoded_at(near, pc)
+    }
+
+    #[inline(always)]
+    fn fetch(&self, near: &mut usize, pc: u64) -> Fetched {
+        self.program.fetch(near, pc)
+    }
+}

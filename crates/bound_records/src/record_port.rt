@@ -1,0 +1,126 @@
+//! A port through which a core accesses caches and memory, and which records what they do.
+ghost use Rattle.std.specs.Prelude.{◌≡◌, ◌≤◌, ◌<◌, ◌++◌, ◌∷◌, [], length};
+ghost use Rattle.access_record.specs.BankLogs.{makes_events};
+ghost use Rattle.access_record.specs.Laws.{beyond_hits};
+ghost use Rattle.bound_records.specs.Counted.{count_of};
+
+use access_record::{BankLog, RecordLog};
+use bound_core::{PartsPort, Port};
+use division::remainder;
+use stats::{CoreCount, count_access};
+use std::marker::Model;
+use zs_num::{Cycle, Entry, Outcome, Request};
+
+/// What is kept of a core's accesses in an interval: a byte of each, what all count, and a record of
+/// each that makes events.
+#[derive(Drop)]
+pub(crate) struct CoreRecord {
+    pub(crate) log: BankLog,
+    pub(crate) records: RecordLog,
+    pub(crate) count: CoreCount,
+}
+
+/// The caches and the memory of a machine, and what is kept of the accesses of the core that runs.
+#[derive(Drop)]
+pub(crate) struct RecordPort {
+    port: PartsPort,
+    record: CoreRecord,
+}
+
+impl Model for RecordPort {
+    ghost use Rattle.bound_records.specs.Recorders.{IsRecordPort, RecordPortState};
+
+    ghost Value = { RecordPortState };
+
+    ghost view = { λ p. record { world = p.port.world; core = p.port.core; begin = p.record.records.begin; base = p.record.records.base; entries = p.record.log.entries; room = p.record.log.room } };
+
+    ghost invariant = { λ p. IsRecordPort (record { world = p.port.world; core = p.port.core; begin = p.record.records.begin; base = p.record.records.base; entries = p.record.log.entries; room = p.record.log.room }) p.record.log p.record.records p.record.count };
+}
+
+impl RecordPort {
+    /// A port of the core of this record, which has no access yet.
+    pub(crate) fn new(mut port: PartsPort, record: CoreRecord) -> Self
+        requires core { record.log.core < length port.world.stamps }
+        requires banks { record.log.banks ≡ length port.world.shards }
+        requires none { record.log.entries ≡ [] }
+        requires kept { record.records ≡ record { core = record.log.core; begin = record.records.begin; base = record.records.base; entries = []; room = record.log.room } }
+        requires count { record.count ≡ count_of [] }
+        ensures { result ≡ record { world = port.world; core = record.log.core; begin = record.records.begin; base = record.records.base; entries = []; room = record.log.room } }
+    {
+        port.choose(record.log.core());
+        RecordPort { port, record }
+    }
+
+    /// Gives back what it took in.
+    pub(crate) fn finish(self) -> (PartsPort, CoreRecord)
+        ensures port { result.0 ≡ record { world = self.world; core = self.core } }
+        ensures log { result.1.log ≡ record { core = self.core; banks = length self.world.shards; entries = self.entries; room = self.room } }
+        ensures records { result.1.records ≡ record { core = self.core; begin = self.begin; base = self.base; entries = beyond_hits self.entries; room = self.room } }
+        ensures count { result.1.count ≡ count_of self.entries }
+    {
+        (self.port, self.record)
+    }
+}
+
+impl Port for RecordPort {
+    ghost use Rattle.std.specs.Prelude.{◌-◌, length, min, Some};
+    ghost use Rattle.bound_core.specs.ShardPort.{base_of, l1i_of, room_of, size_of};
+    ghost use Rattle.bound_records.specs.Recorders.{GivesRecorded};
+
+    ghost core = { λ p. p.core };
+
+    ghost base = { λ p. base_of p.world };
+
+    ghost size = { λ p. size_of p.world };
+
+    ghost l1i = { λ p. l1i_of p.world };
+
+    ghost room = { λ p. min (room_of p.world) (p.room - length p.entries) };
+
+    ghost gives = { GivesRecorded };
+
+    ghost logged = { λ p. Some p.entries };
+
+    #[inline(always)]
+    fn access(&mut self, start: Cycle, request: Request) -> Entry {
+        let entry = self.port.access(start, request);
+        self.record.put(&entry);
+        entry
+    }
+}
+
+impl CoreRecord {
+    /// Keeps an access.
+    #[inline(always)]
+    fn put(&mut self, entry: &Entry)
+        requires core { entry.now.core ≡ self.old.log.core }
+        requires some { 0 < self.old.log.banks }
+        requires room { length self.old.log.entries < self.old.log.room }
+        requires records { self.old.records.core ≡ self.old.log.core }
+        requires kept { self.old.records.entries ≡ beyond_hits self.old.log.entries }
+        requires records_room { self.old.records.room ≡ self.old.log.room }
+        requires count { self.old.count ≡ count_of self.old.log.entries }
+        ensures log { self.new.log ≡ record self.old.log { entries = self.old.log.entries ++ entry.now ∷ [] } }
+        ensures records { self.new.records ≡ record self.old.records { entries = beyond_hits (self.old.log.entries ++ entry.now ∷ []) } }
+        ensures count { self.new.count ≡ count_of (self.old.log.entries ++ entry.now ∷ []) }
+    {
+        let banks = u64::from(self.log.banks());
+        let bank = remainder(entry.request.line(), banks) as u16;
+        self.log.put(bank, entry);
+        count_access(&mut self.count, entry);
+        if makes_events(entry.outcome) {
+            self.records.put(entry);
+        }
+    }
+}
+
+/// Whether an access with this outcome makes events.
+#[inline(always)]
+fn makes_events(outcome: Outcome) -> bool
+    ensures { result ≡ makes_events outcome }
+{
+    match outcome {
+        Outcome::Hit => false,
+        _ => true,
+    }
+}
