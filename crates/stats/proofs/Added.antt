@@ -37,13 +37,13 @@ one_of (x ∷ xs) n below = x
 
 module _ (i : Interval) where
   -- a core's and a component's count after the passes over the interval
-  abbrev core_next : CoreCount → (n : ℕ) → CoreCount
+  abbrev pub core_next : CoreCount → (n : ℕ) → CoreCount
   core_next c n = with_accesses (with_delay c (slice_index i.delays n)) n i.entries
 
-  abbrev comp_next : CompCount → (n : ℕ) → CompCount
+  abbrev pub comp_next : CompCount → (n : ℕ) → CompCount
   comp_next c n = with_events c n (zip i.events i.fired)
 
-  core_is : (c : CoreCount) (n : ℕ) → core_next c n ≡ core_count_after i n c
+  pub core_is : (c : CoreCount) (n : ℕ) → core_next c n ≡ core_count_after i n c
   unfolding with_accesses
   core_is c n =
       let own : List Entry = filter (λ e. e.core == n) i.entries in
@@ -52,7 +52,7 @@ module _ (i : Interval) where
       ∙ ap (λ (x : CoreCount). fold core_plus x (map entry_count own)) (sym (core_plus-none c delay))
       ∙ sym (plus-fold core_plus core_plus-assoc c (core_plus no_core_count delay) (map entry_count own))
 
-  counted_in : (c : CompCount) (n : ℕ) → comp_next c n ≡ comp_plus c (comp_count_in i n)
+  pub counted_in : (c : CompCount) (n : ℕ) → comp_next c n ≡ comp_plus c (comp_count_in i n)
   unfolding with_events
   counted_in c n =
       let own : List (Event × Fired) = filter (λ x. x.0.component == n) (zip i.events i.fired) in

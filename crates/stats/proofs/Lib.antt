@@ -1,4 +1,5 @@
 mod Added
+mod ByCounts
 mod Events
 mod Orders
 mod Plus

@@ -18,6 +18,10 @@ with_accesses c core entries = fold with_access c (filter (λ e. e.core == core)
 abbrev pub with_delay : CoreCount → (delay : ℕ) → CoreCount
 with_delay c delay = core_plus c (delay_count delay)
 
+-- after a delay and all accesses of an interval, which count so much
+abbrev pub with_counted : CoreCount → (delay : ℕ) → CoreCount → CoreCount
+with_counted c delay accesses = core_plus (with_delay c delay) accesses
+
 -- a component's count after an event of the component, and after all its events among these
 abbrev pub with_event : CompCount → Event × Fired → CompCount
 with_event c x = comp_plus c (event_count x)

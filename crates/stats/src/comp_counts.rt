@@ -4,6 +4,7 @@ ghost use Rattle.std.specs.List.{zip};
 ghost use Rattle.component.specs.declared.comp.Comp.{Comp};
 ghost use Rattle.component.specs.ComponentStep.{free_of};
 ghost use Rattle.stats.specs.declared.counts.CompCount.{CompCount};
+ghost use Rattle.stats.specs.Counted.{comp_plus};
 ghost use Rattle.stats.specs.CountsFit.{CompFits};
 ghost use Rattle.stats.specs.TookTheirTime.{TookItsTime, TookTheirTime};
 ghost use Rattle.stats.specs.Passes.{with_event, with_events, with_free};
@@ -69,5 +70,43 @@ pub(crate) fn add_to_comp_counts(
         (free_of (slice_index_or comps.now n c)) }
 {
     count_events(counts, events, fired);
+    keep_free(counts, comps);
+}
+
+/// Adds what the events of a component count.
+fn add_count(count: &mut CompCount, events: &CompCount)
+    requires { CompFits (comp_plus count.old events.now) }
+    ensures { count.new ≡ comp_plus count.old events.now }
+{
+    count.events += events.events;
+    count.waited += events.waited;
+}
+
+/// Adds what the events of each component count.
+fn add_counts(counts: &mut [CompCount], events: &[CompCount])
+    requires count { length events.now ≡ length counts.old }
+    requires fits { (n : ℕ) (d : CompCount) → n < length counts.old
+        → CompFits (comp_plus (slice_index_or counts.old n d) (slice_index_or events.now n d)) }
+    ensures { (n : ℕ) (d : CompCount) → n < length counts.old → slice_index_or counts.new n d
+        ≡ comp_plus (slice_index_or counts.old n d) (slice_index_or events.now n d) }
+{
+    for (n, count) in counts.iter_mut().enumerate() {
+        add_count(count, &events[n]);
+    }
+}
+
+/// Adds what the events of an interval count, and keeps what the components are free from after it.
+pub(crate) fn add_counted_comps(counts: &mut [CompCount], events: &[CompCount], comps: &[Comp])
+    requires count { length events.now ≡ length counts.old }
+    requires comps { length comps.now ≡ length counts.old }
+    requires fits { (n : ℕ) (d : CompCount) → n < length counts.old
+        → CompFits (comp_plus (slice_index_or counts.old n d) (slice_index_or events.now n d)) }
+    ensures { (n : ℕ) (d : CompCount) (c : Comp) → n < length counts.old
+        → slice_index_or counts.new n d
+        ≡ with_free
+        (comp_plus (slice_index_or counts.old n d) (slice_index_or events.now n d))
+        (free_of (slice_index_or comps.now n c)) }
+{
+    add_counts(counts, events);
     keep_free(counts, comps);
 }

@@ -2,7 +2,7 @@
 ghost use Rattle.std.specs.Prelude.{◌≡◌, ◌<◌, ℕ, All, length, slice_index, slice_index_or};
 ghost use Rattle.stats.specs.declared.counts.CoreCount.{CoreCount};
 ghost use Rattle.stats.specs.CountsFit.{CoreFits};
-ghost use Rattle.stats.specs.Passes.{with_access, with_accesses, with_delay};
+ghost use Rattle.stats.specs.Passes.{with_access, with_accesses, with_counted, with_delay};
 
 use crate::CoreCount;
 use zs_num::{Entry, Outcome, Request};
@@ -78,4 +78,36 @@ pub(crate) fn add_to_core_counts(counts: &mut [CoreCount], entries: &[Entry], de
 {
     count_delays(counts, delays);
     count_accesses(counts, entries);
+}
+
+/// Adds what a core's accesses count, and its delay.
+#[tactic(auto, unfolding(crate::specs::Counted::core_plus, crate::specs::Counted::delay_count))]
+fn add_count(count: &mut CoreCount, accesses: &CoreCount, delay: u64)
+    requires { CoreFits (with_counted count.old delay accesses.now) }
+    ensures { count.new ≡ with_counted count.old delay accesses.now }
+{
+    count.delay += u128::from(delay);
+    count.delay += accesses.delay;
+    count.loads += accesses.loads;
+    count.stores += accesses.stores;
+    count.atomics += accesses.atomics;
+    count.fetches += accesses.fetches;
+    count.hits += accesses.hits;
+    count.upgrades += accesses.upgrades;
+    count.l2hits += accesses.l2hits;
+    count.misses += accesses.misses;
+}
+
+/// Adds what the accesses of an interval count, and the delays.
+pub(crate) fn add_counted_cores(counts: &mut [CoreCount], accesses: &[CoreCount], delays: &[u64])
+    requires count { length accesses.now ≡ length counts.old }
+    requires delays { length delays.now ≡ length counts.old }
+    requires fits { (n : ℕ) (d : CoreCount) → n < length counts.old → CoreFits
+        (with_counted (slice_index_or counts.old n d) (slice_index delays.now n) (slice_index_or accesses.now n d)) }
+    ensures { (n : ℕ) (d : CoreCount) → n < length counts.old → slice_index_or counts.new n d
+        ≡ with_counted (slice_index_or counts.old n d) (slice_index delays.now n) (slice_index_or accesses.now n d) }
+{
+    for (n, count) in counts.iter_mut().enumerate() {
+        add_count(count, &accesses[n], delays[n]);
+    }
 }

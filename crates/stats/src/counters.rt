@@ -1,6 +1,6 @@
 //! The counters of a run.
-use crate::comp_counts::add_to_comp_counts;
-use crate::core_counts::add_to_core_counts;
+use crate::comp_counts::{add_counted_comps, add_to_comp_counts};
+use crate::core_counts::{add_counted_cores, add_to_core_counts};
 use crate::{CompCount, CoreCount};
 use component::{Comp, Comps};
 use event_graph::{FiredList, Graph};
@@ -37,6 +37,8 @@ impl Counters {
     ghost use Rattle.machine_desc.specs.Machine.{IsMachine};
     ghost use Rattle.stats.specs.CountsFit.{CountsFit};
     ghost use Rattle.stats.specs.Added.{added, no_counts};
+    ghost use Rattle.stats.specs.Counts.{Interval};
+    ghost use Rattle.stats.specs.KnownCounts.{AreAccessCounts, AreEventCounts};
     ghost use Rattle.stats.specs.TookTheirTime.{TookTheirTime};
 
     /// The counters of this machine, all 0.
@@ -82,6 +84,61 @@ impl Counters {
             comps.as_slice(),
         );
         self.accesses += entries.as_slice().len() as u64;
+        self.events += graph.events().len() as u64;
+    }
+
+    /// Adds an interval of which everything was counted: so many accesses, those of each core, so
+    /// many events, those of each component; with the delays of the cores, and the components after
+    /// it.
+    pub fn add_counts(
+        &mut self,
+        core_counts: &[CoreCount],
+        accesses: u64,
+        delays: &Delays,
+        comp_counts: &[CompCount],
+        events: u64,
+        comps: &Comps<Comp>,
+    )
+        requires cores { length core_counts.now ≡ length self.old.core_counts }
+        requires delays { length delays.now ≡ length self.old.core_counts }
+        requires components { length comp_counts.now ≡ length self.old.comp_counts }
+        requires comps { length comps.now ≡ length self.old.comp_counts }
+        requires fits { (i : Interval) × AreAccessCounts i core_counts.now accesses × (i.delays ≡ delays.now) × AreEventCounts i comp_counts.now events × CountsFit (added self.old i comps.now) }
+        ensures { (i : Interval) → AreAccessCounts i core_counts.now accesses → i.delays ≡ delays.now → AreEventCounts i comp_counts.now events → self.new ≡ added self.old i comps.now }
+    {
+        add_counted_cores(&mut self.core_counts, core_counts, delays.as_slice());
+        add_counted_comps(&mut self.comp_counts, comp_counts, comps.as_slice());
+        self.accesses += accesses;
+        self.events += events;
+    }
+
+    /// Adds an interval whose accesses were counted: how many there were, those of each core, the
+    /// events as the weave fired them, the delays of the cores, and the components after it.
+    pub fn add_events(
+        &mut self,
+        core_counts: &[CoreCount],
+        accesses: u64,
+        graph: &Graph,
+        fired: &FiredList,
+        delays: &Delays,
+        comps: &Comps<Comp>,
+    )
+        requires cores { length core_counts.now ≡ length self.old.core_counts }
+        requires components { All (λ e. e.component < length self.old.comp_counts) graph.now }
+        requires delays { length delays.now ≡ length self.old.core_counts }
+        requires comps { length comps.now ≡ length self.old.comp_counts }
+        requires took { TookTheirTime graph.now fired.now }
+        requires fits { (i : Interval) × AreAccessCounts i core_counts.now accesses × (i.events ≡ graph.now) × (i.fired ≡ fired.now) × (i.delays ≡ delays.now) × CountsFit (added self.old i comps.now) }
+        ensures { (i : Interval) → AreAccessCounts i core_counts.now accesses → i.events ≡ graph.now → i.fired ≡ fired.now → i.delays ≡ delays.now → self.new ≡ added self.old i comps.now }
+    {
+        add_counted_cores(&mut self.core_counts, core_counts, delays.as_slice());
+        add_to_comp_counts(
+            &mut self.comp_counts,
+            graph.events(),
+            fired.as_slice(),
+            comps.as_slice(),
+        );
+        self.accesses += accesses;
         self.events += graph.events().len() as u64;
     }
 
