@@ -15,7 +15,7 @@ use std::alloc::Global;
 use std::marker::Model;
 use zs_num::NoMemory;
 
-/// The words that are decoded at most, over all segments. Each takes 32 bytes.
+/// The words that are decoded at most, over all segments. Each takes 32 bytes, and 16 as a slot.
 const MOST_WORDS: usize = 1 << 20;
 
 /// The bytes of a word.

@@ -11,7 +11,7 @@ use rv_alu::{is_arithmetic, is_branch};
 use rv_core::Fetched;
 use rv_decode::{Inst, Name};
 
-/// The slot of an instruction at a place, where no block goes on behind it.
+/// The slot of an instruction at a place, as a block of its own.
 pub(crate) fn slot_of(inst: &Inst, first: u64, place: usize, count: usize) -> Slot
     requires registers { HasRegisters (Fetched.Instruction inst.now) }
     requires place { place + 1 < count }

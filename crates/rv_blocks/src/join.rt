@@ -9,7 +9,7 @@ use elf_load::Image;
 use rv_alu::is_arithmetic;
 use rv_decode::Name;
 
-/// How many instructions a block has at most. The one behind them is left to the core.
+/// How many instructions a block has at most. The one before them is left to the core.
 const MOST_IN_BLOCK: u16 = 128;
 
 /// Joins slots into blocks, from the last one on.

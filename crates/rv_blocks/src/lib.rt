@@ -1,6 +1,6 @@
 //! A program that is decoded once: its words, and its instructions in a dense form, with a loop over
-//! those that need no memory. That goes by blocks, instructions without a jump, each of which is paid
-//! for at its entry.
+//! those that need no memory. That goes by blocks, of whose instructions only the last may jump, and
+//! each block is paid for at its entry.
 #![tactic(auto)]
 
 mod blocks;

@@ -29,7 +29,7 @@ pub(crate) fn slots_of(
     Ok(slots)
 }
 
-/// Fills the slots, of which none goes on behind another yet. There is room for them.
+/// Fills the slots, each as a block of its own. There is room for them.
 fn fill(slots: &mut Vec<Slot>, image: &Image, first: u64, count: usize)
     requires room { count ≤ vec_capacity slots.old }
     requires empty { slots.old.items ≡ [] }
@@ -59,7 +59,7 @@ fn add(slots: &mut Vec<Slot>, _image: &Image, _first: u64, _count: usize, slot: 
     slots.push_reserved(slot);
 }
 
-/// The slot of the instruction at a place, where no block goes on behind it.
+/// The slot of the instruction at a place, as a block of its own.
 fn slot_at_place(image: &Image, first: u64, place: usize, count: usize) -> Slot
     requires place { place + 1 < count }
     requires memory { first + 4 * count ≤ 2 ^ 48 }

@@ -43,8 +43,8 @@ pub trait Program {
         ensures value { result ≡ fetched_at (image self.now) pc }
         ensures registers { HasRegisters result };
 
-    /// Executes instructions that change registers and pc alone, from the one at `pc` on: as many as
-    /// the program has at hand, `most` at most.
+    /// Executes instructions that change registers and pc alone, from the one at `pc` on: `most` at
+    /// most, or fewer, or none. How many, the program chooses.
     fn run_blocks(&self, registers: &mut [u64; 32], pc: u64, most: u64) -> Ran
         ensures few { result.count ≤ most }
         ensures ran { LeadsTo result.count (image self.now) registers.old pc registers.new result.pc };
