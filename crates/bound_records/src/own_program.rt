@@ -1,7 +1,7 @@
 //! A program as a type of its own.
 ghost use Rattle.std.specs.Prelude.{◌≡◌};
 
-use rv_core::{Fetched, Program};
+use rv_core::{Fetched, Program, Ran};
 use rv_decode::Inst;
 
 /// A program as a type of its own. What is compiled for it is compiled for one loop over
@@ -23,5 +23,10 @@ impl<'a, P: Program> Program for OwnProgram<'a, P> {
     #[inline(always)]
     fn fetch(&self, near: &mut usize, pc: u64) -> Fetched {
         self.program.fetch(near, pc)
+    }
+
+    #[inline(always)]
+    fn run_blocks(&self, registers: &mut [u64; 32], pc: u64, most: u64) -> Ran {
+        self.program.run_blocks(registers, pc, most)
     }
 }

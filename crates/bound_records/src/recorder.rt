@@ -17,7 +17,7 @@ use bound_core::{BESIDE_CYCLES, BoundCore, PartsPort};
 use elf_load::Image;
 use machine_desc::Machine;
 use noc_mesh::Net;
-use rv_core::DecodedProgram;
+use rv_blocks::DecodedProgram;
 use shard::Parts;
 use stats::CoreCount;
 use std::alloc::Global;

@@ -21,7 +21,7 @@ use access_record::{BankLog, RecordLog};
 use bound_core::BoundCore;
 use machine_desc::Machine;
 use noc_mesh::Net;
-use rv_core::DecodedProgram;
+use rv_blocks::DecodedProgram;
 use stats::CoreCount;
 use std::alloc::Global;
 use std::mem;

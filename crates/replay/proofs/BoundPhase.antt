@@ -3,7 +3,6 @@ use Rattle.std.proofs.Common.{◌≡◌, ℕ, ◌^◌, ◌<◌, ◌≤◌, List,
 use Rattle.std.specs.Prelude.{replicate}
 use Rattle.std.proofs.lemmas.List.{length-map, length-replicate}
 use Rattle.std.proofs.lemmas.List.Elements.{All-map}
-use Rattle.std.proofs.lemmas.Option.{slice_get_within}
 use Rattle.zs_num.specs.declared.entry.Entry.{Entry}
 use Rattle.elf_load.specs.MemoryImage.{MemoryImage}
 use Rattle.machine_desc.specs.declared.machine.Machine.{Machine}
@@ -18,16 +17,15 @@ use Rattle.bound_core.specs.ReferenceMachine.{BoundState, bound_phase}
 use Rattle.bound_core.specs.ShardWorld.{ShardWorld, begun_world, restarted, shards_serve}
 use Rattle.bound_core.specs.NumberedCores.{NumberedCore, timed_of}
 use Rattle.bound_core.specs.Turn.{IsOver}
-use Rattle.bound_core.proofs.Reaching.{whole_phase}
 use Rattle.bound_phase.proofs.RecordedOrder.{all_recorded, length_recorded}
 use Rattle.replay.specs.declared.memory.Memory.{Memory}
 use Rattle.replay.specs.declared.memory.Memory.TheVariants as memory
 use Rattle.replay.specs.declared.simulation.Simulation.{Simulation}
-use Rattle.replay.specs.Memory.{IsForCores, shards_in}
-use Rattle.replay.specs.Port.{LoggedPortState}
+use Rattle.replay.specs.Memory.{IsForMachine, shards_in}
+use Rattle.bound_records.specs.Port.{LoggedPortState}
 use Rattle.replay.specs.ReferenceRun.{access_room, time_of}
-use Rattle.replay.specs.Simulation.{AreNumbered, HaveRunThroughPort, IsBoundPhase, cores_of, phase_of}
-use Rattle.replay.proofs.Cores.{all_timed}
+use Rattle.bound_records.specs.CoreRuns.{AreNumbered, phase_of}
+use Rattle.replay.specs.Simulation.{IsBoundPhase, cores_of}
 use Rattle.replay.proofs.NextInterval.{each_many}
 use Rattle.replay.proofs.RecordedOrder.{recorded_again}
 
@@ -40,13 +38,13 @@ pub record OrderLaws (time : Entry → ℕ) (image : MemoryImage) (end : ℕ) : 
   pub keep : RecordedOrderKeepsTheStamps
   pub decide : CoresDecideTheOrder
 
--- one worker's port, made ready for its first access
-pub begun_alone : (cores : ℕ) (m : Memory) (port begun : LoggedPortState) → m ≡ memory.Alone port → IsForCores cores m
-    → begun.world ≡ begun_world (length port.world.stamps) (map restarted port.world.shards) → begun.world ≡ begun_world cores (map restarted (shards_in m))
-begun_alone cores m port begun is for_cores begins =
+-- a port that is made ready for its first access
+pub begun_port : (machine : Machine) (m : Memory) (port begun : LoggedPortState) → m ≡ memory.Logged port → IsForMachine machine m
+    → begun.world ≡ begun_world (length port.world.stamps) (map restarted port.world.shards) → begun.world ≡ begun_world machine.cores (map restarted (shards_in m))
+begun_port machine m port begun is for_machine begins =
     begins
-    ∙ (ap (λ (n : ℕ). begun_world n (map restarted port.world.shards)) (subst (IsForCores cores) is for_cores)
-    ∙ ap (λ (x : Memory). begun_world cores (map restarted (shards_in x))) (sym is))
+    ∙ (ap (λ (n : ℕ). begun_world n (map restarted port.world.shards)) (subst (IsForMachine machine) is for_machine)
+    ∙ ap (λ (x : Memory). begun_world machine.cores (map restarted (shards_in x))) (sym is))
 
 -- the bound phase begins, with a port that is ready for its first access
 pub from_start : (cores : List NumberedCore) (was : List ShardState) (port : LoggedPortState) (count : ℕ) → port.world ≡ begun_world count (map restarted was) → port.entries ≡ [] → length cores ≡ count
@@ -95,7 +93,7 @@ module _ (machine : Machine) (image : MemoryImage) (end : ℕ) (cores after : Li
   pub bounded : All (λ e. e.start ≤ 2 ^ 34) last.entries → length last.entries ≤ access_room machine → All (λ c. c.clock ≤ 2 ^ 57) (timed_of after)
       → length after ≡ machine.cores → AreNumbered after → All (IsOver end) (timed_of after)
       → (p q : Simulation) → p.cores.items ≡ cores → shards_in p.memory ≡ was → q.cores.items ≡ after
-      → (port : LoggedPortState) → q.memory ≡ memory.Alone port → port.world ≡ last.world
+      → (port : LoggedPortState) → q.memory ≡ memory.Logged port → port.world ≡ last.world
       → (entries : List Entry) → entries ≡ recorded_order last.entries → IsBoundPhase machine image end p turns q entries
   bounded starts few clocks all_after numbered over p q cores_are shards_are after_are port memory_is world_is entries sorted =
       let taken : List Entry = last.entries in
@@ -114,7 +112,7 @@ module _ (machine : Machine) (image : MemoryImage) (end : ℕ) (cores after : Li
         count = ap length after_are ∙ all_after;
         numbered = subst AreNumbered (sym after_are) numbered;
         over = subst (λ (cs : List NumberedCore). All (IsOver end) (timed_of cs)) (sym after_are) over;
-        stamps = subst (IsForCores machine.cores) (sym memory_is) (ap (λ (w : ShardWorld). length w.stamps) world_is ∙ stamps_many);
+        stamps = subst (IsForMachine machine) (sym memory_is) (ap (λ (w : ShardWorld). length w.stamps) world_is ∙ stamps_many);
       }
 
 -- the turns in recorded order lead there too
@@ -150,20 +148,3 @@ in_recorded_order machine image end p q turns entries some laws b =
       over = b.over;
       stamps = b.stamps;
     }
-
--- ---- cores that ran one after the other
-
-module _ (machine : Machine) (image : MemoryImage) (end : ℕ) (cores after : List NumberedCore) (port last : LoggedPortState) (count : length cores ≡ machine.cores) (h : HaveRunThroughPort machine image end machine.cores cores after port last) where
-  pub all_after : length after ≡ machine.cores
-  all_after = h.count ∙ count
-
-  pub all_over : All (IsOver end) (timed_of after)
-  all_over = all_timed (IsOver end) after (λ i c here. h.over i c (omega (arith, slice_get_within after i c here, all_after)) here)
-
-  pub all_clocks : All (λ c. c.clock ≤ 2 ^ 57) (timed_of after)
-  all_clocks = all_timed (λ c. c.clock ≤ 2 ^ 57) after (λ i c here. h.clocks i c (omega (arith, slice_get_within after i c here, all_after)) here)
-
-  pub ran_phase : (s : BoundState ShardWorld) → phase_of cores port ≡ s → bound_phase shards_serve (time_of machine) image end (map (λ e. e.core) last.entries) s ≡ Ok (phase_of after last)
-  ran_phase s begins =
-      ap (bound_phase shards_serve (time_of machine) image end (map (λ (e : Entry). e.core) last.entries)) (sym begins)
-      ∙ whole_phase shards_serve (time_of machine) image end (phase_of cores port) (phase_of after last) (map (λ (e : Entry). e.core) last.entries) h.reaches all_over

@@ -19,9 +19,10 @@ use Rattle.bound_phase.specs.Bounds.{CanBound, FetchesIn, HaveEndedInterval, IsB
 use Rattle.bound_phase.proofs.Ending.{all_at}
 use Rattle.bound_phase.proofs.Whole.{agreed_at}
 use Rattle.replay.specs.declared.simulation.Simulation.{Simulation}
-use Rattle.replay.specs.Memory.{IsForCores, shards_in}
+use Rattle.replay.specs.Memory.{IsForMachine, shards_in}
 use Rattle.replay.specs.ReferenceRun.{time_of}
-use Rattle.replay.specs.Simulation.{AreNumbered, CanRunInterval, HasRoomForInterval, IsBoundPhase, cores_of}
+use Rattle.bound_records.specs.CoreRuns.{AreNumbered, CanRunInterval}
+use Rattle.replay.specs.Simulation.{HasRoomForInterval, IsBoundPhase, cores_of}
 use Rattle.replay.proofs.Cores.{all_timed}
 
 is_none : (halted : Option Why) → IsNone halted → halted ≡ None
@@ -90,7 +91,7 @@ module _ (machine : Machine) (end : ℕ) (p : Simulation) (room : HasRoomForInte
         subst (λ (n : ℕ). All (λ (e : Entry). e.core < n) entries) (length-map p.cores.items (λ (c : NumberedCore). c.timed) ∙ room.count) bound.history.known
 
     pub bounded : HistoriesArePhases (time_of machine) image end → HaveEndedInterval machine end p.cores.items cores entries → end ≤ 10 * 2 ^ 30
-        → (q : Simulation) → q.cores.items ≡ cores → shards_in q.memory ≡ shards → IsForCores machine.cores q.memory
+        → (q : Simulation) → q.cores.items ≡ cores → shards_in q.memory ≡ shards → IsForMachine machine q.memory
         → IsBoundPhase machine image end p (map (λ e. e.core) entries) q entries
     bounded phases ended small q cores_now shards_now for_cores = record {
       left = left;

@@ -14,7 +14,7 @@ use Rattle.bound_core.specs.NumberedCores.{NumberedCore, timed_of}
 use Rattle.bound_core.specs.Turn.{IsOver}
 use Rattle.replay.specs.Limits.{cycle_limit}
 use Rattle.replay.specs.ReferenceRun.{all_delayed}
-use Rattle.replay.specs.Simulation.{AreNumbered}
+use Rattle.bound_records.specs.CoreRuns.{AreNumbered}
 
 pub get_mapped : {A B : Type 0} (f : A → B) (xs : List A) (i : ℕ) (x : A) → slice_get xs i ≡ Some x → slice_get (map f xs) i ≡ Some (f x)
 get_mapped f xs i x here = slice_get-map f xs i ∙ ap (option_map f) here

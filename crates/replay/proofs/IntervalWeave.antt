@@ -24,7 +24,7 @@ use Rattle.noc_mesh.specs.Laws.{NetAccessesHaveFewEvents, NetGraphsFit}
 use Rattle.noc_mesh.specs.NetTiming.{net_pieces}
 use Rattle.feedback.specs.FeedbackDelay.{feedback_delays}
 use Rattle.stats.specs.Counts.{Interval}
-use Rattle.replay.specs.IntervalWeave.{IsNetOf}
+use Rattle.bound_records.specs.CoreRuns.{IsNetOf}
 use Rattle.replay.specs.ReferenceRun.{woven_interval}
 
 -- an earliest start that is below one bound is below a later one

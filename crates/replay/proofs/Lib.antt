@@ -1,7 +1,9 @@
+pub mod AloneFacts
 pub mod BoundPhase
 pub mod ByWorkers
 pub mod Cores
 pub mod FiredInterval
+pub mod GoneOn
 pub mod HandedOn
 pub mod IntervalWeave
 pub mod LegalSchedules
@@ -12,10 +14,14 @@ pub mod PortTurns
 pub mod RecordedOrder
 pub mod Rising
 pub mod Recordings
-pub mod RunCores
 pub mod RunEnds
 pub mod RunEventsFile
 pub mod RunSoFar
 pub mod Room
+pub mod RecordedChains
+pub mod RecordedPhase
+pub mod RecordedWeave
+pub mod SetElements
+pub mod SoundWeave
 pub mod TakingTurns
 pub mod TurnsBegin

@@ -45,9 +45,10 @@ use Rattle.access_log.specs.RecordedOrder.{no_stamps, recorded_order}
 use Rattle.replay.specs.Limits.{access_limit, cycle_limit}
 use Rattle.replay.specs.declared.memory.Memory.{Memory}
 use Rattle.replay.specs.declared.simulation.Simulation.{Simulation}
-use Rattle.replay.specs.Memory.{IsForCores, shards_in}
+use Rattle.replay.specs.Memory.{IsForMachine, shards_in}
 use Rattle.replay.specs.ReferenceRun.{RunState, access_room, after_interval, after_weave, all_delayed, at_limit, begun_interval, end_of, first_state, has_ended, have_halted, recorded_turns, time_of, world_of, woven_after, woven_interval}
-use Rattle.replay.specs.Simulation.{AreNumbered, CanRunInterval, HasNextInterval, HasRoomForInterval, IsBoundPhase, IsCounted, LeadsTo, StandsFor, begun_shards, cores_of}
+use Rattle.bound_records.specs.CoreRuns.{AreNumbered, CanRunInterval}
+use Rattle.replay.specs.Simulation.{HasNextInterval, HasRoomForInterval, IsBoundPhase, IsCounted, LeadsTo, StandsFor, begun_shards, cores_of}
 use Rattle.bound_core.proofs.ShardPorts.{shards_restarted}
 use Rattle.bound_core.proofs.ShardsStay.{shards_after, whatever_stamps}
 use Rattle.replay.proofs.Cores.{delayed_many, delayed_over, delayed_same, each_timed}
@@ -404,7 +405,7 @@ module _ (machine : Machine) (ok : IsMachine machine) (image : MemoryImage) (end
           cores = ap (all_delayed i.delays) cores_are ∙ sym cores;
           count = later_many;
           numbered = numbered;
-          stamps = subst (IsForCores machine.cores) (sym memory) b.stamps;
+          stamps = subst (IsForMachine machine) (sym memory) b.stamps;
           banks = ap (λ (m : Memory). length (shards_in m)) memory ∙ shards_many;
           placed = subst (λ (m : Memory). AreShardsOf machine.cores (shards_in m) machine.memory.base machine.memory.size) (sym memory) shards_placed;
           stand = subst (λ (m : Memory). StandForMachine next.cores (begun_world machine.cores (map restarted (shards_in m))) (world_of machine next)) (sym memory) stands_next;

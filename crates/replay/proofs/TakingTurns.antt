@@ -22,12 +22,12 @@ use Rattle.bound_core.proofs.Accesses.{clock_within}
 use Rattle.bound_core.proofs.Instructions.{late_stops, ran_stays}
 use Rattle.bound_core.proofs.Lists.{get_set}
 use Rattle.bound_core.proofs.Reaching.{by_itself, by_turn}
-use Rattle.replay.specs.Port.{LoggedPortState, gives}
-use Rattle.replay.specs.Simulation.{AreNumbered, phase_of}
+use Rattle.bound_records.specs.Port.{LoggedPortState, gives}
+use Rattle.bound_records.specs.CoreRuns.{AreNumbered, phase_of}
 use Rattle.replay.specs.Turns.{HaveTaken, IsOnItsWay, TakesAccess, TakesNone}
 use Rattle.replay.proofs.Cores.{get_mapped}
 use Rattle.replay.proofs.PortTurns.{answers, served_stamps, world}
-use Rattle.replay.proofs.RunCores.{get_other, set_cases}
+use Rattle.replay.proofs.SetElements.{get_other, set_cases}
 
 -- ---- a core that is over
 

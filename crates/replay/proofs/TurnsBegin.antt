@@ -17,9 +17,9 @@ use Rattle.bound_core.specs.NumberedCores.{NumberedCore}
 use Rattle.bound_core.specs.IntervalBounds.{latest_clock, most_accesses}
 use Rattle.bound_core.specs.Turn.{IsOver}
 use Rattle.bound_core.proofs.Reaching.{at_itself}
-use Rattle.replay.specs.Port.{LoggedPortState}
+use Rattle.bound_records.specs.Port.{LoggedPortState}
 use Rattle.replay.specs.ReferenceRun.{access_room}
-use Rattle.replay.specs.Simulation.{AreNumbered, CanRunInterval, phase_of}
+use Rattle.bound_records.specs.CoreRuns.{AreNumbered, CanRunInterval, phase_of}
 use Rattle.replay.specs.Turns.{HaveTaken, IsOnItsWay}
 use Rattle.replay.proofs.PortTurns.{latest_idle}
 

@@ -4,8 +4,9 @@ use Rattle.std.specs.List.{All}
 use Rattle.zs_num.specs.declared.entry.Entry.{Entry}
 use Rattle.machine_desc.specs.declared.machine.Machine.{Machine}
 use Rattle.machine_desc.specs.Components.{component_count}
+use Rattle.machine_desc.specs.Machine.{IsMachine}
 use Rattle.component.specs.declared.comp.Comp.{Comp}
-use Rattle.component.specs.ComponentStep.{comp_step}
+use Rattle.component.specs.ComponentStep.{comp_step, free_of}
 use Rattle.component.specs.Greatest.{comp_greatest}
 use Rattle.component.specs.Serving.{comp_latency, comp_serves}
 use Rattle.component.specs.Components.{AreComponents}
@@ -21,12 +22,9 @@ use Rattle.event_graph.specs.SmallSteps.{AreSmallSteps}
 use Rattle.noc_mesh.specs.NetTiming.{net_pieces}
 use Rattle.event_graph.specs.Timely.{AreTimely}
 use Rattle.stats.specs.Counts.{Interval}
+use Rattle.bound_records.specs.CoreRuns.{IsNetOf}
 use Rattle.replay.specs.declared.weaving.WovenInterval.{WovenInterval}
 use Rattle.replay.specs.ReferenceRun.{woven_interval}
-
--- the expansion of this machine
-abbrev pub IsNetOf : Machine → Net → Type 0
-IsNetOf machine net = net.path ≡ path_of machine
 
 -- the events of these accesses, and what the weave asks of them
 pub record AreEventsOf (machine : Machine) (comps : List Comp) (entries : List Entry) (graph : List Event) : Type 0 where
@@ -56,3 +54,20 @@ pub record IsWeaveOf (machine : Machine) (comps : List Comp) (entries : List Ent
   pub delays_small : All (λ d. d ≤ 2 ^ 62) w.delays
   pub there : All (λ e. e.component < component_count machine) w.graph
   pub few : length w.graph ≤ 60 * length entries
+
+-- what holds of the weave of these accesses on these components
+pub record IsSoundWeave (machine : Machine) (comps : List Comp) (entries : List Entry) (i : Interval) : Type 0 where
+  pub events : AreEventsOf machine comps entries i.events
+  pub timely : AreTimely i.events i.fired
+  pub delays : length i.delays ≡ machine.cores
+  pub delays_small : All (λ d. d ≤ 2 ^ 62) i.delays
+  pub there : All (λ e. e.component < component_count machine) i.events
+  pub stay : AreComponents machine (comps_after comp_step i.events comps)
+
+-- Accesses of a machine's cores, which start by cycle 2^34 and of which there are few, can be woven on its components
+-- where these are free by cycle 2^56.
+abbrev pub IntervalsAreWoven : Type 0
+IntervalsAreWoven = (machine : Machine) (net : Net) (comps : List Comp) (entries : List Entry) → IsMachine machine → IsNetOf machine net
+    → AreComponents machine comps → All (λ c. free_of c ≤ 2 ^ 56) comps
+    → All (λ e. e.core < machine.cores) entries → All (λ e. e.start ≤ 2 ^ 34) entries → length entries ≤ 2 ^ 22
+    → IsSoundWeave machine comps entries (woven_interval machine comps entries)

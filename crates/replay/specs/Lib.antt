@@ -7,6 +7,7 @@ pub mod Replay
 pub mod IntervalWeave
 pub mod RunEvents
 pub mod Recording
+pub mod Records
 pub mod Simulation
 pub mod Turns
 pub mod Laws

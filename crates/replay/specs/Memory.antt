@@ -1,20 +1,32 @@
--- Where a run keeps caches and memory: with a port that one worker has, or as shards at which several take turns.
-use Rattle.std.specs.Prelude.{◌≡◌, ℕ, Bool, true, false, List, length}
+-- Where a run keeps caches and memory: with what one worker keeps of an interval's accesses, with a port through which
+-- the turns of a list are taken, or as shards at which several workers take turns.
+use Rattle.std.specs.Prelude.{◌≡◌, Bool, true, false, List, length}
+use Rattle.machine_desc.specs.declared.machine.Machine.{Machine}
 use Rattle.shard.specs.Served.{ShardState}
+use Rattle.bound_records.specs.Recorders.{IsRecorderFor}
 use Rattle.replay.specs.declared.memory.Memory.{Memory}
 use Rattle.replay.specs.declared.memory.Memory.TheVariants as memory
 
 -- the shards of the machine, in order of their numbers
 abbrev pub shards_in : Memory → List ShardState
-shards_in (memory.Alone port) = port.world.shards
+shards_in (memory.Alone recorder) = recorder.world.shards
+shards_in (memory.Logged port) = port.world.shards
 shards_in (memory.Shared shards) = shards.items
 
 -- whether one worker has them alone
 abbrev pub is_alone : Memory → Bool
-is_alone (memory.Alone port) = true
+is_alone (memory.Alone recorder) = true
+is_alone (memory.Logged port) = false
 is_alone (memory.Shared shards) = false
 
--- if there is a port, then it is one for so many cores
-abbrev pub IsForCores : (cores : ℕ) → Memory → Type 0
-IsForCores cores (memory.Alone port) = length port.world.stamps ≡ cores
-IsForCores cores (memory.Shared shards) = Unit {0}
+-- whether turns are taken through a port
+abbrev pub is_logged : Memory → Bool
+is_logged (memory.Alone recorder) = false
+is_logged (memory.Logged port) = true
+is_logged (memory.Shared shards) = false
+
+-- what one worker has is for the machine's cores, and for its memory
+abbrev pub IsForMachine : Machine → Memory → Type 0
+IsForMachine machine (memory.Alone recorder) = IsRecorderFor machine recorder
+IsForMachine machine (memory.Logged port) = length port.world.stamps ≡ machine.cores
+IsForMachine machine (memory.Shared shards) = Unit {0}

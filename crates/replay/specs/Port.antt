@@ -1,22 +1,7 @@
--- What a port to the shards that logs its accesses is seen as.
+-- What a port to the shards that logs its accesses knows of them.
 use Rattle.std.specs.Prelude.{◌≡◌, ℕ, Bool, true, List}
 use Rattle.zs_num.specs.declared.entry.Entry.{Entry}
-use Rattle.zs_num.specs.declared.request.Request.{Request}
 use Rattle.access_log.specs.History.{AreRising, latest_of}
-use Rattle.bound_core.specs.ShardWorld.{ShardWorld, shards_serve}
-
-pub record LoggedPortState : Type 0 where
-  pub world : ShardWorld
-  -- the core whose accesses follow
-  pub core : ℕ
-  -- the accesses so far
-  pub entries : List Entry
-  -- for how many more there is room
-  pub room : ℕ
-
--- what comes of a request of the chosen core: the shard of its line serves it
-abbrev pub gives : LoggedPortState → (start : ℕ) → Request → Entry → LoggedPortState → Type 0
-gives p start request e q = (e, q.world) ≡ shards_serve p.world p.core start request
 
 -- what it knows of the accesses so far: the latest stamp, and whether all stamps have risen
 pub record KnowsItsOrder (last : ℕ) (rises : Bool) (entries : List Entry) : Type 0 where

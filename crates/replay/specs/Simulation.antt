@@ -1,6 +1,6 @@
 -- A run between two intervals as the code keeps it: its shards stand for memory and the caches, and its counts for the
 -- intervals, which it does not keep.
-use Rattle.std.specs.Prelude.{◌≡◌, ℕ, ◌+◌, ◌-◌, ◌*◌, ◌^◌, ◌<◌, ◌≤◌, min, Bool, false, IsTrue, List, [], ◌∷◌, ◌++◌, length, map, slice_get, Some, None, Ok, All}
+use Rattle.std.specs.Prelude.{◌≡◌, ℕ, ◌+◌, ◌*◌, ◌^◌, ◌<◌, ◌≤◌, false, List, [], ◌∷◌, ◌++◌, length, map, slice_get, Some, Ok, All}
 use Rattle.zs_num.specs.declared.entry.Entry.{Entry}
 use Rattle.elf_load.specs.MemoryImage.{MemoryImage}
 use Rattle.machine_desc.specs.declared.machine.Machine.{Machine}
@@ -12,21 +12,24 @@ use Rattle.event_graph.specs.declared.event.Event.{Event}
 use Rattle.event_graph.specs.declared.fired.Fired.{Fired}
 use Rattle.bound_core.specs.History.{begun_over_shards}
 use Rattle.bound_core.specs.MachineOfShards.{StandForMachine}
-use Rattle.bound_core.specs.Laws.{moved}
-use Rattle.bound_core.specs.Reaching.{Reaches}
 use Rattle.bound_core.specs.ReferenceMachine.{BoundState, bound_phase}
-use Rattle.bound_core.specs.ShardPort.{AreShardsOf, base_of, l1i_of, room_of, size_of}
+use Rattle.bound_core.specs.ShardPort.{AreShardsOf, base_of, l1i_of, size_of}
 use Rattle.bound_core.specs.ShardWorld.{ShardWorld, begun_world, restarted, shards_serve}
-use Rattle.bound_core.specs.TimedCore.{TimedCore, beside_cycles}
+use Rattle.bound_core.specs.TimedCore.{TimedCore}
 use Rattle.bound_core.specs.NumberedCores.{NumberedCore, timed_of}
 use Rattle.bound_core.specs.Turn.{IsOver}
 use Rattle.access_log.specs.RecordedOrder.{recorded_order}
 use Rattle.stats.specs.Counts.{counts_of, total_accesses, total_events}
 use Rattle.stats.specs.Laws.{WasRun}
+use Rattle.bound_records.specs.CoreRuns.{AreNumbered, CanRunInterval}
+use Rattle.bound_records.specs.Recorders.{RecorderState}
+use Rattle.replay.specs.declared.memory.Memory.TheVariants as memory
+use Rattle.replay.specs.declared.recording.Recording.{Recording}
 use Rattle.replay.specs.declared.simulation.Simulation.{Simulation}
 use Rattle.replay.specs.IntervalWeave.{HaveFired}
-use Rattle.replay.specs.Memory.{IsForCores, shards_in}
-use Rattle.replay.specs.Port.{LoggedPortState}
+use Rattle.replay.specs.Records.{IsRecorded, accesses_in}
+use Rattle.replay.specs.Recording.{IsRecordingOf}
+use Rattle.replay.specs.Memory.{IsForMachine, shards_in}
 use Rattle.replay.specs.ReferenceRun.{RunState, access_room, after_interval, end_of, first_state, has_ended, recorded_turns, time_of, world_of, woven_interval}
 
 -- ---- cores and shards
@@ -34,10 +37,6 @@ use Rattle.replay.specs.ReferenceRun.{RunState, access_room, after_interval, end
 -- the cores of a run in time
 abbrev pub cores_of : Simulation → List TimedCore
 cores_of p = timed_of p.cores.items
-
--- each has the number of its place
-abbrev pub AreNumbered : List NumberedCore → Type 0
-AreNumbered cores = (i : ℕ) (c : NumberedCore) → slice_get cores i ≡ Some c → c.number ≡ i
 
 -- the shards before the first access of an interval
 abbrev pub begun_shards : Machine → Simulation → ShardWorld
@@ -58,7 +57,7 @@ pub record StandsFor (machine : Machine) (s : RunState) (p : Simulation) : Type 
   pub cores : s.cores ≡ cores_of p
   pub count : length s.cores ≡ machine.cores
   pub numbered : AreNumbered p.cores.items
-  pub stamps : IsForCores machine.cores p.memory
+  pub stamps : IsForMachine machine p.memory
   pub banks : length (shards_in p.memory) ≡ machine.l2.banks
   pub placed : AreShardsOf machine.cores (shards_in p.memory) machine.memory.base machine.memory.size
   pub stand : StandForMachine s.cores (begun_shards machine p) (world_of machine s)
@@ -79,67 +78,12 @@ pub record HasNextInterval (machine : Machine) (end : ℕ) (s : RunState) (p : S
 
 -- ---- an interval
 
--- What the bound phase asks of a core, with this memory, and with instruction caches or none: a core that is not halted
--- has come to the end of the last interval.
-pub record CanRunInterval (machine : Machine) (end base size : ℕ) (l1i : Bool) (c : TimedCore) : Type 0 where
-  pub idle : c.core.instruction ≡ None
-  pub unfetched : c.core.is_fetched ≡ false
-  pub clock : c.clock ≤ 2 ^ 56
-  pub left : c.core.halted ≡ None → end - c.clock ≤ machine.interval
-  pub base_is : c.core.memory.base ≡ base
-  pub size_is : c.core.memory.size ≡ size
-  pub fetches : IsTrue c.core.fetching → IsTrue l1i
-
--- a bound phase on its way, with these cores and this port
-abbrev pub phase_of : List NumberedCore → LoggedPortState → BoundState ShardWorld
-phase_of cores port = record { cores = timed_of cores; world = port.world; entries = port.entries }
-
--- how many accesses a core has in an interval at most
-abbrev pub core_room : Machine → ℕ
-core_room machine = machine.interval + beside_cycles
-
--- The turns of a core through a port, up to the end of the interval: wherever a bound phase has come to, they lead it
--- on.
-pub record HasRunThroughPort (machine : Machine) (image : MemoryImage) (end : ℕ) (core core_after : NumberedCore) (port port_after : LoggedPortState) : Type 0 where
-  -- those of the turns
-  pub entries : List Entry
-  pub gained : port_after.entries ≡ port.entries ++ entries
-  pub leads : (s t : BoundState ShardWorld) (numbers : List ℕ) → Reaches shards_serve (time_of machine) image end s numbers t
-      → slice_get t.cores core.number ≡ Some core.timed → t.world ≡ port.world
-      → Reaches shards_serve (time_of machine) image end s (numbers ++ map (λ e. e.core) entries) (moved t core.number core_after.timed port_after.world entries)
-  pub starts : All (λ e. e.start ≤ 2 ^ 34) entries
-  pub few : length entries ≤ core_room machine
-  pub over : IsOver end core_after.timed
-  pub clock : core_after.timed.clock ≤ 2 ^ 57
-  pub number : core_after.number ≡ core.number
-  pub base : base_of port_after.world ≡ base_of port.world
-  pub size : size_of port_after.world ≡ size_of port.world
-  pub l1i : l1i_of port_after.world ≡ l1i_of port.world
-  pub stamps : length port_after.world.stamps ≡ length port.world.stamps
-  pub room : min (room_of port.world) port.room ≤ min (room_of port_after.world) port_after.room + core_room machine
-
--- So many of the cores ran to the end of the interval, one after the other, through a port without an access.
-pub record HaveRunThroughPort (machine : Machine) (image : MemoryImage) (end ran : ℕ) (cores cores_after : List NumberedCore) (port port_after : LoggedPortState) : Type 0 where
-  pub reaches : Reaches shards_serve (time_of machine) image end (phase_of cores port) (map (λ e. e.core) port_after.entries) (phase_of cores_after port_after)
-  pub starts : All (λ e. e.start ≤ 2 ^ 34) port_after.entries
-  pub few : length port_after.entries ≤ ran * core_room machine
-  pub count : length cores_after ≡ length cores
-  pub numbered : AreNumbered cores_after
-  pub over : (i : ℕ) (c : NumberedCore) → i < ran → slice_get cores_after i ≡ Some c → IsOver end c.timed
-  pub clocks : (i : ℕ) (c : NumberedCore) → i < ran → slice_get cores_after i ≡ Some c → c.timed.clock ≤ 2 ^ 57
-  pub rest : (i : ℕ) → ran ≤ i → slice_get cores_after i ≡ slice_get cores i
-  pub base : base_of port_after.world ≡ base_of port.world
-  pub size : size_of port_after.world ≡ size_of port.world
-  pub l1i : l1i_of port_after.world ≡ l1i_of port.world
-  pub stamps : length port_after.world.stamps ≡ length port.world.stamps
-  pub room : min (room_of port.world) port.room ≤ min (room_of port_after.world) port_after.room + ran * core_room machine
-
 -- what an interval asks of the numbers of a run that goes on
 pub record HasRoomForInterval (machine : Machine) (end : ℕ) (p : Simulation) : Type 0 where
   pub ready : (i : ℕ) (c : NumberedCore) → slice_get p.cores.items i ≡ Some c → CanRunInterval machine end (base_of (begun_shards machine p)) (size_of (begun_shards machine p)) (l1i_of (begun_shards machine p)) c.timed
   pub count : length p.cores.items ≡ machine.cores
   pub numbered : AreNumbered p.cores.items
-  pub stamps : IsForCores machine.cores p.memory
+  pub stamps : IsForMachine machine p.memory
   pub shards : AreShardsOf machine.cores (shards_in p.memory) machine.memory.base machine.memory.size
   pub banks : length (shards_in p.memory) ≡ machine.l2.banks
   pub free : All (λ c. free_of c ≤ 2 ^ 56) p.comps
@@ -163,7 +107,7 @@ pub record IsBoundPhase (machine : Machine) (image : MemoryImage) (end : ℕ) (b
   pub count : length after.cores.items ≡ machine.cores
   pub numbered : AreNumbered after.cores.items
   pub over : All (IsOver end) (cores_of after)
-  pub stamps : IsForCores machine.cores after.memory
+  pub stamps : IsForMachine machine after.memory
 
 -- The run has the bound phase of its next interval behind it, under these turns and with these entries. No event has
 -- fired, and nothing is counted.
@@ -185,6 +129,16 @@ pub record HasFired (machine : Machine) (image : MemoryImage) (s : RunState) (tu
   pub woven : HaveFired machine before.comps entries graph fired p.comps
   pub counters : p.counters ≡ before.counters
 
+-- The run has the bound phase of its next interval behind it, by one worker, who has recorded it: its turns are those of
+-- the accesses in recorded order.
+pub record HasRecorded (machine : Machine) (image : MemoryImage) (end : ℕ) (before after : Simulation) : Type 0 where
+  pub recorder : RecorderState
+  pub alone : after.memory ≡ memory.Alone recorder
+  pub bounded : IsBoundPhase machine image end before (map (λ e. e.core) (accesses_in recorder)) after (accesses_in recorder)
+  pub recorded : IsRecorded machine recorder
+  pub comps : after.comps ≡ before.comps
+  pub counters : after.counters ≡ before.counters
+
 -- an interval under these turns leads on from there
 pub record LeadsTo (machine : Machine) (image : MemoryImage) (s : RunState) (turns : List ℕ) (p : Simulation) : Type 0 where
   pub state : RunState
@@ -196,3 +150,9 @@ pub record LeadsTo (machine : Machine) (image : MemoryImage) (s : RunState) (tur
   -- the interval is the weave of these
   pub gained : state.intervals ≡ s.intervals ++ woven_interval machine s.comps entries ∷ []
   pub come : StandsFor machine state p
+
+-- The run is an interval further, under the turns of its accesses in recorded order, and so is its recording.
+pub record HasGoneOn (machine : Machine) (image : MemoryImage) (s : RunState) (turns : List ℕ) (recording later : Recording) (p : Simulation) : Type 0 where
+  pub leads : LeadsTo machine image s turns p
+  pub in_order : turns ≡ map (λ e. e.core) leads.entries
+  pub recorded : IsRecordingOf machine s.intervals recording → IsRecordingOf machine leads.state.intervals later

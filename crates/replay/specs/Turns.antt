@@ -12,9 +12,9 @@ use Rattle.bound_core.specs.ShardWorld.{ShardWorld, shards_serve}
 use Rattle.bound_core.specs.NumberedCores.{NumberedCore, timed_of}
 use Rattle.bound_core.specs.IntervalBounds.{latest_clock, most_accesses}
 use Rattle.bound_core.specs.Turn.{EndsInterval, IsOver, TakesTurn}
-use Rattle.replay.specs.Port.{LoggedPortState, gives}
+use Rattle.bound_records.specs.Port.{LoggedPortState, gives}
 use Rattle.replay.specs.ReferenceRun.{access_room, time_of}
-use Rattle.replay.specs.Simulation.{AreNumbered, phase_of}
+use Rattle.bound_records.specs.CoreRuns.{AreNumbered, phase_of}
 
 -- the time of an access by an expansion
 abbrev pub time_by_net : Net → Entry → ℕ

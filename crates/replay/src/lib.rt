@@ -3,15 +3,16 @@
 //! of a schedule, weaves each interval's events on one list, and delays the cores.
 #![tactic(auto)]
 
+mod alone;
 mod firing;
-mod gated_port;
+mod first_passes;
 pub mod laws;
 mod limits;
 mod list_gate;
 mod logged_port;
 mod memory;
-mod own_program;
 mod recording;
+mod records;
 mod replay_fail;
 mod replaying;
 mod results;

@@ -7,7 +7,7 @@ ghost use Rattle.access_log.specs.Logs.{HaveDistinctKeys};
 ghost use Rattle.access_log.specs.RecordedOrder.{recorded_order};
 ghost use Rattle.bound_core.specs.ShardPort.{base_of, l1i_of, room_of, size_of};
 ghost use Rattle.bound_core.specs.ShardWorld.{begun_world, restarted};
-ghost use Rattle.replay.specs.Port.{gives};
+ghost use Rattle.bound_records.specs.Port.{gives};
 
 use access_log::sort;
 use bound_core::{PartsPort, Port};
@@ -33,7 +33,8 @@ pub struct LoggedPort {
 
 impl Model for LoggedPort {
     ghost use Rattle.std.specs.Prelude.{◌-◌, vec_len, vec_capacity};
-    ghost use Rattle.replay.specs.Port.{KnowsItsOrder, LoggedPortState};
+    ghost use Rattle.bound_records.specs.Port.{LoggedPortState};
+    ghost use Rattle.replay.specs.Port.{KnowsItsOrder};
 
     ghost Value = { LoggedPortState };
 

@@ -1,10 +1,11 @@
 //! Where a run keeps caches and memory.
-ghost use Rattle.std.specs.Prelude.{◌≡◌, map, true, IfOk};
+ghost use Rattle.std.specs.Prelude.{◌≡◌, false, true, IfOk};
 ghost use Rattle.machine_desc.specs.Machine.{IsMachine};
 ghost use Rattle.shard.specs.StandsFor.{new_shards};
-ghost use Rattle.replay.specs.Memory.{is_alone, shards_in, IsForCores};
+ghost use Rattle.replay.specs.Memory.{IsForMachine, is_alone, is_logged, shards_in};
 
 use crate::logged_port::LoggedPort;
+use bound_records::Recorder;
 use elf_load::Image;
 use machine_desc::Machine;
 use shard::Shard;
@@ -14,15 +15,17 @@ use zs_num::NoMemory;
 /// Where a run keeps caches and memory, from its first interval to its last.
 #[derive(Drop)]
 pub enum Memory {
-    /// With a port that one worker has.
-    Alone(LoggedPort),
+    /// With what the one worker that has it keeps of the accesses of an interval.
+    Alone(Recorder),
+    /// With a port through which the turns of a list are taken.
+    Logged(LoggedPort),
     /// As shards in order of their numbers, at which several workers take turns.
     Shared(Vec<Shard>),
 }
 
 impl Memory {
     /// The memory of a machine into which an executable was loaded, for so many workers.
-    pub fn new(
+    pub fn for_workers(
         alloc: Global,
         machine: &Machine,
         image: &Image,
@@ -32,23 +35,35 @@ impl Memory {
         requires base { image.now.base ≡ machine.now.memory.base }
         requires size { image.now.size ≡ machine.now.memory.size }
         ensures shards { IfOk result (λ m. shards_in m ≡ new_shards machine.now image.now) }
-        ensures cores { IfOk result (IsForCores machine.now.cores) }
-        ensures alone { workers ≡ 1 → IfOk result (λ m. is_alone m ≡ true) }
+        ensures for_machine { IfOk result (IsForMachine machine.now) }
+        ensures not_logged { IfOk result (λ m. is_logged m ≡ false) }
     {
         if workers == 1 {
-            Ok(Memory::Alone(LoggedPort::new(alloc, machine, image)?))
+            Ok(Memory::Alone(Recorder::new(alloc, machine, image)?))
         } else {
             Ok(Memory::Shared(shards_of(alloc, machine, image)?))
         }
     }
 
-    /// Whether one worker has it.
+    /// The same, for turns in the order of a list.
+    pub fn for_turns(alloc: Global, machine: &Machine, image: &Image) -> Result<Self, NoMemory>
+        requires machine { IsMachine machine.now }
+        requires base { image.now.base ≡ machine.now.memory.base }
+        requires size { image.now.size ≡ machine.now.memory.size }
+        ensures shards { IfOk result (λ m. shards_in m ≡ new_shards machine.now image.now) }
+        ensures for_machine { IfOk result (IsForMachine machine.now) }
+        ensures logged { IfOk result (λ m. is_logged m ≡ true) }
+    {
+        Ok(Memory::Logged(LoggedPort::new(alloc, machine, image)?))
+    }
+
+    /// Whether one worker has it alone.
     pub fn is_alone(&self) -> bool
         ensures { result ≡ is_alone self.now }
     {
         match self {
             Memory::Alone(_) => true,
-            Memory::Shared(_) => false,
+            Memory::Logged(_) | Memory::Shared(_) => false,
         }
     }
 }

@@ -58,6 +58,16 @@ impl Recording {
         Ok(())
     }
 
+    /// Whether events are kept, be it in vain.
+    pub fn is_on(&self) -> bool
+        ensures { result ≡ is_on self.now }
+    {
+        match self {
+            Recording::Off => false,
+            Recording::On(_) | Recording::TooLong => true,
+        }
+    }
+
     /// The bytes of the file that is kept, and none where no events are. None where it would be too
     /// long.
     pub fn bytes(&self) -> Option<&[u8]>

@@ -2,11 +2,12 @@
 ghost use Rattle.std.specs.Prelude.{◌≡◌, true, IfOk};
 ghost use Rattle.std.specs.List.{range_with_len};
 ghost use Rattle.machine_desc.specs.Machine.{IsMachine};
-ghost use Rattle.replay.specs.Memory.{is_alone};
+ghost use Rattle.replay.specs.Memory.{is_logged};
 ghost use Rattle.replay.specs.Replay.{Replays};
 ghost use Rattle.replay.specs.Results.{HasCounts};
 ghost use Rattle.replay.specs.Simulation.{IsAtStart};
 
+use crate::memory::Memory;
 use crate::simulation::Simulation;
 use crate::{Final, ReplayFail};
 use access_log::Schedule;
@@ -33,7 +34,8 @@ pub fn replay(
     ensures numbered { IfOk result (λ r. r.numbers ≡ range_with_len 0 machine.now.cores) }
 {
     let program = DecodedProgram::of(alloc, image)?;
-    let simulation = Simulation::new(alloc, machine, image, 1)?;
+    let memory = Memory::for_turns(alloc, machine, image)?;
+    let simulation = Simulation::new(alloc, machine, image, memory)?;
     replay_on(alloc, machine, &program, simulation, schedule)
 }
 
@@ -47,7 +49,7 @@ fn replay_on(
 ) -> Result<Final, ReplayFail>
     requires machine { IsMachine machine.now }
     requires starts { IsAtStart machine.now program.now simulation }
-    requires alone { is_alone simulation.memory ≡ true }
+    requires logged { is_logged simulation.memory ≡ true }
     requires cores { schedule.now.cores ≡ machine.now.cores }
     ensures gives { Replays machine.now program.now schedule.now.lists result }
     ensures counted { IfOk result (HasCounts machine.now) }

@@ -1,12 +1,14 @@
 //! The run of an executable: intervals until every core halted, or until a limit.
-ghost use Rattle.std.specs.Prelude.{◌≡◌, ◌≤◌, [], IfOk};
+ghost use Rattle.std.specs.Prelude.{◌≡◌, ◌≤◌, [], false, IfOk};
 ghost use Rattle.std.specs.List.{range_with_len};
 ghost use Rattle.machine_desc.specs.Machine.{IsMachine};
+ghost use Rattle.replay.specs.Memory.{is_logged};
 ghost use Rattle.replay.specs.Recording.{IsRecordedRun, IsRecordingOf, is_on};
 ghost use Rattle.replay.specs.ReferenceRun.{IsKeptInOrder, IsRunOf};
 ghost use Rattle.replay.specs.Results.{HasCounts};
 ghost use Rattle.replay.specs.Simulation.{IsAtStart};
 
+use crate::memory::Memory;
 use crate::simulation::Simulation;
 use crate::{Final, Recording};
 use access_log::Schedule;
@@ -63,7 +65,8 @@ pub fn run<R: Threads + Wait + Sync, G: Gate>(
     let places = component_domains(alloc, machine)?;
     let program = DecodedProgram::of(alloc, image)?;
     let workers = workers.clamp(1, 64);
-    let simulation = Simulation::new(alloc, machine, image, workers.min(machine.cores))?;
+    let memory = Memory::for_workers(alloc, machine, image, workers.min(machine.cores))?;
+    let simulation = Simulation::new(alloc, machine, image, memory)?;
     run_on(
         rt, alloc, machine, &program, &places, simulation, workers, gate, schedule, recording,
     )
@@ -84,6 +87,7 @@ fn run_on<R: Threads + Wait + Sync, G: Gate>(
 ) -> Result<Final, NoMemory>
     requires machine { IsMachine machine.now }
     requires starts { IsAtStart machine.now program.now simulation }
+    requires not_logged { is_logged simulation.memory ≡ false }
     requires workers { (1 ≤ workers) × (workers ≤ 64) }
     requires empty { schedule.old.lists ≡ [] }
     requires cores_known { schedule.old.cores ≡ machine.now.cores }
@@ -105,7 +109,7 @@ fn run_on<R: Threads + Wait + Sync, G: Gate>(
         domains_are_worth = domains_are_worth || k % TRIED == 0;
         k += 1;
         end += machine.interval;
-        let (next, entries) = simulation.interval(
+        let (next, turns) = simulation.interval(
             rt,
             alloc,
             machine,
@@ -120,8 +124,7 @@ fn run_on<R: Threads + Wait + Sync, G: Gate>(
             &mut buffers,
         )?;
         simulation = next;
-        schedule.add(alloc, &entries)?;
-        buffers.put_list(entries.into_list());
+        schedule.push(turns)?;
     }
     Ok(simulation.results(k))
 }

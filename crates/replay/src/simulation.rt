@@ -1,11 +1,12 @@
 //! A run between two intervals, and how it is taken through the next one.
-ghost use Rattle.std.specs.Prelude.{◌≡◌, ◌+◌, ◌-◌, ◌*◌, ◌<◌, ◌≤◌, ◌^◌, ◌++◌, ◌∷◌, min, ℕ, List, [], All, Some, Err, IfErr, IfOk, OnOk, false, is_some, length, map, nat_lt, slice_get, true};
+ghost use Rattle.std.specs.Prelude.{◌≡◌, ◌+◌, ◌-◌, ◌*◌, ◌<◌, ◌≤◌, ◌^◌, ◌++◌, ◌∷◌, min, ℕ, List, [], All, Some, Err, IfErr, IfOk, OnOk, false, is_some, length, map, nat_lt, slice_get, true, vec_len};
 ghost use Rattle.std.specs.List.{list_all, list_any, range_with_len};
 ghost use Rattle.machine_desc.specs.declared.machine.Machine.{Machine};
 ghost use Rattle.machine_desc.specs.Components.{component_count};
 ghost use Rattle.machine_desc.specs.Machine.{IsMachine};
 ghost use Rattle.elf_load.specs.MemoryImage.{MemoryImage};
 ghost use Rattle.component.specs.ComponentStep.{free_of};
+ghost use Rattle.shard.specs.StandsFor.{new_shards};
 ghost use Rattle.bound_core.specs.History.{begun_over_shards};
 ghost use Rattle.bound_core.specs.ReferenceMachine.{bound_phase};
 ghost use Rattle.bound_core.specs.ShardPort.{base_of, l1i_of, room_of, size_of};
@@ -14,24 +15,24 @@ ghost use Rattle.bound_core.specs.TimedCore.{beside_cycles, first_core};
 ghost use Rattle.bound_core.specs.NumberedCores.{NumberedCore, timed_of};
 ghost use Rattle.replay.specs.ReferenceRun.{RunState, access_room, after_interval, all_delayed, at_limit, has_ended_at, have_halted, run_results, time_of, woven_interval};
 ghost use Rattle.replay.specs.Limits.{cycle_limit};
-ghost use Rattle.replay.specs.Memory.{is_alone, shards_in};
+ghost use Rattle.replay.specs.Memory.{IsForMachine, is_alone, is_logged, shards_in};
 ghost use Rattle.replay.specs.Recording.{IsRecordingOf, IsRecordingSoFar, is_on};
 ghost use Rattle.replay.specs.Replay.{IfIllegal};
-ghost use Rattle.replay.specs.Simulation.{AreNumbered, CanRunInterval, HasNextInterval, HasBound, HasFired, HasRoomForInterval, HasRunThroughPort, HaveRunThroughPort, IsAtStart, IsBoundPhase, LeadsTo, StandsFor, cores_of, phase_of};
+ghost use Rattle.bound_records.specs.CoreRuns.{AreNumbered, CanRunInterval, phase_of, IsNetOf};
+ghost use Rattle.replay.specs.Simulation.{HasBound, HasFired, HasGoneOn, HasNextInterval, HasRoomForInterval, IsAtStart, IsBoundPhase, LeadsTo, StandsFor, cores_of};
 ghost use Rattle.replay.specs.Turns.{HaveTurned};
-ghost use Rattle.replay.specs.IntervalWeave.{IsNetOf};
 
+use crate::alone::interval_alone;
 use crate::firing::fire_all;
-use crate::gated_port::GatedPort;
 use crate::limits::{ACCESS_LIMIT, CYCLE_LIMIT};
 use crate::logged_port::LoggedPort;
 use crate::memory::Memory;
-use crate::own_program::OwnProgram;
 use crate::turns::take_turns;
 use crate::weaving::{events_of, woven_of};
 use crate::{Final, Recording, ReplayFail};
 use bound_core::{BESIDE_CYCLES, BoundCore};
 use bound_phase::{PhaseBuffers, bound_in};
+use bound_records::OwnProgram;
 use component::{Comp, Comps, components};
 use elf_load::Image;
 use event_graph::{FiredList, Graph};
@@ -50,26 +51,27 @@ use zs_num::{Cycle, Entries, Entry, NoMemory};
 /// components, and what was counted so far.
 #[derive(Drop)]
 pub struct Simulation {
-    cores: Vec<BoundCore>,
-    memory: Memory,
-    comps: Comps<Comp>,
-    counters: Counters,
+    pub(crate) cores: Vec<BoundCore>,
+    pub(crate) memory: Memory,
+    pub(crate) comps: Comps<Comp>,
+    pub(crate) counters: Counters,
 }
 
 impl Simulation {
-    /// A run before its first interval, whose cores are run by so many workers. One worker has
-    /// caches and memory alone.
+    /// A run before its first interval, over this memory, into which the executable was loaded.
     pub fn new(
         alloc: Global,
         machine: &Machine,
         image: &Image,
-        workers: u16,
+        memory: Memory,
     ) -> Result<Self, NoMemory>
         requires machine { IsMachine machine.now }
         requires base { image.now.base ≡ machine.now.memory.base }
         requires size { image.now.size ≡ machine.now.memory.size }
+        requires shards { shards_in memory ≡ new_shards machine.now image.now }
+        requires for_machine { IsForMachine machine.now memory }
         ensures starts { IfOk result (IsAtStart machine.now image.now) }
-        ensures alone { workers ≡ 1 → IfOk result (λ run. is_alone run.memory ≡ true) }
+        ensures memory { IfOk result (λ run. run.memory ≡ memory) }
     {
         stats::laws::nothing_is_counted_first();
         bound_core::laws::intervals_begin();
@@ -77,7 +79,7 @@ impl Simulation {
         let _sound = image.base();
         Ok(Simulation {
             cores: first_cores(alloc, machine, image)?,
-            memory: Memory::new(alloc, machine, image, workers)?,
+            memory,
             comps: components(alloc, machine)?,
             counters: Counters::new(alloc, machine)?,
         })
@@ -116,10 +118,11 @@ impl Simulation {
 
     /// Runs the interval that ends at cycle `end`, which is 2^34 at most: first each core to the
     /// interval's end, and then the weave. So many workers do both, but no more of them than there
-    /// are cores, and then domains; the cores of a run that one worker has alone it runs by itself.
+    /// are cores, and then domains.
     /// `places` has the domain of each component. `domains_are_worth` says before the call whether
     /// several workers weave by domains, and after it whether that was worth it. The recording gains
-    /// the interval's events. Answers the run after the interval, and the interval's accesses.
+    /// the interval's events. Answers the run after the interval, and the cores of the interval's
+    /// accesses in recorded order.
     pub fn interval<R: Threads + Wait + Sync, G: Gate>(
         self,
         rt: &R,
@@ -134,22 +137,87 @@ impl Simulation {
         domains_are_worth: &mut bool,
         recording: &mut Recording,
         buffers: &mut PhaseBuffers,
-    ) -> Result<(Self, Entries), NoMemory>
+    ) -> Result<(Self, Vec<u16>), NoMemory>
         requires machine { IsMachine machine.now }
         requires net { IsNetOf machine.now net.now }
         requires end { end ≤ 10 * 2 ^ 30 }
         requires workers { (1 ≤ workers) × (workers ≤ 64) }
+        requires not_logged { is_logged self.memory ≡ false }
         requires room { HasRoomForInterval machine.now end self }
         requires recording { IsRecordingSoFar machine.now recording.old }
         requires goes_on { (s : RunState) × HasNextInterval machine.now end s self }
-        ensures leads { IfOk result (λ r. (s : RunState) → HasNextInterval machine.now end s self → (leads : LeadsTo machine.now program.now s (map (λ e. e.core) r.1) r.0) × (leads.entries ≡ r.1)) }
-        ensures recorded { IfOk result (λ r. (s : RunState) → HasNextInterval machine.now end s self → IsRecordingOf machine.now s.intervals recording.old → IsRecordingOf machine.now (s.intervals ++ woven_interval machine.now s.comps r.1 ∷ []) recording.new) }
+        ensures goes_on { IfOk result (λ r. (s : RunState) → HasNextInterval machine.now end s self → HasGoneOn machine.now program.now s r.1.items recording.old recording.new r.0) }
         ensures on { is_on recording.new ≡ is_on recording.old }
-        ensures cores { IfOk result (λ r. All (λ e. e.core < machine.now.cores) r.1) }
-        ensures few { IfOk result (λ r. length r.1 < 2 ^ 32) }
+        ensures not_logged { IfOk result (λ r. is_logged r.0.memory ≡ false) }
+        ensures cores { IfOk result (λ r. All (λ number. number < machine.now.cores) r.1.items) }
+        ensures few { IfOk result (λ r. vec_len r.1 < 2 ^ 32) }
+    {
+        if self.memory.is_alone() {
+            let weavers = workers.min(machine.domains.count);
+            return interval_alone(
+                self,
+                rt,
+                alloc,
+                machine,
+                program,
+                net,
+                end,
+                weavers,
+                gate,
+                places,
+                domains_are_worth,
+                recording,
+            );
+        }
+        self.interval_by(
+            rt,
+            alloc,
+            machine,
+            program,
+            net,
+            end,
+            workers,
+            gate,
+            places,
+            domains_are_worth,
+            recording,
+            buffers,
+        )
+    }
+
+    /// The same by several workers.
+    fn interval_by<R: Threads + Wait + Sync, G: Gate>(
+        self,
+        rt: &R,
+        alloc: Global,
+        machine: &Machine,
+        program: &DecodedProgram<'_>,
+        net: &Net,
+        end: Cycle,
+        workers: u16,
+        gate: &G,
+        places: &[u16],
+        domains_are_worth: &mut bool,
+        recording: &mut Recording,
+        buffers: &mut PhaseBuffers,
+    ) -> Result<(Self, Vec<u16>), NoMemory>
+        requires machine { IsMachine machine.now }
+        requires net { IsNetOf machine.now net.now }
+        requires end { end ≤ 10 * 2 ^ 30 }
+        requires workers { (1 ≤ workers) × (workers ≤ 64) }
+        requires shared { is_alone self.memory ≡ false }
+        requires not_logged { is_logged self.memory ≡ false }
+        requires room { HasRoomForInterval machine.now end self }
+        requires recording { IsRecordingSoFar machine.now recording.old }
+        requires goes_on { (s : RunState) × HasNextInterval machine.now end s self }
+        ensures goes_on { IfOk result (λ r. (s : RunState) → HasNextInterval machine.now end s self → HasGoneOn machine.now program.now s r.1.items recording.old recording.new r.0) }
+        ensures on { is_on recording.new ≡ is_on recording.old }
+        ensures not_logged { IfOk result (λ r. is_logged r.0.memory ≡ false) }
+        ensures cores { IfOk result (λ r. All (λ number. number < machine.now.cores) r.1.items) }
+        ensures few { IfOk result (λ r. vec_len r.1 < 2 ^ 32) }
     {
         let runners = workers.min(machine.cores);
-        let (mut simulation, entries) = self.bound(
+        let (mut simulation, entries) = self.bound_by(
             rt, alloc, machine, program, net, end, runners, gate, buffers,
         )?;
         let weavers = workers.min(machine.domains.count);
@@ -165,11 +233,13 @@ impl Simulation {
             domains_are_worth,
             recording,
         )?;
-        Ok((simulation, entries))
+        let turns = turns_of(alloc, &entries)?;
+        buffers.put_list(entries.into_list());
+        Ok((simulation, turns))
     }
 
     /// Runs this interval, which ends at cycle `end`, 2^34 at most, under a list of turns, in a run
-    /// of one worker. Answers `list`, whose memory the accesses took, or the first place of the
+    /// over a port. Answers `list`, whose memory the accesses took, or the first place of the
     /// turns that is not legal.
     pub fn interval_under(
         &mut self,
@@ -189,8 +259,8 @@ impl Simulation {
         requires few { length turns.now < 2 ^ 32 }
         requires room { HasRoomForInterval machine.now end self.old }
         requires goes_on { (s : RunState) × HasNextInterval machine.now end s self.old }
-        requires alone { is_alone self.old.memory ≡ true }
-        ensures alone { OnOk result (is_alone self.new.memory ≡ true) }
+        requires logged { is_logged self.old.memory ≡ true }
+        ensures logged { OnOk result (is_logged self.new.memory ≡ true) }
         ensures leads { OnOk result ((s : RunState) → HasNextInterval machine.now end s self.old → LeadsTo machine.now program.now s turns.now self.new) }
         ensures illegal { IfErr result (λ fail. IfIllegal fail (λ at. (at.interval ≡ interval) × ((s : RunState) → HasNextInterval machine.now end s self.old → after_interval machine.now program.now s turns.now ≡ Err (record { interval = length s.intervals; place = at.place })))) }
     {
@@ -201,87 +271,6 @@ impl Simulation {
         let mut recording = Recording::Off;
         self.take_in(alloc, machine, &entries, graph, fired, &mut recording)?;
         Ok(entries.into_list())
-    }
-
-    /// The bound phase of an interval. Answers the run after it, and the accesses. One worker needs
-    /// no table of shards.
-    fn bound<R: Threads + Wait + Sync, G: Gate>(
-        self,
-        rt: &R,
-        alloc: Global,
-        machine: &Machine,
-        program: &DecodedProgram<'_>,
-        net: &Net,
-        end: Cycle,
-        workers: u16,
-        gate: &G,
-        buffers: &mut PhaseBuffers,
-    ) -> Result<(Self, Entries), NoMemory>
-        requires machine { IsMachine machine.now }
-        requires net { IsNetOf machine.now net.now }
-        requires end { end ≤ 10 * 2 ^ 30 }
-        requires workers { (1 ≤ workers) × (workers ≤ 64) }
-        requires room { HasRoomForInterval machine.now end self }
-        ensures bounded { IfOk result (λ r. IsBoundPhase machine.now program.now end self (map (λ e. e.core) r.1) r.0 r.1) }
-        ensures comps { IfOk result (λ r. r.0.comps ≡ self.comps) }
-        ensures counters { IfOk result (λ r. r.0.counters ≡ self.counters) }
-    {
-        if self.memory.is_alone() {
-            let list = buffers.take_list(alloc);
-            return self.bound_alone(alloc, machine, program, net, end, gate, list);
-        }
-        self.bound_by(
-            rt, alloc, machine, program, net, end, workers, gate, buffers,
-        )
-    }
-
-    /// The bound phase of an interval by one worker, which runs the cores one after the other. As
-    /// worker 0 it passes the gate before each access.
-    fn bound_alone<G: Gate>(
-        self,
-        alloc: Global,
-        machine: &Machine,
-        program: &DecodedProgram<'_>,
-        net: &Net,
-        end: Cycle,
-        gate: &G,
-        list: Vec<Entry>,
-    ) -> Result<(Self, Entries), NoMemory>
-        requires machine { IsMachine machine.now }
-        requires net { IsNetOf machine.now net.now }
-        requires end { end ≤ 10 * 2 ^ 30 }
-        requires room { HasRoomForInterval machine.now end self }
-        requires alone { is_alone self.memory ≡ true }
-        ensures bounded { IfOk result (λ r. IsBoundPhase machine.now program.now end self (map (λ e. e.core) r.1) r.0 r.1) }
-        ensures comps { IfOk result (λ r. r.0.comps ≡ self.comps) }
-        ensures counters { IfOk result (λ r. r.0.counters ≡ self.counters) }
-    {
-        bound_core::laws::phases_are_histories();
-        bound_core::laws::histories_are_phases();
-        bound_core::laws::recorded_order_is_a_history();
-        access_log::laws::rising_stamps_are_distinct();
-        access_log::laws::stamps_rise();
-        access_log::laws::recorded_order_keeps_the_stamps();
-        access_log::laws::cores_decide_the_order();
-        let Simulation {
-            mut cores,
-            memory,
-            comps,
-            counters,
-        } = self;
-        let Memory::Alone(mut port) = memory else {
-            unreachable!()
-        };
-        port.begin(access_room(machine) as usize, list)?;
-        let mut port = run_cores(machine, program, net, end, gate, &mut cores, port)?;
-        let entries = port.take_sorted(alloc);
-        let simulation = Simulation {
-            cores,
-            memory: Memory::Alone(port),
-            comps,
-            counters,
-        };
-        Ok((simulation, entries))
     }
 
     /// The bound phase of an interval by several workers, which share the shards.
@@ -303,6 +292,8 @@ impl Simulation {
         requires workers { (1 ≤ workers) × (workers ≤ 64) }
         requires room { HasRoomForInterval machine.now end self }
         requires shared { is_alone self.memory ≡ false }
+        requires not_logged { is_logged self.memory ≡ false }
+        ensures not_logged { IfOk result (λ r. is_logged r.0.memory ≡ false) }
         ensures bounded { IfOk result (λ r. IsBoundPhase machine.now program.now end self (map (λ e. e.core) r.1) r.0 r.1) }
         ensures comps { IfOk result (λ r. r.0.comps ≡ self.comps) }
         ensures counters { IfOk result (λ r. r.0.counters ≡ self.counters) }
@@ -355,8 +346,8 @@ impl Simulation {
         requires known { All (λ number. number < machine.now.cores) turns.now }
         requires few { length turns.now < 2 ^ 32 }
         requires room { HasRoomForInterval machine.now end self.old }
-        requires alone { is_alone self.old.memory ≡ true }
-        ensures alone { OnOk result (is_alone self.new.memory ≡ true) }
+        requires logged { is_logged self.old.memory ≡ true }
+        ensures logged { OnOk result (is_logged self.new.memory ≡ true) }
         ensures bounded { IfOk result (IsBoundPhase machine.now program.now end self.old turns.now self.new) }
         ensures illegal { IfErr result (λ fail. IfIllegal fail (λ at. (at.interval ≡ interval) × (bound_phase shards_serve (time_of machine.now) program.now end turns.now (begun_over_shards (cores_of self.old) (map restarted (shards_in self.old.memory))) ≡ Err at.place))) }
         ensures comps { self.new.comps ≡ self.old.comps }
@@ -365,7 +356,7 @@ impl Simulation {
         bound_core::laws::phases_are_histories();
         access_log::laws::rising_stamps_are_distinct();
         access_log::laws::stamps_rise();
-        let Memory::Alone(port) = &mut self.memory else {
+        let Memory::Logged(port) = &mut self.memory else {
             unreachable!()
         };
         port.begin(access_room(machine) as usize, list)?;
@@ -405,6 +396,7 @@ impl Simulation {
         ensures leads { OnOk result ((image : MemoryImage) (s : RunState) (turns : List ℕ) → HasBound machine.now image s turns self.old entries.now → (leads : LeadsTo machine.now image s turns self.new) × (leads.entries ≡ entries.now)) }
         ensures recorded { OnOk result ((image : MemoryImage) (s : RunState) (turns : List ℕ) → HasBound machine.now image s turns self.old entries.now → IsRecordingOf machine.now s.intervals recording.old → IsRecordingOf machine.now (s.intervals ++ woven_interval machine.now s.comps entries.now ∷ []) recording.new) }
         ensures on { is_on recording.new ≡ is_on recording.old }
+        ensures memory { OnOk result (self.new.memory ≡ self.old.memory) }
     {
         let graph = events_of(alloc, machine, net, entries, &self.comps)?;
         let comps = &mut self.comps;
@@ -494,68 +486,6 @@ fn first_cores(alloc: Global, machine: &Machine, image: &Image) -> Result<Vec<Bo
     Ok(cores)
 }
 
-/// Runs the cores to the end of the interval, one after the other.
-fn run_cores<G: Gate>(
-    machine: &Machine,
-    program: &DecodedProgram<'_>,
-    net: &Net,
-    end: Cycle,
-    gate: &G,
-    cores: &mut [BoundCore],
-    mut port: LoggedPort,
-) -> Result<LoggedPort, NoMemory>
-    requires machine { IsMachine machine.now }
-    requires net { IsNetOf machine.now net.now }
-    requires end { end ≤ 10 * 2 ^ 30 }
-    requires count { length cores.old ≡ machine.now.cores }
-    requires ready { (i : ℕ) (c : NumberedCore) → slice_get cores.old i ≡ Some c → CanRunInterval machine.now end (base_of port.world) (size_of port.world) (l1i_of port.world) c.timed }
-    requires numbered { AreNumbered cores.old }
-    requires stamps { length port.world.stamps ≡ machine.now.cores }
-    requires none { port.entries ≡ [] }
-    requires room { access_room machine.now ≤ min (room_of port.world) port.room }
-    ensures { IfOk result (HaveRunThroughPort machine.now program.now end machine.now.cores cores.old cores.new port) }
-{
-    for (number, core) in cores.iter_mut().enumerate() {
-        port = run_core(machine, program, net, end, gate, core, number as u16, port)?;
-    }
-    Ok(port)
-}
-
-/// Runs the core of this number to the end of the interval. A core that has halted stays as it is.
-fn run_core<G: Gate>(
-    machine: &Machine,
-    program: &DecodedProgram<'_>,
-    net: &Net,
-    end: Cycle,
-    gate: &G,
-    core: &mut BoundCore,
-    number: u16,
-    mut port: LoggedPort,
-) -> Result<LoggedPort, NoMemory>
-    requires machine { IsMachine machine.now }
-    requires net { IsNetOf machine.now net.now }
-    requires end { end ≤ 10 * 2 ^ 30 }
-    requires ready { CanRunInterval machine.now end (base_of port.world) (size_of port.world) (l1i_of port.world) core.old.timed }
-    requires number { core.old.number ≡ number }
-    requires known { number < length port.world.stamps }
-    requires room { machine.now.interval + beside_cycles ≤ min (room_of port.world) port.room }
-    ensures { IfOk result (HasRunThroughPort machine.now program.now end core.old core.new port) }
-{
-    if core.halted().is_some() {
-        return Ok(port);
-    }
-    core.reserve(machine.interval)?;
-    port.choose(number);
-    let mut gated = GatedPort {
-        gate,
-        core: number,
-        port,
-    };
-    core.run_one(&OwnProgram { program }, net, end, &mut gated);
-    let GatedPort { port, .. } = gated;
-    Ok(port)
-}
-
 /// Runs the cores to the end of this interval under a list of turns, or answers the first place of
 /// the list that is not legal.
 fn run_turns(
@@ -603,7 +533,7 @@ fn reserve_all(machine: &Machine, cores: &mut [BoundCore]) -> Result<(), NoMemor
 }
 
 /// Adds to the clock of each core the delay that stands at its number.
-fn delay_all(cores: &mut [BoundCore], delays: &[u64])
+pub(crate) fn delay_all(cores: &mut [BoundCore], delays: &[u64])
     requires count { length delays.now ≡ length cores.old }
     requires clocks { All (λ c. c.timed.clock ≤ 2 ^ 57) cores.old }
     requires delays { All (λ d. d ≤ 2 ^ 62) delays.now }
@@ -613,6 +543,14 @@ fn delay_all(cores: &mut [BoundCore], delays: &[u64])
     for (number, core) in cores.iter_mut().enumerate() {
         core.delay(delays[number]);
     }
+}
+
+/// The cores of these accesses.
+fn turns_of(alloc: Global, entries: &Entries) -> Result<Vec<u16>, NoMemory>
+    ensures { IfOk result (λ list. list.items ≡ map (λ e. e.core) entries.now) }
+{
+    let list = entries.as_slice().iter().map(|e| e.core).collect(alloc)?;
+    Ok(list)
 }
 
 /// How many accesses all cores together can make in an interval, for which room is taken.

@@ -6,7 +6,7 @@ ghost use Rattle.bound_core.specs.ShardWorld.{ShardWorld, shards_serve};
 ghost use Rattle.bound_core.specs.ShardPort.{base_of, l1i_of, room_of, size_of};
 ghost use Rattle.bound_core.specs.NumberedCores.{timed_of};
 ghost use Rattle.bound_core.specs.Turn.{IsOver};
-ghost use Rattle.replay.specs.Simulation.{phase_of};
+ghost use Rattle.bound_records.specs.CoreRuns.{phase_of};
 ghost use Rattle.replay.specs.Turns.{HaveTaken, IsOnItsWay, TakesAccess, TakesNone, chosen, time_by_net};
 
 use crate::logged_port::LoggedPort;

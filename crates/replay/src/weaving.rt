@@ -5,7 +5,8 @@ ghost use Rattle.machine_desc.specs.Machine.{IsMachine};
 ghost use Rattle.component.specs.declared.comp.Comp.{Comp};
 ghost use Rattle.component.specs.ComponentStep.{free_of};
 ghost use Rattle.component.specs.Components.{AreComponents};
-ghost use Rattle.replay.specs.IntervalWeave.{AreEventsOf, HaveFired, IsNetOf, IsWeaveOf};
+ghost use Rattle.bound_records.specs.CoreRuns.{IsNetOf};
+ghost use Rattle.replay.specs.IntervalWeave.{AreEventsOf, HaveFired, IntervalsAreWoven, IsWeaveOf};
 
 use component::{Comp, Comps};
 use event_graph::{FiredList, Graph, build};
@@ -24,6 +25,23 @@ pub struct WovenInterval {
     pub fired: FiredList,
     /// How many cycles each core waited.
     pub delays: Delays,
+}
+
+/// What holds of the weave of an interval.
+pub fn intervals_are_woven()
+    ensures { IntervalsAreWoven }
+{
+    noc_mesh::laws::net_graphs_fit();
+    noc_mesh::laws::net_accesses_have_few_events();
+    event_graph::laws::events_are_placed::<Net>();
+    event_graph::laws::events_are_counted::<Net>();
+    event_graph::laws::events_keep_their_cores::<Net>();
+    event_graph::laws::events_begin_with_their_accesses::<Net>();
+    event_graph::laws::machine_steps_stay_small();
+    event_graph::laws::machine_components_stay();
+    event_graph::laws::fitting_events_are_there::<Comp>();
+    event_graph::laws::events_take_their_time::<Comp>();
+    feedback::laws::delays_are_small();
 }
 
 /// The events of an interval's accesses, ready for the weave.

@@ -31,7 +31,7 @@ loop-alloc-init c =
       small = omega arith;
       within = omega arith;
       accesses = omega (arith, accesses);
-      alone = c.requires.alone;
+      logged = c.requires.logged;
     }
 
 pub interval_under-requires-clause-room : goal.interval_under-requires-clause-room
@@ -121,7 +121,7 @@ loop-alloc-preserved c =
       small = omega (arith, was.small, c.requires.machine.interval);
       within = omega (arith, below);
       accesses = omega (arith, accesses, leads.come.counted.accesses);
-      alone = c.in_ok-list.ensures.alone;
+      logged = c.in_ok-list.ensures.logged;
     }
 
 -- the schedule ends, and the run goes on

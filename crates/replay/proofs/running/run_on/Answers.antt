@@ -31,6 +31,7 @@ loop-alloc-init g c =
         in_order = c.requires.empty;
       };
       net = c.of-net.ensures;
+      not_logged = c.requires.not_logged;
       count = none;
       end = omega arith;
       small = omega arith;
@@ -99,17 +100,17 @@ interval-requires-clause-recording g c κs within =
     let few : length h.state.intervals < 2 ^ 32 - 1 = omega (arith, h.as_long, was.count, was.within, c.requires.machine.intervals.1) in
     record { intervals = h.state.intervals; few = few; is = was.recorded }
 
-pub add-requires-clause-cores : goal.add-requires-clause-cores
-add-requires-clause-cores g c =
+pub push-requires-clause-cores : goal.push-requires-clause-cores
+push-requires-clause-cores g c =
     let known : c.loop-alloc.schedule.cores ≡ c.args.machine.now.cores = c.loop-alloc.invariant.cores ∙ c.requires.cores_known in
-    subst (λ (n : ℕ). All (λ (e : Entry). e.core < n) c.in_ok-next.entries) (sym known) c.in_ok-next.ensures.cores
+    subst (λ (n : ℕ). All (λ (core : ℕ). core < n) c.in_ok-next.turns.items) (sym known) c.in_ok-next.ensures.cores
 
-pub returns-in_err-add-clause-in_order : goal.returns-in_err-add-clause-in_order
-returns-in_err-add-clause-in_order g c =
+pub returns-in_err-push-clause-in_order : goal.returns-in_err-push-clause-in_order
+returns-in_err-push-clause-in_order g c =
     let machine = c.args.machine.now in
     let image = c.args.program.now in
     let before : IsKeptInOrder machine image c.loop-alloc.schedule.lists = kept_in_order machine image c.loop-alloc.schedule.lists c.loop-alloc.simulation c.loop-alloc.invariant.ran in
-    let same : c.add.new.self ≡ c.loop-alloc.schedule = c.in_err-add.ensures.err in
+    let same : c.push.new.self ≡ c.loop-alloc.schedule = c.in_err-push.ensures.err in
     subst (λ (kept : ScheduleState). IsKeptInOrder machine image kept.lists) (sym same) before
 
 pub loop-alloc-smaller : goal.loop-alloc-smaller
@@ -137,29 +138,23 @@ loop-alloc-preserved g c =
     let test = sym c.has_ended.ensures ∙ running in
     let below = below_limit machine image lists p was.ran.run c.loop-alloc.k c.loop-alloc.end was.count was.end test was.within in
     let come = goes machine image lists p was.ran.run c.loop-alloc.k c.loop-alloc.end was.count was.end test in
-    let turns : List ℕ = map (λ (e : Entry). e.core) c.in_ok-next.entries in
+    let turns : List ℕ = c.in_ok-next.turns.items in
     let q = c.in_ok-next.next in
-    let found = c.in_ok-next.ensures.leads was.ran.run.state come in
-    let leads : LeadsTo machine image was.ran.run.state turns q = found.0 in
-    let in_order : turns ≡ map (λ (e : Entry). e.core) leads.entries = ap (map (λ (e : Entry). e.core)) (sym found.1) in
-    let added : c.add.new.self.lists ≡ lists ++ turns ∷ [] = c.in_ok-add.ensures.ok in
-    let ran : HasRunInOrder machine image (lists ++ turns ∷ []) q = further_in_order machine image lists p q was.ran turns come.on leads in_order in
+    let gone = c.in_ok-next.ensures.goes_on was.ran.run.state come in
+    let leads : LeadsTo machine image was.ran.run.state turns q = gone.leads in
+    let added : c.push.new.self.lists ≡ lists ++ turns ∷ [] = c.in_ok-push.ensures.ok in
+    let ran : HasRunInOrder machine image (lists ++ turns ∷ []) q = further_in_order machine image lists p q was.ran turns come.on leads gone.in_order in
     let accesses = accesses_are machine leads.state q leads.come in
-    let gained : leads.state.intervals ≡ was.ran.run.state.intervals ++ woven_interval machine was.ran.run.state.comps c.in_ok-next.entries ∷ [] =
-    leads.gained ∙ ap (λ (entries : List Entry). was.ran.run.state.intervals ++ woven_interval machine was.ran.run.state.comps entries ∷ []) found.1
-    in
-    let kept : IsRecordingOf machine leads.state.intervals c.interval.new.recording =
-    subst (λ (intervals : List Interval). IsRecordingOf machine intervals c.interval.new.recording) (sym gained) (c.in_ok-next.ensures.recorded was.ran.run.state come was.recorded)
-    in
     record {
-      ran = ran_so machine image (lists ++ turns ∷ []) c.add.new.self.lists q (sym added) ran;
+      ran = ran_so machine image (lists ++ turns ∷ []) c.push.new.self.lists q (sym added) ran;
       net = was.net;
+      not_logged = c.in_ok-next.ensures.not_logged;
       count = omega (arith, ap length added, length-append lists (turns ∷ []), was.count);
       end = omega (arith, was.end);
       small = omega (arith, was.small, c.requires.machine.interval);
       within = omega (arith, below);
       accesses = omega (arith, accesses, leads.come.counted.accesses);
-      cores = c.in_ok-add.ensures.cores ∙ was.cores;
-      recorded = kept;
+      cores = c.in_ok-push.ensures.cores ∙ was.cores;
+      recorded = gone.recorded was.recorded;
       on = c.in_ok-next.ensures.on ∙ was.on;
     }

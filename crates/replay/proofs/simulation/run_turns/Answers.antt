@@ -7,7 +7,7 @@ use Rattle.bound_core.specs.ShardWorld.{ShardWorld, shards_serve}
 use Rattle.bound_core.specs.TimedCore.{TimedCore}
 use Rattle.bound_core.proofs.Accesses.{clock_within}
 use Rattle.replay.specs.ReferenceRun.{time_of}
-use Rattle.replay.specs.Simulation.{CanRunInterval, phase_of}
+use Rattle.bound_records.specs.CoreRuns.{CanRunInterval, phase_of}
 use Rattle.replay.specs.Turns.{HaveTaken, time_by_net}
 use Rattle.replay.proofs.Cores.{all_timed, ready_again}
 use Rattle.replay.proofs.PortTurns.{same_times}

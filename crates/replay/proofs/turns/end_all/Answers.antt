@@ -4,7 +4,7 @@ use Rattle.std.proofs.lemmas.Option.{slice_get-get_or, slice_get_within}
 use Rattle.bound_core.specs.Turn.{IsOver}
 use Rattle.replay.specs.Turns.{chosen, time_by_net}
 use Rattle.replay.proofs.Cores.{all_timed}
-use Rattle.replay.proofs.RunCores.{set_cases}
+use Rattle.replay.proofs.SetElements.{set_cases}
 use Rattle.replay.proofs.TakingTurns.{one_ended, still_asks}
 use Rattle.replay.proofs.turns.end_all.Goals as goal
 

@@ -1,7 +1,7 @@
 use Rattle.std.proofs.Common.{refl, sym, ◌∙◌, ap, subst, arith}
 use Rattle.bound_core.specs.ShardPort.{base_of, l1i_of, size_of}
 use Rattle.bound_core.proofs.Accesses.{clock_within}
-use Rattle.replay.specs.Port.{LoggedPortState}
+use Rattle.bound_records.specs.Port.{LoggedPortState}
 use Rattle.replay.specs.Turns.{TakesAccess, TakesNone, time_by_net}
 use Rattle.replay.proofs.turns.take_turn.Goals as goal
 

@@ -6,7 +6,7 @@ use Rattle.bound_core.specs.ReferenceMachine.{BoundState}
 use Rattle.bound_core.specs.ShardWorld.{ShardWorld, shards_serve}
 use Rattle.bound_core.specs.NumberedCores.{NumberedCore}
 use Rattle.bound_core.proofs.Reaching.{whole_phase}
-use Rattle.replay.specs.Simulation.{phase_of}
+use Rattle.bound_records.specs.CoreRuns.{phase_of}
 use Rattle.replay.specs.Turns.{HaveTaken, chosen, time_by_net}
 use Rattle.replay.proofs.TakingTurns.{no_access, one_taken}
 use Rattle.replay.proofs.turns.take_turns.Goals as goal

@@ -1,6 +1,6 @@
 -- the turns of the places before this one were taken
 use Rattle.std.proofs.Common.{◌≡◌, ℕ, [], length, take}
-use Rattle.replay.specs.Simulation.{phase_of}
+use Rattle.bound_records.specs.CoreRuns.{phase_of}
 use Rattle.replay.specs.Turns.{HaveTaken, time_by_net}
 use Rattle.replay.proofs.turns.take_turns.Given as goal
 

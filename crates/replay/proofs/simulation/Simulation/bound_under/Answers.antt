@@ -11,8 +11,8 @@ use Rattle.replay.specs.declared.memory.Memory.TheVariants as memory
 use Rattle.replay.specs.declared.simulation.Simulation.{Simulation}
 use Rattle.replay.specs.Memory.{shards_in}
 use Rattle.replay.specs.ReferenceRun.{access_room, time_of}
-use Rattle.replay.specs.Simulation.{CanRunInterval, phase_of}
-use Rattle.replay.proofs.BoundPhase.{begun_alone, bounded, from_start, keys}
+use Rattle.bound_records.specs.CoreRuns.{CanRunInterval, phase_of}
+use Rattle.replay.proofs.BoundPhase.{begun_port, bounded, from_start, keys}
 use Rattle.replay.proofs.Room.{begun_room}
 use Rattle.replay.proofs.simulation.Simulation.bound_under.Goals as goal
 
@@ -21,7 +21,7 @@ run_turns-requires-clause-ready c = λ i core here.
     let p = c.args.self.now in
     let machine = c.args.machine.now in
     let begun : c.begin.new.self.world ≡ begun_world machine.cores (map restarted (shards_in p.memory)) =
-    begun_alone machine.cores p.memory c.in-Alone.port c.begin.new.self c.in-Alone.is c.requires.room.stamps c.in_ok-begin.ensures.world
+    begun_port machine p.memory c.in-Logged.port c.begin.new.self c.in-Logged.is c.requires.room.stamps c.in_ok-begin.ensures.world
     in
     let there : slice_get p.cores.items i ≡ Some core = ap (λ (cores : List NumberedCore). slice_get cores i) (sym c.deref_mut.ensures.value) ∙ here in
     subst (λ (w : ShardWorld). CanRunInterval machine c.args.end (base_of w) (size_of w) (l1i_of w) core.timed) (sym begun) (c.requires.room.ready i core there)
@@ -31,7 +31,7 @@ run_turns-requires-clause-room c =
     let p = c.args.self.now in
     let machine = c.args.machine.now in
     let port = c.begin.new.self in
-    let far : room_of port.world ≡ 2 ^ 62 - 1 = ap room_of c.in_ok-begin.ensures.world ∙ begun_room _ c.in-Alone.port.world.shards in
+    let far : room_of port.world ≡ 2 ^ 62 - 1 = ap room_of c.in_ok-begin.ensures.world ∙ begun_room _ c.in-Logged.port.world.shards in
     let value = c.access_room.ensures.value in
     let room : access_room machine ≤ port.room = omega (arith, value, c.in_ok-begin.ensures.room) in
     let small : access_room machine ≤ 2 ^ 22 = omega (arith, value, c.access_room.ensures.small) in
@@ -45,7 +45,7 @@ take_sorted-requires c =
     let was = shards_in p.memory in
     let port = c.begin.new.self in
     let begins : port.world ≡ begun_world machine.cores (map restarted was) =
-    begun_alone machine.cores p.memory c.in-Alone.port port c.in-Alone.is c.requires.room.stamps c.in_ok-begin.ensures.world
+    begun_port machine p.memory c.in-Logged.port port c.in-Logged.is c.requires.room.stamps c.in_ok-begin.ensures.world
     in
     let cores = c.deref_mut.result.now in
     let after = c.run_turns.new.cores in
@@ -68,7 +68,7 @@ returns-clause-bounded c =
     let was = shards_in p.memory in
     let port = c.begin.new.self in
     let begins : port.world ≡ begun_world machine.cores (map restarted was) =
-    begun_alone machine.cores p.memory c.in-Alone.port port c.in-Alone.is c.requires.room.stamps c.in_ok-begin.ensures.world
+    begun_port machine p.memory c.in-Logged.port port c.in-Logged.is c.requires.room.stamps c.in_ok-begin.ensures.world
     in
     let cores = c.deref_mut.result.now in
     let after = c.run_turns.new.cores in
@@ -81,7 +81,7 @@ returns-clause-bounded c =
     in
     let taken = c.take_sorted.ensures in
     let long : length after ≡ p.cores.len = omega (arith, c.run_turns.auto.cores, ap length c.deref_mut.ensures.value, p.cores.ok.0) in
-    let q : Simulation = record { cores = with_items p.cores after; memory = memory.Alone c.take_sorted.new.self; comps = p.comps; counters = p.counters } in
+    let q : Simulation = record { cores = with_items p.cores after; memory = memory.Logged c.take_sorted.new.self; comps = p.comps; counters = p.counters } in
     bounded machine image end cores after was last turns count c.requires.room.shards.some phase (c.phases_are_histories.ensures (time_of machine) image end)
     h.starts h.few h.clocks (h.count ∙ count) h.numbered h.over
     p q (sym c.deref_mut.ensures.value) refl (with_items_is p.cores after long) c.take_sorted.new.self refl taken.world c.take_sorted.result taken.entries

@@ -5,7 +5,7 @@ use Rattle.component.specs.Components.{AreComponents}
 use Rattle.bound_core.specs.History.{begun_over_shards}
 use Rattle.bound_core.specs.ReferenceMachine.{bound_phase}
 use Rattle.bound_core.specs.ShardWorld.{restarted, shards_serve}
-use Rattle.replay.specs.Memory.{is_alone, shards_in}
+use Rattle.replay.specs.Memory.{is_logged, shards_in}
 use Rattle.replay.specs.ReferenceRun.{Illegal, RunState, after_interval, time_of}
 use Rattle.replay.specs.Replay.{IfIllegal}
 use Rattle.replay.specs.Simulation.{HasNextInterval, cores_of}
@@ -91,8 +91,8 @@ returns-clause-leads c = λ s g.
     in
     leads.0
 
-pub returns-clause-alone : goal.returns-clause-alone
-returns-clause-alone c = ap is_alone c.in_ok-take_in.ensures.memory ∙ c.in_ok-entries.ensures.alone
+pub returns-clause-logged : goal.returns-clause-logged
+returns-clause-logged c = ap is_logged c.in_ok-take_in.ensures.memory ∙ c.in_ok-entries.ensures.logged
 
 -- a replay keeps no events
 pub take_in-requires-clause-recording : goal.take_in-requires-clause-recording

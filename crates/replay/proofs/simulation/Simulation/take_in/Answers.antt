@@ -14,7 +14,8 @@ use Rattle.stats.specs.Laws.{WasRun}
 use Rattle.bound_core.specs.NumberedCores.{NumberedCore, timed_of}
 use Rattle.replay.specs.IntervalWeave.{interval_of}
 use Rattle.replay.specs.ReferenceRun.{all_delayed, time_of, woven_interval}
-use Rattle.replay.specs.Simulation.{AreNumbered, cores_of}
+use Rattle.bound_records.specs.CoreRuns.{AreNumbered}
+use Rattle.replay.specs.Simulation.{cores_of}
 use Rattle.replay.proofs.Cores.{each_clock}
 use Rattle.replay.proofs.IntervalWeave.{woven_events}
 use Rattle.replay.proofs.NextInterval.{Laws, fits_more, goes_on, leads_on}

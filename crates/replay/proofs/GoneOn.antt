@@ -1,0 +1,58 @@
+-- A run that has gone on by an interval.
+use Rattle.std.proofs.Common.{◌≡◌, false, true, ℕ, ◌^◌, ◌*◌, ◌+◌, ◌<◌, ◌≤◌, List, [], ◌∷◌, ◌++◌, map, refl, sym, ◌∙◌, ap, subst, arith, tests}
+use Rattle.zs_num.specs.declared.entry.Entry.{Entry}
+use Rattle.elf_load.specs.MemoryImage.{MemoryImage}
+use Rattle.machine_desc.specs.declared.machine.Machine.{Machine}
+use Rattle.machine_desc.specs.Machine.{IsMachine}
+use Rattle.component.specs.declared.comp.Comp.{Comp}
+use Rattle.stats.specs.Counts.{Interval}
+use Rattle.bound_records.specs.Recorders.{RecorderState}
+use Rattle.replay.specs.declared.memory.Memory.{Memory}
+use Rattle.replay.specs.declared.memory.Memory.TheVariants as memory
+use Rattle.replay.specs.declared.recording.Recording.{Recording}
+use Rattle.replay.specs.declared.simulation.Simulation.{Simulation}
+use Rattle.replay.specs.Memory.{is_alone, is_logged}
+use Rattle.replay.specs.Recording.{IsRecordingOf}
+use Rattle.replay.specs.ReferenceRun.{RunState, access_room, after_interval, woven_interval}
+use Rattle.replay.specs.Simulation.{HasGoneOn, LeadsTo}
+
+pub gone_on : (machine : Machine) (image : MemoryImage) (s : RunState) (turns others : List ℕ) (entries : List Entry) (recording later : Recording) (p : Simulation)
+    → turns ≡ others → others ≡ map (λ e. e.core) entries → (leads : LeadsTo machine image s others p) → leads.entries ≡ entries
+    → (IsRecordingOf machine s.intervals recording → IsRecordingOf machine (s.intervals ++ woven_interval machine s.comps entries ∷ []) later)
+    → HasGoneOn machine image s turns recording later p
+gone_on machine image s turns others entries recording later p same are leads is recorded =
+    let gained = leads.gained ∙ ap (λ (es : List Entry). s.intervals ++ woven_interval machine s.comps es ∷ []) is in
+    record {
+      leads = record {
+        state = leads.state;
+        after = ap (after_interval machine image s) same ∙ leads.after;
+        entries = leads.entries;
+        recorded = leads.recorded;
+        longer = leads.longer;
+        gained = leads.gained;
+        come = leads.come;
+      };
+      in_order = same ∙ are ∙ ap (map (λ (e : Entry). e.core)) (sym is);
+      recorded = λ was. subst (λ (intervals : List Interval). IsRecordingOf machine intervals later) (sym gained) (recorded was);
+    }
+
+pub woven_entries : (machine : Machine) (comps : List Comp) (entries : List Entry) → (woven_interval machine comps entries).entries ≡ entries
+unfolding woven_interval
+woven_entries machine comps entries = refl
+
+pub same_recorder : (m : Memory) (r other : RecorderState) → m ≡ memory.Alone r → m ≡ memory.Alone other → r ≡ other
+same_recorder m r other is too =
+    let same : memory.Alone r ≡ memory.Alone other = sym is ∙ too in cc
+
+-- what one worker has alone is no port for a list of turns
+pub alone_not_logged : (m : Memory) → is_alone m ≡ true → is_logged m ≡ false
+alone_not_logged (memory.Alone recorder) alone = refl
+alone_not_logged (memory.Logged port) alone = let not : false ≡ true = alone in cc
+alone_not_logged (memory.Shared shards) alone = let not : false ≡ true = alone in cc
+
+bounded_product : (cores interval : ℕ) → cores ≤ 256 → interval ≤ 10258 → cores * interval ≤ 256 * 10258
+bounded_product cores interval few short = grind (arith, tests)
+
+-- room for the accesses of an interval is small
+pub small_room : (machine : Machine) → IsMachine machine → access_room machine ≤ 2 ^ 22
+small_room machine is = omega (arith, bounded_product machine.cores (machine.interval + 258) is.cores.1 (omega (arith, is.interval.1)))

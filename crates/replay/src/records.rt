@@ -1,0 +1,188 @@
+//! The weave of an interval of whose accesses one worker has kept records.
+ghost use Rattle.std.specs.Prelude.{◌≡◌, ◌*◌, ◌≤◌, ◌^◌, ◌++◌, ◌∷◌, [], All, List, None, IfNone, IfOk, IfSome, OnOk, false, true};
+ghost use Rattle.machine_desc.specs.Machine.{IsMachine};
+ghost use Rattle.component.specs.ComponentStep.{free_of};
+ghost use Rattle.component.specs.Components.{AreComponents};
+ghost use Rattle.stats.specs.Counts.{Interval};
+ghost use Rattle.bound_records.specs.CoreRuns.{IsNetOf};
+ghost use Rattle.replay.specs.Recording.{IsRecordingOf, IsRecordingSoFar, is_on};
+ghost use Rattle.replay.specs.Records.{FitsIn, IsRecorded, IsTakenIn, recorded_interval};
+
+use crate::Recording;
+use crate::firing::fire_all;
+use crate::first_passes::FirstPasses;
+use crate::weaving::{events_of, intervals_are_woven, woven_of};
+use bound_records::Recorder;
+use component::{Comp, Comps};
+use feedback::Delays;
+use machine_desc::Machine;
+use noc_mesh::Net;
+use stats::Counters;
+use std::alloc::Global;
+use std::thread::Threads;
+use weave_chains::weave_chains;
+use zs_host::Gate;
+use zs_num::{Entries, NoMemory};
+
+/// Fires the events of an interval's accesses by so many workers, who pass the gate before each.
+/// Moves the components on, counts the interval, and adds it to the recording. Answers the delays of
+/// the cores. `places` has the domain of each component, and `domains_are_worth` says what it says
+/// to `fire_all`. One worker fires them core by core, as far as the order of the accesses does not
+/// matter, where no events are kept and no mesh is crossed.
+pub fn weave_recorded<R: Threads + Sync, G: Gate>(
+    rt: &R,
+    alloc: Global,
+    machine: &Machine,
+    net: &Net,
+    recorder: &Recorder,
+    comps: &mut Comps<Comp>,
+    counters: &mut Counters,
+    workers: u16,
+    gate: &G,
+    places: &[u16],
+    domains_are_worth: &mut bool,
+    recording: &mut Recording,
+) -> Result<Delays, NoMemory>
+    requires workers { (1 ≤ workers) × (workers ≤ 64) }
+    requires machine { IsMachine machine.now }
+    requires net { IsNetOf machine.now net.now }
+    requires recorded { IsRecorded machine.now recorder.now }
+    requires components { AreComponents machine.now comps.old }
+    requires free { All (λ c. free_of c ≤ 2 ^ 56) comps.old }
+    requires fits { FitsIn (recorded_interval machine.now comps.old recorder.now) machine.now comps.old counters.old }
+    requires recording { IsRecordingSoFar machine.now recording.old }
+    ensures taken { IfOk result (IsTakenIn (recorded_interval machine.now comps.old recorder.now) comps.old comps.new counters.old counters.new) }
+    ensures recorded { OnOk result ((intervals : List Interval) → IsRecordingOf machine.now intervals recording.old → IsRecordingOf machine.now (intervals ++ recorded_interval machine.now comps.old recorder.now ∷ []) recording.new) }
+    ensures on { is_on recording.new ≡ is_on recording.old }
+{
+    let first = FirstPasses::of(gate);
+    let found = weave_by_cores(
+        alloc, machine, net, recorder, comps, counters, workers, &first, places, recording,
+    )?;
+    match found {
+        Some(delays) => Ok(delays),
+        None => weave_in_order(
+            rt,
+            alloc,
+            machine,
+            net,
+            recorder,
+            comps,
+            counters,
+            workers,
+            &first.later(),
+            places,
+            domains_are_worth,
+            recording,
+        ),
+    }
+}
+
+/// The same core by core, without adding anything to the recording. None where they cannot be fired
+/// so, or where the order of the accesses matters: nothing is changed then.
+fn weave_by_cores<G: Gate>(
+    alloc: Global,
+    machine: &Machine,
+    net: &Net,
+    recorder: &Recorder,
+    comps: &mut Comps<Comp>,
+    counters: &mut Counters,
+    workers: u16,
+    gate: &G,
+    places: &[u16],
+    recording: &Recording,
+) -> Result<Option<Delays>, NoMemory>
+    requires machine { IsMachine machine.now }
+    requires net { IsNetOf machine.now net.now }
+    requires recorded { IsRecorded machine.now recorder.now }
+    requires components { AreComponents machine.now comps.old }
+    requires free { All (λ c. free_of c ≤ 2 ^ 56) comps.old }
+    requires fits { FitsIn (recorded_interval machine.now comps.old recorder.now) machine.now comps.old counters.old }
+    ensures taken { IfOk result (λ found. IfSome found (IsTakenIn (recorded_interval machine.now comps.old recorder.now) comps.old comps.new counters.old counters.new)) }
+    ensures off { IfOk result (λ found. IfSome found (λ _. is_on recording.now ≡ false)) }
+    ensures comps { IfOk result (λ found. IfNone found (comps.new ≡ comps.old)) }
+    ensures counters { IfOk result (λ found. IfNone found (counters.new ≡ counters.old)) }
+{
+    access_log::laws::recorded_order_keeps_the_stamps();
+    intervals_are_woven();
+    if !can_fire_by_cores(machine, workers, recording) {
+        return Ok(None);
+    }
+    let found = weave_chains(alloc, net, recorder, comps, places, gate)?;
+    let Some(woven) = found else {
+        return Ok(None);
+    };
+    counters.add_counts(
+        recorder.counts(),
+        u64::from(recorder.access_count()),
+        &woven.delays,
+        &woven.counts,
+        u64::from(woven.events),
+        comps,
+    );
+    Ok(Some(woven.delays))
+}
+
+/// Whether so many workers fire the events of an interval core by core.
+fn can_fire_by_cores(machine: &Machine, workers: u16, recording: &Recording) -> bool
+    ensures mesh { result ≡ true → machine.now.mesh ≡ None }
+    ensures off { result ≡ true → is_on recording.now ≡ false }
+{
+    workers == 1 && machine.mesh.is_none() && !recording.is_on()
+}
+
+/// The same in the recorded order of the accesses.
+fn weave_in_order<R: Threads + Sync, G: Gate>(
+    rt: &R,
+    alloc: Global,
+    machine: &Machine,
+    net: &Net,
+    recorder: &Recorder,
+    comps: &mut Comps<Comp>,
+    counters: &mut Counters,
+    workers: u16,
+    gate: &G,
+    places: &[u16],
+    domains_are_worth: &mut bool,
+    recording: &mut Recording,
+) -> Result<Delays, NoMemory>
+    requires workers { (1 ≤ workers) × (workers ≤ 64) }
+    requires machine { IsMachine machine.now }
+    requires net { IsNetOf machine.now net.now }
+    requires recorded { IsRecorded machine.now recorder.now }
+    requires components { AreComponents machine.now comps.old }
+    requires free { All (λ c. free_of c ≤ 2 ^ 56) comps.old }
+    requires fits { FitsIn (recorded_interval machine.now comps.old recorder.now) machine.now comps.old counters.old }
+    requires recording { IsRecordingSoFar machine.now recording.old }
+    ensures taken { IfOk result (IsTakenIn (recorded_interval machine.now comps.old recorder.now) comps.old comps.new counters.old counters.new) }
+    ensures recorded { OnOk result ((intervals : List Interval) → IsRecordingOf machine.now intervals recording.old → IsRecordingOf machine.now (intervals ++ recorded_interval machine.now comps.old recorder.now ∷ []) recording.new) }
+    ensures on { is_on recording.new ≡ is_on recording.old }
+{
+    access_log::laws::recorded_order_keeps_the_stamps();
+    event_graph::laws::machine_components_stay();
+    let list = recorder.recorded_accesses(alloc)?;
+    let entries = Entries::of(list);
+    let graph = events_of(alloc, machine, net, &entries, comps)?;
+    let fired = fire_all(
+        rt,
+        alloc,
+        machine,
+        &graph,
+        comps,
+        workers,
+        gate,
+        places,
+        domains_are_worth,
+    )?;
+    let woven = woven_of(alloc, machine, graph, fired)?;
+    recording.keep(&woven.graph, &woven.fired)?;
+    counters.add_events(
+        recorder.counts(),
+        u64::from(recorder.access_count()),
+        &woven.graph,
+        &woven.fired,
+        &woven.delays,
+        comps,
+    );
+    Ok(woven.delays)
+}
