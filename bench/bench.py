@@ -31,7 +31,7 @@ TOP = os.path.dirname(HERE)
 PROGRAM = os.path.join(TOP, "crates/zsim_main/out/zsim_main")
 
 LOOPS = ["loop8", "loop800", "loop4000"]
-C_PROGRAMS = ["bytecode", "sort", "hits", "misses"]
+C_PROGRAMS = ["bytecode", "sort", "compress", "sat", "hits", "misses"]
 PARALLEL = ["sum", "lock", "matrix", "histogram"]
 BESIDE = ["private", "reading", "contended", "scattered"]
 PROGRAMS = LOOPS + C_PROGRAMS + PARALLEL + BESIDE
@@ -52,13 +52,13 @@ HEADINGS = [
 # What the names of each part's functions begin with: perf shares a run's user time by them. What the compiler builds
 # into a caller counts for the caller, as much of the caches for the execution, and much of the weave for the run.
 PARTS = {
-    "Execution": ("bound_core::", "rv_core::", "rv_decode::", "rv_alu::", "pipe_core::"),
+    "Execution": ("bound_core::", "rv_blocks::", "rv_core::", "rv_decode::", "rv_alu::", "pipe_core::"),
     "Caches": ("shard::", "home::", "l1_cache::", "cache_set::", "lanes::", "mesi_dir::", "flat_memory::"),
-    "Recorded order": ("access_log::", "core::slice::sort"),
+    "Recorded order": ("access_log::", "access_record::", "core::slice::sort"),
     "Graph": ("event_graph::",),
-    "Weave": ("weave_seq::", "component::", "feedback::"),
+    "Weave": ("weave_chains::", "weave_seq::", "component::", "feedback::"),
     "Counters": ("stats::",),
-    "Run": ("zsim::", "replay::"),
+    "Run": ("zsim::", "replay::", "bound_records::"),
 }
 
 PARALLEL_HEADINGS = [
