@@ -54,7 +54,7 @@ impl Model for Recorder {
 
 impl Recorder {
     /// One for a machine into which an executable was loaded, before the first access. It has room
-    /// for the accesses of an interval, which no other call takes.
+    /// for the accesses of an interval, so that no access takes memory.
     pub fn new(alloc: Global, machine: &Machine, image: &Image) -> Result<Self, NoMemory>
         requires machine { IsMachine machine.now }
         requires base { image.now.base ≡ machine.now.memory.base }

@@ -22,8 +22,8 @@ use std::thread::Threads;
 use zs_host::Gate;
 use zs_num::{Cycle, NoMemory};
 
-/// Runs the interval that ends at cycle `end`, 2^34 at most, in a run whose memory one worker has
-/// alone: it runs the cores one after the other, and as worker 0 passes the gate before each
+/// Runs the interval that ends at cycle `end`, 10 * 2^30 at most, in a run whose memory one worker
+/// has alone: it runs the cores one after the other, and as worker 0 passes the gate before each
 /// access. Then so many workers weave, as `weave_recorded` says. The recording gains the
 /// interval's events. Answers the run after the interval, and the cores of the interval's
 /// accesses in recorded order.

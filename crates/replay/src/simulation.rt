@@ -116,7 +116,7 @@ impl Simulation {
             || is_one_late(self.comps.as_slice())
     }
 
-    /// Runs the interval that ends at cycle `end`, which is 2^34 at most: first each core to the
+    /// Runs the interval that ends at cycle `end`, 10 * 2^30 at most: first each core to the
     /// interval's end, and then the weave. So many workers do both, but no more of them than there
     /// are cores, and then domains.
     /// `places` has the domain of each component. `domains_are_worth` says before the call whether
@@ -238,8 +238,8 @@ impl Simulation {
         Ok((simulation, turns))
     }
 
-    /// Runs this interval, which ends at cycle `end`, 2^34 at most, under a list of turns, in a run
-    /// over a port. Answers `list`, whose memory the accesses took, or the first place of the
+    /// Runs this interval, which ends at cycle `end`, 10 * 2^30 at most, under a list of turns, in
+    /// a run over a port. Answers `list`, whose memory the accesses took, or the first place of the
     /// turns that is not legal.
     pub fn interval_under(
         &mut self,
@@ -308,8 +308,8 @@ impl Simulation {
         let Memory::Shared(shards) = memory else {
             unreachable!()
         };
-        // Wrapped twice, and so of another type than the program of one worker: each of the two
-        // loops over instructions is compiled on its own.
+        // Wrapped twice, and so of another type than the program of one worker and that of a
+        // replay: each of the loops over instructions is compiled on its own.
         let program = OwnProgram { program };
         let program = OwnProgram { program: &program };
         match bound_in(
