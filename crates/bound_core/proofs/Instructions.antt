@@ -275,7 +275,7 @@ same_end image end c goes_on =
       | inr late ↦ stop (late_by_one image end c late)
     ]
 
-going_small : (goes_on : Bool) → going goes_on ≤ 1
+pub going_small : (goes_on : Bool) → going goes_on ≤ 1
 going_small true = omega arith
 going_small false = omega arith
 

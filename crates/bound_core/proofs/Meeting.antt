@@ -28,8 +28,13 @@ and_false : (free : Bool) → (free && false) ≡ false
 and_false true = refl
 and_false false = refl
 
-begun_waits : (single : Single) (core : CoreState) → is_free (begun single core) ≡ false
+pub begun_waits : (single : Single) (core : CoreState) → is_free (begun single core) ≡ false
 begun_waits single core = and_false (is_none core.halted)
+
+-- a core that goes on by itself comes to another instruction, unless it met an access
+pub comes_on : (met : Option Single) (core : CoreState) → is_free core ≡ true → is_none met ≡ is_free (begun_if met core)
+comes_on None core free = sym free
+comes_on (Some single) core free = sym (begun_waits single core)
 
 held_stops : (end : ℕ) (c : TimedCore) → is_free c.core ≡ false → goes_on_alone end c ≡ false
 held_stops end c held = rw held refl

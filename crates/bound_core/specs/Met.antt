@@ -1,5 +1,5 @@
 -- A core that came to an instruction of one access, and has not begun it.
-use Rattle.std.specs.Prelude.{Option}
+use Rattle.std.specs.Prelude.{ℕ, Option, Some, None}
 use Rattle.rv_core.specs.declared.single.Single.{Single}
 use Rattle.rv_core.specs.Single.{begun_if}
 use Rattle.bound_core.specs.TimedCore.{TimedCore}
@@ -7,3 +7,8 @@ use Rattle.bound_core.specs.TimedCore.{TimedCore}
 -- the core in time once it has begun the instruction that it met, if it met one
 abbrev pub begun_in_time : Option Single → TimedCore → TimedCore
 begun_in_time met c = record c { core = begun_if met c.core }
+
+-- how many instructions are counted of one that it met, if it met one
+abbrev pub met_count : Option Single → ℕ
+met_count None = 0
+met_count (Some single) = 1

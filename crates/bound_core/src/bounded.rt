@@ -1,17 +1,18 @@
 //! One core in an interval.
-ghost use Rattle.std.specs.Prelude.{◌≡◌, ◌+◌, ◌-◌, ◌*◌, ◌≤◌, ◌<◌, ◌^◌, max, false, ◌∷◌, [], Some, None, IfOk, OnOk, IsTrue, if◌then◌else◌};
+ghost use Rattle.std.specs.Prelude.{◌≡◌, ◌+◌, ◌-◌, ◌*◌, ◌≤◌, ◌<◌, ◌^◌, max, false, ◌∷◌, [], Some, None, is_none, IfOk, OnOk, IsTrue, if◌then◌else◌};
 ghost use Rattle.machine_desc.specs.InstructionCaches.{has_l1i};
+ghost use Rattle.zs_num.specs.Request.{line_at};
 ghost use Rattle.zs_num.specs.Servable.{IsServable};
 ghost use Rattle.machine_desc.specs.Machine.{IsMachine};
 ghost use Rattle.rv_core.specs.Single.{access_of, begun, begun_if, comes_to_next, met_by};
 ghost use Rattle.rv_core.specs.Sound.{IsSoundCore};
-ghost use Rattle.rv_core.specs.Step.{cost, is_free, needs_fetch};
+ghost use Rattle.rv_core.specs.Step.{cost, is_free, is_latest, needs_fetch};
 ghost use Rattle.bound_core.specs.Port.{Gains};
 ghost use Rattle.bound_core.specs.TimedCore.{after_instruction, asks, beside_cycles, core_after_access, delayed, first_core, goes_on_alone, ran_to};
 ghost use Rattle.bound_core.specs.Pacing.{IsSoon};
 ghost use Rattle.bound_core.specs.IntervalBounds.{latest_clock, most_accesses};
 ghost use Rattle.bound_core.specs.Ahead.{ahead, going};
-ghost use Rattle.bound_core.specs.Met.{begun_in_time};
+ghost use Rattle.bound_core.specs.Met.{begun_in_time, met_count};
 ghost use Rattle.bound_core.specs.Turn.{IfTook, IsOver, RunsToEnd, TurnsAs};
 
 use crate::loops::{Unfetched, WithinLine};
@@ -21,7 +22,7 @@ use elf_load::Image;
 use event_graph::Expand;
 use machine_desc::Machine;
 use pipe_core::Pace;
-use rv_core::{Core, Did, Program, Single, Stepped, Why};
+use rv_core::{Core, Did, Program, Ran, Single, Stepped, Why};
 use std::alloc::Global;
 use std::marker::Model;
 use zs_num::{Cycle, Entry, NoMemory, Request};
@@ -488,8 +489,8 @@ impl BoundCore {
         did.met()
     }
 
-    /// Executes blocks of instructions, and then the next instruction where the interval has not
-    /// ended. `most` may be counted before the end.
+    /// Executes blocks of instructions, and then the next instruction where they led to no access
+    /// and the interval has not ended. `most` may be counted before the end.
     #[inline(always)]
     fn advance<P: Program>(&mut self, program: &P, end: Cycle, most: u64, counted: &mut u64) -> Did
         requires free { IsTrue (is_free self.old.timed.core) }
@@ -510,7 +511,9 @@ impl BoundCore {
         ensures spare { self.new.spare ≡ self.old.spare }
         ensures pace { self.new.timed.pace ≡ None }
     {
-        self.run_blocks(program, end, most, counted);
+        if let Some(single) = self.run_blocks(program, end, most, counted) {
+            return Did::Meets(single);
+        }
         if *counted < most {
             self.step::<P, Unfetched>(program, counted)
         } else {
@@ -519,16 +522,22 @@ impl BoundCore {
     }
 
     /// Executes blocks of instructions, as far as the program has them at hand, and counts them, as
-    /// `step` does.
+    /// `step` does. Of an access that the core met the instruction is counted, and not begun.
     #[inline(always)]
-    fn run_blocks<P: Program>(&mut self, program: &P, _end: Cycle, most: u64, counted: &mut u64)
+    fn run_blocks<P: Program>(
+        &mut self,
+        program: &P,
+        _end: Cycle,
+        most: u64,
+        counted: &mut u64,
+    ) -> Option<Single>
         requires free { IsTrue (is_free self.old.timed.core) }
         requires fetching { self.old.timed.core.fetching ≡ false }
         requires unfetched { self.old.timed.core.is_fetched ≡ false }
         requires pace { self.old.timed.pace ≡ None }
         requires few { counted.old ≤ most }
         requires end { self.old.timed.clock + most ≤ _end }
-        ensures same_end { ran_to (P.image program.now) _end (ahead counted.new self.new.timed) ≡ ran_to (P.image program.now) _end (ahead counted.old self.old.timed) }
+        ensures same_end { ran_to (P.image program.now) _end (begun_in_time result (ahead counted.new self.new.timed)) ≡ ran_to (P.image program.now) _end (ahead counted.old self.old.timed) }
         ensures free { IsTrue (is_free self.new.timed.core) }
         ensures unfetched { self.new.timed.core.is_fetched ≡ false }
         ensures few { counted.new ≤ most }
@@ -540,11 +549,14 @@ impl BoundCore {
         ensures spare { self.new.spare ≡ self.old.spare }
         ensures pace { self.new.timed.pace ≡ None }
     {
-        *counted += self.core.run_blocks(program, most - *counted);
+        let ran = self.core.run_blocks(program, most - *counted);
+        *counted += counted_of(ran);
+        ran.met
     }
 
     /// Executes the instructions of a core that fetches, as far as they stand in the line of its
-    /// latest fetch. It ends at an access that the core met, which is counted and not begun.
+    /// latest fetch: those that the program has at hand, and the others one by one. It ends at an
+    /// access that the core met, which is counted and not begun.
     #[inline(always)]
     fn run_on<P: Program>(&mut self, program: &P, end: Cycle) -> Option<Single>
         requires fetching { IsTrue self.old.timed.core.fetching }
@@ -563,7 +575,7 @@ impl BoundCore {
     {
         let most = end.saturating_sub(self.clock);
         let mut counted = 0;
-        let mut did = Did::of(self.core.is_free());
+        let mut did = self.run_line(program, end, most, &mut counted);
         while did.goes_on() && counted < most && self.is_there(program) {
             did = self.step::<P, WithinLine>(program, &mut counted);
         }
@@ -572,10 +584,47 @@ impl BoundCore {
         did.met()
     }
 
+    /// The same as far as the program has them at hand, as `run_blocks` does. `most` may be counted
+    /// before the end.
+    #[inline(always)]
+    fn run_line<P: Program>(
+        &mut self,
+        program: &P,
+        _end: Cycle,
+        most: u64,
+        counted: &mut u64,
+    ) -> Did
+        requires fetching { IsTrue self.old.timed.core.fetching }
+        requires unfetched { self.old.timed.core.is_fetched ≡ false }
+        requires pace { self.old.timed.pace ≡ None }
+        requires few { counted.old ≤ most }
+        requires end { counted.old < most → self.old.timed.clock + most ≤ _end }
+        ensures same_end { ran_to (P.image program.now) _end (begun_in_time (met_by result) (ahead counted.new self.new.timed)) ≡ ran_to (P.image program.now) _end (ahead counted.old self.old.timed) }
+        ensures next { comes_to_next result ≡ is_free (begun_if (met_by result) self.new.timed.core) }
+        ensures unfetched { self.new.timed.core.is_fetched ≡ false }
+        ensures few { counted.new ≤ most }
+        ensures nearer { 2 * (most - counted.new) + going (comes_to_next result) ≤ 2 * (most - counted.old) + going (is_free self.old.timed.core) }
+        ensures clock { self.new.timed.clock ≡ self.old.timed.clock }
+        ensures number { self.new.number ≡ self.old.number }
+        ensures memory { self.new.timed.core.memory ≡ self.old.timed.core.memory }
+        ensures fetching { IsTrue self.new.timed.core.fetching }
+        ensures spare { self.new.spare ≡ self.old.spare }
+        ensures pace { self.new.timed.pace ≡ None }
+    {
+        let free = self.core.is_free();
+        if *counted < most && free && self.is_there(program) {
+            let ran = self.core.run_in_line(program, most - *counted);
+            *counted += counted_of(ran);
+            return did_by(ran.met);
+        }
+        Did::of(free)
+    }
+
     /// Whether the next instruction does not have to be fetched, by the line in which it stands.
     #[inline(always)]
     fn is_there<P: Program>(&self, _program: &P) -> bool
-        ensures { IsTrue result → needs_fetch (P.image _program.now) self.now.timed.core ≡ false }
+        ensures latest { IsTrue result → IsTrue (is_latest self.now.timed.core.fetched_line (line_at self.now.timed.core.pc)) }
+        ensures there { IsTrue result → needs_fetch (P.image _program.now) self.now.timed.core ≡ false }
     {
         self.core.is_in_latest_line()
     }
@@ -655,6 +704,27 @@ impl BoundCore {
         }
         did
     }
+}
+
+/// What came of instructions that a program executed, by the access that was met behind them.
+#[inline(always)]
+fn did_by(met: Option<Single>) -> Did
+    ensures met { met_by result ≡ met }
+    ensures next { comes_to_next result ≡ is_none met }
+{
+    match met {
+        Some(single) => Did::Meets(single),
+        None => Did::GoesOn,
+    }
+}
+
+/// How many instructions are counted of those that were executed, and one whose access was met.
+#[inline(always)]
+fn counted_of(ran: Ran) -> u64
+    requires { ran.count + met_count ran.met < 2 ^ 64 }
+    ensures { result ≡ ran.count + met_count ran.met }
+{
+    ran.count + u64::from(ran.met.is_some())
 }
 
 /// Whether the instruction that left a core halted for this reason, or not halted, is counted.

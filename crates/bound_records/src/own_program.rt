@@ -1,7 +1,7 @@
 //! A program as a type of its own.
 ghost use Rattle.std.specs.Prelude.{◌≡◌};
 
-use rv_core::{Fetched, Program, Ran};
+use rv_core::{Fetched, MemoryRange, Program, Ran};
 use rv_decode::Inst;
 
 /// A program as a type of its own. What is compiled for it is compiled for one loop over
@@ -26,7 +26,25 @@ impl<'a, P: Program> Program for OwnProgram<'a, P> {
     }
 
     #[inline(always)]
-    fn run_blocks(&self, registers: &mut [u64; 32], pc: u64, most: u64) -> Ran {
-        self.program.run_blocks(registers, pc, most)
+    fn run_blocks(
+        &self,
+        registers: &mut [u64; 32],
+        pc: u64,
+        most: u64,
+        memory: &MemoryRange,
+    ) -> Ran {
+        self.program.run_blocks(registers, pc, most, memory)
+    }
+
+    #[inline(always)]
+    fn run_in_line(
+        &self,
+        registers: &mut [u64; 32],
+        pc: u64,
+        most: u64,
+        memory: &MemoryRange,
+        line: u64,
+    ) -> Ran {
+        self.program.run_in_line(registers, pc, most, memory, line)
     }
 }

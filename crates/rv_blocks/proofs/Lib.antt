@@ -1,3 +1,4 @@
+pub mod Accesses
 pub mod Joining
 pub mod Lists
 pub mod Standing

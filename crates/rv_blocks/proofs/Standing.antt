@@ -17,7 +17,7 @@ use Rattle.rv_blocks.specs.declared.slot.Op.TheVariants as op
 use Rattle.elf_load.specs.MemoryImage.{MemoryImage}
 use Rattle.rv_blocks.specs.declared.slot.Slot.{Slot}
 use Rattle.rv_core.specs.Executions.{at}
-use Rattle.rv_blocks.specs.Slots.{Placed, Stretch, address_of, branches, does, is_setting, links_to_place, name_of, place_within, sets, ChangesNothing, DoesAs, GivesNumber, IsMeant, StandsFor}
+use Rattle.rv_blocks.specs.Slots.{Placed, Stretch, address_of, branches, does, is_setting, links_to_place, name_of, place_within, loads_by, sets, stores_by, AccessesAs, AccessesFor, ChangesNothing, DoesAs, GivesNumber, IsAccess, IsMeant, StandsFor}
 
 next_pc : (first place : ℕ) → first + 4 * (place + 1) ≤ 2 ^ 48 → (first + 4 * place + 4) % 2 ^ 64 ≡ first + 4 * (place + 1)
 next_pc first place room = omega (arith, room)
@@ -44,27 +44,6 @@ Computed n stretch slot i core registers place =
 pub computed : (n : Name) → IsTrue (is_arithmetic n) → (stretch : Stretch) (op : Op) (left : ℕ) (i : Inst) (core : CoreState) (registers : List ℕ) (place : ℕ)
     → Computed n stretch (record { op = op; name = n; rd = i.rd; rs1 = i.rs1; rs2 = i.rs2; left = left; value = immediate_number i }) i core registers place
 unfolding effect does
-computed name.Lui holds stretch op left i core registers place = cc
-computed name.Auipc holds stretch op left i core registers place = cc
-computed name.Jal holds stretch op left i core registers place = cc
-computed name.Jalr holds stretch op left i core registers place = cc
-computed name.Beq holds stretch op left i core registers place = cc
-computed name.Bne holds stretch op left i core registers place = cc
-computed name.Blt holds stretch op left i core registers place = cc
-computed name.Bge holds stretch op left i core registers place = cc
-computed name.Bltu holds stretch op left i core registers place = cc
-computed name.Bgeu holds stretch op left i core registers place = cc
-computed name.Lb holds stretch op left i core registers place = cc
-computed name.Lh holds stretch op left i core registers place = cc
-computed name.Lw holds stretch op left i core registers place = cc
-computed name.Ld holds stretch op left i core registers place = cc
-computed name.Lbu holds stretch op left i core registers place = cc
-computed name.Lhu holds stretch op left i core registers place = cc
-computed name.Lwu holds stretch op left i core registers place = cc
-computed name.Sb holds stretch op left i core registers place = cc
-computed name.Sh holds stretch op left i core registers place = cc
-computed name.Sw holds stretch op left i core registers place = cc
-computed name.Sd holds stretch op left i core registers place = cc
 computed name.Addi holds stretch op left i core registers place = (_, refl, refl)
 computed name.Slti holds stretch op left i core registers place = (_, refl, refl)
 computed name.Sltiu holds stretch op left i core registers place = (_, refl, refl)
@@ -78,9 +57,6 @@ computed name.Addiw holds stretch op left i core registers place = (_, refl, ref
 computed name.Slliw holds stretch op left i core registers place = (_, refl, refl)
 computed name.Srliw holds stretch op left i core registers place = (_, refl, refl)
 computed name.Sraiw holds stretch op left i core registers place = (_, refl, refl)
-computed name.Fence holds stretch op left i core registers place = cc
-computed name.Ecall holds stretch op left i core registers place = cc
-computed name.Ebreak holds stretch op left i core registers place = cc
 computed name.Add holds stretch op left i core registers place = (_, refl, refl)
 computed name.Sub holds stretch op left i core registers place = (_, refl, refl)
 computed name.Sll holds stretch op left i core registers place = (_, refl, refl)
@@ -109,28 +85,7 @@ computed name.Divw holds stretch op left i core registers place = (_, refl, refl
 computed name.Divuw holds stretch op left i core registers place = (_, refl, refl)
 computed name.Remw holds stretch op left i core registers place = (_, refl, refl)
 computed name.Remuw holds stretch op left i core registers place = (_, refl, refl)
-computed name.LrW holds stretch op left i core registers place = cc
-computed name.ScW holds stretch op left i core registers place = cc
-computed name.AmoswapW holds stretch op left i core registers place = cc
-computed name.AmoaddW holds stretch op left i core registers place = cc
-computed name.AmoxorW holds stretch op left i core registers place = cc
-computed name.AmoandW holds stretch op left i core registers place = cc
-computed name.AmoorW holds stretch op left i core registers place = cc
-computed name.AmominW holds stretch op left i core registers place = cc
-computed name.AmomaxW holds stretch op left i core registers place = cc
-computed name.AmominuW holds stretch op left i core registers place = cc
-computed name.AmomaxuW holds stretch op left i core registers place = cc
-computed name.LrD holds stretch op left i core registers place = cc
-computed name.ScD holds stretch op left i core registers place = cc
-computed name.AmoswapD holds stretch op left i core registers place = cc
-computed name.AmoaddD holds stretch op left i core registers place = cc
-computed name.AmoxorD holds stretch op left i core registers place = cc
-computed name.AmoandD holds stretch op left i core registers place = cc
-computed name.AmoorD holds stretch op left i core registers place = cc
-computed name.AmominD holds stretch op left i core registers place = cc
-computed name.AmomaxD holds stretch op left i core registers place = cc
-computed name.AmominuD holds stretch op left i core registers place = cc
-computed name.AmomaxuD holds stretch op left i core registers place = cc
+computed _ holds stretch op left i core registers place = cc
 
 -- ---- jumps and branches
 
@@ -172,93 +127,13 @@ Branched n stretch slot i core s =
 
 branched : (n : Name) → IsTrue (is_branch n) → (stretch : Stretch) (slot : Slot) (i : Inst) (core : CoreState) (s : Placed) → Branched n stretch slot i core s
 unfolding effect does
-branched name.Lui holds stretch slot i core s = cc
-branched name.Auipc holds stretch slot i core s = cc
-branched name.Jal holds stretch slot i core s = cc
-branched name.Jalr holds stretch slot i core s = cc
 branched name.Beq holds stretch slot i core s = (refl, refl)
 branched name.Bne holds stretch slot i core s = (refl, refl)
 branched name.Blt holds stretch slot i core s = (refl, refl)
 branched name.Bge holds stretch slot i core s = (refl, refl)
 branched name.Bltu holds stretch slot i core s = (refl, refl)
 branched name.Bgeu holds stretch slot i core s = (refl, refl)
-branched name.Lb holds stretch slot i core s = cc
-branched name.Lh holds stretch slot i core s = cc
-branched name.Lw holds stretch slot i core s = cc
-branched name.Ld holds stretch slot i core s = cc
-branched name.Lbu holds stretch slot i core s = cc
-branched name.Lhu holds stretch slot i core s = cc
-branched name.Lwu holds stretch slot i core s = cc
-branched name.Sb holds stretch slot i core s = cc
-branched name.Sh holds stretch slot i core s = cc
-branched name.Sw holds stretch slot i core s = cc
-branched name.Sd holds stretch slot i core s = cc
-branched name.Addi holds stretch slot i core s = cc
-branched name.Slti holds stretch slot i core s = cc
-branched name.Sltiu holds stretch slot i core s = cc
-branched name.Xori holds stretch slot i core s = cc
-branched name.Ori holds stretch slot i core s = cc
-branched name.Andi holds stretch slot i core s = cc
-branched name.Slli holds stretch slot i core s = cc
-branched name.Srli holds stretch slot i core s = cc
-branched name.Srai holds stretch slot i core s = cc
-branched name.Addiw holds stretch slot i core s = cc
-branched name.Slliw holds stretch slot i core s = cc
-branched name.Srliw holds stretch slot i core s = cc
-branched name.Sraiw holds stretch slot i core s = cc
-branched name.Fence holds stretch slot i core s = cc
-branched name.Ecall holds stretch slot i core s = cc
-branched name.Ebreak holds stretch slot i core s = cc
-branched name.Add holds stretch slot i core s = cc
-branched name.Sub holds stretch slot i core s = cc
-branched name.Sll holds stretch slot i core s = cc
-branched name.Slt holds stretch slot i core s = cc
-branched name.Sltu holds stretch slot i core s = cc
-branched name.Xor holds stretch slot i core s = cc
-branched name.Srl holds stretch slot i core s = cc
-branched name.Sra holds stretch slot i core s = cc
-branched name.Or holds stretch slot i core s = cc
-branched name.And holds stretch slot i core s = cc
-branched name.Addw holds stretch slot i core s = cc
-branched name.Subw holds stretch slot i core s = cc
-branched name.Sllw holds stretch slot i core s = cc
-branched name.Srlw holds stretch slot i core s = cc
-branched name.Sraw holds stretch slot i core s = cc
-branched name.Mul holds stretch slot i core s = cc
-branched name.Mulh holds stretch slot i core s = cc
-branched name.Mulhsu holds stretch slot i core s = cc
-branched name.Mulhu holds stretch slot i core s = cc
-branched name.Div holds stretch slot i core s = cc
-branched name.Divu holds stretch slot i core s = cc
-branched name.Rem holds stretch slot i core s = cc
-branched name.Remu holds stretch slot i core s = cc
-branched name.Mulw holds stretch slot i core s = cc
-branched name.Divw holds stretch slot i core s = cc
-branched name.Divuw holds stretch slot i core s = cc
-branched name.Remw holds stretch slot i core s = cc
-branched name.Remuw holds stretch slot i core s = cc
-branched name.LrW holds stretch slot i core s = cc
-branched name.ScW holds stretch slot i core s = cc
-branched name.AmoswapW holds stretch slot i core s = cc
-branched name.AmoaddW holds stretch slot i core s = cc
-branched name.AmoxorW holds stretch slot i core s = cc
-branched name.AmoandW holds stretch slot i core s = cc
-branched name.AmoorW holds stretch slot i core s = cc
-branched name.AmominW holds stretch slot i core s = cc
-branched name.AmomaxW holds stretch slot i core s = cc
-branched name.AmominuW holds stretch slot i core s = cc
-branched name.AmomaxuW holds stretch slot i core s = cc
-branched name.LrD holds stretch slot i core s = cc
-branched name.ScD holds stretch slot i core s = cc
-branched name.AmoswapD holds stretch slot i core s = cc
-branched name.AmoaddD holds stretch slot i core s = cc
-branched name.AmoxorD holds stretch slot i core s = cc
-branched name.AmoandD holds stretch slot i core s = cc
-branched name.AmoorD holds stretch slot i core s = cc
-branched name.AmominD holds stretch slot i core s = cc
-branched name.AmomaxD holds stretch slot i core s = cc
-branched name.AmominuD holds stretch slot i core s = cc
-branched name.AmomaxuD holds stretch slot i core s = cc
+branched _ holds stretch slot i core s = cc
 
 branch_by : (test : Bool) (stretch : Stretch) (place : ℕ) (core : CoreState) (registers : List ℕ) (target next : ℕ) → stretch.first % 4 ≡ 0 → stretch.first + 4 * (place + 1) ≤ 2 ^ 48
     → place_within stretch target ≡ Some next
@@ -289,93 +164,13 @@ links_stand None stretch place core registers slot target aligned room within = 
 links_stand (Some next) stretch place core registers slot target aligned room within = jumps_stand stretch place core registers slot.rd target next aligned room within
 
 pub branch_ends : (n : Name) → IsTrue (is_branch n) → is_setting n ≡ false
-branch_ends name.Lui holds = cc
-branch_ends name.Auipc holds = cc
-branch_ends name.Jal holds = cc
-branch_ends name.Jalr holds = cc
 branch_ends name.Beq holds = refl
 branch_ends name.Bne holds = refl
 branch_ends name.Blt holds = refl
 branch_ends name.Bge holds = refl
 branch_ends name.Bltu holds = refl
 branch_ends name.Bgeu holds = refl
-branch_ends name.Lb holds = cc
-branch_ends name.Lh holds = cc
-branch_ends name.Lw holds = cc
-branch_ends name.Ld holds = cc
-branch_ends name.Lbu holds = cc
-branch_ends name.Lhu holds = cc
-branch_ends name.Lwu holds = cc
-branch_ends name.Sb holds = cc
-branch_ends name.Sh holds = cc
-branch_ends name.Sw holds = cc
-branch_ends name.Sd holds = cc
-branch_ends name.Addi holds = cc
-branch_ends name.Slti holds = cc
-branch_ends name.Sltiu holds = cc
-branch_ends name.Xori holds = cc
-branch_ends name.Ori holds = cc
-branch_ends name.Andi holds = cc
-branch_ends name.Slli holds = cc
-branch_ends name.Srli holds = cc
-branch_ends name.Srai holds = cc
-branch_ends name.Addiw holds = cc
-branch_ends name.Slliw holds = cc
-branch_ends name.Srliw holds = cc
-branch_ends name.Sraiw holds = cc
-branch_ends name.Fence holds = cc
-branch_ends name.Ecall holds = cc
-branch_ends name.Ebreak holds = cc
-branch_ends name.Add holds = cc
-branch_ends name.Sub holds = cc
-branch_ends name.Sll holds = cc
-branch_ends name.Slt holds = cc
-branch_ends name.Sltu holds = cc
-branch_ends name.Xor holds = cc
-branch_ends name.Srl holds = cc
-branch_ends name.Sra holds = cc
-branch_ends name.Or holds = cc
-branch_ends name.And holds = cc
-branch_ends name.Addw holds = cc
-branch_ends name.Subw holds = cc
-branch_ends name.Sllw holds = cc
-branch_ends name.Srlw holds = cc
-branch_ends name.Sraw holds = cc
-branch_ends name.Mul holds = cc
-branch_ends name.Mulh holds = cc
-branch_ends name.Mulhsu holds = cc
-branch_ends name.Mulhu holds = cc
-branch_ends name.Div holds = cc
-branch_ends name.Divu holds = cc
-branch_ends name.Rem holds = cc
-branch_ends name.Remu holds = cc
-branch_ends name.Mulw holds = cc
-branch_ends name.Divw holds = cc
-branch_ends name.Divuw holds = cc
-branch_ends name.Remw holds = cc
-branch_ends name.Remuw holds = cc
-branch_ends name.LrW holds = cc
-branch_ends name.ScW holds = cc
-branch_ends name.AmoswapW holds = cc
-branch_ends name.AmoaddW holds = cc
-branch_ends name.AmoxorW holds = cc
-branch_ends name.AmoandW holds = cc
-branch_ends name.AmoorW holds = cc
-branch_ends name.AmominW holds = cc
-branch_ends name.AmomaxW holds = cc
-branch_ends name.AmominuW holds = cc
-branch_ends name.AmomaxuW holds = cc
-branch_ends name.LrD holds = cc
-branch_ends name.ScD holds = cc
-branch_ends name.AmoswapD holds = cc
-branch_ends name.AmoaddD holds = cc
-branch_ends name.AmoxorD holds = cc
-branch_ends name.AmoandD holds = cc
-branch_ends name.AmoorD holds = cc
-branch_ends name.AmominD holds = cc
-branch_ends name.AmomaxD holds = cc
-branch_ends name.AmominuD holds = cc
-branch_ends name.AmomaxuD holds = cc
+branch_ends _ holds = cc
 
 -- ---- single instructions
 
@@ -404,99 +199,15 @@ module _ (i : Inst) (stretch : Stretch) (place : ℕ) where
 does_whatever : (n : Name) (stretch : Stretch) (slot : Slot) (left : ℕ) (s : Placed) → does n stretch (record slot { left = left }) s ≡ does n stretch slot s
 unfolding does
 does_whatever name.Lui stretch slot left s = refl
-does_whatever name.Auipc stretch slot left s = refl
-does_whatever name.Jal stretch slot left s = refl
-does_whatever name.Jalr stretch slot left s = refl
-does_whatever name.Beq stretch slot left s = refl
-does_whatever name.Bne stretch slot left s = refl
-does_whatever name.Blt stretch slot left s = refl
-does_whatever name.Bge stretch slot left s = refl
-does_whatever name.Bltu stretch slot left s = refl
-does_whatever name.Bgeu stretch slot left s = refl
-does_whatever name.Lb stretch slot left s = refl
-does_whatever name.Lh stretch slot left s = refl
-does_whatever name.Lw stretch slot left s = refl
-does_whatever name.Ld stretch slot left s = refl
-does_whatever name.Lbu stretch slot left s = refl
-does_whatever name.Lhu stretch slot left s = refl
-does_whatever name.Lwu stretch slot left s = refl
-does_whatever name.Sb stretch slot left s = refl
-does_whatever name.Sh stretch slot left s = refl
-does_whatever name.Sw stretch slot left s = refl
-does_whatever name.Sd stretch slot left s = refl
-does_whatever name.Addi stretch slot left s = refl
-does_whatever name.Slti stretch slot left s = refl
-does_whatever name.Sltiu stretch slot left s = refl
-does_whatever name.Xori stretch slot left s = refl
-does_whatever name.Ori stretch slot left s = refl
-does_whatever name.Andi stretch slot left s = refl
-does_whatever name.Slli stretch slot left s = refl
-does_whatever name.Srli stretch slot left s = refl
-does_whatever name.Srai stretch slot left s = refl
-does_whatever name.Addiw stretch slot left s = refl
-does_whatever name.Slliw stretch slot left s = refl
-does_whatever name.Srliw stretch slot left s = refl
-does_whatever name.Sraiw stretch slot left s = refl
-does_whatever name.Fence stretch slot left s = refl
-does_whatever name.Ecall stretch slot left s = refl
-does_whatever name.Ebreak stretch slot left s = refl
-does_whatever name.Add stretch slot left s = refl
-does_whatever name.Sub stretch slot left s = refl
-does_whatever name.Sll stretch slot left s = refl
-does_whatever name.Slt stretch slot left s = refl
-does_whatever name.Sltu stretch slot left s = refl
-does_whatever name.Xor stretch slot left s = refl
-does_whatever name.Srl stretch slot left s = refl
-does_whatever name.Sra stretch slot left s = refl
-does_whatever name.Or stretch slot left s = refl
-does_whatever name.And stretch slot left s = refl
-does_whatever name.Addw stretch slot left s = refl
-does_whatever name.Subw stretch slot left s = refl
-does_whatever name.Sllw stretch slot left s = refl
-does_whatever name.Srlw stretch slot left s = refl
-does_whatever name.Sraw stretch slot left s = refl
-does_whatever name.Mul stretch slot left s = refl
-does_whatever name.Mulh stretch slot left s = refl
-does_whatever name.Mulhsu stretch slot left s = refl
-does_whatever name.Mulhu stretch slot left s = refl
-does_whatever name.Div stretch slot left s = refl
-does_whatever name.Divu stretch slot left s = refl
-does_whatever name.Rem stretch slot left s = refl
-does_whatever name.Remu stretch slot left s = refl
-does_whatever name.Mulw stretch slot left s = refl
-does_whatever name.Divw stretch slot left s = refl
-does_whatever name.Divuw stretch slot left s = refl
-does_whatever name.Remw stretch slot left s = refl
-does_whatever name.Remuw stretch slot left s = refl
-does_whatever name.LrW stretch slot left s = refl
-does_whatever name.ScW stretch slot left s = refl
-does_whatever name.AmoswapW stretch slot left s = refl
-does_whatever name.AmoaddW stretch slot left s = refl
-does_whatever name.AmoxorW stretch slot left s = refl
-does_whatever name.AmoandW stretch slot left s = refl
-does_whatever name.AmoorW stretch slot left s = refl
-does_whatever name.AmominW stretch slot left s = refl
-does_whatever name.AmomaxW stretch slot left s = refl
-does_whatever name.AmominuW stretch slot left s = refl
-does_whatever name.AmomaxuW stretch slot left s = refl
-does_whatever name.LrD stretch slot left s = refl
-does_whatever name.ScD stretch slot left s = refl
-does_whatever name.AmoswapD stretch slot left s = refl
-does_whatever name.AmoaddD stretch slot left s = refl
-does_whatever name.AmoxorD stretch slot left s = refl
-does_whatever name.AmoandD stretch slot left s = refl
-does_whatever name.AmoorD stretch slot left s = refl
-does_whatever name.AmominD stretch slot left s = refl
-does_whatever name.AmomaxD stretch slot left s = refl
-does_whatever name.AmominuD stretch slot left s = refl
-does_whatever name.AmomaxuD stretch slot left s = refl
+does_whatever _ stretch slot left s = refl
 
 pub meant_whatever : (left : ℕ) (image : MemoryImage) (stretch : Stretch) (place : ℕ) (slot : Slot) → IsMeant image stretch place slot → IsMeant image stretch place (record slot { left = left })
-meant_whatever left image stretch place slot (fit, stands) = (
+meant_whatever left image stretch place slot (fit, stands, accesses) = (
   record { rd = fit.rd; rs1 = fit.rs1; rs2 = fit.rs2; writes = fit.writes; leads = fit.leads; falls = fit.falls },
   (λ core registers.
       let P : Option Placed → Type 0 = λ o. IfSome o (λ next. executed image (at core registers (address_of stretch place)) ≡ at core next.registers (address_of stretch next.place)) in
       subst P (sym (does_whatever (name_of slot) stretch slot left (record { registers = registers; place = place }))) (stands core registers)),
+  (λ core registers. accesses core registers),
 )
 
 -- the slot that is left to the core is right anywhere
@@ -515,6 +226,7 @@ left_meant image stretch place = (
     falls = λ holds. absurd (true≢false (sym holds));
   },
   (λ core registers. tt),
+  (λ core registers. tt),
 )
 
 -- a slot that does as an instruction stands for it where it is fetched
@@ -523,4 +235,12 @@ pub stands_for : (image : MemoryImage) (stretch : Stretch) (place : ℕ) (i : In
 stands_for image stretch place i slot fetched done core registers =
     let from : CoreState = at core registers (address_of stretch place) in
     let P : CoreState → Type 0 = λ to. IfSome (does (name_of slot) stretch slot (record { registers = registers; place = place })) (λ next. to ≡ at core next.registers (address_of stretch next.place)) in
+    subst P (sym (ap (λ f. after_fetch f from) fetched)) (done core registers)
+
+-- and so does one whose access is the instruction's
+pub accesses_for : (image : MemoryImage) (stretch : Stretch) (place : ℕ) (i : Inst) (slot : Slot) → fetched_at image (address_of stretch place) ≡ Instruction i
+    → AccessesAs i stretch place slot → AccessesFor image stretch place slot
+accesses_for image stretch place i slot fetched done core registers =
+    let from : CoreState = at core registers (address_of stretch place) in
+    let P : CoreState → Type 0 = λ after. IsAccess slot.op after (loads_by slot from) (stores_by slot from) in
     subst P (sym (ap (λ f. after_fetch f from) fetched)) (done core registers)

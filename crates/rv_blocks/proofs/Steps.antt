@@ -1,12 +1,12 @@
 -- A slot that goes on is one instruction more, and what it costs is what is left of its block.
-use Rattle.std.proofs.Common.{◌≡◌, ℕ, suc, ◌+◌, ◌-◌, ◌*◌, ◌≤◌, Bool, true, false, List, Option, Some, length, refl, ap, sym, ◌∙◌, arith, subst, IsTrue}
+use Rattle.std.proofs.Common.{◌≡◌, ℕ, zero, suc, ◌+◌, ◌-◌, ◌*◌, ◌<◌, ◌≤◌, Bool, true, false, List, Option, Some, None, inr, length, refl, ap, sym, ◌∙◌, arith, subst, IsTrue}
 use Rattle.std.specs.Prelude.{if◌then◌else◌, slice_get, IfSome}
 use Rattle.elf_load.specs.MemoryImage.{MemoryImage}
 use Rattle.rv_core.specs.CoreState.{CoreState}
 use Rattle.rv_core.specs.Step.{executed}
 use Rattle.rv_blocks.specs.declared.slot.Slot.{Slot}
-use Rattle.rv_core.specs.Executions.{at, LeadsTo}
-use Rattle.rv_blocks.specs.Slots.{Placed, Stretch, does, is_plain, left_at, left_of, name_of, AreSlots}
+use Rattle.rv_core.specs.Executions.{at, LeadsTo, LiesIn}
+use Rattle.rv_blocks.specs.Slots.{Placed, Stretch, does, is_plain, left_at, left_of, name_of, AreSlots, Ends}
 
 cost_on : (test : Bool) (m n : ℕ) → IsTrue test → (if test then m else n) ≡ m
 cost_on true m n holds = refl
@@ -42,37 +42,78 @@ module _ (image : MemoryImage) (first : ℕ) (slots : List Slot) (are : AreSlots
   pub costs_last : is_plain (name_of slot) ≡ false → left_at slots place ≡ 1
   costs_last ends = costs ∙ are.counted place slot here ∙ cost_off (is_plain (name_of slot)) (1 + left_at slots (place + 1)) 1 ends
 
-  pub one_further : (n : ℕ) (x y z : List ℕ) (pc next : ℕ) → LeadsTo n image x pc y (first + 4 * place)
+  pub one_further : (line : Option ℕ) (n : ℕ) (x y z : List ℕ) (pc next : ℕ) → LeadsTo line n image x pc y (first + 4 * place) → LiesIn line (first + 4 * place)
       → Some (record { registers = z; place = next }) ≡ does (name_of slot) (record { first = first; count = length slots }) slot (record { registers = y; place = place })
-      → LeadsTo (suc n) image x pc z (first + 4 * next)
-  one_further n x y z pc next led value =
+      → LeadsTo line (suc n) image x pc z (first + 4 * next)
+  one_further line n x y z pc next led lies value =
       let stretch : Stretch = record { first = first; count = length slots } in
       let P : CoreState → Option Placed → Type 0 = λ core o. IfSome o (λ after. executed image (at core y (first + 4 * place)) ≡ at core after.registers (first + 4 * after.place)) in
-      (y, (first + 4 * place, (led, λ core. subst (P core) (sym value) (are.stand place slot here core y))))
+      (y, (first + 4 * place, (led, lies, λ core. subst (P core) (sym value) (are.stand place slot here core y))))
 
   pub goes_on : (budget left : ℕ) (x y z : List ℕ) (pc : ℕ) → left + left_at slots place ≤ budget
-      → LeadsTo (budget - (left + left_at slots place)) image x pc y (first + 4 * place)
+      → LeadsTo None (budget - (left + left_at slots place)) image x pc y (first + 4 * place)
       → Some (record { registers = z; place = place + 1 }) ≡ does (name_of slot) (record { first = first; count = length slots }) slot (record { registers = y; place = place })
       → IsTrue (is_plain (name_of slot))
-      → LeadsTo (budget - (left + left_at slots (place + 1))) image x pc z (first + 4 * (place + 1))
+      → LeadsTo None (budget - (left + left_at slots (place + 1))) image x pc z (first + 4 * (place + 1))
   goes_on budget left x y z pc paid led value plain =
-      let P : ℕ → Type 0 = λ n. LeadsTo n image x pc z (first + 4 * (place + 1)) in
+      let P : ℕ → Type 0 = λ n. LeadsTo None n image x pc z (first + 4 * (place + 1)) in
       subst P (one_more budget left (left_at slots place) (left_at slots (place + 1)) (costs_more plain) paid)
-      (one_further (budget - (left + left_at slots place)) x y z pc (place + 1) led value)
+      (one_further None (budget - (left + left_at slots place)) x y z pc (place + 1) led tt value)
 
   pub goes_to : (budget left : ℕ) (x y z : List ℕ) (pc next : ℕ) → left + left_at slots place ≤ budget
-      → LeadsTo (budget - (left + left_at slots place)) image x pc y (first + 4 * place)
+      → LeadsTo None (budget - (left + left_at slots place)) image x pc y (first + 4 * place)
       → Some (record { registers = z; place = next }) ≡ does (name_of slot) (record { first = first; count = length slots }) slot (record { registers = y; place = place })
       → is_plain (name_of slot) ≡ false
-      → LeadsTo (budget - left) image x pc z (first + 4 * next)
+      → LeadsTo None (budget - left) image x pc z (first + 4 * next)
   goes_to budget left x y z pc next paid led value ends =
-      let P : ℕ → Type 0 = λ n. LeadsTo n image x pc z (first + 4 * next) in
+      let P : ℕ → Type 0 = λ n. LeadsTo None n image x pc z (first + 4 * next) in
       subst P (last_one budget left (left_at slots place) (costs_last ends) paid)
-      (one_further (budget - (left + left_at slots place)) x y z pc next led value)
+      (one_further None (budget - (left + left_at slots place)) x y z pc next led tt value)
+
+  pub walks_on : (line : Option ℕ) (most left : ℕ) (x y z : List ℕ) (pc next : ℕ) → 0 < left → left ≤ most
+      → LeadsTo line (most - left) image x pc y (first + 4 * place) → LiesIn line (first + 4 * place)
+      → Some (record { registers = z; place = next }) ≡ does (name_of slot) (record { first = first; count = length slots }) slot (record { registers = y; place = place })
+      → LeadsTo line (most - (left - 1)) image x pc z (first + 4 * next)
+  walks_on line most left x y z pc next some few led lies value =
+      let P : ℕ → Type 0 = λ n. LeadsTo line n image x pc z (first + 4 * next) in
+      let again : suc (most - left) ≡ most - (left - 1) = omega (arith, some, few) in
+      subst P again (one_further line (most - left) x y z pc next led lies value)
+
+  -- a loop ends where the slot does nothing
+  pub ends_apart : (x y : List ℕ) (cost left : ℕ) → y ≡ x
+      → None ≡ does (name_of slot) (record { first = first; count = length slots }) slot (record { registers = x; place = place })
+      → 0 < left → Ends first slots cost left (record { registers = y; place = place })
+  ends_apart x y cost left same none some =
+      let stretch : Stretch = record { first = first; count = length slots } in
+      let Nothing : List ℕ → Slot → Type 0 = λ r s. does (name_of s) stretch s (record { registers = r; place = place }) ≡ None in
+      let apart : Nothing y slot = subst (λ r. Nothing r slot) (sym same) (sym none) in
+      inr (some, subst (λ (o : Option Slot). IfSome o (Nothing y)) (sym here) apart)
+
+-- instructions behind others
+pub led_together : (line : Option ℕ) (image : MemoryImage) (x y z : List ℕ) (pc pc_between pc_after : ℕ) (m n : ℕ) → LeadsTo line m image x pc y pc_between → LeadsTo line n image y pc_between z pc_after
+    → LeadsTo line (n + m) image x pc z pc_after
+led_together line image x y z pc pc_between pc_after m zero before after =
+    let P : List ℕ → ℕ → Type 0 = λ r p. LeadsTo line m image x pc r p in
+    let same : P z pc_after = subst (λ r. P r pc_after) (sym after.0) (subst (P y) (sym after.1) before) in
+    let count : m ≡ 0 + m = omega arith in
+    subst (λ k. LeadsTo line k image x pc z pc_after) count same
+led_together line image x y z pc pc_between pc_after m (suc n) before (r, (p, (led, lies, leads))) =
+    let count : suc (n + m) ≡ suc n + m = omega arith in
+    subst (λ k. LeadsTo line k image x pc z pc_after) count (r, (p, (led_together line image x y r pc pc_between p m n before led, lies, leads)))
 
 pub pays : (image : MemoryImage) (budget left cost : ℕ) (slots : List Slot) (x z : List ℕ) (pc pc_after next : ℕ) → left_at slots next ≡ cost → cost ≤ left
-    → LeadsTo (budget - left) image x pc z pc_after
-    → LeadsTo (budget - (left - cost + left_at slots next)) image x pc z pc_after
+    → LeadsTo None (budget - left) image x pc z pc_after
+    → LeadsTo None (budget - (left - cost + left_at slots next)) image x pc z pc_after
 pays image budget left cost slots x z pc pc_after next same enough led =
-    let P : ℕ → Type 0 = λ n. LeadsTo n image x pc z pc_after in
+    let P : ℕ → Type 0 = λ n. LeadsTo None n image x pc z pc_after in
     subst P (paid_next budget left cost (left_at slots next) same enough) led
+
+-- ---- what is answered
+
+-- the instructions led there, by other names of the same numbers
+pub led_as : (line : Option ℕ) (image seen : MemoryImage) (n count : ℕ) (x z : List ℕ) (from pc to pc_after : ℕ) → image ≡ seen → count ≡ n → pc ≡ from → pc_after ≡ to
+    → LeadsTo line n image x from z to → LeadsTo line count seen x pc z pc_after
+led_as line image seen n count x z from pc to pc_after same_image same_count same_from same_to led =
+    subst (λ i. LeadsTo line count i x pc z pc_after) same_image
+    (subst (λ k. LeadsTo line k image x pc z pc_after) (sym same_count)
+    (subst (λ p. LeadsTo line n image x p z pc_after) (sym same_from) (subst (λ p. LeadsTo line n image x from z p) (sym same_to) led)))

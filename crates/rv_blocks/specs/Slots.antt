@@ -1,5 +1,5 @@
 -- What a slot does, and what the slots of a program are.
-use Rattle.std.specs.Prelude.{◌≡◌, ◌≢◌, ℕ, ◌+◌, ◌-◌, ◌*◌, ◌/◌, ◌%◌, ◌^◌, ◌<◌, ◌≤◌, nat_le, nat_lt, ◌==◌, Bool, true, ◌&&◌, ◌||◌, if◌then◌else◌, List, length, slice_get, slice_index, Option, Some, None, IfSome, IsTrue}
+use Rattle.std.specs.Prelude.{◌≡◌, ◌≢◌, ℕ, ◌+◌, ◌-◌, ◌*◌, ◌/◌, ◌%◌, ◌^◌, ◌<◌, ◌≤◌, nat_le, nat_lt, ◌==◌, Bool, true, false, ◌&&◌, ◌||◌, if◌then◌else◌, List, length, slice_get, slice_index, Option, Some, None, ◌⊎◌, IfSome, IsTrue}
 use Rattle.elf_load.specs.MemoryImage.{MemoryImage}
 use Rattle.rv_decode.specs.declared.inst.Inst.{Inst}
 use Rattle.rv_decode.specs.declared.name.Name.{Name}
@@ -7,13 +7,18 @@ use Rattle.rv_decode.specs.declared.name.Name.TheVariants as name
 use Rattle.rv_alu.specs.Arithmetic.{result_of}
 use Rattle.rv_alu.specs.Branch.{is_taken}
 use Rattle.rv_alu.specs.Computing.{is_arithmetic, is_branch}
-use Rattle.rv_core.specs.CoreState.{CoreState}
-use Rattle.rv_core.specs.Effect.{effect, even, goes_on, with_register}
+use Rattle.rv_core.specs.declared.memory_range.MemoryRange.{MemoryRange}
+use Rattle.rv_core.specs.declared.progress.Destination.{Destination}
+use Rattle.rv_core.specs.declared.single.Single.{Single}
+use Rattle.rv_core.specs.Accesses.{load_requests, store_requests}
+use Rattle.rv_core.specs.CoreState.{CoreState, ToNothing, ToRegister}
+use Rattle.rv_core.specs.Effect.{accesses, effect, even, goes_on, register, with_register}
+use Rattle.rv_core.specs.Single.{single_load, single_store}
 use Rattle.rv_core.specs.Step.{executed}
 use Rattle.rv_blocks.specs.declared.slot.Op.{Op}
 use Rattle.rv_blocks.specs.declared.slot.Op.TheVariants as op
 use Rattle.rv_blocks.specs.declared.slot.Slot.{Slot}
-use Rattle.rv_core.specs.Executions.{at}
+use Rattle.rv_core.specs.Executions.{at, LiesIn}
 
 -- registers, and the place of the slot that comes next
 pub record Placed : Type 0 where
@@ -34,13 +39,14 @@ number_in s register = slice_index s.registers register
 
 -- ---- names
 
--- the name of a frequent instruction, or the one that the slot has
+-- The name of a frequent instruction, or the one that the slot has. The loop does no load and no store, whichever the slot
+-- has.
 abbrev pub named : Op → Name → Name
+named op.Load other = name.Ld
+named op.Store other = name.Sd
 named op.Add other = name.Add
 named op.Sub other = name.Sub
 named op.And other = name.And
-named op.Or other = name.Or
-named op.Xor other = name.Xor
 named op.Addi other = name.Addi
 named op.Andi other = name.Andi
 named op.Slli other = name.Slli
@@ -148,6 +154,85 @@ does name.Bltu stretch slot s = branches name.Bltu slot s
 does name.Bgeu stretch slot s = branches name.Bgeu slot s
 does _ stretch slot s = None
 
+-- ---- loads and stores
+
+abbrev pub is_load : Name → Bool
+is_load name.Lb = true
+is_load name.Lh = true
+is_load name.Lw = true
+is_load name.Ld = true
+is_load name.Lbu = true
+is_load name.Lhu = true
+is_load name.Lwu = true
+is_load _ = false
+
+abbrev pub is_store : Name → Bool
+is_store name.Sb = true
+is_store name.Sh = true
+is_store name.Sw = true
+is_store name.Sd = true
+is_store _ = false
+
+-- how many bytes one has
+abbrev pub width_of : Name → ℕ
+width_of name.Lb = 1
+width_of name.Lbu = 1
+width_of name.Sb = 1
+width_of name.Lh = 2
+width_of name.Lhu = 2
+width_of name.Sh = 2
+width_of name.Lw = 4
+width_of name.Lwu = 4
+width_of name.Sw = 4
+width_of _ = 8
+
+-- whether the number that a load gives is sign-extended
+abbrev pub is_signed : Name → Bool
+is_signed name.Lb = true
+is_signed name.Lh = true
+is_signed name.Lw = true
+is_signed name.Ld = true
+is_signed _ = false
+
+-- the address of its first byte
+abbrev pub address_by : Slot → (registers : List ℕ) → ℕ
+address_by slot registers = (slice_index registers slot.rs1 + slot.value) % 2 ^ 64
+
+abbrev pub destination_by : Slot → Destination
+destination_by slot = record { rd = slot.rd; width = width_of slot.name; signed = is_signed slot.name }
+
+abbrev pub loads_by : Slot → CoreState → CoreState
+loads_by slot core =
+    accesses (address_by slot core.registers) (width_of slot.name) (load_requests (address_by slot core.registers) (width_of slot.name)) (ToRegister (destination_by slot)) core
+
+abbrev pub stores_by : Slot → CoreState → CoreState
+stores_by slot core =
+    accesses (address_by slot core.registers) (width_of slot.name)
+    (store_requests (address_by slot core.registers) (width_of slot.name) (register core slot.rs2)) ToNothing core
+
+-- what a core comes to by a slot of this kind, where it is a load or a store
+abbrev pub IsAccess : Op → (after loaded stored : CoreState) → Type 0
+IsAccess op.Load after loaded stored = after ≡ loaded
+IsAccess op.Store after loaded stored = after ≡ stored
+IsAccess _ after loaded stored = Unit {0}
+
+abbrev pub is_access : Op → Bool
+is_access op.Load = true
+is_access op.Store = true
+is_access _ = false
+
+-- the one access of a slot of this kind, where it is a load or a store
+abbrev pub met_as : Op → (load store : Option Single) → Option Single
+met_as op.Load load store = load
+met_as op.Store load store = store
+met_as _ load store = None
+
+-- the one access of a slot, where its bytes are in memory and in one line
+abbrev pub met_by : Slot → MemoryRange → (registers : List ℕ) → Option Single
+met_by slot memory registers =
+    met_as slot.op (single_load memory (address_by slot registers) (destination_by slot))
+    (single_store memory (address_by slot registers) (width_of slot.name) (slice_index registers slot.rs2))
+
 -- ---- blocks
 
 -- the cost of a slot, if there is one
@@ -201,6 +286,18 @@ DoesAs i stretch place slot = (core : CoreState) (registers : List ℕ)
     → IfSome (does (name_of slot) stretch slot (record { registers = registers; place = place })) (λ next.
     effect i.name i (at core registers (address_of stretch place)) ≡ at core next.registers (address_of stretch next.place))
 
+-- The load or the store of the slot at a place is the one of the instruction at its address.
+abbrev pub AccessesFor : MemoryImage → Stretch → (place : ℕ) → Slot → Type 0
+AccessesFor image stretch place slot = (core : CoreState) (registers : List ℕ)
+    → IsAccess slot.op (executed image (at core registers (address_of stretch place)))
+    (loads_by slot (at core registers (address_of stretch place))) (stores_by slot (at core registers (address_of stretch place)))
+
+-- It is the one of an instruction at its address.
+abbrev pub AccessesAs : Inst → Stretch → (place : ℕ) → Slot → Type 0
+AccessesAs i stretch place slot = (core : CoreState) (registers : List ℕ)
+    → IsAccess slot.op (effect i.name i (at core registers (address_of stretch place)))
+    (loads_by slot (at core registers (address_of stretch place))) (stores_by slot (at core registers (address_of stretch place)))
+
 -- Whatever the registers are, an instruction gives rd this number, and the core goes on at the next one.
 abbrev pub GivesNumber : Inst → (value : ℕ) → Stretch → (place : ℕ) → Type 0
 GivesNumber i value stretch place = (core : CoreState) (registers : List ℕ)
@@ -222,7 +319,8 @@ IsCounted slots place slot = slot.left ≡ (if is_plain (name_of slot) then 1 + 
 
 -- what a slot at a place keeps but for its cost
 abbrev pub IsMeant : MemoryImage → Stretch → (place : ℕ) → Slot → Type 0
-IsMeant image stretch place slot = IsFit stretch.count place slot × StandsFor image stretch place slot
+IsMeant image stretch place slot =
+    IsFit stretch.count place slot × StandsFor image stretch place slot × AccessesFor image stretch place slot
 
 abbrev pub AreMeantSoFar : MemoryImage → Stretch → List Slot → Type 0
 AreMeantSoFar image stretch slots = Each slots (IsMeant image stretch)
@@ -239,9 +337,18 @@ pub record AreSlots (image : MemoryImage) (first : ℕ) (slots : List Slot) : Ty
   pub memory : first + 4 * length slots ≤ 2 ^ 48
   pub fit : Each slots (IsFit (length slots))
   pub stand : Each slots (StandsFor image (record { first = first; count = length slots }))
+  pub access : Each slots (AccessesFor image (record { first = first; count = length slots }))
   pub counted : Each slots (IsCounted slots)
 
 -- The slot that comes next does nothing: its instruction is left to the core.
 abbrev pub IsApart : (first : ℕ) → List Slot → Placed → Type 0
 IsApart first slots s =
     IfSome (slice_get slots s.place) (λ slot. does (name_of slot) (record { first = first; count = length slots }) slot s ≡ None)
+
+-- a line is given, and the address lies in another
+abbrev pub LiesOut : Option ℕ → (pc : ℕ) → Type 0
+LiesOut line pc = LiesIn line pc → ⊥
+
+-- Why a loop ends where so much of its budget is left: what comes next costs more, or it is left to the core.
+abbrev pub Ends : (first : ℕ) → List Slot → (cost left : ℕ) → Placed → Type 0
+Ends first slots cost left s = (left < cost) ⊎ ((0 < left) × IsApart first slots s)

@@ -1,33 +1,31 @@
-//! The loop over slots.
-ghost use Rattle.std.specs.Prelude.{◌≡◌, ◌+◌, ◌-◌, ◌*◌, ◌≤◌, ◌<◌, length};
-ghost use Rattle.rv_core.specs.Executions.{LeadsTo};
-ghost use Rattle.rv_blocks.specs.Slots.{left_at, AreSlots, IsApart};
+//! The loops over slots.
+ghost use Rattle.std.specs.Prelude.{◌≡◌, ◌+◌, ◌-◌, ◌*◌, ◌^◌, ◌≤◌, ◌<◌, ◌⊎◌, None, false, length, IfSome, IsTrue};
+ghost use Rattle.rv_core.specs.Executions.{LeadsTo, LiesIn};
+ghost use Rattle.rv_blocks.specs.Slots.{left_at, AreSlots, Ends, LiesOut};
 
 use crate::flow::Flow;
 use crate::perform::perform;
 use crate::slot::{Slot, slot_at};
 use elf_load::Image;
+use zs_num::LINE;
 
-/// Why the loop ended.
-#[derive(Clone, Copy, PartialEq, Eq)]
-pub enum Ended {
-    /// The block that comes next costs more than is left.
-    Budget,
-    /// The instruction that comes next is left to the core.
-    Apart,
-}
-
-/// Where the loop ended, how much of its budget is left, and why it ended.
+/// Where a loop ended, and how much of its budget is left.
 #[derive(Clone, Copy)]
 pub struct Rest {
     pub place: usize,
     pub left: u64,
-    pub ended: Ended,
 }
+
+/// The loops, as types. For each the compiler builds what executes an instruction anew, and sets it
+/// into the loop (see [`perform`]); and so it does with what behind the loop answers the access.
+pub struct ByBlocks;
+
+pub struct OneByOne;
 
 /// Executes instructions, each of which costs 1 of the budget, from the one of the slot at a place
 /// on. A block is paid for at its entry, and what is not executed of it is given back.
-pub fn run(
+#[inline(always)]
+pub fn by_blocks(
     _image: &Image,
     slots: &[Slot],
     first: u64,
@@ -39,45 +37,88 @@ pub fn run(
     requires place { place < length slots.now }
     ensures place { result.place < length slots.now }
     ensures left { result.left ≤ budget }
-    ensures budget { result.ended ≡ Ended.Budget → result.left < left_at slots.now result.place }
-    ensures some { result.ended ≡ Ended.Apart → 0 < result.left }
-    ensures apart { result.ended ≡ Ended.Apart → IsApart first slots.now (record { registers = x.new; place = result.place }) }
-    ensures ran { LeadsTo (budget - result.left) _image.now x.old (first + 4 * place) x.new (first + 4 * result.place) }
+    ensures ran { LeadsTo None (budget - result.left) _image.now x.old (first + 4 * place) x.new (first + 4 * result.place) }
+    ensures ends { Ends first slots.now (left_at slots.now result.place) result.left (record { registers = x.new; place = result.place }) }
 {
     let cost = u64::from(slot_at(slots, place).left);
     if budget < cost {
         return Rest {
             place,
             left: budget,
-            ended: Ended::Budget,
         };
     }
     let mut ip = place;
     let mut left = budget - cost;
     'next: loop {
         let slot = slot_at(slots, ip);
-        match perform(slot, x, first, ip, slots.len()) {
+        match perform::<ByBlocks>(slot, x, first, ip, slots.len()) {
             Flow::On => ip += 1,
             Flow::To(next) => {
                 ip = next;
                 let cost = u64::from(slot_at(slots, ip).left);
                 if left < cost {
-                    return Rest {
-                        place: ip,
-                        left,
-                        ended: Ended::Budget,
-                    };
+                    return Rest { place: ip, left };
                 }
                 left -= cost;
             }
             Flow::Apart => {
+                // 1, since what is left to the core ends its block.
                 let rest = u64::from(slot.left);
                 return Rest {
                     place: ip,
                     left: left + rest,
-                    ended: Ended::Apart,
                 };
             }
         }
+    }
+}
+
+/// Executes instructions one by one, so many at most, from the one of the slot at a place on: as
+/// far as they lie in a line, if its number is given.
+#[inline(never)]
+pub fn one_by_one(
+    _image: &Image,
+    slots: &[Slot],
+    first: u64,
+    x: &mut [u64; 32],
+    place: usize,
+    most: u64,
+    line: Option<u64>,
+) -> Rest
+    requires slots { AreSlots _image.now first slots.now }
+    requires place { place < length slots.now }
+    ensures place { result.place < length slots.now }
+    ensures left { result.left ≤ most }
+    ensures ran { LeadsTo line (most - result.left) _image.now x.old (first + 4 * place) x.new (first + 4 * result.place) }
+    ensures ends { LiesOut line (first + 4 * result.place) ⊎ Ends first slots.now 1 result.left (record { registers = x.new; place = result.place }) }
+{
+    let mut ip = place;
+    let mut left = most;
+    'next: while left > 0 && lies_in(line, first + 4 * ip as u64) {
+        let slot = slot_at(slots, ip);
+        left -= 1;
+        match perform::<OneByOne>(slot, x, first, ip, slots.len()) {
+            Flow::On => ip += 1,
+            Flow::To(next) => ip = next,
+            Flow::Apart => {
+                return Rest {
+                    place: ip,
+                    left: left + 1,
+                };
+            }
+        }
+    }
+    Rest { place: ip, left }
+}
+
+/// Whether an address lies in a line, if its number is given.
+#[inline(always)]
+pub fn lies_in(line: Option<u64>, addr: u64) -> bool
+    ensures yes { IsTrue result → LiesIn line addr }
+    ensures no { result ≡ false → LiesOut line addr }
+{
+    match line {
+        None => true,
+        Some(line) => addr / LINE == line,
     }
 }

@@ -1,15 +1,16 @@
 //! A program whose words are decoded once.
-ghost use Rattle.std.specs.Prelude.{◌≡◌, ◌+◌, ◌*◌, ◌%◌, ◌^◌, ◌≤◌, All, vec_capacity, vec_len, IfOk, IfSome};
+ghost use Rattle.std.specs.Prelude.{◌≡◌, ◌+◌, ◌-◌, ◌*◌, ◌%◌, ◌^◌, ◌≤◌, All, vec_capacity, vec_len, IfOk, IfSome};
 ghost use Rattle.rv_core.specs.Fetch.{fetched_at};
 ghost use Rattle.rv_core.specs.Decoded.{HasRegisters};
 ghost use Rattle.rv_blocks.specs.Decoded.{IsDecodedWord};
 
-use crate::blocks::run;
+use crate::answer::{ran_to, run_last};
+use crate::blocks::{ByBlocks, OneByOne, by_blocks, one_by_one};
 use crate::making::slots_of;
 use crate::perform::place_of;
 use crate::slot::Slot;
 use elf_load::{Image, Segment};
-use rv_core::{Fetched, Program, Ran};
+use rv_core::{Fetched, MemoryRange, Program, Ran};
 use rv_decode::Inst;
 use std::alloc::Global;
 use std::marker::Model;
@@ -220,14 +221,39 @@ impl Program for DecodedProgram<'_> {
     }
 
     #[inline(never)]
-    fn run_blocks(&self, registers: &mut [u64; 32], pc: u64, most: u64) -> Ran {
-        let Some(place) = place_of(pc, self.first, self.slots.len()) else {
-            return Ran { pc, count: 0 };
+    fn run_blocks(
+        &self,
+        registers: &mut [u64; 32],
+        pc: u64,
+        most: u64,
+        memory: &MemoryRange,
+    ) -> Ran {
+        let (image, slots, first) = (self.image, &self.slots, self.first);
+        let Some(place) = place_of(pc, first, slots.len()) else {
+            return Ran::nowhere(pc);
         };
-        let rest = run(self.image, &self.slots, self.first, registers, place, most);
-        Ran {
-            pc: self.first + 4 * rest.place as u64,
-            count: most - rest.left,
+        let rest = by_blocks(image, slots, first, registers, place, most);
+        let ran = ran_to::<ByBlocks>(image, slots, first, registers, rest, most, memory, None);
+        if ran.met.is_some() {
+            return ran;
         }
+        run_last(image, slots, first, registers, rest, most, memory)
+    }
+
+    fn run_in_line(
+        &self,
+        registers: &mut [u64; 32],
+        pc: u64,
+        most: u64,
+        memory: &MemoryRange,
+        line: u64,
+    ) -> Ran {
+        let (image, slots, first) = (self.image, &self.slots, self.first);
+        let Some(place) = place_of(pc, first, slots.len()) else {
+            return Ran::nowhere(pc);
+        };
+        let line = Some(line);
+        let rest = one_by_one(image, slots, first, registers, place, most, line);
+        ran_to::<OneByOne>(image, slots, first, registers, rest, most, memory, line)
     }
 }

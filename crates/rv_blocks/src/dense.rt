@@ -1,10 +1,11 @@
 //! The slots of instructions.
-ghost use Rattle.std.specs.Prelude.{◌≡◌, ◌≢◌, ◌+◌, ◌*◌, ◌%◌, ◌^◌, ◌<◌, ◌≤◌, IsTrue};
+ghost use Rattle.std.specs.Prelude.{◌≡◌, ◌≢◌, ◌+◌, ◌*◌, ◌%◌, ◌^◌, ◌<◌, ◌≤◌, false, IsTrue};
 ghost use Rattle.rv_alu.specs.Computing.{is_arithmetic, is_branch};
 ghost use Rattle.rv_core.specs.Decoded.{HasRegisters};
 ghost use Rattle.rv_core.specs.Effect.{immediate_number};
-ghost use Rattle.rv_blocks.specs.Slots.{named, name_of, ChangesNothing, DoesAs, GivesNumber, IsFit};
+ghost use Rattle.rv_blocks.specs.Slots.{is_access, is_load, is_store, named, AccessesAs, ChangesNothing, DoesAs, GivesNumber, IsFit};
 
+use crate::access::{is_load, is_store};
 use crate::perform::place_of;
 use crate::slot::{Op, Slot};
 use rv_alu::{is_arithmetic, is_branch};
@@ -19,6 +20,7 @@ pub(crate) fn slot_of(inst: &Inst, first: u64, place: usize, count: usize) -> Sl
     requires aligned { first % 4 ≡ 0 }
     ensures fit { IsFit count place result }
     ensures does { DoesAs inst.now (record { first = first; count = count }) place result }
+    ensures accesses { AccessesAs inst.now (record { first = first; count = count }) place result }
 {
     match inst.name {
         Name::Lui => constant(inst, immediate(inst), first, place, count),
@@ -26,6 +28,8 @@ pub(crate) fn slot_of(inst: &Inst, first: u64, place: usize, count: usize) -> Sl
         Name::Fence => nothing(inst, first, place, count),
         Name::Jal => jump(inst, first, place, count),
         Name::Jalr => jump_by_register(inst, first, place, count),
+        name if is_load(name) => load(inst, first, place, count),
+        name if is_store(name) => store(inst, first, place, count),
         name if is_arithmetic(name) => arithmetic(inst, first, place, count),
         name if is_branch(name) => branch(inst, first, place, count),
         _ => apart(inst, first, place, count),
@@ -42,6 +46,7 @@ fn arithmetic(inst: &Inst, first: u64, place: usize, count: usize) -> Slot
     requires memory { first + 4 * count ≤ 2 ^ 48 }
     ensures fit { IsFit count place result }
     ensures does { DoesAs inst.now (record { first = first; count = count }) place result }
+    ensures accesses { AccessesAs inst.now (record { first = first; count = count }) place result }
 {
     if inst.rd == 0 {
         return nothing(inst, first, place, count);
@@ -65,6 +70,7 @@ fn constant(inst: &Inst, value: u64, first: u64, place: usize, count: usize) -> 
     requires memory { first + 4 * count ≤ 2 ^ 48 }
     ensures fit { IsFit count place result }
     ensures does { DoesAs inst.now (record { first = first; count = count }) place result }
+    ensures accesses { AccessesAs inst.now (record { first = first; count = count }) place result }
 {
     if inst.rd == 0 {
         return nothing(inst, first, place, count);
@@ -87,6 +93,7 @@ fn nothing(_inst: &Inst, _first: u64, _place: usize, _count: usize) -> Slot
     requires place { _place + 1 < _count }
     ensures fit { IsFit _count _place result }
     ensures does { DoesAs _inst.now (record { first = _first; count = _count }) _place result }
+    ensures accesses { AccessesAs _inst.now (record { first = _first; count = _count }) _place result }
 {
     Slot {
         op: Op::Other,
@@ -108,6 +115,7 @@ fn jump(inst: &Inst, first: u64, place: usize, count: usize) -> Slot
     requires aligned { first % 4 ≡ 0 }
     ensures fit { IsFit count place result }
     ensures does { DoesAs inst.now (record { first = first; count = count }) place result }
+    ensures accesses { AccessesAs inst.now (record { first = first; count = count }) place result }
 {
     match place_of(relative(inst, first, place), first, count) {
         Some(next) => Slot {
@@ -133,6 +141,7 @@ fn jump_by_register(inst: &Inst, _first: u64, _place: usize, _count: usize) -> S
     requires aligned { _first % 4 ≡ 0 }
     ensures fit { IsFit _count _place result }
     ensures does { DoesAs inst.now (record { first = _first; count = _count }) _place result }
+    ensures accesses { AccessesAs inst.now (record { first = _first; count = _count }) _place result }
 {
     Slot {
         op: Op::Jalr,
@@ -155,6 +164,7 @@ fn branch(inst: &Inst, first: u64, place: usize, count: usize) -> Slot
     requires aligned { first % 4 ≡ 0 }
     ensures fit { IsFit count place result }
     ensures does { DoesAs inst.now (record { first = first; count = count }) place result }
+    ensures accesses { AccessesAs inst.now (record { first = first; count = count }) place result }
 {
     match place_of(relative(inst, first, place), first, count) {
         Some(next) => Slot {
@@ -170,11 +180,54 @@ fn branch(inst: &Inst, first: u64, place: usize, count: usize) -> Slot
     }
 }
 
+/// That of a load.
+#[tactic(auto, unfolding(crate::specs::Slots::does))]
+fn load(inst: &Inst, _first: u64, _place: usize, _count: usize) -> Slot
+    requires name { IsTrue (is_load inst.now.name) }
+    requires rd { inst.now.rd < 32 }
+    requires rs1 { inst.now.rs1 < 32 }
+    ensures fit { IsFit _count _place result }
+    ensures does { DoesAs inst.now (record { first = _first; count = _count }) _place result }
+    ensures accesses { AccessesAs inst.now (record { first = _first; count = _count }) _place result }
+{
+    Slot {
+        op: Op::Load,
+        name: inst.name,
+        rd: inst.rd,
+        rs1: inst.rs1,
+        rs2: 0,
+        left: 1,
+        value: immediate(inst),
+    }
+}
+
+/// That of a store.
+#[tactic(auto, unfolding(crate::specs::Slots::does))]
+fn store(inst: &Inst, _first: u64, _place: usize, _count: usize) -> Slot
+    requires name { IsTrue (is_store inst.now.name) }
+    requires rs1 { inst.now.rs1 < 32 }
+    requires rs2 { inst.now.rs2 < 32 }
+    ensures fit { IsFit _count _place result }
+    ensures does { DoesAs inst.now (record { first = _first; count = _count }) _place result }
+    ensures accesses { AccessesAs inst.now (record { first = _first; count = _count }) _place result }
+{
+    Slot {
+        op: Op::Store,
+        name: inst.name,
+        rd: 0,
+        rs1: inst.rs1,
+        rs2: inst.rs2,
+        left: 1,
+        value: immediate(inst),
+    }
+}
+
 /// That of an instruction that is left to the core.
 #[tactic(auto, unfolding(crate::specs::Slots::does))]
 fn apart(_inst: &Inst, _first: u64, _place: usize, _count: usize) -> Slot
     ensures fit { IsFit _count _place result }
     ensures does { DoesAs _inst.now (record { first = _first; count = _count }) _place result }
+    ensures accesses { AccessesAs _inst.now (record { first = _first; count = _count }) _place result }
 {
     LEFT_TO_CORE
 }
@@ -192,14 +245,13 @@ pub(crate) const LEFT_TO_CORE: Slot = Slot {
 
 /// The name as that of a frequent instruction, if it is one.
 fn op_of(name: Name) -> Op
-    ensures { named result name ≡ name }
+    ensures name { named result name ≡ name }
+    ensures access { is_access result ≡ false }
 {
     match name {
         Name::Add => Op::Add,
         Name::Sub => Op::Sub,
         Name::And => Op::And,
-        Name::Or => Op::Or,
-        Name::Xor => Op::Xor,
         Name::Addi => Op::Addi,
         Name::Andi => Op::Andi,
         Name::Slli => Op::Slli,

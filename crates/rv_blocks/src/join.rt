@@ -77,16 +77,17 @@ fn is_plain(name: Name) -> bool
     }
 }
 
-/// What a slot does, by its name.
+/// The name by which the loop does what a slot does. A load or a store is no instruction that it
+/// does, whichever the slot names.
 fn name_of(slot: &Slot) -> Name
     ensures { result ≡ name_of slot.now }
 {
     match slot.op {
+        Op::Load => Name::Ld,
+        Op::Store => Name::Sd,
         Op::Add => Name::Add,
         Op::Sub => Name::Sub,
         Op::And => Name::And,
-        Op::Or => Name::Or,
-        Op::Xor => Name::Xor,
         Op::Addi => Name::Addi,
         Op::Andi => Name::Andi,
         Op::Slli => Name::Slli,

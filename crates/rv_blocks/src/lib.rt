@@ -1,8 +1,10 @@
 //! A program that is decoded once: its words, and its instructions in a dense form, with a loop over
-//! those that need no memory. That goes by blocks, of whose instructions only the last may jump, and
-//! each block is paid for at its entry.
+//! those that need no memory, up to the access of one that does. That goes by blocks, of whose
+//! instructions only the last may jump, and each block is paid for at its entry.
 #![tactic(auto)]
 
+mod access;
+mod answer;
 mod blocks;
 mod decoded_program;
 mod dense;

@@ -12,10 +12,11 @@ use rv_decode::Name;
 
 /// Does what a slot does. `first` is the address of the instruction of the first of `count` slots.
 /// The most frequent instructions are told apart first, in 16 arms: of so few the compiler sets the
-/// jump to the next one behind each arm, and the processor predicts it there.
+/// jump to the next one behind each arm, and the processor predicts it there. The type `T` means
+/// nothing: each loop takes one of its own, and the compiler then sets all arms into it.
 #[inline(always)]
 #[tactic(auto, unfolding(crate::specs::Slots::does))]
-pub fn perform(slot: &Slot, x: &mut [u64; 32], first: u64, place: usize, count: usize) -> Flow
+pub fn perform<T>(slot: &Slot, x: &mut [u64; 32], first: u64, place: usize, count: usize) -> Flow
     requires fit { IsFit count place slot.now }
     requires place { place < count }
     requires memory { first + 4 * count ≤ 2 ^ 48 }
@@ -24,11 +25,10 @@ pub fn perform(slot: &Slot, x: &mut [u64; 32], first: u64, place: usize, count: 
     ensures continues { Continues result (name_of slot.now) count place }
 {
     match slot.op {
+        Op::Load | Op::Store => Flow::Apart,
         Op::Add => compute(Name::Add, slot, x, place),
         Op::Sub => compute(Name::Sub, slot, x, place),
         Op::And => compute(Name::And, slot, x, place),
-        Op::Or => compute(Name::Or, slot, x, place),
-        Op::Xor => compute(Name::Xor, slot, x, place),
         Op::Addi => compute_with_value(Name::Addi, slot, x, place),
         Op::Andi => compute_with_value(Name::Andi, slot, x, place),
         Op::Slli => compute_with_value(Name::Slli, slot, x, place),
@@ -39,14 +39,14 @@ pub fn perform(slot: &Slot, x: &mut [u64; 32], first: u64, place: usize, count: 
         Op::Bltu => branch(Name::Bltu, slot, x, place, count),
         Op::Jal => jump(slot, x, first, place, count),
         Op::Jalr => jump_by_register(slot, x, first, place, count),
-        Op::Other => perform_other(slot, x, first, place, count),
+        Op::Other => perform_other::<T>(slot, x, first, place, count),
     }
 }
 
 /// Does what a slot does, by its name.
 #[inline(always)]
 #[tactic(auto, unfolding(crate::specs::Slots::does))]
-fn perform_other(slot: &Slot, x: &mut [u64; 32], first: u64, place: usize, count: usize) -> Flow
+fn perform_other<T>(slot: &Slot, x: &mut [u64; 32], first: u64, place: usize, count: usize) -> Flow
     requires other { slot.now.op ≡ Op.Other }
     requires fit { IsFit count place slot.now }
     requires place { place < count }

@@ -3,14 +3,14 @@ ghost use Rattle.std.specs.Prelude.{◌≡◌, ◌<◌, Some, length, slice_get}
 
 use rv_decode::Name;
 
-/// The most frequent instructions.
+/// The most frequent instructions, and all loads and stores.
 #[derive(Clone, Copy)]
 pub enum Op {
+    Load,
+    Store,
     Add,
     Sub,
     And,
-    Or,
-    Xor,
     Addi,
     Andi,
     Slli,
@@ -30,8 +30,8 @@ pub enum Op {
 pub struct Slot {
     /// What it does, if that is frequent.
     pub op: Op,
-    /// What it does if not. Where the loop leaves the instruction to the core, this is the name of
-    /// one that the loop never does.
+    /// What it does if not, or which load or store it is. Where the loop leaves the instruction to
+    /// the core, this is the name of one that the loop never does.
     pub name: Name,
     pub rd: u8,
     pub rs1: u8,

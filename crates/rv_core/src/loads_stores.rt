@@ -5,9 +5,8 @@ ghost use Rattle.rv_core.specs.Effect.{loads, stores};
 ghost use Rattle.rv_core.specs.Step.{is_free};
 ghost use Rattle.rv_core.specs.Asked.{is_idle};
 
-use crate::progress::Destination;
 use crate::replies::{high_bytes, low_bytes};
-use crate::{Core, Why};
+use crate::{Core, Destination, Why};
 use rv_decode::Inst;
 use zs_num::{LINE, Request};
 

@@ -1,11 +1,12 @@
 //! What a core reads its instructions from.
-ghost use Rattle.std.specs.Prelude.{◌≡◌, ◌≤◌, IfSome};
+ghost use Rattle.std.specs.Prelude.{◌≡◌, ◌+◌, ◌<◌, ◌≤◌, ◌^◌, IfSome, None, Some};
 ghost use Rattle.elf_load.specs.MemoryImage.{MemoryImage};
 ghost use Rattle.rv_decode.specs.InstructionTable.{decoded};
 ghost use Rattle.rv_core.specs.Fetch.{fetched_at, of_decoded};
 ghost use Rattle.rv_core.specs.Decoded.{HasRegisters};
-ghost use Rattle.rv_core.specs.Executions.{LeadsTo};
+ghost use Rattle.rv_core.specs.Executions.{LeadsTo, LiesIn, Meets};
 
+use crate::{MemoryRange, Ran};
 use elf_load::Image;
 use rv_decode::{Inst, decode};
 
@@ -17,15 +18,6 @@ pub enum Fetched {
     /// They are a word that is no instruction.
     NoInstruction { word: u32 },
     Instruction(Inst),
-}
-
-/// How far a program came by itself.
-#[derive(Clone, Copy)]
-pub struct Ran {
-    /// The address of the next instruction.
-    pub pc: u64,
-    /// How many instructions it executed.
-    pub count: u64,
 }
 
 /// A program in memory, as it was loaded. Stores do not change it.
@@ -44,10 +36,30 @@ pub trait Program {
         ensures registers { HasRegisters result };
 
     /// Executes instructions that change registers and pc alone, from the one at `pc` on: `most` at
-    /// most, or fewer, or none. How many, the program chooses.
-    fn run_blocks(&self, registers: &mut [u64; 32], pc: u64, most: u64) -> Ran
+    /// most, or fewer, or none. How many, the program chooses. Where they come to a load or a store
+    /// before so many, it may answer the access, for a core whose memory lies there.
+    fn run_blocks(&self, registers: &mut [u64; 32], pc: u64, most: u64, memory: &MemoryRange) -> Ran
+        requires reach { memory.now.base + memory.now.size ≤ 2 ^ 48 }
         ensures few { result.count ≤ most }
-        ensures ran { LeadsTo result.count (image self.now) registers.old pc registers.new result.pc };
+        ensures ran { LeadsTo None result.count (image self.now) registers.old pc registers.new result.pc }
+        ensures early { IfSome result.met (λ single. result.count < most) }
+        ensures met { IfSome result.met (λ single. Meets (image self.now) memory.now registers.new result.pc single) };
+
+    /// The same of instructions that all lie in one line, the number of which is given.
+    fn run_in_line(
+        &self,
+        registers: &mut [u64; 32],
+        pc: u64,
+        most: u64,
+        memory: &MemoryRange,
+        line: u64,
+    ) -> Ran
+        requires reach { memory.now.base + memory.now.size ≤ 2 ^ 48 }
+        ensures few { result.count ≤ most }
+        ensures ran { LeadsTo (Some line) result.count (image self.now) registers.old pc registers.new result.pc }
+        ensures early { IfSome result.met (λ single. result.count < most) }
+        ensures met { IfSome result.met (λ single. Meets (image self.now) memory.now registers.new result.pc single) }
+        ensures lies { IfSome result.met (λ single. LiesIn (Some line) result.pc) };
 }
 
 impl Program for Image {
@@ -68,8 +80,26 @@ impl Program for Image {
     }
 
     #[inline(always)]
-    fn run_blocks(&self, _registers: &mut [u64; 32], pc: u64, _most: u64) -> Ran {
-        Ran { pc, count: 0 }
+    fn run_blocks(
+        &self,
+        _registers: &mut [u64; 32],
+        pc: u64,
+        _most: u64,
+        _memory: &MemoryRange,
+    ) -> Ran {
+        Ran::nowhere(pc)
+    }
+
+    #[inline(always)]
+    fn run_in_line(
+        &self,
+        _registers: &mut [u64; 32],
+        pc: u64,
+        _most: u64,
+        _memory: &MemoryRange,
+        _line: u64,
+    ) -> Ran {
+        Ran::nowhere(pc)
     }
 }
 

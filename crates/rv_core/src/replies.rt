@@ -6,7 +6,8 @@ ghost use Rattle.rv_core.specs.Effect.{received};
 ghost use Rattle.rv_core.specs.Progress.{ending_of, IsNarrow};
 ghost use Rattle.rv_core.specs.Step.{replies_with};
 
-use crate::progress::{Destination, Reply};
+use crate::Destination;
+use crate::progress::Reply;
 use zs_num::Request;
 
 /// The number that the lowest bytes of a number make.

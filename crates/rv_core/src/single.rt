@@ -1,12 +1,13 @@
 //! Loads and stores that make one access.
-ghost use Rattle.std.specs.Prelude.{◌≡◌, ◌<◌, ◌≤◌, IfSome};
-ghost use Rattle.rv_core.specs.Effect.{effect, loads, stores};
-ghost use Rattle.rv_core.specs.Single.{access_of, begun};
+ghost use Rattle.std.specs.Prelude.{◌≡◌, ◌+◌, ◌<◌, ◌≤◌, ◌^◌, IfSome};
+ghost use Rattle.rv_core.specs.Accesses.{load_requests, store_requests};
+ghost use Rattle.rv_core.specs.CoreState.{CoreState, ToNothing, ToRegister};
+ghost use Rattle.rv_core.specs.Effect.{accesses, effect, loads, stores};
+ghost use Rattle.rv_core.specs.Single.{access_of, begun, is_single, single_load, single_store};
 
-use crate::Core;
 use crate::loads_stores::is_in_line;
-use crate::progress::Destination;
 use crate::replies::low_bytes;
+use crate::{Core, Destination, MemoryRange};
 use rv_decode::{Inst, Name};
 use zs_num::Request;
 
@@ -20,6 +21,39 @@ pub enum Single {
 }
 
 impl Single {
+    /// The access of a load of so many bytes as its destination has, of a core whose memory lies
+    /// there: None where the bytes are not all in memory, or not in one line.
+    #[inline(always)]
+    #[tactic(auto, unfolding(crate::specs::Accesses::load_requests, crate::specs::Effect::accesses))]
+    pub fn load(memory: &MemoryRange, addr: u64, destination: Destination) -> Option<Self>
+        requires reach { memory.now.base + memory.now.size ≤ 2 ^ 48 }
+        ensures value { result ≡ single_load memory.now addr destination }
+        ensures begins { IfSome result (λ single. (core : CoreState) → core.memory ≡ memory.now → begun single core ≡ accesses addr destination.width (load_requests addr destination.width) (ToRegister destination) core) }
+    {
+        if is_single(memory, addr, destination.width) {
+            Some(Single::Load { addr, destination })
+        } else {
+            None
+        }
+    }
+
+    /// That of a store of so many of a number's lowest bytes, 8 at most.
+    #[inline(always)]
+    #[tactic(auto, unfolding(crate::specs::Accesses::store_requests, crate::specs::Effect::accesses))]
+    pub fn store(memory: &MemoryRange, addr: u64, width: u8, number: u64) -> Option<Self>
+        requires reach { memory.now.base + memory.now.size ≤ 2 ^ 48 }
+        requires few { width ≤ 8 }
+        ensures value { result ≡ single_store memory.now addr width number }
+        ensures begins { IfSome result (λ single. (core : CoreState) → core.memory ≡ memory.now → begun single core ≡ accesses addr width (store_requests addr width number) ToNothing core) }
+    {
+        if is_single(memory, addr, width) {
+            let value = low_bytes(width, number);
+            Some(Single::Store { addr, width, value })
+        } else {
+            None
+        }
+    }
+
     /// The access.
     #[inline(always)]
     pub fn request(self) -> Request
@@ -64,23 +98,17 @@ impl Core {
 
     /// The access of a load of so many bytes, where it is one.
     #[inline(always)]
-    #[tactic(auto, unfolding(crate::specs::Accesses::load_requests, crate::specs::Effect::accesses))]
     fn single_load(&self, width: u8, signed: bool, inst: &Inst) -> Option<Single>
         requires rs1 { inst.now.rs1 < 32 }
         ensures { IfSome result (λ single. begun single self.now ≡ loads width signed inst.now self.now) }
     {
         let addr = self.reg(inst.rs1).wrapping_add(inst.imm.cast_unsigned());
-        if !self.has(addr, u64::from(width)) || !is_in_line(addr, width) {
-            return None;
-        }
         let rd = inst.rd;
-        let destination = Destination { rd, width, signed };
-        Some(Single::Load { addr, destination })
+        Single::load(self.memory(), addr, Destination { rd, width, signed })
     }
 
     /// The access of a store of the lowest bytes of rs2, where it is one.
     #[inline(always)]
-    #[tactic(auto, unfolding(crate::specs::Accesses::store_requests, crate::specs::Effect::accesses))]
     fn single_store(&self, width: u8, inst: &Inst) -> Option<Single>
         requires few { width ≤ 8 }
         requires rs1 { inst.now.rs1 < 32 }
@@ -88,10 +116,15 @@ impl Core {
         ensures { IfSome result (λ single. begun single self.now ≡ stores width inst.now self.now) }
     {
         let addr = self.reg(inst.rs1).wrapping_add(inst.imm.cast_unsigned());
-        if !self.has(addr, u64::from(width)) || !is_in_line(addr, width) {
-            return None;
-        }
-        let value = low_bytes(width, self.reg(inst.rs2));
-        Some(Single::Store { addr, width, value })
+        Single::store(self.memory(), addr, width, self.reg(inst.rs2))
     }
+}
+
+/// Whether so many bytes from an address on are in memory, and in one line.
+#[inline(always)]
+fn is_single(memory: &MemoryRange, addr: u64, width: u8) -> bool
+    requires { memory.now.base + memory.now.size ≤ 2 ^ 48 }
+    ensures { result ≡ is_single memory.now addr width }
+{
+    memory.has(addr, u64::from(width)) && is_in_line(addr, width)
 }

@@ -1,5 +1,5 @@
 //! The state of a core.
-ghost use Rattle.std.specs.Prelude.{◌≡◌, ◌+◌, ◌%◌, ◌<◌, ◌≤◌, ◌^◌, ◌++◌, [], ◌∷◌, false, None, IsTrue, IsSome, IfSome, option_map, option_to_list};
+ghost use Rattle.std.specs.Prelude.{◌≡◌, ◌+◌, ◌%◌, ◌<◌, ◌≤◌, ◌^◌, ◌++◌, [], ◌∷◌, false, None, Some, IsTrue, IsSome, IfSome, option_map, option_to_list};
 ghost use Rattle.zs_num.specs.PairedRight.{ArePairedRight, IsPairedRight};
 ghost use Rattle.zs_num.specs.Pairing.{is_paired};
 ghost use Rattle.zs_num.specs.Request.{line_at, width_of};
@@ -13,13 +13,12 @@ ghost use Rattle.rv_core.specs.Executions.{at, LeadsTo};
 ghost use Rattle.rv_core.specs.Progress.{ending_of, IsNarrow};
 ghost use Rattle.rv_core.specs.Asked.{is_idle, is_in_progress};
 ghost use Rattle.rv_core.specs.Single.{begun};
-ghost use Rattle.rv_core.specs.Step.{answered, asks_for_instruction, console_byte, initial_core, is_free, is_latest, replies_with, unfetched};
+ghost use Rattle.rv_core.specs.Step.{answered, asks_for_instruction, console_byte, executed, initial_core, is_free, is_latest, replies_with, unfetched};
 
-use crate::memory_range::MemoryRange;
 use crate::pairing::{is_paired, pair};
-use crate::progress::{Destination, Progress, Reply};
+use crate::progress::{Progress, Reply};
 use crate::replies::{received, reply_to};
-use crate::{Fetched, Program, Single, Why};
+use crate::{Destination, Fetched, MemoryRange, Program, Ran, Single, Why};
 use rv_decode::Inst;
 use std::marker::Model;
 use zs_num::{LINE, Pairing, Request};
@@ -206,19 +205,43 @@ impl Core {
     }
 
     /// Lets the program execute instructions that change registers and pc alone, `most` at most, and
-    /// answers how many it executed.
+    /// answers how many it executed. Where the core came to a load or a store before so many, it may
+    /// meet the access: its instruction is not begun, and [`Core::complete`] takes the reply.
     #[inline(always)]
-    pub fn run_blocks<P: Program>(&mut self, program: &P, most: u64) -> u64
+    pub fn run_blocks<P: Program>(&mut self, program: &P, most: u64) -> Ran
         requires { IsTrue (is_idle self.old) }
-        ensures few { result ≤ most }
-        ensures ran { LeadsTo result (P.image program.now) self.old.registers self.old.pc self.new.registers self.new.pc }
+        ensures few { result.count ≤ most }
+        ensures ran { LeadsTo None result.count (P.image program.now) self.old.registers self.old.pc self.new.registers self.new.pc }
+        ensures pc { result.pc ≡ self.new.pc }
+        ensures early { IfSome result.met (λ single. result.count < most) }
+        ensures met { IfSome result.met (λ single. executed (P.image program.now) self.new ≡ begun single self.new) }
         ensures same { self.new ≡ at self.old self.new.registers self.new.pc }
         ensures sound { IsSoundCore self.new }
     {
         rv_decode::laws::fields_are_in_range();
-        let ran = program.run_blocks(&mut self.registers, self.pc, most);
+        let ran = program.run_blocks(&mut self.registers, self.pc, most, &self.memory);
         self.pc = ran.pc;
-        ran.count
+        ran
+    }
+
+    /// The same of instructions in the line in which the next one stands.
+    #[inline(always)]
+    pub fn run_in_line<P: Program>(&mut self, program: &P, most: u64) -> Ran
+        requires { IsTrue (is_idle self.old) }
+        ensures few { result.count ≤ most }
+        ensures ran { LeadsTo (Some (line_at self.old.pc)) result.count (P.image program.now) self.old.registers self.old.pc self.new.registers self.new.pc }
+        ensures pc { result.pc ≡ self.new.pc }
+        ensures early { IfSome result.met (λ single. result.count < most) }
+        ensures met { IfSome result.met (λ single. executed (P.image program.now) self.new ≡ begun single self.new) }
+        ensures lies { IfSome result.met (λ single. line_at self.new.pc ≡ line_at self.old.pc) }
+        ensures same { self.new ≡ at self.old self.new.registers self.new.pc }
+        ensures sound { IsSoundCore self.new }
+    {
+        rv_decode::laws::fields_are_in_range();
+        let line = self.pc / LINE;
+        let ran = program.run_in_line(&mut self.registers, self.pc, most, &self.memory, line);
+        self.pc = ran.pc;
+        ran
     }
 
     /// Writes a register, unless it is x0, and goes on at an address.
@@ -254,6 +277,15 @@ impl Core {
         ensures { self.new ≡ halts why self.old }
     {
         self.halted = Some(why);
+    }
+
+    /// Where memory lies.
+    #[inline(always)]
+    pub(crate) fn memory(&self) -> &MemoryRange
+        ensures value { result.now ≡ self.now.memory }
+        ensures reach { self.now.memory.base + self.now.memory.size ≤ 2 ^ 48 }
+    {
+        &self.memory
     }
 
     /// Whether so many bytes from an address on lie in memory.

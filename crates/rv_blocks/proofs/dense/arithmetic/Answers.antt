@@ -6,6 +6,7 @@ use Rattle.rv_blocks.specs.declared.slot.Op.TheVariants as op
 use Rattle.rv_blocks.specs.declared.slot.Slot.{Slot}
 use Rattle.rv_core.specs.Executions.{at}
 use Rattle.rv_blocks.specs.Slots.{Placed, Stretch, address_of, does, name_of}
+use Rattle.rv_blocks.proofs.Accesses.{no_access}
 use Rattle.rv_blocks.proofs.Standing.{computed, nothing_written, sets_stand}
 use Rattle.rv_blocks.proofs.dense.arithmetic.Goals as goal
 
@@ -27,4 +28,7 @@ returns-clause-does c core registers =
     let P : Name → Type 0 = λ n. Q (does n stretch (slot_with (immediate_number i)) s) in
     let V : ℕ → Type 0 = λ value. Q (does (name_of (slot_with value)) stretch (slot_with value) s) in
     let r = computed i.name c.requires.name stretch c.op_of.result 1 i core registers place in
-    subst V (sym c.immediate.ensures) (subst P (sym c.op_of.ensures) (subst Q (sym r.2) (r.1 ∙ sets_stand stretch place core registers i.rd r.0 (omega (arith, c.requires.place, c.requires.memory)))))
+    subst V (sym c.immediate.ensures) (subst P (sym c.op_of.ensures.name) (subst Q (sym r.2) (r.1 ∙ sets_stand stretch place core registers i.rd r.0 (omega (arith, c.requires.place, c.requires.memory)))))
+
+pub returns-clause-accesses : goal.returns-clause-accesses
+returns-clause-accesses c core registers = no_access c.op_of.result c.op_of.ensures.access _ _ _

@@ -9,5 +9,6 @@ returns c =
       memory = omega (arith, was.length, c.requires.memory);
       fit = λ place slot here. (was.meant place slot here).0;
       stand = λ place slot here. (was.meant place slot here).1;
+      access = λ place slot here. (was.meant place slot here).2;
       counted = λ place slot here. was.counted place slot (omega (arith, c.loop-behind-test.false)) here;
     }

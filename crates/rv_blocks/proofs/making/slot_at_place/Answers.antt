@@ -1,9 +1,12 @@
 use Rattle.std.proofs.Common.{◌∙◌, sym}
 use Rattle.rv_blocks.specs.Slots.{Stretch}
-use Rattle.rv_blocks.proofs.Standing.{stands_for}
+use Rattle.rv_blocks.proofs.Standing.{accesses_for, stands_for}
 use Rattle.rv_blocks.proofs.making.slot_at_place.Goals as goal
 
 pub returns-in-Instruction : goal.returns-in-Instruction
 returns-in-Instruction c =
+    let image = c.args.image.now in
     let stretch : Stretch = record { first = c.args.first; count = c.args.count } in
-    (c.slot_of.ensures.fit, stands_for c.args.image.now stretch c.args.place _ c.slot_of.result (sym c.fetch.ensures.value ∙ c.in-Instruction.is) c.slot_of.ensures.does)
+    let slot = c.slot_of.result in
+    let fetched = sym c.fetch.ensures.value ∙ c.in-Instruction.is in
+    (c.slot_of.ensures.fit, stands_for image stretch c.args.place _ slot fetched c.slot_of.ensures.does, accesses_for image stretch c.args.place _ slot fetched c.slot_of.ensures.accesses)

@@ -6,8 +6,29 @@ use Rattle.bound_core.specs.TimedCore.{TimedCore, after_instruction, ran_to}
 use Rattle.bound_core.specs.Ahead.{ahead, going}
 use Rattle.bound_core.specs.Met.{begun_in_time}
 use Rattle.bound_core.proofs.Instructions.{cycle_at_most, goes_on_by, nearer, same_end}
+use Rattle.bound_core.proofs.LedOn.{from_none_ahead}
 use Rattle.bound_core.proofs.Meeting.{none_met}
 use Rattle.bound_core.proofs.bounded.BoundCore.run_on.Goals as goal
+
+pub loop-self-init : goal.loop-self-init
+loop-self-init g c =
+    let image = g.P.Program.image c.args.program.now in
+    let did = c.run_line-did.ensures in
+    let now = ahead c.run_line-did.new.counted c.run_line-did.new.self.timed in
+    record {
+      free = did.next;
+      fetching = did.fetching;
+      unfetched = did.unfetched;
+      same_end = from_none_ahead image c.args.end c.args.self.now.timed (begun_in_time (met_by c.run_line-did.result) now) did.same_end;
+      nearer = omega (arith, did.nearer);
+      few = did.few;
+      most = search rules;
+      clock = did.clock;
+      number = did.number;
+      memory = did.memory;
+      spare = did.spare;
+      pace = did.pace;
+    }
 
 pub loop-self-smaller : goal.loop-self-smaller
 loop-self-smaller g c =

@@ -14,14 +14,14 @@ invariant-loop-self g l =
       free : comes_to_next l.did ≡ is_free (begun_if (met_by l.did) l.self.timed.core);
       fetching : IsTrue l.self.timed.core.fetching;
       unfetched : l.self.timed.core.is_fetched ≡ false;
-      same_end : ran_to image l.end (begun_in_time (met_by l.did) (ahead l.counted l.self.timed)) ≡ ran_to image l.end l.initial.self.timed;
-      nearer : 2 * (l.most - l.counted) + going (comes_to_next l.did) ≤ 2 * l.most + going (is_free l.initial.self.timed.core);
+      same_end : ran_to image l.end (begun_in_time (met_by l.did) (ahead l.counted l.self.timed)) ≡ ran_to image l.end l.fn.self.timed;
+      nearer : 2 * (l.most - l.counted) + going (comes_to_next l.did) ≤ 2 * l.most + going (is_free l.fn.self.timed.core);
       few : l.counted ≤ l.most;
-      most : l.most ≡ l.end - l.initial.self.timed.clock;
-      clock : l.self.timed.clock ≡ l.initial.self.timed.clock;
-      number : l.self.number ≡ l.initial.self.number;
-      memory : l.self.timed.core.memory ≡ l.initial.self.timed.core.memory;
-      spare : l.self.spare ≡ l.initial.self.spare;
+      most : l.most ≡ l.end - l.fn.self.timed.clock;
+      clock : l.self.timed.clock ≡ l.fn.self.timed.clock;
+      number : l.self.number ≡ l.fn.self.number;
+      memory : l.self.timed.core.memory ≡ l.fn.self.timed.core.memory;
+      spare : l.self.spare ≡ l.fn.self.spare;
       pace : l.self.timed.pace ≡ None;
     }
 

@@ -1,16 +1,20 @@
-use Rattle.std.proofs.Common.{◌≡◌, ◌+◌, ◌-◌, ◌*◌, ◌∙◌, subst, sym}
-use Rattle.rv_core.specs.Executions.{LeadsTo}
+use Rattle.std.proofs.Common.{◌≡◌, ◌+◌, ◌-◌, ◌*◌, ◌∙◌, None, arith, refl, sym}
 use Rattle.rv_blocks.specs.Slots.{Stretch}
 use Rattle.rv_blocks.proofs.Standing.{stands_at}
+use Rattle.rv_blocks.proofs.Steps.{led_as, led_together}
 use Rattle.rv_blocks.proofs.decoded_program.DecodedProgramProgram.run_blocks.Goals as goal
 
 pub returns-clause-ran : goal.returns-clause-ran
 returns-clause-ran c =
     let inside = c.self.inside in
+    let image = inside.image.now in
     let stretch : Stretch = record { first = inside.first; count = c.len.result } in
-    let ran = c.run-rest in
-    let n = c.args.most - ran.result.left in
-    let to = inside.first + 4 * ran.result.place in
-    let here : c.args.pc ≡ inside.first + 4 * c.in-Some.place = stands_at stretch c.args.pc c.in-Some.place (sym c.place_of.ensures.value ∙ c.in-Some.is) in
-    subst (λ image. LeadsTo n image c.args.registers.now c.args.pc ran.new.x to) c.self.view_is
-    (subst (λ pc. LeadsTo n inside.image.now c.args.registers.now pc ran.new.x to) (sym here) ran.ensures.ran)
+    let blocks = c.by_blocks-rest in
+    let last = c.run_last in
+    let from = inside.first + 4 * c.in-Some.place in
+    let here : c.args.pc ≡ from = stands_at stretch c.args.pc c.in-Some.place (sym c.place_of.ensures.value ∙ c.in-Some.is) in
+    let m = c.args.most - blocks.result.left in
+    let n = last.result.count - m in
+    let all : last.result.count ≡ n + m = omega (arith, last.ensures.more) in
+    led_as None image c.args.self.now (n + m) last.result.count c.args.registers.now last.new.x from c.args.pc last.result.pc last.result.pc c.self.view_is all here refl
+    (led_together None image c.args.registers.now blocks.new.x last.new.x from (inside.first + 4 * blocks.result.place) last.result.pc m n blocks.ensures.ran last.ensures.ran)
