@@ -1,5 +1,5 @@
 -- What the turns of one core leave.
-use Rattle.std.specs.Prelude.{◌≡◌, ◌≤◌, ◌⊎◌, ℕ, false, List, [], ◌∷◌, length, All, Option, Some, None, IsSome}
+use Rattle.std.specs.Prelude.{◌≡◌, ◌≤◌, ◌<◌, ◌⊎◌, ℕ, false, List, [], ◌∷◌, length, All, Option, Some, None, IsSome}
 use Rattle.zs_num.specs.declared.entry.Entry.{Entry}
 use Rattle.zs_num.specs.declared.request.Request.{Request}
 use Rattle.elf_load.specs.MemoryImage.{MemoryImage}
@@ -35,6 +35,16 @@ module _ {Port : Type 0} (time : Entry → ℕ) (image : MemoryImage) (end : ℕ
     pub asked : asks (ran_to image end before) ≡ Some request
     pub given : gives port (ran_to image end before).clock request e port_after
     pub left : after ≡ core_after_access time e (ran_to image end before)
+
+  -- A turn of the core of this number took an entry, one of those that its interval may still have. `logged_of` are the
+  -- entries that the port answered so far, where it logs them.
+  pub record TookOne (logged_of : Port → Option (List Entry)) (number : ℕ) (port port_after : Port) (before after : TimedCore) : Type 0 where
+    pub entry : Entry
+    pub turn : TakesTurn port port_after before after entry
+    pub core : entry.core ≡ number
+    pub starts : entry.start ≤ latest_clock end before
+    pub fewer : most_accesses end after < most_accesses end before
+    pub logged : Gains (logged_of port) (entry ∷ []) (logged_of port_after)
 
   abbrev pub TurnsAs : (port port_after : Port) (before after : TimedCore) → Turned → Type 0
   TurnsAs port port_after before after (Took e) = TakesTurn port port_after before after e

@@ -1,5 +1,5 @@
 //! One core in an interval.
-ghost use Rattle.std.specs.Prelude.{◌≡◌, ◌+◌, ◌-◌, ◌*◌, ◌≤◌, ◌<◌, ◌^◌, max, false, ◌∷◌, [], Some, None, is_none, IfOk, OnOk, IsTrue, if◌then◌else◌};
+ghost use Rattle.std.specs.Prelude.{◌≡◌, ◌+◌, ◌-◌, ◌*◌, ◌≤◌, ◌<◌, ◌^◌, max, true, false, ◌∷◌, [], Some, None, is_none, IfOk, OnOk, IsTrue, if◌then◌else◌};
 ghost use Rattle.machine_desc.specs.InstructionCaches.{has_l1i};
 ghost use Rattle.zs_num.specs.Request.{line_at};
 ghost use Rattle.zs_num.specs.Servable.{IsServable};
@@ -13,7 +13,7 @@ ghost use Rattle.bound_core.specs.Pacing.{IsSoon};
 ghost use Rattle.bound_core.specs.IntervalBounds.{latest_clock, most_accesses};
 ghost use Rattle.bound_core.specs.Ahead.{ahead, going};
 ghost use Rattle.bound_core.specs.Met.{begun_in_time, met_count};
-ghost use Rattle.bound_core.specs.Turn.{IfTook, IsOver, RunsToEnd, TurnsAs};
+ghost use Rattle.bound_core.specs.Turn.{EndsInterval, IfTook, IsOver, RunsToEnd, TookOne, TurnsAs};
 
 use crate::loops::{Unfetched, WithinLine};
 use crate::paced::{behind, executes, first_pace, takes};
@@ -250,7 +250,56 @@ impl BoundCore {
         ensures port_room { Q.room port.old ≤ Q.room port.new + most_accesses end self.old.timed }
     {
         self.keeps_sound();
-        while let Turned::Took(_entry) = self.turn(program, expansion, end, port) {}
+        while self.take_turn(program, expansion, end, port) {}
+    }
+
+    /// A turn, without its entry: whether it took one. An entry that is handed out is copied whole,
+    /// with the unused bytes between its fields, for which the processor waits.
+    #[inline(always)]
+    fn take_turn<P: Program, X: Expand, Q: Port>(
+        &mut self,
+        program: &P,
+        expansion: &X,
+        end: Cycle,
+        port: &mut Q,
+    ) -> bool
+        requires core { Q.core port.old ≡ self.old.number }
+        requires base { Q.base port.old ≡ self.old.timed.core.memory.base }
+        requires size { Q.size port.old ≡ self.old.timed.core.memory.size }
+        requires l1i { IsTrue self.old.timed.core.fetching → IsTrue (Q.l1i port.old) }
+        requires room { 1 ≤ Q.room port.old }
+        requires spare { 1 ≤ self.old.spare }
+        requires clock { self.old.timed.clock ≤ 2 ^ 61 }
+        requires end { end ≤ 2 ^ 61 }
+        ensures took { result ≡ true → TookOne (X.time expansion.now) (P.image program.now) end Q.gives Q.logged self.old.number port.old port.new self.old.timed self.new.timed }
+        ensures ended { result ≡ false → EndsInterval (P.image program.now) end port.old port.new self.old.timed self.new.timed }
+        ensures over { result ≡ false → IsOver end self.new.timed }
+        ensures same_spare { result ≡ false → self.new.spare ≡ self.old.spare }
+        ensures begun { self.old.timed.clock ≤ self.new.timed.clock }
+        ensures latest { latest_clock end self.new.timed ≤ latest_clock end self.old.timed }
+        ensures number { self.new.number ≡ self.old.number }
+        ensures memory { self.new.timed.core.memory ≡ self.old.timed.core.memory }
+        ensures fetching { self.new.timed.core.fetching ≡ self.old.timed.core.fetching }
+        ensures spare { self.old.spare ≤ self.new.spare + 1 }
+        ensures port_core { Q.core port.new ≡ Q.core port.old }
+        ensures port_base { Q.base port.new ≡ Q.base port.old }
+        ensures port_size { Q.size port.new ≡ Q.size port.old }
+        ensures port_l1i { Q.l1i port.new ≡ Q.l1i port.old }
+        ensures port_room { Q.room port.old ≤ Q.room port.new + 1 }
+    {
+        match self.run_local(program, end) {
+            Some(single) => {
+                self.make(expansion, port, single);
+                true
+            }
+            None => match self.core.request() {
+                Some(request) => {
+                    self.access(expansion, port, request);
+                    true
+                }
+                None => false,
+            },
+        }
     }
 
     /// Makes the access that the core waits for.

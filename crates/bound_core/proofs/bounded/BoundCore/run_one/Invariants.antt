@@ -4,8 +4,8 @@ use Rattle.bound_core.specs.IntervalBounds.{latest_clock, most_accesses}
 use Rattle.bound_core.proofs.Turns.{HasTaken}
 use Rattle.bound_core.proofs.bounded.BoundCore.run_one.Given as goal
 
-abbrev pub invariant-loop-entry : goal.invariant-loop-entry
-invariant-loop-entry g l =
+abbrev pub invariant-loop : goal.invariant-loop
+invariant-loop g l =
     let first = l.initial.self in
     record {
       taken : HasTaken (g.X.Expand.time l.expansion) (g.P.Program.image l.program) l.end g.Q.Port.gives g.Q.Port.logged first.number l.initial.port l.port first.timed l.self.timed;
@@ -27,5 +27,5 @@ invariant-loop-entry g l =
       room_left : g.Q.Port.room l.initial.port + most_accesses l.end l.self.timed ≤ g.Q.Port.room l.port + most_accesses l.end first.timed;
     }
 
-abbrev pub decreases-loop-entry : goal.decreases-loop-entry
-decreases-loop-entry g l = most_accesses l.end l.self.timed
+abbrev pub decreases-loop : goal.decreases-loop
+decreases-loop g l = most_accesses l.end l.self.timed
