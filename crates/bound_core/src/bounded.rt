@@ -15,7 +15,7 @@ ghost use Rattle.bound_core.specs.Ahead.{ahead, going};
 ghost use Rattle.bound_core.specs.Met.{begun_in_time, met_count};
 ghost use Rattle.bound_core.specs.Turn.{EndsInterval, IfTook, IsOver, RunsToEnd, TookOne, TurnsAs};
 
-use crate::loops::{Unfetched, WithinLine};
+use crate::loops::OneByOne;
 use crate::paced::{behind, executes, first_pace, takes};
 use crate::{Port, Turned};
 use elf_load::Image;
@@ -564,7 +564,7 @@ impl BoundCore {
             return Did::Meets(single);
         }
         if *counted < most {
-            self.step::<P, Unfetched>(program, counted)
+            self.step(program, counted)
         } else {
             Did::GoesOn
         }
@@ -626,7 +626,7 @@ impl BoundCore {
         let mut counted = 0;
         let mut did = self.run_line(program, end, most, &mut counted);
         while did.goes_on() && counted < most && self.is_there(program) {
-            did = self.step::<P, WithinLine>(program, &mut counted);
+            did = self.step(program, &mut counted);
         }
         self.clock += counted;
         self.instructions += counted;
@@ -727,11 +727,12 @@ impl BoundCore {
     }
 
     /// Executes one instruction, up to its first access if it has one, or comes to its one access,
-    /// and counts it. The clock and the count of instructions stay behind, by what was counted: so
-    /// the loop has them at hand, and not in memory.
-    #[inline(always)]
+    /// and counts it. The clock and the count of instructions stay behind, by what was counted. It
+    /// is seldom called, and stands apart, so that the loops and what serves accesses are one
+    /// function.
+    #[inline(never)]
     #[tactic(auto, unfolding(crate::specs::TimedCore::after_instruction))]
-    fn step<P: Program, T>(&mut self, program: &P, counted: &mut u64) -> Did
+    fn step<P: Program>(&mut self, program: &P, counted: &mut u64) -> Did
         requires free { IsTrue (is_free self.old.timed.core) }
         requires unfetched { self.old.timed.core.is_fetched ≡ false }
         requires there { needs_fetch (P.image program.now) self.old.timed.core ≡ false }
@@ -747,7 +748,7 @@ impl BoundCore {
         ensures spare { self.new.spare ≡ self.old.spare }
         ensures pace { self.new.timed.pace ≡ None }
     {
-        let did = self.core.step_or_meet::<P, T>(program);
+        let did = self.core.step_or_meet::<P, OneByOne>(program);
         if !matches!(did, Did::Stops) || is_counted(self.core.halted()) {
             *counted += 1;
         }

@@ -1,12 +1,8 @@
-//! The loops over single instructions, as types. For each, the compiler builds what executes an
-//! instruction (`Core::step`, `Core::step_or_meet`) anew, and sets it into the loop; what two loops
-//! share would be called for each instruction.
+//! The loops in which a core executes single instructions, as types. For each, the compiler builds
+//! what executes an instruction (`Core::step`, `Core::step_or_meet`) anew.
 
-/// Of a core that does not fetch.
-pub(crate) struct Unfetched;
-
-/// Of a core that fetches, within the line of its latest fetch.
-pub(crate) struct WithinLine;
+/// Of a core without a pipeline: the instructions that the program does not execute by itself.
+pub(crate) struct OneByOne;
 
 /// Of a core with a pipeline.
 pub(crate) struct Paced;
