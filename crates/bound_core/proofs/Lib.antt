@@ -4,6 +4,7 @@ mod AllShards
 pub mod Branches
 pub mod CoreKept
 pub mod FetchedInstructions
+pub mod FetchedNext
 pub mod Histories
 pub mod HistoryTurn
 pub mod InstructionLaws

@@ -460,10 +460,38 @@ impl BoundCore {
         ensures spare { self.new.spare ≡ self.old.spare }
         ensures pace { self.new.timed.pace ≡ None }
     {
+        self.take_fetched(program, end);
         match self.run_in_line(program, end) {
             Some(single) => Some(single),
             None => self.run_past_line(program, end),
         }
+    }
+
+    /// Before the end, an instruction that was fetched is but the next one in the line of its fetch.
+    #[inline(always)]
+    fn take_fetched<P: Program>(&mut self, program: &P, end: Cycle)
+        requires { self.old.timed.pace ≡ None }
+        ensures same_end { ran_to (P.image program.now) end self.new.timed ≡ ran_to (P.image program.now) end self.old.timed }
+        ensures number { self.new.number ≡ self.old.number }
+        ensures memory { self.new.timed.core.memory ≡ self.old.timed.core.memory }
+        ensures fetching { self.new.timed.core.fetching ≡ self.old.timed.core.fetching }
+        ensures clock { self.new.timed.clock ≡ self.old.timed.clock }
+        ensures spare { self.new.spare ≡ self.old.spare }
+        ensures pace { self.new.timed.pace ≡ None }
+    {
+        if self.has_fetched_before(program, end) {
+            self.core.begin_execution();
+        }
+    }
+
+    /// Whether it has fetched an instruction, which it executes before the end.
+    #[inline(always)]
+    fn has_fetched_before<P: Program>(&self, program: &P, end: Cycle) -> bool
+        ensures free { IsTrue result → IsTrue (is_free self.now.timed.core) }
+        ensures early { IsTrue result → self.now.timed.clock < end }
+        ensures there { IsTrue result → needs_fetch (P.image program.now) self.now.timed.core ≡ false }
+    {
+        self.core.is_fetched() && self.core.is_free() && self.clock < end && self.is_there(program)
     }
 
     /// Those from where the next instruction was fetched, or has to be.

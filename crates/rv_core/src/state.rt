@@ -317,8 +317,9 @@ impl Core {
         self.progress = Progress::Fetch { addr: self.pc };
     }
 
-    /// The instruction that was fetched is executed now.
-    pub(crate) fn begin_execution(&mut self)
+    /// The instruction that was fetched is executed next, as one that does not have to be fetched.
+    #[inline(always)]
+    pub fn begin_execution(&mut self)
         requires { IsTrue (is_free self.old) }
         ensures value { self.new ≡ unfetched self.old }
         ensures idle { IsTrue (is_idle self.new) }
