@@ -29,13 +29,13 @@ use Rattle.weave_core.proofs.Words.{all_known, eq_is, is_eq, none_unknown, word_
 module _ (events : List Event) (p : Partition) (domain : ℕ) (here : List Event) (stubs : List Stub) (own : DomainState) (w : Waits)
     (numbered : IsNumbered events) (partitions : IsPartition events p) (are_here : AreHere events p domain here) (are : AreStubs events p domain here stubs)
     (known : own.known ≡ known_words p.crossings stubs) (stands : Stands events p domain own here stubs w) where
-  next_first : (k : Key) (e : Event) → slice_get here k.number ≡ Some e → IsFirstReady w k → next_in events p domain own ≡ Some (e, k.start)
+  pub next_first : (k : Key) (e : Event) → slice_get here k.number ≡ Some e → IsFirstReady w k → next_in events p domain own ≡ Some (e, k.start)
   next_first = first_next events p domain here stubs own w numbered partitions are_here are known stands
 
-  next_none : NoneReady w → next_in events p domain own ≡ None
+  pub next_none : NoneReady w → next_in events p domain own ≡ None
   next_none = none_next events p domain here stubs own w numbered partitions are_here are known stands
 
-  there_first : (k : Key) → IsFirstReady w k → (e : Event) × (slice_get here k.number ≡ Some e)
+  pub there_first : (k : Key) → IsFirstReady w k → (e : Event) × (slice_get here k.number ≡ Some e)
   there_first k f = get_there here k.number (omega (arith, get_below w.waits k.number 0 f.ready, stands.waits_size))
 
   number_read : (place : ℕ) (e : Event) → slice_get here place ≡ Some e → (get_or here place no_event).number ≡ e.number
@@ -55,7 +55,7 @@ module _ (events : List Event) (p : Partition) (domain : ℕ) (here : List Event
   word_here : (k : ℕ) (s : Stub) → slice_get stubs k ≡ Some s → word_at own.known s.number ≡ s.word
   word_here k s h = ap (λ ws. word_at ws s.number) known ∙ word_known events p domain here stubs are k s h
 
-  arrival_here : (k : ℕ) (s : Stub) (x : Crossing) → slice_get stubs k ≡ Some s → slice_get p.crossings s.number ≡ Some x → arrival_of events p own s.number x ≡ arrival_at own.floor s
+  pub arrival_here : (k : ℕ) (s : Stub) (x : Crossing) → slice_get stubs k ≡ Some s → slice_get p.crossings s.number ≡ Some x → arrival_of events p own s.number x ≡ arrival_at own.floor s
   arrival_here k s x h there =
       let i = are.each k s h in
       let same : i.crossing ≡ x = same_Some i.crossing x (sym i.there ∙ there) in
@@ -68,7 +68,7 @@ module _ (events : List Event) (p : Partition) (domain : ℕ) (here : List Event
       alike a b f l m d e u v t = omega arith
 
   -- an unresolved crossing has an open stub
-  unresolved_stub : (number : ℕ) (x : Crossing) → slice_get p.crossings number ≡ Some x → is_unresolved events p domain own number x ≡ true
+  pub unresolved_stub : (number : ℕ) (x : Crossing) → slice_get p.crossings number ≡ Some x → is_unresolved events p domain own number x ≡ true
       → (k : ℕ) × ((s : Stub) × ((slice_get stubs k ≡ Some s) × ((s.number ≡ number) × (is_exact s.word ≡ false))))
   unresolved_stub number x there h =
       let b = both (eqb x.target domain) (not (is_exact (word_at own.known number))) h in
@@ -76,7 +76,7 @@ module _ (events : List Event) (p : Partition) (domain : ℕ) (here : List Event
       let word : word_at own.known number ≡ c.1.0.word = ap (λ n. word_at own.known n) (sym c.1.1.1) ∙ word_here c.0 c.1.0 c.1.1.0 in
       (c.0, (c.1.0, (c.1.1.0, (c.1.1.1, ap is_exact (sym word) ∙ not_true (is_exact (word_at own.known number)) b.1))))
 
-  stub_unresolved : (k : ℕ) (s : Stub) (x : Crossing) → slice_get stubs k ≡ Some s → slice_get p.crossings s.number ≡ Some x → is_exact s.word ≡ false → is_unresolved events p domain own s.number x ≡ true
+  pub stub_unresolved : (k : ℕ) (s : Stub) (x : Crossing) → slice_get stubs k ≡ Some s → slice_get p.crossings s.number ≡ Some x → is_exact s.word ≡ false → is_unresolved events p domain own s.number x ≡ true
   stub_unresolved k s x h there unknown =
       let i = are.each k s h in
       let same : i.crossing ≡ x = same_Some i.crossing x (sym i.there ∙ there) in

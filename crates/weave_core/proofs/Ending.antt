@@ -23,7 +23,7 @@ use Rattle.weave_core.specs.declared.next.Next.TheVariants.{Done, Fire, Blocked}
 use Rattle.weave_core.specs.AtBarrier.{AreSoundDomains, KnowFiredParents, MayGoOn, least_start_of, own_at}
 use Rattle.weave_core.specs.Beginning.{AreSmall, IsSmallEvent}
 use Rattle.weave_core.specs.DomainCalls.{DomainValue, IsAnswer, comps_in}
-use Rattle.weave_core.specs.DomainMachine.{DomainState, arrival_of, cycle_of, fresh_domain, is_clear, is_exact, is_ready_in, is_unresolved, known_finish, latency_at, latency_of, next_in, word_at}
+use Rattle.weave_core.specs.DomainMachine.{DomainState, SaysAsMuch, arrival_of, cycle_of, fresh_domain, is_clear, is_exact, is_ready_in, is_unresolved, known_finish, latency_at, latency_of, next_in, word_at}
 use Rattle.weave_core.specs.Interleavings.{IsFront, of_domain}
 use Rattle.weave_core.specs.Keeping.{AreKept, CanWeave, HaveAllFired, IsWeaveFiring, IsFiredSomewhere, IsReadyEvent, JoinsDomains, KeepingLaws, KeepsTo, owns_of}
 use Rattle.weave_core.specs.Layout.{no_event, timed_from}
@@ -31,10 +31,10 @@ use Rattle.weave_core.specs.Soundness.{AreSoundWords, IsSoundFloor, IsSoundWord}
 use Rattle.weave_core.proofs.Firing.{all_known, finding, finish_is, found, start_by_all}
 use Rattle.weave_core.proofs.Following.{left_by}
 use Rattle.weave_core.proofs.Fronts.{front_kept}
-use Rattle.weave_core.proofs.Keeping.{Facts, begins, can_fire, finish_small, finish_then, fires_to, may_tell, tells}
+use Rattle.weave_core.proofs.Keeping.{Facts, begins, bounds_hold, can_fire, finish_small, finish_then, fires_to, may_tell, still_open, tells}
 use Rattle.weave_core.proofs.Crossings.{Joins, joins}
 use Rattle.weave_core.proofs.LeastBy.{IsLeast, some_next}
-use Rattle.weave_core.proofs.Lists.{In, all_from, all_in, at_in, both, either, from_enum, from_filter, in_enum, not_true, get_below, get_take, get_there, in_at, take_get}
+use Rattle.weave_core.proofs.Lists.{In, all_from, all_in, and_true, at_in, both, either, from_enum, from_filter, in_enum, not_true, get_below, get_take, get_there, in_at, take_get}
 use Rattle.weave_core.proofs.ReadyEvents.{is_ready, placed}
 use Rattle.weave_core.proofs.Solutions.{bounds_alike, finish_alike, order_alike, words_alike}
 use Rattle.weave_core.proofs.SoundDomains.{front_cut}
@@ -52,28 +52,27 @@ clear_at events p domain own start number x clear there unknown =
     ]
 
 pub stays_clear : (events : List Event) (p : Partition) (domain : ℕ) (before after : DomainState) (start : ℕ) → before.floor ≤ after.floor
-    → ((number : ℕ) → (word_at after.known number ≡ word_at before.known number) ⊎ (is_exact (word_at after.known number) ≡ true))
+    → ((number : ℕ) → SaysAsMuch (word_at before.known number) (word_at after.known number))
     → is_clear events p domain before start ≡ true → is_clear events p domain after start ≡ true
 stays_clear events p domain before after start l words clear =
     all_from (λ (at : ℕ × Crossing). not (is_unresolved events p domain after at.0 at.1) || ltb start (arrival_of events p after at.0 at.1)) (enumerate_from 0 p.crossings)
     (λ at m. each at.0 at.1 (from_enum p.crossings at m) (is_unresolved events p domain after at.0 at.1) refl)
   where
-    later : (n : ℕ) (x : Crossing) → cycle_of (word_at after.known n) ≡ cycle_of (word_at before.known n) → start < arrival_of events p before n x → start < arrival_of events p after n x
-    later n x same a = higher (cycle_of (word_at before.known n)) (cycle_of (word_at after.known n)) before.floor after.floor (latency_at events x.parent) x.delay (sym same) l a
+    later : (n : ℕ) (x : Crossing) → cycle_of (word_at before.known n) ≤ cycle_of (word_at after.known n) → start < arrival_of events p before n x → start < arrival_of events p after n x
+    later n x upto a = higher (cycle_of (word_at before.known n)) (cycle_of (word_at after.known n)) before.floor after.floor (latency_at events x.parent) x.delay upto l a
       where
-        higher : (c d a b l delay : ℕ) → c ≡ d → a ≤ b → start < max c (a + l) + delay → start < max d (b + l) + delay
+        higher : (c d a b l delay : ℕ) → c ≤ d → a ≤ b → start < max c (a + l) + delay → start < max d (b + l) + delay
         higher c d a b l delay e le h = omega arith
 
     each : (n : ℕ) (x : Crossing) → slice_get p.crossings n ≡ Some x → (t : Bool) → is_unresolved events p domain after n x ≡ t → (not t || ltb start (arrival_of events p after n x)) ≡ true
     each n x h false e = refl
     each n x h true e =
-        elim (words n) [
-          | inr exact ↦ absurd (false≢true (sym (ap not exact) ∙ (both (eqb x.target domain) (not (is_exact (word_at after.known n))) e).1))
-          | inl same ↦
-              let unknown : is_unresolved events p domain before n x ≡ true = ap (λ (w : Word). eqb x.target domain && not (is_exact w)) (sym same) ∙ e in
-              let a : start < arrival_of events p after n x = later n x (ap cycle_of same) (clear_at events p domain before start n x clear h unknown) in
-              grind (arith, nat_tests)
-        ]
+        let b = both (eqb x.target domain) (not (is_exact (word_at after.known n))) e in
+        let open_after : is_exact (word_at after.known n) ≡ false = not_true (is_exact (word_at after.known n)) b.1 in
+        let open_before : is_exact (word_at before.known n) ≡ false = still_open (word_at before.known n) (word_at after.known n) (words n) open_after in
+        let unknown : is_unresolved events p domain before n x ≡ true = and_true (eqb x.target domain) (not (is_exact (word_at before.known n))) b.0 (ap not open_before) in
+        let a : start < arrival_of events p after n x = later n x ((words n).bound open_after) (clear_at events p domain before start n x clear h unknown) in
+        grind (arith, nat_tests)
 
 same_log : (events : List Event) (xs : List Fired) → ((i : ℕ) (g : Fired) → slice_get xs i ≡ Some g → fired_of (timed_from events g) ≡ g) → map fired_of (map (timed_from events) xs) ≡ xs
 same_log events [] h = refl
@@ -416,8 +415,9 @@ pub keeping : {C : Type 0} (serves : C → Kind → Bool) (floor : C → Kind �
     → KeepingLaws serves floor stepped greatest
 keeping serves floor stepped greatest facts = record {
   begins = λ events p comps w domain. begins serves floor stepped greatest events p comps (facts events p comps w) domain;
-  may_tell = λ events p comps w domain own parts number finish k x. may_tell serves floor stepped greatest events p comps (facts events p comps w) domain own parts k number finish x;
-  tells = λ events p comps w domain own parts number finish k x. tells serves floor stepped greatest events p comps (facts events p comps w) domain own parts k number finish x;
+  may_tell = λ events p comps w domain own parts number word k x. may_tell serves floor stepped greatest events p comps (facts events p comps w) domain own parts k number word x;
+  tells = λ events p comps w domain own parts number word k x. tells serves floor stepped greatest events p comps (facts events p comps w) domain own parts k number word x;
+  bounds_hold = λ events p comps w domain own parts x bound k may. bounds_hold serves floor stepped greatest events p comps (facts events p comps w) domain own parts k x bound may;
   can_fire = λ events p comps w domain own parts key k may. can_fire serves floor stepped greatest events p comps (facts events p comps w) domain own parts k key may;
   fires = λ events p comps w domain own parts key new result k may fire. (
     fires_to serves floor stepped greatest events p comps (facts events p comps w) domain own parts k key may new result fire,

@@ -9,9 +9,10 @@ use Rattle.event_graph.specs.declared.event.Event.{Event}
 use Rattle.event_graph.specs.Firing.{FiresNext, IsNext}
 use Rattle.event_graph.specs.Fits.{EventFits, GraphFits}
 use Rattle.event_graph.specs.Numbered.{IsNumbered}
-use Rattle.event_graph.specs.OneListWeave.{FiredEvent, after_firings, is_event_before, is_fired, is_parent_fired, weave, woven}
+use Rattle.event_graph.specs.OneListWeave.{FiredEvent, after_firings, finish_in, is_event_before, is_fired, is_parent_fired, weave, woven}
 use Rattle.event_graph.specs.ServedEvents.{after_serving, of_component}
 use Rattle.event_graph.specs.TimingSolution.{IsInOrder, IsSolution}
+use Rattle.domain_map.specs.declared.crossing.Crossing.{Crossing}
 use Rattle.domain_map.specs.Domains.{Partition, domain_of_event}
 use Rattle.weave_core.specs.AtBarrier.{AreSoundDomains, IsFirstLeft, KnowFiredParents, MayGoOn, least_start_of, own_at}
 use Rattle.weave_core.specs.DomainMachine.{DomainState, MachineState, Step, after_steps, at_rest, barrier, every_crossing, fire, is_allowed, is_clear, is_settled, latency_of, least_ready_start, next_in, state_of, take_step, with_floor}
@@ -20,6 +21,7 @@ use Rattle.weave_core.proofs.Lists.{both, get_below, not_true, contained, contai
 use Rattle.weave_core.proofs.Firing.{IsOrder}
 use Rattle.weave_core.proofs.Fires.{IsServed}
 use Rattle.weave_core.proofs.Whole.{domain_there, follows, from_rest}
+use Rattle.weave_core.specs.Raising.{MayRaise}
 use Rattle.weave_core.specs.SoundDomain.{IsNextFiring, IsSoundDomain}
 use Rattle.weave_core.proofs.AfterBarrier.{may_fire_first}
 use Rattle.weave_core.proofs.AtBarriers.{floors_hold, may_go_on}
@@ -28,6 +30,7 @@ use Rattle.weave_core.proofs.Steps.{fronts}
 use Rattle.weave_core.specs.Soundness.{AreSoundBounds, AreSoundWords, IsSoundFloor}
 use Rattle.weave_core.proofs.Joined.{sound_bounds}
 use Rattle.weave_core.proofs.Solutions.{bounds_back, floor_alike, words_alike}
+use Rattle.weave_core.proofs.RaisedBounds.{below_finish_of}
 use Rattle.weave_core.proofs.SoundDomains.{sound_follow}
 
 module _ {C : Type 0} (serves : C → Kind → Bool) (floor : C → Kind → ℕ) (stepped : C → Kind → ℕ → C × ℕ)
@@ -187,3 +190,7 @@ module _ {C : Type 0} (serves : C → Kind → Bool) (floor : C → Kind → ℕ
         → AreSoundDomains stepped events p comps timed solution owns → KnowFiredParents p owns → IsFirstLeft stepped events p comps owns index x → MayGoOn events p owns x
     first_goes_on timed solution is owns index x h told first =
         may_go_on stepped events p comps order_of d.partitions here in_order timed solution is owns h told index x first
+
+    pub raised_bounds : (timed : List FiredEvent) (solution : IsSolution stepped events comps timed) → timed ≡ woven stepped events comps → (domain : ℕ) (own : DomainState) (x : Crossing) (bound : ℕ)
+        → IsSoundDomain stepped events p comps timed solution domain own → MayRaise events p domain own x bound → bound ≤ finish_in timed x.parent
+    raised_bounds timed solution is domain own x bound s may = below_finish_of stepped events p comps order_of d.partitions in_order timed solution is domain own x bound s may

@@ -1,5 +1,5 @@
 -- A domain that keeps to the one-list weave, and what its calls leave of it.
-use Rattle.std.proofs.Common.{◌≡◌, ◌+◌, ◌<◌, ◌≤◌, ◌^◌, ℕ, zero, suc, Bool, true, eqb, List, [], ◌∷◌, ◌++◌, length, map, take, get_or, Option, Some, None, slice_get, sym, ◌∙◌, ap, subst, refl, inl, inr, arith, length-set}
+use Rattle.std.proofs.Common.{◌≡◌, ◌+◌, ◌<◌, ◌≤◌, ◌^◌, ℕ, zero, suc, Bool, true, false, eqb, List, [], ◌∷◌, ◌++◌, length, map, take, get_or, Option, Some, None, slice_get, sym, ◌∙◌, ap, subst, refl, inl, inr, arith, length-set}
 use Rattle.std.proofs.lemmas.Bool.{false≢true}
 use Rattle.std.proofs.lemmas.List.{length-map, length_push, take_more}
 use Rattle.std.proofs.lemmas.Option.{same_Some, slice_get-map, slice_get-get_or, get_or_from_slice_get}
@@ -21,16 +21,19 @@ use Rattle.domain_map.specs.declared.crossing.Crossing.{Crossing}
 use Rattle.domain_map.specs.Domains.{Partition, domain_of_event}
 use Rattle.weave_core.specs.AtBarrier.{AreSoundDomains, IsFirstLeft, KnowFiredParents, MayGoOn, least_start_of, own_at}
 use Rattle.weave_core.specs.DomainCalls.{CanFire, DomainValue, Follows, IsFire, IsNoFall, MayFire, MayTell, at_first, comps_in, with_known}
-use Rattle.weave_core.specs.DomainMachine.{DomainState, cycle_of, is_clear, is_exact, next_in, with_floor, word_at}
+use Rattle.weave_core.specs.DomainMachine.{DomainState, SaysAsMuch, cycle_of, is_clear, is_exact, next_in, with_floor, word_at}
 use Rattle.weave_core.specs.Following.{FiresFollow, fired_value}
 use Rattle.weave_core.specs.Interleavings.{of_domain}
-use Rattle.weave_core.specs.Keeping.{CanWeave, IsFinishOf, KeepsTo, domain_with}
+use Rattle.weave_core.specs.Keeping.{CanWeave, IsTrueWordOf, KeepsTo, domain_with}
 use Rattle.weave_core.specs.Layout.{place_in}
+use Rattle.weave_core.specs.Raising.{MayRaise}
+use Rattle.weave_core.specs.SoundDomain.{IsSoundDomain}
 use Rattle.weave_core.specs.Soundness.{AreSoundBounds, AreSoundWords, IsSoundFloor, IsSoundWord}
 use Rattle.weave_core.proofs.Firing.{IsOrder, finish_is}
 use Rattle.weave_core.proofs.Fires.{IsServed}
 use Rattle.weave_core.proofs.Following.{left_at, left_by, none_left}
-use Rattle.weave_core.proofs.Lists.{find_some, get_below, get_there, in_at, last_same}
+use Rattle.weave_core.proofs.Joined.{exact_cycle, sound_cycle}
+use Rattle.weave_core.proofs.Lists.{find_some, get_below, get_there, in_at, last_same, test_cases}
 use Rattle.weave_core.proofs.PendingEvents.{IsNextHere, may_fire, pending_is}
 use Rattle.weave_core.proofs.Solutions.{bounds_alike, finish_alike, order_alike, words_alike}
 use Rattle.weave_core.proofs.SoundDomains.{front_cut, mine_so_far, next_entry}
@@ -46,6 +49,10 @@ none_known [] zero = refl
 none_known [] (suc n) = refl
 none_known (x ∷ xs) zero = refl
 none_known (x ∷ xs) (suc n) = none_known xs n
+
+-- what says as much and is no finish comes after what was none
+pub still_open : (was word : Word) → SaysAsMuch was word → is_exact word ≡ false → is_exact was ≡ false
+still_open was word says e = elim (test_cases (is_exact was)) [ inr f ↦ f | inl t ↦ absurd (false≢true (sym e ∙ says.finish t)) ]
 
 module _ {C : Type 0} (serves : C → Kind → Bool) (floor : C → Kind → ℕ) (stepped : C → Kind → ℕ → C × ℕ) (greatest : C → Kind → ℕ → ℕ) (events : List Event) (p : Partition) (comps : List C) where
   abbrev pub all : List FiredEvent
@@ -70,6 +77,8 @@ module _ {C : Type 0} (serves : C → Kind → Bool) (floor : C → Kind → ℕ
     pub bounds : (domain : ℕ) (own : DomainState) → AreSoundWords (woven stepped events comps) p own.known → IsSoundFloor (woven stepped events comps) p domain own
         → AreSoundBounds events (woven stepped events comps) p domain own
     pub fires : FiresFollow serves floor stepped
+    pub raised : (domain : ℕ) (own : DomainState) (x : Crossing) (bound : ℕ) → IsSoundDomain stepped events p comps (woven stepped events comps) solution domain own → MayRaise events p domain own x bound
+        → bound ≤ finish_in (woven stepped events comps) x.parent
     pub floors : (owns : List DomainState) (start : ℕ) → AreSoundDomains stepped events p comps (woven stepped events comps) solution owns → KnowFiredParents p owns → least_start_of events p owns ≡ Some start
         → (domain : ℕ) → IsSoundFloor (woven stepped events comps) p domain (with_floor start (own_at owns domain))
     pub goes_on : (owns : List DomainState) (index : ℕ) (x : FiredEvent) → AreSoundDomains stepped events p comps (woven stepped events comps) solution owns → KnowFiredParents p owns
@@ -153,53 +162,64 @@ module _ {C : Type 0} (serves : C → Kind → Bool) (floor : C → Kind → ℕ
       abbrev bounds : AreSoundBounds events timed p domain own
       bounds = f.bounds domain own k.known k.floor
 
-      pub may_tell : (number finish : ℕ) → IsFinishOf stepped events p comps domain number finish → MayTell events p domain own number (Exact finish)
-      may_tell number finish x = record {
+      pub may_tell : (number : ℕ) (word : Word) → IsTrueWordOf stepped events p comps domain own number word → MayTell events p domain own number word
+      may_tell number word x = record {
         crossing = x.crossing;
         there = x.there;
         target = x.target;
-        no_fall = no_fall (word_at own.known number) refl;
-        agrees = λ other y h same exact tells. agrees other y h same (word_at own.known other) refl exact;
-        small = let l = finish_small x.crossing.parent in let is = x.finish_is in omega (arith, l, is);
+        no_fall = no_fall (word_at own.known number) refl word refl;
+        agrees = λ other y h same exact tells.
+            exact_cycle timed x.crossing word x.sound tells
+            ∙ (ap (finish_in timed) (sym same) ∙ sym (exact_cycle timed y (word_at own.known other) (k.known.each other y h) exact));
+        small = omega (arith, finish_small x.crossing.parent, sound_cycle timed x.crossing word x.sound);
       }
         where
-          no_fall : (a : Word) → word_at own.known number ≡ a → IsNoFall events p domain own number x.crossing a (Exact finish)
-          no_fall (Bound a) e =
-              let l = bounds.each number x.crossing x.there x.target (ap is_exact e) in
-              let is = x.finish_is in
-              omega (arith, l, is)
-          no_fall (Exact g) e = x.finish_is ∙ sym (subst (IsSoundWord timed x.crossing) e (k.known.each number x.crossing x.there))
+          no_fall : (a : Word) → word_at own.known number ≡ a → (b : Word) → word ≡ b → IsNoFall events p domain own number x.crossing a b
+          no_fall (Bound a) e (Bound b) t = omega (arith, x.says.bound (ap is_exact t), ap cycle_of e, ap cycle_of t)
+          no_fall (Exact g) e (Bound b) t = absurd (false≢true (sym (ap is_exact t) ∙ x.says.finish (ap is_exact e)))
+          no_fall (Bound a) e (Exact f) t =
+              omega (arith, bounds.each number x.crossing x.there x.target (ap is_exact e), exact_cycle timed x.crossing word x.sound (ap is_exact t), ap cycle_of t)
+          no_fall (Exact g) e (Exact f) t =
+              sym (ap cycle_of t)
+              ∙ (exact_cycle timed x.crossing word x.sound (ap is_exact t)
+              ∙ (sym (exact_cycle timed x.crossing (word_at own.known number) (k.known.each number x.crossing x.there) (ap is_exact e)) ∙ ap cycle_of e))
 
-          agrees : (other : ℕ) (y : Crossing) → slice_get p.crossings other ≡ Some y → y.parent ≡ x.crossing.parent → (a : Word) → word_at own.known other ≡ a → is_exact (word_at own.known other) ≡ true
-              → finish ≡ cycle_of (word_at own.known other)
-          agrees other y h same (Bound a) e exact = absurd (false≢true (sym (ap is_exact e) ∙ exact))
-          agrees other y h same (Exact g) e exact =
-              x.finish_is
-              ∙ (ap (finish_in timed) (sym same)
-              ∙ (sym (subst (IsSoundWord timed y) e (k.known.each other y h)) ∙ sym (ap cycle_of e)))
-
-      pub tells : (number finish : ℕ) → IsFinishOf stepped events p comps domain number finish → KeepsTo stepped events p comps domain (with_known own number (Exact finish)) parts
-      tells number finish x = record {
+      pub tells : (number : ℕ) (word : Word) → IsTrueWordOf stepped events p comps domain own number word → KeepsTo stepped events p comps domain (with_known own number word) parts
+      tells number word x = record {
         fired = k.fired;
         parts_are = k.parts_are;
         known = record {
           each = λ n y h.
-              elim (read_after own.known number (Exact finish) (Bound 0) n) [
+              elim (read_after own.known number word (Bound 0) n) [
                 | inr same ↦ subst (IsSoundWord timed y) (sym same) (k.known.each n y h)
                 | inl is ↦
-                    let one : y ≡ x.crossing = same_Some y x.crossing (sym h ∙ (ap (slice_get p.crossings) is.0 ∙ x.there)) in
-                    subst (IsSoundWord timed y) (sym is.1) (x.finish_is ∙ ap (λ (z : Crossing). finish_in timed z.parent) (sym one))
+                    let one : x.crossing ≡ y = same_Some x.crossing y (sym x.there ∙ (ap (slice_get p.crossings) (sym is.0) ∙ h)) in
+                    subst (IsSoundWord timed y) (sym is.1) (subst (λ (z : Crossing). IsSoundWord timed z word) one x.sound)
               ];
         };
         floor = record {
           each = λ n y h target unknown.
-              elim (read_after own.known number (Exact finish) (Bound 0) n) [
+              elim (read_after own.known number word (Bound 0) n) [
                 | inr same ↦ k.floor.each n y h target (sym (ap is_exact same) ∙ unknown)
-                | inl is ↦ absurd (false≢true (sym unknown ∙ ap is_exact is.1))
+                | inl is ↦
+                    k.floor.each n y h target (ap (λ m. is_exact (word_at own.known m)) is.0 ∙ still_open (word_at own.known number) word x.says (ap is_exact (sym is.1) ∙ unknown))
               ];
         };
-        wide = length-set own.known number (Exact finish) ∙ k.wide;
+        wide = length-set own.known number word ∙ k.wide;
       }
+
+      sorted_is : f.solution.sorted ≡ all
+      sorted_is = order_alike stepped events comps f.order timed refl f.solution.sorted f.solution.in_order f.solution.same f.in_order
+
+      pub bounds_hold : (x : Crossing) (bound : ℕ) → MayRaise events p domain own x bound → bound ≤ finish_in timed x.parent
+      bounds_hold x bound may =
+          f.raised domain own x bound
+          (record {
+            fired = k.fired ∙ ap (λ (xs : List FiredEvent). take (length own.fired) (of_domain p.places domain xs)) (sym sorted_is);
+            known = k.known;
+            bounds = bounds;
+          })
+          may
 
       abbrev cut : (cut : ℕ) × (take (length own.fired) (of_domain p.places domain all) ≡ of_domain p.places domain (take cut all))
       cut = front_cut (λ (y : FiredEvent). eqb (domain_of_event p.places y.event) domain) all (length own.fired)

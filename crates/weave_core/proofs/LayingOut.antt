@@ -15,6 +15,7 @@ use Rattle.domain_map.specs.Domains.{Partition, IsPartition, domain_of_event, do
 use Rattle.weave_core.specs.declared.incoming.Stub.{Stub}
 use Rattle.weave_core.specs.Beginning.{AddsWaits, AreCounts, AreCrossed, AreSmall, AreStubsUpto, HasPlace, HasWaits, IsCount, IsRisingList}
 use Rattle.weave_core.specs.DomainMachine.{is_exact}
+use Rattle.weave_core.specs.Exits.{HaveParents}
 use Rattle.weave_core.specs.LaidOut.{FitsDomain, at_rest_with}
 use Rattle.weave_core.specs.Layout.{AreHere, AreStubs, Stands, crossing_word, fired_in, known_words, missing_at, no_event, pending, start_after_own, start_at, told_into, unknown_into}
 use Rattle.weave_core.proofs.Crossings.{Joins, joins}
@@ -176,6 +177,19 @@ module _ (events : List Event) (p : Partition) (domain : ℕ) (numbered : IsNumb
           parent_there = ap (λ (z : Crossing). slice_get events z.parent) (sym j.is) ∙ parent.1;
           delay = omega (arith, delay, ap (λ (z : Crossing). z.delay) j.is);
         };
+  }
+
+  pub parents_here : HaveParents here p.crossings domain
+  parents_here = record {
+    each = λ number x h source.
+        let j : Joins p.places events x = joins p.places events number x (subst (λ (xs : List Crossing). slice_get xs number ≡ Some x) partitions.crossings h) in
+        let lower : j.parent.number < j.number =
+        elim j.slot [ inl s ↦ numbered.first j.number j.child j.parent j.there s | inr s ↦ numbered.second j.number j.child j.parent j.there s ]
+        in
+        let q : (q : Event) × (slice_get events j.parent.number ≡ Some q) = get_there events j.parent.number (omega (arith, lower, get_below events j.number j.child j.there)) in
+        let d : domain_of_event p.places q.0 ≡ domain = sym (at_event events p.places j.parent.number q.0 q.1) ∙ (ap (λ (z : Crossing). z.source) j.is ∙ source) in
+        let place = are_here.covers j.parent.number q.0 q.1 d in
+        (place.0, record { event = q.0; there = place.1; number_is = numbered.number j.parent.number q.0 q.1 ∙ ap (λ (z : Crossing). z.parent) j.is });
   }
 
   count_few : (q : Option Parent) (n : ℕ) → IsCount here q n → n ≤ 1

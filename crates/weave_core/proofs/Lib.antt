@@ -7,6 +7,7 @@ mod Firing
 mod Joined
 mod ReadyEvents
 mod PendingEvents
+mod Raised
 mod Updates
 mod Steps
 mod Fires
@@ -16,6 +17,7 @@ mod AfterBarrier
 mod AtBarriers
 mod Solutions
 mod SoundDomains
+mod RaisedBounds
 mod FromLaws
 mod Keys
 mod Readied
@@ -29,6 +31,8 @@ mod Chaining
 mod Words
 mod Readiness
 mod Answering
+mod Limits
+mod Exiting
 mod Looked
 mod FireSteps
 mod FireHere

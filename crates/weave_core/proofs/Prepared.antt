@@ -9,6 +9,7 @@ use Rattle.event_graph.specs.Numbered.{IsNumbered}
 use Rattle.domain_map.specs.Domains.{Partition, IsPartition}
 use Rattle.weave_core.specs.declared.prepare.Layout.{Layout as Kept}
 use Rattle.weave_core.specs.DomainCalls.{IsFitted, comps_in}
+use Rattle.weave_core.specs.Exits.{AreExits}
 use Rattle.weave_core.specs.LaidOut.{IsLaidOut}
 use Rattle.weave_core.specs.Layout.{AreHere, AreStubs, HaveComponents, Stands, known_words, place_in, timed_from}
 use Rattle.weave_core.proofs.Lists.{get_below}
@@ -21,6 +22,7 @@ pub record IsBegun {C : Type 0} (serves : C → Kind → Bool) (domain : ℕ) (l
   pub partitions : IsPartition events p
   pub here : AreHere events p domain l.here.items
   pub stubs : AreStubs events p domain l.here.items l.incoming.stubs
+  pub exits : AreExits l.here.items p.crossings domain (length p.crossings) l.exits.numbers.items l.exits.parents.items
   pub stands : Stands events p domain (record { fired = map (timed_from events) l.fired.items; known = known_words p.crossings l.incoming.stubs; floor = l.incoming.floor }) l.here.items l.incoming.stubs l.waiting
   pub served : HaveComponents serves p domain l.here.items l.own_places.items comps
 
@@ -48,6 +50,7 @@ begun serves floor events p domain l comps all numbered partitions laid fits = r
   partitions = partitions;
   here = laid.here;
   stubs = laid.stubs;
+  exits = laid.exits;
   stands =
       subst (λ (xs : List Fired). Stands events p domain (record { fired = map (timed_from events) xs; known = known_words p.crossings l.incoming.stubs; floor = l.incoming.floor }) l.here.items l.incoming.stubs l.waiting) (sym laid.fired)
       (stands_alike events p domain l.here.items l.incoming.stubs l.waiting [] _ (known_words p.crossings l.incoming.stubs) 0 l.incoming.floor laid.stands);

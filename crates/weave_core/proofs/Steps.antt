@@ -13,13 +13,14 @@ use Rattle.event_graph.specs.ServedEvents.{after_serving, of_component}
 use Rattle.domain_map.specs.declared.crossing.Crossing.{Crossing}
 use Rattle.domain_map.specs.Domains.{Partition, IsPartition, domain_at, domain_of_event}
 use Rattle.weave_core.specs.DomainMachine.{DomainState, MachineState, cycle_of, effect_of, finish_of_parent, fresh_domain, is_allowed, crossing_passes, is_exact, latency_at, latency_of, limit_of, look, may_raise, publish, raise, state_of, word_at}
+use Rattle.weave_core.specs.Raising.{MayRaise}
 use Rattle.weave_core.specs.Soundness.{AreSoundBounds, AreSoundWords, IsSoundFloor, IsSoundWord}
 use Rattle.weave_core.specs.Interleavings.{of_domain}
 use Rattle.weave_core.proofs.Lists.{both, finding_option, test_cases, not_true}
 use Rattle.weave_core.proofs.Updates.{read_after}
 use Rattle.weave_core.proofs.Firing.{IsOrder, all_known, finding, finish_is, fired_before, from_domain}
 use Rattle.weave_core.proofs.Joined.{latency_there, parent_of_crossing, sound_bounds, test_eq}
-use Rattle.weave_core.proofs.PendingEvents.{limit_holds}
+use Rattle.weave_core.proofs.Raised.{below_finish}
 
 -- what holds of each element holds after one was written
 pub written : {X : Type 0} (Q : ℕ → X → Type 0) (xs : List X) (i : ℕ) (v d : X) → Q i v → ((j : ℕ) → Q j (get_or xs j d)) → (j : ℕ) → Q j (get_or (set xs i v) j d)
@@ -122,9 +123,6 @@ module _ {C : Type 0} (stepped : C → Kind → ℕ → C × ℕ) (events : List
 
   -- a raise
 
-  test_le : (a b : ℕ) → leb a b ≡ true → a ≤ b
-  test_le a b h = grind (arith, nat_tests)
-
   raised : (s : MachineState C) (domain number bound : ℕ) (x : Crossing) (h : Holds s) → slice_get p.crossings number ≡ Some x
       → may_raise events p stepped s domain number bound x ≡ true
       → (bound ≤ finish_in all x.parent) × (is_fired (of_domain p.places x.source (take (h.cut x.source) all)) x.parent ≡ false)
@@ -137,33 +135,9 @@ module _ {C : Type 0} (stepped : C → Kind → ℕ → C × ℕ) (events : List
       let unfired : is_fired (of_domain p.places domain (take (h.cut domain) all)) x.parent ≡ false =
       ap (λ (xs : List FiredEvent). is_fired xs x.parent) (sym own.fired) ∙ not_true (is_fired (state_of s domain).fired x.parent) b.0
       in
-      let l : (limit : ℕ) × ((limit_of events p domain (state_of s domain) ≡ Some limit) × (leb bound (latency_at events x.parent + limit) ≡ true)) =
-      finding_option (limit_of events p domain (state_of s domain)) (λ limit. leb bound (latency_at events x.parent + limit)) c.1
-      in
-      let q : (k : ℕ) × ((w : FiredEvent) × ((slice_get all k ≡ Some w) × ((w.event.number ≡ x.parent) × (x.source ≡ domain_of_event p.places w.event)))) =
-      parent_of_crossing events p all o div number x there
-      in
-      let d : domain_of_event p.places q.1.0.event ≡ domain = sym q.1.1.1.1 ∙ source in
-      let behind : h.cut domain ≤ q.0 =
-      elim (cases_lt q.0 (h.cut domain)) [
-        | inr b2 ↦ b2
-        | inl less ↦
-            let f : is_fired (of_domain p.places domain (take (h.cut domain) all)) q.1.0.event.number ≡ true =
-            fired_before events all o p.places domain (h.cut domain) q.0 q.1.0 less q.1.1.0 d
-            in
-            absurd (false≢true (sym unfired ∙ (ap (is_fired (of_domain p.places domain (take (h.cut domain) all))) (sym q.1.1.1.0) ∙ f)))
-      ]
-      in
-      let limit : l.0 ≤ q.1.0.start =
-      limit_holds events p all o div domain (h.cut domain) (state_of s domain) own.fired own.known (bounds_of _ _ _ _ own) l.0 l.1.0 q.0 q.1.0 q.1.1.0 d behind
-      in
-      let latency : latency_at events x.parent ≡ latency_of q.1.0.event =
-      ap (latency_at events) (sym q.1.1.1.0) ∙ latency_there events q.1.0.event.number q.1.0.event (o.event q.0 q.1.0 q.1.1.0)
-      in
-      let time : q.1.0.start + latency_of q.1.0.event ≤ q.1.0.finish = o.time q.0 q.1.0 q.1.1.0 in
-      let finish : finish_in all x.parent ≡ q.1.0.finish = ap (finish_in all) (sym q.1.1.1.0) ∙ finish_is events all o q.0 q.1.0 q.1.1.0 in
-      let upto : bound ≤ latency_at events x.parent + l.0 = test_le bound (latency_at events x.parent + l.0) l.1.1 in (
-        omega (arith, upto, limit, latency, time, finish),
+      let own_unfired : is_fired (state_of s domain).fired x.parent ≡ false = not_true (is_fired (state_of s domain).fired x.parent) b.0 in
+      let may : MayRaise events p domain (state_of s domain) x bound = record { number = number; there = there; source = source; unfired = own_unfired; allowed = c.1 } in (
+        below_finish events p all o div domain (h.cut domain) (state_of s domain) own.fired own.known (bounds_of _ _ _ _ own) x bound may,
         subst (λ n. is_fired (of_domain p.places n (take (h.cut n) all)) x.parent ≡ false) (sym source) unfired,
       )
 

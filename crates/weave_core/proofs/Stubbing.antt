@@ -15,7 +15,7 @@ use Rattle.weave_core.proofs.Updates.{get_set_other, get_set_same}
 use Rattle.weave_core.proofs.Words.{apart_eq, is_eq}
 
 -- an element of a longer list is the new one or an old one
-pushed_at : {X : Type 0} (xs : List X) (y x : X) (i : ℕ) → slice_get (xs ++ y ∷ []) i ≡ Some x → ((i < length xs) × (slice_get xs i ≡ Some x)) ⊎ ((i ≡ length xs) × (y ≡ x))
+pub pushed_at : {X : Type 0} (xs : List X) (y x : X) (i : ℕ) → slice_get (xs ++ y ∷ []) i ≡ Some x → ((i < length xs) × (slice_get xs i ≡ Some x)) ⊎ ((i ≡ length xs) × (y ≡ x))
 pushed_at xs y x i h =
     elim (cases_lt i (length xs)) [
       | inl l ↦ inl (l, sym (get_push xs y i l) ∙ h)

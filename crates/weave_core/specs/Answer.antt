@@ -1,5 +1,5 @@
 -- What a domain answers, by its first ready place and its first stub.
-use Rattle.std.specs.Prelude.{◌≡◌, ◌≤◌, ◌-◌, cond, nat_lt, List, Option, Some, None, slice_get}
+use Rattle.std.specs.Prelude.{◌≡◌, ◌≤◌, ◌-◌, ℕ, cond, min, nat_lt, List, Option, Some, None, slice_get}
 use Rattle.std.specs.List.{slice_index_or}
 use Rattle.zs_num.specs.declared.time.Key.{Key}
 use Rattle.zs_num.specs.declared.time.Word.TheVariants.{Bound}
@@ -27,6 +27,13 @@ answer_of here stubs None None = Done
 answer_of here stubs (Some key) None = fire_of here key
 answer_of here stubs None (Some stub) = blocked_by stubs stub
 answer_of here stubs (Some key) (Some stub) = cond (nat_lt key.start stub.start) (fire_of here key) (blocked_by stubs stub)
+
+-- the lesser of their starts
+abbrev pub lesser_start : Option Key → Option Key → Option ℕ
+lesser_start None None = None
+lesser_start (Some key) None = Some key.start
+lesser_start None (Some stub) = Some stub.start
+lesser_start (Some key) (Some stub) = Some (min key.start stub.start)
 
 -- the stub is there, and its arrival is no earlier than its delay
 pub record IsBlocking (stubs : List Stub) (key : Key) : Type 0 where

@@ -1,6 +1,6 @@
 -- What the calls of a domain promise: each is a step of the machine, and the events that a domain fires are the first
 -- of its events in every solution of the timing rules for which its words and its floor are sound.
-use Rattle.std.specs.Prelude.{◌≡◌, ◌≤◌, ◌<◌, ◌⊎◌, ◌==◌, ◌^◌, ℕ, Bool, true, List, [], ◌∷◌, ◌++◌, length, map, Option, Some, None, slice_get, slice_set}
+use Rattle.std.specs.Prelude.{◌≡◌, ◌≤◌, ◌<◌, ◌⊎◌, ◌==◌, ◌^◌, ℕ, Bool, true, false, List, [], ◌∷◌, ◌++◌, length, map, Option, Some, None, slice_get, slice_set}
 use Rattle.std.specs.List.{filter, enumerate_from}
 use Rattle.std.specs.Option.{option_map}
 use Rattle.zs_num.specs.declared.time.Key.{Key}
@@ -19,7 +19,7 @@ use Rattle.domain_map.specs.declared.crossing.Crossing.{Crossing}
 use Rattle.domain_map.specs.Domains.{Partition, domain_at, domain_of_event}
 use Rattle.weave_core.specs.declared.next.Next.{Next}
 use Rattle.weave_core.specs.declared.next.Next.TheVariants.{Done, Fire, Blocked}
-use Rattle.weave_core.specs.DomainMachine.{DomainState, arrival_of, bound_of, cycle_of, is_clear, is_exact, is_unresolved, next_in, word_at}
+use Rattle.weave_core.specs.DomainMachine.{DomainState, allows_bound, arrival_of, bound_of, cycle_of, is_clear, is_exact, is_unresolved, next_in, word_at}
 use Rattle.weave_core.specs.Layout.{place_in}
 
 -- What a domain keeps: the graph and its partition, which domain it is, what it knows and did, and its components in
@@ -100,9 +100,37 @@ module _ (events : List Event) (p : Partition) (domain : ℕ) where
         → is_exact (word_at own.known other) ≡ true → is_exact word ≡ true → cycle_of word ≡ cycle_of (word_at own.known other)
     pub small : cycle_of word ≤ 2 ^ 62
 
+  -- What a domain answers of a crossing out of it: nothing where the parent is fired, and otherwise the greatest of the
+  -- bounds that the crossing's word may be raised to, among the cycles that there are.
+  pub record IsGreatestBound (own : DomainState) (x : Crossing) (bound : ℕ) : Type 0 where
+    pub unfired : is_fired own.fired x.parent ≡ false
+    pub allowed : allows_bound events p domain own x bound ≡ true
+    pub greatest : (other : ℕ) → other < 2 ^ 64 → allows_bound events p domain own x other ≡ true → other ≤ bound
+
+  abbrev pub IsBoundAnswer : DomainState → Crossing → Option ℕ → Type 0
+  IsBoundAnswer own x None = is_fired own.fired x.parent ≡ true
+  IsBoundAnswer own x (Some bound) = IsGreatestBound own x bound
+
   -- the least ready key
   abbrev pub earliest_of : DomainState → Option Key
   earliest_of own = option_map (λ next. record { start = next.1; number = next.0.number }) (next_in events p domain own)
+
+-- the crossing of a number leads into the domain, and out of it
+pub record IsInto (p : Partition) (domain number : ℕ) : Type 0 where
+  pub crossing : Crossing
+  pub there : slice_get p.crossings number ≡ Some crossing
+  pub target : crossing.target ≡ domain
+
+pub record IsOutOf (p : Partition) (domain number : ℕ) : Type 0 where
+  pub crossing : Crossing
+  pub there : slice_get p.crossings number ≡ Some crossing
+  pub source : crossing.source ≡ domain
+
+-- the numbers of the crossings out of the domain, in order
+pub record AreOutOf (p : Partition) (domain : ℕ) (numbers : List ℕ) : Type 0 where
+  pub each : (i number : ℕ) → slice_get numbers i ≡ Some number → IsOutOf p domain number
+  pub covers : (number : ℕ) → IsOutOf p domain number → (i : ℕ) × (slice_get numbers i ≡ Some number)
+  pub rising : (i j m n : ℕ) → i < j → slice_get numbers i ≡ Some m → slice_get numbers j ≡ Some n → m < n
 
 -- a domain that has fired nothing and knows nothing
 abbrev pub at_first : Partition → DomainState

@@ -1,6 +1,6 @@
 -- The domains of the weave as a machine that takes one step at a time. A domain fires its own events, and learns of the
 -- others only by the words of the crossings into it. The steps may come in any order.
-use Rattle.std.specs.Prelude.{◌+◌, ◌-◌, ◌==◌, ◌&&◌, ◌||◌, ℕ, Bool, true, false, not, max, min, nat_le, nat_lt, if◌then◌else◌, List, [], ◌∷◌, ◌++◌, map, Option, Some, None, is_some, slice_get}
+use Rattle.std.specs.Prelude.{◌≡◌, ◌≤◌, ◌+◌, ◌-◌, ◌==◌, ◌&&◌, ◌||◌, ℕ, Bool, true, false, not, max, min, nat_le, nat_lt, if◌then◌else◌, List, [], ◌∷◌, ◌++◌, map, Option, Some, None, is_some, slice_get}
 use Rattle.std.specs.List.{filter, find, enumerate_from, list_all, slice_index_or, slice_set}
 use Rattle.std.specs.Option.{option_map, option_map_or, option_to_list}
 use Rattle.zs_num.specs.declared.time.Word.{Word}
@@ -27,6 +27,11 @@ cycle_of (Exact f) = f
 -- the word of a crossing: before the first step it says nothing
 abbrev pub word_at : List Word → (crossing : ℕ) → Word
 word_at words crossing = slice_index_or words crossing (Bound 0)
+
+-- A word says at least as much of a parent as another did: a finish, or a bound that isn't lower.
+pub record SaysAsMuch (was word : Word) : Type 0 where
+  pub finish : is_exact was ≡ true → is_exact word ≡ true
+  pub bound : is_exact word ≡ false → cycle_of was ≤ cycle_of word
 
 -- The states.
 
@@ -158,6 +163,12 @@ module _ (events : List Event) (p : Partition) where
       least (option_to_list (option_map (λ next. next.1) (next_in domain own))
       ++ map (λ at. arrival_of own at.0 at.1) (filter (λ at. is_unresolved domain own at.0 at.1) numbered_crossings))
 
+  -- The parent of a crossing out of the domain, which has yet to fire it, finishes no earlier, as far as the domain can
+  -- tell: it starts at the limit or later.
+  abbrev pub allows_bound : (domain : ℕ) → DomainState → Crossing → (bound : ℕ) → Bool
+  allows_bound domain own x bound =
+      option_map_or (λ limit. nat_le bound (latency_at events x.parent + limit)) (limit_of domain own) false
+
   -- The starts of the domains' next events.
   abbrev pub ready_starts : List (ℕ × DomainState) → List ℕ
   ready_starts [] = []
@@ -179,8 +190,7 @@ module _ (events : List Event) (p : Partition) where
     may_raise s domain number bound x =
         (x.source == domain)
         && (not (is_fired (state_of s domain).fired x.parent)
-        && (nat_le (cycle_of (word_at s.words number)) bound
-        && option_map_or (λ limit. nat_le bound (latency_at events x.parent + limit)) (limit_of domain (state_of s domain)) false))
+        && (nat_le (cycle_of (word_at s.words number)) bound && allows_bound domain (state_of s domain) x bound))
 
     -- a crossing of a fired event is published, and the domain that it leads into knows
     abbrev pub is_settled : MachineState C → ℕ → Crossing → Bool

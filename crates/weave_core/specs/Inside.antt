@@ -7,6 +7,7 @@ use Rattle.domain_map.specs.Domains.{IsPartition}
 use Rattle.weave_core.specs.declared.domain.Domain.TheInside.{Inside}
 use Rattle.weave_core.specs.DomainCalls.{DomainValue}
 use Rattle.weave_core.specs.DomainMachine.{DomainState}
+use Rattle.weave_core.specs.Exits.{AreExits}
 use Rattle.weave_core.specs.Layout.{AreHere, AreLinked, AreStubs, HaveComponents, Stands, fired_in, known_words, timed_from}
 
 -- what the domain knows and did
@@ -27,6 +28,7 @@ pub record IsDomain {C : Type 0} (serves : C → Kind → Bool) (d : Inside C) :
   pub linked : AreLinked d.here.items d.heads.items d.links.items
   pub stubs : AreStubs d.graph.value d.parts.value d.domain d.here.items d.incoming.stubs
   pub few : length d.incoming.stubs < 2 ^ 31
+  pub exits : AreExits d.here.items d.parts.value.crossings d.domain (length d.parts.value.crossings) d.exits.numbers.items d.exits.parents.items
   pub stands : Stands d.graph.value d.parts.value d.domain (own_of d) d.here.items d.incoming.stubs d.waiting
   pub counted : length d.fired.items ≡ fired_in d.waiting.waits
   pub room : length d.here.items ≤ vec_capacity d.fired

@@ -1,9 +1,9 @@
 -- Domains that keep to the one-list weave: what their calls leave of it, what a barrier gives them, and what they end
 -- with.
-use Rattle.std.specs.Prelude.{◌≡◌, ◌≤◌, ◌<◌, ◌^◌, ◌⊎◌, ℕ, Bool, true, false, List, length, map, Some, None, slice_get}
+use Rattle.std.specs.Prelude.{◌≡◌, ◌≤◌, ◌<◌, ◌^◌, ℕ, Bool, true, false, List, length, map, Some, None, slice_get}
 use Rattle.std.specs.List.{enumerate_from}
 use Rattle.zs_num.specs.declared.time.Key.{Key}
-use Rattle.zs_num.specs.declared.time.Word.TheVariants.{Exact}
+use Rattle.zs_num.specs.declared.time.Word.{Word}
 use Rattle.component.specs.declared.kind.Kind.{Kind}
 use Rattle.event_graph.specs.declared.event.Event.{Event}
 use Rattle.event_graph.specs.declared.fired.Fired.{Fired}
@@ -17,10 +17,11 @@ use Rattle.weave_core.specs.declared.next.Next.TheVariants.{Fire}
 use Rattle.weave_core.specs.AtBarrier.{IsFirstLeft, KnowFiredParents, MayGoOn, least_start_of, own_at}
 use Rattle.weave_core.specs.Beginning.{AreSmall}
 use Rattle.weave_core.specs.DomainCalls.{CanFire, DomainValue, IsAnswer, IsFire, MayFire, MayTell, at_first, comps_in, with_known}
-use Rattle.weave_core.specs.DomainMachine.{DomainState, is_clear, is_exact, next_in, with_floor, word_at}
+use Rattle.weave_core.specs.DomainMachine.{DomainState, SaysAsMuch, is_clear, next_in, with_floor, word_at}
 use Rattle.weave_core.specs.Interleavings.{IsPartitioned, IsFront, of_domain}
 use Rattle.weave_core.specs.Layout.{timed_from}
-use Rattle.weave_core.specs.Soundness.{AreSoundWords, IsSoundFloor}
+use Rattle.weave_core.specs.Raising.{MayRaise}
+use Rattle.weave_core.specs.Soundness.{AreSoundWords, IsSoundFloor, IsSoundWord}
 
 -- a partitioned graph whose weave passes no 2^62
 pub record CanWeave {C : Type 0} (serves : C → Kind → Bool) (floor : C → Kind → ℕ) (stepped : C → Kind → ℕ → C × ℕ) (greatest : C → Kind → ℕ → ℕ) (events : List Event) (p : Partition) (comps : List C) : Type 0 where
@@ -53,12 +54,13 @@ module _ {C : Type 0} (stepped : C → Kind → ℕ → C × ℕ) (events : List
     pub count : length vs ≡ length p.events
     pub each : (domain : ℕ) (v : DomainValue C) → slice_get vs domain ≡ Some v → IsKept domain v
 
-  -- the crossing leads into the domain, and this is the finish of its parent
-  pub record IsFinishOf (domain number finish : ℕ) : Type 0 where
+  -- the crossing leads into the domain, and the word is true of its parent and says as much as the domain knows
+  pub record IsTrueWordOf (domain : ℕ) (own : DomainState) (number : ℕ) (word : Word) : Type 0 where
     pub crossing : Crossing
     pub there : slice_get p.crossings number ≡ Some crossing
     pub target : crossing.target ≡ domain
-    pub finish_is : finish ≡ finish_in (woven stepped events comps) crossing.parent
+    pub sound : IsSoundWord (woven stepped events comps) crossing word
+    pub says : SaysAsMuch (word_at own.known number) word
 
   -- the event is one of the domain, which it has yet to fire, and its start is one of a run
   pub record IsReadyEvent (domain : ℕ) (own : DomainState) (e : Event) (start : ℕ) : Type 0 where
@@ -102,13 +104,17 @@ module _ {C : Type 0} (stepped : C → Kind → ℕ → C × ℕ) (events : List
 pub record KeepingLaws {C : Type 0} (serves : C → Kind → Bool) (floor : C → Kind → ℕ) (stepped : C → Kind → ℕ → C × ℕ) (greatest : C → Kind → ℕ → ℕ) : Type 0 where
   pub begins : (events : List Event) (p : Partition) (comps : List C) → CanWeave serves floor stepped greatest events p comps
       → (domain : ℕ) → KeepsTo stepped events p comps domain (at_first p) (comps_in p.places domain comps)
-  -- a finish may be told
+  -- a word that is true may be told
   pub may_tell : (events : List Event) (p : Partition) (comps : List C) → CanWeave serves floor stepped greatest events p comps
-      → (domain : ℕ) (own : DomainState) (parts : List C) (number finish : ℕ) → KeepsTo stepped events p comps domain own parts → IsFinishOf stepped events p comps domain number finish
-      → MayTell events p domain own number (Exact finish)
+      → (domain : ℕ) (own : DomainState) (parts : List C) (number : ℕ) (word : Word) → KeepsTo stepped events p comps domain own parts → IsTrueWordOf stepped events p comps domain own number word
+      → MayTell events p domain own number word
   pub tells : (events : List Event) (p : Partition) (comps : List C) → CanWeave serves floor stepped greatest events p comps
-      → (domain : ℕ) (own : DomainState) (parts : List C) (number finish : ℕ) → KeepsTo stepped events p comps domain own parts → IsFinishOf stepped events p comps domain number finish
-      → KeepsTo stepped events p comps domain (with_known own number (Exact finish)) parts
+      → (domain : ℕ) (own : DomainState) (parts : List C) (number : ℕ) (word : Word) → KeepsTo stepped events p comps domain own parts → IsTrueWordOf stepped events p comps domain own number word
+      → KeepsTo stepped events p comps domain (with_known own number word) parts
+  -- so is a bound that a raise may have
+  pub bounds_hold : (events : List Event) (p : Partition) (comps : List C) → CanWeave serves floor stepped greatest events p comps
+      → (domain : ℕ) (own : DomainState) (parts : List C) (x : Crossing) (bound : ℕ) → KeepsTo stepped events p comps domain own parts → MayRaise events p domain own x bound
+      → bound ≤ finish_in (woven stepped events comps) x.parent
   -- the event that may fire can, and it is the domain's next in the weave
   pub can_fire : (events : List Event) (p : Partition) (comps : List C) → CanWeave serves floor stepped greatest events p comps
       → (domain : ℕ) (own : DomainState) (parts : List C) (key : Key) → KeepsTo stepped events p comps domain own parts → MayFire events p domain own key
@@ -144,7 +150,7 @@ pub record KeepingLaws {C : Type 0} (serves : C → Kind → Bool) (floor : C �
       → (domain : ℕ) (own : DomainState) (parts : List C) (answer : Next) (e : Event) (start : ℕ) → KeepsTo stepped events p comps domain own parts → IsAnswer events p domain own answer
       → next_in events p domain own ≡ Some (e, start) → is_clear events p domain own start ≡ true → (key : Key) × (answer ≡ Fire key)
   pub stays_clear : (events : List Event) (p : Partition) (domain : ℕ) (before after : DomainState) (start : ℕ) → before.floor ≤ after.floor
-      → ((number : ℕ) → (word_at after.known number ≡ word_at before.known number) ⊎ (is_exact (word_at after.known number) ≡ true))
+      → ((number : ℕ) → SaysAsMuch (word_at before.known number) (word_at after.known number))
       → is_clear events p domain before start ≡ true → is_clear events p domain after start ≡ true
   -- what was fired is the weave's
   pub log : (events : List Event) (p : Partition) (comps : List C) → CanWeave serves floor stepped greatest events p comps

@@ -8,6 +8,7 @@ use Rattle.domain_map.specs.Domains.{Partition}
 use Rattle.weave_core.specs.declared.prepare.Layout.{Layout as Kept}
 use Rattle.weave_core.specs.Beginning.{AreSmall, AreOwnPlaces}
 use Rattle.weave_core.specs.DomainMachine.{DomainState}
+use Rattle.weave_core.specs.Exits.{AreExits}
 use Rattle.weave_core.specs.Layout.{AreHere, AreLinked, AreStubs, Stands, fired_in, known_words}
 
 -- A graph and a partition that a domain has numbers for: no time passes 2^62, and their counts pass no type.
@@ -27,6 +28,7 @@ pub record IsLaidOut (events : List Event) (p : Partition) (domain : ℕ) (l : K
   pub linked : AreLinked l.here.items l.heads.items l.links.items
   pub stubs : AreStubs events p domain l.here.items l.incoming.stubs
   pub few : length l.incoming.stubs < 2 ^ 31
+  pub exits : AreExits l.here.items p.crossings domain (length p.crossings) l.exits.numbers.items l.exits.parents.items
   pub floor : l.incoming.floor ≡ 0
   pub known : known_words p.crossings l.incoming.stubs ≡ map (λ x. Bound 0) p.crossings
   pub stands : Stands events p domain (at_rest_with p 0) l.here.items l.incoming.stubs l.waiting

@@ -4,12 +4,14 @@ pub mod Beginning
 pub mod Children
 pub mod DomainCalls
 pub mod DomainMachine
+pub mod Exits
 pub mod Following
 pub mod Inside
 pub mod Interleavings
 pub mod Keeping
 pub mod LaidOut
 pub mod Layout
+pub mod Raising
 pub mod SoundDomain
 pub mod Soundness
 pub mod Stubs

@@ -1,11 +1,11 @@
 //! What a domain can do next, by its first ready event and its first open crossing.
 ghost use Rattle.std.specs.Prelude.{◌≡◌, ◌<◌, IfSome, length};
-ghost use Rattle.weave_core.specs.Answer.{IsBlocking, answer_of, blocked_by, fire_of, numbered_key};
+ghost use Rattle.weave_core.specs.Answer.{IsBlocking, answer_of, blocked_by, fire_of, lesser_start, numbered_key};
 
 use crate::Next;
 use crate::incoming::Stub;
 use event_graph::Event;
-use zs_num::Key;
+use zs_num::{Cycle, Key};
 
 /// The answer by the first ready place and the first open stub, where there are any.
 pub(crate) fn answer(here: &[Event], stubs: &[Stub], ready: Option<Key>, first: Option<Key>) -> Next
@@ -57,5 +57,16 @@ pub(crate) fn numbered(here: &[Event], key: Key) -> Key
     Key {
         start: key.start,
         number: here[key.number as usize].number,
+    }
+}
+
+/// The lesser of the starts of the first ready place and the first open stub, where there are any.
+pub(crate) fn limit(ready: Option<Key>, first: Option<Key>) -> Option<Cycle>
+    ensures { result ≡ lesser_start ready first }
+{
+    match (ready, first) {
+        (None, None) => None,
+        (Some(key), None) | (None, Some(key)) => Some(key.start),
+        (Some(key), Some(stub)) => Some(key.start.min(stub.start)),
     }
 }

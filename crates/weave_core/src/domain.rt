@@ -1,16 +1,18 @@
 //! A domain of the weave.
-ghost use Rattle.std.specs.Prelude.{◌≡◌, ◌≤◌, ◌<◌, ◌^◌, IfErr, IfOk, List, length, map};
-ghost use Rattle.weave_core.specs.DomainCalls.{CanFire, IsAnswer, IsFire, IsFitted, MayTell, at_first, earliest_of, with_known};
+ghost use Rattle.std.specs.Prelude.{◌≡◌, ◌≤◌, ◌<◌, ◌^◌, IfErr, IfOk, List, Some, length, map, slice_get};
+ghost use Rattle.domain_map.specs.declared.crossing.Crossing.{Crossing};
+ghost use Rattle.weave_core.specs.DomainCalls.{AreOutOf, CanFire, IsAnswer, IsBoundAnswer, IsFire, IsFitted, IsInto, IsOutOf, MayTell, at_first, earliest_of, with_known};
 ghost use Rattle.domain_map.specs.Domains.{IsPartition};
-ghost use Rattle.weave_core.specs.DomainMachine.{with_floor};
+ghost use Rattle.weave_core.specs.DomainMachine.{with_floor, word_at};
 ghost use Rattle.weave_core.specs.LaidOut.{FitsDomain};
 ghost use Rattle.weave_core.specs.Layout.{timed_from};
 
 use crate::Next;
-use crate::answer::{answer, numbered};
+use crate::answer::{answer, limit, numbered};
 use crate::children::{Link, tell_children};
+use crate::exits::Exits;
 use crate::incoming::{Incoming, place_of};
-use crate::prepare::lay_out;
+use crate::prepare::{latency, lay_out};
 use crate::waiting::Waiting;
 use component::{Component, Comps};
 use domain_map::Parts;
@@ -34,6 +36,7 @@ pub struct Domain<C: Component> {
     pub(crate) links: Vec<Link>,
     pub(crate) waiting: Waiting,
     pub(crate) incoming: Incoming,
+    pub(crate) exits: Exits,
     pub(crate) fired: Vec<Fired>,
     /// For each component of the machine its place among those of its domain.
     pub(crate) own_places: Vec<u16>,
@@ -79,6 +82,7 @@ impl<C: Component> Domain<C> {
                 links: layout.links,
                 waiting: layout.waiting,
                 incoming: layout.incoming,
+                exits: layout.exits,
                 fired: layout.fired,
                 own_places: layout.own_places,
                 comps,
@@ -105,6 +109,37 @@ impl<C: Component> Domain<C> {
             self.waiting.first(),
             self.incoming.first(),
         )
+    }
+
+    /// The numbers of the crossings out of it, in order.
+    pub fn outgoing(&self) -> &[u32]
+        ensures { AreOutOf self.now.partition self.now.domain result.now }
+    {
+        &self.exits.numbers
+    }
+
+    /// The cycle that the parent of a crossing out of it finishes at or after, as far as the domain
+    /// can tell: the greatest bound that the crossing's word may be raised to. None exactly where
+    /// the parent has fired. Takes no memory.
+    pub fn bound(&self, crossing: u32) -> Option<Cycle>
+        requires out { IsOutOf self.now.partition self.now.domain crossing }
+        ensures { (x : Crossing) → slice_get self.now.partition.crossings crossing ≡ Some x → IsBoundAnswer self.now.events self.now.partition self.now.domain self.now.own x result }
+    {
+        let parent = self.exits.parent_of(crossing);
+        if self.waiting.has_fired(parent) {
+            return None;
+        }
+        let limit = limit(self.waiting.first(), self.incoming.first())?;
+        Some(limit.saturating_add(latency(&self.here[parent as usize])))
+    }
+
+    /// What it was last told of the parent of a crossing into it.
+    pub fn word(&self, crossing: u32) -> Word
+        requires into { IsInto self.now.partition self.now.domain crossing }
+        ensures { result ≡ word_at self.now.own.known crossing }
+    {
+        let stubs = self.incoming.stubs();
+        stubs[place_of(stubs, crossing) as usize].word
     }
 
     /// Tells it what is known of a crossing's parent.

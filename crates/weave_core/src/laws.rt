@@ -3,6 +3,7 @@ ghost use Rattle.weave_core.specs.AtBarrier.{BarrierFloorsHold, BarriersAdvance}
 ghost use Rattle.weave_core.specs.Following.{FirstFollows, FiresFollow, FloorsFollow, LooksFollow};
 ghost use Rattle.weave_core.specs.Interleavings.{FirstUnfiredMayFire, Interleavings};
 ghost use Rattle.weave_core.specs.Keeping.{KeepingLaws};
+ghost use Rattle.weave_core.specs.Raising.{RaisedBoundsHold};
 ghost use Rattle.weave_core.specs.SoundDomain.{SoundDomainsFollow, SoundFloorsBound};
 
 use component::Component;
@@ -90,6 +91,22 @@ pub fn fires_follow<C: Component>()
     sound_domains_follow::<C>();
 }
 
+/// For every solution of the timing rules: where a domain has fired the first of its events in it,
+/// and its words and its bounds are sound for it, no event that it has yet to fire finishes before
+/// a bound that its word may be raised to, whatever the other domains do.
+pub fn raised_bounds_hold<C: Component>()
+    ensures { RaisedBoundsHold C.serves C.floor C.stepped }
+{
+    event_graph::laws::each_event_fires_once::<C>();
+    event_graph::laws::events_fire_in_order::<C>();
+    event_graph::laws::the_least_ready_event_fires::<C>();
+    event_graph::laws::each_firing_is_of_the_next_event::<C>();
+    event_graph::laws::firings_are_of_the_first_events::<C>();
+    event_graph::laws::components_serve_their_own_events::<C>();
+    event_graph::laws::graphs_keep_fitting::<C>();
+    event_graph::laws::weave_is_the_one_solution::<C>();
+}
+
 /// Where the domains keep to a solution of the timing rules, and each knows the finish of every
 /// parent that another one fired, the least start of a ready event is a sound floor for all of
 /// them.
@@ -138,6 +155,7 @@ pub fn domains_keep_to_the_weave<C: Component>()
     event_graph::laws::events_take_their_time::<C>();
     sound_floors_bound::<C>();
     fires_follow::<C>();
+    raised_bounds_hold::<C>();
     barrier_floors_hold::<C>();
     barriers_advance::<C>();
 }

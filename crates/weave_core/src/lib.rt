@@ -4,6 +4,7 @@
 mod answer;
 mod children;
 mod domain;
+mod exits;
 mod incoming;
 pub mod laws;
 mod next;

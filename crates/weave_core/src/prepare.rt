@@ -7,6 +7,7 @@ ghost use Rattle.weave_core.specs.LaidOut.{FitsDomain, IsLaidOut};
 ghost use Rattle.weave_core.specs.Layout.{AreLinked, no_event};
 
 use crate::children::Link;
+use crate::exits::Exits;
 use crate::incoming::{Incoming, Stub};
 use crate::waiting::Waiting;
 use domain_map::{Crossing, Parts};
@@ -198,11 +199,10 @@ pub(crate) fn own_places_of(
 }
 
 /// The least time that an event takes.
-fn latency(event: &Event) -> u64
-    requires { event.now.min_start ≤ event.now.min_finish }
+pub(crate) fn latency(event: &Event) -> u64
     ensures { result ≡ latency_of event.now }
 {
-    event.min_finish - event.min_start
+    event.min_finish.saturating_sub(event.min_start)
 }
 
 /// The starts of events at zero load.
@@ -224,6 +224,7 @@ pub(crate) struct Layout {
     pub(crate) links: Vec<Link>,
     pub(crate) waiting: Waiting,
     pub(crate) incoming: Incoming,
+    pub(crate) exits: Exits,
     pub(crate) fired: Vec<Fired>,
     pub(crate) own_places: Vec<u16>,
 }
@@ -253,12 +254,14 @@ pub(crate) fn lay_out(
     let fired = Vec::with_capacity(alloc, here.len())?;
     let waiting = Waiting::begin(alloc, starts, waits)?;
     let incoming = Incoming::begin(alloc, stubs)?;
+    let exits = Exits::of(alloc, &here, parts.crossings(), domain)?;
     Ok(Layout {
         here,
         heads,
         links,
         waiting,
         incoming,
+        exits,
         fired,
         own_places,
     })

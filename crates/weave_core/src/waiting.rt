@@ -1,5 +1,5 @@
 //! The events of a domain that have not fired, by their places among the domain's events.
-ghost use Rattle.std.specs.Prelude.{◌≡◌, ◌<◌, ◌^◌, ◌-◌, IfNone, IfOk, IfSome, length, slice_index};
+ghost use Rattle.std.specs.Prelude.{◌≡◌, ◌<◌, ◌^◌, ◌-◌, ◌==◌, IfNone, IfOk, IfSome, length, slice_index};
 ghost use Rattle.weave_core.specs.Waits.{IsFirstReady, NoneReady, is_fired_wait, told};
 
 use domain_queue::Ready;
@@ -74,6 +74,14 @@ impl Waiting {
         let key = self.ready.pop()?;
         self.waits[key.number as usize] = FIRED;
         Some(key)
+    }
+
+    /// Whether the event at the place has fired.
+    pub(crate) fn has_fired(&self, place: u32) -> bool
+        requires within { place < length self.now.waits }
+        ensures { result ≡ (slice_index self.now.waits place == FIRED) }
+    {
+        self.waits[place as usize] == FIRED
     }
 
     /// A parent of the event has fired: the event starts at this cycle or later, and waits for one

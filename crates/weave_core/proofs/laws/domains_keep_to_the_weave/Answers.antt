@@ -46,6 +46,7 @@ returns g c =
       count = sym (length-map (weave T events comps).fired (λ (x : FiredEvent). x.event)) ∙ length_permutation events (map (λ (x : FiredEvent). x.event) (weave T events comps).fired) once;
       bounds = λ domain own known floor. c.sound_floors_bound.ensures events p comps (woven T events comps) solution domain own w.partitioned known floor;
       fires = c.fires_follow.ensures;
+      raised = λ domain own x bound s may. c.raised_bounds_hold.ensures events p comps (woven T events comps) solution domain own x bound w.partitioned s may;
       floors = λ owns start h told least domain. c.barrier_floors_hold.ensures events p comps (woven T events comps) solution owns start w.partitioned h told least domain;
       goes_on = λ owns index x h told first. c.barriers_advance.ensures events p comps (woven T events comps) solution owns index x w.partitioned h told first;
     }

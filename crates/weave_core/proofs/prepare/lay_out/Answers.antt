@@ -4,12 +4,13 @@ use Rattle.event_graph.specs.declared.event.Event.{Event}
 use Rattle.domain_map.specs.declared.crossing.Crossing.{Crossing}
 use Rattle.weave_core.specs.declared.incoming.Stub.{Stub}
 use Rattle.weave_core.specs.Beginning.{AddsWaits, AreCounts, AreCrossed, AreSmall, AreOwnPlaces, AreStubsUpto, HasWaits, IsRisingList}
+use Rattle.weave_core.specs.Exits.{AreExits, HaveParents}
 use Rattle.weave_core.specs.LaidOut.{at_rest_with}
 use Rattle.weave_core.specs.Layout.{AreHere, AreLinked, AreStubs, Stands, fired_in, known_words, no_event}
 use Rattle.weave_core.specs.Stubs.{Stubs}
 use Rattle.weave_core.specs.Waits.{Waits}
 use Rattle.weave_core.proofs.FireHere.{take_front}
-use Rattle.weave_core.proofs.LayingOut.{are_here, are_stubs, counted_first, crossed, few_here, few_stubs, has_waits, known_none, numbers_below, rising_here, small_here, stands_first}
+use Rattle.weave_core.proofs.LayingOut.{are_here, are_stubs, counted_first, crossed, few_here, few_stubs, has_waits, known_none, numbers_below, parents_here, rising_here, small_here, stands_first}
 use Rattle.weave_core.proofs.prepare.lay_out.Goals as goal
 
 pub events_of-requires : goal.events_of-requires
@@ -104,6 +105,31 @@ pub begin-requires-2-clause-untold : goal.begin-requires-2-clause-untold
 begin-requires-2-clause-untold c =
     λ place s h. (c.in_ok-stubs.ensures.stubs.each place s h).1.1.1.1.word
 
+pub of-requires-clause-rising : goal.of-requires-clause-rising
+of-requires-clause-rising c =
+    let here : c.in_ok-here.here.items ≡ map (λ (n : ℕ). get_or c.args.graph.now n no_event) c.events.result.now =
+    c.in_ok-here.ensures ∙ ap (λ (es : List Event). map (λ (n : ℕ). get_or es n no_event) c.events.result.now) c.events-events.ensures.events
+    in
+    let read_4 : c.deref-4.result.now ≡ map (λ (n : ℕ). get_or c.args.graph.now n no_event) c.events.result.now = c.deref-4.ensures.value ∙ here in
+    subst IsRisingList (sym read_4) (rising_here c.args.graph.now c.args.parts.now c.args.domain c.events-events.ensures.numbered c.requires.partitions c.requires.domain c.requires.fits c.events.result.now c.events.ensures)
+
+pub of-requires-clause-few : goal.of-requires-clause-few
+of-requires-clause-few c =
+    let here : c.in_ok-here.here.items ≡ map (λ (n : ℕ). get_or c.args.graph.now n no_event) c.events.result.now =
+    c.in_ok-here.ensures ∙ ap (λ (es : List Event). map (λ (n : ℕ). get_or es n no_event) c.events.result.now) c.events-events.ensures.events
+    in
+    let read_4 : c.deref-4.result.now ≡ map (λ (n : ℕ). get_or c.args.graph.now n no_event) c.events.result.now = c.deref-4.ensures.value ∙ here in
+    omega (arith, ap length read_4, few_here c.args.graph.now c.args.parts.now c.args.domain c.events-events.ensures.numbered c.requires.partitions c.requires.domain c.requires.fits c.events.result.now c.events.ensures)
+
+pub of-requires-clause-parents : goal.of-requires-clause-parents
+of-requires-clause-parents c =
+    let here : c.in_ok-here.here.items ≡ map (λ (n : ℕ). get_or c.args.graph.now n no_event) c.events.result.now =
+    c.in_ok-here.ensures ∙ ap (λ (es : List Event). map (λ (n : ℕ). get_or es n no_event) c.events.result.now) c.events-events.ensures.events
+    in
+    let read_4 : c.deref-4.result.now ≡ map (λ (n : ℕ). get_or c.args.graph.now n no_event) c.events.result.now = c.deref-4.ensures.value ∙ here in
+    subst (λ (xs : List Crossing). HaveParents c.deref-4.result.now xs c.args.domain) (sym c.crossings-2.ensures)
+    (subst (λ (xs : List Event). HaveParents xs c.args.parts.now.crossings c.args.domain) (sym read_4) (parents_here c.args.graph.now c.args.parts.now c.args.domain c.events-events.ensures.numbered c.requires.partitions c.requires.domain c.requires.fits c.events.result.now c.events.ensures))
+
 pub returns : goal.returns
 returns c =
     let here : c.in_ok-here.here.items ≡ map (λ (n : ℕ). get_or c.args.graph.now n no_event) c.events.result.now =
@@ -140,6 +166,9 @@ returns c =
           subst (λ (xs : List Event). AreStubs c.args.graph.now c.args.parts.now c.args.domain xs c.in_ok-incoming.incoming.stubs) (sym here)
           (subst (AreStubs c.args.graph.now c.args.parts.now c.args.domain (map (λ (n : ℕ). get_or c.args.graph.now n no_event) c.events.result.now)) (sym stubs) (are_stubs c.args.graph.now c.args.parts.now c.args.domain c.events-events.ensures.numbered c.requires.partitions c.requires.domain c.requires.fits c.events.result.now c.events.ensures c.in_ok-stubs.stubs.items upto));
       few = omega (arith, ap length stubs, few_stubs c.args.graph.now c.args.parts.now c.args.domain c.events-events.ensures.numbered c.requires.partitions c.requires.domain c.requires.fits c.events.result.now c.events.ensures c.in_ok-stubs.stubs.items upto);
+      exits =
+          subst (λ (xs : List Event). AreExits xs c.args.parts.now.crossings c.args.domain (length c.args.parts.now.crossings) c.in_ok-exits.exits.numbers.items c.in_ok-exits.exits.parents.items) c.deref-4.ensures.value
+          (subst (λ (xs : List Crossing). AreExits c.deref-4.result.now xs c.args.domain (length xs) c.in_ok-exits.exits.numbers.items c.in_ok-exits.exits.parents.items) c.crossings-2.ensures c.in_ok-exits.ensures);
       floor = ap (λ (v : Stubs). v.floor) c.in_ok-incoming.ensures;
       known = ap (known_words c.args.parts.now.crossings) stubs ∙ known_none c.args.graph.now c.args.parts.now c.args.domain c.events-events.ensures.numbered c.requires.partitions c.requires.domain c.requires.fits c.events.result.now c.events.ensures c.in_ok-stubs.stubs.items upto;
       stands =

@@ -1,17 +1,10 @@
 -- What is known of the crossing.
-use Rattle.std.proofs.Common.{◌≤◌, ◌≡◌, get_or, sym, ap, ◌∙◌, subst, refl, arith}
+use Rattle.std.proofs.Common.{◌≡◌, get_or, sym, ap, ◌∙◌, refl, arith}
 use Rattle.std.proofs.lemmas.Option.{get_or_from_slice_get}
-use Rattle.event_graph.specs.declared.event.Event.{Event}
 use Rattle.weave_core.specs.DomainMachine.{latency_of}
 use Rattle.weave_core.specs.Layout.{no_event}
 use Rattle.weave_core.proofs.Joined.{latency_there}
 use Rattle.weave_core.proofs.prepare.stub_of.Goals as goal
-
-pub latency-requires : goal.latency-requires
-latency-requires c =
-    let r = c.requires.crossed in
-    let read : get_or c.args.events.now c.args.crossing.parent no_event ≡ r.parent = get_or_from_slice_get c.args.events.now c.args.crossing.parent r.parent no_event r.parent_there in
-    subst (λ (z : Event). z.min_start ≤ z.min_finish) (sym read) (c.requires.small.each c.args.crossing.parent r.parent r.parent_there).ordered
 
 pub returns : goal.returns
 returns c =

@@ -290,6 +290,7 @@ invariant_of-self g c =
           (subst (λ (fs : List FiredEvent). Stands d.graph.value d.parts.value d.domain (record (own_of c.self.inside) { fired = fs }) d.here.items d.incoming.stubs (tell_all c.step-finish.result (is_fired_wait c.self.inside.waiting c.in-Some.key.number) f.children.chain)) (sym fired_is)
           (stands_then d.graph.value d.parts.value d.domain d.here.items d.incoming.stubs (own_of d) d.waiting i.numbered i.here i.stands k.number f.event f.there c.in-Some.ensures.first.ready
           d.links.items f.head f.children k.start c.step-finish.result));
+      exits = i.exits;
       counted =
           ap length c.push_reserved.ensures.items
           ∙ (length_push c.self.inside.fired.items _

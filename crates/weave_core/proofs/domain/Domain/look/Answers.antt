@@ -139,6 +139,7 @@ invariant_of-self g c =
       few = omega (arith, length-set d.incoming.stubs c.place_of-place.result (told_word c.args.word s.0), i.few);
       stands = stands_alike d.graph.value d.parts.value d.domain d.here.items (set c.self.inside.incoming.stubs c.place_of-place.result (told_word c.args.word s.0)) (told d.waiting s.0.child (c.in-Exact.finish + s.0.delay)) (own_of d).fired (own_of d).known
           (known_words d.parts.value.crossings (set c.self.inside.incoming.stubs c.place_of-place.result (told_word c.args.word s.0))) d.incoming.floor d.incoming.floor (stands_told d.graph.value d.parts.value d.domain d.here.items d.incoming.stubs (own_of d) d.waiting i.here i.stubs refl i.stands c.args.crossing c.args.word may c.place_of-place.result s.0 s.1 (c.place_of-place.ensures.number s.0 (ap (λ (xs : List Stub). slice_get xs c.place_of-place.result) c.stubs.ensures.stubs ∙ s.1)) c.in-Exact.finish c.in-Exact.is unknown);
+      exits = i.exits;
       counted = i.counted ∙ sym (fired_told d.waiting s.0.child (c.in-Exact.finish + s.0.delay) (get_or d.waiting.waits s.0.child 0) (slice_get-get_or d.waiting.waits s.0.child 0 (child_within d.graph.value d.parts.value d.domain d.here.items d.incoming.stubs (own_of d) d.waiting i.here i.stubs refl i.stands c.args.crossing c.args.word may c.place_of-place.result s.0 s.1 (c.place_of-place.ensures.number s.0 (ap (λ (xs : List Stub). slice_get xs c.place_of-place.result) c.stubs.ensures.stubs ∙ s.1)) c.in-Exact.finish c.in-Exact.is unknown)) (child_few d.graph.value d.parts.value d.domain d.here.items d.incoming.stubs (own_of d) d.waiting i.here i.stubs refl i.stands c.args.crossing c.args.word may c.place_of-place.result s.0 s.1 (c.place_of-place.ensures.number s.0 (ap (λ (xs : List Stub). slice_get xs c.place_of-place.result) c.stubs.ensures.stubs ∙ s.1)) c.in-Exact.finish c.in-Exact.is unknown i.few));
       room = i.room;
       served = i.served;
@@ -168,6 +169,7 @@ invariant_of-self-in_default g c =
       few = omega (arith, length-set d.incoming.stubs c.place_of-place.result (told_word c.args.word s.0), i.few);
       stands = stands_alike d.graph.value d.parts.value d.domain d.here.items (set c.self.inside.incoming.stubs c.place_of-place.result (told_word c.args.word s.0)) d.waiting (own_of d).fired (own_of d).known
           (known_words d.parts.value.crossings (set c.self.inside.incoming.stubs c.place_of-place.result (told_word c.args.word s.0))) d.incoming.floor d.incoming.floor (stands_raised d.graph.value d.parts.value d.domain d.here.items d.incoming.stubs (own_of d) d.waiting i.here i.stubs refl i.stands c.args.crossing c.args.word may c.place_of-place.result s.0 s.1 (c.place_of-place.ensures.number s.0 (ap (λ (xs : List Stub). slice_get xs c.place_of-place.result) c.stubs.ensures.stubs ∙ s.1)) bound);
+      exits = i.exits;
       counted = i.counted;
       room = i.room;
       served = i.served;
@@ -199,6 +201,7 @@ invariant_of-self-else-is_open g c =
       few = omega (arith, length-set d.incoming.stubs c.place_of-place.result (told_word c.args.word s.0), i.few);
       stands = stands_alike d.graph.value d.parts.value d.domain d.here.items (set c.self.inside.incoming.stubs c.place_of-place.result (told_word c.args.word s.0)) d.waiting (own_of d).fired (own_of d).known
           (known_words d.parts.value.crossings (set c.self.inside.incoming.stubs c.place_of-place.result (told_word c.args.word s.0))) d.incoming.floor d.incoming.floor (subst (λ (xs : List Stub). Stands d.graph.value d.parts.value d.domain (own_of d) d.here.items xs d.waiting) (sym (unchanged d.graph.value d.parts.value d.domain d.here.items d.incoming.stubs (own_of d) d.waiting i.here i.stubs refl i.stands c.args.crossing c.args.word may c.place_of-place.result s.0 s.1 (c.place_of-place.ensures.number s.0 (ap (λ (xs : List Stub). slice_get xs c.place_of-place.result) c.stubs.ensures.stubs ∙ s.1)) exact)) i.stands);
+      exits = i.exits;
       counted = i.counted;
       room = i.room;
       served = i.served;

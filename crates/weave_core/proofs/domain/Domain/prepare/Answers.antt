@@ -19,6 +19,7 @@ invariant_of-result g c =
       linked = laid.linked;
       stubs = b.stubs;
       few = laid.few;
+      exits = b.exits;
       stands = b.stands;
       counted = ap length laid.fired ∙ sym laid.counted;
       room = laid.room;
