@@ -1,7 +1,8 @@
 -- What a domain publishes, and what it finds in the words.
-use Rattle.std.proofs.Common.{◌≡◌, ◌+◌, ◌-◌, ◌*◌, ◌%◌, ◌<◌, ◌≤◌, ◌^◌, ℕ, zero, suc, Bool, true, false, List, [], ◌∷◌, length, map, set, get_or, slice_index, ◌⊎◌, Some, slice_get, sym, ◌∙◌, ap, subst, refl, inl, inr, arith, length-set}
+use Rattle.std.proofs.Common.{◌≡◌, ◌+◌, ◌-◌, ◌*◌, ◌%◌, ◌<◌, ◌≤◌, ◌^◌, ℕ, zero, suc, Bool, true, false, not, ◌&&◌, eqb, max, List, [], ◌∷◌, length, map, set, get_or, slice_index, ◌⊎◌, Some, slice_get, sym, ◌∙◌, ap, subst, refl, inl, inr, arith, length-set}
 use Rattle.std.proofs.lemmas.Bool.{false≢true, cases_eq, cases_lt}
-use Rattle.std.proofs.lemmas.List.{append-nil, get_or-set_other, get_or-set_same, length-map}
+use Rattle.std.proofs.lemmas.Bool.Decides.{nat_tests}
+use Rattle.std.proofs.lemmas.List.{get_or-set_other, get_or-set_same, length-map}
 use Rattle.std.proofs.lemmas.Option.{same_Some, none-some, slice_get_within}
 use Rattle.atomic_table.specs.Seated.{TableId}
 use Rattle.zs_num.specs.declared.time.Key.{Key}
@@ -14,21 +15,37 @@ use Rattle.event_graph.specs.OneListWeave.{FiredEvent, finish_in, is_fired, wove
 use Rattle.domain_map.specs.declared.crossing.Crossing.{Crossing}
 use Rattle.domain_map.specs.Domains.{Partition, domain_of_event}
 use Rattle.crossing.specs.Seats.{IsTrueOfFinish, Looked, MayWrite, SeatValue, finishes_of, kept_number, sources_of, with_written}
-use Rattle.weave_core.specs.DomainCalls.{DomainValue, IsAnswer, MayTell, with_known}
-use Rattle.weave_core.specs.DomainMachine.{DomainState, is_exact, word_at}
-use Rattle.weave_core.specs.Keeping.{IsFinishOf, IsReadyEvent, JoinsDomains, KeepingLaws}
+use Rattle.weave_core.specs.DomainCalls.{DomainValue, IsAnswer, IsBlockedBy, MayTell, with_known}
+use Rattle.weave_core.specs.DomainMachine.{DomainState, SaysAsMuch, cycle_of, is_exact, latency_at, word_at}
+use Rattle.weave_core.specs.Keeping.{IsReadyEvent, IsTrueWordOf, JoinsDomains, KeepingLaws}
+use Rattle.weave_core.specs.Soundness.{IsSoundWord}
 use Rattle.weave_core.specs.declared.next.Next.{Next}
 use Rattle.weave_core.specs.declared.next.Next.TheVariants.{Blocked, Done, Fire}
 use Rattle.weave_run.specs.Outgoing.{AreOutgoing, IsLastBelow}
-use Rattle.weave_run.specs.Rounds.{CanWeavePlan, Grows, HasFiredNext, HasGoneOn, IsFinish}
-use Rattle.weave_run.specs.Seating.{IsInformed, IsPostSeated, HasFiredThere, HasLooked, HasPublished, HasPublishedSince, HasServed, IsSeatOfPlan, MayPublish, after_finding}
+use Rattle.weave_run.specs.Rounds.{CanWeavePlan, Grows, HasFiredNext, HasGoneOn, IsFinish, Learns}
+use Rattle.weave_run.specs.Seating.{IsInformed, IsPostSeated, HasFiredThere, HasLearned, HasLooked, HasPublished, HasPublishedSince, HasServed, IsSeatOfPlan, MayPublish, after_finding, says_more}
 use Rattle.weave_run.specs.declared.outgoing.Outgoing.{Outgoing}
 use Rattle.weave_run.specs.declared.plan.Plan.{Plan}
 use Rattle.weave_run.specs.declared.post.Post.{Post}
 use Rattle.weave_run.proofs.Chains.{IsLink, before_less, before_of, last_of, next_link, read_there}
 use Rattle.weave_run.proofs.Firings.{fired_by_more, fired_last, fired_no_other}
-use Rattle.weave_run.proofs.Running.{goes_after, goes_nowhere, same_value}
-use Rattle.weave_run.proofs.Tellings.{grows_nothing, grows_twice, read_set, stays_exact, word_told}
+use Rattle.weave_run.proofs.Running.{goes_after, goes_nowhere, same_value, same_words}
+use Rattle.weave_run.proofs.Tellings.{bound_says, finish_says, grows_by_learning, grows_nothing, grows_twice, learns_nothing, read_set, stays_exact, word_told}
+
+eq_is : (a b : ℕ) → eqb a b ≡ true → a ≡ b
+eq_is a b e = grind (arith, nat_tests)
+
+left_of : (a b : Bool) → (a && b) ≡ true → a ≡ true
+left_of true b h = refl
+left_of false b h = absurd (false≢true h)
+
+right_of : (a b : Bool) → (a && b) ≡ true → b ≡ true
+right_of true b h = h
+right_of false b h = absurd (false≢true h)
+
+not_true : (a : Bool) → not a ≡ true → a ≡ false
+not_true true h = absurd (false≢true h)
+not_true false h = refl
 
 index_map : {X : Type 0} (f : X → ℕ) (xs : List X) (i : ℕ) (x : X) → slice_get xs i ≡ Some x → slice_index (map f xs) i ≡ f x
 index_map f [] i x h = absurd (none-some x h)
@@ -240,7 +257,7 @@ module _ {C : Type 0} (stepped : C → Kind → ℕ → C × ℕ) (plan : Plan C
         rest = (record { event = f.fired.event; start = f.fired.start; finish = f.finish.finish }) ∷ [];
         fired = f.fired.fired;
         floor = f.fired.floor;
-        words = λ n. inl (ap (λ (ws : List Word). word_at ws n) f.fired.known);
+        words = same_words new.domain.own.known old.domain.own.known f.fired.known;
       } in
       record {
         can = f.can;
@@ -249,32 +266,36 @@ module _ {C : Type 0} (stepped : C → Kind → ℕ → C × ℕ) (plan : Plan C
         published = published_twice first old new h.grows grows h.published f.published;
       }
 
-  -- a domain that found a word of a crossing
-  pub grows_by_finding : (v w : DomainValue C) (number : ℕ) (word : Word) → w ≡ after_finding v number word → Grows v.own w.own
-  grows_by_finding v w n (Bound b) is = subst (λ (u : DomainValue C). Grows v.own u.own) (sym is) (grows_nothing v.own)
-  grows_by_finding v w n (Exact f) is =
-      subst (λ (u : DomainValue C). Grows v.own u.own) (sym is) (record { rest = []; fired = sym (append-nil v.own.fired); floor = refl; words = word_told v.own n f })
-
-  pub same_by_finding : (v w : DomainValue C) (number : ℕ) (word : Word) → w ≡ after_finding v number word → w.domain ≡ v.domain
-  same_by_finding v w n (Bound b) is = ap (λ (u : DomainValue C). u.domain) is
-  same_by_finding v w n (Exact f) is = ap (λ (u : DomainValue C). u.domain) is
-
-  fires_no_event : (v w : DomainValue C) (number : ℕ) (word : Word) → w ≡ after_finding v number word → w.own.fired ≡ v.own.fired
-  fires_no_event v w n (Bound b) is = ap (λ (u : DomainValue C). u.own.fired) is
-  fires_no_event v w n (Exact f) is = ap (λ (u : DomainValue C). u.own.fired) is
-
-  pub grows_by_looking : (old new : Post C) (number : ℕ) (finished : Bool) → HasLooked stepped plan table old new number finished → Grows old.domain.own new.domain.own
-  grows_by_looking old new number finished l = grows_by_finding old.domain new.domain number l.word l.told
-
-  pub served_by_looking : (first old new : Post C) (number : ℕ) (finished : Bool) → HasServedSo first old → HasLooked stepped plan table old new number finished → HasServedSo first new
-  served_by_looking first old new number finished h l =
-      let grows : Grows old.domain.own new.domain.own = grows_by_looking old new number finished l in
+  -- a domain that learned more
+  pub served_by_learning : (first old new : Post C) → HasServedSo first old → HasLearned stepped plan table old new → HasServedSo first new
+  served_by_learning first old new h l =
+      let grows : Grows old.domain.own new.domain.own = grows_by_learning old.domain.own new.domain.own l.learns in
       record {
         can = l.can;
-        same = same_by_finding old.domain new.domain number l.word l.told ∙ h.same;
+        same = l.same ∙ h.same;
         grows = grows_twice first.domain.own old.domain.own new.domain.own h.grows grows;
-        published = published_twice first old new h.grows grows h.published
-            (nothing_published old new (fires_no_event old.domain new.domain number l.word l.told) (λ n. ap (λ (s : SeatValue). slice_index s.wrote n) l.found.new_is));
+        published = published_twice first old new h.grows grows h.published l.published;
+      }
+
+  -- a look
+  learns_by_finding : (v w : DomainValue C) (number : ℕ) (word : Word) (more : Bool) → (more ≡ true → SaysAsMuch (word_at v.own.known number) word) → w ≡ after_finding v number word more → Learns v.own w.own
+  learns_by_finding v w n word false says is = subst (λ (u : DomainValue C). Learns v.own u.own) (sym is) (learns_nothing v.own)
+  learns_by_finding v w n word true says is =
+      subst (λ (u : DomainValue C). Learns v.own u.own) (sym is) (record { fired = refl; floor = refl; words = word_told v.own n word (says refl) })
+
+  same_by_finding : (v w : DomainValue C) (number : ℕ) (word : Word) (more : Bool) → w ≡ after_finding v number word more → w.domain ≡ v.domain
+  same_by_finding v w n word false is = ap (λ (u : DomainValue C). u.domain) is
+  same_by_finding v w n word true is = ap (λ (u : DomainValue C). u.domain) is
+
+  pub learned_by_looking : (old new : Post C) (number bound : ℕ) (more : Bool) → (bound_upto : (word : Word) → says_more bound word ≡ true → SaysAsMuch (word_at old.domain.own.known number) word)
+      → HasLooked stepped plan table old new number bound more → HasLearned stepped plan table old new
+  learned_by_looking old new number bound more says l =
+      let learns : Learns old.domain.own new.domain.own = learns_by_finding old.domain new.domain number l.word more (λ e. says l.word (sym l.answer ∙ e)) l.told in
+      record {
+        can = l.can;
+        same = same_by_finding old.domain new.domain number l.word more l.told;
+        learns = learns;
+        published = nothing_published old new learns.fired (λ n. ap (λ (s : SeatValue). slice_index s.wrote n) l.found.new_is);
       }
 
 pub blocked_is_no_fire : (number bound : ℕ) (key : Key) → ◌≡◌ {A = Next} (Blocked number bound) (Fire key) → ⊥
@@ -293,21 +314,51 @@ module _ {C : Type 0} (serves : C → Kind → Bool) (floor : C → Kind → ℕ
 
   -- ---- looking
 
-  module _ (old : Post C) (ok : IsPostSeated stepped plan table old) (number : ℕ) (x : Crossing) (at : slice_get partition.crossings number ≡ Some x) (target : x.target ≡ old.domain.domain)
+  -- what says more than a blocked domain knows says as much
+  pub says_as_much : (own : DomainState) (domain number bound : ℕ) → IsBlockedBy events partition domain own number bound → (word : Word) → says_more bound word ≡ true → SaysAsMuch (word_at own.known number) word
+  says_as_much own domain number bound b (Exact f) more = finish_says (word_at own.known number) f
+  says_as_much own domain number bound b (Bound found) more = by_word (word_at own.known number) refl
+    where
+      open_word : is_exact (word_at own.known number) ≡ false
+      open_word = not_true (is_exact (word_at own.known number)) (right_of (eqb b.crossing.target domain) (not (is_exact (word_at own.known number))) b.is_least.unresolved)
+
+      below : bound < found
+      below = grind (arith, nat_tests)
+
+      by_word : (w : Word) → word_at own.known number ≡ w → SaysAsMuch (word_at own.known number) (Bound found)
+      by_word (Exact g) e = absurd (false≢true (sym open_word ∙ ap is_exact e))
+      by_word (Bound a) e =
+          bound_says (word_at own.known number) a found e
+          (let is : bound ≡ max (cycle_of (word_at own.known number)) (own.floor + latency_at events b.crossing.parent) = b.bound_is in let c = ap cycle_of e in omega (arith, is, c, below))
+
+  module _ (old : Post C) (ok : IsPostSeated stepped plan table old) (number bound : ℕ) (b : IsBlockedBy events partition old.domain.domain old.domain.own number bound)
       (seat : SeatValue) (word : Word) (looked : Looked old.seat seat number word) where
-    found : (w : Word) (finish : ℕ) → w ≡ Exact finish → IsTrueOfFinish (slice_index old.seat.finishes number) w → IsFinish stepped plan x.parent finish
-    found w finish e true_of =
-        subst (IsTrueOfFinish (slice_index old.seat.finishes number)) e true_of
-        ∙ (ap (λ (xs : List ℕ). slice_index xs number) ok.seated.seat.finishes_are ∙ finish_at stepped plan number x at)
+    at : slice_get partition.crossings number ≡ Some b.crossing
+    at = b.is_least.there
 
-    finish_of : (finish : ℕ) → word ≡ Exact finish → IsFinishOf stepped events partition plan.comps.value old.domain.domain number finish
-    finish_of finish e = record { crossing = x; there = at; target = target; finish_is = found word finish e looked.is_true }
+    target : b.crossing.target ≡ old.domain.domain
+    target = eq_is b.crossing.target old.domain.domain (left_of (eqb b.crossing.target old.domain.domain) (not (is_exact (word_at old.domain.own.known number))) b.is_least.unresolved)
 
-    pub may_tell_found : (finish : ℕ) → word ≡ Exact finish → MayTell old.domain.events old.domain.partition old.domain.domain old.domain.own number word
-    may_tell_found finish e =
-        subst (λ (w : Word). MayTell old.domain.events old.domain.partition old.domain.domain old.domain.own number w) (sym e)
-        (subst (λ (v : DomainValue C). MayTell v.events v.partition v.domain v.own number (Exact finish)) (sym ok.kept.is)
-        (laws.may_tell events partition plan.comps.value can old.domain.domain old.domain.own old.domain.comps number finish ok.kept.keeps (finish_of finish e)))
+    finish_known : slice_index old.seat.finishes number ≡ finish_in (woven stepped events plan.comps.value) b.crossing.parent
+    finish_known = ap (λ (xs : List ℕ). slice_index xs number) ok.seated.seat.finishes_are ∙ finish_at stepped plan number b.crossing at
+
+    sound_found : (w : Word) → IsTrueOfFinish (slice_index old.seat.finishes number) w → IsSoundWord (woven stepped events plan.comps.value) b.crossing w
+    sound_found (Bound c) l = omega (arith, l, finish_known)
+    sound_found (Exact f) e = e ∙ finish_known
+
+    true_found : says_more bound word ≡ true → IsTrueWordOf stepped events partition plan.comps.value old.domain.domain old.domain.own number word
+    true_found more = record {
+      crossing = b.crossing;
+      there = at;
+      target = target;
+      sound = sound_found word looked.is_true;
+      says = says_as_much old.domain.own old.domain.domain number bound b word more;
+    }
+
+    pub may_tell_found : says_more bound word ≡ true → MayTell old.domain.events old.domain.partition old.domain.domain old.domain.own number word
+    may_tell_found more =
+        subst (λ (v : DomainValue C). MayTell v.events v.partition v.domain v.own number word) (sym ok.kept.is)
+        (laws.may_tell events partition plan.comps.value can old.domain.domain old.domain.own old.domain.comps number word ok.kept.keeps (true_found more))
 
     same_seat : IsSeatOfPlan stepped plan table old.domain.domain seat
     same_seat = record {
@@ -321,63 +372,67 @@ module _ {C : Type 0} (serves : C → Kind → Bool) (floor : C → Kind → ℕ
     noted_there : (n : ℕ) → ((n ≡ number) × (slice_index seat.noted n ≡ kept_number word)) ⊎ (slice_index seat.noted n ≡ slice_index old.seat.noted n)
     noted_there n =
         let is : slice_index seat.noted n ≡ slice_index (set old.seat.noted number (kept_number word)) n = ap (λ (s : SeatValue). slice_index s.noted n) looked.new_is in
-        elim (read_set old.seat.noted number (kept_number word) 0 n) [ inl a ↦ inl (a.0, is ∙ a.1) | inr b ↦ inr (is ∙ b) ]
+        elim (read_set old.seat.noted number (kept_number word) 0 n) [ inl a ↦ inl (a.0, is ∙ a.1) | inr o ↦ inr (is ∙ o) ]
 
     -- a domain that knows more, and the finish where the word says it
-    still_informed : (w : DomainValue C) → Grows old.domain.own w.own → (kept_number word % 2 ≡ 1 → is_exact (word_at w.own.known number) ≡ true) → IsInformed w seat
-    still_informed w grows told n odd =
+    still_informed : (w : DomainValue C) → Learns old.domain.own w.own → (kept_number word % 2 ≡ 1 → is_exact (word_at w.own.known number) ≡ true) → IsInformed w seat
+    still_informed w learns told n odd =
         elim (noted_there n) [
           | inl here ↦ subst (λ (m : ℕ). is_exact (word_at w.own.known m) ≡ true) (sym here.0) (told (ap (λ (k : ℕ). k % 2) (sym here.1) ∙ odd))
-          | inr other ↦ stays_exact old.domain.own w.own n (grows.words n) (ok.seated.informed n (ap (λ (k : ℕ). k % 2) (sym other) ∙ odd))
+          | inr other ↦ stays_exact old.domain.own w.own n (learns.words n) (ok.seated.informed n (ap (λ (k : ℕ). k % 2) (sym other) ∙ odd))
         ]
 
     wrote_same : (n : ℕ) → slice_index seat.wrote n ≡ slice_index old.seat.wrote n
     wrote_same n = ap (λ (s : SeatValue). slice_index s.wrote n) looked.new_is
 
-    pub has_looked : (finish : ℕ) (w : DomainValue C) → word ≡ Exact finish → w ≡ record old.domain { own = with_known old.domain.own number word }
-        → HasLooked stepped plan table old (record { number = old.number; domain = w; seat = seat }) number true
-    has_looked finish w e is =
-        let told : DomainValue C = record old.domain { own = with_known old.domain.own number (Exact finish) } in
-        let w_is : w ≡ told = is ∙ ap (λ (z : Word). let v : DomainValue C = record old.domain { own = with_known old.domain.own number z } in v) e in
-        let wide : number < length old.domain.own.known = (let l = slice_get_within partition.crossings number x at in let k = ok.kept.keeps.wide in omega (arith, l, k)) in
-        subst (λ (v : DomainValue C). HasLooked stepped plan table old (record { number = old.number; domain = v; seat = seat }) number true) (sym w_is)
+    odd_is_exact : (w : Word) → kept_number w % 2 ≡ 1 → is_exact w ≡ true
+    odd_is_exact (Exact f) h = refl
+    odd_is_exact (Bound c) h = absurd (omega (arith, h))
+
+    pub has_looked : (w : DomainValue C) → says_more bound word ≡ true → w ≡ record old.domain { own = with_known old.domain.own number word }
+        → HasLooked stepped plan table old (record { number = old.number; domain = w; seat = seat }) number bound true
+    has_looked w more is =
+        let told : DomainValue C = record old.domain { own = with_known old.domain.own number word } in
+        let wide : number < length old.domain.own.known = (let l = slice_get_within partition.crossings number b.crossing at in let k = ok.kept.keeps.wide in omega (arith, l, k)) in
+        subst (λ (v : DomainValue C). HasLooked stepped plan table old (record { number = old.number; domain = v; seat = seat }) number bound true) (sym is)
         (record {
           can = record {
             kept = record {
               is = same_value told events partition old.domain.domain (ap (λ (v : DomainValue C). v.events) ok.kept.is) (ap (λ (v : DomainValue C). v.partition) ok.kept.is) refl;
-              keeps = laws.tells events partition plan.comps.value can old.domain.domain old.domain.own old.domain.comps number finish ok.kept.keeps (finish_of finish e);
+              keeps = laws.tells events partition plan.comps.value can old.domain.domain old.domain.own old.domain.comps number word ok.kept.keeps (true_found more);
             };
             seated = record {
               seat = same_seat;
               unpublished = λ n y there source unfired. ap (λ (k : ℕ). k % 2) (wrote_same n) ∙ ok.seated.unpublished n y there source unfired;
-              informed = still_informed told (grows_by_finding stepped plan table old.domain told number (Exact finish) refl)
-                  (λ odd. ap is_exact (get_or-set_same old.domain.own.known number (Exact finish) (Bound 0) wide));
+              informed = still_informed told (record { fired = refl; floor = refl; words = word_told old.domain.own number word (says_as_much old.domain.own old.domain.domain number bound b word more) })
+                  (λ odd. ap is_exact (get_or-set_same old.domain.own.known number word (Bound 0) wide) ∙ odd_is_exact word odd);
             };
           };
           word = word;
           found = looked;
-          told = ap (after_finding old.domain number) (sym e);
-          answer = ap is_exact (sym e);
+          told = refl;
+          answer = sym more;
         })
 
-    pub has_looked_in_vain : (bound : ℕ) → word ≡ Bound bound → HasLooked stepped plan table old (record { number = old.number; domain = old.domain; seat = seat }) number false
-    has_looked_in_vain bound e = record {
+    pub has_looked_in_vain : says_more bound word ≡ false → HasLooked stepped plan table old (record { number = old.number; domain = old.domain; seat = seat }) number bound false
+    has_looked_in_vain less = record {
       can = record {
         kept = ok.kept;
         seated = record {
           seat = same_seat;
           unpublished = λ n y there source unfired. ap (λ (k : ℕ). k % 2) (wrote_same n) ∙ ok.seated.unpublished n y there source unfired;
-          informed = still_informed old.domain (grows_nothing old.domain.own) (λ odd. absurd (even bound (ap (λ (w : Word). kept_number w % 2) (sym e) ∙ odd)));
+          informed = still_informed old.domain (learns_nothing old.domain.own) (λ odd. absurd (false≢true (sym less ∙ exact_more word (odd_is_exact word odd))));
         };
       };
       word = word;
       found = looked;
-      told = ap (after_finding old.domain number) (sym e);
-      answer = ap is_exact (sym e);
+      told = refl;
+      answer = sym less;
     }
       where
-        even : (b : ℕ) → (2 * b) % 2 ≡ 1 → ⊥
-        even b h = omega (arith, h)
+        exact_more : (w : Word) → is_exact w ≡ true → says_more bound w ≡ true
+        exact_more (Exact f) e = refl
+        exact_more (Bound c) e = absurd (false≢true e)
 
   -- ---- firing
 
@@ -492,13 +547,20 @@ module _ {C : Type 0} (serves : C → Kind → Bool) (floor : C → Kind → ℕ
     goes = λ l. goes_after serves floor stepped greatest laws plan can first.domain old.domain new.domain f.finish step h.fresh h.goes f.fired;
   }
 
-  pub stepped_by_looking : (first old new : Post C) (step : ℕ) (answer : Next) → HasStepped first step old → IsAnswer old.domain.events old.domain.partition old.domain.domain old.domain.own answer → ((key : Key) → answer ≡ Fire key → ⊥)
-      → (number : ℕ) (finished : Bool) → HasLooked stepped plan table old new number finished → HasStepped first (step + 1) new
-  stepped_by_looking first old new step answer h is not_fire number finished l = record {
-    so_far = served_by_looking stepped plan table first old new number finished h.so_far l;
+  pub stepped_by_learning : (first old new : Post C) (step : ℕ) (answer : Next) → HasStepped first step old → IsAnswer old.domain.events old.domain.partition old.domain.domain old.domain.own answer → ((key : Key) → answer ≡ Fire key → ⊥)
+      → HasLearned stepped plan table old new → HasStepped first (step + 1) new
+  stepped_by_learning first old new step answer h is not_fire l = record {
+    so_far = served_by_learning stepped plan table first old new h.so_far l;
     fresh = λ e. absurd (omega (arith, e));
-    goes = λ some. gone_on_looking first old new step answer h.so_far h.fresh h.goes is not_fire (grows_by_looking stepped plan table old new number finished l);
+    goes = λ some. gone_on_looking first old new step answer h.so_far h.fresh h.goes is not_fire (grows_by_learning old.domain.own new.domain.own l.learns);
   }
+
+  -- the domain is blocked by what it answers
+  pub blocked_by : (post : Post C) → IsPostSeated stepped plan table post → (answer : Next) (n bound : ℕ) → answer ≡ Blocked n bound
+      → IsAnswer post.domain.events post.domain.partition post.domain.domain post.domain.own answer → IsBlockedBy events partition post.domain.domain post.domain.own n bound
+  blocked_by post ok answer n bound e is =
+      subst (λ (a : Next). IsAnswer events partition post.domain.domain post.domain.own a) e
+      (subst (λ (v : DomainValue C). IsAnswer v.events v.partition v.domain v.own answer) ok.kept.is is)
 
   pub has_served : (first now : Post C) → HasServedSo stepped plan table first now → HasGoneOn events partition first.domain.domain first.domain.own now.domain.own → HasServed stepped plan table first now
   has_served first now h goes = record { ran = record { same = h.same; kept = h.can.kept; grows = h.grows; goes_on = goes }; seated = h.can.seated; published = h.published }

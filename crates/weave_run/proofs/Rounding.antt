@@ -18,7 +18,7 @@ use Rattle.weave_core.specs.Soundness.{IsSoundFloor}
 use Rattle.weave_run.specs.Rounds.{AllGrow, AllKeep, AllLearn, AreMet, CanWeavePlan, Grows, HasGoneOn, HasMet, HasRun, HasRunHere, HasRunRound, HasToldRest, HaveFloor, IsResolved, KeepsToWeave, own_in, with_floors}
 use Rattle.weave_run.specs.declared.plan.Plan.{Plan}
 use Rattle.weave_run.proofs.Firings.{StandsIn, fired_by_more, fired_there, front_get, is_fired_at}
-use Rattle.weave_run.proofs.Running.{same_value}
+use Rattle.weave_run.proofs.Running.{same_value, same_words}
 use Rattle.weave_run.proofs.Tellings.{get_set_other, get_set_same, grows_by_learning, grows_nothing, grows_twice, own_set_other, own_set_same, own_there, stays_exact}
 
 pub still_fired : (a b : DomainState) (n : ℕ) → Grows a b → is_fired a.fired n ≡ true → is_fired b.fired n ≡ true
@@ -309,7 +309,7 @@ module _ {C : Type 0} (serves : C → Kind → Bool) (floor_of : C → Kind → 
         let floor_is : (own_in lifted (home y)).floor ≡ max front floor = floor_there (max front floor) vs (home y) below in
         let clear : is_clear graph cut (home y) (own_in lifted (home y)) y.start ≡ true =
         laws.stays_clear graph cut (home y) (with_floor go.start (own_in vs (home y))) (own_in lifted (home y)) y.start (omega (arith, floor_is, start_is))
-        (λ n. inl (ap (λ (ws : _). word_at ws n) (same_known (max front floor) vs (home y)))) go.clear
+        (same_words (own_in lifted (home y)).known (own_in vs (home y)).known (same_known (max front floor) vs (home y))) go.clear
         in
         let left_then : IsFirstLeft stepped graph cut plan.comps.value (owns_of lifted) round y =
         record {

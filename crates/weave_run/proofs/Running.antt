@@ -3,13 +3,14 @@ use Rattle.std.proofs.Common.{◌≡◌, ◌<◌, ℕ, Bool, List, [], ◌∷◌
 use Rattle.std.proofs.lemmas.Bool.{cases_lt}
 use Rattle.std.proofs.lemmas.List.{append-nil, append_assoc}
 use Rattle.zs_num.specs.declared.time.Key.{Key}
+use Rattle.zs_num.specs.declared.time.Word.{Word}
 use Rattle.component.specs.declared.kind.Kind.{Kind}
 use Rattle.event_graph.specs.declared.event.Event.{Event}
 use Rattle.event_graph.specs.declared.fired.Fired.{Fired}
 use Rattle.event_graph.specs.OneListWeave.{FiredEvent, is_fired}
 use Rattle.domain_map.specs.Domains.{Partition}
 use Rattle.weave_core.specs.DomainCalls.{CanFire, DomainValue, IsAnswer, IsFire, MayFire}
-use Rattle.weave_core.specs.DomainMachine.{DomainState, word_at}
+use Rattle.weave_core.specs.DomainMachine.{DomainState, SaysAsMuch, word_at}
 use Rattle.weave_core.specs.Keeping.{KeepingLaws, KeepsTo, domain_with}
 use Rattle.weave_core.specs.declared.next.Next.{Next}
 use Rattle.weave_core.specs.declared.next.Next.TheVariants.{Fire}
@@ -24,6 +25,11 @@ same_value {C} v events p domain a b d =
     ap (λ (n : ℕ). let w : DomainValue C = record { domain = n; events = v.events; partition = v.partition; own = v.own; comps = v.comps } in w) d
     ∙ (ap (λ (es : List Event). let w : DomainValue C = record { domain = domain; events = es; partition = v.partition; own = v.own; comps = v.comps } in w) a
     ∙ ap (λ (q : Partition). let w : DomainValue C = record { domain = domain; events = events; partition = q; own = v.own; comps = v.comps } in w) b)
+
+-- the same words say as much
+pub same_words : (after before : List Word) → after ≡ before → (n : ℕ) → SaysAsMuch (word_at before n) (word_at after n)
+same_words after before same n =
+    subst (λ (ws : List Word). SaysAsMuch (word_at before n) (word_at ws n)) (sym same) (record { finish = λ e. e; bound = λ e. omega arith })
 
 module _ {C : Type 0} (stepped : C → Kind → ℕ → C × ℕ) (plan : Plan C) where
   -- what a domain has done since it began to run
@@ -111,7 +117,7 @@ module _ {C : Type 0} (serves : C → Kind → Bool) (floor : C → Kind → ℕ
   done old new h g = record {
     same = h.same;
     kept = h.kept;
-    grows = record { rest = h.rest; fired = h.fired; floor = h.floor; words = λ n. inl (ap (λ (ws : _). word_at ws n) h.known) };
+    grows = record { rest = h.rest; fired = h.fired; floor = h.floor; words = λ n. same_words new.own.known old.own.known h.known n };
     goes_on = g;
   }
 

@@ -14,6 +14,7 @@ use Rattle.event_graph.proofs.event.Event.TheSendSync as events
 use Rattle.event_graph.proofs.fired.Fired.TheSendSync as fireds
 use Rattle.event_graph.specs.contracts.event.Event as event
 use Rattle.event_graph.specs.contracts.fired.Fired as fired
+use Rattle.weave_core.proofs.exits.Exits.TheSendSync as exits
 use Rattle.weave_core.proofs.incoming.Incoming.TheSendSync as incomings
 use Rattle.weave_core.proofs.waiting.Waiting.TheSendSync as waits
 use Rattle.weave_core.specs.contracts.incoming.Incoming as incoming
@@ -49,10 +50,13 @@ module _ (C : RattleType) (g : Ghosts C.Denot) (s : IsSend C) where
                     (
                       as_row_send incoming.the_field incomings.the_send,
                       (
-                        as_row_send (vec.the_field fired.the_row heap.the_row ghosts) (std.Vec-send fired.the_row fireds.the_send),
+                        exits.the_send,
                         (
-                          search (sendable, std.crosses) depth 20,
-                          (as_row_send (comps.the_field C) comps_send, tt),
+                          as_row_send (vec.the_field fired.the_row heap.the_row ghosts) (std.Vec-send fired.the_row fireds.the_send),
+                          (
+                            search (sendable, std.crosses) depth 20,
+                            (as_row_send (comps.the_field C) comps_send, tt),
+                          ),
                         ),
                       ),
                     ),

@@ -1,6 +1,6 @@
 -- All domains, of which one is told a finish.
-use Rattle.std.proofs.Common.{◌≡◌, ◌+◌, ◌<◌, ◌≤◌, ℕ, zero, suc, Bool, true, List, [], ◌∷◌, ◌++◌, length, map, set, get_or, slice_index, ◌⊎◌, Some, slice_get, sym, ◌∙◌, ap, subst, refl, inl, inr, arith, length-set}
-use Rattle.std.proofs.lemmas.Bool.{cases_lt, cases_eq}
+use Rattle.std.proofs.Common.{◌≡◌, ◌+◌, ◌<◌, ◌≤◌, ℕ, zero, suc, Bool, true, false, List, [], ◌∷◌, ◌++◌, length, map, set, get_or, slice_index, ◌⊎◌, Some, slice_get, sym, ◌∙◌, ap, subst, refl, inl, inr, arith, length-set}
+use Rattle.std.proofs.lemmas.Bool.{cases_lt, cases_eq, false≢true}
 use Rattle.std.proofs.lemmas.List.{append-nil, append_assoc, get_or-set_same, length-map}
 use Rattle.std.proofs.lemmas.Option.{same_Some, none-some, slice_get-map, slice_get-get_or, slice_get_within}
 use Rattle.zs_num.specs.declared.time.Word.{Word}
@@ -14,9 +14,9 @@ use Rattle.weave_core.specs.Layout.{timed_from}
 use Rattle.domain_map.specs.declared.crossing.Crossing.{Crossing}
 use Rattle.domain_map.specs.Domains.{Partition}
 use Rattle.weave_core.specs.DomainCalls.{DomainValue, MayTell, with_known}
-use Rattle.weave_core.specs.DomainMachine.{DomainState, is_exact, word_at}
-use Rattle.weave_core.specs.Keeping.{IsWeaveFiring, IsFinishOf, IsKept, KeepingLaws}
-use Rattle.weave_run.specs.Rounds.{AllKeep, AllLearn, CanWeavePlan, Grows, HasToldCrossing, HasToldAll, HasToldRest, HasToldRests, IsFinish, IsResolved, Learns, own_in}
+use Rattle.weave_core.specs.DomainMachine.{DomainState, SaysAsMuch, cycle_of, is_exact, word_at}
+use Rattle.weave_core.specs.Keeping.{IsWeaveFiring, IsTrueWordOf, IsKept, KeepingLaws}
+use Rattle.weave_run.specs.Rounds.{AllKeep, AllLearn, CanWeavePlan, Grows, HasToldCrossing, HasToldAll, HasToldRest, HasToldRests, HaveLearned, IsFinish, IsResolved, Learns, own_in}
 use Rattle.weave_run.specs.declared.plan.Plan.{Plan}
 use Rattle.weave_run.proofs.Running.{same_value}
 
@@ -66,13 +66,21 @@ own_set_other (w ∷ vs) (suc i) (suc d) v h = own_set_other vs i d v (λ e. h (
 
 -- learning and growing
 
-pub learns_nothing : (own : DomainState) → Learns own own
-learns_nothing own = record { fired = refl; floor = refl; words = λ n. inl refl }
+as_much : (w : Word) → SaysAsMuch w w
+as_much w = record { finish = λ e. e; bound = λ e. omega arith }
 
-words_twice : (a b c : Word) → (b ≡ a) ⊎ (is_exact b ≡ true) → (c ≡ b) ⊎ (is_exact c ≡ true) → (c ≡ a) ⊎ (is_exact c ≡ true)
-words_twice a b c h (inr e) = inr e
-words_twice a b c (inl f) (inl e) = inl (e ∙ f)
-words_twice a b c (inr f) (inl e) = inr (ap is_exact e ∙ f)
+pub learns_nothing : (own : DomainState) → Learns own own
+learns_nothing own = record { fired = refl; floor = refl; words = λ n. as_much (word_at own.known n) }
+
+words_twice : (a b c : Word) → SaysAsMuch a b → SaysAsMuch b c → SaysAsMuch a c
+words_twice a b c h k = record {
+  finish = λ e. k.finish (h.finish e);
+  bound = λ e. by_test (is_exact b) refl e;
+}
+  where
+    by_test : (t : Bool) → is_exact b ≡ t → is_exact c ≡ false → cycle_of a ≤ cycle_of c
+    by_test false f e = omega (arith, h.bound f, k.bound e)
+    by_test true f e = absurd (false≢true (sym e ∙ k.finish f))
 
 pub learns_twice : (a b c : DomainState) → Learns a b → Learns b c → Learns a c
 learns_twice a b c h k = record {
@@ -99,14 +107,23 @@ pub grows_nothing : (a : DomainState) → Grows a a
 grows_nothing a = grows_by_learning a a (learns_nothing a)
 
 -- a finish stays known
-pub stays_exact : (a b : DomainState) (n : ℕ) → (word_at b.known n ≡ word_at a.known n) ⊎ (is_exact (word_at b.known n) ≡ true) → is_exact (word_at a.known n) ≡ true → is_exact (word_at b.known n) ≡ true
-stays_exact a b n (inl same) e = ap is_exact same ∙ e
-stays_exact a b n (inr exact) e = exact
+pub stays_exact : (a b : DomainState) (n : ℕ) → SaysAsMuch (word_at a.known n) (word_at b.known n) → is_exact (word_at a.known n) ≡ true → is_exact (word_at b.known n) ≡ true
+stays_exact a b n says e = says.finish e
 
 -- a word that is told
-pub word_told : (own : DomainState) (number finish n : ℕ) → (word_at (with_known own number (Exact finish)).known n ≡ word_at own.known n) ⊎ (is_exact (word_at (with_known own number (Exact finish)).known n) ≡ true)
-word_told own number finish n =
-    elim (read_set own.known number (Exact finish) (Bound 0) n) [ inl a ↦ inr (ap is_exact a.1) | inr b ↦ inl b ]
+pub word_told : (own : DomainState) (number : ℕ) (word : Word) → SaysAsMuch (word_at own.known number) word → (n : ℕ) → SaysAsMuch (word_at own.known n) (word_at (with_known own number word).known n)
+word_told own number word says n =
+    elim (read_set own.known number word (Bound 0) n) [
+      | inl a ↦ subst (SaysAsMuch (word_at own.known n)) (sym a.1) (subst (λ m. SaysAsMuch (word_at own.known m) word) (sym a.0) says)
+      | inr b ↦ subst (SaysAsMuch (word_at own.known n)) (sym b) (as_much (word_at own.known n))
+    ]
+
+-- a finish says as much as any word, and so does a bound that is higher
+pub finish_says : (was : Word) (finish : ℕ) → SaysAsMuch was (Exact finish)
+finish_says was finish = record { finish = λ e. refl; bound = λ e. absurd (false≢true (sym e)) }
+
+pub bound_says : (was : Word) (before bound : ℕ) → was ≡ Bound before → before ≤ bound → SaysAsMuch was (Bound bound)
+bound_says was before bound e l = record { finish = λ t. absurd (false≢true (sym (ap is_exact e) ∙ t)); bound = λ f. omega (arith, ap cycle_of e, l) }
 
 module _ {C : Type 0} (stepped : C → Kind → ℕ → C × ℕ) (plan : Plan C) where
   abbrev parts : Partition
@@ -227,55 +244,65 @@ module _ {C : Type 0} (serves : C → Kind → Bool) (floor : C → Kind → ℕ
   pub target_there : (vs : List (DomainValue C)) → AllKeep stepped plan vs → (number : ℕ) (x : Crossing) → slice_get partition.crossings number ≡ Some x → x.target < length vs
   target_there vs k number x h = let l = (laws.crossings events partition plan.comps.value can number x h).target_below in let n = k.count in omega (arith, l, n)
 
-  abbrev finish_of : (number finish : ℕ) (x : Crossing) → slice_get partition.crossings number ≡ Some x → IsFinish stepped plan x.parent finish → IsFinishOf stepped events partition plan.comps.value x.target number finish
-  finish_of number finish x h f = record { crossing = x; there = h; target = refl; finish_is = f }
+  abbrev finish_of : (own : DomainState) (number finish : ℕ) (x : Crossing) → slice_get partition.crossings number ≡ Some x → IsFinish stepped plan x.parent finish
+      → IsTrueWordOf stepped events partition plan.comps.value x.target own number (Exact finish)
+  finish_of own number finish x h f = record { crossing = x; there = h; target = refl; sound = f; says = finish_says (word_at own.known number) finish }
 
-  pub may_tell : (vs : List (DomainValue C)) → AllKeep stepped plan vs → (number finish : ℕ) (x : Crossing) (v : DomainValue C) → slice_get partition.crossings number ≡ Some x → IsFinish stepped plan x.parent finish → slice_get vs x.target ≡ Some v
-      → MayTell v.events v.partition v.domain v.own number (Exact finish)
-  may_tell vs k number finish x v h f there =
-      let i : IsKept stepped events partition plan.comps.value x.target v = k.each x.target v there in
-      subst (λ (w : DomainValue C). MayTell w.events w.partition w.domain w.own number (Exact finish)) (sym i.is)
-      (laws.may_tell events partition plan.comps.value can x.target v.own v.comps number finish i.keeps (finish_of number finish x h f))
+  pub may_tell : (vs : List (DomainValue C)) → AllKeep stepped plan vs → (number : ℕ) (word : Word) (target : ℕ) (v : DomainValue C) → slice_get vs target ≡ Some v
+      → IsTrueWordOf stepped events partition plan.comps.value target v.own number word → MayTell v.events v.partition v.domain v.own number word
+  may_tell vs k number word target v there t =
+      let i : IsKept stepped events partition plan.comps.value target v = k.each target v there in
+      subst (λ (w : DomainValue C). MayTell w.events w.partition w.domain w.own number word) (sym i.is) (laws.may_tell events partition plan.comps.value can target v.own v.comps number word i.keeps t)
 
-  pub has_told : (vs : List (DomainValue C)) → AllKeep stepped plan vs → (number finish : ℕ) (x : Crossing) (v w : DomainValue C) → slice_get partition.crossings number ≡ Some x → IsFinish stepped plan x.parent finish
-      → slice_get vs x.target ≡ Some v → w ≡ record v { own = with_known v.own number (Exact finish) } → number < length v.own.known → HasToldCrossing stepped plan vs (set vs x.target w) number
-  has_told vs k number finish x v w h f there is wide =
-      let below : x.target < length vs = target_there vs k number x h in
-      let own_is : w.own ≡ with_known v.own number (Exact finish) = ap (λ (z : DomainValue C). z.own) is in
-      let before : own_in vs x.target ≡ v.own = own_there vs x.target v there in
-      let after : own_in (set vs x.target w) x.target ≡ with_known v.own number (Exact finish) = own_set_same vs x.target w below ∙ own_is in
+  pub has_learned : (vs : List (DomainValue C)) → AllKeep stepped plan vs → (number : ℕ) (word : Word) (target : ℕ) (v w : DomainValue C) → slice_get vs target ≡ Some v
+      → IsTrueWordOf stepped events partition plan.comps.value target v.own number word → w ≡ record v { own = with_known v.own number word } → HaveLearned stepped plan vs (set vs target w)
+  has_learned vs k number word target v w there t is =
+      let below : target < length vs = slice_get_within vs target v there in
+      let own_is : w.own ≡ with_known v.own number word = ap (λ (z : DomainValue C). z.own) is in
+      let before : own_in vs target ≡ v.own = own_there vs target v there in
+      let after : own_in (set vs target w) target ≡ with_known v.own number word = own_set_same vs target w below ∙ own_is in
       record {
         kept = record {
-          count = length-set vs x.target w ∙ k.count;
+          count = length-set vs target w ∙ k.count;
           each = λ d u at.
-              elim (cases_eq d x.target) [
-                | inr other ↦ k.each d u (sym (get_set_other vs x.target d w other) ∙ at)
+              elim (cases_eq d target) [
+                | inr other ↦ k.each d u (sym (get_set_other vs target d w other) ∙ at)
                 | inl same ↦
-                    let u_is : w ≡ u = same_Some w u (sym (get_set_same vs x.target w below) ∙ (ap (slice_get (set vs x.target w)) (sym same) ∙ at)) in
+                    let u_is : w ≡ u = same_Some w u (sym (get_set_same vs target w below) ∙ (ap (slice_get (set vs target w)) (sym same) ∙ at)) in
                     subst (λ (z : DomainValue C). IsKept stepped events partition plan.comps.value d z) (sym is ∙ u_is)
-                    (subst (λ (m : ℕ). IsKept stepped events partition plan.comps.value m (record v { own = with_known v.own number (Exact finish) })) (sym same) (kept_then v (k.each x.target v there)))
+                    (subst (λ (m : ℕ). IsKept stepped events partition plan.comps.value m (record v { own = with_known v.own number word })) (sym same) (kept_then (k.each target v there)))
               ];
         };
         learn = record {
           each = λ d.
-              elim (cases_eq d x.target) [
-                | inr other ↦ subst (Learns (own_in vs d)) (sym (own_set_other vs x.target d w other)) (learns_nothing (own_in vs d))
+              elim (cases_eq d target) [
+                | inr other ↦ subst (Learns (own_in vs d)) (sym (own_set_other vs target d w other)) (learns_nothing (own_in vs d))
                 | inl same ↦
-                    subst (λ (m : ℕ). Learns (own_in vs m) (own_in (set vs x.target w) m)) (sym same)
-                    (subst (λ (a : DomainState). Learns a (own_in (set vs x.target w) x.target)) (sym before)
-                    (subst (Learns v.own) (sym after) (record { fired = refl; floor = refl; words = word_told v.own number finish })))
+                    subst (λ (m : ℕ). Learns (own_in vs m) (own_in (set vs target w) m)) (sym same)
+                    (subst (λ (a : DomainState). Learns a (own_in (set vs target w) target)) (sym before)
+                    (subst (Learns v.own) (sym after) (record { fired = refl; floor = refl; words = word_told v.own number word t.says })))
               ];
         };
+      }
+    where
+      kept_then : IsKept stepped events partition plan.comps.value target v → IsKept stepped events partition plan.comps.value target (record v { own = with_known v.own number word })
+      kept_then i = record {
+        is = same_value (record v { own = with_known v.own number word }) events partition target (ap (λ (z : DomainValue C). z.events) i.is) (ap (λ (z : DomainValue C). z.partition) i.is) (ap (λ (z : DomainValue C). z.domain) i.is);
+        keeps = laws.tells events partition plan.comps.value can target v.own v.comps number word i.keeps t;
+      }
+
+  pub has_told : (vs : List (DomainValue C)) → AllKeep stepped plan vs → (number finish : ℕ) (x : Crossing) (v w : DomainValue C) → slice_get partition.crossings number ≡ Some x → IsFinish stepped plan x.parent finish
+      → slice_get vs x.target ≡ Some v → w ≡ record v { own = with_known v.own number (Exact finish) } → number < length v.own.known → HasToldCrossing stepped plan vs (set vs x.target w) number
+  has_told vs k number finish x v w h f there is wide =
+      let l : HaveLearned stepped plan vs (set vs x.target w) = has_learned vs k number (Exact finish) x.target v w there (finish_of v.own number finish x h f) is in
+      let after : own_in (set vs x.target w) x.target ≡ with_known v.own number (Exact finish) = own_set_same vs x.target w (target_there vs k number x h) ∙ ap (λ (z : DomainValue C). z.own) is in
+      record {
+        kept = l.kept;
+        learn = l.learn;
         told = λ y at.
             let one : x ≡ y = same_Some x y (sym h ∙ at) in
             subst (λ (z : Crossing). IsResolved (set vs x.target w) number z) one
             (ap (λ (a : DomainState). is_exact (word_at a.known number)) after ∙ ap is_exact (get_or-set_same v.own.known number (Exact finish) (Bound 0) wide));
-      }
-    where
-      kept_then : (v : DomainValue C) → IsKept stepped events partition plan.comps.value x.target v → IsKept stepped events partition plan.comps.value x.target (record v { own = with_known v.own number (Exact finish) })
-      kept_then v i = record {
-        is = same_value (record v { own = with_known v.own number (Exact finish) }) events partition x.target (ap (λ (z : DomainValue C). z.events) i.is) (ap (λ (z : DomainValue C). z.partition) i.is) (ap (λ (z : DomainValue C). z.domain) i.is);
-        keeps = laws.tells events partition plan.comps.value can x.target v.own v.comps number finish i.keeps (finish_of number finish x h f);
       }
 
   -- all that a domain fired, as far as it was told
@@ -315,7 +342,7 @@ module _ {C : Type 0} (serves : C → Kind → Bool) (floor : C → Kind → ℕ
       → MayTell (get_or vs target d).events (get_or vs target d).partition (get_or vs target d).domain (get_or vs target d).own number (Exact finish)
   told_at vs k number finish x target d h is f =
       subst (λ (m : ℕ). MayTell (get_or vs m d).events (get_or vs m d).partition (get_or vs m d).domain (get_or vs m d).own number (Exact finish)) (sym is)
-      (may_tell vs k number finish x (get_or vs x.target d) h f (slice_get-get_or vs x.target d (target_there vs k number x h)))
+      (may_tell vs k number (Exact finish) x.target (get_or vs x.target d) (slice_get-get_or vs x.target d (target_there vs k number x h)) (finish_of (get_or vs x.target d).own number finish x h f))
 
   pub told_then : (vs : List (DomainValue C)) → AllKeep stepped plan vs → (number finish : ℕ) (x : Crossing) (target : ℕ) (d w : DomainValue C) → slice_get partition.crossings number ≡ Some x → target ≡ x.target → IsFinish stepped plan x.parent finish
       → w ≡ record (get_or vs target d) { own = with_known (get_or vs target d).own number (Exact finish) } → HasToldCrossing stepped plan vs (set vs target w) number

@@ -1,5 +1,5 @@
 -- What the parts of a round leave of the domains.
-use Rattle.std.specs.Prelude.{◌≡◌, ◌≤◌, ◌<◌, ◌⊎◌, ◌++◌, ◌∷◌, [], ℕ, Bool, true, List, length, map, Option, Some, is_some, slice_get, slice_index}
+use Rattle.std.specs.Prelude.{◌≡◌, ◌≤◌, ◌<◌, ◌++◌, ◌∷◌, [], ℕ, Bool, true, List, length, map, Option, Some, is_some, slice_get, slice_index}
 use Rattle.component.specs.declared.kind.Kind.{Kind}
 use Rattle.event_graph.specs.declared.event.Event.{Event}
 use Rattle.event_graph.specs.declared.fired.Fired.{Fired}
@@ -8,7 +8,7 @@ use Rattle.domain_map.specs.declared.crossing.Crossing.{Crossing}
 use Rattle.domain_map.specs.Domains.{Partition, domain_of_event}
 use Rattle.weave_core.specs.AtBarrier.{IsFirstLeft, KnowFiredParents, least_start_of, own_at}
 use Rattle.weave_core.specs.DomainCalls.{DomainValue, earliest_of}
-use Rattle.weave_core.specs.DomainMachine.{DomainState, is_clear, is_exact, next_in, with_floor, word_at}
+use Rattle.weave_core.specs.DomainMachine.{DomainState, SaysAsMuch, is_clear, is_exact, next_in, with_floor, word_at}
 use Rattle.weave_core.specs.Keeping.{AreKept, CanWeave, IsKept, owns_of}
 use Rattle.weave_run.specs.declared.plan.Plan.{Plan}
 
@@ -22,18 +22,18 @@ KeepsToWeave stepped plan v = IsKept stepped plan.graph.value plan.parts.value p
 abbrev pub AllKeep : {C : Type 0} (stepped : C → Kind → ℕ → C × ℕ) → Plan C → List (DomainValue C) → Type 0
 AllKeep stepped plan vs = AreKept stepped plan.graph.value plan.parts.value plan.comps.value vs
 
--- A domain that fired more, and whose words stay or became finishes.
+-- A domain that fired more, and whose words say as much as before.
 pub record Grows (before after : DomainState) : Type 0 where
   pub rest : List FiredEvent
   pub fired : after.fired ≡ before.fired ++ rest
   pub floor : after.floor ≡ before.floor
-  pub words : (number : ℕ) → (word_at after.known number ≡ word_at before.known number) ⊎ (is_exact (word_at after.known number) ≡ true)
+  pub words : (number : ℕ) → SaysAsMuch (word_at before.known number) (word_at after.known number)
 
--- A domain that fired nothing, and whose words stay or became finishes.
+-- A domain that fired nothing, and whose words say as much as before.
 pub record Learns (before after : DomainState) : Type 0 where
   pub fired : after.fired ≡ before.fired
   pub floor : after.floor ≡ before.floor
-  pub words : (number : ℕ) → (word_at after.known number ≡ word_at before.known number) ⊎ (is_exact (word_at after.known number) ≡ true)
+  pub words : (number : ℕ) → SaysAsMuch (word_at before.known number) (word_at after.known number)
 
 abbrev pub own_in : {C : Type 0} → List (DomainValue C) → (domain : ℕ) → DomainState
 own_in vs domain = own_at (owns_of vs) domain
@@ -82,6 +82,11 @@ pub record HaveRun {C : Type 0} (stepped : C → Kind → ℕ → C × ℕ) (pla
 -- the domain that the crossing leads into knows the finish of its parent
 abbrev pub IsResolved : {C : Type 0} → List (DomainValue C) → (number : ℕ) → Crossing → Type 0
 IsResolved vs number x = is_exact (word_at (own_in vs x.target).known number) ≡ true
+
+-- all domains after some were told more
+pub record HaveLearned {C : Type 0} (stepped : C → Kind → ℕ → C × ℕ) (plan : Plan C) (old new : List (DomainValue C)) : Type 0 where
+  pub kept : AllKeep stepped plan new
+  pub learn : AllLearn old new
 
 -- all domains after one crossing was told, and after all crossings out of an event were
 pub record HasToldCrossing {C : Type 0} (stepped : C → Kind → ℕ → C × ℕ) (plan : Plan C) (old new : List (DomainValue C)) (number : ℕ) : Type 0 where

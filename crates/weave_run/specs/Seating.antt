@@ -1,5 +1,5 @@
 -- Domains with their seats at the crossings.
-use Rattle.std.specs.Prelude.{◌≡◌, ◌%◌, ℕ, Bool, true, false, List, length, Some, slice_get, slice_index}
+use Rattle.std.specs.Prelude.{◌≡◌, ◌%◌, ℕ, Bool, true, false, cond, nat_lt, List, length, Some, slice_get, slice_index}
 use Rattle.atomic_table.specs.Seated.{TableId}
 use Rattle.zs_num.specs.declared.time.Word.{Word}
 use Rattle.zs_num.specs.declared.time.Word.TheVariants.{Bound, Exact}
@@ -10,7 +10,7 @@ use Rattle.domain_map.specs.declared.crossing.Crossing.{Crossing}
 use Rattle.crossing.specs.Seats.{Looked, SeatValue, finishes_of, kept_number, sources_of}
 use Rattle.weave_core.specs.DomainCalls.{DomainValue, with_known}
 use Rattle.weave_core.specs.DomainMachine.{is_exact, word_at}
-use Rattle.weave_run.specs.Rounds.{HasFiredNext, HasRun, IsFinish, KeepsToWeave}
+use Rattle.weave_run.specs.Rounds.{HasFiredNext, HasRun, IsFinish, KeepsToWeave, Learns}
 use Rattle.weave_run.specs.declared.post.Post.{Post}
 use Rattle.weave_run.specs.declared.plan.Plan.{Plan}
 
@@ -62,18 +62,29 @@ pub record HasFiredThere {C : Type 0} (stepped : C → Kind → ℕ → C × ℕ
   pub fired : HasFiredNext stepped plan old.domain new.domain finish
   pub published : HasPublishedSince stepped plan old new
 
--- A domain after its seat found this word of a crossing: it is told a finish, and no bound.
-abbrev pub after_finding : {C : Type 0} → DomainValue C → (number : ℕ) → Word → DomainValue C
-after_finding v number (Bound b) = v
-after_finding v number (Exact f) = record v { own = with_known v.own number (Exact f) }
+-- a word that says more of a parent than that it finishes at the bound or later
+abbrev pub says_more : (bound : ℕ) → Word → Bool
+says_more bound (Bound b) = nat_lt bound b
+says_more bound (Exact f) = true
 
--- after it looked at the word of a crossing, and whether that said the finish
-pub record HasLooked {C : Type 0} (stepped : C → Kind → ℕ → C × ℕ) (plan : Plan C) (table : TableId) (old new : Post C) (number : ℕ) (finished : Bool) : Type 0 where
+-- A domain after its seat found this word of a crossing: it is told it where it says more.
+abbrev pub after_finding : {C : Type 0} → DomainValue C → (number : ℕ) → Word → (more : Bool) → DomainValue C
+after_finding v number word more = cond more (record v { own = with_known v.own number word }) v
+
+-- after it looked at the word of the crossing that blocks it at this bound, and whether that said more
+pub record HasLooked {C : Type 0} (stepped : C → Kind → ℕ → C × ℕ) (plan : Plan C) (table : TableId) (old new : Post C) (number bound : ℕ) (more : Bool) : Type 0 where
   pub can : IsPostSeated stepped plan table new
   pub word : Word
   pub found : Looked old.seat new.seat number word
-  pub told : new.domain ≡ after_finding old.domain number word
-  pub answer : finished ≡ is_exact word
+  pub told : new.domain ≡ after_finding old.domain number word more
+  pub answer : more ≡ says_more bound word
+
+-- after a domain looked at words and was told more of them: it fired nothing
+pub record HasLearned {C : Type 0} (stepped : C → Kind → ℕ → C × ℕ) (plan : Plan C) (table : TableId) (old new : Post C) : Type 0 where
+  pub can : IsPostSeated stepped plan table new
+  pub same : new.domain.domain ≡ old.domain.domain
+  pub learns : Learns old.domain.own new.domain.own
+  pub published : HasPublishedSince stepped plan old new
 
 -- after it ran
 pub record HasServed {C : Type 0} (stepped : C → Kind → ℕ → C × ℕ) (plan : Plan C) (table : TableId) (old new : Post C) : Type 0 where

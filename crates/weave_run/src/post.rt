@@ -1,12 +1,11 @@
 //! A domain that runs beside others, which it tells what it fires, and of which it learns, by the
 //! words of the crossings.
-ghost use Rattle.std.specs.Prelude.{◌≡◌, ◌<◌, length, slice_get, Some};
-ghost use Rattle.domain_map.specs.declared.crossing.Crossing.{Crossing};
+ghost use Rattle.std.specs.Prelude.{◌≡◌, ◌<◌, length};
 ghost use Rattle.zs_num.specs.declared.time.Key.{Key};
-ghost use Rattle.weave_core.specs.DomainCalls.{MayFire};
+ghost use Rattle.weave_core.specs.DomainCalls.{IsBlockedBy, MayFire};
 ghost use Rattle.weave_run.specs.Outgoing.{AreOutgoing};
 ghost use Rattle.weave_run.specs.Rounds.{CanWeavePlan, IsFinish};
-ghost use Rattle.weave_run.specs.Seating.{IsPostSeated, HasFiredThere, HasLooked, HasPublished, HasServed, IsSeatOfPlan, MayPublish};
+ghost use Rattle.weave_run.specs.Seating.{IsPostSeated, HasFiredThere, HasLooked, HasPublished, HasServed, IsSeatOfPlan, MayPublish, says_more as more_than};
 
 use crate::outgoing::Outgoing;
 use crate::plan::Plan;
@@ -16,7 +15,7 @@ use crossing::{Crossings, DomainSeat};
 use event_graph::Fired;
 use weave_core::{Domain, Next, laws};
 use zs_host::Gate;
-use zs_num::Word;
+use zs_num::{Cycle, Word};
 
 /// A domain with its number and its seat at the crossings.
 #[derive(Drop)]
@@ -27,8 +26,8 @@ pub(crate) struct Post<C: Component> {
 }
 
 /// Fires while the next event may fire, and publishes each finish. Where the domain is blocked it
-/// looks at the word of the crossing that blocks it, and goes on if that says the finish. At most
-/// so many fires and looks.
+/// looks at the word of the crossing that blocks it, and goes on if that says more than what the
+/// domain knows. At most so many fires and looks.
 pub(crate) fn run_beside_others<C: Component, G: Gate>(
     post: &mut Post<C>,
     plan: &Plan<C>,
@@ -48,8 +47,8 @@ pub(crate) fn run_beside_others<C: Component, G: Gate>(
     for _step in 0..steps {
         match post.domain.next() {
             Next::Fire { .. } => fire_and_publish(post, plan, outgoing, crossings, worker, gate),
-            Next::Blocked { crossing, .. } => {
-                if !look_again(post, plan, crossings, crossing) {
+            Next::Blocked { crossing, bound } => {
+                if !look_again(post, plan, crossings, crossing, bound) {
                     return;
                 }
             }
@@ -102,26 +101,35 @@ fn publish_all<C: Component>(
     }
 }
 
-/// Looks at the word of a crossing into the domain. If it says the finish, the domain is told that.
-/// Answers whether it says so.
+/// Looks at the word of the crossing that blocks the domain at this bound. If it says more, the
+/// domain is told it. Answers whether it does.
 fn look_again<C: Component>(
     post: &mut Post<C>,
     plan: &Plan<C>,
     crossings: &Crossings,
     crossing: u32,
+    bound: Cycle,
 ) -> bool
     requires can { CanWeavePlan C.serves C.floor C.stepped C.greatest plan.now }
     requires post { IsPostSeated C.stepped plan.now crossings.now post.old }
-    requires into { (x : Crossing) × (slice_get plan.now.parts.value.crossings crossing ≡ Some x) × (x.target ≡ post.old.domain.domain) }
-    ensures { HasLooked C.stepped plan.now crossings.now post.old post.new crossing result }
+    requires blocked { IsBlockedBy plan.now.graph.value plan.now.parts.value post.old.domain.domain post.old.domain.own crossing bound }
+    ensures { HasLooked C.stepped plan.now crossings.now post.old post.new crossing bound result }
 {
     laws::domains_keep_to_the_weave::<C>();
     let word = crossings.look(&mut post.seat, crossing);
+    if !says_more(bound, word) {
+        return false;
+    }
+    post.domain.look(crossing, word);
+    true
+}
+
+/// Whether a word says more than that a parent finishes at this bound or later.
+fn says_more(bound: Cycle, word: Word) -> bool
+    ensures { result ≡ more_than bound word }
+{
     match word {
-        Word::Exact(_) => {
-            post.domain.look(crossing, word);
-            true
-        }
-        Word::Bound(_) => false,
+        Word::Bound(found) => found > bound,
+        Word::Exact(_) => true,
     }
 }

@@ -51,7 +51,8 @@ pub(crate) fn run_rounds<R: Threads + Sync, C: Component + Send, G: Gate>(
     ensures team { IfSome team.new (IsTeam C.stepped plan.now domains.new.items) }
 {
     laws::domains_keep_to_the_weave::<C>();
-    // A fire for each event, a look for each of its parents, and the step that ends the round.
+    // A fire for each event, looks by which it learns of its parents, and the step that ends the
+    // round. A domain that looks more often waits for the next round.
     let steps = 3 * events as usize + 1;
     let mut floor = 0;
     let mut fired = 0;
