@@ -12,5 +12,6 @@ mod Sending
 mod Lots
 mod Seatings
 mod Postings
+mod Raises
 mod BesideRounds
 mod Wovens

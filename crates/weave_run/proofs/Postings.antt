@@ -23,7 +23,7 @@ use Rattle.weave_core.specs.declared.next.Next.{Next}
 use Rattle.weave_core.specs.declared.next.Next.TheVariants.{Blocked, Done, Fire}
 use Rattle.weave_run.specs.Outgoing.{AreOutgoing, IsLastBelow}
 use Rattle.weave_run.specs.Rounds.{CanWeavePlan, Grows, HasFiredNext, HasGoneOn, IsFinish, Learns}
-use Rattle.weave_run.specs.Seating.{IsInformed, IsPostSeated, HasFiredThere, HasLearned, HasLooked, HasPublished, HasPublishedSince, HasServed, IsSeatOfPlan, MayPublish, after_finding, says_more}
+use Rattle.weave_run.specs.Seating.{IsInformed, IsPostSeated, HasFiredThere, HasLearned, HasLooked, HasPublished, HasPublishedSince, HasRaised, HasServed, IsSeatOfPlan, MayPublish, WasRaised, after_finding, says_more}
 use Rattle.weave_run.specs.declared.outgoing.Outgoing.{Outgoing}
 use Rattle.weave_run.specs.declared.plan.Plan.{Plan}
 use Rattle.weave_run.specs.declared.post.Post.{Post}
@@ -56,10 +56,10 @@ module _ {C : Type 0} (stepped : C → Kind → ℕ → C × ℕ) (plan : Plan C
   abbrev crossings : List Crossing
   crossings = plan.parts.value.crossings
 
-  finish_at : (number : ℕ) (x : Crossing) → slice_get crossings number ≡ Some x → slice_index (finishes_of stepped plan.graph.value plan.parts.value plan.comps.value) number ≡ finish_in (woven stepped plan.graph.value plan.comps.value) x.parent
+  pub finish_at : (number : ℕ) (x : Crossing) → slice_get crossings number ≡ Some x → slice_index (finishes_of stepped plan.graph.value plan.parts.value plan.comps.value) number ≡ finish_in (woven stepped plan.graph.value plan.comps.value) x.parent
   finish_at number x at = index_map (λ (y : Crossing). finish_in (woven stepped plan.graph.value plan.comps.value) y.parent) crossings number x at
 
-  owner_at : (number : ℕ) (x : Crossing) → slice_get crossings number ≡ Some x → slice_index (sources_of plan.parts.value) number ≡ x.source
+  pub owner_at : (number : ℕ) (x : Crossing) → slice_get crossings number ≡ Some x → slice_index (sources_of plan.parts.value) number ≡ x.source
   owner_at number x at = index_map (λ (y : Crossing). y.source) crossings number x at
 
   pub number_there : (table : TableId) (domain : ℕ) (s : SeatValue) → IsSeatOfPlan stepped plan table domain s → (number : ℕ) (x : Crossing) → slice_get crossings number ≡ Some x → number < length s.sources
@@ -211,11 +211,16 @@ module _ {C : Type 0} (stepped : C → Kind → ℕ → C × ℕ) (plan : Plan C
     pub grows : Grows first.domain.own now.domain.own
     pub published : HasPublishedSince stepped plan first now
 
+  -- nothing was raised
+  pub was_raised_not : (finish was is : ℕ) → is ≡ was → WasRaised finish was is
+  was_raised_not finish was is e = record { upto = omega (arith, e); bound = inl e }
+
   -- nothing fired, and nothing written
-  nothing_published : (old new : Post C) → new.domain.own.fired ≡ old.domain.own.fired → ((n : ℕ) → slice_index new.seat.wrote n ≡ slice_index old.seat.wrote n) → HasPublishedSince stepped plan old new
+  pub nothing_published : (old new : Post C) → new.domain.own.fired ≡ old.domain.own.fired → ((n : ℕ) → slice_index new.seat.wrote n ≡ slice_index old.seat.wrote n) → HasPublishedSince stepped plan old new
   nothing_published old new fired wrote = record {
     finishes = λ number finish x at un is f. absurd (false≢true (sym un ∙ (ap (λ (xs : List FiredEvent). is_fired xs x.parent) (sym fired) ∙ is)));
-    others = λ number x at same. wrote number;
+    raised = λ number x at un. was_raised_not (finish_in (woven stepped plan.graph.value plan.comps.value) x.parent) (slice_index old.seat.wrote number) (slice_index new.seat.wrote number) (wrote number);
+    others = λ number x at other. wrote number;
   }
 
   still : (a b : DomainState) → Grows a b → (n : ℕ) → is_fired a.fired n ≡ true → is_fired b.fired n ≡ true
@@ -228,25 +233,37 @@ module _ {C : Type 0} (stepped : C → Kind → ℕ → C × ℕ) (plan : Plan C
       by_test false e = e
       by_test true e = absurd (false≢true (sym un ∙ still a b g n e))
 
-  published_twice : (first old new : Post C) → Grows first.domain.own old.domain.own → Grows old.domain.own new.domain.own → HasPublishedSince stepped plan first old → HasPublishedSince stepped plan old new → HasPublishedSince stepped plan first new
-  published_twice first old new g k h p = record {
+  raised_twice : (finish a b c : ℕ) → WasRaised finish a b → WasRaised finish b c → WasRaised finish a c
+  raised_twice finish a b c h k = record {
+    upto = omega (arith, h.upto, k.upto);
+    bound = elim k.bound [
+      | inr q ↦ inr q
+      | inl same ↦
+          elim h.bound [
+            | inl before ↦ inl (same ∙ before)
+            | inr q ↦ inr (q.0, (same ∙ q.1.0, q.1.1))
+          ]
+    ];
+  }
+
+  pub published_twice : (first old new : Post C) → old.domain.domain ≡ first.domain.domain → Grows first.domain.own old.domain.own → Grows old.domain.own new.domain.own → HasPublishedSince stepped plan first old → HasPublishedSince stepped plan old new
+      → HasPublishedSince stepped plan first new
+  published_twice first old new domain g k h p = record {
     finishes = λ number finish x at un is f. finished number finish x at un is f (is_fired old.domain.own.fired x.parent) refl;
-    others = λ number x at same. unchanged number x at same (is_fired first.domain.own.fired x.parent) refl;
+    raised = λ number x at un.
+        raised_twice (finish_in (woven stepped plan.graph.value plan.comps.value) x.parent) (slice_index first.seat.wrote number) (slice_index old.seat.wrote number) (slice_index new.seat.wrote number)
+        (h.raised number x at (unfired_before old.domain.own new.domain.own k x.parent un)) (p.raised number x at un);
+    others = λ number x at other.
+        elim other [
+          | inl fired ↦ p.others number x at (inl (still first.domain.own old.domain.own g x.parent fired)) ∙ h.others number x at (inl fired)
+          | inr away ↦ p.others number x at (inr (λ e. away (e ∙ domain))) ∙ h.others number x at (inr away)
+        ];
   }
     where
       finished : (number finish : ℕ) (x : Crossing) → slice_get plan.parts.value.crossings number ≡ Some x → is_fired first.domain.own.fired x.parent ≡ false → is_fired new.domain.own.fired x.parent ≡ true → IsFinish stepped plan x.parent finish
           → (t : Bool) → is_fired old.domain.own.fired x.parent ≡ t → slice_index new.seat.wrote number ≡ kept_number (Exact finish)
-      finished number finish x at un is f true e = p.others number x at (is ∙ sym e) ∙ h.finishes number finish x at un e f
+      finished number finish x at un is f true e = p.others number x at (inl e) ∙ h.finishes number finish x at un e f
       finished number finish x at un is f false e = p.finishes number finish x at e is f
-
-      unchanged : (number : ℕ) (x : Crossing) → slice_get plan.parts.value.crossings number ≡ Some x → is_fired new.domain.own.fired x.parent ≡ is_fired first.domain.own.fired x.parent
-          → (t : Bool) → is_fired first.domain.own.fired x.parent ≡ t → slice_index new.seat.wrote number ≡ slice_index first.seat.wrote number
-      unchanged number x at same true e =
-          let mid : is_fired old.domain.own.fired x.parent ≡ true = still first.domain.own old.domain.own g x.parent e in
-          p.others number x at (same ∙ (e ∙ sym mid)) ∙ h.others number x at (mid ∙ sym e)
-      unchanged number x at same false e =
-          let mid : is_fired old.domain.own.fired x.parent ≡ false = unfired_before old.domain.own new.domain.own k x.parent (same ∙ e) in
-          p.others number x at (same ∙ (e ∙ sym mid)) ∙ h.others number x at (mid ∙ sym e)
 
   pub not_served : (post : Post C) → IsPostSeated stepped plan table post → HasServedSo post post
   not_served post ok = record { can = ok; same = refl; grows = grows_nothing post.domain.own; published = nothing_published post post refl (λ n. refl) }
@@ -263,7 +280,7 @@ module _ {C : Type 0} (stepped : C → Kind → ℕ → C × ℕ) (plan : Plan C
         can = f.can;
         same = f.fired.same ∙ h.same;
         grows = grows_twice first.domain.own old.domain.own new.domain.own h.grows grows;
-        published = published_twice first old new h.grows grows h.published f.published;
+        published = published_twice first old new h.same h.grows grows h.published f.published;
       }
 
   -- a domain that learned more
@@ -274,8 +291,18 @@ module _ {C : Type 0} (stepped : C → Kind → ℕ → C × ℕ) (plan : Plan C
         can = l.can;
         same = l.same ∙ h.same;
         grows = grows_twice first.domain.own old.domain.own new.domain.own h.grows grows;
-        published = published_twice first old new h.grows grows h.published l.published;
+        published = published_twice first old new h.same h.grows grows h.published l.published;
       }
+
+  -- first it raised words, and then it looked
+  pub raised_and_looked : (old mid new : Post C) → HasRaised stepped plan table old mid → HasLearned stepped plan table mid new → HasLearned stepped plan table old new
+  raised_and_looked old mid new h l = record {
+    can = l.can;
+    same = l.same ∙ ap (λ (v : DomainValue C). v.domain) h.domain_is;
+    learns = subst (λ (v : DomainValue C). Learns v.own new.domain.own) h.domain_is l.learns;
+    published = published_twice old mid new (ap (λ (v : DomainValue C). v.domain) h.domain_is) (subst (λ (v : DomainValue C). Grows old.domain.own v.own) (sym h.domain_is) (grows_nothing old.domain.own))
+        (grows_by_learning mid.domain.own new.domain.own l.learns) h.published l.published;
+  }
 
   -- a look
   learns_by_finding : (v w : DomainValue C) (number : ℕ) (word : Word) (more : Bool) → (more ≡ true → SaysAsMuch (word_at v.own.known number) word) → w ≡ after_finding v number word more → Learns v.own w.own
@@ -505,13 +532,17 @@ module _ {C : Type 0} (serves : C → Kind → Bool) (floor : C → Kind → ℕ
               | inl same ↦ p.all n x at same ∙ ap (λ (k : ℕ). kept_number (Exact k)) (f.finish ∙ (ap (finish_in (woven stepped events plan.comps.value)) (sym same) ∙ sym has))
               | inr differs ↦ absurd (false≢true (sym un ∙ (sym (fires_other x.parent differs) ∙ is)))
             ];
-        others = λ n x at same.
-            elim (cases_eq x.parent result.number) [
-              | inr differs ↦ p.others n x at differs
-              | inl here ↦
-                  absurd (false≢true (sym (ap (is_fired old.domain.own.fired) here ∙ unfired) ∙ (sym same ∙ (ap (λ (xs : List FiredEvent). is_fired xs x.parent) f.fired
-                  ∙ fired_last old.domain.own.fired (record { event = f.event; start = f.start; finish = result.finish }) x.parent (sym (here ∙ f.number))))))
-            ];
+        raised = λ n x at un.
+            was_raised_not stepped plan table (finish_in (woven stepped events plan.comps.value) x.parent) (slice_index old.seat.wrote n) (slice_index s.wrote n)
+            (p.others n x at
+            (λ e. false≢true
+            (sym un ∙ (ap (λ (xs : List FiredEvent). is_fired xs x.parent) f.fired ∙ fired_last old.domain.own.fired (record { event = f.event; start = f.start; finish = result.finish }) x.parent (sym (e ∙ f.number))))));
+        others = λ n x at other.
+            p.others n x at
+            (λ here. elim other [
+              | inl fired ↦ absurd (false≢true (sym (ap (is_fired old.domain.own.fired) here ∙ unfired) ∙ fired))
+              | inr away ↦ absurd (away (from_here n x at here))
+            ]);
       };
     }
 

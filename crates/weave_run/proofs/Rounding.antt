@@ -15,11 +15,11 @@ use Rattle.weave_core.specs.DomainCalls.{DomainValue}
 use Rattle.weave_core.specs.DomainMachine.{DomainState, is_clear, is_exact, with_floor, word_at}
 use Rattle.weave_core.specs.Keeping.{HaveAllFired, IsKept, KeepingLaws, owns_of}
 use Rattle.weave_core.specs.Soundness.{IsSoundFloor}
-use Rattle.weave_run.specs.Rounds.{AllGrow, AllKeep, AllLearn, AreMet, CanWeavePlan, Grows, HasGoneOn, HasMet, HasRun, HasRunHere, HasRunRound, HasToldRest, HaveFloor, IsResolved, KeepsToWeave, own_in, with_floors}
+use Rattle.weave_run.specs.Rounds.{AllGrow, AllKeep, AllLearn, AreMet, CanWeavePlan, Grows, HasGoneOn, HasMet, HasRun, HasRunHere, HasRunRound, HasToldRest, HaveFloor, HaveLearned, IsResolved, KeepsToWeave, own_in, with_floors}
 use Rattle.weave_run.specs.declared.plan.Plan.{Plan}
 use Rattle.weave_run.proofs.Firings.{StandsIn, fired_by_more, fired_there, front_get, is_fired_at}
 use Rattle.weave_run.proofs.Running.{same_value, same_words}
-use Rattle.weave_run.proofs.Tellings.{get_set_other, get_set_same, grows_by_learning, grows_nothing, grows_twice, own_set_other, own_set_same, own_there, stays_exact}
+use Rattle.weave_run.proofs.Tellings.{get_set_other, get_set_same, grows_by_learning, grows_nothing, grows_twice, learn_more, learns_nothing, own_set_other, own_set_same, own_there, stays_exact}
 
 pub still_fired : (a b : DomainState) (n : ℕ) → Grows a b → is_fired a.fired n ≡ true → is_fired b.fired n ≡ true
 still_fired a b n g h = ap (λ (xs : List FiredEvent). is_fired xs n) g.fired ∙ fired_by_more a.fired g.rest n h
@@ -127,6 +127,31 @@ module _ {C : Type 0} (stepped : C → Kind → ℕ → C × ℕ) (plan : Plan C
         ]);
     goes_on = λ e start next clear. still_fired (own_in mid d) (own_in new d) e.number (grows_by_learning (own_in mid d) (own_in new d) (b.learn.each d)) (a.goes_on e start next clear);
   }
+
+  -- and told them more
+  pub told_more : (old mid new : List (DomainValue C)) (d : ℕ) → HasRunHere stepped plan old mid d → HaveLearned stepped plan mid new → HasRunHere stepped plan old new d
+  told_more old mid new d h l = record {
+    has_met = record {
+      met = record {
+        kept = l.kept;
+        told = record {
+          each = λ n x there fired.
+              stays_exact (own_in mid x.target) (own_in new x.target) n ((l.learn.each x.target).words n)
+              (h.has_met.met.told.each n x there (ap (λ (xs : List FiredEvent). is_fired xs x.parent) (sym (l.learn.each x.source).fired) ∙ fired));
+        };
+      };
+      grow = record {
+        each = λ z. grows_twice (own_in old z) (own_in mid z) (own_in new z) (h.has_met.grow.each z) (grows_by_learning (own_in mid z) (own_in new z) (l.learn.each z));
+      };
+    };
+    goes_on = λ e start next clear. still_fired (own_in mid d) (own_in new d) e.number (grows_by_learning (own_in mid d) (own_in new d) (l.learn.each d)) (h.goes_on e start next clear);
+  }
+
+  pub learned_nothing : (vs : List (DomainValue C)) → AllKeep stepped plan vs → HaveLearned stepped plan vs vs
+  learned_nothing vs k = record { kept = k; learn = record { each = λ d. learns_nothing (own_in vs d) } }
+
+  pub learned_twice : (first old new : List (DomainValue C)) → HaveLearned stepped plan first old → HaveLearned stepped plan old new → HaveLearned stepped plan first new
+  learned_twice first old new h k = record { kept = k.kept; learn = learn_more first old new h.learn k.learn }
 
   -- the domains below a number have run
   pub record HasRunUpto (old new : List (DomainValue C)) (number : ℕ) : Type 0 where

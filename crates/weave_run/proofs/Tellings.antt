@@ -1,4 +1,4 @@
--- All domains, of which one is told a finish.
+-- All domains, of which one is told a finish or a bound.
 use Rattle.std.proofs.Common.{◌≡◌, ◌+◌, ◌<◌, ◌≤◌, ℕ, zero, suc, Bool, true, false, List, [], ◌∷◌, ◌++◌, length, map, set, get_or, slice_index, ◌⊎◌, Some, slice_get, sym, ◌∙◌, ap, subst, refl, inl, inr, arith, length-set}
 use Rattle.std.proofs.lemmas.Bool.{cases_lt, cases_eq, false≢true}
 use Rattle.std.proofs.lemmas.List.{append-nil, append_assoc, get_or-set_same, length-map}
@@ -13,10 +13,10 @@ use Rattle.std.specs.Option.{option_map}
 use Rattle.weave_core.specs.Layout.{timed_from}
 use Rattle.domain_map.specs.declared.crossing.Crossing.{Crossing}
 use Rattle.domain_map.specs.Domains.{Partition}
-use Rattle.weave_core.specs.DomainCalls.{DomainValue, MayTell, with_known}
+use Rattle.weave_core.specs.DomainCalls.{DomainValue, IsBoundAnswer, IsInto, IsOutOf, MayTell, with_known}
 use Rattle.weave_core.specs.DomainMachine.{DomainState, SaysAsMuch, cycle_of, is_exact, word_at}
 use Rattle.weave_core.specs.Keeping.{IsWeaveFiring, IsTrueWordOf, IsKept, KeepingLaws}
-use Rattle.weave_run.specs.Rounds.{AllKeep, AllLearn, CanWeavePlan, Grows, HasToldCrossing, HasToldAll, HasToldRest, HasToldRests, HaveLearned, IsFinish, IsResolved, Learns, own_in}
+use Rattle.weave_run.specs.Rounds.{AllKeep, AllLearn, CanWeavePlan, Grows, HasToldCrossing, HasToldAll, HasToldRest, HasToldRests, HaveLearned, IsBoundOf, IsFinish, IsResolved, Learns, own_in}
 use Rattle.weave_run.specs.declared.plan.Plan.{Plan}
 use Rattle.weave_run.proofs.Running.{same_value}
 
@@ -232,6 +232,13 @@ module _ {C : Type 0} (stepped : C → Kind → ℕ → C × ℕ) (plan : Plan C
     told = λ source at y below. h.told source at y (omega (arith, l, below));
   }
 
+-- a crossing out of a domain that keeps to the plan is one of the plan
+pub out_of_plan : {C : Type 0} (stepped : C → Kind → ℕ → C × ℕ) (plan : Plan C) (vs : List (DomainValue C)) → AllKeep stepped plan vs → (source : ℕ) (v : DomainValue C) → slice_get vs source ≡ Some v → (number : ℕ)
+    → IsOutOf v.partition v.domain number → IsOutOf plan.parts.value source number
+out_of_plan {C} stepped plan vs k source v there number out =
+    let i : IsKept stepped plan.graph.value plan.parts.value plan.comps.value source v = k.each source v there in
+    subst (λ (w : DomainValue C). IsOutOf w.partition w.domain number) i.is out
+
 module _ {C : Type 0} (serves : C → Kind → Bool) (floor : C → Kind → ℕ) (stepped : C → Kind → ℕ → C × ℕ) (greatest : C → Kind → ℕ → ℕ) (laws : KeepingLaws serves floor stepped greatest)
     (plan : Plan C) (can : CanWeavePlan serves floor stepped greatest plan) where
   abbrev events : List Event
@@ -247,6 +254,10 @@ module _ {C : Type 0} (serves : C → Kind → Bool) (floor : C → Kind → ℕ
   abbrev finish_of : (own : DomainState) (number finish : ℕ) (x : Crossing) → slice_get partition.crossings number ≡ Some x → IsFinish stepped plan x.parent finish
       → IsTrueWordOf stepped events partition plan.comps.value x.target own number (Exact finish)
   finish_of own number finish x h f = record { crossing = x; there = h; target = refl; sound = f; says = finish_says (word_at own.known number) finish }
+
+  abbrev bound_of : (own : DomainState) (number bound : ℕ) (x : Crossing) → slice_get partition.crossings number ≡ Some x → IsBoundOf stepped plan x bound → SaysAsMuch (word_at own.known number) (Bound bound)
+      → IsTrueWordOf stepped events partition plan.comps.value x.target own number (Bound bound)
+  bound_of own number bound x h l says = record { crossing = x; there = h; target = refl; sound = l; says = says }
 
   pub may_tell : (vs : List (DomainValue C)) → AllKeep stepped plan vs → (number : ℕ) (word : Word) (target : ℕ) (v : DomainValue C) → slice_get vs target ≡ Some v
       → IsTrueWordOf stepped events partition plan.comps.value target v.own number word → MayTell v.events v.partition v.domain v.own number word
@@ -352,6 +363,54 @@ module _ {C : Type 0} (serves : C → Kind → Bool) (floor : C → Kind → ℕ
       subst (λ (m : ℕ). HasToldCrossing stepped plan vs (set vs m w) number) (sym is)
       (has_told vs k number finish x (get_or vs x.target d) w h f there (subst (λ (m : ℕ). w ≡ record (get_or vs m d) { own = with_known (get_or vs m d).own number (Exact finish) }) is w_is)
       (let l = slice_get_within partition.crossings number x h in omega (arith, l, wide)))
+
+  -- a bound of the crossing of a number
+
+  module _ (vs : List (DomainValue C)) (k : AllKeep stepped plan vs) (number bound : ℕ) (x : Crossing) (target : ℕ) (d : DomainValue C) (h : slice_get partition.crossings number ≡ Some x) (is : target ≡ x.target) where
+    target_stands : slice_get vs target ≡ Some (get_or vs target d)
+    target_stands = slice_get-get_or vs target d (let l = target_there vs k number x h in omega (arith, l, is))
+
+    pub leads_into : IsInto (get_or vs target d).partition (get_or vs target d).domain number
+    leads_into =
+        let i : IsKept stepped events partition plan.comps.value target (get_or vs target d) = k.each target (get_or vs target d) target_stands in
+        subst (λ (w : DomainValue C). IsInto w.partition w.domain number) (sym i.is) (record { crossing = x; there = h; target = sym is })
+
+    module _ (l : IsBoundOf stepped plan x bound) (before : ℕ) (word : Word) (e : DomainValue C) (word_is : word ≡ word_at (get_or vs target e).own.known number) (was : word ≡ Bound before) (rises : before < bound) where
+      known_is : word_at (get_or vs target d).own.known number ≡ Bound before
+      known_is =
+          let there : slice_get vs target ≡ Some (get_or vs target e) = slice_get-get_or vs target e (slice_get_within vs target (get_or vs target d) target_stands) in
+          ap (λ (v : DomainValue C). word_at v.own.known number) (same_Some (get_or vs target d) (get_or vs target e) (sym target_stands ∙ there)) ∙ (sym word_is ∙ was)
+
+      true_bound : IsTrueWordOf stepped events partition plan.comps.value target (get_or vs target d).own number (Bound bound)
+      true_bound =
+          subst (λ (m : ℕ). IsTrueWordOf stepped events partition plan.comps.value m (get_or vs target d).own number (Bound bound)) (sym is)
+          (bound_of (get_or vs target d).own number bound x h l (bound_says (word_at (get_or vs target d).own.known number) before bound known_is (omega (arith, rises))))
+
+      pub may_tell_bound : MayTell (get_or vs target d).events (get_or vs target d).partition (get_or vs target d).domain (get_or vs target d).own number (Bound bound)
+      may_tell_bound = may_tell vs k number (Bound bound) target (get_or vs target d) target_stands true_bound
+
+      pub bound_told : (w : DomainValue C) → w ≡ record (get_or vs target d) { own = with_known (get_or vs target d).own number (Bound bound) } → HaveLearned stepped plan vs (set vs target w)
+      bound_told w w_is = has_learned vs k number (Bound bound) target (get_or vs target d) w target_stands true_bound w_is
+
+  -- a bound that a domain gives
+  pub kept_bound : (source : ℕ) (v : DomainValue C) → IsKept stepped events partition plan.comps.value source v → (number bound : ℕ) → IsOutOf v.partition v.domain number
+      → ((x : Crossing) → slice_get v.partition.crossings number ≡ Some x → IsBoundAnswer v.events v.partition v.domain v.own x (Some bound))
+      → (x : Crossing) → slice_get partition.crossings number ≡ Some x → IsBoundOf stepped plan x bound
+  kept_bound source v i number bound out answer x h =
+      let o : IsOutOf partition source number = subst (λ (w : DomainValue C). IsOutOf w.partition w.domain number) i.is out in
+      let a : IsBoundAnswer events partition source v.own x (Some bound) =
+      subst (λ (w : DomainValue C). (y : Crossing) → slice_get w.partition.crossings number ≡ Some y → IsBoundAnswer w.events w.partition w.domain w.own y (Some bound)) i.is answer x h
+      in
+      let one : o.crossing ≡ x = same_Some o.crossing x (sym o.there ∙ h) in
+      laws.bounds_hold events partition plan.comps.value can source v.own v.comps x bound i.keeps
+      (record { number = number; there = h; source = ap (λ (z : Crossing). z.source) (sym one) ∙ o.source; unfired = a.unfired; allowed = a.allowed })
+
+  pub gives_bound : (vs : List (DomainValue C)) → AllKeep stepped plan vs → (source : ℕ) (v : DomainValue C) → slice_get vs source ≡ Some v → (number bound : ℕ) → IsOutOf v.partition v.domain number
+      → ((x : Crossing) → slice_get v.partition.crossings number ≡ Some x → IsBoundAnswer v.events v.partition v.domain v.own x (Some bound))
+      → (x : Crossing) → slice_get partition.crossings number ≡ Some x → IsBoundOf stepped plan x bound
+  gives_bound vs k source v there number bound out answer x h =
+      let i : IsKept stepped events partition plan.comps.value source v = k.each source v there in
+      kept_bound source v i number bound out answer x h
 
 pub picked : (p q : Partition) (cs : List Crossing) (number : ℕ) (d : Crossing) → p ≡ q → cs ≡ p.crossings → number < length p.crossings → slice_get q.crossings number ≡ Some (get_or cs number d)
 picked p q cs number d e is l =

@@ -83,6 +83,10 @@ pub record HaveRun {C : Type 0} (stepped : C → Kind → ℕ → C × ℕ) (pla
 abbrev pub IsResolved : {C : Type 0} → List (DomainValue C) → (number : ℕ) → Crossing → Type 0
 IsResolved vs number x = is_exact (word_at (own_in vs x.target).known number) ≡ true
 
+-- the finish of the crossing's parent is no earlier than this bound
+abbrev pub IsBoundOf : {C : Type 0} (stepped : C → Kind → ℕ → C × ℕ) → Plan C → Crossing → (bound : ℕ) → Type 0
+IsBoundOf stepped plan x bound = bound ≤ finish_in (woven stepped plan.graph.value plan.comps.value) x.parent
+
 -- all domains after some were told more
 pub record HaveLearned {C : Type 0} (stepped : C → Kind → ℕ → C × ℕ) (plan : Plan C) (old new : List (DomainValue C)) : Type 0 where
   pub kept : AllKeep stepped plan new

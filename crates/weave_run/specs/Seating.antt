@@ -1,11 +1,11 @@
 -- Domains with their seats at the crossings.
-use Rattle.std.specs.Prelude.{◌≡◌, ◌%◌, ℕ, Bool, true, false, cond, nat_lt, List, length, Some, slice_get, slice_index}
+use Rattle.std.specs.Prelude.{◌≡◌, ◌≤◌, ◌%◌, ◌⊎◌, ℕ, Bool, true, false, cond, max, nat_lt, List, length, Some, slice_get, slice_index}
 use Rattle.atomic_table.specs.Seated.{TableId}
 use Rattle.zs_num.specs.declared.time.Word.{Word}
 use Rattle.zs_num.specs.declared.time.Word.TheVariants.{Bound, Exact}
 use Rattle.component.specs.declared.kind.Kind.{Kind}
 use Rattle.event_graph.specs.declared.fired.Fired.{Fired}
-use Rattle.event_graph.specs.OneListWeave.{is_fired}
+use Rattle.event_graph.specs.OneListWeave.{finish_in, is_fired, woven}
 use Rattle.domain_map.specs.declared.crossing.Crossing.{Crossing}
 use Rattle.crossing.specs.Seats.{Looked, SeatValue, finishes_of, kept_number, sources_of}
 use Rattle.weave_core.specs.DomainCalls.{DomainValue, with_known}
@@ -47,12 +47,19 @@ pub record IsPostSeated {C : Type 0} (stepped : C → Kind → ℕ → C × ℕ)
   pub kept : KeepsToWeave stepped plan post.domain
   pub seated : IsSeated stepped plan table post.domain post.seat
 
--- The seat has written the finish of each event that the domain fired since to the words of all crossings out of it, and
--- has written to no other word.
+-- a word was raised at most, to a bound that isn't past the finish
+pub record WasRaised (finish was is : ℕ) : Type 0 where
+  pub upto : was ≤ is
+  pub bound : (is ≡ was) ⊎ ((bound : ℕ) × ((is ≡ kept_number (Bound bound)) × (bound ≤ finish)))
+
+-- The seat has written the finish of each event that the domain fired since to the words of all crossings out of it. The
+-- words of events that it has yet to fire it has raised at most, and it has written to no other word.
 pub record HasPublishedSince {C : Type 0} (stepped : C → Kind → ℕ → C × ℕ) (plan : Plan C) (old new : Post C) : Type 0 where
   pub finishes : (number finish : ℕ) (x : Crossing) → slice_get plan.parts.value.crossings number ≡ Some x → is_fired old.domain.own.fired x.parent ≡ false → is_fired new.domain.own.fired x.parent ≡ true
       → IsFinish stepped plan x.parent finish → slice_index new.seat.wrote number ≡ kept_number (Exact finish)
-  pub others : (number : ℕ) (x : Crossing) → slice_get plan.parts.value.crossings number ≡ Some x → is_fired new.domain.own.fired x.parent ≡ is_fired old.domain.own.fired x.parent
+  pub raised : (number : ℕ) (x : Crossing) → slice_get plan.parts.value.crossings number ≡ Some x → is_fired new.domain.own.fired x.parent ≡ false
+      → WasRaised (finish_in (woven stepped plan.graph.value plan.comps.value) x.parent) (slice_index old.seat.wrote number) (slice_index new.seat.wrote number)
+  pub others : (number : ℕ) (x : Crossing) → slice_get plan.parts.value.crossings number ≡ Some x → (is_fired old.domain.own.fired x.parent ≡ true) ⊎ (x.source ≡ old.domain.domain → ⊥)
       → slice_index new.seat.wrote number ≡ slice_index old.seat.wrote number
 
 -- after its next event fired, and its finish was published
@@ -79,7 +86,24 @@ pub record HasLooked {C : Type 0} (stepped : C → Kind → ℕ → C × ℕ) (p
   pub told : new.domain ≡ after_finding old.domain number word more
   pub answer : more ≡ says_more bound word
 
--- after a domain looked at words and was told more of them: it fired nothing
+-- The word of a crossing says the bound or more; nothing else was written.
+pub record HasRaisedWord (old new : SeatValue) (number bound : ℕ) : Type 0 where
+  pub crossings_are : new.crossings ≡ old.crossings
+  pub domain_is : new.domain ≡ old.domain
+  pub finishes_are : new.finishes ≡ old.finishes
+  pub sources_are : new.sources ≡ old.sources
+  pub noted : (other : ℕ) → (slice_index new.noted other ≡ slice_index old.noted other) ⊎ (slice_index new.noted other % 2 ≡ 0)
+  pub wide : length new.wrote ≡ length old.wrote
+  pub here : slice_index new.wrote number ≡ max (slice_index old.wrote number) (kept_number (Bound bound))
+  pub others : (other : ℕ) → (other ≡ number → ⊥) → slice_index new.wrote other ≡ slice_index old.wrote other
+
+-- after a domain raised the words of events that it has yet to fire
+pub record HasRaised {C : Type 0} (stepped : C → Kind → ℕ → C × ℕ) (plan : Plan C) (table : TableId) (old new : Post C) : Type 0 where
+  pub domain_is : new.domain ≡ old.domain
+  pub seated : IsSeated stepped plan table new.domain new.seat
+  pub published : HasPublishedSince stepped plan old new
+
+-- after a domain raised words, looked at others, and was told more of them: it fired nothing
 pub record HasLearned {C : Type 0} (stepped : C → Kind → ℕ → C × ℕ) (plan : Plan C) (table : TableId) (old new : Post C) : Type 0 where
   pub can : IsPostSeated stepped plan table new
   pub same : new.domain.domain ≡ old.domain.domain

@@ -10,6 +10,7 @@ mod hiring;
 mod outgoing;
 mod plan;
 mod post;
+mod raise;
 mod rounds;
 mod run;
 mod setup;

@@ -5,10 +5,11 @@ ghost use Rattle.zs_num.specs.declared.time.Key.{Key};
 ghost use Rattle.weave_core.specs.DomainCalls.{IsBlockedBy, MayFire};
 ghost use Rattle.weave_run.specs.Outgoing.{AreOutgoing};
 ghost use Rattle.weave_run.specs.Rounds.{CanWeavePlan, IsFinish};
-ghost use Rattle.weave_run.specs.Seating.{IsPostSeated, HasFiredThere, HasLooked, HasPublished, HasServed, IsSeatOfPlan, MayPublish, says_more as more_than};
+ghost use Rattle.weave_run.specs.Seating.{IsPostSeated, HasFiredThere, HasLearned, HasLooked, HasPublished, HasServed, IsSeatOfPlan, MayPublish, says_more as more_than};
 
 use crate::outgoing::Outgoing;
 use crate::plan::Plan;
+use crate::raise::raise_all;
 use crate::run::fire;
 use component::Component;
 use crossing::{Crossings, DomainSeat};
@@ -26,8 +27,8 @@ pub(crate) struct Post<C: Component> {
 }
 
 /// Fires while the next event may fire, and publishes each finish. Where the domain is blocked it
-/// looks at the word of the crossing that blocks it, and goes on if that says more than what the
-/// domain knows. At most so many fires and looks.
+/// raises the words of its crossings, looks at the word of the crossing that blocks it, and goes on
+/// if that says more than what the domain knows. At most so many fires and looks.
 pub(crate) fn run_beside_others<C: Component, G: Gate>(
     post: &mut Post<C>,
     plan: &Plan<C>,
@@ -44,13 +45,18 @@ pub(crate) fn run_beside_others<C: Component, G: Gate>(
     ensures { HasServed C.stepped plan.now crossings.now post.old post.new }
 {
     laws::domains_keep_to_the_weave::<C>();
+    let mut raises = true;
     for _step in 0..steps {
         match post.domain.next() {
-            Next::Fire { .. } => fire_and_publish(post, plan, outgoing, crossings, worker, gate),
+            Next::Fire { .. } => {
+                fire_and_publish(post, plan, outgoing, crossings, worker, gate);
+                raises = true;
+            }
             Next::Blocked { crossing, bound } => {
-                if !look_again(post, plan, crossings, crossing, bound) {
+                if !raise_and_look(post, plan, crossings, crossing, bound, raises) {
                     return;
                 }
+                raises = false;
             }
             Next::Done => return,
         }
@@ -99,6 +105,28 @@ fn publish_all<C: Component>(
         crossings.publish(seat, link - 1, fired.finish);
         link = outgoing.before[(link - 1) as usize];
     }
+}
+
+/// Raises the words of the domain's crossings where it is to, and looks at the word of the crossing
+/// that blocks it. Answers whether that says more than what the domain knew.
+fn raise_and_look<C: Component>(
+    post: &mut Post<C>,
+    plan: &Plan<C>,
+    crossings: &Crossings,
+    crossing: u32,
+    bound: Cycle,
+    raises: bool,
+) -> bool
+    requires can { CanWeavePlan C.serves C.floor C.stepped C.greatest plan.now }
+    requires post { IsPostSeated C.stepped plan.now crossings.now post.old }
+    requires blocked { IsBlockedBy plan.now.graph.value plan.now.parts.value post.old.domain.domain post.old.domain.own crossing bound }
+    ensures { HasLearned C.stepped plan.now crossings.now post.old post.new }
+{
+    laws::domains_keep_to_the_weave::<C>();
+    if raises {
+        raise_all(post, plan, crossings);
+    }
+    look_again(post, plan, crossings, crossing, bound)
 }
 
 /// Looks at the word of the crossing that blocks the domain at this bound. If it says more, the

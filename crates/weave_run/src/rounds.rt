@@ -12,7 +12,7 @@ use crate::outgoing::Outgoing;
 use crate::plan::Plan;
 use crate::run::run_alone;
 use crate::team::Team;
-use crate::tell::tell_from;
+use crate::tell::{tell_bounds, tell_from};
 use component::Component;
 use domain_map::Parts;
 use std::thread::Threads;
@@ -184,7 +184,8 @@ fn raise_floors<C: Component>(domains: &mut Vec<Domain<C>>, floor: Cycle)
     }
 }
 
-/// Runs all domains in this thread, one after the other. Each then tells the others what it fired.
+/// Runs all domains in this thread, one after the other. Each then tells the others what it fired,
+/// and what it can say of what it will fire.
 fn run_here<C: Component, G: Gate>(
     domains: &mut [Domain<C>],
     plan: &Plan<C>,
@@ -209,7 +210,7 @@ fn run_here<C: Component, G: Gate>(
     }
 }
 
-/// Runs a domain, and tells the others what it fired.
+/// Runs a domain, and tells the others what it fired and what it can say of what it will fire.
 fn run_domain<C: Component, G: Gate>(
     domains: &mut [Domain<C>],
     plan: &Plan<C>,
@@ -232,4 +233,5 @@ fn run_domain<C: Component, G: Gate>(
     let place = domains[index].fired().len();
     run_alone(&mut domains[index], plan, number, worker, gate, steps);
     tell_from(domains, plan, parts, outgoing, number, place);
+    tell_bounds(domains, plan, parts, number);
 }

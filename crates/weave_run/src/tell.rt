@@ -1,12 +1,13 @@
-//! How domains are told the finishes of the parents of their crossings.
+//! How domains are told the finishes of the parents of their crossings, and bounds of these.
 ghost use Rattle.std.specs.Prelude.{◌≡◌, ◌≤◌, ◌<◌, length};
 ghost use Rattle.domain_map.specs.declared.crossing.Crossing.{Crossing};
 ghost use Rattle.std.specs.Prelude.{slice_get, Some};
 ghost use Rattle.weave_run.specs.Outgoing.{AreOutgoing};
-ghost use Rattle.weave_run.specs.Rounds.{AllKeep, CanWeavePlan, HasToldCrossing, HasToldAll, HasToldRest, HasToldRests, IsFinish};
+ghost use Rattle.weave_run.specs.Rounds.{AllKeep, CanWeavePlan, HasToldCrossing, HasToldAll, HasToldRest, HasToldRests, HaveLearned, IsBoundOf, IsFinish};
 
 use crate::outgoing::Outgoing;
 use crate::plan::Plan;
+use crate::raise::MOST_RAISED;
 use component::Component;
 use domain_map::Parts;
 use event_graph::Fired;
@@ -31,6 +32,84 @@ fn tell<C: Component>(
     laws::domains_keep_to_the_weave::<C>();
     let target = parts.crossings()[crossing as usize].target;
     domains[usize::from(target)].look(crossing, Word::Exact(finish));
+}
+
+/// Tells the domain that a crossing leads into a bound of its parent's finish, unless it knows as
+/// much.
+fn tell_bound<C: Component>(
+    domains: &mut [Domain<C>],
+    plan: &Plan<C>,
+    parts: &Parts,
+    crossing: u32,
+    bound: Cycle,
+)
+    requires can { CanWeavePlan C.serves C.floor C.stepped C.greatest plan.now }
+    requires parts { parts.now ≡ plan.now.parts.value }
+    requires kept { AllKeep C.stepped plan.now domains.old }
+    requires there { crossing < length parts.now.crossings }
+    requires bound { (x : Crossing) → slice_get plan.now.parts.value.crossings crossing ≡ Some x → IsBoundOf C.stepped plan.now x bound }
+    ensures { HaveLearned C.stepped plan.now domains.old domains.new }
+{
+    laws::domains_keep_to_the_weave::<C>();
+    let target = usize::from(parts.crossings()[crossing as usize].target);
+    let Word::Bound(before) = domains[target].word(crossing) else {
+        return;
+    };
+    if bound <= before {
+        return;
+    }
+    domains[target].look(crossing, Word::Bound(bound));
+}
+
+/// Tells the other domains what a domain can say of the events that it has yet to fire: the bounds
+/// that it gives of the crossings out of it.
+pub(crate) fn tell_bounds<C: Component>(
+    domains: &mut [Domain<C>],
+    plan: &Plan<C>,
+    parts: &Parts,
+    source: u16,
+)
+    requires can { CanWeavePlan C.serves C.floor C.stepped C.greatest plan.now }
+    requires parts { parts.now ≡ plan.now.parts.value }
+    requires kept { AllKeep C.stepped plan.now domains.old }
+    requires source { source < length domains.old }
+    ensures { HaveLearned C.stepped plan.now domains.old domains.new }
+{
+    let count = domains[usize::from(source)].outgoing().len();
+    if count > MOST_RAISED {
+        return;
+    }
+    for index in 0..count {
+        tell_bound_at(domains, plan, parts, source, index);
+    }
+}
+
+/// Tells the domain that the crossing at a place among those out of a domain leads into the bound
+/// that the latter gives, where the parent has yet to fire.
+fn tell_bound_at<C: Component>(
+    domains: &mut [Domain<C>],
+    plan: &Plan<C>,
+    parts: &Parts,
+    source: u16,
+    index: usize,
+)
+    requires can { CanWeavePlan C.serves C.floor C.stepped C.greatest plan.now }
+    requires parts { parts.now ≡ plan.now.parts.value }
+    requires kept { AllKeep C.stepped plan.now domains.old }
+    requires source { source < length domains.old }
+    ensures { HaveLearned C.stepped plan.now domains.old domains.new }
+{
+    laws::domains_keep_to_the_weave::<C>();
+    let domain = &domains[usize::from(source)];
+    let outgoing = domain.outgoing();
+    if index >= outgoing.len() {
+        return;
+    }
+    let crossing = outgoing[index];
+    let Some(bound) = domain.bound(crossing) else {
+        return;
+    };
+    tell_bound(domains, plan, parts, crossing, bound);
 }
 
 /// Tells the finish of an event by all crossings out of it.

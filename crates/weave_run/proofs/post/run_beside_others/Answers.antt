@@ -1,29 +1,22 @@
 -- It stops where the next event may not fire.
 use Rattle.std.proofs.Common.{◌+◌, sym, ◌∙◌, subst}
-use Rattle.weave_run.specs.Seating.{HasLearned}
-use Rattle.weave_run.proofs.Postings.{HasStepped, blocked_by, blocked_is_no_fire, done_is_no_fire, gone_on_looking, has_served, learned_by_looking, says_as_much, served_by_learning, stepped_by_firing, stepped_by_learning}
+use Rattle.weave_run.proofs.Postings.{HasStepped, blocked_by, blocked_is_no_fire, done_is_no_fire, gone_on_looking, has_served, served_by_learning, stepped_by_firing, stepped_by_learning}
 use Rattle.weave_run.proofs.Tellings.{grows_by_learning, grows_nothing}
-use Rattle.weave_run.proofs.post.run_beside_others.Goals.{in-Fire, in-Blocked+else-not-look_again}
+use Rattle.weave_run.proofs.post.run_beside_others.Goals.{in-Fire, in-Blocked+else-not-raise_and_look}
 use Rattle.weave_run.proofs.post.run_beside_others.Goals as goal
 
-pub look_again-requires-clause-blocked : goal.look_again-requires-clause-blocked
-look_again-requires-clause-blocked g c =
+pub raise_and_look-requires-clause-blocked : goal.raise_and_look-requires-clause-blocked
+raise_and_look-requires-clause-blocked g c =
     blocked_by g.C.Component.serves g.C.Component.floor g.C.Component.stepped g.C.Component.greatest c.domains_keep_to_the_weave.ensures c.args.plan.now c.requires.can c.args.crossings.now c.loop-step.post c.loop-step.invariant.so_far.can c.next.result c.in-Blocked.crossing c.in-Blocked.bound c.in-Blocked.is c.next.ensures
 
-pub returns-then-not-look_again : goal.returns-then-not-look_again
-returns-then-not-look_again g c =
+pub returns-then-not-raise_and_look : goal.returns-then-not-raise_and_look
+returns-then-not-raise_and_look g c =
     let i = c.loop-step.invariant in
-    let learned : HasLearned g.C.Component.stepped c.args.plan.now c.args.crossings.now c.loop-step.post c.look_again.new.post =
-    learned_by_looking g.C.Component.stepped c.args.plan.now c.args.crossings.now c.loop-step.post c.look_again.new.post c.in-Blocked.crossing c.in-Blocked.bound c.look_again.result
-    (says_as_much g.C.Component.serves g.C.Component.floor g.C.Component.stepped g.C.Component.greatest c.domains_keep_to_the_weave.ensures c.args.plan.now c.requires.can c.args.crossings.now c.loop-step.post.domain.own c.loop-step.post.domain.domain c.in-Blocked.crossing c.in-Blocked.bound
-    (blocked_by g.C.Component.serves g.C.Component.floor g.C.Component.stepped g.C.Component.greatest c.domains_keep_to_the_weave.ensures c.args.plan.now c.requires.can c.args.crossings.now c.loop-step.post c.loop-step.invariant.so_far.can c.next.result c.in-Blocked.crossing c.in-Blocked.bound c.in-Blocked.is c.next.ensures))
-    c.look_again.ensures
-    in
-    has_served g.C.Component.serves g.C.Component.floor g.C.Component.stepped g.C.Component.greatest c.domains_keep_to_the_weave.ensures c.args.plan.now c.requires.can c.args.crossings.now c.args.post.now c.look_again.new.post
-    (served_by_learning g.C.Component.stepped c.args.plan.now c.args.crossings.now c.args.post.now c.loop-step.post c.look_again.new.post i.so_far learned)
-    (gone_on_looking g.C.Component.serves g.C.Component.floor g.C.Component.stepped g.C.Component.greatest c.domains_keep_to_the_weave.ensures c.args.plan.now c.requires.can c.args.crossings.now c.args.post.now c.loop-step.post c.look_again.new.post
+    has_served g.C.Component.serves g.C.Component.floor g.C.Component.stepped g.C.Component.greatest c.domains_keep_to_the_weave.ensures c.args.plan.now c.requires.can c.args.crossings.now c.args.post.now c.raise_and_look.new.post
+    (served_by_learning g.C.Component.stepped c.args.plan.now c.args.crossings.now c.args.post.now c.loop-step.post c.raise_and_look.new.post i.so_far c.raise_and_look.ensures)
+    (gone_on_looking g.C.Component.serves g.C.Component.floor g.C.Component.stepped g.C.Component.greatest c.domains_keep_to_the_weave.ensures c.args.plan.now c.requires.can c.args.crossings.now c.args.post.now c.loop-step.post c.raise_and_look.new.post
     c.loop-step._step c.next.result i.so_far i.fresh i.goes c.next.ensures (λ key e. blocked_is_no_fire c.in-Blocked.crossing c.in-Blocked.bound key (sym c.in-Blocked.is ∙ e))
-    (grows_by_learning c.loop-step.post.domain.own c.look_again.new.post.domain.own learned.learns))
+    (grows_by_learning c.loop-step.post.domain.own c.raise_and_look.new.post.domain.own c.raise_and_look.ensures.learns))
 
 pub returns-in-Done : goal.returns-in-Done
 returns-in-Done g c =
@@ -44,14 +37,10 @@ loop-step-preserved g c =
           subst (HasStepped g.C.Component.serves g.C.Component.floor g.C.Component.stepped g.C.Component.greatest c.domains_keep_to_the_weave.ensures c.args.plan.now c.requires.can c.args.crossings.now c.args.post.now (c.loop-step._step + 1)) (sym w.post-is)
           (stepped_by_firing g.C.Component.serves g.C.Component.floor g.C.Component.stepped g.C.Component.greatest c.domains_keep_to_the_weave.ensures c.args.plan.now c.requires.can c.args.crossings.now c.args.post.now c.loop-step.post w.fire_and_publish.new.post
           c.loop-step._step h w.fire_and_publish.ensures)
-      | in-Blocked+else-not-look_again w ↦
+      | in-Blocked+else-not-raise_and_look w ↦
           subst (HasStepped g.C.Component.serves g.C.Component.floor g.C.Component.stepped g.C.Component.greatest c.domains_keep_to_the_weave.ensures c.args.plan.now c.requires.can c.args.crossings.now c.args.post.now (c.loop-step._step + 1)) (sym w.post-is)
-          (stepped_by_learning g.C.Component.serves g.C.Component.floor g.C.Component.stepped g.C.Component.greatest c.domains_keep_to_the_weave.ensures c.args.plan.now c.requires.can c.args.crossings.now c.args.post.now c.loop-step.post w.look_again.new.post
-          c.loop-step._step c.next.result h c.next.ensures (λ key e. blocked_is_no_fire w.in-Blocked.crossing w.in-Blocked.bound key (sym w.in-Blocked.is ∙ e))
-          (learned_by_looking g.C.Component.stepped c.args.plan.now c.args.crossings.now c.loop-step.post w.look_again.new.post w.in-Blocked.crossing w.in-Blocked.bound w.look_again.result
-          (says_as_much g.C.Component.serves g.C.Component.floor g.C.Component.stepped g.C.Component.greatest c.domains_keep_to_the_weave.ensures c.args.plan.now c.requires.can c.args.crossings.now c.loop-step.post.domain.own c.loop-step.post.domain.domain w.in-Blocked.crossing w.in-Blocked.bound
-          (blocked_by g.C.Component.serves g.C.Component.floor g.C.Component.stepped g.C.Component.greatest c.domains_keep_to_the_weave.ensures c.args.plan.now c.requires.can c.args.crossings.now c.loop-step.post c.loop-step.invariant.so_far.can c.next.result w.in-Blocked.crossing w.in-Blocked.bound w.in-Blocked.is c.next.ensures))
-          w.look_again.ensures))
+          (stepped_by_learning g.C.Component.serves g.C.Component.floor g.C.Component.stepped g.C.Component.greatest c.domains_keep_to_the_weave.ensures c.args.plan.now c.requires.can c.args.crossings.now c.args.post.now c.loop-step.post w.raise_and_look.new.post
+          c.loop-step._step c.next.result h c.next.ensures (λ key e. blocked_is_no_fire w.in-Blocked.crossing w.in-Blocked.bound key (sym w.in-Blocked.is ∙ e)) w.raise_and_look.ensures)
     ]
     in
     record { so_far = after.so_far; fresh = after.fresh; goes = after.goes }
