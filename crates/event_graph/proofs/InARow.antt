@@ -1,5 +1,5 @@
 -- The events of a core start in order of their numbers, and so they fire.
-use Rattle.std.proofs.Common.{◌≡◌, ◌+◌, ◌-◌, ◌<◌, ◌≤◌, ◌==◌, ℕ, zero, suc, Bool, true, List, [], ◌∷◌, ◌++◌, length, take, Option, Some, None, ◌⊎◌, inl, inr, get_or, sym, ◌∙◌, ap, subst, refl, arith, max, fold, length-append}
+use Rattle.std.proofs.Common.{◌≡◌, ◌+◌, ◌-◌, ◌<◌, ◌≤◌, ◌==◌, ℕ, zero, suc, Bool, true, List, [], ◌∷◌, ◌++◌, length, map, take, Option, Some, None, ◌⊎◌, inl, inr, get_or, sym, ◌∙◌, ap, subst, refl, arith, max, fold, length-append}
 use Rattle.std.specs.Prelude.{IsSome, IsTrue}
 use Rattle.std.specs.List.{enumerate_from, filter, slice_get}
 use Rattle.std.specs.Option.{option_map}
@@ -16,14 +16,14 @@ use Rattle.event_graph.specs.EventGraph.{access_events, all_events, earlier_pare
 use Rattle.event_graph.specs.Expansion.{OnlyFirstStartsAlone, ParentsComeBefore}
 use Rattle.event_graph.specs.Firing.{FiresNext}
 use Rattle.event_graph.specs.Fits.{GraphFits}
-use Rattle.event_graph.specs.InARow.{AreInARow}
+use Rattle.event_graph.specs.InARow.{AreInARow, BeginTogether}
 use Rattle.event_graph.specs.Numbered.{IsNumbered}
 use Rattle.event_graph.specs.OneListWeave.{FiredEvent, after_firings, after_parent, finish_in, finish_or_zero, is_fired, start_of, weave, find_fired}
 use Rattle.event_graph.specs.OrderByCore.{accesses_of}
 use Rattle.event_graph.specs.Renumbering.{renumbered, renumbered_parent}
 use Rattle.event_graph.proofs.AllEvents.{all_numbered, joined, mapped_some, of_access, numbered_more}
 use Rattle.event_graph.proofs.ByCore.{Shows, is_of_core, shows_own}
-use Rattle.event_graph.proofs.Lists.{in_contains, In, at_in, get_within, in_at, read_is, from_filter, get_some, in_push, in_push_cases}
+use Rattle.event_graph.proofs.Lists.{in_contains, In, at_in, get_within, in_at, in_left, in_map, read_is, from_filter, get_some, in_push, in_push_cases}
 use Rattle.event_graph.proofs.BetweenFirings.{HoldsBetween, IsLawful, IsServed}
 use Rattle.event_graph.proofs.ByComponent.{Before}
 use Rattle.event_graph.proofs.FindFired.{after_first, after_second, fired_in, is_fired_from_in}
@@ -33,6 +33,7 @@ use Rattle.event_graph.proofs.LastByCore.{last_at_end}
 use Rattle.event_graph.proofs.Least.{same_event}
 use Rattle.event_graph.proofs.Once.{first_of_weave}
 use Rattle.event_graph.proofs.Order.{before_cases}
+use Rattle.event_graph.proofs.Placed.{here}
 use Rattle.event_graph.proofs.Ranks.{at_rank, rank, rank_rises}
 use Rattle.event_graph.proofs.Solves.{held, timed_at}
 use Rattle.event_graph.proofs.Theorem.{served_from}
@@ -44,20 +45,46 @@ use Rattle.std.proofs.lemmas.List.FromFn.{length-enumerate_from}
 abbrev pub Waits : ℕ → Option Parent → Type 0
 Waits number parent = (p : Parent) × ((parent ≡ Some p) × (p.number ≡ number))
 
--- the event waits for this one, or begins with it
-abbrev pub Follows : Event → Event → Type 0
-Follows d e = Waits d.number e.first ⊎ (Waits d.number e.second ⊎ ((e.first ≡ d.first) × ((e.second ≡ d.second) × (e.min_start ≡ d.min_start))))
+-- they begin together
+abbrev pub Same : Event → Event → Type 0
+Same d e = (e.first ≡ d.first) × ((e.second ≡ d.second) × (e.min_start ≡ d.min_start))
+
+-- one of the events, which begins with this one or is this one, is waited for
+abbrev pub WaitsBeside : List Event → Event → Event → Type 0
+WaitsBeside events d e = (c : Event) × (In c events × (Same d c × (Waits c.number e.first ⊎ Waits c.number e.second)))
+
+-- the event begins with this one, or waits for it or for one that began with it
+abbrev pub Follows : List Event → Event → Event → Type 0
+Follows events d e = Same d e ⊎ WaitsBeside events d e
 
 waits_renumbered : (to : ℕ → ℕ) (number : ℕ) (o : Option Parent) → Waits number o → Waits (to number) (renumbered_parent to o)
 waits_renumbered to number o w = (record { number = to w.0.number; delay = w.0.delay }, (ap (renumbered_parent to) w.1.0, ap to w.1.1))
 
-follows_renumbered : (to : ℕ → ℕ) (d e : Event) → Follows d e → Follows (renumbered to d) (renumbered to e)
-follows_renumbered to d e f = elim f [
-  | inl w ↦ inl (waits_renumbered to d.number e.first w)
-  | inr g ↦ elim g [
-    | inl w ↦ inr (inl (waits_renumbered to d.number e.second w))
-    | inr same ↦ inr (inr (ap (renumbered_parent to) same.0, (ap (renumbered_parent to) same.1.0, same.1.1)))
-  ]
+same_renumbered : (to : ℕ → ℕ) (d e : Event) → Same d e → Same (renumbered to d) (renumbered to e)
+same_renumbered to d e same = (ap (renumbered_parent to) same.0, (ap (renumbered_parent to) same.1.0, same.1.1))
+
+follows_renumbered : (to : ℕ → ℕ) (events : List Event) (d e : Event) → Follows events d e → Follows (map (renumbered to) events) (renumbered to d) (renumbered to e)
+follows_renumbered to events d e f = elim f [
+  | inl same ↦ inl (same_renumbered to d e same)
+  | inr w ↦ inr (
+    renumbered to w.0,
+    (
+      in_map (renumbered to) w.0 events w.1.0,
+      (
+        same_renumbered to d w.0 w.1.1.0,
+        elim w.1.1.1 [
+          | inl first ↦ inl (waits_renumbered to w.0.number e.first first)
+          | inr second ↦ inr (waits_renumbered to w.0.number e.second second)
+        ],
+      ),
+    ),
+  )
+]
+
+follows_among_more : (events more : List Event) (d e : Event) → Follows events d e → Follows (events ++ more) d e
+follows_among_more events more d e f = elim f [
+  | inl same ↦ inl same
+  | inr w ↦ inr (w.0, (in_left w.0 events more w.1.0, w.1.1))
 ]
 
 plus_none : (r : ℕ) → r + 0 ≡ r
@@ -75,7 +102,7 @@ k_one k = omega arith
 
 -- each event follows the one before it
 abbrev pub Row : List Event → Type 0
-Row events = (j : ℕ) (d e : Event) → slice_get events j ≡ Some d → slice_get events (j + 1) ≡ Some e → Follows d e
+Row events = (j : ℕ) (d e : Event) → slice_get events j ≡ Some d → slice_get events (j + 1) ≡ Some e → Follows events d e
 
 module _ (pieces : Entry → List Piece) (law : (e : Entry) → ParentsComeBefore (pieces e)) (alone : (e : Entry) → OnlyFirstStartsAlone (pieces e)) (row : (e : Entry) → AreInARow (pieces e)) (core : ℕ) where
   abbrev grown : List Event → Entry → List Event
@@ -92,37 +119,54 @@ module _ (pieces : Entry → List Piece) (law : (e : Entry) → ParentsComeBefor
   later_first before e k p =
       cond-false (suc k == 0) (earlier_parent before e.core (zero_load_start e p)) (inner_parent (length before) e (pieces e) (zero_load_start e p) p.first) (eqb-suc-zero k)
 
-  -- where it begins with the one before it, that is not the first
-  begins_with : (before : List Event) (e : Entry) (k : ℕ) (p q : Piece) → slice_get (pieces e) k ≡ Some p → slice_get (pieces e) (suc k) ≡ Some q
-      → (q.first ≡ p.first) × ((q.second ≡ p.second) × (q.offset ≡ p.offset)) → Follows (event_at before e (pieces e) k p) (event_at before e (pieces e) (suc k) q)
-  begins_with before e zero p q pk qk same =
+  -- the first of an access begins with no other
+  alone_first : (e : Entry) (k : ℕ) (p q : Piece) → slice_get (pieces e) 0 ≡ Some p → slice_get (pieces e) (suc k) ≡ Some q → q.first ≡ p.first → q.second ≡ p.second → ⊥
+  alone_first e k p q pk qk first second =
       let none : (p.first ≡ None) × (p.second ≡ None) = (alone e).alone p pk in
-      absurd (elim ((alone e).waits 1 q (omega arith) qk) [
-        | inl some ↦ no_parent q.first (same.0 ∙ none.0) some
-        | inr some ↦ no_parent q.second (same.1.0 ∙ none.1) some
-      ])
-  begins_with before e (suc k) p q pk qk same =
-      let start : zero_load_start e q ≡ zero_load_start e p = ap (λ n. e.start + n) same.1.1 in
-      inr (inr (
-        later_first before e (suc k) q
+      elim ((alone e).waits (suc k) q (omega arith) qk) [
+        | inl some ↦ no_parent q.first (first ∙ none.0) some
+        | inr some ↦ no_parent q.second (second ∙ none.1) some
+      ]
+
+  -- events of an access begin together where their pieces do
+  together : (before : List Event) (e : Entry) (i k : ℕ) (p q : Piece) → slice_get (pieces e) i ≡ Some p → slice_get (pieces e) k ≡ Some q → BeginTogether p q
+      → Same (event_at before e (pieces e) i p) (event_at before e (pieces e) k q)
+  together before e zero zero p q pi qk same =
+      let one : p ≡ q = cc in
+      subst (λ x. Same (event_at before e (pieces e) 0 p) (event_at before e (pieces e) 0 x)) one (refl, (refl, refl))
+  together before e zero (suc k) p q pi qk same = absurd (alone_first e k p q pi qk same.0 same.1.0)
+  together before e (suc i) zero p q pi qk same = absurd (alone_first e i q p qk pi (sym same.0) (sym same.1.0))
+  together before e (suc i) (suc k) p q pi qk same =
+      let start : zero_load_start e q ≡ zero_load_start e p = ap (λ n. e.start + n) same.1.1 in (
+        later_first before e k q
             ∙ (ap (λ n. inner_parent (length before) e (pieces e) n q.first) start
-            ∙ (ap (inner_parent (length before) e (pieces e) (zero_load_start e p)) same.0 ∙ sym (later_first before e k p))),
+            ∙ (ap (inner_parent (length before) e (pieces e) (zero_load_start e p)) same.0 ∙ sym (later_first before e i p))),
         (
           ap (λ n. inner_parent (length before) e (pieces e) n q.second) start ∙ ap (inner_parent (length before) e (pieces e) (zero_load_start e p)) same.1.0,
           start,
         ),
-      ))
+      )
 
   -- within an access
   inner_follows : (before : List Event) (e : Entry) (k : ℕ) (p q : Piece) → slice_get (pieces e) k ≡ Some p → slice_get (pieces e) (suc k) ≡ Some q
-      → Follows (event_at before e (pieces e) k p) (event_at before e (pieces e) (suc k) q)
+      → Follows (grown before e) (event_at before e (pieces e) k p) (event_at before e (pieces e) (suc k) q)
   inner_follows before e k p q pk qk =
       elim (row e k p q pk (ap (slice_get (pieces e)) (k_one k) ∙ qk)) [
-        | inl w ↦ elim w [
-          | inl first ↦ inl (subst (λ o. Waits (length before + k) o) (sym (later_first before e k q)) (inner_waits (length before) e (zero_load_start e q) k q.first p first pk))
-          | inr second ↦ inr (inl (inner_waits (length before) e (zero_load_start e q) k q.second p second pk))
-        ]
-        | inr same ↦ begins_with before e k p q pk qk same
+        | inl same ↦ inl (together before e k (suc k) p q pk qk same)
+        | inr w ↦ inr (
+          event_at before e (pieces e) w.place w.one,
+          (
+            at_in (event_at before e (pieces e) w.place w.one) (grown before e) (length before + w.place) (here pieces before e w.place w.one w.there),
+            (
+              together before e k w.place p w.one pk w.there w.together,
+              elim w.waits [
+                | inl first ↦
+                    inl (subst (λ o. Waits (length before + w.place) o) (sym (later_first before e k q)) (inner_waits (length before) e (zero_load_start e q) w.place q.first w.one first w.there))
+                | inr second ↦ inr (inner_waits (length before) e (zero_load_start e q) w.place q.second w.one second w.there)
+              ],
+            ),
+          ),
+        )
       ]
 
   -- the last event is critical for the core
@@ -133,7 +177,7 @@ module _ (pieces : Entry → List Piece) (law : (e : Entry) → ParentsComeBefor
   as_many own e = length-map (enumerate_from 0 (pieces e)) (λ at. event_at own e (pieces e) at.0 at.1) ∙ length-enumerate_from 0 (pieces e)
 
   row_new : (own : List Event) (e : Entry) → IsNumbered own → (e.core == core) ≡ true → Ends own → (j : ℕ) (d f : Event) → slice_get (grown own e) j ≡ Some d
-      → (m : ℕ) → j + 1 ≡ length own + m → (q : Piece) × (slice_get (pieces e) m ≡ Some q) × (f ≡ event_at own e (pieces e) m q) → Follows d f
+      → (m : ℕ) → j + 1 ≡ length own + m → (q : Piece) × (slice_get (pieces e) m ≡ Some q) × (f ≡ event_at own e (pieces e) m q) → Follows (grown own e) d f
   row_new own e numbered is ends j d f dj zero place made =
       elim (joined own (access_events own e (pieces e)) j d dj) [
         | inl old ↦
@@ -144,7 +188,9 @@ module _ (pieces : Entry → List Piece) (law : (e : Entry) → ParentsComeBefor
             ap (λ c. option_map (λ (x : Event). parent_of x.number x.min_finish (zero_load_start e made.0)) (last_critical c own)) (eqb-true e.core core is)
             ∙ ap (option_map (λ (x : Event). parent_of x.number x.min_finish (zero_load_start e made.0))) last
             in
-            subst (Follows d) (sym made.2) (inl (parent_of d.number d.min_finish (zero_load_start e made.0), (first, refl)))
+            let waits : Waits d.number (event_at own e (pieces e) 0 made.0).first = (parent_of d.number d.min_finish (zero_load_start e made.0), (first, refl)) in
+            let among : In d (grown own e) = at_in d (grown own e) j dj in
+            subst (Follows (grown own e) d) (sym made.2) (inr (d, (among, ((refl, (refl, refl)), inl waits))))
         | inr new ↦ absurd (omega (arith, place, new.1))
       ]
   row_new own e numbered is ends j d f dj (suc k) place made =
@@ -155,14 +201,14 @@ module _ (pieces : Entry → List Piece) (law : (e : Entry) → ParentsComeBefor
             let one : new.0 ≡ k = omega (arith, place, new.1) in
             let at : slice_get (pieces e) k ≡ Some earlier.0 = subst (λ i. slice_get (pieces e) i ≡ Some earlier.0) one earlier.1 in
             let was : d ≡ event_at own e (pieces e) k earlier.0 = subst (λ i. d ≡ event_at own e (pieces e) i earlier.0) one earlier.2 in
-            subst (λ x. Follows x f) (sym was) (subst (Follows (event_at own e (pieces e) k earlier.0)) (sym made.2) (inner_follows own e k earlier.0 made.0 at made.1))
+            subst (λ x. Follows (grown own e) x f) (sym was) (subst (Follows (grown own e) (event_at own e (pieces e) k earlier.0)) (sym made.2) (inner_follows own e k earlier.0 made.0 at made.1))
       ]
 
   row_more : (own : List Event) (e : Entry) → IsNumbered own → (e.core == core) ≡ true → Row own → Ends own → Row (grown own e)
   row_more own e numbered is so_far ends j d f dj fj =
       elim (joined own (access_events own e (pieces e)) (j + 1) f fj) [
         | inl old ↦ elim (joined own (access_events own e (pieces e)) j d dj) [
-          | inl older ↦ so_far j d f older old
+          | inl older ↦ follows_among_more own (access_events own e (pieces e)) d f (so_far j d f older old)
           | inr new ↦ absurd (omega (arith, slice_get_within own (j + 1) f old, new.1))
         ]
         | inr new ↦ row_new own e numbered is ends j d f dj new.0 new.1 (of_access own e (pieces e) new.0 f new.2)
@@ -203,7 +249,11 @@ module _ (pieces : Entry → List Piece) (law : (e : Entry) → ParentsComeBefor
       let b : (x : Event) × (slice_get own (j + 1) ≡ Some x) × (e ≡ renumbered s.0 x) =
       mapped_some (renumbered s.0) (slice_get own (j + 1)) e (sym (slice_get-map (renumbered s.0) own (j + 1)) ∙ (ap (λ xs. slice_get xs (j + 1)) (sym s.1) ∙ ej))
       in
-      subst (λ x. Follows x e) (sym a.2) (subst (Follows (renumbered s.0 a.0)) (sym b.2) (follows_renumbered s.0 a.0 b.0 (row_own entries j a.0 b.0 a.1 b.1)))
+      let shown : List Event = filter (is_of_core core) (all_events pieces entries) in
+      let follows : Follows shown (renumbered s.0 a.0) (renumbered s.0 b.0) =
+      subst (λ xs. Follows xs (renumbered s.0 a.0) (renumbered s.0 b.0)) (sym s.1) (follows_renumbered s.0 own a.0 b.0 (row_own entries j a.0 b.0 a.1 b.1))
+      in
+      subst (λ x. Follows shown x e) (sym a.2) (subst (Follows shown (renumbered s.0 a.0)) (sym b.2) follows)
 
 -- ---- starts and firings
 
@@ -246,19 +296,23 @@ module _ {C : Type 0} (serves : C → Kind → Bool) (floor : C → Kind → ℕ
   waits_start d e m p number after =
       omega (arith, finishes_after d m, after, ap (finish_in all_fired_events) number)
 
-  follows_start : (d e : Event) → In d events → Follows d e → begins d ≤ begins e
-  follows_start d e m f = elim f [
-    | inl w ↦ waits_start d e m w.0 w.1.1 (after_first (finish_in all_fired_events) e w.0 w.1.0)
-    | inr g ↦ elim g [
-      | inl w ↦ waits_start d e m w.0 w.1.1 (after_second (finish_in all_fired_events) e w.0 w.1.0)
-      | inr same ↦
-          let one : begins e ≡ begins d =
-          ap (λ o. max e.min_start (max (after_parent (finish_in all_fired_events) o) (after_parent (finish_in all_fired_events) e.second))) same.0
-          ∙ (ap (λ o. max e.min_start (max (after_parent (finish_in all_fired_events) d.first) (after_parent (finish_in all_fired_events) o))) same.1.0
-          ∙ ap (λ n. max n (max (after_parent (finish_in all_fired_events) d.first) (after_parent (finish_in all_fired_events) d.second))) same.1.1)
-          in
-          omega (arith, one)
-    ]
+  same_start : (d e : Event) → Same d e → begins e ≡ begins d
+  same_start d e same =
+      ap (λ o. max e.min_start (max (after_parent (finish_in all_fired_events) o) (after_parent (finish_in all_fired_events) e.second))) same.0
+      ∙ (ap (λ o. max e.min_start (max (after_parent (finish_in all_fired_events) d.first) (after_parent (finish_in all_fired_events) o))) same.1.0
+      ∙ ap (λ n. max n (max (after_parent (finish_in all_fired_events) d.first) (after_parent (finish_in all_fired_events) d.second))) same.1.1)
+
+  follows_start : (own : List Event) (d e : Event) → ((c : Event) → In c own → In c events) → Follows own d e → begins d ≤ begins e
+  follows_start own d e among f = elim f [
+    | inl same ↦ omega (arith, same_start d e same)
+    | inr w ↦
+        let c : Event = w.0 in
+        let m : In c events = among c w.1.0 in
+        let later : begins c ≤ begins e = elim w.1.1.1 [
+          | inl first ↦ waits_start c e m first.0 first.1.1 (after_first (finish_in all_fired_events) e first.0 first.1.0)
+          | inr second ↦ waits_start c e m second.0 second.1.1 (after_second (finish_in all_fired_events) e second.0 second.1.0)
+        ] in
+        omega (arith, same_start d c w.1.1.0, later)
   ]
 
   in_core : (core r : ℕ) (d : Event) → slice_get (filter (is_of_core core) events) r ≡ Some d → In d events
@@ -274,7 +328,7 @@ module _ {C : Type 0} (serves : C → Kind → Bool) (floor : C → Kind → ℕ
       let f : (f : Event) × (slice_get (filter (is_of_core core) events) (r + k) ≡ Some f) =
       get_some (filter (is_of_core core) events) (r + k) (omega (arith, get_within (filter (is_of_core core) events) (r + k + 1) e next))
       in
-      omega (arith, starts_rise core r k d f.0 dr f.1, follows_start f.0 e (in_core core (r + k) f.0 f.1) (row_among pieces law alone row core entries (r + k) f.0 e f.1 next))
+      omega (arith, starts_rise core r k d f.0 dr f.1, follows_start (filter (is_of_core core) events) f.0 e (λ c m. (from_filter (is_of_core core) c events m).0) (row_among pieces law alone row core entries (r + k) f.0 e f.1 next))
 
   -- of two events of one core, the one with the lesser number starts no later
   start_in_order : (d e : Event) → In d events → In e events → d.core ≡ e.core → d.number < e.number → begins d ≤ begins e

@@ -11,7 +11,7 @@ use Rattle.zs_num.specs.declared.entry.Outcome.TheVariants.{Hit, Upgrade, L2 as 
 use Rattle.event_graph.specs.declared.event.Event.{Event}
 use Rattle.event_graph.specs.declared.piece.Piece.{Piece}
 use Rattle.event_graph.specs.EventGraph.{access_events, all_events, event_at}
-use Rattle.event_graph.specs.InARow.{AreInARow, WaitsFor}
+use Rattle.event_graph.specs.InARow.{AreInARow, BeginTogether, WaitsFor, WaitsForOneWith}
 use Rattle.event_graph.specs.PlainTiming.{pieces_by}
 use Rattle.event_graph.specs.MadeOfPieces.{IsMadeAlike, is_some_piece, with_events}
 
@@ -61,22 +61,36 @@ module _ (pieces : Entry → List Piece) where
     made_alike entries = all_alike [] entries
 
 -- ---- the pieces of `Plain` are in a row
+
+-- what waits for the one before it is in a row with it
+waits_for_it : (pieces : List Piece) (k : ℕ) (p q : Piece) → slice_get pieces k ≡ Some p → WaitsFor k q → WaitsForOneWith pieces p q
+waits_for_it pieces k p q here waits = record {
+  place = k;
+  one = p;
+  there = here;
+  together = (refl, (refl, refl));
+  waits = waits;
+}
+
 module _ (head : ℕ) (l2 : L2) (controllers : Controllers) (bank controller : ℕ) where
   row_at : (o : Outcome) (k : ℕ) (p q : Piece) → slice_get (pieces_by head l2 controllers bank controller o) k ≡ Some p → slice_get (pieces_by head l2 controllers bank controller o) (suc k) ≡ Some q
-      → WaitsFor k q ⊎ ((q.first ≡ p.first) × ((q.second ≡ p.second) × (q.offset ≡ p.offset)))
+      → BeginTogether p q ⊎ WaitsFor k q
   row_at Hit k p q a b = absurd (cc)
   row_at (Upgrade o) k p q a b = absurd (cc)
   row_at (FoundInL2 o) k p q a b = absurd (cc)
-  row_at (Miss false) zero p q a b = inl (inl (cc))
-  row_at (Miss false) (suc zero) p q a b = inl (inl (cc))
+  row_at (Miss false) zero p q a b = inr (inl (cc))
+  row_at (Miss false) (suc zero) p q a b = inr (inl (cc))
   row_at (Miss false) (suc (suc k)) p q a b = absurd (cc)
-  row_at (Miss true) zero p q a b = inl (inl (cc))
-  row_at (Miss true) (suc zero) p q a b = inr (cc, (cc, cc))
-  row_at (Miss true) (suc (suc zero)) p q a b = inl (inr (cc))
+  row_at (Miss true) zero p q a b = inr (inl (cc))
+  row_at (Miss true) (suc zero) p q a b = inl (cc, (cc, cc))
+  row_at (Miss true) (suc (suc zero)) p q a b = inr (inr (cc))
   row_at (Miss true) (suc (suc (suc k))) p q a b = absurd (cc)
 
   next_place : (k : ℕ) → k + 1 ≡ suc k
   next_place k = omega arith
 
   pub plain_row : (o : Outcome) → AreInARow (pieces_by head l2 controllers bank controller o)
-  plain_row o k p q a b = row_at o k p q a (subst (λ i. slice_get (pieces_by head l2 controllers bank controller o) i ≡ Some q) (next_place k) b)
+  plain_row o k p q a b = elim (row_at o k p q a (subst (λ i. slice_get (pieces_by head l2 controllers bank controller o) i ≡ Some q) (next_place k) b)) [
+    | inl together ↦ inl together
+    | inr waits ↦ inr (waits_for_it (pieces_by head l2 controllers bank controller o) k p q a waits)
+  ]

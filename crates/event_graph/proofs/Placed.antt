@@ -52,7 +52,8 @@ module _ (pieces : Entry → List Piece) where
   stays before (e ∷ entries) i ev at =
       stays (grown before e) entries i ev (slice_get_left before (access_events before e (pieces e)) i (get_within before i ev at) ∙ at)
 
-  here : (before : List Event) (e : Entry) (k : ℕ) (p : Piece) → slice_get (pieces e) k ≡ Some p → slice_get (grown before e) (length before + k) ≡ Some (event_at before e (pieces e) k p)
+  -- an event of an access stands at its place behind the events before
+  pub here : (before : List Event) (e : Entry) (k : ℕ) (p : Piece) → slice_get (pieces e) k ≡ Some p → slice_get (grown before e) (length before + k) ≡ Some (event_at before e (pieces e) k p)
   here before e k p at =
       let made : ℕ × Piece → Event = λ x. event_at before e (pieces e) x.0 x.1 in
       slice_get_right before (access_events before e (pieces e)) k
