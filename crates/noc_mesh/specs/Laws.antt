@@ -32,10 +32,10 @@ NetGraphsFit = (m : Machine) (comps : List Comp) (entries : List Entry) → IsMa
 abbrev pub NetAccessesHaveFewEvents : Type 0
 NetAccessesHaveFewEvents = (path : AccessPath) (entries : List Entry) → IsAccessPath path → sum_by (λ e. length (net_pieces path e)) entries ≤ 60 * length entries
 
--- Without a mesh they stand in the order in which they can start. (On a mesh the first hop behind a read waits for the
--- read, and the write beside it stands between them.)
+-- They stand in the order in which they can start. (On a mesh the first hop behind a read waits for the read, and not for the
+-- write that stands between them and begins with it.)
 abbrev pub NetEventsAreInARow : Type 0
-NetEventsAreInARow = (path : AccessPath) (e : Entry) → path.mesh ≡ None → AreInARow (net_pieces path e)
+NetEventsAreInARow = (path : AccessPath) (e : Entry) → AreInARow (net_pieces path e)
 
 -- there is one at least, unless the core's own cache answers
 abbrev pub NetAccessesBeyondHitsHaveEvents : Type 0

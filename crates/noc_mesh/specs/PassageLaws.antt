@@ -15,7 +15,7 @@ use Rattle.noc_mesh.specs.Passages.{Passage, piece_of, begun, goes, passes, writ
 pub at_push : {X : Type 0} (xs : List X) (y : X) (k : ℕ) → k ≡ length xs → slice_get (xs ++ y ∷ []) k ≡ Some y
 at_push xs y k is = slice_get_right xs (y ∷ []) k 0 (omega arith)
 
-pushed : {X : Type 0} (xs : List X) (y : X) (k : ℕ) (z : X) → slice_get (xs ++ y ∷ []) k ≡ Some z → ((k < length xs) × (slice_get xs k ≡ Some z)) ⊎ ((k ≡ length xs) × (y ≡ z))
+pub pushed : {X : Type 0} (xs : List X) (y : X) (k : ℕ) (z : X) → slice_get (xs ++ y ∷ []) k ≡ Some z → ((k < length xs) × (slice_get xs k ≡ Some z)) ⊎ ((k ≡ length xs) × (y ≡ z))
 pushed xs y k z is =
     elim (cases_lt k (length xs)) [
       | inl within ↦ inl (within, sym (slice_get_left xs (y ∷ []) k within) ∙ is)

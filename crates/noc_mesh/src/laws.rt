@@ -40,7 +40,7 @@ pub fn events_are_of_lines_and_outcomes()
     ensures { EventsAreOfLinesAndOutcomes }
 {}
 
-/// Without a mesh the events of an access stand in the order in which they can start.
+/// The events of an access stand in the order in which they can start.
 pub fn net_events_are_in_a_row()
     ensures { NetEventsAreInARow }
 {}

@@ -2,4 +2,4 @@ use Rattle.noc_mesh.proofs.InARow.{net_row}
 use Rattle.noc_mesh.proofs.laws.net_events_are_in_a_row.Goals as goal
 
 pub returns : goal.returns
-returns c = λ path e none. net_row path.l1 path.l1i path.l2 path.controllers e path.mesh path.dram e.outcome none
+returns c = λ path e. net_row path e
