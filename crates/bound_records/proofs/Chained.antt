@@ -111,13 +111,13 @@ module _ (machine : Machine) (s : RecorderState) (known : All (λ e. e.core < ma
       let at : slice_get (kept_lists s) core ≡ option_map (λ es. map f (beyond_hits es)) (slice_get s.lists core) = slice_get-map (λ es. map f (beyond_hits es)) s.lists core in
       own_at f core (λ x. refl) (slice_get s.lists core) (own core) i e (ap (λ (o : Option (List Entry)). slice_get (option_map_or (λ (l : List Entry). l) o []) i) (sym at) ∙ here)
 
-  chained : machine.mesh ≡ None → AreChained (net_pieces path) (kept_lists s)
-  chained none = record {
+  chained : AreChained (net_pieces path) (kept_lists s)
+  chained = record {
     own = own_kept;
     some = λ i e here. at_place (λ x. 0 < length (net_pieces path x)) (one_after_other (kept_lists s)) i e (in_a_row (λ x. 0 < length (net_pieces path x)) some_pieces) here;
     few = λ i e here. (let one = few_pieces e in omega (arith, one));
     early = λ i e here. (let soon : e.start ≤ 2 ^ 34 = at_place (λ x. x.start ≤ 2 ^ 34) (one_after_other (kept_lists s)) i e starts_kept here in omega (arith, soon));
-    row = λ e. row path e none;
+    row = row path;
   }
 
   recorded_reach : All (IsInReach s.begin s.base) (recorded_order (entries_of s))

@@ -1,5 +1,5 @@
 -- The bound phase of an interval by one worker.
-use Rattle.std.specs.Prelude.{◌≡◌, ℕ, ◌-◌, ◌*◌, ◌^◌, ◌<◌, ◌≤◌, List, length, map, slice_get, Some, None, Ok, All}
+use Rattle.std.specs.Prelude.{◌≡◌, ℕ, ◌-◌, ◌*◌, ◌^◌, ◌<◌, ◌≤◌, List, length, map, slice_get, Some, Ok, All}
 use Rattle.zs_num.specs.declared.entry.Entry.{Entry}
 use Rattle.elf_load.specs.MemoryImage.{MemoryImage}
 use Rattle.machine_desc.specs.declared.machine.Machine.{Machine}
@@ -51,8 +51,8 @@ pub record HaveRun (machine : Machine) (image : MemoryImage) (end : ℕ) (cores 
 
 -- What the weave can take of it: the accesses that make events, as their records give them back.
 pub record AreKept (machine : Machine) (r : RecorderState) : Type 0 where
-  -- each core has its own, and their events are chains, where no event beside a read lets hops pass it
-  pub chained : machine.mesh ≡ None → AreChained (net_pieces (path_of machine)) (kept_lists r)
+  -- each core has its own, and their events are chains
+  pub chained : AreChained (net_pieces (path_of machine)) (kept_lists r)
   pub many : length (kept_lists r) ≡ machine.cores
   pub cores : All (λ e. e.core < machine.cores) (one_after_other (kept_lists r))
   pub starts : All (λ e. e.start ≤ 2 ^ 34) (one_after_other (kept_lists r))
