@@ -1,0 +1,3 @@
+pub mod NextKeys
+pub mod StartKeys
+pub mod Minima
