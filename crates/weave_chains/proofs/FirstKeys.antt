@@ -19,7 +19,7 @@ use Rattle.weave_chains.specs.Chains.{AreReady, IsChain, IsReady, next_number, s
 use Rattle.weave_chains.specs.GraphFacts.{ArePlaced}
 use Rattle.weave_chains.specs.Rounds.{AreInChains}
 use Rattle.weave_chains.proofs.Begun.{begins}
-use Rattle.weave_chains.proofs.Rounds.{from_put, in_put, one_more}
+use Rattle.weave_chains.proofs.Rounds.{from_put, in_put}
 use Rattle.weave_chains.proofs.Starts.{start_is}
 
 -- the first chains have their keys
@@ -27,7 +27,6 @@ pub record HaveKeys (pieces : Entry → List Piece) (entries : List Entry) (chai
   pub each : (k : Key) → Contains keys k → IsReady pieces entries [] chains k
   pub early : (k : Key) → Contains keys k → k.number < cores
   pub all : (core : ℕ) (c : ChainState) → core < cores → slice_get chains core ≡ Some c → c.access < c.end → (k : Key) × (Contains keys k × (k.number ≡ core))
-  pub few : length keys ≤ cores
 
 module _ (pieces : Entry → List Piece) (entries : List Entry) (placed : ArePlaced pieces entries) (chains : List ChainState) (chained : AreInChains pieces entries (length chains)) (fresh : AreFresh entries chains) where
   pub is_chain : (core : ℕ) (c : ChainState) → slice_get chains core ≡ Some c → IsChain pieces entries [] core c
@@ -48,7 +47,6 @@ module _ (pieces : Entry → List Piece) (entries : List Entry) (placed : ArePla
             let one : c ≡ d = cc in
             absurd (omega (arith, over, on, ap (λ (z : ChainState). z.access) one, ap (λ (z : ChainState). z.end) one))
       ];
-      few = omega (arith, have.few);
     }
 
     module _ (on : c.access < c.end) where
@@ -73,9 +71,6 @@ module _ (pieces : Entry → List Piece) (entries : List Entry) (placed : ArePla
             abbrev pub key : Key
             key = record { start = start; number = core }
 
-            pub is_new : ¬ Contains keys key
-            is_new m = omega (arith, have.early key m)
-
             pub one_key_more : HaveKeys pieces entries chains (core + 1) (put key keys)
             one_key_more = record {
               each = λ k m. elim (from_put key k keys (in_contains k (put key keys) m)) [
@@ -92,7 +87,6 @@ module _ (pieces : Entry → List Piece) (entries : List Entry) (placed : ArePla
                     (k.0, (contains_in k.0 (put key keys) (in_put key k.0 keys (inr (in_contains k.0 keys k.1.0))), k.1.1))
                 | inr not ↦ (key, (contains_in key (put key keys) (in_put key key keys (inl refl)), omega (arith, not, below)))
               ];
-              few = omega (arith, have.few, one_more key keys);
             }
 
 pub no_keys : (pieces : Entry → List Piece) (entries : List Entry) (chains : List ChainState) → HaveKeys pieces entries chains 0 []
@@ -100,12 +94,10 @@ no_keys pieces entries chains = record {
   each = λ k m. absurd (omega (arith, m.1));
   early = λ k m. absurd (omega (arith, m.1));
   all = λ core c below at on. absurd (omega (arith, below));
-  few = omega arith;
 }
 
-pub all_keys : (pieces : Entry → List Piece) (entries : List Entry) (chains : List ChainState) (cores : ℕ) (keys : List Key) → length chains ≤ cores → cores ≤ length chains → HaveKeys pieces entries chains cores keys → AreReady pieces entries [] chains keys
-all_keys pieces entries chains cores keys long short have = record {
+pub all_keys : (pieces : Entry → List Piece) (entries : List Entry) (chains : List ChainState) (cores : ℕ) (keys : List Key) → length chains ≤ cores → HaveKeys pieces entries chains cores keys → AreReady pieces entries [] chains keys
+all_keys pieces entries chains cores keys long have = record {
   each = have.each;
   all = λ core c at on. have.all core c (omega (arith, long, slice_get_within chains core c at)) at on;
-  few = omega (arith, have.few, short);
 }

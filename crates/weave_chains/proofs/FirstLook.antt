@@ -1,5 +1,5 @@
 -- The first event of a chain is looked up.
-use Rattle.std.proofs.Common.{◌≡◌, ◌+◌, ◌<◌, ◌≤◌, ◌^◌, ℕ, zero, suc, Bool, List, [], ◌∷◌, length, Option, None, Some, All, inl, inr, sym, ◌∙◌, ap, subst, refl, arith}
+use Rattle.std.proofs.Common.{◌≡◌, ◌+◌, ◌-◌, ◌<◌, ◌≤◌, ◌^◌, ℕ, zero, suc, Bool, List, [], ◌∷◌, length, Option, None, Some, All, inl, inr, sym, ◌∙◌, ap, subst, refl, arith}
 use Rattle.std.specs.Prelude.{IfNone, IfSome, slice_set}
 use Rattle.std.specs.List.{Contains, slice_get}
 use Rattle.std.proofs.lemmas.Bool.{cases_eq, cases_lt}
@@ -7,6 +7,7 @@ use Rattle.std.proofs.lemmas.Option.{slice_get_within}
 use Rattle.component.specs.declared.kind.Kind.{Kind}
 use Rattle.zs_num.specs.declared.entry.Entry.{Entry}
 use Rattle.zs_num.specs.declared.time.Key.{Key}
+use Rattle.core_queue.specs.NextKeys.{with_next}
 use Rattle.event_graph.specs.declared.event.Event.{Event}
 use Rattle.event_graph.specs.declared.piece.Piece.{Piece}
 use Rattle.event_graph.specs.EventGraph.{all_events}
@@ -21,7 +22,7 @@ use Rattle.weave_chains.specs.GraphFacts.{ArePlaced}
 use Rattle.weave_chains.specs.Listed.{list_of, number_before, one_after_other}
 use Rattle.weave_chains.specs.NextEvents.{AreOfLists, IsAhead, IsAtAccess, IsNext}
 use Rattle.weave_chains.specs.RoundLaws.{RoundLaws}
-use Rattle.weave_chains.specs.Rounds.{AreChained, AreInChains, with_next}
+use Rattle.weave_chains.specs.Rounds.{AreChained, AreInChains}
 use Rattle.weave_chains.specs.States.{ChainState, state_of, states}
 use Rattle.weave_chains.proofs.AllFired.{none_fired}
 use Rattle.weave_chains.proofs.FirstKeys as F
@@ -57,7 +58,7 @@ module _ {C : Type 0} {serves : C → Kind → Bool} {floor : C → Kind → ℕ
   -- all have been looked up
   pub all_ready : (cores : ℕ) (keys : List Key) → cores ≡ length begun → HaveKeys pieces entries (states lists begun) cores keys → AreReady pieces entries [] (states lists begun) keys
   all_ready cores keys is have =
-      F.all_keys pieces entries (states lists begun) cores keys (omega (arith, is, states_length lists begun)) (omega (arith, is, states_length lists begun)) have
+      F.all_keys pieces entries (states lists begun) cores keys (omega (arith, is, states_length lists begun)) have
 
   module _ (chains : List Chain) (same : states lists chains ≡ states lists begun) (of : AreOfLists lists chains) (core : ℕ) (keys : List Key) (have : HaveKeys pieces entries (states lists begun) core keys)
       (chain : Chain) (there : slice_get chains core ≡ Some chain) where
@@ -75,6 +76,9 @@ module _ {C : Type 0} {serves : C → Kind → Bool} {floor : C → Kind → ℕ
 
     pub end_is : chain.end ≡ length list
     end_is = of core chain there
+
+    pub no_other : (k : Key) → Contains keys k → k.number ≡ core → ⊥
+    no_other k m same = omega (arith, have.early k m, same)
 
     pub none_known : (n : Next) → 0 < chain.place → chain.next ≡ Some n → IsAtAccess pieces list chain n
     none_known n deep known = absurd (omega (arith, deep, at_first))
@@ -106,8 +110,8 @@ module _ {C : Type 0} {serves : C → Kind → Bool} {floor : C → Kind → ℕ
             (omega (arith, chained.early c.access e e_in_all, laws.short e chain.place p p_there), omega (arith, s, then))
 
         module _ (start : ℕ) (start_now : start ≡ start_by (state_of 0 chain) (e.start + p.offset) p) where
-          key_is_new : ¬ Contains keys (record { start = start; number = core })
-          key_is_new = F.is_new pieces entries placed (states lists begun) in_list fresh core keys have c c_there on e e_in_all p p_there (laws.parents e) start start_now
+          start_soon : (first : List C) → GraphFits serves floor (all_events pieces entries) first → AreSmallSteps stepped greatest (all_events pieces entries) first → start < 2 ^ 64 - 1
+          start_soon first fits small = omega (arith, start_now, (start_small first fits small).1)
 
           key_more : HaveKeys pieces entries (states lists begun) (core + 1) (with_next core (Some start) keys)
           key_more = F.one_key_more pieces entries placed (states lists begun) in_list fresh core keys have c c_there on e e_in_all p p_there (laws.parents e) start start_now
@@ -124,12 +128,10 @@ module _ {C : Type 0} {serves : C → Kind → Bool} {floor : C → Kind → ℕ
             ap (slice_get (pieces z.entry)) (sym (ap (λ (y : Chain). y.place) after_is)) ∙ f.piece,
           )
 
-      pub can_push : (start : Option ℕ) → IfSome start Starts → (space : ℕ) → length begun ≤ space → core < length begun
-          → IfSome start (λ s. (length keys < space) × ¬ Contains keys (record { start = s; number = core }))
-      can_push None h space enough within = h
-      can_push (Some start) h space enough within =
-          let z = z_is h.0 h.1 in
-          (omega (arith, have.few, enough, within), key_is_new h.0.entry z.0 h.0.piece z.1 start h.2)
+      pub starts_soon : (first : List C) → GraphFits serves floor (all_events pieces entries) first → AreSmallSteps stepped greatest (all_events pieces entries) first
+          → (start : Option ℕ) → IfSome start Starts → IfSome start (λ s. s < 2 ^ 64 - 1)
+      starts_soon first fits small None h = h
+      starts_soon first fits small (Some start) h = let z = z_is h.0 h.1 in start_soon h.0.entry z.0 h.0.piece z.1 start h.2 first fits small
 
       pub keys_after : (start : Option ℕ) → IfNone start (chain.end ≤ chain.access) → IfSome start Starts → HaveKeys pieces entries (states lists begun) (core + 1) (with_next core start keys)
       keys_after None end some = F.passed_over pieces entries placed (states lists begun) in_list fresh core keys have c c_there (omega (arith, end))

@@ -8,6 +8,7 @@ use Rattle.component.specs.declared.kind.Kind.{Kind}
 use Rattle.zs_num.specs.declared.entry.Entry.{Entry}
 use Rattle.zs_num.specs.declared.time.Key.{Key}
 use Rattle.domain_queue.specs.SortedKeys.{IsAscending, put}
+use Rattle.core_queue.specs.NextKeys.{with_next}
 use Rattle.event_graph.specs.declared.event.Event.{Event}
 use Rattle.event_graph.specs.declared.piece.Piece.{Piece}
 use Rattle.event_graph.specs.EventGraph.{all_events, event_at}
@@ -27,7 +28,7 @@ use Rattle.weave_chains.specs.GraphFacts.{ArePlaced}
 use Rattle.weave_chains.specs.Listed.{list_of, number_before, one_after_other}
 use Rattle.weave_chains.specs.NextEvents.{AreAhead, IsAhead, IsAtAccess, IsNext}
 use Rattle.weave_chains.specs.RoundLaws.{RoundLaws}
-use Rattle.weave_chains.specs.Rounds.{AreChained, AreInChains, HasCome, IsWeaving, with_next}
+use Rattle.weave_chains.specs.Rounds.{AreChained, AreInChains, HasCome, IsWeaving}
 use Rattle.weave_chains.specs.States.{ChainState, state_of, states}
 use Rattle.weave_chains.specs.Tallies.{HasFiredNext, served_of}
 use Rattle.weave_chains.proofs.Answered.{all_fired}
@@ -37,7 +38,6 @@ use Rattle.weave_chains.proofs.Moved.{own_chain, set_other, set_same}
 use Rattle.weave_chains.proofs.Popped as popped
 use Rattle.weave_chains.proofs.Popped.{contained, get_some}
 use Rattle.weave_chains.proofs.Rounds as rounds
-use Rattle.weave_chains.proofs.Rounds.{one_fewer}
 use Rattle.weave_chains.proofs.Starts.{start_is}
 use Rattle.weave_chains.proofs.States.{state_at, states_length, states_set}
 
@@ -60,11 +60,6 @@ same_access : (count : ℕ) (done : Ended) (c : ChainState) → 0 < (moved_on co
 same_access count done c =
     cond_both (nat_lt (c.place + 1) count) (record c { place = c.place + 1; ended = slice_set c.ended c.place done }) (record c { access = c.access + 1; place = 0; last = Some done })
     (λ (z : ChainState). 0 < z.place → z.access ≡ c.access) (λ t more. refl) (λ f more. absurd (omega (arith, more)))
-
--- nothing is taken from an empty queue
-pub still_empty : (ks : List Key) → slice_get ks 0 ≡ None → ks ≡ drop 1 ks
-still_empty [] none = refl
-still_empty (k ∷ ks) none = absurd (cc)
 
 -- what a round begins with
 pub record IsRound {C : Type 0} (serves : C → Kind → Bool) (floor : C → Kind → ℕ) (stepped : C → Kind → ℕ → C × ℕ) (greatest : C → Kind → ℕ → ℕ) (pieces : Entry → List Piece)
@@ -187,10 +182,6 @@ module _ {C : Type 0} {serves : C → Kind → Bool} {floor : C → Kind → ℕ
 
     abbrev before : ℕ
     before = number_before lists k.number
-
-    -- there is room for another key
-    room : (space : ℕ) → length chains ≤ space → length (drop 1 keys) < space
-    room space enough = omega (arith, one_fewer keys, slice_get_within keys 0 k at, come.way.ready.few, states_length lists chains, enough)
 
     -- the chain as the program reads it
     module _ (chain : Chain) (chain_there : slice_get chains k.number ≡ Some chain) where
@@ -375,9 +366,8 @@ module _ {C : Type 0} {serves : C → Kind → Bool} {floor : C → Kind → ℕ
                   (omega (arith, r.chained.early m.access other o_in_all, r.laws.short other moved.place q q_there), omega (arith, s, starts_then))
 
               module _ (start : ℕ) (start_now : start ≡ start_by (state_of 0 moved) (other.start + q.offset) q) where
-                key_is_new : ¬ Contains (drop 1 keys) (record { start = start; number = k.number })
-                key_is_new =
-                    rounds.is_new pieces entries placed fired step.0 (unfired more) (x_at more) all keys r.ascending come.way k at is_k.0 c c_there c_next m is_moved moved_on' later later_there start (start_now ∙ starts_then)
+                start_soon : start < 2 ^ 64 - 1
+                start_soon = omega (arith, start_now, start_small.1)
 
                 comes_on : HasCome stepped pieces entries first (suc n) (slice_set all k.number m) (put (record { start = start; number = k.number }) (drop 1 keys)) (slice_set comps p.component left)
                 comes_on = record {
@@ -408,11 +398,9 @@ module _ {C : Type 0} {serves : C → Kind → Bool} {floor : C → Kind → ℕ
               states_now : states lists (slice_set chains k.number after) ≡ slice_set all k.number m
               states_now = states_set lists chains k.number after ∙ ap (slice_set all k.number) (ap (state_of before) same)
 
-              pub can_push : (start : Option ℕ) → IfSome start Starts → (space : ℕ) → length chains ≤ space
-                  → IfSome start (λ s. (length (drop 1 keys) < space) × ¬ Contains (drop 1 keys) (record { start = s; number = k.number }))
-              can_push None h space enough = h
-              can_push (Some start) h space enough =
-                  let z = z_is h.0 h.1 in (room space enough, key_is_new h.0.entry z.0 h.0.piece z.1 start h.2)
+              pub starts_soon : (start : Option ℕ) → IfSome start Starts → IfSome start (λ s. s < 2 ^ 64 - 1)
+              starts_soon None h = h
+              starts_soon (Some start) h = let z = z_is h.0 h.1 in start_soon h.0.entry z.0 h.0.piece z.1 start h.2
 
               comes : (start : Option ℕ) → IfNone start (moved.end ≤ moved.access) → IfSome start Starts
                   → HasCome stepped pieces entries first (suc n) (slice_set all k.number m) (with_next k.number start (drop 1 keys)) (slice_set comps p.component left)

@@ -1,10 +1,9 @@
 -- The queue after the next event has fired.
-use Rattle.std.proofs.Common.{◌≡◌, ◌+◌, ◌-◌, ◌<◌, ◌≤◌, ℕ, zero, suc, true, false, List, [], ◌∷◌, ◌++◌, length, drop, get_or, Some, ◌⊎◌, inl, inr, sym, ◌∙◌, ap, subst, refl, arith}
+use Rattle.std.proofs.Common.{◌≡◌, ◌<◌, ◌≤◌, ℕ, zero, suc, true, false, List, [], ◌∷◌, ◌++◌, length, drop, get_or, Some, ◌⊎◌, inl, inr, sym, ◌∙◌, ap, subst, refl, arith}
 use Rattle.std.specs.Prelude.{IsTrue, slice_set}
 use Rattle.std.specs.List.{Contains, slice_get}
 use Rattle.std.proofs.lemmas.Bool.{cases_eq, cond_both}
 use Rattle.std.proofs.lemmas.Option.{get_or_from_slice_get, slice_get-get_or, slice_get_within}
-use Rattle.std.proofs.lemmas.List.{length-set}
 use Rattle.zs_num.specs.declared.entry.Entry.{Entry}
 use Rattle.zs_num.specs.declared.time.Key.{Key}
 use Rattle.zs_num.specs.KeyOrder.{is_key_before}
@@ -37,20 +36,9 @@ in_put k z (y ∷ ys) h =
     (λ _. elim h [ inl e ↦ inl e | inr n ↦ inr n ])
     (λ _. elim h [ inl e ↦ inr (in_put k z ys (inl e)) | inr n ↦ elim n [ inl e ↦ inl e | inr o ↦ inr (in_put k z ys (inr o)) ] ])
 
-pub one_more : (k : Key) (ks : List Key) → length (put k ks) ≡ length ks + 1
-one_more k [] = refl
-one_more k (y ∷ ys) =
-    cond_both (is_key_before k y) (k ∷ y ∷ ys) (y ∷ put k ys) (λ zs. length zs ≡ length (y ∷ ys) + 1)
-    (λ _. omega arith)
-    (λ _. omega (arith, one_more k ys))
-
 behind_first : (ks : List Key) (i : ℕ) → slice_get (drop 1 ks) i ≡ slice_get ks (suc i)
 behind_first [] i = refl
 behind_first (k ∷ ks) i = refl
-
-pub one_fewer : (ks : List Key) → length (drop 1 ks) ≡ length ks - 1
-one_fewer [] = refl
-one_fewer (k ∷ ks) = omega arith
 
 module _ (pieces : Entry → List Piece) (entries : List Entry) (placed : ArePlaced pieces entries) (fired : List FiredEvent) (x : FiredEvent)
     (unfired : is_fired fired x.event.number ≡ false) (x_at : slice_get (all_events pieces entries) x.event.number ≡ Some x.event)
@@ -141,12 +129,6 @@ module _ (pieces : Entry → List Piece) (entries : List Entry) (placed : ArePla
       let zi : slice_get keys z.1.0.0 ≡ Some z.0 = slice_get-get_or keys z.1.0.0 z.0 z.1.0.1 ∙ ap Some z.1.0.2 in
       key_at core other z.0 z.1.1 z.1.0.0 zi
 
-  some_key : 0 < length keys
-  some_key = slice_get_within keys 0 k first
-
-  pub as_many_chains : length chains_after ≡ length chains
-  as_many_chains = length-set chains k.number moved
-
   -- where the chain is over
   pub over : moved.end ≤ moved.access → AreUnderWay pieces entries after chains_after (drop 1 keys)
   over done = record {
@@ -160,7 +142,6 @@ module _ (pieces : Entry → List Piece) (entries : List Entry) (placed : ArePla
             absurd (omega (arith, done, on, ap (λ (z : ChainState). z.access) one, ap (λ (z : ChainState). z.end) one))
         | inr other ↦ other_key core d other (sym (set_other chains k.number core moved other) ∙ at) on
       ];
-      few = omega (arith, way.ready.few, one_fewer keys, as_many_chains);
     };
   }
 
@@ -168,9 +149,6 @@ module _ (pieces : Entry → List Piece) (entries : List Entry) (placed : ArePla
   module _ (on : moved.access < moved.end) (e : Event) (e_at : slice_get events (next_number pieces entries moved) ≡ Some e) (start : ℕ) (start_is : start ≡ start_of (finish_in after) e) where
     abbrev pub new_key : Key
     new_key = record { start = start; number = k.number }
-
-    pub is_new : ¬ Contains (drop 1 keys) new_key
-    is_new m = (behind new_key m).1 refl
 
     new_ready : IsReady pieces entries after chains_after new_key
     new_ready = record {
@@ -196,6 +174,5 @@ module _ (pieces : Entry → List Piece) (entries : List Entry) (placed : ArePla
               let z : (z : Key) × (Contains (drop 1 keys) z × (z.number ≡ core)) = other_key core d other (sym (set_other chains k.number core moved other) ∙ at) on' in
               (z.0, (contains_in z.0 (put new_key (drop 1 keys)) (in_put new_key z.0 (drop 1 keys) (inr (in_contains z.0 (drop 1 keys) z.1.0))), z.1.1))
         ];
-        few = omega (arith, way.ready.few, one_fewer keys, as_many_chains, one_more new_key (drop 1 keys), some_key);
       };
     }

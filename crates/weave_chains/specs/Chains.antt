@@ -59,7 +59,6 @@ module _ (pieces : Entry → List Piece) (entries : List Entry) where
   pub record AreReady (fired : List FiredEvent) (chains : List ChainState) (keys : List Key) : Type 0 where
     pub each : (k : Key) → Contains keys k → IsReady fired chains k
     pub all : (core : ℕ) (c : ChainState) → slice_get chains core ≡ Some c → c.access < c.end → (k : Key) × (Contains keys k × (k.number ≡ core))
-    pub few : length keys ≤ length chains
 
   -- these have fired, and nothing else
   pub record AreUnderWay (fired : List FiredEvent) (chains : List ChainState) (keys : List Key) : Type 0 where

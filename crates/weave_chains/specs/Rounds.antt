@@ -1,9 +1,8 @@
 -- The weave after so many rounds.
-use Rattle.std.specs.Prelude.{Bool, ◌≡◌, ◌<◌, ◌≤◌, ◌^◌, ℕ, List, length, Option, None, Some, slice_get}
+use Rattle.std.specs.Prelude.{Bool, ◌≡◌, ◌<◌, ◌≤◌, ◌^◌, ℕ, List, length, Some, slice_get}
 use Rattle.component.specs.declared.kind.Kind.{Kind}
 use Rattle.zs_num.specs.declared.entry.Entry.{Entry}
 use Rattle.zs_num.specs.declared.time.Key.{Key}
-use Rattle.domain_queue.specs.SortedKeys.{put}
 use Rattle.event_graph.specs.declared.piece.Piece.{Piece}
 use Rattle.event_graph.specs.EventGraph.{all_events}
 use Rattle.event_graph.specs.Fits.{GraphFits}
@@ -39,11 +38,6 @@ pub record AreChained (pieces : Entry → List Piece) (lists : List (List Entry)
 pub record HasCome {C : Type 0} (stepped : C → Kind → ℕ → C × ℕ) (pieces : Entry → List Piece) (entries : List Entry) (first : List C) (firings : ℕ) (chains : List ChainState) (keys : List Key) (comps : List C) : Type 0 where
   pub way : AreUnderWay pieces entries (after_firings stepped (all_events pieces entries) first firings).fired chains keys
   pub comps_are : comps ≡ (after_firings stepped (all_events pieces entries) first firings).comps
-
--- the keys of a queue with that of a core's next event, where it has one, which starts then
-abbrev pub with_next : (core : ℕ) → (start : Option ℕ) → List Key → List Key
-with_next core None keys = keys
-with_next core (Some start) keys = put (record { start = start; number = core }) keys
 
 -- so many events of accesses that are listed core by core have fired, from components on that serve them all
 pub record IsWeaving {C : Type 0} (serves : C → Kind → Bool) (floor : C → Kind → ℕ) (stepped : C → Kind → ℕ → C × ℕ) (greatest : C → Kind → ℕ → ℕ) (pieces : Entry → List Piece) (lists : List (List Entry)) (first : List C) (firings : ℕ) (chains : List Chain) (keys : List Key) (comps : List C) : Type 0 where

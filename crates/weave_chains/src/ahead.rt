@@ -1,18 +1,19 @@
 //! How a chain learns of the event that fires next, which is then ready.
-ghost use Rattle.std.specs.Prelude.{◌≡◌, ◌+◌, ◌<◌, ◌≤◌, ◌^◌, Some, slice_get, length, IfNone, IfSome};
+ghost use Rattle.std.specs.Prelude.{◌≡◌, ◌≢◌, ◌+◌, ◌-◌, ◌<◌, ◌≤◌, ◌^◌, Some, slice_get, length, IfNone, IfSome};
 ghost use Rattle.std.specs.List.{Contains};
 ghost use Rattle.zs_num.specs.declared.entry.Entry.{Entry};
+ghost use Rattle.zs_num.specs.declared.time.Key.{Key};
+ghost use Rattle.core_queue.specs.NextKeys.{with_next};
 ghost use Rattle.event_graph.specs.declared.piece.Piece.{Piece};
 ghost use Rattle.weave_chains.specs.declared.chain.Next.{Next};
 ghost use Rattle.weave_chains.specs.Chains.{start_by};
 ghost use Rattle.weave_chains.specs.Listed.{list_of};
 ghost use Rattle.weave_chains.specs.NextEvents.{IsAhead, IsAtAccess, IsNext};
-ghost use Rattle.weave_chains.specs.Rounds.{with_next};
 ghost use Rattle.weave_chains.specs.States.{state_of};
 
 use crate::accesses::Accesses;
 use crate::chain::{Chain, Next};
-use domain_queue::Ready;
+use core_queue::CoreQueue;
 use event_graph::Expand;
 use zs_num::{Cycle, Key};
 
@@ -68,8 +69,10 @@ fn next_of<X: Expand, A: Accesses>(expand: &X, accesses: &A, core: u16, chain: &
 }
 
 /// A core's next event is ready, which starts at this cycle. None where the chain is over.
-pub(crate) fn push_next(ready: &mut Ready, core: u32, start: Option<Cycle>)
-    requires { IfSome start (λ at. (length ready.old.keys < ready.old.room) × (¬ Contains ready.old.keys (record { start = at; number = core }))) }
+pub(crate) fn push_next(ready: &mut CoreQueue, core: u32, start: Option<Cycle>)
+    requires core { core < ready.old.room }
+    requires soon { IfSome start (λ at. at < 2 ^ 64 - 1) }
+    requires new { (k : Key) → Contains ready.old.keys k → k.number ≢ core }
     ensures { ready.new ≡ record ready.old { keys = with_next core start ready.old.keys } }
 {
     if let Some(start) = start {

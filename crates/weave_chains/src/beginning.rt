@@ -15,7 +15,7 @@ use crate::ahead::{look_ahead, push_next};
 use crate::chain::Chain;
 use crate::laws::rounds_rest_on_these;
 use component::Component;
-use domain_queue::Ready;
+use core_queue::CoreQueue;
 use event_graph::Expand;
 use std::alloc::Global;
 use zs_num::NoMemory;
@@ -40,7 +40,7 @@ pub(crate) fn first_keys<X: Expand, A: Accesses, C: Component>(
     expand: &X,
     accesses: &A,
     chains: &mut [Chain],
-    ready: &mut Ready,
+    ready: &mut CoreQueue,
 )
     requires chained { AreChained (X.pieces expand.now) (A.lists accesses.now) }
     requires count { length chains.old ≡ length (A.lists accesses.now) }

@@ -10,13 +10,13 @@ ghost use Rattle.weave_chains.specs.Tallies.{AreSmall, AreTallied, HasFiredNext,
 ghost use Rattle.weave_chains.specs.Ties.{HaveTie};
 
 use crate::accesses::Accesses;
-use crate::ahead::{look_ahead, push_next};
+use crate::ahead::look_ahead;
 use crate::chain::{Chain, Ended, Next};
 use crate::laws::rounds_rest_on_these;
 use crate::passing::Passing;
 use crate::tally::{Served, Tally};
 use component::Component;
-use domain_queue::Ready;
+use core_queue::CoreQueue;
 use event_graph::Expand;
 use zs_host::Gate;
 use zs_num::Cycle;
@@ -67,13 +67,12 @@ fn fire_next<X: Expand, C: Component, A: Accesses, G: Gate>(
     expand: &X,
     accesses: &A,
     chains: &mut [Chain],
-    ready: &mut Ready,
+    ready: &mut CoreQueue,
     comps: &mut [C],
     before: &Passing<G>,
 ) -> Option<Served>
     requires chained { AreChained (X.pieces expand.now) (A.lists accesses.now) }
     requires count { length chains.old ≡ length (A.lists accesses.now) }
-    requires room { length chains.old ≤ ready.old.room }
     requires ahead { AreAhead (X.pieces expand.now) (A.lists accesses.now) chains.old }
     requires come { (first : List C) × (n : ℕ) × IsWeaving C.serves C.floor C.stepped C.greatest (X.pieces expand.now) (A.lists accesses.now) first n chains.old ready.old.keys comps.old }
     ensures fired { IfSome result (λ served. (first : List C) (n : ℕ) → IsWeaving C.serves C.floor C.stepped C.greatest (X.pieces expand.now) (A.lists accesses.now) first n chains.old ready.old.keys comps.old → HasFiredNext C.stepped (X.pieces expand.now) (one_after_other (A.lists accesses.now)) first n (states (A.lists accesses.now) chains.new) ready.new.keys comps.new served) }
@@ -82,10 +81,9 @@ fn fire_next<X: Expand, C: Component, A: Accesses, G: Gate>(
     ensures component { IfSome result (λ served. served.component < length comps.old) }
     ensures count { length chains.new ≡ length chains.old }
     ensures comps { length comps.new ≡ length comps.old }
-    ensures room { ready.new.room ≡ ready.old.room }
 {
     rounds_rest_on_these::<X, C>();
-    let Some(key) = ready.pop() else {
+    let Some(key) = ready.first() else {
         return None;
     };
     let chain = &mut chains[key.number as usize];
@@ -96,7 +94,7 @@ fn fire_next<X: Expand, C: Component, A: Accesses, G: Gate>(
     let outcome = serve(comps, next, key.start, before);
     chain.move_on(count, outcome.ended);
     let start = look_ahead(expand, accesses, outcome.served.core, chain);
-    push_next(ready, key.number, start);
+    ready.settle(key.number, start);
     Some(outcome.served)
 }
 
@@ -106,7 +104,7 @@ pub(crate) fn fire_all<X: Expand, C: Component, A: Accesses, G: Gate>(
     expand: &X,
     accesses: &A,
     chains: &mut [Chain],
-    ready: &mut Ready,
+    ready: &mut CoreQueue,
     comps: &mut [C],
     tallies: &mut [Tally],
     before: &Passing<G>,
@@ -114,7 +112,6 @@ pub(crate) fn fire_all<X: Expand, C: Component, A: Accesses, G: Gate>(
     requires chained { AreChained (X.pieces expand.now) (A.lists accesses.now) }
     requires few { length (all_events (X.pieces expand.now) (one_after_other (A.lists accesses.now))) < 2 ^ 32 - 1 }
     requires count { length chains.old ≡ length (A.lists accesses.now) }
-    requires room { length chains.old ≤ ready.old.room }
     requires ahead { AreAhead (X.pieces expand.now) (A.lists accesses.now) chains.old }
     requires tallies { length tallies.old ≡ length comps.old }
     requires nothing { AreTallied [] tallies.old }

@@ -23,7 +23,7 @@ use crate::kept::{Kept, copy_of};
 use crate::passing::Passing;
 use crate::tally::{NO_TALLY, Tally};
 use component::{Component, Comps};
-use domain_queue::Ready;
+use core_queue::CoreQueue;
 use event_graph::{Expand, laws};
 use feedback::Delays;
 use stats::CompCount;
@@ -147,7 +147,7 @@ fn weave_over<X: Expand, C: Component, A: Accesses, G: Gate>(
     laws::times_so_far_become_the_weaves::<C>();
     laws::weave_is_the_one_solution::<C>();
     laws::cores_wait_for_the_same_event();
-    let mut ready = Ready::with_room(alloc, u32::from(accesses.cores()))?;
+    let mut ready = CoreQueue::with_room(alloc, accesses.cores())?;
     first_keys::<X, A, C>(expand, accesses, chains, &mut ready);
     let Some(events) = fire_all(expand, accesses, chains, &mut ready, comps, tallies, before) else {
         return Ok(None);

@@ -1,13 +1,14 @@
 -- One chain more.
-use Rattle.std.proofs.Common.{◌≡◌, ◌+◌, ◌<◌, ◌≤◌, ◌∙◌, ℕ, Some, [], sym, ap, subst, refl, arith, get_or, length, None}
-use Rattle.std.specs.Prelude.{IfSome, slice_set}
+use Rattle.std.proofs.Common.{◌≡◌, ◌+◌, ◌<◌, ◌∙◌, ℕ, Some, [], sym, ap, subst, refl, arith, get_or, length, None}
+use Rattle.std.specs.Prelude.{slice_set}
 use Rattle.std.specs.List.{Contains, slice_get}
 use Rattle.std.proofs.lemmas.List.{length-set}
 use Rattle.std.proofs.lemmas.Option.{slice_get-get_or, slice_get_within}
+use Rattle.zs_num.specs.declared.time.Key.{Key}
+use Rattle.core_queue.specs.NextKeys.{with_next}
 use Rattle.weave_chains.specs.declared.chain.Chain.{Chain}
 use Rattle.weave_chains.specs.Listed.{one_after_other}
 use Rattle.weave_chains.specs.NextEvents.{AreOfLists}
-use Rattle.weave_chains.specs.Rounds.{with_next}
 use Rattle.weave_chains.specs.States.{states}
 use Rattle.weave_chains.proofs.FirstKeys.{HaveKeys}
 use Rattle.weave_chains.proofs.FirstLook as F
@@ -83,8 +84,21 @@ look_ahead-start-requires-clause-soon g c =
     let at : slice_get c.loop-core.chains core ≡ Some chain = subst (λ k. slice_get c.loop-core.chains k ≡ Some chain) place (slice_get-get_or c.loop-core.chains c.from.result (record { access = 0; end = 0; place = 0; ended = []; last = None; next = None }) (omega (arith, within, place))) in
     λ e p e_there p_there. F.start_small laws c.requires.chained c.args.chains.now c.requires.count c.requires.fresh c.loop-core.chains i.same i.of core c.loop-core.ready.keys i.keys chain at e e_there p p_there c.requires.begins.0 c.requires.begins.1 c.requires.begins.2
 
-pub push_next-requires : goal.push_next-requires
-push_next-requires g c =
+pub push_next-requires-clause-core : goal.push_next-requires-clause-core
+push_next-requires-clause-core g c =
+    let lists = g.A.Accesses.lists c.args.accesses.now in
+    let pieces = g.X.Expand.pieces c.args.expand.now in
+    let laws = c.rounds_rest_on_these.ensures c.args.expand.now in
+    let i = c.loop-core.invariant in
+    let core : ℕ = c.loop-core.core in
+    let within : core < length c.loop-core.chains = omega (arith, c.loop-core-test.true, c.cores-cores.ensures, c.requires.count, i.count) in
+    let place : c.from.result ≡ core = c.from.ensures in
+    let chain : Chain = get_or c.loop-core.chains c.from.result (record { access = 0; end = 0; place = 0; ended = []; last = None; next = None }) in
+    let at : slice_get c.loop-core.chains core ≡ Some chain = subst (λ k. slice_get c.loop-core.chains k ≡ Some chain) place (slice_get-get_or c.loop-core.chains c.from.result (record { access = 0; end = 0; place = 0; ended = []; last = None; next = None }) (omega (arith, within, place))) in
+    omega (arith, within, i.count, c.requires.room, i.room, c.from-in-loop-core.ensures)
+
+pub push_next-requires-clause-soon : goal.push_next-requires-clause-soon
+push_next-requires-clause-soon g c =
     let lists = g.A.Accesses.lists c.args.accesses.now in
     let pieces = g.X.Expand.pieces c.args.expand.now in
     let laws = c.rounds_rest_on_these.ensures c.args.expand.now in
@@ -95,11 +109,21 @@ push_next-requires g c =
     let chain : Chain = get_or c.loop-core.chains c.from.result (record { access = 0; end = 0; place = 0; ended = []; last = None; next = None }) in
     let at : slice_get c.loop-core.chains core ≡ Some chain = subst (λ k. slice_get c.loop-core.chains k ≡ Some chain) place (slice_get-get_or c.loop-core.chains c.from.result (record { access = 0; end = 0; place = 0; ended = []; last = None; next = None }) (omega (arith, within, place))) in
     let after = c.look_ahead-start.new.chain in
-    let more : core < length c.args.chains.now = omega (arith, within, i.count) in
-    let space : length c.args.chains.now ≤ c.loop-core.ready.room = omega (arith, c.requires.room, i.room) in
+    F.starts_soon laws c.requires.chained c.args.chains.now c.requires.count c.requires.fresh c.loop-core.chains i.same i.of core c.loop-core.ready.keys i.keys chain at after c.look_ahead-start.ensures.chain c.look_ahead-start.ensures.ahead c.requires.begins.0 c.requires.begins.1 c.requires.begins.2 c.look_ahead-start.result c.look_ahead-start.ensures.start
+
+pub push_next-requires-clause-new : goal.push_next-requires-clause-new
+push_next-requires-clause-new g c =
+    let lists = g.A.Accesses.lists c.args.accesses.now in
+    let pieces = g.X.Expand.pieces c.args.expand.now in
+    let laws = c.rounds_rest_on_these.ensures c.args.expand.now in
+    let i = c.loop-core.invariant in
+    let core : ℕ = c.loop-core.core in
+    let within : core < length c.loop-core.chains = omega (arith, c.loop-core-test.true, c.cores-cores.ensures, c.requires.count, i.count) in
+    let place : c.from.result ≡ core = c.from.ensures in
+    let chain : Chain = get_or c.loop-core.chains c.from.result (record { access = 0; end = 0; place = 0; ended = []; last = None; next = None }) in
+    let at : slice_get c.loop-core.chains core ≡ Some chain = subst (λ k. slice_get c.loop-core.chains k ≡ Some chain) place (slice_get-get_or c.loop-core.chains c.from.result (record { access = 0; end = 0; place = 0; ended = []; last = None; next = None }) (omega (arith, within, place))) in
     let number : core ≡ c.from-in-loop-core.result = sym c.from-in-loop-core.ensures in
-    subst (λ n. IfSome c.look_ahead-start.result (λ s. (length c.loop-core.ready.keys < c.loop-core.ready.room) × ¬ Contains c.loop-core.ready.keys (record { start = s; number = n }))) number
-    (F.can_push laws c.requires.chained c.args.chains.now c.requires.count c.requires.fresh c.loop-core.chains i.same i.of core c.loop-core.ready.keys i.keys chain at after c.look_ahead-start.ensures.chain c.look_ahead-start.ensures.ahead c.look_ahead-start.result c.look_ahead-start.ensures.start c.loop-core.ready.room space more)
+    subst (λ n. (k : Key) → Contains c.loop-core.ready.keys k → k.number ≡ n → ⊥) number (F.no_other laws c.requires.chained c.args.chains.now c.requires.count c.requires.fresh c.loop-core.chains i.same i.of core c.loop-core.ready.keys i.keys chain at)
 
 pub loop-core-preserved : goal.loop-core-preserved
 loop-core-preserved g c =

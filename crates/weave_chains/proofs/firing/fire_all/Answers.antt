@@ -17,7 +17,6 @@ loop-served-init g c =
     record {
       within = omega arith;
       count = refl;
-      room = refl;
       comps = refl;
       tallies = refl;
       ahead = c.requires.ahead;
@@ -138,7 +137,6 @@ loop-served-preserved g c =
     record {
       within = omega (arith, more);
       count = c.fire_next.ensures.count ∙ c.loop-served.invariant.count;
-      room = c.fire_next.ensures.room ∙ c.loop-served.invariant.room;
       comps = c.fire_next.ensures.comps ∙ c.loop-served.invariant.comps;
       tallies = length-set c.loop-served.tallies c.from.result c.take.new.self ∙ c.loop-served.invariant.tallies;
       ahead = c.fire_next.ensures.ahead;

@@ -12,7 +12,6 @@ abbrev pub invariant-loop-served : goal.invariant-loop-served
 invariant-loop-served g l = record {
   within : l.events ≤ length (all_events (g.X.Expand.pieces l.expand) (one_after_other (g.A.Accesses.lists l.accesses)));
   count : length l.chains ≡ length l.fn.chains;
-  room : l.ready.room ≡ l.fn.ready.room;
   comps : length l.comps ≡ length l.fn.comps;
   tallies : length l.tallies ≡ length l.fn.tallies;
   ahead : AreAhead (g.X.Expand.pieces l.expand) (g.A.Accesses.lists l.accesses) l.chains;

@@ -1,15 +1,15 @@
 -- By the facts of a round.
-use Rattle.std.proofs.Common.{◌≡◌, ◌+◌, ◌-◌, ◌<◌, ◌∙◌, ℕ, [], List, None, Some, sym, ap, subst, length, get_or, drop}
-use Rattle.std.specs.Prelude.{IfSome, slice_set}
-use Rattle.std.specs.List.{Contains, slice_get}
+use Rattle.std.proofs.Common.{◌≡◌, ◌+◌, ◌-◌, ◌<◌, ◌∙◌, ℕ, [], List, None, Some, sym, ap, subst, length, get_or, drop, refl}
+use Rattle.std.specs.Prelude.{slice_set}
+use Rattle.std.specs.List.{slice_get}
 use Rattle.std.proofs.lemmas.Option.{slice_get-get_or}
 use Rattle.zs_num.specs.declared.time.Key.{Key}
+use Rattle.core_queue.specs.NextKeys.{with_next}
 use Rattle.weave_chains.specs.declared.chain.Chain.{Chain}
 use Rattle.weave_chains.specs.declared.tally.Served.{Served}
 use Rattle.weave_chains.specs.Chains.{moved_on}
 use Rattle.weave_chains.specs.Listed.{list_of, one_after_other}
 use Rattle.weave_chains.specs.NextEvents.{IsAhead, IsAtAccess}
-use Rattle.weave_chains.specs.Rounds.{HasCome, with_next}
 use Rattle.weave_chains.specs.States.{state_of, states}
 use Rattle.weave_chains.specs.Tallies.{HasFiredNext}
 use Rattle.weave_chains.proofs.Popped.{get_some}
@@ -25,12 +25,12 @@ bounds-chains-key g c =
       chained = c.requires.chained;
       count = c.requires.count;
       ahead = c.requires.ahead;
-      ascending = c.pop.ensures.ascending;
+      ascending = c.first.ensures.ascending;
       weaving = c.requires.come.2;
     }
     in
     let key : Key = c.in-Some.key in
-    let at : slice_get c.args.ready.now.keys 0 ≡ Some key = sym c.pop.ensures.first ∙ c.in-Some.is in
+    let at : slice_get c.args.ready.now.keys 0 ≡ Some key = sym c.first.ensures.first ∙ c.in-Some.is in
     R.within r key at
 
 pub unreachable-requires : goal.unreachable-requires
@@ -41,12 +41,12 @@ unreachable-requires g c =
       chained = c.requires.chained;
       count = c.requires.count;
       ahead = c.requires.ahead;
-      ascending = c.pop.ensures.ascending;
+      ascending = c.first.ensures.ascending;
       weaving = c.requires.come.2;
     }
     in
     let key : Key = c.in-Some.key in
-    let at : slice_get c.args.ready.now.keys 0 ≡ Some key = sym c.pop.ensures.first ∙ c.in-Some.is in
+    let at : slice_get c.args.ready.now.keys 0 ≡ Some key = sym c.first.ensures.first ∙ c.in-Some.is in
     let chain : Chain = get_or c.args.chains.now key.number (record { access = 0; end = 0; place = 0; ended = []; last = None; next = None }) in
     let there : slice_get c.args.chains.now key.number ≡ Some chain = slice_get-get_or c.args.chains.now key.number (record { access = 0; end = 0; place = 0; ended = []; last = None; next = None }) (R.within r key at) in
     R.next_is_known r key at chain there c.in_default-next.is
@@ -59,12 +59,12 @@ serve-outcome-requires-clause-component g c = λ lives outlives.
       chained = c.requires.chained;
       count = c.requires.count;
       ahead = c.requires.ahead;
-      ascending = c.pop.ensures.ascending;
+      ascending = c.first.ensures.ascending;
       weaving = c.requires.come.2;
     }
     in
     let key : Key = c.in-Some.key in
-    let at : slice_get c.args.ready.now.keys 0 ≡ Some key = sym c.pop.ensures.first ∙ c.in-Some.is in
+    let at : slice_get c.args.ready.now.keys 0 ≡ Some key = sym c.first.ensures.first ∙ c.in-Some.is in
     let chain : Chain = get_or c.args.chains.now key.number (record { access = 0; end = 0; place = 0; ended = []; last = None; next = None }) in
     let there : slice_get c.args.chains.now key.number ≡ Some chain = slice_get-get_or c.args.chains.now key.number (record { access = 0; end = 0; place = 0; ended = []; last = None; next = None }) (R.within r key at) in
     let next = c.in-Some-next.next in
@@ -79,12 +79,12 @@ serve-outcome-requires-clause-serves g c = λ lives outlives.
       chained = c.requires.chained;
       count = c.requires.count;
       ahead = c.requires.ahead;
-      ascending = c.pop.ensures.ascending;
+      ascending = c.first.ensures.ascending;
       weaving = c.requires.come.2;
     }
     in
     let key : Key = c.in-Some.key in
-    let at : slice_get c.args.ready.now.keys 0 ≡ Some key = sym c.pop.ensures.first ∙ c.in-Some.is in
+    let at : slice_get c.args.ready.now.keys 0 ≡ Some key = sym c.first.ensures.first ∙ c.in-Some.is in
     let chain : Chain = get_or c.args.chains.now key.number (record { access = 0; end = 0; place = 0; ended = []; last = None; next = None }) in
     let there : slice_get c.args.chains.now key.number ≡ Some chain = slice_get-get_or c.args.chains.now key.number (record { access = 0; end = 0; place = 0; ended = []; last = None; next = None }) (R.within r key at) in
     let next = c.in-Some-next.next in
@@ -99,12 +99,12 @@ serve-outcome-requires-clause-small g c = λ lives outlives.
       chained = c.requires.chained;
       count = c.requires.count;
       ahead = c.requires.ahead;
-      ascending = c.pop.ensures.ascending;
+      ascending = c.first.ensures.ascending;
       weaving = c.requires.come.2;
     }
     in
     let key : Key = c.in-Some.key in
-    let at : slice_get c.args.ready.now.keys 0 ≡ Some key = sym c.pop.ensures.first ∙ c.in-Some.is in
+    let at : slice_get c.args.ready.now.keys 0 ≡ Some key = sym c.first.ensures.first ∙ c.in-Some.is in
     let chain : Chain = get_or c.args.chains.now key.number (record { access = 0; end = 0; place = 0; ended = []; last = None; next = None }) in
     let there : slice_get c.args.chains.now key.number ≡ Some chain = slice_get-get_or c.args.chains.now key.number (record { access = 0; end = 0; place = 0; ended = []; last = None; next = None }) (R.within r key at) in
     let next = c.in-Some-next.next in
@@ -119,12 +119,12 @@ serve-outcome-requires-clause-early g c = λ lives outlives.
       chained = c.requires.chained;
       count = c.requires.count;
       ahead = c.requires.ahead;
-      ascending = c.pop.ensures.ascending;
+      ascending = c.first.ensures.ascending;
       weaving = c.requires.come.2;
     }
     in
     let key : Key = c.in-Some.key in
-    let at : slice_get c.args.ready.now.keys 0 ≡ Some key = sym c.pop.ensures.first ∙ c.in-Some.is in
+    let at : slice_get c.args.ready.now.keys 0 ≡ Some key = sym c.first.ensures.first ∙ c.in-Some.is in
     let chain : Chain = get_or c.args.chains.now key.number (record { access = 0; end = 0; place = 0; ended = []; last = None; next = None }) in
     let there : slice_get c.args.chains.now key.number ≡ Some chain = slice_get-get_or c.args.chains.now key.number (record { access = 0; end = 0; place = 0; ended = []; last = None; next = None }) (R.within r key at) in
     let next = c.in-Some-next.next in
@@ -139,12 +139,12 @@ move_on-requires-clause-place g c =
       chained = c.requires.chained;
       count = c.requires.count;
       ahead = c.requires.ahead;
-      ascending = c.pop.ensures.ascending;
+      ascending = c.first.ensures.ascending;
       weaving = c.requires.come.2;
     }
     in
     let key : Key = c.in-Some.key in
-    let at : slice_get c.args.ready.now.keys 0 ≡ Some key = sym c.pop.ensures.first ∙ c.in-Some.is in
+    let at : slice_get c.args.ready.now.keys 0 ≡ Some key = sym c.first.ensures.first ∙ c.in-Some.is in
     let chain : Chain = get_or c.args.chains.now key.number (record { access = 0; end = 0; place = 0; ended = []; last = None; next = None }) in
     let there : slice_get c.args.chains.now key.number ≡ Some chain = slice_get-get_or c.args.chains.now key.number (record { access = 0; end = 0; place = 0; ended = []; last = None; next = None }) (R.within r key at) in
     let next = c.in-Some-next.next in
@@ -159,12 +159,12 @@ move_on-requires-clause-access g c =
       chained = c.requires.chained;
       count = c.requires.count;
       ahead = c.requires.ahead;
-      ascending = c.pop.ensures.ascending;
+      ascending = c.first.ensures.ascending;
       weaving = c.requires.come.2;
     }
     in
     let key : Key = c.in-Some.key in
-    let at : slice_get c.args.ready.now.keys 0 ≡ Some key = sym c.pop.ensures.first ∙ c.in-Some.is in
+    let at : slice_get c.args.ready.now.keys 0 ≡ Some key = sym c.first.ensures.first ∙ c.in-Some.is in
     let chain : Chain = get_or c.args.chains.now key.number (record { access = 0; end = 0; place = 0; ended = []; last = None; next = None }) in
     let there : slice_get c.args.chains.now key.number ≡ Some chain = slice_get-get_or c.args.chains.now key.number (record { access = 0; end = 0; place = 0; ended = []; last = None; next = None }) (R.within r key at) in
     R.chain_goes_on r key at chain there
@@ -177,12 +177,12 @@ look_ahead-start-requires-clause-end g c =
       chained = c.requires.chained;
       count = c.requires.count;
       ahead = c.requires.ahead;
-      ascending = c.pop.ensures.ascending;
+      ascending = c.first.ensures.ascending;
       weaving = c.requires.come.2;
     }
     in
     let key : Key = c.in-Some.key in
-    let at : slice_get c.args.ready.now.keys 0 ≡ Some key = sym c.pop.ensures.first ∙ c.in-Some.is in
+    let at : slice_get c.args.ready.now.keys 0 ≡ Some key = sym c.first.ensures.first ∙ c.in-Some.is in
     let chain : Chain = get_or c.args.chains.now key.number (record { access = 0; end = 0; place = 0; ended = []; last = None; next = None }) in
     let there : slice_get c.args.chains.now key.number ≡ Some chain = slice_get-get_or c.args.chains.now key.number (record { access = 0; end = 0; place = 0; ended = []; last = None; next = None }) (R.within r key at) in
     let next = c.in-Some-next.next in
@@ -207,12 +207,12 @@ look_ahead-start-requires-clause-place g c =
       chained = c.requires.chained;
       count = c.requires.count;
       ahead = c.requires.ahead;
-      ascending = c.pop.ensures.ascending;
+      ascending = c.first.ensures.ascending;
       weaving = c.requires.come.2;
     }
     in
     let key : Key = c.in-Some.key in
-    let at : slice_get c.args.ready.now.keys 0 ≡ Some key = sym c.pop.ensures.first ∙ c.in-Some.is in
+    let at : slice_get c.args.ready.now.keys 0 ≡ Some key = sym c.first.ensures.first ∙ c.in-Some.is in
     let chain : Chain = get_or c.args.chains.now key.number (record { access = 0; end = 0; place = 0; ended = []; last = None; next = None }) in
     let there : slice_get c.args.chains.now key.number ≡ Some chain = slice_get-get_or c.args.chains.now key.number (record { access = 0; end = 0; place = 0; ended = []; last = None; next = None }) (R.within r key at) in
     let next = c.in-Some-next.next in
@@ -237,12 +237,12 @@ look_ahead-start-requires-clause-known g c =
       chained = c.requires.chained;
       count = c.requires.count;
       ahead = c.requires.ahead;
-      ascending = c.pop.ensures.ascending;
+      ascending = c.first.ensures.ascending;
       weaving = c.requires.come.2;
     }
     in
     let key : Key = c.in-Some.key in
-    let at : slice_get c.args.ready.now.keys 0 ≡ Some key = sym c.pop.ensures.first ∙ c.in-Some.is in
+    let at : slice_get c.args.ready.now.keys 0 ≡ Some key = sym c.first.ensures.first ∙ c.in-Some.is in
     let chain : Chain = get_or c.args.chains.now key.number (record { access = 0; end = 0; place = 0; ended = []; last = None; next = None }) in
     let there : slice_get c.args.chains.now key.number ≡ Some chain = slice_get-get_or c.args.chains.now key.number (record { access = 0; end = 0; place = 0; ended = []; last = None; next = None }) (R.within r key at) in
     let next = c.in-Some-next.next in
@@ -267,12 +267,12 @@ look_ahead-start-requires-clause-soon g c =
       chained = c.requires.chained;
       count = c.requires.count;
       ahead = c.requires.ahead;
-      ascending = c.pop.ensures.ascending;
+      ascending = c.first.ensures.ascending;
       weaving = c.requires.come.2;
     }
     in
     let key : Key = c.in-Some.key in
-    let at : slice_get c.args.ready.now.keys 0 ≡ Some key = sym c.pop.ensures.first ∙ c.in-Some.is in
+    let at : slice_get c.args.ready.now.keys 0 ≡ Some key = sym c.first.ensures.first ∙ c.in-Some.is in
     let chain : Chain = get_or c.args.chains.now key.number (record { access = 0; end = 0; place = 0; ended = []; last = None; next = None }) in
     let there : slice_get c.args.chains.now key.number ≡ Some chain = slice_get-get_or c.args.chains.now key.number (record { access = 0; end = 0; place = 0; ended = []; last = None; next = None }) (R.within r key at) in
     let next = c.in-Some-next.next in
@@ -289,20 +289,36 @@ look_ahead-start-requires-clause-soon g c =
     let kept : moved.next ≡ chain.next = c.move_on.ensures.next in
     λ e p e_there p_there. R.start_small r key at chain there next known comp.0 comp.1 moved is_moved kept e (subst (λ i. slice_get (list_of lists i) moved.access ≡ Some e) (sym mine) e_there) p p_there
 
-pub push_next-requires : goal.push_next-requires
-push_next-requires g c =
+pub settle-requires-clause-first : goal.settle-requires-clause-first
+settle-requires-clause-first g c =
     let lists = g.A.Accesses.lists c.args.accesses.now in
     let r : IsRound g.C.Component.serves g.C.Component.floor g.C.Component.stepped g.C.Component.greatest (g.X.Expand.pieces c.args.expand.now) lists c.args.chains.now c.args.ready.now.keys c.args.comps.now c.requires.come.0 c.requires.come.1 = record {
       laws = c.rounds_rest_on_these.ensures c.args.expand.now;
       chained = c.requires.chained;
       count = c.requires.count;
       ahead = c.requires.ahead;
-      ascending = c.pop.ensures.ascending;
+      ascending = c.first.ensures.ascending;
       weaving = c.requires.come.2;
     }
     in
     let key : Key = c.in-Some.key in
-    let at : slice_get c.args.ready.now.keys 0 ≡ Some key = sym c.pop.ensures.first ∙ c.in-Some.is in
+    let at : slice_get c.args.ready.now.keys 0 ≡ Some key = sym c.first.ensures.first ∙ c.in-Some.is in
+    (key, at, refl)
+
+pub settle-requires-clause-soon : goal.settle-requires-clause-soon
+settle-requires-clause-soon g c =
+    let lists = g.A.Accesses.lists c.args.accesses.now in
+    let r : IsRound g.C.Component.serves g.C.Component.floor g.C.Component.stepped g.C.Component.greatest (g.X.Expand.pieces c.args.expand.now) lists c.args.chains.now c.args.ready.now.keys c.args.comps.now c.requires.come.0 c.requires.come.1 = record {
+      laws = c.rounds_rest_on_these.ensures c.args.expand.now;
+      chained = c.requires.chained;
+      count = c.requires.count;
+      ahead = c.requires.ahead;
+      ascending = c.first.ensures.ascending;
+      weaving = c.requires.come.2;
+    }
+    in
+    let key : Key = c.in-Some.key in
+    let at : slice_get c.args.ready.now.keys 0 ≡ Some key = sym c.first.ensures.first ∙ c.in-Some.is in
     let chain : Chain = get_or c.args.chains.now key.number (record { access = 0; end = 0; place = 0; ended = []; last = None; next = None }) in
     let there : slice_get c.args.chains.now key.number ≡ Some chain = slice_get-get_or c.args.chains.now key.number (record { access = 0; end = 0; place = 0; ended = []; last = None; next = None }) (R.within r key at) in
     let next = c.in-Some-next.next in
@@ -321,8 +337,7 @@ push_next-requires g c =
     let looked : IsAhead (g.X.Expand.pieces c.args.expand.now) (list_of lists key.number) after =
     subst (λ i. IsAhead (g.X.Expand.pieces c.args.expand.now) (list_of lists i) after) (sym mine) c.look_ahead-start.ensures.ahead
     in
-    subst (λ q. IfSome c.look_ahead-start.result (λ s. (length q.keys < q.room) × ¬ Contains q.keys (record { start = s; number = key.number }))) (sym c.pop.ensures.rest)
-    (R.can_push r key at chain there next known comp.0 comp.1 moved is_moved kept after c.look_ahead-start.ensures.chain looked c.look_ahead-start.result c.look_ahead-start.ensures.start c.args.ready.now.room c.requires.room)
+    R.starts_soon r key at chain there next known comp.0 comp.1 moved is_moved kept after c.look_ahead-start.ensures.chain looked c.look_ahead-start.result c.look_ahead-start.ensures.start
 
 pub returns-clause-fired : goal.returns-clause-fired
 returns-clause-fired g c = λ first n w.
@@ -332,12 +347,12 @@ returns-clause-fired g c = λ first n w.
       chained = c.requires.chained;
       count = c.requires.count;
       ahead = c.requires.ahead;
-      ascending = c.pop.ensures.ascending;
+      ascending = c.first.ensures.ascending;
       weaving = w;
     }
     in
     let key : Key = c.in-Some.key in
-    let at : slice_get c.args.ready.now.keys 0 ≡ Some key = sym c.pop.ensures.first ∙ c.in-Some.is in
+    let at : slice_get c.args.ready.now.keys 0 ≡ Some key = sym c.first.ensures.first ∙ c.in-Some.is in
     let chain : Chain = get_or c.args.chains.now key.number (record { access = 0; end = 0; place = 0; ended = []; last = None; next = None }) in
     let there : slice_get c.args.chains.now key.number ≡ Some chain = slice_get-get_or c.args.chains.now key.number (record { access = 0; end = 0; place = 0; ended = []; last = None; next = None }) (R.within r key at) in
     let next = c.in-Some-next.next in
@@ -356,8 +371,8 @@ returns-clause-fired g c = λ first n w.
     let looked : IsAhead (g.X.Expand.pieces c.args.expand.now) (list_of lists key.number) after =
     subst (λ i. IsAhead (g.X.Expand.pieces c.args.expand.now) (list_of lists i) after) (sym mine) c.look_ahead-start.ensures.ahead
     in
-    let keys : c.push_next.new.ready.keys ≡ with_next key.number c.look_ahead-start.result (drop 1 c.args.ready.now.keys) =
-    ap (λ q. q.keys) c.push_next.ensures ∙ ap (λ q. with_next key.number c.look_ahead-start.result q.keys) c.pop.ensures.rest
+    let keys : c.settle.new.self.keys ≡ with_next key.number c.look_ahead-start.result (drop 1 c.args.ready.now.keys) =
+    ap (λ q. q.keys) c.settle.ensures
     in
     let Fires : List Key → List g.row.C.Denot → Served → Type 0 = λ ks cs s. HasFiredNext g.C.Component.stepped (g.X.Expand.pieces c.args.expand.now) (one_after_other lists) first n (states lists (slice_set c.args.chains.now key.number after)) ks cs s in
     subst (λ ks. Fires ks c.serve-outcome.new.comps c.serve-outcome.result.served) (sym keys)
@@ -373,12 +388,12 @@ returns-clause-ahead g c =
       chained = c.requires.chained;
       count = c.requires.count;
       ahead = c.requires.ahead;
-      ascending = c.pop.ensures.ascending;
+      ascending = c.first.ensures.ascending;
       weaving = c.requires.come.2;
     }
     in
     let key : Key = c.in-Some.key in
-    let at : slice_get c.args.ready.now.keys 0 ≡ Some key = sym c.pop.ensures.first ∙ c.in-Some.is in
+    let at : slice_get c.args.ready.now.keys 0 ≡ Some key = sym c.first.ensures.first ∙ c.in-Some.is in
     let chain : Chain = get_or c.args.chains.now key.number (record { access = 0; end = 0; place = 0; ended = []; last = None; next = None }) in
     let there : slice_get c.args.chains.now key.number ≡ Some chain = slice_get-get_or c.args.chains.now key.number (record { access = 0; end = 0; place = 0; ended = []; last = None; next = None }) (R.within r key at) in
     let next = c.in-Some-next.next in
@@ -407,12 +422,12 @@ returns-clause-component g c =
       chained = c.requires.chained;
       count = c.requires.count;
       ahead = c.requires.ahead;
-      ascending = c.pop.ensures.ascending;
+      ascending = c.first.ensures.ascending;
       weaving = c.requires.come.2;
     }
     in
     let key : Key = c.in-Some.key in
-    let at : slice_get c.args.ready.now.keys 0 ≡ Some key = sym c.pop.ensures.first ∙ c.in-Some.is in
+    let at : slice_get c.args.ready.now.keys 0 ≡ Some key = sym c.first.ensures.first ∙ c.in-Some.is in
     let chain : Chain = get_or c.args.chains.now key.number (record { access = 0; end = 0; place = 0; ended = []; last = None; next = None }) in
     let there : slice_get c.args.chains.now key.number ≡ Some chain = slice_get-get_or c.args.chains.now key.number (record { access = 0; end = 0; place = 0; ended = []; last = None; next = None }) (R.within r key at) in
     let next = c.in-Some-next.next in
@@ -437,12 +452,11 @@ returns-in_default-clause-over g c = λ first n w.
       chained = c.requires.chained;
       count = c.requires.count;
       ahead = c.requires.ahead;
-      ascending = c.pop.ensures.ascending;
+      ascending = c.first.ensures.ascending;
       weaving = w;
     }
     in
-    let none : slice_get c.args.ready.now.keys 0 ≡ None = sym c.pop.ensures.first ∙ c.in_default.is in (
+    let none : slice_get c.args.ready.now.keys 0 ≡ None = sym c.first.ensures.first ∙ c.in_default.is in (
       R.all_have_fired r none,
-      subst (λ q. HasCome g.C.Component.stepped (g.X.Expand.pieces c.args.expand.now) (one_after_other lists) first n (states lists c.args.chains.now) q.keys c.args.comps.now) (sym c.pop.ensures.rest)
-          (subst (λ ks. HasCome g.C.Component.stepped (g.X.Expand.pieces c.args.expand.now) (one_after_other lists) first n (states lists c.args.chains.now) ks c.args.comps.now) (R.still_empty c.args.ready.now.keys none) w.come),
+      w.come,
     )
