@@ -19,6 +19,7 @@ use noc_mesh::Net;
 use rv_blocks::DecodedProgram;
 use std::alloc::Global;
 use std::thread::Threads;
+use weave_chains::ChainBuffers;
 use zs_host::Gate;
 use zs_num::{Cycle, NoMemory};
 
@@ -40,6 +41,7 @@ pub fn interval_alone<R: Threads + Sync, G: Gate>(
     places: &[u16],
     domains_are_worth: &mut bool,
     recording: &mut Recording,
+    chain_buffers: &mut ChainBuffers,
 ) -> Result<(Simulation, Vec<u16>), NoMemory>
     requires workers { (1 ≤ workers) × (workers ≤ 64) }
     requires machine { IsMachine machine.now }
@@ -67,6 +69,7 @@ pub fn interval_alone<R: Threads + Sync, G: Gate>(
         places,
         domains_are_worth,
         recording,
+        chain_buffers,
     )?;
     Ok((simulation, turns))
 }
@@ -125,6 +128,7 @@ fn weave_alone<R: Threads + Sync, G: Gate>(
     places: &[u16],
     domains_are_worth: &mut bool,
     recording: &mut Recording,
+    chain_buffers: &mut ChainBuffers,
 ) -> Result<Vec<u16>, NoMemory>
     requires workers { (1 ≤ workers) × (workers ≤ 64) }
     requires machine { IsMachine machine.now }
@@ -160,6 +164,7 @@ fn weave_alone<R: Threads + Sync, G: Gate>(
         places,
         domains_are_worth,
         recording,
+        chain_buffers,
     )?;
     delay_all(&mut simulation.cores, delays.as_slice());
     Ok(turns)

@@ -20,7 +20,7 @@ use noc_mesh::Net;
 use stats::Counters;
 use std::alloc::Global;
 use std::thread::Threads;
-use weave_chains::weave_chains;
+use weave_chains::{ChainBuffers, weave_chains};
 use zs_host::Gate;
 use zs_num::{Entries, NoMemory};
 
@@ -42,6 +42,7 @@ pub fn weave_recorded<R: Threads + Sync, G: Gate>(
     places: &[u16],
     domains_are_worth: &mut bool,
     recording: &mut Recording,
+    chain_buffers: &mut ChainBuffers,
 ) -> Result<Delays, NoMemory>
     requires workers { (1 ≤ workers) × (workers ≤ 64) }
     requires machine { IsMachine machine.now }
@@ -57,7 +58,17 @@ pub fn weave_recorded<R: Threads + Sync, G: Gate>(
 {
     let first = FirstPasses::of(gate);
     let found = weave_by_cores(
-        alloc, machine, net, recorder, comps, counters, workers, &first, places, recording,
+        alloc,
+        machine,
+        net,
+        recorder,
+        comps,
+        counters,
+        workers,
+        &first,
+        places,
+        recording,
+        chain_buffers,
     )?;
     match found {
         Some(delays) => Ok(delays),
@@ -91,6 +102,7 @@ fn weave_by_cores<G: Gate>(
     gate: &G,
     places: &[u16],
     recording: &Recording,
+    chain_buffers: &mut ChainBuffers,
 ) -> Result<Option<Delays>, NoMemory>
     requires machine { IsMachine machine.now }
     requires net { IsNetOf machine.now net.now }
@@ -108,7 +120,7 @@ fn weave_by_cores<G: Gate>(
     if !can_fire_by_cores(machine, workers, recording) {
         return Ok(None);
     }
-    let found = weave_chains(alloc, net, recorder, comps, places, gate)?;
+    let found = weave_chains(alloc, net, recorder, comps, places, gate, chain_buffers)?;
     let Some(woven) = found else {
         return Ok(None);
     };

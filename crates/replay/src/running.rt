@@ -22,6 +22,7 @@ use rv_blocks::DecodedProgram;
 use std::alloc::Global;
 use std::sync::Wait;
 use std::thread::Threads;
+use weave_chains::ChainBuffers;
 use zs_host::Gate;
 use zs_num::NoMemory;
 
@@ -102,6 +103,7 @@ fn run_on<R: Threads + Wait + Sync, G: Gate>(
 {
     let net = Net::of(machine);
     let mut buffers = PhaseBuffers::new(alloc);
+    let mut chain_buffers = ChainBuffers::new(alloc);
     let mut domains_are_worth = true;
     let mut k = 0;
     let mut end = 0;
@@ -122,6 +124,7 @@ fn run_on<R: Threads + Wait + Sync, G: Gate>(
             &mut domains_are_worth,
             recording,
             &mut buffers,
+            &mut chain_buffers,
         )?;
         simulation = next;
         schedule.push(turns)?;

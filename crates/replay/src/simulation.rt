@@ -43,6 +43,7 @@ use stats::Counters;
 use std::alloc::Global;
 use std::sync::Wait;
 use std::thread::Threads;
+use weave_chains::ChainBuffers;
 use weave_seq::weave_seq;
 use zs_host::Gate;
 use zs_num::{Cycle, Entries, Entry, NoMemory};
@@ -137,6 +138,7 @@ impl Simulation {
         domains_are_worth: &mut bool,
         recording: &mut Recording,
         buffers: &mut PhaseBuffers,
+        chain_buffers: &mut ChainBuffers,
     ) -> Result<(Self, Vec<u16>), NoMemory>
         requires machine { IsMachine machine.now }
         requires net { IsNetOf machine.now net.now }
@@ -167,6 +169,7 @@ impl Simulation {
                 places,
                 domains_are_worth,
                 recording,
+                chain_buffers,
             );
         }
         self.interval_by(

@@ -10,7 +10,8 @@ use Rattle.weave_chains.specs.Beginning.{IsFresh}
 use Rattle.weave_chains.specs.Chains.{AreGrouped}
 use Rattle.weave_chains.specs.Listed.{AreOwn, list_of, number_before, one_after_other}
 use Rattle.weave_chains.specs.Rounds.{AreChained, AreInChains}
-use Rattle.weave_chains.specs.States.{fresh_chain, state_of}
+use Rattle.weave_chains.specs.States.{IsFreshChain, state_of}
+use Rattle.weave_chains.specs.declared.chain.Chain.{Chain}
 
 joined_left : {X : Type 0} (xs ys : List X) (i : ℕ) (x : X) → slice_get xs i ≡ Some x → slice_get (xs ++ ys) i ≡ Some x
 joined_left [] ys i x at = absurd (cc)
@@ -122,15 +123,15 @@ module _ (lists : List (List Entry)) (own : AreOwn lists) where
       let there : slice_get (list_of lists core) a.0.place ≡ Some e = subst (λ n. slice_get (list_of lists n) a.0.place ≡ Some e) same a.0.there in
       (omega (arith, place), omega (arith, place, slice_get_within (list_of lists core) a.0.place e there))
 
-  pub fresh : (core : ℕ) → core < length lists → IsFresh (one_after_other lists) core (state_of (number_before lists core) (fresh_chain (length (list_of lists core))))
-  fresh core less = record {
-    from = omega arith;
-    within = ends_within lists core less;
-    own = λ i e at low high. own_between core i e at (omega (arith, low)) high;
-    all = λ i e at of. let b = all_between core i e at of in (omega (arith, b.0), b.1);
-    place = refl;
-    sized = refl;
-    last = refl;
+  pub fresh : (core : ℕ) → core < length lists → (c : Chain) → IsFreshChain (length (list_of lists core)) c → IsFresh (one_after_other lists) core (state_of (number_before lists core) c)
+  fresh core less c is = record {
+    from = omega (arith, is.access);
+    within = omega (arith, is.end, ends_within lists core less);
+    own = λ i e at low high. own_between core i e at (omega (arith, low)) (omega (arith, high, is.end));
+    all = λ i e at of. let b = all_between core i e at of in (omega (arith, b.0, is.access), omega (arith, b.1, is.end));
+    place = is.place;
+    sized = is.sized;
+    last = is.last;
   }
 
 -- all that is known of the lists holds of the one

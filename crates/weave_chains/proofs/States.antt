@@ -1,8 +1,9 @@
 -- Chains with their accesses counted among those of all cores.
-use Rattle.std.proofs.Common.{◌≡◌, ◌+◌, ℕ, zero, suc, List, [], ◌∷◌, ◌++◌, length, map, Option, Some, None, inl, inr, sym, ◌∙◌, ap, subst, refl, arith}
+use Rattle.std.proofs.Common.{◌≡◌, ◌+◌, ◌<◌, ℕ, zero, suc, List, [], ◌∷◌, length, map, Option, Some, None, inl, inr, sym, ◌∙◌, ap, subst, refl, arith}
 use Rattle.std.specs.Prelude.{slice_set}
 use Rattle.std.specs.List.{enumerate_from, slice_get}
 use Rattle.std.specs.Option.{option_map}
+use Rattle.std.proofs.lemmas.Bool.{cases_eq, cases_lt}
 use Rattle.std.proofs.lemmas.Option.{slice_get_within}
 use Rattle.zs_num.specs.declared.entry.Entry.{Entry}
 use Rattle.weave_chains.specs.declared.chain.Chain.{Chain}
@@ -10,8 +11,9 @@ use Rattle.weave_chains.specs.Beginning.{AreFresh, IsFresh}
 use Rattle.weave_chains.specs.Chains.{delay_by}
 use Rattle.weave_chains.specs.Listed.{AreOwn, list_of, number_before, one_after_other}
 use Rattle.weave_chains.specs.NextEvents.{AreOfLists}
-use Rattle.weave_chains.specs.States.{ChainState, fresh_chain, state_of, states}
+use Rattle.weave_chains.specs.States.{ChainState, IsFreshChain, state_of, states}
 use Rattle.weave_chains.proofs.Listed as listed
+use Rattle.weave_chains.proofs.Moved.{set_other, set_same}
 
 module _ {X Y : Type 0} (f : ℕ → X → Y) where
   numbered : ℕ → List X → List Y
@@ -59,37 +61,32 @@ module _ (lists : List (List Entry)) where
   states_set chains core c =
       numbered_set numbered_state 0 chains core c ∙ ap (λ k. slice_set (states lists chains) core (numbered_state k c)) (let e : 0 + core ≡ core = omega arith in e)
 
-  -- the chains before an event fires
-  pub record AreFreshChains (chains : List Chain) : Type 0 where
-    pub each : (core : ℕ) (c : Chain) → slice_get chains core ≡ Some c → c ≡ fresh_chain (length (list_of lists core))
+  -- the chains of the first cores, before an event fires
+  abbrev pub AreFreshChains : (cores : ℕ) → List Chain → Type 0
+  AreFreshChains cores chains = (core : ℕ) (c : Chain) → core < cores → slice_get chains core ≡ Some c → IsFreshChain (length (list_of lists core)) c
 
-  pub are_fresh : AreOwn lists → (chains : List Chain) → length chains ≡ length lists → AreFreshChains chains → AreFresh (one_after_other lists) (states lists chains)
+  pub are_fresh : AreOwn lists → (chains : List Chain) → length chains ≡ length lists → AreFreshChains (length lists) chains → AreFresh (one_after_other lists) (states lists chains)
   are_fresh own chains count fresh core s at =
       let c : (c : Chain) × ((slice_get chains core ≡ Some c) × (state_of (number_before lists core) c ≡ s)) = state_from chains core s at in
-      subst (λ z. IsFresh (one_after_other lists) core z) (ap (state_of (number_before lists core)) (sym (fresh.each core c.0 c.1.0)) ∙ c.1.1)
-      (listed.fresh lists own core (omega (arith, count, slice_get_within chains core c.0 c.1.0)))
+      let less : core < length lists = omega (arith, count, slice_get_within chains core c.0 c.1.0) in
+      subst (λ z. IsFresh (one_after_other lists) core z) c.1.1 (listed.fresh lists own core less c.0 (fresh core c.0 less c.1.0))
 
-  pub are_of_lists : (chains : List Chain) → AreFreshChains chains → AreOfLists lists chains
-  are_of_lists chains fresh core c at = ap (λ (z : Chain). z.end) (fresh.each core c at)
+  pub are_of_lists : (chains : List Chain) → length chains ≡ length lists → AreFreshChains (length lists) chains → AreOfLists lists chains
+  are_of_lists chains count fresh core c at = (fresh core c (omega (arith, count, slice_get_within chains core c at)) at).end
 
   -- one more
-  pub one_more_fresh : (chains : List Chain) → AreFreshChains chains → (core : ℕ) → length chains ≡ core → AreFreshChains (chains ++ fresh_chain (length (list_of lists core)) ∷ [])
-  one_more_fresh chains fresh core is = record {
-    each = λ n c at. elim (listed.joined chains (fresh_chain (length (list_of lists core)) ∷ []) n c at) [
-      | inl old ↦ fresh.each n c old
-      | inr new ↦ last n c new.0 new.1 new.2
-    ];
-  }
+  pub one_more_fresh : (chains : List Chain) (cores : ℕ) (new : Chain) → AreFreshChains cores chains → cores < length chains → IsFreshChain (length (list_of lists cores)) new → AreFreshChains (cores + 1) (slice_set chains cores new)
+  one_more_fresh chains cores new fresh within is core c less at =
+      elim (cases_eq cores core) [
+        | inl same ↦
+            let here : slice_get (slice_set chains cores new) core ≡ Some new = subst (λ i. slice_get (slice_set chains cores new) i ≡ Some new) same (set_same chains cores new within) in
+            let one : new ≡ c = cc in
+            subst (λ i. IsFreshChain (length (list_of lists i)) c) same (subst (IsFreshChain (length (list_of lists cores))) one is)
+        | inr other ↦ fresh core c (before core less other) (sym (set_other chains cores core new other) ∙ at)
+      ]
     where
-      last : (n : ℕ) (c : Chain) (j : ℕ) → n ≡ length chains + j → slice_get (fresh_chain (length (list_of lists core)) ∷ []) j ≡ Some c → c ≡ fresh_chain (length (list_of lists n))
-      last n c zero place at =
-          let same : core ≡ n = omega (arith, is, place) in
-          let here : fresh_chain (length (list_of lists core)) ≡ c = cc in
-          sym here ∙ ap (λ k. fresh_chain (length (list_of lists k))) same
-      last n c (suc j) place at = absurd (cc)
-
-  pub none_fresh : AreFreshChains []
-  none_fresh = record { each = λ core c at. absurd (cc) }
+      before : (n : ℕ) → n < cores + 1 → (cores ≡ n → ⊥) → n < cores
+      before n less other = elim (cases_lt n cores) [ inl l ↦ l | inr not ↦ absurd (other (omega (arith, not, less))) ]
 
 -- delays are the same wherever accesses are counted from
 module _ (lists : List (List Entry)) where

@@ -1,5 +1,5 @@
 -- The chains of all cores, with their accesses counted among those of all cores.
-use Rattle.std.specs.Prelude.{◌+◌, ℕ, List, Option, None, map, replicate}
+use Rattle.std.specs.Prelude.{◌≡◌, ◌+◌, ℕ, List, length, Option, None, map}
 use Rattle.std.specs.List.{enumerate_from}
 use Rattle.zs_num.specs.declared.entry.Entry.{Entry}
 use Rattle.weave_chains.specs.declared.chain.Chain.{Chain}
@@ -25,13 +25,10 @@ state_of before c = record { access = before + c.access; end = before + c.end; p
 abbrev pub states : List (List Entry) → List Chain → List ChainState
 states lists chains = map (λ at. state_of (number_before lists at.0) at.1) (enumerate_from 0 chains)
 
--- a chain of so many accesses, before an event of it fires or is looked up
-abbrev pub fresh_chain : (count : ℕ) → Chain
-fresh_chain count = record {
-  access = 0;
-  end = count;
-  place = 0;
-  ended = replicate 64 (record { finish = 0; at_zero_load = 0 });
-  last = None;
-  next = None;
-}
+-- a chain of so many accesses, before an event of it fires
+pub record IsFreshChain (count : ℕ) (c : Chain) : Type 0 where
+  pub access : c.access ≡ 0
+  pub end : c.end ≡ count
+  pub place : c.place ≡ 0
+  pub sized : length c.ended ≡ 64
+  pub last : c.last ≡ None

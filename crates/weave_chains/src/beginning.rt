@@ -1,5 +1,5 @@
 //! What the weave begins with.
-ghost use Rattle.std.specs.Prelude.{◌≡◌, ◌<◌, ◌≤◌, List, [], length, vec_len, IfOk};
+ghost use Rattle.std.specs.Prelude.{◌≡◌, ◌<◌, ◌≤◌, List, [], length};
 ghost use Rattle.event_graph.specs.EventGraph.{all_events};
 ghost use Rattle.event_graph.specs.Fits.{GraphFits};
 ghost use Rattle.event_graph.specs.SmallSteps.{AreSmallSteps};
@@ -17,22 +17,20 @@ use crate::laws::rounds_rest_on_these;
 use component::Component;
 use core_queue::CoreQueue;
 use event_graph::Expand;
-use std::alloc::Global;
-use zs_num::NoMemory;
 
-/// The chains of all cores, of which no event has fired.
-pub(crate) fn fresh_chains<A: Accesses>(alloc: Global, accesses: &A) -> Result<Vec<Chain>, NoMemory>
+/// Each core's chain becomes that of its accesses, of which no event has fired.
+pub(crate) fn begin_chains<A: Accesses>(accesses: &A, chains: &mut [Chain])
     requires own { AreOwn (A.lists accesses.now) }
-    ensures fresh { IfOk result (λ chains. AreFresh (one_after_other (A.lists accesses.now)) (states (A.lists accesses.now) chains.items)) }
-    ensures of { IfOk result (λ chains. AreOfLists (A.lists accesses.now) chains.items) }
-    ensures count { IfOk result (λ chains. vec_len chains ≡ length (A.lists accesses.now)) }
+    requires count { length chains.old ≡ length (A.lists accesses.now) }
+    ensures fresh { AreFresh (one_after_other (A.lists accesses.now)) (states (A.lists accesses.now) chains.new) }
+    ensures of { AreOfLists (A.lists accesses.now) chains.new }
+    ensures count { length chains.new ≡ length chains.old }
 {
     let cores = accesses.cores();
-    let mut chains = Vec::with_capacity(alloc, usize::from(cores))?;
     for core in 0..cores {
-        chains.push_reserved(Chain::of(accesses.count(core)));
+        let chain = &mut chains[usize::from(core)];
+        chain.begin(accesses.count(core));
     }
-    Ok(chains)
 }
 
 /// Looks up the first event of each chain, and puts it into the queue.

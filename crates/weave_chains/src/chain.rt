@@ -1,7 +1,7 @@
 //! How far the events of a core's accesses have fired.
 ghost use Rattle.std.specs.Prelude.{◌≡◌, ◌-◌, ◌<◌, ◌≤◌, ◌^◌, ℕ, nat_lt};
 ghost use Rattle.weave_chains.specs.Chains.{after_ended, delay_by, moved_on, start_by, waited_for};
-ghost use Rattle.weave_chains.specs.States.{fresh_chain, state_of};
+ghost use Rattle.weave_chains.specs.States.{IsFreshChain, state_of};
 
 use event_graph::Piece;
 use zs_num::{Cycle, Entry};
@@ -42,22 +42,31 @@ pub(crate) struct Chain {
 }
 
 impl Chain {
-    /// A chain of so many accesses, of which no event has fired, nor has one been looked up.
-    pub(crate) fn of(count: u32) -> Self
-        ensures { result ≡ fresh_chain count }
-    {
+    /// A chain of no access.
+    pub(crate) fn new() -> Self {
         let none = Ended {
             finish: 0,
             at_zero_load: 0,
         };
         Chain {
             access: 0,
-            end: count,
+            end: 0,
             place: 0,
             ended: [none; MOST],
             last: None,
             next: None,
         }
+    }
+
+    /// It becomes a chain of so many accesses, of which no event has fired. What stood in `ended`
+    /// stays: of an access only what has fired counts.
+    pub(crate) fn begin(&mut self, count: u32)
+        ensures { IsFreshChain count self.new }
+    {
+        self.access = 0;
+        self.end = count;
+        self.place = 0;
+        self.last = None;
     }
 
     /// Whether it has an event that can fire.

@@ -5,6 +5,7 @@
 mod accesses;
 mod ahead;
 mod beginning;
+mod buffers;
 mod chain;
 mod firing;
 mod kept;
@@ -14,5 +15,6 @@ mod tally;
 mod weave;
 
 pub use accesses::Accesses;
+pub use buffers::ChainBuffers;
 pub use kept::Kept;
 pub use weave::{Woven, weave_chains};

@@ -16,7 +16,8 @@ ghost use Rattle.weave_chains.specs.Ties.{HaveNoTie, HaveTie};
 ghost use Rattle.weave_chains.specs.Woven.{AreOrdered, IsWoven};
 
 use crate::accesses::Accesses;
-use crate::beginning::{first_keys, fresh_chains};
+use crate::beginning::{begin_chains, first_keys};
+use crate::buffers::ChainBuffers;
 use crate::chain::Chain;
 use crate::firing::fire_all;
 use crate::kept::{Kept, copy_of};
@@ -56,6 +57,7 @@ pub fn weave_chains<X: Expand, C: Component + Kept, A: Accesses, G: Gate>(
     comps: &mut Comps<C>,
     places: &[u16],
     gate: &G,
+    buffers: &mut ChainBuffers,
 ) -> Result<Option<Woven>, NoMemory>
     requires chained { AreChained (X.pieces expand.now) (A.lists accesses.now) }
     requires few { length (all_events (X.pieces expand.now) (one_after_other (A.lists accesses.now))) < 2 ^ 32 - 1 }
@@ -76,7 +78,7 @@ pub fn weave_chains<X: Expand, C: Component + Kept, A: Accesses, G: Gate>(
     feedback::laws::delays_are_of_the_cores();
     let before = Passing { places, gate };
     let mut after = copy_of(alloc, comps)?;
-    let found = weave_on(alloc, expand, accesses, &mut after, &before)?;
+    let found = weave_on(alloc, expand, accesses, &mut after, &before, buffers)?;
     match found {
         Some(woven) => {
             *comps = after;
@@ -94,6 +96,7 @@ fn weave_on<X: Expand, C: Component, A: Accesses, G: Gate>(
     accesses: &A,
     comps: &mut Comps<C>,
     before: &Passing<G>,
+    buffers: &mut ChainBuffers,
 ) -> Result<Option<Woven>, NoMemory>
     requires chained { AreChained (X.pieces expand.now) (A.lists accesses.now) }
     requires few { length (all_events (X.pieces expand.now) (one_after_other (A.lists accesses.now))) < 2 ^ 32 - 1 }
@@ -103,13 +106,14 @@ fn weave_on<X: Expand, C: Component, A: Accesses, G: Gate>(
     ensures no_tie { IfOk result (λ o. IfSome o (λ w. HaveNoTie (woven C.stepped (all_events (X.pieces expand.now) (one_after_other (A.lists accesses.now))) comps.old))) }
     ensures tie { IfOk result (λ o. IfNone o (HaveTie (woven C.stepped (all_events (X.pieces expand.now) (one_after_other (A.lists accesses.now))) comps.old))) }
 {
-    let mut chains = fresh_chains(alloc, accesses)?;
+    buffers.make_room(alloc, accesses.cores())?;
+    begin_chains(accesses, &mut buffers.chains);
     let mut tallies = vec![in alloc; NO_TALLY; comps.as_slice().len()]?;
     weave_over(
         alloc,
         expand,
         accesses,
-        &mut chains,
+        &mut buffers.chains,
         &mut tallies,
         comps.as_mut_slice(),
         before,
