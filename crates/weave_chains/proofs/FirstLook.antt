@@ -20,7 +20,7 @@ use Rattle.weave_chains.specs.Beginning.{AreFresh}
 use Rattle.weave_chains.specs.Chains.{AreReady, next_number, start_by}
 use Rattle.weave_chains.specs.GraphFacts.{ArePlaced}
 use Rattle.weave_chains.specs.Listed.{list_of, number_before, one_after_other}
-use Rattle.weave_chains.specs.NextEvents.{AreOfLists, IsAhead, IsAtAccess, IsNext}
+use Rattle.weave_chains.specs.NextEvents.{AreOfLists, IsAhead, IsNext, KnowsAccess}
 use Rattle.weave_chains.specs.RoundLaws.{RoundLaws}
 use Rattle.weave_chains.specs.Rounds.{AreChained, AreInChains}
 use Rattle.weave_chains.specs.States.{ChainState, state_of, states}
@@ -80,8 +80,8 @@ module _ {C : Type 0} {serves : C → Kind → Bool} {floor : C → Kind → ℕ
     pub no_other : (k : Key) → Contains keys k → k.number ≡ core → ⊥
     no_other k m same = omega (arith, have.early k m, same)
 
-    pub none_known : (n : Next) → 0 < chain.place → chain.next ≡ Some n → IsAtAccess pieces list chain n
-    none_known n deep known = absurd (omega (arith, deep, at_first))
+    pub none_known : KnowsAccess pieces list chain
+    none_known deep = absurd (omega (arith, deep, at_first))
 
     module _ (e : Entry) (e_there : slice_get list chain.access ≡ Some e) where
       on : c.access < c.end

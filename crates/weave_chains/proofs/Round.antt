@@ -26,7 +26,7 @@ use Rattle.weave_chains.specs.declared.tally.Served.{Served}
 use Rattle.weave_chains.specs.Chains.{AreUnderWay, IsChain, IsReady, moved_on, next_number, start_by}
 use Rattle.weave_chains.specs.GraphFacts.{ArePlaced}
 use Rattle.weave_chains.specs.Listed.{list_of, number_before, one_after_other}
-use Rattle.weave_chains.specs.NextEvents.{AreAhead, IsAhead, IsAtAccess, IsNext}
+use Rattle.weave_chains.specs.NextEvents.{AreAhead, IsAhead, IsAtAccess, IsNext, KnowsAccess}
 use Rattle.weave_chains.specs.RoundLaws.{RoundLaws}
 use Rattle.weave_chains.specs.Rounds.{AreChained, AreInChains, HasCome, IsWeaving}
 use Rattle.weave_chains.specs.States.{ChainState, state_of, states}
@@ -329,16 +329,17 @@ module _ {C : Type 0} {serves : C → Kind → Bool} {floor : C → Kind → ℕ
             pub place_of : (e : Entry) → slice_get list moved.access ≡ Some e → moved.place < length (pieces e)
             place_of e there = is_moved.place e (omega (arith, slice_get_within list moved.access e there, moved_end)) (in_all lists k.number moved.access e there)
 
-            pub still_known : (z : Next) → 0 < moved.place → moved.next ≡ Some z → IsAtAccess pieces list moved z
-            still_known z deep is_z =
-                let one : known ≡ z = (let a : chain.next ≡ Some z = sym kept ∙ is_z in let b : chain.next ≡ Some known = known_is in cc) in
+            pub still_known : KnowsAccess pieces list moved
+            still_known deep =
                 let there : 0 < (moved_on known.count done (state_of 0 chain)).place = subst (λ (s : ChainState). 0 < s.place) (moved_is 0) deep in
                 let access : moved.access ≡ chain.access = omega (arith, ap (λ (s : ChainState). s.access) (moved_is 0), same_access known.count done (state_of 0 chain) there) in
-                subst (λ y. IsAtAccess pieces list moved y) one (record {
+                let at : IsAtAccess pieces list moved known = record {
                   goes_on = omega (arith, access, end_stays, chain_goes_on);
                   there = subst (λ i. slice_get list i ≡ Some entry) (sym access) is_known.access.there;
                   count = is_known.access.count;
-                })
+                }
+                in
+                (known, kept ∙ known_is, at)
 
             module _ (other : Entry) (o_there : slice_get list moved.access ≡ Some other) (q : Piece) (q_there : slice_get (pieces other) moved.place ≡ Some q) where
               moved_on' : m.access < m.end

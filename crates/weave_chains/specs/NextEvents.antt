@@ -13,6 +13,10 @@ module _ (pieces : Entry → List Piece) where
     pub there : slice_get list c.access ≡ Some n.entry
     pub count : n.count ≡ length (pieces n.entry)
 
+  -- amid an access a chain knows it
+  abbrev pub KnowsAccess : List Entry → Chain → Type 0
+  KnowsAccess list c = 0 < c.place → (n : Next) × (c.next ≡ Some n) × IsAtAccess list c n
+
   -- it is the chain's next event
   pub record IsNext (list : List Entry) (c : Chain) (n : Next) : Type 0 where
     pub access : IsAtAccess list c n

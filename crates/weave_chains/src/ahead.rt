@@ -8,7 +8,7 @@ ghost use Rattle.event_graph.specs.declared.piece.Piece.{Piece};
 ghost use Rattle.weave_chains.specs.declared.chain.Next.{Next};
 ghost use Rattle.weave_chains.specs.Chains.{start_by};
 ghost use Rattle.weave_chains.specs.Listed.{list_of};
-ghost use Rattle.weave_chains.specs.NextEvents.{IsAhead, IsAtAccess, IsNext};
+ghost use Rattle.weave_chains.specs.NextEvents.{IsAhead, IsNext, KnowsAccess};
 ghost use Rattle.weave_chains.specs.States.{state_of};
 
 use crate::accesses::Accesses;
@@ -27,39 +27,42 @@ pub(crate) fn look_ahead<X: Expand, A: Accesses>(
 ) -> Option<Cycle>
     requires end { chain.old.end ≡ length (list_of (A.lists accesses.now) core) }
     requires place { (e : Entry) → slice_get (list_of (A.lists accesses.now) core) chain.old.access ≡ Some e → chain.old.place < length (X.pieces expand.now e) }
-    requires known { (n : Next) → 0 < chain.old.place → chain.old.next ≡ Some n → IsAtAccess (X.pieces expand.now) (list_of (A.lists accesses.now) core) chain.old n }
+    requires known { KnowsAccess (X.pieces expand.now) (list_of (A.lists accesses.now) core) chain.old }
     requires soon { (e : Entry) (p : Piece) → slice_get (list_of (A.lists accesses.now) core) chain.old.access ≡ Some e → slice_get (X.pieces expand.now e) chain.old.place ≡ Some p → (e.start + p.offset ≤ 2 ^ 62) × (start_by (state_of 0 chain.old) (e.start + p.offset) p ≤ 2 ^ 62) }
     ensures ahead { IsAhead (X.pieces expand.now) (list_of (A.lists accesses.now) core) chain.new }
     ensures chain { chain.new ≡ record chain.old { next = chain.new.next } }
     ensures over { IfNone result (chain.old.end ≤ chain.old.access) }
     ensures start { IfSome result (λ start. (n : Next) × (chain.new.next ≡ Some n) × (start ≡ start_by (state_of 0 chain.old) (n.entry.start + n.piece.offset) n.piece)) }
 {
-    if chain.goes_on() {
-        let next = next_of(expand, accesses, core, chain);
-        let start = chain.start(next.entry.start + next.piece.offset, &next.piece);
-        chain.next = Some(next);
-        Some(start)
-    } else {
+    if !chain.goes_on() {
         chain.next = None;
-        None
+        return None;
     }
+    let place = chain.place;
+    if place > 0 {
+        let Some(next) = &mut chain.next else {
+            unreachable!()
+        };
+        next.piece = expand.piece(&next.entry, place);
+        let begin = next.entry.start + next.piece.offset;
+        let piece = next.piece;
+        return Some(chain.start(begin, &piece));
+    }
+    let next = first_of(expand, accesses, core, chain);
+    let start = chain.start(next.entry.start + next.piece.offset, &next.piece);
+    chain.next = Some(next);
+    Some(start)
 }
 
-/// The next event of a core's chain, which goes on.
-fn next_of<X: Expand, A: Accesses>(expand: &X, accesses: &A, core: u16, chain: &Chain) -> Next
+/// The next event of a core's chain, which goes on with an access that has not been asked for.
+fn first_of<X: Expand, A: Accesses>(expand: &X, accesses: &A, core: u16, chain: &Chain) -> Next
     requires goes_on { chain.now.access < chain.now.end }
     requires end { chain.now.end ≡ length (list_of (A.lists accesses.now) core) }
     requires place { (e : Entry) → slice_get (list_of (A.lists accesses.now) core) chain.now.access ≡ Some e → chain.now.place < length (X.pieces expand.now e) }
-    requires known { (n : Next) → 0 < chain.now.place → chain.now.next ≡ Some n → IsAtAccess (X.pieces expand.now) (list_of (A.lists accesses.now) core) chain.now n }
     ensures { IsNext (X.pieces expand.now) (list_of (A.lists accesses.now) core) chain.now result }
 {
-    let (entry, count) = match &chain.next {
-        Some(next) if chain.place > 0 => (next.entry, next.count),
-        _ => {
-            let entry = accesses.access(core, chain.access);
-            (entry, expand.count(&entry))
-        }
-    };
+    let entry = accesses.access(core, chain.access);
+    let count = expand.count(&entry);
     let piece = expand.piece(&entry, chain.place);
     Next {
         entry,

@@ -69,7 +69,7 @@ look_ahead-start-requires-clause-known g c =
     let place : c.from.result ≡ core = c.from.ensures in
     let chain : Chain = get_or c.loop-core.chains c.from.result (record { access = 0; end = 0; place = 0; ended = []; last = None; next = None }) in
     let at : slice_get c.loop-core.chains core ≡ Some chain = subst (λ k. slice_get c.loop-core.chains k ≡ Some chain) place (slice_get-get_or c.loop-core.chains c.from.result (record { access = 0; end = 0; place = 0; ended = []; last = None; next = None }) (omega (arith, within, place))) in
-    λ n deep known. F.none_known laws c.requires.chained c.args.chains.now c.requires.count c.requires.fresh c.loop-core.chains i.same i.of core c.loop-core.ready.keys i.keys chain at n deep known
+    F.none_known laws c.requires.chained c.args.chains.now c.requires.count c.requires.fresh c.loop-core.chains i.same i.of core c.loop-core.ready.keys i.keys chain at
 
 pub look_ahead-start-requires-clause-soon : goal.look_ahead-start-requires-clause-soon
 look_ahead-start-requires-clause-soon g c =

@@ -9,7 +9,7 @@ use Rattle.weave_chains.specs.declared.chain.Chain.{Chain}
 use Rattle.weave_chains.specs.declared.tally.Served.{Served}
 use Rattle.weave_chains.specs.Chains.{moved_on}
 use Rattle.weave_chains.specs.Listed.{list_of, one_after_other}
-use Rattle.weave_chains.specs.NextEvents.{IsAhead, IsAtAccess}
+use Rattle.weave_chains.specs.NextEvents.{IsAhead, KnowsAccess}
 use Rattle.weave_chains.specs.States.{state_of, states}
 use Rattle.weave_chains.specs.Tallies.{HasFiredNext}
 use Rattle.weave_chains.proofs.Popped.{get_some}
@@ -257,7 +257,7 @@ look_ahead-start-requires-clause-known g c =
     λ before. c.move_on.ensures.moved before ∙ ap (λ d. moved_on next.count d (state_of before chain)) (c.serve-outcome.ensures.ended comp.0 comp.1)
     in
     let kept : moved.next ≡ chain.next = c.move_on.ensures.next in
-    subst (λ i. (n : _) → 0 < moved.place → moved.next ≡ Some n → IsAtAccess (g.X.Expand.pieces c.args.expand.now) (list_of lists i) moved n) mine (R.still_known r key at chain there next known comp.0 comp.1 moved is_moved kept)
+    subst (λ i. KnowsAccess (g.X.Expand.pieces c.args.expand.now) (list_of lists i) moved) mine (R.still_known r key at chain there next known comp.0 comp.1 moved is_moved kept)
 
 pub look_ahead-start-requires-clause-soon : goal.look_ahead-start-requires-clause-soon
 look_ahead-start-requires-clause-soon g c =
