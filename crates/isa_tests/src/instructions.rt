@@ -7,7 +7,7 @@ use crate::executables::{BASE, SIZE, file_of};
 use crate::images::{decoded, read};
 use elf_load::Image;
 use rv_blocks::DecodedProgram;
-use rv_core::{Ask, Core, Program, Why};
+use rv_core::{Ask, Core, Program, Single, Why};
 use std::process::Abort;
 use zs_num::{AmoOp, Request};
 
@@ -515,8 +515,16 @@ fn a_program_decoded_once_is_the_same_program(rt: HostRuntime) {
     do_the_same(&rt, &decoded(&rt, &image), &image);
 }
 
-/// Checks what a core at its start comes to by blocks of so many instructions at most: how many it
-/// executes, its x5 and its pc.
+/// The access that a core met, if it met one.
+fn access_of(met: Option<Single>) -> Option<Request> {
+    match met {
+        Some(single) => Some(single.request()),
+        None => None,
+    }
+}
+
+/// Checks what a core at its start comes to by so many instructions at most, none of which makes an
+/// access: how many it executes, its x5 and its pc.
 fn comes_to(
     rt: &impl Abort,
     program: &DecodedProgram,
@@ -527,12 +535,13 @@ fn comes_to(
 ) {
     let mut core = core();
     assert!(rt; core.is_free() && !core.is_fetched());
-    assert!(rt; core.run_blocks(program, most) == count);
+    let ran = core.run_blocks(program, most);
+    assert!(rt; ran.count == count && ran.met.is_none());
     is_at(rt, &core, 5, number, pc);
 }
 
 #[test]
-fn blocks_are_executed_whole(rt: HostRuntime) {
+fn blocks_are_executed_as_far_as_they_fit(rt: HostRuntime) {
     // addi x5, x0, 3; addi x5, x5, -1; bne x5, x0, -4; jal x0, 8; 0; addi x0, x0, 0
     let words = [
         0x0030_0293,
@@ -544,8 +553,55 @@ fn blocks_are_executed_whole(rt: HostRuntime) {
     ];
     let image = image(&rt, &words);
     let program = decoded(&rt, &image);
-    comes_to(&rt, &program, 2, 0, 0, BASE);
-    comes_to(&rt, &program, 6, 5, 1, BASE + 4);
+    comes_to(&rt, &program, 0, 0, 0, BASE);
+    comes_to(&rt, &program, 2, 2, 2, BASE + 8);
+    comes_to(&rt, &program, 6, 6, 0, BASE + 8);
     comes_to(&rt, &program, 7, 7, 0, BASE + 12);
     comes_to(&rt, &program, 100, 9, 0, BASE + 24);
+}
+
+/// Checks which access a core meets at an instruction that stands behind `addi x5, x0, -1`, where
+/// so many instructions may be executed. Of these two it executes the first.
+fn meets(rt: &(impl Abort + AllocGlobal), word: u32, most: u64, met: Option<Request>) {
+    let image = image(rt, &[0xfff0_0293, word]);
+    let program = decoded(rt, &image);
+    let mut core = core();
+    assert!(rt; core.is_free() && !core.is_fetched());
+    let ran = core.run_blocks(&program, most);
+    assert!(rt; ran.count == 1 && access_of(ran.met) == met);
+    is_at(rt, &core, 5, 0xffff_ffff_ffff_ffff, BASE + 4);
+}
+
+#[test]
+fn loads_and_stores_within_a_line_are_met(rt: HostRuntime) {
+    // lw x6, -4(x2), without a cycle for it and with one
+    let load = Request::Load {
+        addr: BASE + SIZE - 4,
+        width: 4,
+    };
+    meets(&rt, 0xffc1_2303, 1, None);
+    meets(&rt, 0xffc1_2303, 2, Some(load));
+    // sb x5, -1(x2)
+    let store = Request::Store {
+        addr: BASE + SIZE - 1,
+        width: 1,
+        value: 255,
+    };
+    meets(&rt, 0xfe51_0fa3, 2, Some(store));
+    // lw x6, -66(x2), over the end of a line, and lw x6, 0(x2), behind memory
+    meets(&rt, 0xfbe1_2303, 2, None);
+    meets(&rt, 0x0001_2303, 2, None);
+}
+
+#[test]
+fn a_core_that_fetches_is_run_to_the_end_of_its_line(rt: HostRuntime) {
+    // 18 times addi x5, x5, 1
+    let image = image(&rt, &[0x0012_8293; 18]);
+    let program = decoded(&rt, &image);
+    let mut core = Core::new(0, 1, BASE, BASE + SIZE, BASE, SIZE, true);
+    assert!(rt; core.is_free() && !core.is_fetched());
+    assert!(rt; core.run_in_line(&program, 5).count == 5);
+    assert!(rt; core.is_free() && !core.is_fetched());
+    assert!(rt; core.run_in_line(&program, 100).count == 11);
+    is_at(&rt, &core, 5, 16, BASE + 64);
 }
