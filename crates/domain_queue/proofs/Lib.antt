@@ -1,3 +1,4 @@
 pub mod Order
 pub mod Sorted
+pub mod Heaps
 pub mod Held
