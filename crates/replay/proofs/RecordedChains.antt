@@ -1,5 +1,5 @@
 -- What the weave core by core asks of an interval that one worker has recorded.
-use Rattle.std.proofs.Common.{◌≡◌, ℕ, ◌*◌, ◌^◌, ◌-◌, ◌<◌, ◌≤◌, List, Option, None, Some, Bool, true, false, not, length, All, refl, sym, subst, ap, ◌∙◌, arith}
+use Rattle.std.proofs.Common.{◌≡◌, ℕ, ◌*◌, ◌^◌, ◌-◌, ◌<◌, ◌≤◌, List, Option, Some, Bool, true, false, not, length, All, refl, sym, subst, ap, ◌∙◌, arith}
 use Rattle.std.specs.Prelude.{IfSome}
 use Rattle.zs_num.specs.declared.entry.Entry.{Entry}
 use Rattle.machine_desc.specs.declared.machine.Machine.{Machine}
@@ -36,8 +36,8 @@ module _ (machine : Machine) (r : RecorderState) (rec : IsRecorded machine r) (n
   abbrev graph : List Event
   graph = all_events (net_pieces net.path) accesses
 
-  pub chained : machine.mesh ≡ None → AreChained (net_pieces net.path) (kept_lists r)
-  chained none = subst (λ path. AreChained (net_pieces path) (kept_lists r)) (sym is) (rec.kept.chained none)
+  pub chained : AreChained (net_pieces net.path) (kept_lists r)
+  chained = subst (λ path. AreChained (net_pieces path) (kept_lists r)) (sym is) rec.kept.chained
 
   pub ordered : AreOrdered (net_pieces net.path) accesses (recorded_kept r)
   ordered = subst (λ path. AreOrdered (net_pieces path) accesses (recorded_kept r)) (sym is) rec.kept.ordered

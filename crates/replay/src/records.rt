@@ -1,5 +1,5 @@
 //! The weave of an interval of whose accesses one worker has kept records.
-ghost use Rattle.std.specs.Prelude.{◌≡◌, ◌*◌, ◌≤◌, ◌^◌, ◌++◌, ◌∷◌, [], All, List, None, IfNone, IfOk, IfSome, OnOk, false, true};
+ghost use Rattle.std.specs.Prelude.{◌≡◌, ◌*◌, ◌≤◌, ◌^◌, ◌++◌, ◌∷◌, [], All, List, IfNone, IfOk, IfSome, OnOk, false, true};
 ghost use Rattle.machine_desc.specs.Machine.{IsMachine};
 ghost use Rattle.component.specs.ComponentStep.{free_of};
 ghost use Rattle.component.specs.Components.{AreComponents};
@@ -28,7 +28,7 @@ use zs_num::{Entries, NoMemory};
 /// Moves the components on, counts the interval, and adds it to the recording. Answers the delays of
 /// the cores. `places` has the domain of each component, and `domains_are_worth` says what it says
 /// to `fire_all`. One worker fires them core by core, as far as the order of the accesses does not
-/// matter, where no events are kept and no mesh is crossed.
+/// matter, where no events are kept.
 pub fn weave_recorded<R: Threads + Sync, G: Gate>(
     rt: &R,
     alloc: Global,
@@ -117,7 +117,7 @@ fn weave_by_cores<G: Gate>(
 {
     access_log::laws::recorded_order_keeps_the_stamps();
     intervals_are_woven();
-    if !can_fire_by_cores(machine, workers, recording) {
+    if !can_fire_by_cores(workers, recording) {
         return Ok(None);
     }
     let found = weave_chains(alloc, net, recorder, comps, places, gate, chain_buffers)?;
@@ -136,11 +136,10 @@ fn weave_by_cores<G: Gate>(
 }
 
 /// Whether so many workers fire the events of an interval core by core.
-fn can_fire_by_cores(machine: &Machine, workers: u16, recording: &Recording) -> bool
-    ensures mesh { result ≡ true → machine.now.mesh ≡ None }
+fn can_fire_by_cores(workers: u16, recording: &Recording) -> bool
     ensures off { result ≡ true → is_on recording.now ≡ false }
 {
-    workers == 1 && machine.mesh.is_none() && !recording.is_on()
+    workers == 1 && !recording.is_on()
 }
 
 /// The same in the recorded order of the accesses.

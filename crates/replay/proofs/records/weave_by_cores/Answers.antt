@@ -22,7 +22,7 @@ use Rattle.replay.proofs.records.weave_by_cores.Goals as goal
 
 pub weave_chains-requires-clause-chained : goal.weave_chains-requires-clause-chained
 weave_chains-requires-clause-chained g c κs within =
-    F.chained c.args.machine.now c.args.recorder.now c.requires.recorded c.args.net.now c.requires.net (c.can_fire_by_cores.ensures.mesh c.if-not-can_fire_by_cores.false)
+    F.chained c.args.machine.now c.args.recorder.now c.requires.recorded c.args.net.now c.requires.net
 
 pub weave_chains-requires-clause-few : goal.weave_chains-requires-clause-few
 weave_chains-requires-clause-few g c κs within =
