@@ -1,5 +1,5 @@
 //! Tests of what accesses leave, through the public calls of their crates: lines in sets, in L1s, in
-//! homes and in directories, shards, logs, and schedules with their files.
+//! homes and in directories, shards, logs, records, and schedules with their files.
 #![tactic(auto)]
 
 #[cfg(test)]
@@ -14,6 +14,8 @@ mod l1s;
 mod logs;
 #[cfg(test)]
 mod machines;
+#[cfg(test)]
+mod records;
 #[cfg(test)]
 mod schedule_files;
 #[cfg(test)]

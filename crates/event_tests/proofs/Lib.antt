@@ -1,2 +1,3 @@
 mod Pairs
 mod ReadTimes
+pub mod TwoMisses

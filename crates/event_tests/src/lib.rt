@@ -1,6 +1,9 @@
-//! Tests of machines, events, their files and domains through the public calls of their crates.
+//! Tests of machines, events, their files, their weave core by core and domains through the public
+//! calls of their crates.
 #![tactic(auto)]
 
+#[cfg(test)]
+mod chains;
 #[cfg(test)]
 mod components;
 #[cfg(test)]

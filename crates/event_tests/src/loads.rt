@@ -1,6 +1,7 @@
 //! Loads as a log has them, and their graph on a small machine.
-ghost use Rattle.std.specs.Prelude.{◌<◌, ◌^◌, All, IsTrue, length, sum_by};
+ghost use Rattle.std.specs.Prelude.{◌≡◌, ◌<◌, ◌^◌, All, IsTrue, length, sum_by};
 ghost use Rattle.event_graph.specs.PlainTiming.{pieces_of};
+ghost use Rattle.event_tests.specs.TwoMisses.{load_of};
 
 use crate::machines::small;
 use event_graph::{Graph, Plain, build, laws};
@@ -16,7 +17,9 @@ pub(crate) const MISS: Outcome = Outcome::Miss {
 pub(crate) type Load = (u16, Cycle, Outcome);
 
 /// The entry of a load.
-pub(crate) fn entry(load: &Load) -> Entry {
+pub(crate) fn entry(load: &Load) -> Entry
+    ensures { result ≡ load_of load.now.0 load.now.1 load.now.2 }
+{
     Entry {
         core: load.0,
         stamp: 1,

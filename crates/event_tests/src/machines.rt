@@ -1,5 +1,5 @@
 //! The built-in description with some words changed, and a small machine.
-ghost use Rattle.std.specs.Prelude.{◌≡◌, ◌≤◌, [], ◌∷◌};
+ghost use Rattle.std.specs.Prelude.{◌≡◌, ◌≤◌, [], ◌∷◌, None};
 ghost use Rattle.machine_desc.specs.Components.{component_count};
 ghost use Rattle.machine_desc.specs.Machine.{IsMachine};
 
@@ -47,6 +47,7 @@ pub(crate) fn small(rt: &(impl Abort + AllocGlobal), cores: u16) -> Machine
     ensures machine { IsMachine result }
     ensures components { component_count result ≡ 2 }
     ensures domains { result.domains.count ≡ 2 }
+    ensures closed { result.dram ≡ None }
 {
     Machine {
         version: 1,

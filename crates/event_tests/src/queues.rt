@@ -1,7 +1,10 @@
-//! Keys come out of a queue in order.
+//! Keys come out of queues in order.
+ghost use Rattle.std.specs.Prelude.{◌≡◌, ◌-◌, ◌<◌, ◌^◌, [], ◌∷◌, IfSome};
+
+use core_queue::CoreQueue;
 use domain_queue::Ready;
 use std::process::Abort;
-use zs_num::Key;
+use zs_num::{Cycle, Key};
 
 /// A start, and a number.
 type Row = (u64, u32);
@@ -46,4 +49,41 @@ static ORDER: [Row; 3] = [(4, 9), (5, 1), (5, 2)];
 #[test]
 fn keys_come_out_by_start_and_then_by_number(rt: HostRuntime) {
     come_out(&rt, &mut filled(&rt), &ORDER);
+}
+
+/// A queue with keys of two cores, of five.
+fn of_cores(rt: &(impl Abort + AllocGlobal)) -> CoreQueue {
+    let mut queue = CoreQueue::with_room(rt.alloc(), 5).expect(rt, "memory");
+    queue.push(Key {
+        start: 7,
+        number: 4,
+    });
+    queue.push(Key {
+        start: 7,
+        number: 1,
+    });
+    queue
+}
+
+/// Checks the first key, and goes on with the core's next event, where it has one.
+fn goes_on(rt: &impl Abort, queue: &mut CoreQueue, wanted: Row, start: Option<Cycle>)
+    requires { IfSome start (λ s. s < 2 ^ 64 - 1) }
+{
+    let found = queue.first();
+    is_key(rt, found, wanted);
+    let Some(key) = found else {
+        panic!(rt; "no key");
+    };
+    queue.settle(key.number, start);
+}
+
+#[test]
+fn the_least_start_of_the_first_core_comes_first(rt: HostRuntime) {
+    let mut queue = of_cores(&rt);
+    goes_on(&rt, &mut queue, (7, 1), Some(7));
+    goes_on(&rt, &mut queue, (7, 1), Some(9));
+    goes_on(&rt, &mut queue, (7, 4), Some(8));
+    goes_on(&rt, &mut queue, (8, 4), None);
+    goes_on(&rt, &mut queue, (9, 1), None);
+    assert!(&rt; queue.first().is_none());
 }
