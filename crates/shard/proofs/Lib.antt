@@ -1,4 +1,5 @@
 pub mod BankAsks
+pub mod BankLoads
 pub mod BankMet
 pub mod BankReady
 pub mod BankSteps

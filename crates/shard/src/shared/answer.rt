@@ -1,10 +1,11 @@
 //! What an access reads of a line and writes to it.
 ghost use Rattle.std.specs.Prelude.{◌≡◌, ◌+◌, ◌<◌, ◌≤◌, ◌&&◌, IsSome, not, length, slice_index_or};
 ghost use Rattle.home.specs.HomeState.{is_marked_by_others};
-ghost use Rattle.l1_cache.specs.L1State.{answered_in, copy_at, no_l1, place_in_line};
-ghost use Rattle.zs_num.specs.Request.{addr_of, line_bytes, line_of, width_of};
+ghost use Rattle.l1_cache.specs.L1State.{answered_in, copy_at, no_l1, place_in_line, set_free_in};
+ghost use Rattle.zs_num.specs.Request.{addr_of, line_at, line_bytes, line_of, width_of};
+ghost use Rattle.zs_num.specs.declared.request.Request.TheVariants.{Load};
 ghost use Rattle.zs_num.specs.Servable.{IsAligned};
-ghost use Rattle.flat_memory.specs.FlatMemory.{after_write};
+ghost use Rattle.flat_memory.specs.FlatMemory.{after_write, number_in};
 ghost use Rattle.shard.specs.BankSteps.{bank_with};
 ghost use Rattle.shard.specs.Coherence.{is_alone};
 ghost use Rattle.shard.specs.Marks.{bytes_after, marks_after, reply_from};
@@ -21,6 +22,70 @@ use zs_num::{LINE, Request};
 
 /// Serves an access from the core's copy of its line. The answer is the reply.
 pub(super) fn answer(home: &mut Home, l1s: &mut [L1], core: u16, request: Request) -> u64
+    requires core { core < length l1s.old }
+    requires marks { core < length home.old.marks }
+    requires there { IsSome (copy_at (slice_index_or l1s.old core no_l1) (line_of request)) }
+    requires some { 1 ≤ width_of request }
+    requires few { width_of request ≤ 8 }
+    requires within { place_in_line (addr_of request) + width_of request ≤ line_bytes }
+    requires aligned { IsAligned request }
+    ensures after { bank_with home.new l1s.new ≡ answered core request (bank_with home.old l1s.old) }
+    ensures reply { result ≡ reply_from (bytes_of (copy_at (slice_index_or l1s.old core no_l1) (line_of request))) (place_in_line (addr_of request)) home.old.marks core request }
+    ensures cores { length l1s.new ≡ length l1s.old }
+{
+    if let Request::Load { addr, width } = request {
+        return answer_load(home, l1s, core, addr, width);
+    }
+    answer_by_copy(home, l1s, core, request)
+}
+
+/// Serves a load where the line stands: it keeps its bytes.
+fn answer_load(home: &Home, l1s: &mut [L1], core: u16, addr: u64, width: u8) -> u64
+    requires core { core < length l1s.old }
+    requires there { IsSome (copy_at (slice_index_or l1s.old core no_l1) (line_at addr)) }
+    requires some { 1 ≤ width }
+    requires few { width ≤ 8 }
+    requires within { place_in_line addr + width ≤ line_bytes }
+    ensures after { bank_with home.now l1s.new ≡ answered core (Load addr width) (bank_with home.now l1s.old) }
+    ensures reply { result ≡ number_in (bytes_of (copy_at (slice_index_or l1s.old core no_l1) (line_at addr))) (place_in_line addr) width }
+    ensures cores { length l1s.new ≡ length l1s.old }
+{
+    let line = addr / LINE;
+    let reply = read_at(l1s, core, addr, width);
+    let free = is_free_at(home, l1s, core, line);
+    set_free_at(l1s, core, line, free);
+    reply
+}
+
+/// Reads from the core's copy of a line.
+#[inline(always)]
+fn read_at(l1s: &[L1], core: u16, addr: u64, width: u8) -> u64
+    requires core { core < length l1s.now }
+    requires there { IsSome (copy_at (slice_index_or l1s.now core no_l1) (line_at addr)) }
+    requires some { 1 ≤ width }
+    requires few { width ≤ 8 }
+    requires within { place_in_line addr + width ≤ line_bytes }
+    ensures { result ≡ number_in (bytes_of (copy_at (slice_index_or l1s.now core no_l1) (line_at addr))) (place_in_line addr) width }
+{
+    match l1s[usize::from(core)].bytes(addr / LINE) {
+        Some(bytes) => numbers::read(bytes, (addr % LINE) as usize, width),
+        None => 0,
+    }
+}
+
+/// A line that a core has keeps its bytes, and is free to write from now on, or not.
+#[inline(always)]
+fn set_free_at(l1s: &mut [L1], core: u16, line: u64, free: bool)
+    requires core { core < length l1s.old }
+    requires there { IsSome (copy_at (slice_index_or l1s.old core no_l1) line) }
+    ensures after { bank_with no_home l1s.new ≡ with_l1 core (set_free_in line free) (bank_with no_home l1s.old) }
+    ensures cores { length l1s.new ≡ length l1s.old }
+{
+    l1s[usize::from(core)].set_free(line, free);
+}
+
+/// Serves an access in a copy of the line's bytes, which then stands for them.
+fn answer_by_copy(home: &mut Home, l1s: &mut [L1], core: u16, request: Request) -> u64
     requires core { core < length l1s.old }
     requires marks { core < length home.old.marks }
     requires there { IsSome (copy_at (slice_index_or l1s.old core no_l1) (line_of request)) }
