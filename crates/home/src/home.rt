@@ -90,6 +90,8 @@ impl Home {
     }
 
     /// What is kept of a line, where the L2 has it.
+    // Inlined, so that a caller copies no more of the row than it asks for.
+    #[inline(always)]
     pub fn row(&self, line: u64) -> Option<Row>
         ensures { option_map line_in result ≡ row_at self.now line }
     {

@@ -42,8 +42,22 @@ pub(crate) fn find(ways: &Tags, met: &Met, shards: u64, below: u64, line: u64) -
             return Some(last.place);
         }
     }
+    find_elsewhere(ways, &met.guesses, shards, below, line)
+}
+
+/// The same for another line than the one that was used last.
+// Out of line, so that the callers, which mostly ask for that one, are short.
+#[inline(never)]
+fn find_elsewhere(ways: &Tags, guesses: &[u8], shards: u64, below: u64, line: u64) -> Option<usize>
+    requires shards { 0 < shards }
+    requires sets { 0 < ways.now.sets }
+    requires ages { vec_len ways.now.ages ≡ ways.now.sets * ways.now.ways }
+    requires tags { vec_len ways.now.tags ≡ ways.now.sets * ways.now.ways }
+    ensures here { IfSome result (StandsAt ways.now.ways ways.now.ages.items ways.now.tags.items (set_number_in shards ways.now.sets line) line) }
+    ensures none { IfNone result (StandsNowhere ways.now.ways ways.now.ages.items ways.now.tags.items (set_number_in shards ways.now.sets line) line) }
+{
     let number = quotient(line, shards);
-    let way = guess(&met.guesses, number.saturating_sub(below));
+    let way = guess(guesses, number.saturating_sub(below));
     match at_way(ways, shards, line, way) {
         Some(place) => Some(place),
         None => search(ways, shards, line),
