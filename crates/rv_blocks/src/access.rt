@@ -49,7 +49,7 @@ fn load<T>(slot: &Slot, width: u8, x: &[u64; 32], memory: &MemoryRange) -> Optio
 {
     let addr = x[slot.rs1 as usize].wrapping_add(slot.value);
     let destination = Destination {
-        rd: slot.rd,
+        rd: u16::from(slot.rd),
         width,
         signed: is_signed(slot.name),
     };

@@ -95,7 +95,11 @@ impl Core {
 fn number_to(rd: u8, width: u8, signed: bool) -> Destination
     ensures { result ≡ record { rd = rd; width = width; signed = signed } }
 {
-    Destination { rd, width, signed }
+    Destination {
+        rd: u16::from(rd),
+        width,
+        signed,
+    }
 }
 
 /// Whether an address is a multiple of a width.

@@ -24,7 +24,7 @@ impl Core {
     {
         let addr = self.reg(inst.rs1).wrapping_add(inst.imm.cast_unsigned());
         let destination = Some(Destination {
-            rd: inst.rd,
+            rd: u16::from(inst.rd),
             width,
             signed,
         });

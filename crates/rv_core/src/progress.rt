@@ -4,8 +4,9 @@ use zs_num::Request;
 /// A register that gets what an instruction's accesses reply.
 #[derive(Clone, Copy)]
 pub struct Destination {
-    /// The number of the register, 0 to 31. A write to register 0 is dropped.
-    pub rd: u8,
+    /// The number of the register, 0 to 31. A write to register 0 is dropped. It has two bytes so
+    /// that all three have four, which the processor moves at once.
+    pub rd: u16,
     /// How many bytes the number has, 1 to 8.
     pub width: u8,
     /// Whether the number is sign-extended.

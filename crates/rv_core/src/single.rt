@@ -103,7 +103,7 @@ impl Core {
         ensures { IfSome result (λ single. begun single self.now ≡ loads width signed inst.now self.now) }
     {
         let addr = self.reg(inst.rs1).wrapping_add(inst.imm.cast_unsigned());
-        let rd = inst.rd;
+        let rd = u16::from(inst.rd);
         Single::load(self.memory(), addr, Destination { rd, width, signed })
     }
 

@@ -429,7 +429,7 @@ impl Core {
         match single {
             Single::Load { destination, .. } => {
                 let last = reply_to(&single.request(), reply);
-                self.go_on(destination.rd, received(None, last, destination));
+                self.go_on(destination.rd as u8, received(None, last, destination));
             }
             Single::Store { .. } => self.go_on(0, 0),
         }
@@ -489,7 +489,10 @@ impl Core {
         ensures { self.new ≡ ended (ending_of destination) (replies_with (ending_of destination) (option_to_list lower) reply) self.old }
     {
         match destination {
-            Some(destination) => self.go_on(destination.rd, received(lower, reply, destination)),
+            Some(destination) => self.go_on(
+                destination.rd as u8,
+                received(lower, reply, destination),
+            ),
             None => self.go_on(0, 0),
         }
     }
