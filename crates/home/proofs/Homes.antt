@@ -2,7 +2,7 @@
 use Rattle.std.proofs.Common.{◌≡◌, ℕ, ◌-◌, ◌*◌, ◌^◌, ◌<◌, ◌≤◌, List, [], length, get_or, set, map, Option, Some, None, sym, ap, ◌∙◌, subst, arith}
 use Rattle.std.specs.Option.{option_map_or}
 use Rattle.std.specs.Prelude.{IsSome}
-use Rattle.std.proofs.lemmas.List.{get_or-map, get_or-set_same, length-map, length-set, map-set, set-get_or}
+use Rattle.std.proofs.lemmas.List.{get_or-map, get_or-set_same, length-map, length-set, map-set, set-get_or, set-set}
 use Rattle.cache_set.specs.Lines.{in_set_of, set_number, set_of}
 use Rattle.cache_set.specs.Pieces.{IsSameOrder, sets_in}
 use Rattle.cache_set.specs.Places.{IsNext, StandsAt, StandsNowhere, set_number_in}
@@ -83,6 +83,17 @@ module _ {shards below base sets ways tick : ℕ} {ages tags : List ℕ} {rows :
       rows_are = h.rows_are;
       last_is = tt;
     }
+
+  -- ---- a row is another
+  pub with_row : (p : ℕ) (row : Row) → AreHome shards below base sets ways tick ages tags (set rows p row) last
+  with_row p row = record {
+    shards_are = h.shards_are;
+    sets_are = h.sets_are;
+    below_are = h.below_are;
+    ways_are = h.ways_are;
+    rows_are = length-set rows p row ∙ h.rows_are;
+    last_is = h.last_is;
+  }
 
   module _ (line : ℕ) where
     abbrev now : List (ℕ × HomeLine)
@@ -180,3 +191,17 @@ module _ {shards below base sets ways tick : ℕ} {ages tags : List ℕ} {rows :
           tag = get_or-set_same tags p line 0 (omega (arith, next_within, h.ways_are.aged.tags_are));
         };
       }
+
+-- the row of a line is changed, if the line is there
+abbrev pub in_row : (shards line : ℕ) → (HomeLine → HomeLine) → List (List (ℕ × HomeLine)) → List (List (ℕ × HomeLine))
+in_row shards line change l = in_set_of shards line (λ found. option_map_or (λ row. changed line (change row) found) (kept_of line found) found) l
+
+-- two changes one after the other
+module _ {shards below base sets ways tick : ℕ} {ages tags : List ℕ} {rows : List Row} {last : Option Last} (h : AreHome shards below base sets ways tick ages tags rows last) (line p : ℕ)
+    (at : StandsAt ways ages tags (set_number_in shards sets line) line p) where
+  pub row_changed_twice : (was mid to : Row) (first second : HomeLine → HomeLine) → was ≡ get_or rows p was → line_in mid ≡ first (line_in was) → line_in to ≡ second (line_in mid)
+      → sets_in sets ways ages tags (map line_in (set rows p to)) ≡ in_row shards line second (in_row shards line first (lists h))
+  row_changed_twice was mid to first second there one two =
+      ap (λ (r : List Row). sets_in sets ways ages tags (map line_in r)) (sym (set-set rows p mid to))
+      ∙ (row_changed (with_row h p mid) line p at mid to second (sym (get_or-set_same rows p mid mid (p_within h line p at))) two
+      ∙ ap (in_row shards line second) (row_changed h line p at was mid first there one))

@@ -179,6 +179,16 @@ impl Home {
         }
     }
 
+    /// A core's L1 has a line of the L2 no more, and wrote to it: memory has other bytes of it.
+    pub fn drop_writer(&mut self, line: u64, core: u16)
+        requires { core < 256 }
+        ensures { self.new ≡ dropped_in line core (marked_dirty_in line self.old) }
+    {
+        if let Some(place) = find(&self.ways, &self.met, self.shards, self.below, line) {
+            self.rows[place].remove_writer(core);
+        }
+    }
+
     /// A core's instruction cache has a line of the L2 too.
     pub fn fetch(&mut self, line: u64, core: u16)
         requires { core < 256 }

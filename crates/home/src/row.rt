@@ -68,6 +68,16 @@ impl Row {
         self.alone = false;
     }
 
+    /// A core's L1 has the line no more, and wrote to it: memory has other bytes of it.
+    #[inline(always)]
+    pub(crate) fn remove_writer(&mut self, core: u16)
+        requires { core < 256 }
+        ensures { line_in self.new ≡ record (line_in self.old) { dirty = true; sharers = without_core core (line_in self.old).sharers; alone = false } }
+    {
+        self.mark_dirty();
+        self.remove_sharer(core);
+    }
+
     /// A core's instruction cache has the line too.
     pub(crate) fn add_fetcher(&mut self, core: u16)
         requires { core < 256 }
