@@ -44,9 +44,10 @@ fn evict_own(home: &mut Home, l1s: &[L1], core: u16, line: u64)
     if let Some((evicted, letter)) = l1.victim(line) {
         if let Letter::M = letter {
             collect(home, l1, evicted);
-            home.mark_dirty(evicted);
+            home.drop_writer(evicted, core);
+        } else {
+            home.drop_core(evicted, core);
         }
-        home.drop_core(evicted, core);
     }
 }
 
