@@ -257,6 +257,20 @@ impl<'a> Driven<'a> {
         true
     }
 
+    /// The bound that the domain gives of a crossing, where that leads out of it.
+    pub(crate) fn bound(&self, number: u32) -> Option<Option<Cycle>> {
+        let crossings = self.parts.crossings();
+        let index = number as usize;
+        if index >= crossings.len() {
+            return None;
+        }
+        let crossing = crossings[index];
+        if crossing.source != self.number {
+            return None;
+        }
+        Some(self.domain.bound(number))
+    }
+
     /// The servers of the domain.
     pub(crate) fn finish(self) -> Comps<Server> {
         let Driven {

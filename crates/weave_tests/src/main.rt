@@ -63,6 +63,7 @@ fn asked(rt: &HostRuntime) -> io::Result<Task> {
 fn put_cases<T: Threads + Sync>(threads: &T, alloc: Global, page: &mut Page) {
     scripts::run(alloc, page);
     worked::run(threads, alloc, page);
+    worked::run_by_one(threads, alloc, page);
     worked::run_at_a_gate(threads, alloc, page);
     at_the_gate::run(threads, alloc, page);
     delayed::run(alloc, page);

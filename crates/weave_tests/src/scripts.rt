@@ -21,6 +21,7 @@ enum Step {
     Fire,
     Floor(Cycle),
     Tell(u32, Word),
+    Bound(u32),
 }
 
 /// A step, and the number of the domain that makes it.
@@ -60,12 +61,16 @@ static LATER: [Row; 3] = [
     (1, Kind::Lookup, 35, None),
 ];
 
-static OF_BOUND: [Line; 8] = [
+static OF_BOUND: [Line; 12] = [
+    (0, Step::Bound(0)),
+    (1, Step::Bound(0)),
     (1, Step::Next),
     (1, Step::Tell(0, Word::Bound(40))),
     (1, Step::Next),
     (1, Step::Fire),
     (1, Step::Next),
+    (0, Step::Fire),
+    (0, Step::Bound(0)),
     (1, Step::Tell(0, Word::Exact(40))),
     (1, Step::Fire),
     (1, Step::Next),
@@ -89,6 +94,7 @@ fn play(number: usize, domain: &mut Driven, step: Step, page: &mut Page) {
         Step::Tell(crossing, word) => {
             write_told(crossing, word, domain.tell(crossing, word), page);
         }
+        Step::Bound(crossing) => write_bound(crossing, domain.bound(crossing), page),
     }
     page.line("");
 }
@@ -155,6 +161,18 @@ fn write_told(crossing: u32, word: Word, is_told: bool, page: &mut Page) {
     }
     page.text("): ");
     page.truth(is_told);
+}
+
+fn write_bound(crossing: u32, bound: Option<Option<Cycle>>, page: &mut Page) {
+    page.count(" bound of ", u64::from(crossing));
+    match bound {
+        Some(Some(cycle)) => {
+            page.count(": Some(", cycle);
+            page.text(")");
+        }
+        Some(None) => page.text(": None"),
+        None => page.text(": not its crossing"),
+    }
 }
 
 /// Adds both domains, before their first events fire.

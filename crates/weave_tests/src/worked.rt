@@ -12,7 +12,7 @@ use domain_map::Parts;
 use event_graph::{Event, Graph};
 use std::alloc::Global;
 use std::thread::Threads;
-use zs_host::{MeetingGate, Passes};
+use zs_host::{MeetingGate, OpenGate, Passes};
 use zs_num::Cycle;
 
 const WORKERS: [u16; 4] = [1, 2, 7, 64];
@@ -43,6 +43,15 @@ pub(crate) static TIE: [Row; 3] = [
     (0, Kind::Lookup, 0, None),
     (1, Kind::Lookup, 0, Some(0)),
     (1, Kind::Lookup, 10, None),
+];
+
+/// Two domains, of which each fires sooner for what the other says of an event that is yet to fire.
+static RAISED: [Row; 5] = [
+    (1, Kind::Lookup, 20, None),
+    (1, Kind::Lookup, 35, None),
+    (0, Kind::Lookup, 30, None),
+    (0, Kind::Lookup, 0, Some(1)),
+    (1, Kind::Lookup, 0, Some(2)),
 ];
 
 /// A bank that is busy for 4 cycles with an event, and a controller that is for 20.
@@ -159,6 +168,44 @@ pub(crate) fn run<T: Threads + Sync>(threads: &T, alloc: Global, page: &mut Page
         TWO_BANKS,
         page,
     );
+}
+
+/// In how many rounds one worker weaves a graph by two banks, and what that leaves.
+fn by_one<T: Threads + Sync>(
+    threads: &T,
+    alloc: Global,
+    graph: &Graph,
+    parts: &Parts,
+) -> Option<(u32, Outcome)>
+    requires { IsPartition graph.now parts.now }
+{
+    let woven = woven_by_workers(threads, alloc, graph, parts, &BANKS, 1, &OpenGate)?;
+    let left = outcome_of(alloc, woven.fired.as_slice(), woven.comps.as_slice())?;
+    Some((woven.rounds, left))
+}
+
+/// What one worker leaves of these rows.
+fn woven_by_one<T: Threads + Sync>(
+    threads: &T,
+    alloc: Global,
+    rows: &[Row],
+) -> Option<(u32, Outcome)> {
+    let graph = graph_of(listed(alloc, rows)?, &BANKS)?;
+    let parts = in_domains(alloc, &graph, TWO_BANKS)?;
+    by_one(threads, alloc, &graph, &parts)
+}
+
+/// One worker raises bounds: in two rounds it fires what takes three without.
+pub(crate) fn run_by_one<T: Threads + Sync>(threads: &T, alloc: Global, page: &mut Page) {
+    let name = "what a domain says of later events saves a round";
+    match woven_by_one(threads, alloc, &RAISED) {
+        Some((rounds, left)) => {
+            write(name, Some(&left), page);
+            page.count("  rounds ", u64::from(rounds));
+            page.line("");
+        }
+        None => write(name, None, page),
+    }
 }
 
 /// What two workers leave of a graph at a gate.
